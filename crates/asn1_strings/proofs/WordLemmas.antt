@@ -1,0 +1,65 @@
+-- The words have the bits of the sets.
+use Rattle.std.proofs.Common.{◌≡◌, ℕ, suc, zero, ◌+◌, ◌<◌, ◌≤◌, Bool, true, false, cond, not, ◌&&◌, leb, List, refl, sym, ◌∙◌, arith, inl, inr}
+use Rattle.std.specs.Prelude.{◌⊎◌, ◌≢◌}
+use Rattle.std.proofs.lemmas.Bool.{cases_lt}
+use Rattle.std.proofs.lemmas.Bool.Decides.{nat_tests}
+use Rattle.asn1_strings.specs.Sets.{ranges_of, base_set, has_character}
+use Rattle.asn1_strings.specs.SetLaws.{lies_in, has_in_base, below_limit, all_below}
+use Rattle.asn1_strings.specs.Words.{in_words}
+use Rattle.asn1_strings.specs.declared.character_set.CharacterSetName.{CharacterSetName}
+use Rattle.asn1_strings.specs.declared.character_set.CharacterSetName.TheVariants.{Bmp, General, Graphic, IA5, Numeric, Printable, Teletex, Visible}
+
+abbrev pub same_bit : Bool → Bool → Bool
+same_bit a b = cond a b (not b)
+
+bits_same : (a b : Bool) → same_bit a b ≡ true → a ≡ b
+bits_same true true e = refl
+bits_same true false e = cc
+bits_same false true e = cc
+bits_same false false e = refl
+
+-- words and ranges agree on so many characters from one on
+abbrev pub agree_from : ℕ → ℕ → List ℕ → List (ℕ × ℕ) → Bool
+agree_from c zero words ranges = true
+agree_from c (suc n) words ranges = same_bit (in_words words c) (lies_in ranges c) && agree_from (c + 1) n words ranges
+
+agree_at : (n a c : ℕ) (words : List ℕ) (ranges : List (ℕ × ℕ)) → agree_from a n words ranges ≡ true → a ≤ c → c < a + n → in_words words c ≡ lies_in ranges c
+agree_at zero a c words ranges agree low high = absurd (omega arith)
+agree_at (suc n) a c words ranges agree low high =
+    elim (cases_eq a c low) [
+      | inl here ↦ (let e : same_bit (in_words words a) (lies_in ranges a) ≡ true = grind (arith, nat_tests) in rw (sym here) (bits_same (in_words words a) (lies_in ranges a) e))
+      | inr later ↦ agree_at n (a + 1) c words ranges (grind (arith, nat_tests)) later (omega arith)
+    ]
+  where
+    cases_eq : (a c : ℕ) → a ≤ c → (a ≡ c) ⊎ (a + 1 ≤ c)
+    cases_eq a c le = elim (cases_lt a c) [ inl lt ↦ inr (omega arith) | inr ge ↦ inl (omega arith) ]
+
+-- where words and ranges agree below 256, a bit says whether the character is in the set
+pub words_right : (name : CharacterSetName) (words : List ℕ) (c : ℕ) → agree_from 0 256 words (ranges_of name) ≡ true → c < 256 → in_words words c ≡ has_character (base_set name) c
+words_right name words c agree lt =
+    agree_at 256 0 c words (ranges_of name) agree (omega arith) (omega arith) ∙ sym (has_in_base name c)
+
+small_base : (name : CharacterSetName) → name ≢ Bmp → all_below 256 (ranges_of name) ≡ true
+small_base Bmp other = absurd (other refl)
+small_base General other = refl
+small_base Graphic other = refl
+small_base IA5 other = refl
+small_base Numeric other = refl
+small_base Printable other = refl
+small_base Teletex other = refl
+small_base Visible other = refl
+
+none_is : (b : Bool) → (b ≡ true → ⊥) → b ≡ false
+none_is true none = absurd (none refl)
+none_is false none = refl
+
+-- from 256 on no character is in a set but that of `BmpString`
+pub none_above : (name : CharacterSetName) (c : ℕ) → name ≢ Bmp → 256 ≤ c → has_character (base_set name) c ≡ false
+none_above name c other ge =
+    none_is (has_character (base_set name) c) (λ h. let lt = below_limit name 256 (small_base name other) c h in omega arith)
+
+bmp_lies : (c : ℕ) → leb c 65533 ≡ lies_in (ranges_of Bmp) c
+bmp_lies c = grind (arith, nat_tests)
+
+pub bmp_is : (c : ℕ) → leb c 65533 ≡ has_character (base_set Bmp) c
+bmp_is c = bmp_lies c ∙ sym (has_in_base Bmp c)

@@ -1,0 +1,6 @@
+pub mod Widths
+pub mod Sets
+pub mod Texts
+pub mod Errors
+pub mod Words
+pub mod SetLaws

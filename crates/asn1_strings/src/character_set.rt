@@ -1,0 +1,165 @@
+//! The base sets of the eight strings (X.680 41).
+ghost use Rattle.std.specs.Prelude.{◌≡◌, ◌≢◌, ◌<◌, ℕ, length, false, Some, slice_get, slice_index_or, MatchOption};
+ghost use Rattle.asn1_strings.specs.Sets.{ranges_of, base_set, base_count, base_largest, base_width, base_indexed, has_character, IsRange};
+ghost use Rattle.asn1_strings.specs.Texts.{set_name};
+
+use crate::character_words::CharacterWords;
+use std::fmt;
+
+/// Which of the eight strings. `Display` writes the string's name as X.680 spells it.
+#[derive(Clone, Copy, Debug, PartialEq, Eq, PartialOrd, Ord, Hash)]
+pub enum CharacterSetName {
+    Bmp,
+    General,
+    Graphic,
+    IA5,
+    Numeric,
+    Printable,
+    Teletex,
+    Visible,
+}
+
+impl CharacterSetName {
+    // First and last character of each range, in the set's order.
+    pub(crate) const fn ranges(self) -> &'static [(u32, u32)]
+        ensures value { result.now ≡ ranges_of self }
+        ensures fine {
+            (i : ℕ) → i < length result.now → IsRange (slice_index_or result.now i (0, 0))
+        }
+    {
+        match self {
+            CharacterSetName::Bmp => &[(0, 0xFFFD)],
+            CharacterSetName::General => &[(0, 0x7F), (0xA1, 0xFF)],
+            CharacterSetName::Graphic => &[(0x20, 0x7E), (0xA1, 0xFF)],
+            CharacterSetName::IA5 => &[(0, 0x7F)],
+            CharacterSetName::Numeric => &[(0x20, 0x20), (0x30, 0x39)],
+            CharacterSetName::Printable => &[
+                (0x41, 0x5A),
+                (0x61, 0x7A),
+                (0x30, 0x39),
+                (0x20, 0x20),
+                (0x27, 0x29),
+                (0x2B, 0x2F),
+                (0x3A, 0x3A),
+                (0x3D, 0x3D),
+                (0x3F, 0x3F),
+            ],
+            CharacterSetName::Teletex => &[(0, 0xFF)],
+            CharacterSetName::Visible => &[(0x20, 0x7E)],
+        }
+    }
+
+    // How many characters the set has.
+    pub(crate) const fn count(self) -> u32
+        ensures { result ≡ base_count self }
+    {
+        match self {
+            CharacterSetName::Bmp => 65534,
+            CharacterSetName::General => 223,
+            CharacterSetName::Graphic => 190,
+            CharacterSetName::IA5 => 128,
+            CharacterSetName::Numeric => 11,
+            CharacterSetName::Printable => 74,
+            CharacterSetName::Teletex => 256,
+            CharacterSetName::Visible => 95,
+        }
+    }
+
+    // The least number of bits that gives each of its characters a code.
+    pub(crate) const fn width(self) -> usize
+        ensures { result ≡ base_width self }
+    {
+        match self {
+            CharacterSetName::Bmp => 16,
+            CharacterSetName::General => 8,
+            CharacterSetName::Graphic => 8,
+            CharacterSetName::IA5 => 7,
+            CharacterSetName::Numeric => 4,
+            CharacterSetName::Printable => 7,
+            CharacterSetName::Teletex => 8,
+            CharacterSetName::Visible => 7,
+        }
+    }
+
+    // Its largest character.
+    pub(crate) const fn largest(self) -> u32
+        ensures { result ≡ base_largest self }
+    {
+        match self {
+            CharacterSetName::Bmp => 0xFFFD,
+            CharacterSetName::General => 0xFF,
+            CharacterSetName::Graphic => 0xFF,
+            CharacterSetName::IA5 => 0x7F,
+            CharacterSetName::Numeric => 0x39,
+            CharacterSetName::Printable => 0x7A,
+            CharacterSetName::Teletex => 0xFF,
+            CharacterSetName::Visible => 0x7E,
+        }
+    }
+
+    // Whether its characters are written by their places, since the largest does not fit the width.
+    pub(crate) const fn is_indexed(self) -> bool
+        ensures { result ≡ base_indexed self }
+    {
+        matches!(self, CharacterSetName::Numeric)
+    }
+
+    // Whether the set has the character: for `BmpString` by its range, else by one look at four words.
+    pub(crate) fn contains(self, character: u32) -> bool
+        ensures { result ≡ has_character (base_set self) character }
+    {
+        match self {
+            CharacterSetName::Bmp => character <= 0xFFFD,
+            _ => character < 256 && self.words().contains(character),
+        }
+    }
+
+    // The character at a place.
+    pub(crate) fn character_at(self, place: u32) -> Option<u32>
+        ensures { result ≡ slice_get (base_set self) place }
+    {
+        let mut left = place;
+        for range in self.ranges() {
+            let count = range.1 - range.0 + 1;
+            if left < count {
+                return Some(range.0 + left);
+            }
+            left -= count;
+        }
+        None
+    }
+
+    // The place of a character.
+    pub(crate) fn place_of(self, character: u32) -> Option<u32>
+        ensures {
+            MatchOption result (has_character (base_set self) character ≡ false)
+                (λ k. slice_get (base_set self) k ≡ Some character)
+        }
+    {
+        let mut before = 0;
+        for range in self.ranges() {
+            if range.0 <= character && character <= range.1 {
+                return Some(before + (character - range.0));
+            }
+            before += range.1 - range.0 + 1;
+        }
+        None
+    }
+}
+
+impl fmt::Display for CharacterSetName {
+    ghost output = { λ name. Some (set_name name) };
+
+    fn fmt<W: fmt::Write>(&self, f: &mut fmt::Formatter<W>) -> fmt::Result {
+        match self {
+            CharacterSetName::Bmp => f.write_str("BMPString"),
+            CharacterSetName::General => f.write_str("GeneralString"),
+            CharacterSetName::Graphic => f.write_str("GraphicString"),
+            CharacterSetName::IA5 => f.write_str("IA5String"),
+            CharacterSetName::Numeric => f.write_str("NumericString"),
+            CharacterSetName::Printable => f.write_str("PrintableString"),
+            CharacterSetName::Teletex => f.write_str("TeletexString"),
+            CharacterSetName::Visible => f.write_str("VisibleString"),
+        }
+    }
+}

@@ -1,0 +1,51 @@
+//! Sets of characters below 256, a bit for each character.
+ghost use Rattle.std.specs.Prelude.{◌≡◌, ◌≢◌, ◌<◌, ◌∷◌, [], ℕ};
+ghost use Rattle.asn1_strings.specs.Sets.{base_set, has_character};
+ghost use Rattle.asn1_strings.specs.Words.{in_words};
+ghost use Rattle.asn1_strings.specs.declared.character_set.CharacterSetName.TheVariants.{Bmp};
+
+use crate::character_set::CharacterSetName;
+
+// Four words of 64 bits: character c has bit c % 64 of word c / 64.
+#[derive(Clone, Copy, Debug)]
+pub(crate) struct CharacterWords {
+    words: [u64; 4],
+}
+
+impl CharacterWords {
+    const fn new(first: u64, second: u64, third: u64, fourth: u64) -> CharacterWords
+        ensures { result.words ≡ first ∷ second ∷ third ∷ fourth ∷ [] }
+    {
+        CharacterWords {
+            words: [first, second, third, fourth],
+        }
+    }
+
+    // Whether the bit of a character is set.
+    pub(crate) fn contains(self, character: u32) -> bool
+        requires { character < 256 }
+        ensures { result ≡ in_words self.words character }
+    {
+        let word = self.words[(character / 64) as usize];
+        (word >> (character % 64)) % 2 == 1
+    }
+}
+
+impl CharacterSetName {
+    // The words of a base set. That of `BmpString` is larger, and has none.
+    pub(crate) fn words(self) -> CharacterWords
+        requires { self ≢ Bmp }
+        ensures { (c : ℕ) → c < 256 → in_words result.words c ≡ has_character (base_set self) c }
+    {
+        match self {
+            CharacterSetName::Bmp => CharacterWords::new(0, 0, 0, 0),
+            CharacterSetName::General => CharacterWords::new(0xffffffffffffffff, 0xffffffffffffffff, 0xfffffffe00000000, 0xffffffffffffffff),
+            CharacterSetName::Graphic => CharacterWords::new(0xffffffff00000000, 0x7fffffffffffffff, 0xfffffffe00000000, 0xffffffffffffffff),
+            CharacterSetName::IA5 => CharacterWords::new(0xffffffffffffffff, 0xffffffffffffffff, 0, 0),
+            CharacterSetName::Numeric => CharacterWords::new(0x03ff000100000000, 0, 0, 0),
+            CharacterSetName::Printable => CharacterWords::new(0xa7fffb8100000000, 0x07fffffe07fffffe, 0, 0),
+            CharacterSetName::Teletex => CharacterWords::new(0xffffffffffffffff, 0xffffffffffffffff, 0xffffffffffffffff, 0xffffffffffffffff),
+            CharacterSetName::Visible => CharacterWords::new(0xffffffff00000000, 0x7fffffffffffffff, 0, 0),
+        }
+    }
+}
