@@ -74,3 +74,23 @@ impl<const N: usize> Default for FixedOctetString<N> {
         FixedOctetString { octets: [0; N] }
     }
 }
+
+impl<const N: usize> Deref for FixedOctetString<N> {
+    type Target = [u8; N];
+
+    ghost deref_gives = { λ s octets. octets ≡ s };
+
+    fn deref(&self) -> &[u8; N] {
+        &self.octets
+    }
+}
+
+impl<const N: usize> DerefMut for FixedOctetString<N> {
+    ghost deref_mut_gives = { λ s octets. octets ≡ s };
+
+    fn deref_mut(&mut self) -> &mut [u8; N]
+        ensures shows { result.now ≡ self.old }
+    {
+        &mut self.octets
+    }
+}
