@@ -2,3 +2,5 @@ pub mod WidthLemmas
 pub mod SetLemmas
 pub mod PlaceLemmas
 pub mod WordLemmas
+pub mod StringLemmas
+pub mod PieceLemmas

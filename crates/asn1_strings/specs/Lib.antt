@@ -4,3 +4,5 @@ pub mod Texts
 pub mod Errors
 pub mod Words
 pub mod SetLaws
+pub mod Pieces
+pub mod Strings

@@ -23,9 +23,7 @@ impl CharacterSetName {
     // First and last character of each range, in the set's order.
     pub(crate) const fn ranges(self) -> &'static [(u32, u32)]
         ensures value { result.now ≡ ranges_of self }
-        ensures fine {
-            (i : ℕ) → i < length result.now → IsRange (slice_index_or result.now i (0, 0))
-        }
+        ensures fine { (i : ℕ) → i < length result.now → IsRange (slice_index_or result.now i (0, 0)) }
     {
         match self {
             CharacterSetName::Bmp => &[(0, 0xFFFD)],
@@ -131,10 +129,8 @@ impl CharacterSetName {
 
     // The place of a character.
     pub(crate) fn place_of(self, character: u32) -> Option<u32>
-        ensures {
-            MatchOption result (has_character (base_set self) character ≡ false)
-                (λ k. slice_get (base_set self) k ≡ Some character)
-        }
+        ensures { MatchOption result (has_character (base_set self) character ≡ false)
+            (λ k. slice_get (base_set self) k ≡ Some character) }
     {
         let mut before = 0;
         for range in self.ranges() {

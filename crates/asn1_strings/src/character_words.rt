@@ -39,13 +39,43 @@ impl CharacterSetName {
     {
         match self {
             CharacterSetName::Bmp => CharacterWords::new(0, 0, 0, 0),
-            CharacterSetName::General => CharacterWords::new(0xffffffffffffffff, 0xffffffffffffffff, 0xfffffffe00000000, 0xffffffffffffffff),
-            CharacterSetName::Graphic => CharacterWords::new(0xffffffff00000000, 0x7fffffffffffffff, 0xfffffffe00000000, 0xffffffffffffffff),
-            CharacterSetName::IA5 => CharacterWords::new(0xffffffffffffffff, 0xffffffffffffffff, 0, 0),
+            CharacterSetName::General => CharacterWords::new(
+                0xffffffffffffffff,
+                0xffffffffffffffff,
+                0xfffffffe00000000,
+                0xffffffffffffffff,
+            ),
+            CharacterSetName::Graphic => CharacterWords::new(
+                0xffffffff00000000,
+                0x7fffffffffffffff,
+                0xfffffffe00000000,
+                0xffffffffffffffff,
+            ),
+            CharacterSetName::IA5 => CharacterWords::new(
+                0xffffffffffffffff,
+                0xffffffffffffffff,
+                0,
+                0,
+            ),
             CharacterSetName::Numeric => CharacterWords::new(0x03ff000100000000, 0, 0, 0),
-            CharacterSetName::Printable => CharacterWords::new(0xa7fffb8100000000, 0x07fffffe07fffffe, 0, 0),
-            CharacterSetName::Teletex => CharacterWords::new(0xffffffffffffffff, 0xffffffffffffffff, 0xffffffffffffffff, 0xffffffffffffffff),
-            CharacterSetName::Visible => CharacterWords::new(0xffffffff00000000, 0x7fffffffffffffff, 0, 0),
+            CharacterSetName::Printable => CharacterWords::new(
+                0xa7fffb8100000000,
+                0x07fffffe07fffffe,
+                0,
+                0,
+            ),
+            CharacterSetName::Teletex => CharacterWords::new(
+                0xffffffffffffffff,
+                0xffffffffffffffff,
+                0xffffffffffffffff,
+                0xffffffffffffffff,
+            ),
+            CharacterSetName::Visible => CharacterWords::new(
+                0xffffffff00000000,
+                0x7fffffffffffffff,
+                0,
+                0,
+            ),
         }
     }
 }

@@ -235,14 +235,30 @@ impl InvalidRestrictedString {
         ensures { result ≡ own_error name character }
     {
         match name {
-            CharacterSetName::Bmp => InvalidRestrictedString::InvalidBmpString(InvalidBmpString::from(character)),
-            CharacterSetName::General => InvalidRestrictedString::InvalidGeneralString(InvalidGeneralString::from(character)),
-            CharacterSetName::Graphic => InvalidRestrictedString::InvalidGraphicString(InvalidGraphicString::from(character)),
-            CharacterSetName::IA5 => InvalidRestrictedString::InvalidIA5String(InvalidIA5String::from(character)),
-            CharacterSetName::Numeric => InvalidRestrictedString::InvalidNumericString(InvalidNumericString::from(character)),
-            CharacterSetName::Printable => InvalidRestrictedString::InvalidPrintableString(InvalidPrintableString::from(character)),
-            CharacterSetName::Teletex => InvalidRestrictedString::InvalidTeletexString(InvalidTeletexString::from(character)),
-            CharacterSetName::Visible => InvalidRestrictedString::InvalidVisibleString(InvalidVisibleString::from(character)),
+            CharacterSetName::Bmp => InvalidRestrictedString::InvalidBmpString(
+                InvalidBmpString::from(character),
+            ),
+            CharacterSetName::General => InvalidRestrictedString::InvalidGeneralString(
+                InvalidGeneralString::from(character),
+            ),
+            CharacterSetName::Graphic => InvalidRestrictedString::InvalidGraphicString(
+                InvalidGraphicString::from(character),
+            ),
+            CharacterSetName::IA5 => InvalidRestrictedString::InvalidIA5String(
+                InvalidIA5String::from(character),
+            ),
+            CharacterSetName::Numeric => InvalidRestrictedString::InvalidNumericString(
+                InvalidNumericString::from(character),
+            ),
+            CharacterSetName::Printable => InvalidRestrictedString::InvalidPrintableString(
+                InvalidPrintableString::from(character),
+            ),
+            CharacterSetName::Teletex => InvalidRestrictedString::InvalidTeletexString(
+                InvalidTeletexString::from(character),
+            ),
+            CharacterSetName::Visible => InvalidRestrictedString::InvalidVisibleString(
+                InvalidVisibleString::from(character),
+            ),
         }
     }
 }

@@ -1,17 +1,44 @@
 //! Octet strings, the eight restricted character strings and permitted alphabets of ASN.1.
 #![tactic(auto)]
 
+mod bmp_string;
 mod character_set;
 mod character_words;
+mod chars;
+mod code_unit;
 mod error;
 mod fixed_octet_string;
+mod general_string;
+mod graphic_string;
+mod ia5_string;
+mod numeric_string;
 mod octet_string;
+mod pieces;
+mod printable_string;
+mod restricted_string;
+mod static_permitted_alphabet;
+mod string_kind;
+mod teletex_string;
+mod visible_string;
 
+pub use bmp_string::{Bmp, BmpString};
 pub use character_set::CharacterSetName;
+pub use chars::Chars;
+pub use code_unit::CodeUnit;
 pub use error::{
     InvalidBmpString, InvalidGeneralString, InvalidGraphicString, InvalidIA5String,
     InvalidNumericString, InvalidPrintableString, InvalidRestrictedString, InvalidTeletexString,
     InvalidVisibleString, PermittedAlphabetError,
 };
 pub use fixed_octet_string::FixedOctetString;
+pub use general_string::{General, GeneralString};
+pub use graphic_string::{Graphic, GraphicString};
+pub use ia5_string::{Ia5, Ia5String};
+pub use numeric_string::{Numeric, NumericString};
 pub use octet_string::OctetString;
+pub use printable_string::{Printable, PrintableString};
+pub use restricted_string::RestrictedString;
+pub use static_permitted_alphabet::StaticPermittedAlphabet;
+pub use string_kind::StringKind;
+pub use teletex_string::{Teletex, TeletexString};
+pub use visible_string::{Visible, VisibleString};

@@ -1,0 +1,15 @@
+-- Lists that are cut into parts of one length, and the numbers that octets spell.
+use Rattle.std.specs.Prelude.{◌+◌, ◌*◌, ◌/◌, ℕ, List, length, map, fold, take, drop}
+use Rattle.std.specs.List.{range_with_len}
+
+-- the piece at a place, where each piece has w elements
+abbrev pub piece : {X : Type 0} → ℕ → List X → ℕ → List X
+piece w xs i = take w (drop (i * w) xs)
+
+-- the list, cut into pieces of w elements
+abbrev pub pieces : {X : Type 0} → ℕ → List X → List (List X)
+pieces w xs = map (piece w xs) (range_with_len 0 (length xs / w))
+
+-- the number of octets, most significant first
+abbrev pub unsigned : List ℕ → ℕ
+unsigned octets = fold (λ n octet. 256 * n + octet) 0 octets

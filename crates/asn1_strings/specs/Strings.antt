@@ -1,0 +1,51 @@
+-- What a string of some characters is, or why there is none.
+use Rattle.std.specs.Prelude.{◌≡◌, ◌≢◌, ◌%◌, ◌==◌, ℕ, Bool, not, List, [], length, map, find, Option, Result, Ok, Err, if◌then◌else◌}
+use Rattle.std.specs.Option.{option_map_or}
+use Rattle.asn1_strings.specs.Sets.{base_set, has_character}
+use Rattle.asn1_strings.specs.Pieces.{pieces, unsigned}
+use Rattle.asn1_strings.specs.Errors.{own_error}
+use Rattle.asn1_strings.specs.declared.character_set.CharacterSetName.{CharacterSetName}
+use Rattle.asn1_strings.specs.declared.character_set.CharacterSetName.TheVariants.{Bmp, General, Graphic, IA5, Numeric, Printable, Teletex, Visible}
+use Rattle.asn1_strings.specs.declared.error.PermittedAlphabetError.{PermittedAlphabetError}
+use Rattle.asn1_strings.specs.declared.error.PermittedAlphabetError.TheVariants.{Other, InvalidData, IndexNotFound, CharacterNotFound, InvalidRestrictedString, Memory}
+
+-- how many octets a character has (X.690 8.21): two in `BmpString`, one in the other seven
+abbrev pub character_octets : CharacterSetName → ℕ
+character_octets Bmp = 2
+character_octets General = 1
+character_octets Graphic = 1
+character_octets IA5 = 1
+character_octets Numeric = 1
+character_octets Printable = 1
+character_octets Teletex = 1
+character_octets Visible = 1
+
+-- the first of the characters that a set lacks, as the law `first_outside_is_first` says
+abbrev pub first_outside : List ℕ → List ℕ → Option ℕ
+first_outside set cs = find (λ c. not (has_character set c)) cs
+
+-- the string of these characters: all of them, or the string's own error for the first that it may not hold
+abbrev pub string_of_characters : CharacterSetName → List ℕ → Result (List ℕ) PermittedAlphabetError
+string_of_characters name cs =
+    option_map_or (λ c. Err (InvalidRestrictedString (own_error name c))) (first_outside (base_set name) cs) (Ok cs)
+
+-- the string of characters of w octets each, most significant first
+abbrev pub string_of_octets : CharacterSetName → ℕ → List ℕ → Result (List ℕ) PermittedAlphabetError
+string_of_octets name w octets =
+    if w == 0 then Err (Other name)
+    else (if length octets % w == 0 then string_of_characters name (map unsigned (pieces w octets)) else Err (InvalidData (length octets) w))
+
+-- Want of memory answers only what would else be a string that is not empty. Every other refusal is the one that was read.
+abbrev pub Refuses : PermittedAlphabetError → Result (List ℕ) PermittedAlphabetError → Type 0
+Refuses Memory (Ok cs) = cs ≢ []
+Refuses Memory (Err e) = ⊥
+Refuses (Other name) read = read ≡ Err (Other name)
+Refuses (InvalidData l w) read = read ≡ Err (InvalidData l w)
+Refuses (IndexNotFound i) read = read ≡ Err (IndexNotFound i)
+Refuses (CharacterNotFound c) read = read ≡ Err (CharacterNotFound c)
+Refuses (InvalidRestrictedString e) read = read ≡ Err (InvalidRestrictedString e)
+
+-- The result, seen by view, is what was read: the same list, or the same refusal. Where memory was refused, a list that is not empty was read.
+abbrev pub Answers : {S : Type 0} → (S → List ℕ) → Result S PermittedAlphabetError → Result (List ℕ) PermittedAlphabetError → Type 0
+Answers view (Ok s) read = read ≡ Ok (view s)
+Answers view (Err e) read = Refuses e read

@@ -1,0 +1,27 @@
+//! `GraphicString`.
+ghost use Rattle.std.specs.Prelude.{refl};
+ghost use Rattle.asn1_strings.specs.SetLaws.{below_limit};
+ghost use Rattle.asn1_strings.specs.declared.character_set.CharacterSetName.TheVariants.{Graphic as name};
+
+use crate::character_set::CharacterSetName;
+use crate::restricted_string::RestrictedString;
+use crate::string_kind::StringKind;
+
+/// The kind of `GraphicString`.
+#[derive(Clone, Copy, Debug)]
+pub struct Graphic;
+
+impl StringKind for Graphic {
+    type T = u8;
+
+    ghost NAME = { name };
+
+    const NAME: CharacterSetName = CharacterSetName::Graphic;
+
+    ghost fits = { below_limit name 256 refl };
+
+    ghost octets = { refl };
+}
+
+/// A `GraphicString` (X.680 41): 20 to 7E and A1 to FF.
+pub type GraphicString = RestrictedString<Graphic>;

@@ -1,0 +1,27 @@
+//! `NumericString`.
+ghost use Rattle.std.specs.Prelude.{refl};
+ghost use Rattle.asn1_strings.specs.SetLaws.{below_limit};
+ghost use Rattle.asn1_strings.specs.declared.character_set.CharacterSetName.TheVariants.{Numeric as name};
+
+use crate::character_set::CharacterSetName;
+use crate::restricted_string::RestrictedString;
+use crate::string_kind::StringKind;
+
+/// The kind of `NumericString`.
+#[derive(Clone, Copy, Debug)]
+pub struct Numeric;
+
+impl StringKind for Numeric {
+    type T = u8;
+
+    ghost NAME = { name };
+
+    const NAME: CharacterSetName = CharacterSetName::Numeric;
+
+    ghost fits = { below_limit name 256 refl };
+
+    ghost octets = { refl };
+}
+
+/// A `NumericString` (X.680 41): the space and the digits.
+pub type NumericString = RestrictedString<Numeric>;

@@ -1,0 +1,60 @@
+//! Lists of characters that are read by their places in octets.
+ghost use Rattle.std.specs.Prelude.{◌≡◌, ◌≤◌, ◌+◌, ◌*◌, ◌/◌, ◌%◌, ◌^◌, ◌<◌, ℕ, List, length, map, slice_index};
+ghost use Rattle.asn1_strings.specs.Pieces.{piece, pieces, unsigned};
+
+// A list of characters.
+pub(crate) trait Characters {
+    // The list.
+    ghost list: { Self → List ℕ };
+
+    fn count(&self) -> usize
+        ensures { result ≡ length (list self.now) };
+
+    fn character(&self, i: usize) -> u32
+        requires { i < length (list self.now) }
+        ensures { result ≡ slice_index (list self.now) i };
+}
+
+// The characters of octets, `width` octets each.
+#[derive(Clone, Copy)]
+pub(crate) struct OctetPieces<'a> {
+    pub(crate) octets: &'a [u8],
+    pub(crate) width: usize,
+    ghost known: { 1 ≤ width },
+    ghost small: { width ≤ 4 },
+}
+
+impl<'a> Characters for OctetPieces<'a> {
+    ghost list = { λ s. map unsigned (pieces s.width s.octets.now) };
+
+    fn count(&self) -> usize {
+        self.octets.len() / self.width
+    }
+
+    fn character(&self, i: usize) -> u32 {
+        unsigned_of(piece_of(self.octets, self.width, i))
+    }
+}
+
+// The piece at a place.
+fn piece_of(octets: &[u8], width: usize, i: usize) -> &[u8]
+    requires { i < length octets.now / width }
+    ensures { result.now ≡ piece width octets.now i }
+{
+    let _len = octets.len();
+    let from = i * width;
+    let rest = &octets[from..];
+    &rest[..width]
+}
+
+// The number of at most four octets.
+fn unsigned_of(octets: &[u8]) -> u32
+    requires { length octets.now ≤ 4 }
+    ensures { result ≡ unsigned octets.now }
+{
+    let mut n: u32 = 0;
+    for octet in octets {
+        n = 256 * n + u32::from(*octet);
+    }
+    n
+}

@@ -1,0 +1,27 @@
+//! `PrintableString`.
+ghost use Rattle.std.specs.Prelude.{refl};
+ghost use Rattle.asn1_strings.specs.SetLaws.{below_limit};
+ghost use Rattle.asn1_strings.specs.declared.character_set.CharacterSetName.TheVariants.{Printable as name};
+
+use crate::character_set::CharacterSetName;
+use crate::restricted_string::RestrictedString;
+use crate::string_kind::StringKind;
+
+/// The kind of `PrintableString`.
+#[derive(Clone, Copy, Debug)]
+pub struct Printable;
+
+impl StringKind for Printable {
+    type T = u8;
+
+    ghost NAME = { name };
+
+    const NAME: CharacterSetName = CharacterSetName::Printable;
+
+    ghost fits = { below_limit name 256 refl };
+
+    ghost octets = { refl };
+}
+
+/// A `PrintableString` (X.680 41): letters, digits, the space and `'()+,-./:=?`.
+pub type PrintableString = RestrictedString<Printable>;

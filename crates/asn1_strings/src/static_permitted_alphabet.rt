@@ -1,0 +1,216 @@
+//! What the eight strings have in common.
+ghost use Rattle.std.specs.Prelude.{◌≡◌, ◌≤◌, ◌==◌, ◌⊎◌, ℕ, Bool, true, List, [], ◌∷◌, ◌++◌, length, All, Ok, OnOk, OnErr, string_bytes};
+ghost use Rattle.asn1_strings.specs.Sets.{base_set, base_count, base_largest, base_width, base_indexed, has_character};
+ghost use Rattle.asn1_strings.specs.Errors.{own_error};
+ghost use Rattle.asn1_strings.specs.Strings.{Answers, character_octets, string_of_characters, string_of_octets};
+
+use crate::character_set::CharacterSetName;
+use crate::chars::Chars;
+use crate::code_unit::CodeUnit;
+use crate::error::{InvalidRestrictedString, PermittedAlphabetError};
+use crate::octet_string::OctetString;
+use crate::pieces::{Characters, OctetPieces};
+use std::alloc::{AllocError, Global};
+
+/// A restricted character string (X.680 41): a list of characters, each in the string's base set.
+///
+/// The calls that read a string examine the whole input first, without memory. They refuse it by
+/// `Other`, `InvalidData` or the first wrong character, in this order, and by `Memory` only what would
+/// else be a string that is not empty.
+pub trait StaticPermittedAlphabet: Sized + Drop {
+    ghost use Rattle.asn1_strings.specs.declared.character_set.CharacterSetName.{CharacterSetName};
+
+    /// In what a character is kept.
+    type T: CodeUnit;
+
+    /// First and last character of each range of the set, in the set's order.
+    const CHARACTER_SET_RANGES: &'static [(u32, u32)];
+
+    ghost CHARACTER_SET_NAME: { CharacterSetName };
+
+    /// Which of the eight strings it is.
+    const CHARACTER_SET_NAME: CharacterSetName;
+
+    ghost CHARACTER_SET_COUNT: { ℕ };
+
+    /// How many characters the set has.
+    const CHARACTER_SET_COUNT: u32;
+
+    ghost CHARACTER_SET_WIDTH: { ℕ };
+
+    /// The least number of bits that gives each character of the set a code.
+    const CHARACTER_SET_WIDTH: usize;
+
+    ghost CHARACTER_SET_MAX: { ℕ };
+
+    /// The largest character of the set.
+    const CHARACTER_SET_MAX: u32;
+
+    ghost IS_INDEXED: { Bool };
+
+    /// Whether characters are written by their places, since the largest does not fit the width.
+    const IS_INDEXED: bool;
+
+    /// The characters of a string.
+    ghost characters: { Self → List ℕ };
+
+    /// The empty string.
+    fn new(alloc: Global) -> Self
+        ensures { characters result ≡ [] };
+
+    /// Appends a character of the set. Where memory is refused the string is as before.
+    fn push_char(&mut self, character: u32) -> Result<(), AllocError>
+        requires { has_character (base_set CHARACTER_SET_NAME) character ≡ true }
+        ensures ok { OnOk result (characters self.new ≡ characters self.old ++ character ∷ []) }
+        ensures err { OnErr result (characters self.new ≡ characters self.old) };
+
+    /// Asks for memory for so many more characters. The string is as before.
+    fn reserve(&mut self, additional: usize) -> Result<(), AllocError>
+        ensures { characters self.new ≡ characters self.old };
+
+    /// How many characters it has.
+    fn len(&self) -> usize
+        ensures { result ≡ length (characters self.now) };
+
+    /// Its characters, in their order.
+    fn chars(&self) -> Chars<'_, Self::T>
+        ensures list { result ≡ characters self.now }
+        ensures in_set { All (λ c. has_character (base_set CHARACTER_SET_NAME) c ≡ true) (characters self.now) };
+
+    /// Whether the set has the character: by one look, and for `BmpString` by its range.
+    fn contains_char(character: u32) -> bool
+        ensures { result ≡ has_character (base_set CHARACTER_SET_NAME) character }
+    {
+        Self::CHARACTER_SET_NAME.contains(character)
+    }
+
+    /// The string's own error for a character.
+    fn invalid_restricted_string(character: u32) -> InvalidRestrictedString
+        ensures { result ≡ own_error CHARACTER_SET_NAME character }
+    {
+        InvalidRestrictedString::of(Self::CHARACTER_SET_NAME, character)
+    }
+
+    /// The string of characters of `width` octets each, most significant first. Width 0 is `Other`.
+    final fn try_from_slice_with_width(
+        alloc: Global,
+        input: &[u8],
+        width: usize,
+    ) -> Result<Self, PermittedAlphabetError>
+        requires { (width ≡ 0) ⊎ (width ≡ 1) ⊎ (width ≡ 2) ⊎ (width ≡ 4) }
+        ensures { Answers characters result (string_of_octets CHARACTER_SET_NAME width input.now) }
+    {
+        if width == 0 {
+            return Err(PermittedAlphabetError::Other {
+                name: Self::CHARACTER_SET_NAME,
+            });
+        }
+        if input.len() % width != 0 {
+            return Err(PermittedAlphabetError::InvalidData {
+                length: input.len(),
+                width,
+            });
+        }
+        let octets = OctetPieces {
+            octets: input,
+            width,
+        };
+        string_of::<Self, OctetPieces<'_>>(alloc, &octets)
+    }
+
+    /// The string that these octets are the contents of (X.690 8.21): one octet a character, two in
+    /// `BmpString`, most significant first.
+    final fn try_from_slice(alloc: Global, input: &[u8]) -> Result<Self, PermittedAlphabetError>
+        ensures { let width = character_octets CHARACTER_SET_NAME in
+            Answers characters result (string_of_octets CHARACTER_SET_NAME width input.now) }
+    {
+        Self::try_from_slice_with_width(alloc, input, <Self::T as CodeUnit>::OCTETS)
+    }
+
+    /// As `try_from_slice`, of the octets of the text in UTF-8, for `BmpString` too.
+    final fn try_from_str(alloc: Global, input: &str) -> Result<Self, PermittedAlphabetError>
+        ensures { let width = character_octets CHARACTER_SET_NAME in
+            Answers characters result (string_of_octets CHARACTER_SET_NAME width input.now) }
+    {
+        Self::try_from_slice(alloc, input.as_bytes())
+    }
+
+    /// As `try_from_slice`, of the octets of the vector.
+    final fn try_from_vec(alloc: Global, input: Vec<u8>) -> Result<Self, PermittedAlphabetError>
+        ensures { let width = character_octets CHARACTER_SET_NAME in
+            Answers characters result (string_of_octets CHARACTER_SET_NAME width input.items) }
+    {
+        Self::try_from_slice(alloc, input.as_slice())
+    }
+
+    /// As `try_from_slice`, of the octets of the text in UTF-8, for `BmpString` too.
+    final fn try_from_string(alloc: Global, input: String) -> Result<Self, PermittedAlphabetError>
+        ensures { let width = character_octets CHARACTER_SET_NAME in
+            let octets = string_bytes input in
+            Answers characters result (string_of_octets CHARACTER_SET_NAME width octets) }
+    {
+        Self::try_from_slice(alloc, input.as_bytes())
+    }
+
+    /// As `try_from_slice`, of the octets of the octet string.
+    final fn try_from_octet_string(
+        alloc: Global,
+        input: OctetString,
+    ) -> Result<Self, PermittedAlphabetError>
+        ensures { let width = character_octets CHARACTER_SET_NAME in
+            Answers characters result (string_of_octets CHARACTER_SET_NAME width input) }
+    {
+        Self::try_from_slice(alloc, input.as_ref())
+    }
+
+    // The constants are what the table of base sets gives.
+    ghost count: { CHARACTER_SET_COUNT ≡ base_count CHARACTER_SET_NAME };
+
+    ghost width: { CHARACTER_SET_WIDTH ≡ base_width CHARACTER_SET_NAME };
+
+    ghost most: { CHARACTER_SET_MAX ≡ base_largest CHARACTER_SET_NAME };
+
+    ghost indexed: { IS_INDEXED ≡ base_indexed CHARACTER_SET_NAME };
+
+    // A character has as many octets as the standard gives it.
+    ghost octets: { Self.T.OCTETS ≡ character_octets CHARACTER_SET_NAME };
+}
+
+// The string of these characters: they are examined first, then memory is asked for.
+pub(crate) fn string_of<S: StaticPermittedAlphabet, C: Characters>(
+    alloc: Global,
+    source: &C,
+) -> Result<S, PermittedAlphabetError>
+    ensures { Answers S.characters result
+        (string_of_characters S.CHARACTER_SET_NAME (C.list source.now)) }
+{
+    let count = source.count();
+    for i in 0..count {
+        let character = source.character(i);
+        if !S::contains_char(character) {
+            return Err(PermittedAlphabetError::InvalidRestrictedString {
+                source: S::invalid_restricted_string(character),
+            });
+        }
+    }
+    copied::<S, C>(alloc, source)
+}
+
+// The string of characters that its set has.
+fn copied<S: StaticPermittedAlphabet, C: Characters>(
+    alloc: Global,
+    source: &C,
+) -> Result<S, PermittedAlphabetError>
+    requires { All (λ c. has_character (base_set S.CHARACTER_SET_NAME) c ≡ true) (C.list source.now) }
+    ensures { Answers S.characters result (Ok (C.list source.now)) }
+{
+    let count = source.count();
+    let mut string = S::new(alloc);
+    if count > 0 {
+        string.reserve(count)?;
+    }
+    for i in 0..count {
+        string.push_char(source.character(i))?;
+    }
+    Ok(string)
+}

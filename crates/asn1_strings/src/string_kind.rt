@@ -1,0 +1,27 @@
+//! What tells the eight strings apart.
+ghost use Rattle.std.specs.Prelude.{◌≡◌, ◌<◌, ℕ, true};
+ghost use Rattle.asn1_strings.specs.Sets.{base_set, has_character};
+ghost use Rattle.asn1_strings.specs.Strings.{character_octets};
+
+use crate::character_set::CharacterSetName;
+use crate::code_unit::CodeUnit;
+use std::fmt;
+
+/// One of the eight kinds of string: a marker, of which no value is needed.
+pub trait StringKind: fmt::Debug {
+    ghost use Rattle.asn1_strings.specs.declared.character_set.CharacterSetName.{CharacterSetName};
+
+    /// In what a character is kept.
+    type T: CodeUnit;
+
+    ghost NAME: { CharacterSetName };
+
+    /// Which of the eight it is.
+    const NAME: CharacterSetName;
+
+    /// Every character of the set can be kept.
+    ghost fits: { (c : ℕ) → has_character (base_set NAME) c ≡ true → c < Self.T.limit };
+
+    /// A character has as many octets as the standard gives it.
+    ghost octets: { Self.T.OCTETS ≡ character_octets NAME };
+}

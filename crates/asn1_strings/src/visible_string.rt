@@ -1,0 +1,27 @@
+//! `VisibleString`.
+ghost use Rattle.std.specs.Prelude.{refl};
+ghost use Rattle.asn1_strings.specs.SetLaws.{below_limit};
+ghost use Rattle.asn1_strings.specs.declared.character_set.CharacterSetName.TheVariants.{Visible as name};
+
+use crate::character_set::CharacterSetName;
+use crate::restricted_string::RestrictedString;
+use crate::string_kind::StringKind;
+
+/// The kind of `VisibleString`.
+#[derive(Clone, Copy, Debug)]
+pub struct Visible;
+
+impl StringKind for Visible {
+    type T = u8;
+
+    ghost NAME = { name };
+
+    const NAME: CharacterSetName = CharacterSetName::Visible;
+
+    ghost fits = { below_limit name 256 refl };
+
+    ghost octets = { refl };
+}
+
+/// A `VisibleString` (X.680 41): 20 to 7E.
+pub type VisibleString = RestrictedString<Visible>;
