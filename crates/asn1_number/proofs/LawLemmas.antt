@@ -1,0 +1,25 @@
+-- The laws of `specs/Laws`, and each of them in the form that a proof cites.
+use Rattle.std.proofs.Common.{◌≡◌, ◌≢◌, ℕ, zero, suc, ◌<◌, ◌≤◌, ℤ, List, length, Ok, arith, sym, refl}
+use Rattle.asn1_number.specs.Octets.{IsShortest, signed}
+use Rattle.asn1_number.specs.Shortest.{shortest_octets}
+use Rattle.asn1_number.specs.Readings.{IntegerKind, SignedOf, UnsignedOf, Unbounded, IsInRange, signed_reading}
+use Rattle.asn1_number.specs.Laws.{EachNumberHasOneShortestList, ShortestByNineBits, ShortestKeepOrder, HasOctets, ShortestAreReadBack}
+use Rattle.asn1_number.proofs.OctetLemmas.{shortest_once, nine_bits_from_shortest, shortest_from_nine_bits, shortest_order}
+use Rattle.asn1_number.proofs.ShortestLemmas.{shortest_octets_are, shortest_octets_only}
+use Rattle.asn1_number.proofs.ReadingLemmas.{signed_law, unsigned_law, unbounded_law}
+
+pub one_shortest_list : EachNumberHasOneShortestList
+one_shortest_list n = (shortest_octets n, shortest_octets_are n, λ other s. shortest_octets_only n other s)
+
+pub shortest_by_nine_bits : ShortestByNineBits
+shortest_by_nine_bits o octets some = (λ s. nine_bits_from_shortest (signed o) o s, λ d. shortest_from_nine_bits o octets d)
+
+pub shortest_keep_order : ShortestKeepOrder
+shortest_keep_order m n a b s t = shortest_order m n a b s t
+
+pub shortest_are_read_back : ShortestAreReadBack
+shortest_are_read_back (SignedOf zero) n o sized r s = absurd (sized.0 refl)
+shortest_are_read_back (SignedOf (suc k)) n o sized r s = signed_law (suc k) n o (omega arith) r s
+shortest_are_read_back (UnsignedOf zero) n o sized r s = absurd (sized.1 refl)
+shortest_are_read_back (UnsignedOf (suc k)) n o sized r s = unsigned_law (suc k) n o (omega arith) r s
+shortest_are_read_back Unbounded n o sized r s = unbounded_law n o s

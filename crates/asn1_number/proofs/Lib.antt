@@ -1,0 +1,5 @@
+pub mod OctetLemmas
+pub mod WidthLemmas
+pub mod ReadingLemmas
+pub mod ShortestLemmas
+pub mod LawLemmas

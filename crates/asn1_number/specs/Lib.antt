@@ -1,0 +1,9 @@
+pub mod Octets
+pub mod Order
+pub mod Shortest
+pub mod Readings
+pub mod Storage
+pub mod Forms
+pub mod Conversions
+pub mod Constrained
+pub mod Laws

@@ -1,0 +1,93 @@
+ghost use Rattle.std.specs.Prelude.{◌≡◌, IfOk, OnErr};
+ghost use Rattle.asn1_number.specs.Readings.{FitsI128};
+
+use crate::integer::Integer;
+use crate::try_from_integer::TryFromIntegerError;
+use std::alloc::AllocError;
+use std::ops::Deref;
+
+/// A whole number that was accepted because it lies from `START` to `END`, both included.
+#[derive(Debug, Drop, PartialEq, Eq, PartialOrd, Ord, Hash)]
+pub struct ConstrainedInteger<const START: i64, const END: i64> {
+    number: Integer,
+}
+
+impl<const START: i64, const END: i64> ConstrainedInteger<START, END> {
+    ghost use Rattle.asn1_number.specs.Constrained.{constrained_number};
+
+    /// The same number. Memory is asked for only where it lies outside `i128`.
+    pub fn clone(&self) -> Result<ConstrainedInteger<START, END>, AllocError>
+        ensures value { IfOk result (λ c. constrained_number c ≡ constrained_number self.now) }
+        ensures memory { OnErr result (¬ (FitsI128 (constrained_number self.now))) }
+    {
+        let number = self.number.clone()?;
+        Ok(ConstrainedInteger { number })
+    }
+}
+
+impl<const START: i64, const END: i64> Deref for ConstrainedInteger<START, END> {
+    type Target = Integer;
+
+    ghost use Rattle.std.specs.Prelude.{◌≡◌};
+    ghost use Rattle.asn1_number.specs.Constrained.{constrained_number};
+
+    ghost deref_gives = { λ c n. n ≡ constrained_number c };
+
+    fn deref(&self) -> &Integer {
+        &self.number
+    }
+}
+
+impl<const START: i64, const END: i64> TryFrom<i128> for ConstrainedInteger<START, END> {
+    type Error = TryFromIntegerError;
+
+    ghost use Rattle.asn1_number.specs.Constrained.{AcceptsFrom};
+
+    ghost try_from_gives = { λ n r. AcceptsFrom START END n r };
+
+    fn try_from(number: i128) -> Result<ConstrainedInteger<START, END>, TryFromIntegerError> {
+        if i128::from(START) <= number && number <= i128::from(END) {
+            Ok(ConstrainedInteger {
+                number: Integer::from(number),
+            })
+        } else {
+            Err(TryFromIntegerError::new(Integer::from(number)))
+        }
+    }
+}
+
+impl<const START: i64, const END: i64> TryFrom<i64> for ConstrainedInteger<START, END> {
+    type Error = TryFromIntegerError;
+
+    ghost use Rattle.asn1_number.specs.Constrained.{AcceptsFrom};
+
+    ghost try_from_gives = { λ n r. AcceptsFrom START END n r };
+
+    fn try_from(number: i64) -> Result<ConstrainedInteger<START, END>, TryFromIntegerError> {
+        ConstrainedInteger::try_from(i128::from(number))
+    }
+}
+
+impl<const START: i64, const END: i64> TryFrom<i32> for ConstrainedInteger<START, END> {
+    type Error = TryFromIntegerError;
+
+    ghost use Rattle.asn1_number.specs.Constrained.{AcceptsFrom};
+
+    ghost try_from_gives = { λ n r. AcceptsFrom START END n r };
+
+    fn try_from(number: i32) -> Result<ConstrainedInteger<START, END>, TryFromIntegerError> {
+        ConstrainedInteger::try_from(i128::from(number))
+    }
+}
+
+impl<const START: i64, const END: i64> TryFrom<isize> for ConstrainedInteger<START, END> {
+    type Error = TryFromIntegerError;
+
+    ghost use Rattle.asn1_number.specs.Constrained.{AcceptsFrom};
+
+    ghost try_from_gives = { λ n r. AcceptsFrom START END n r };
+
+    fn try_from(number: isize) -> Result<ConstrainedInteger<START, END>, TryFromIntegerError> {
+        ConstrainedInteger::try_from(number as i128)
+    }
+}

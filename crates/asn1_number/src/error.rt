@@ -1,0 +1,19 @@
+use thiserror::Error;
+
+/// Why octets were not read as an integer. Both numbers are the bits of the type that was asked
+/// for.
+#[derive(Clone, Copy, Debug, Drop, Error, PartialEq, Eq, PartialOrd, Ord, Hash)]
+pub enum IntegerError {
+    /// There are no octets; X.690 8.3.1 asks for at least one.
+    #[error("empty input")]
+    UnexpectedEmptyInput,
+    /// There are more octets than the type has.
+    #[error("more than {max_integer_bits} bits")]
+    Overflow { max_integer_bits: u32 },
+    /// The octets fit, but their value has a sign that the type cannot hold.
+    #[error("no value of {bits} bits")]
+    TypeConversionFailed { bits: u32 },
+    /// There is no memory for a number outside `i128`.
+    #[error("out of memory")]
+    Memory,
+}

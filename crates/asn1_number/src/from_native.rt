@@ -1,0 +1,91 @@
+ghost use Rattle.std.specs.Prelude.{◌≡◌, pos};
+
+use crate::integer::Integer;
+
+impl From<i128> for Integer {
+    ghost from_gives = { λ n number. number ≡ n };
+
+    fn from(n: i128) -> Integer {
+        Integer::inline(n)
+    }
+}
+
+impl From<u8> for Integer {
+    ghost from_gives = { λ n number. number ≡ pos n };
+
+    fn from(n: u8) -> Integer {
+        Integer::from(i128::from(n))
+    }
+}
+
+impl From<i8> for Integer {
+    ghost from_gives = { λ n number. number ≡ n };
+
+    fn from(n: i8) -> Integer {
+        Integer::from(i128::from(n))
+    }
+}
+
+impl From<u16> for Integer {
+    ghost from_gives = { λ n number. number ≡ pos n };
+
+    fn from(n: u16) -> Integer {
+        Integer::from(i128::from(n))
+    }
+}
+
+impl From<i16> for Integer {
+    ghost from_gives = { λ n number. number ≡ n };
+
+    fn from(n: i16) -> Integer {
+        Integer::from(i128::from(n))
+    }
+}
+
+impl From<u32> for Integer {
+    ghost from_gives = { λ n number. number ≡ pos n };
+
+    fn from(n: u32) -> Integer {
+        Integer::from(i128::from(n))
+    }
+}
+
+impl From<i32> for Integer {
+    ghost from_gives = { λ n number. number ≡ n };
+
+    fn from(n: i32) -> Integer {
+        Integer::from(i128::from(n))
+    }
+}
+
+impl From<u64> for Integer {
+    ghost from_gives = { λ n number. number ≡ pos n };
+
+    fn from(n: u64) -> Integer {
+        Integer::from(i128::from(n))
+    }
+}
+
+impl From<i64> for Integer {
+    ghost from_gives = { λ n number. number ≡ n };
+
+    fn from(n: i64) -> Integer {
+        Integer::from(i128::from(n))
+    }
+}
+
+impl From<usize> for Integer {
+    ghost from_gives = { λ n number. number ≡ pos n };
+
+    fn from(n: usize) -> Integer {
+        Integer::from(n as i128)
+    }
+}
+
+impl From<isize> for Integer {
+    ghost from_gives = { λ n number. number ≡ n };
+
+    fn from(n: isize) -> Integer {
+        Integer::from(n as i128)
+    }
+}

@@ -1,0 +1,28 @@
+//! Whole numbers of any size and the octets that spell them (X.690 8.3).
+//!
+//! An [`Integer`] is a whole number: each call is proved by its value alone, whatever its size.
+//! Its octets are the shortest that spell it, in two's complement or without a sign. The reading
+//! of octets as the integer types read them, and which octets are shortest, are definitions in
+//! `specs/`; `specs/Laws.antt` has what follows from them.
+#![tactic(auto)]
+
+mod constrained;
+mod error;
+mod from_native;
+mod integer;
+mod integer_bytes;
+mod laws;
+mod sign_octets;
+#[cfg(test)]
+mod tests;
+mod try_from_integer;
+mod values;
+
+pub use constrained::ConstrainedInteger;
+pub use error::IntegerError;
+pub use integer::Integer;
+pub use integer_bytes::IntegerBytes;
+pub use laws::laws_of_shortest_octets;
+pub use sign_octets::without_redundant_sign_octets;
+pub use try_from_integer::TryFromIntegerError;
+pub use values::{signed_value, unsigned_value};

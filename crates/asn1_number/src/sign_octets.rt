@@ -1,0 +1,37 @@
+ghost use Rattle.std.specs.Prelude.{◌≡◌, ℕ, pos, ◌<◌, ◌≤◌, ◌↔◌, ◌⊎◌, length, drop, IsTrue};
+ghost use Rattle.asn1_number.specs.Octets.{IsShortest, IsShortestUnsigned, signed};
+
+/// Whether the first octet only repeats the sign of the second.
+fn repeats_sign(first: u8, second: u8) -> bool
+    ensures { IsTrue result ↔ (((first ≡ 0) × (second < 128)) ⊎ ((first ≡ 255) × (128 ≤ second))) }
+{
+    first == 0 && second < 128 || first == 255 && second >= 128
+}
+
+/// The end of the list that is the shortest spelling of the same two's complement value
+/// (X.690 8.3.2); empty for an empty list.
+pub fn without_redundant_sign_octets(octets: &[u8]) -> &[u8]
+    ensures end { (k : ℕ) × (k ≤ length octets.now) × (result.now ≡ drop k octets.now) }
+    ensures shortest { 0 < length octets.now → IsShortest (signed octets.now) result.now }
+{
+    let mut rest = octets;
+    while let [first, second, ..] = rest {
+        if !repeats_sign(*first, *second) {
+            break;
+        }
+        rest = &rest[1..];
+    }
+    rest
+}
+
+/// Of a number's shortest two's complement octets, its shortest octets without a sign: one zero
+/// octet in front of others, which only says that the number is not negative, is left out.
+pub(crate) fn without_zero_first(octets: &[u8]) -> &[u8]
+    ensures no_longer { length result.now ≤ length octets.now }
+    ensures shortest { (n : ℕ) → IsShortest (pos n) octets.now → IsShortestUnsigned n result.now }
+{
+    match octets {
+        [0, _, ..] => &octets[1..],
+        _ => octets,
+    }
+}

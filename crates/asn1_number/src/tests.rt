@@ -1,0 +1,382 @@
+use super::*;
+use std::hash::{FoldHasher, Hash, Hasher};
+use std::process::Abort;
+use std::test::Fail;
+
+/// The numbers from -8 to 360.
+type Bounded = ConstrainedInteger<-8, 360>;
+
+/// A number outside `i128`, or None where there was no memory for it.
+fn read(rt: &impl Abort, reading: Result<Integer, IntegerError>) -> Option<Integer> {
+    match reading {
+        Ok(number) => Some(number),
+        Err(error) => {
+            assert_eq!(rt; error, IntegerError::Memory);
+            None
+        }
+    }
+}
+
+fn hash_of(number: &Integer) -> u64 {
+    let mut hasher = FoldHasher::default();
+    number.hash(&mut hasher);
+    hasher.finish()
+}
+
+#[test]
+fn small_numbers_have_their_shortest_signed_octets(rt: HostRuntime) {
+    let rows: [(i128, &[u8]); 5] = [
+        (0, &[0x00]),
+        (127, &[0x7F]),
+        (128, &[0x00, 0x80]),
+        (-128, &[0x80]),
+        (-129, &[0xFF, 0x7F]),
+    ];
+    for (number, octets) in rows {
+        let integer = Integer::from(number);
+        assert_eq!(rt; integer.signed_octets().as_ref(), octets, "of {number}");
+        assert_eq!(rt; integer.signed_len(), octets.len(), "of {number}");
+    }
+}
+
+#[test]
+fn numbers_are_read_back_from_both_forms_of_octets(rt: HostRuntime) -> Result<(), Fail> {
+    let rows: [(u64, &[u8], &[u8]); 8] = [
+        (0, &[0x00], &[0x00]),
+        (1, &[0x01], &[0x01]),
+        (127, &[0x7F], &[0x7F]),
+        (128, &[0x00, 0x80], &[0x80]),
+        (32767, &[0x7F, 0xFF], &[0x7F, 0xFF]),
+        (32768, &[0x00, 0x80, 0x00], &[0x80, 0x00]),
+        (
+            2147483647,
+            &[0x7F, 0xFF, 0xFF, 0xFF],
+            &[0x7F, 0xFF, 0xFF, 0xFF],
+        ),
+        (
+            9223372036854775807,
+            &[0x7F, 0xFF, 0xFF, 0xFF, 0xFF, 0xFF, 0xFF, 0xFF],
+            &[0x7F, 0xFF, 0xFF, 0xFF, 0xFF, 0xFF, 0xFF, 0xFF],
+        ),
+    ];
+    for (number, signed, unsigned) in rows {
+        let integer = Integer::from(number);
+        assert_eq!(rt; integer.signed_octets().as_ref(), signed, "of {number}");
+        assert_eq!(rt; integer.unsigned_octets().as_ref(), unsigned, "of {number}");
+        assert_eq!(rt; Integer::from_signed_octets(rt.alloc(), signed)?, integer);
+        assert_eq!(rt;
+            Integer::from_unsigned_octets(rt.alloc(), unsigned)?,
+            integer
+        );
+    }
+    Ok(())
+}
+
+#[test]
+fn sign_octets_that_say_nothing_are_left_out(rt: HostRuntime) -> Result<(), Fail> {
+    let rows: [(&[u8], &[u8]); 7] = [
+        (&[], &[]),
+        (&[0x00], &[0x00]),
+        (&[0x00, 0x00, 0x05], &[0x05]),
+        (&[0x00, 0x80], &[0x00, 0x80]),
+        (&[0xFF, 0xFF, 0x80], &[0x80]),
+        (&[0xFF, 0x7F], &[0xFF, 0x7F]),
+        (&[0xFF; 40], &[0xFF]),
+    ];
+    for (octets, shortest) in rows {
+        assert_eq!(rt; without_redundant_sign_octets(octets), shortest);
+    }
+    assert_eq!(rt;
+        Integer::from_signed_octets(rt.alloc(), &[0xFF; 40])?,
+        Integer::from(-1i8)
+    );
+    assert_eq!(rt;
+        Integer::from_signed_octets(rt.alloc(), &[0x00, 0x05])?,
+        Integer::from(5u8)
+    );
+    Ok(())
+}
+
+#[test]
+fn empty_octets_are_no_integer(rt: HostRuntime) {
+    let empty = IntegerError::UnexpectedEmptyInput;
+    assert_eq!(rt;
+        Integer::from_signed_octets(rt.alloc(), &[]).err(),
+        Some(empty)
+    );
+    assert_eq!(rt;
+        Integer::from_unsigned_octets(rt.alloc(), &[]).err(),
+        Some(empty)
+    );
+}
+
+#[test]
+fn octets_of_many_lengths_have_their_values(rt: HostRuntime) -> Result<(), Fail> {
+    let octets = [0x80, 0, 0, 0, 0, 0, 0, 0, 0];
+    let below = Integer::from_signed_octets(rt.alloc(), &octets)?;
+    assert_eq!(rt; below.to_i128(), Some(-2361183241434822606848));
+    let above = Integer::from_unsigned_octets(rt.alloc(), &octets)?;
+    assert_eq!(rt; above.to_i128(), Some(2361183241434822606848));
+    let longer = [0, 0x80, 0, 0, 0, 0, 0, 0, 0, 0];
+    assert_eq!(rt; above.signed_octets().as_ref(), longer.as_slice());
+
+    let next = Integer::from(-2361183241434822606849i128);
+    let longer = [0xFF, 0x7F, 0xFF, 0xFF, 0xFF, 0xFF, 0xFF, 0xFF, 0xFF, 0xFF];
+    assert_eq!(rt; next.signed_octets().as_ref(), longer.as_slice());
+
+    let octets = [0xFF, 0, 0, 0, 0, 0, 0, 0, 0];
+    let number = Integer::from_signed_octets(rt.alloc(), &octets)?;
+    assert_eq!(rt; number.to_i128(), Some(-18446744073709551616));
+    let octets = [0, 0x80, 0, 0, 0, 0, 0, 0, 0];
+    let number = Integer::from_signed_octets(rt.alloc(), &octets)?;
+    assert_eq!(rt; number.to_i128(), Some(9223372036854775808));
+    Ok(())
+}
+
+#[test]
+fn the_greatest_u128_takes_seventeen_signed_octets(rt: HostRuntime) {
+    let Ok(most) = Integer::from_u128(rt.alloc(), u128::MAX) else {
+        return;
+    };
+    assert_eq!(rt; most.unsigned_octets().as_ref(), [0xFF; 16].as_slice());
+    let mut signed = [0xFF; 17];
+    signed[0] = 0;
+    assert_eq!(rt; most.signed_octets().as_ref(), signed.as_slice());
+    assert_eq!(rt; u128::try_from(most).ok(), Some(u128::MAX));
+}
+
+#[test]
+fn a_number_past_i128_is_one_number_however_it_was_spelled(rt: HostRuntime) {
+    let mut shortest = [0; 26];
+    shortest[0] = 0xFF;
+    let mut longer = [0; 27];
+    longer[0] = 0xFF;
+    longer[1] = 0xFF;
+    let Some(number) = read(&rt, Integer::from_signed_octets(rt.alloc(), &shortest)) else {
+        return;
+    };
+    let Some(same) = read(&rt, Integer::from_signed_octets(rt.alloc(), &longer)) else {
+        return;
+    };
+    assert!(rt; number < Integer::zero());
+    assert_eq!(rt; number, same);
+    assert_eq!(rt; hash_of(&number), hash_of(&same));
+    assert_eq!(rt; same.signed_octets().as_ref(), shortest.as_slice());
+    assert_eq!(rt; number.to_i128(), None);
+    let Ok(copy) = number.clone() else {
+        return;
+    };
+    assert_eq!(rt; copy, same);
+    let Err(refused) = u8::try_from(copy) else {
+        return assert!(rt; false, "a u8 holds no -2^200");
+    };
+    let Ok(again) = refused.clone() else {
+        return;
+    };
+    assert_eq!(rt; again, refused);
+    assert_eq!(rt; again.into_original(), same);
+    assert_eq!(rt; refused.into_original(), number);
+}
+
+#[test]
+fn the_order_is_that_of_the_numbers_at_every_length(rt: HostRuntime) {
+    let mut far_below = [0; 26];
+    far_below[0] = 0xFF;
+    let mut below_i128 = [0xFF; 17];
+    below_i128[1] = 0x7F;
+    let mut above_i128 = [0; 17];
+    above_i128[1] = 0x80;
+    let Some(far_below) = read(&rt, Integer::from_signed_octets(rt.alloc(), &far_below)) else {
+        return;
+    };
+    let Some(below) = read(&rt, Integer::from_signed_octets(rt.alloc(), &below_i128)) else {
+        return;
+    };
+    let Some(above) = read(&rt, Integer::from_signed_octets(rt.alloc(), &above_i128)) else {
+        return;
+    };
+    let Ok(far_above) = Integer::from_u128(rt.alloc(), u128::MAX) else {
+        return;
+    };
+    let ascending = [
+        far_below,
+        below,
+        Integer::from(i128::MIN),
+        Integer::from(-129i16),
+        Integer::from(-1i8),
+        Integer::zero(),
+        Integer::one(),
+        Integer::from(i128::MAX),
+        above,
+        far_above,
+    ];
+    for (place, number) in ascending.iter().enumerate() {
+        for (other_place, other) in ascending.iter().enumerate() {
+            assert_eq!(rt; number.cmp(other), place.cmp(&other_place));
+            assert_eq!(rt; number == other, place == other_place);
+        }
+    }
+}
+
+#[test]
+fn a_number_is_given_out_exactly_where_the_type_holds_it(rt: HostRuntime) {
+    let rows: [(i128, Option<i64>, Option<u64>); 9] = [
+        (0, Some(0), Some(0)),
+        (42, Some(42), Some(42)),
+        (-42, Some(-42), None),
+        (-9223372036854775808, Some(-9223372036854775808), None),
+        (-9223372036854775809, None, None),
+        (
+            9223372036854775807,
+            Some(9223372036854775807),
+            Some(9223372036854775807),
+        ),
+        (9223372036854775808, None, Some(9223372036854775808)),
+        (18446744073709551615, None, Some(18446744073709551615)),
+        (18446744073709551616, None, None),
+    ];
+    for (number, signed, unsigned) in rows {
+        let integer = Integer::from(number);
+        assert_eq!(rt; integer.to_i64(), signed, "of {number}");
+        assert_eq!(rt; integer.to_u64(), unsigned, "of {number}");
+        assert_eq!(rt; integer.to_i128(), Some(number));
+    }
+    let mut above = [0; 17];
+    above[1] = 0x80;
+    let Some(above) = read(&rt, Integer::from_signed_octets(rt.alloc(), &above)) else {
+        return;
+    };
+    assert_eq!(rt; above.to_i128(), None);
+    assert_eq!(rt; above.to_i64(), None);
+    assert_eq!(rt; above.to_u64(), None);
+    assert_eq!(rt;
+        u128::try_from(above).ok(),
+        Some(170141183460469231731687303715884105728)
+    );
+    let mut below = [0xFF; 17];
+    below[1] = 0x7F;
+    let Some(below) = read(&rt, Integer::from_signed_octets(rt.alloc(), &below)) else {
+        return;
+    };
+    assert_eq!(rt; below.to_i128(), None);
+    assert!(rt; i128::try_from(below).is_err());
+}
+
+#[test]
+fn each_native_type_is_kept_and_given_back(rt: HostRuntime) {
+    assert_eq!(rt; u8::try_from(Integer::from(u8::MAX)).ok(), Some(255));
+    assert_eq!(rt; i8::try_from(Integer::from(i8::MIN)).ok(), Some(-128));
+    assert_eq!(rt; u16::try_from(Integer::from(u16::MAX)).ok(), Some(65535));
+    assert_eq!(rt; i16::try_from(Integer::from(i16::MIN)).ok(), Some(-32768));
+    assert_eq!(rt;
+        u32::try_from(Integer::from(u32::MAX)).ok(),
+        Some(4294967295)
+    );
+    assert_eq!(rt;
+        i32::try_from(Integer::from(i32::MIN)).ok(),
+        Some(-2147483648)
+    );
+    assert_eq!(rt;
+        u64::try_from(Integer::from(u64::MAX)).ok(),
+        Some(18446744073709551615)
+    );
+    assert_eq!(rt;
+        i64::try_from(Integer::from(i64::MIN)).ok(),
+        Some(-9223372036854775808)
+    );
+    assert_eq!(rt;
+        usize::try_from(Integer::from(usize::MAX)).ok(),
+        Some(18446744073709551615)
+    );
+    assert_eq!(rt;
+        isize::try_from(Integer::from(isize::MIN)).ok(),
+        Some(-9223372036854775808)
+    );
+    assert_eq!(rt;
+        i128::try_from(Integer::from(i128::MIN)).ok(),
+        Some(i128::MIN)
+    );
+    assert_eq!(rt; u128::try_from(Integer::from(7u8)).ok(), Some(7));
+    assert_eq!(rt; Integer::default(), Integer::zero());
+}
+
+#[test]
+fn a_number_past_a_bound_is_handed_back(rt: HostRuntime) {
+    let minus_one = Integer::from(-1i8);
+    let Err(refused) = u8::try_from(Integer::from(256i16)) else {
+        return assert!(rt; false, "a u8 holds no 256");
+    };
+    assert_eq!(rt; refused.into_original().to_i128(), Some(256));
+    assert!(rt; i8::try_from(Integer::from(128u8)).is_err());
+    assert!(rt; u16::try_from(Integer::from(-1i8)).is_err());
+    assert!(rt; i16::try_from(Integer::from(-32769i32)).is_err());
+    assert!(rt; u32::try_from(Integer::from(4294967296u64)).is_err());
+    assert!(rt; i32::try_from(Integer::from(2147483648u32)).is_err());
+    assert!(rt; u64::try_from(Integer::from(-1i8)).is_err());
+    assert!(rt; i64::try_from(Integer::from(9223372036854775808u64)).is_err());
+    assert!(rt; u128::try_from(minus_one).is_err());
+    assert!(rt; usize::try_from(Integer::from(-1i8)).is_err());
+    assert!(rt; isize::try_from(Integer::from(9223372036854775808u64)).is_err());
+}
+
+#[test]
+fn constrained_integers_lie_within_both_bounds(rt: HostRuntime) -> Result<(), Fail> {
+    let most = Bounded::try_from(360i32)?;
+    assert_eq!(rt; most.to_i128(), Some(360));
+    let Err(refused) = Bounded::try_from(361i32) else {
+        return Err("361 was accepted")?;
+    };
+    assert_eq!(rt; refused.into_original().to_i128(), Some(361));
+    let least = Bounded::try_from(-8i64)?;
+    assert_eq!(rt; least.to_i128(), Some(-8));
+    assert!(rt; Bounded::try_from(-9isize).is_err());
+    assert!(rt; Bounded::try_from(i128::MAX).is_err());
+    assert!(rt; least < most);
+    let copy = most.clone()?;
+    assert!(rt; copy == most);
+    Ok(())
+}
+
+#[test]
+fn octets_and_values_agree(rt: HostRuntime) {
+    let octets = [0x80, 0x01];
+    assert_eq!(rt; signed_value(&octets), -32767);
+    assert_eq!(rt; unsigned_value(&octets), 32769);
+    assert_eq!(rt; unsigned_value(&[]), 0);
+    let copy = IntegerBytes::from_octets(&octets);
+    assert_eq!(rt; copy.as_ref(), octets.as_slice());
+    assert_eq!(rt; copy.len(), 2);
+    laws_of_shortest_octets();
+}
+
+#[test]
+fn errors_have_their_texts(rt: HostRuntime) {
+    let rows = [
+        (IntegerError::UnexpectedEmptyInput, "empty input"),
+        (
+            IntegerError::Overflow {
+                max_integer_bits: 8,
+            },
+            "more than 8 bits",
+        ),
+        (
+            IntegerError::TypeConversionFailed { bits: 16 },
+            "no value of 16 bits",
+        ),
+        (IntegerError::Memory, "out of memory"),
+    ];
+    for (error, text) in rows {
+        let Ok(written) = format!(in rt.alloc(); "{error}") else {
+            return;
+        };
+        assert_eq!(rt; written.as_str(), text);
+    }
+    let Err(refused) = u8::try_from(Integer::from(-1i8)) else {
+        return assert!(rt; false, "a u8 holds no -1");
+    };
+    let Ok(written) = format!(in rt.alloc(); "{refused}") else {
+        return;
+    };
+    let text = "out of range conversion regarding integer conversion attempted";
+    assert_eq!(rt; written.as_str(), text);
+}

@@ -1,0 +1,219 @@
+ghost use Rattle.std.specs.Prelude.{◌≡◌, pos, Some, codes, IfOk, OnErr};
+ghost use Rattle.asn1_number.specs.Conversions.{Converts};
+ghost use Rattle.asn1_number.specs.Readings.{FitsI128};
+ghost use Rattle.asn1_number.specs.Readings.{kind_u8, kind_i8, kind_u16, kind_i16, kind_u32, kind_i32};
+ghost use Rattle.asn1_number.specs.Readings.{kind_u64, kind_i64, kind_u128, kind_i128, kind_usize, kind_isize};
+
+use crate::integer::Integer;
+use std::alloc::AllocError;
+use std::fmt;
+use std::marker::Model;
+
+/// A number that was refused because the type that was asked for does not hold it. It is seen as
+/// that number.
+#[derive(Debug, Drop, PartialEq, Eq)]
+pub struct TryFromIntegerError {
+    original: Integer,
+}
+
+impl Model for TryFromIntegerError {
+    ghost use Rattle.std.specs.Prelude.{ℤ};
+
+    ghost Value = { ℤ };
+
+    ghost view = { λ e. e.original };
+
+    ghost inverse = { λ n. record { original = n } };
+}
+
+impl TryFromIntegerError {
+    pub(crate) fn new(original: Integer) -> TryFromIntegerError
+        ensures { result ≡ original }
+    {
+        TryFromIntegerError { original }
+    }
+
+    /// The number that was refused.
+    pub fn into_original(self) -> Integer
+        ensures { result ≡ self }
+    {
+        let TryFromIntegerError { original } = self;
+        original
+    }
+
+    /// The same refusal. Memory is asked for only where the number lies outside `i128`.
+    pub fn clone(&self) -> Result<TryFromIntegerError, AllocError>
+        ensures value { IfOk result (λ e. e ≡ self.now) }
+        ensures memory { OnErr result (¬ (FitsI128 self.now)) }
+    {
+        let original = self.original.clone()?;
+        Ok(TryFromIntegerError { original })
+    }
+}
+
+impl fmt::Display for TryFromIntegerError {
+    ghost output = { λ _. Some (codes "out of range conversion regarding integer conversion attempted") };
+
+    fn fmt<W: fmt::Write>(&self, f: &mut fmt::Formatter<W>) -> fmt::Result {
+        write!(
+            f,
+            "out of range conversion regarding integer conversion attempted"
+        )
+    }
+}
+
+impl TryFrom<Integer> for u8 {
+    type Error = TryFromIntegerError;
+
+    ghost try_from_gives = { λ n r. Converts kind_u8 (λ x. pos x) n r };
+
+    fn try_from(number: Integer) -> Result<u8, TryFromIntegerError> {
+        let Some(value) = number.to_i128().and_then(|n| u8::try_from(n).ok()) else {
+            return Err(TryFromIntegerError::new(number));
+        };
+        Ok(value)
+    }
+}
+
+impl TryFrom<Integer> for i8 {
+    type Error = TryFromIntegerError;
+
+    ghost try_from_gives = { λ n r. Converts kind_i8 (λ x. x) n r };
+
+    fn try_from(number: Integer) -> Result<i8, TryFromIntegerError> {
+        let Some(value) = number.to_i128().and_then(|n| i8::try_from(n).ok()) else {
+            return Err(TryFromIntegerError::new(number));
+        };
+        Ok(value)
+    }
+}
+
+impl TryFrom<Integer> for u16 {
+    type Error = TryFromIntegerError;
+
+    ghost try_from_gives = { λ n r. Converts kind_u16 (λ x. pos x) n r };
+
+    fn try_from(number: Integer) -> Result<u16, TryFromIntegerError> {
+        let Some(value) = number.to_i128().and_then(|n| u16::try_from(n).ok()) else {
+            return Err(TryFromIntegerError::new(number));
+        };
+        Ok(value)
+    }
+}
+
+impl TryFrom<Integer> for i16 {
+    type Error = TryFromIntegerError;
+
+    ghost try_from_gives = { λ n r. Converts kind_i16 (λ x. x) n r };
+
+    fn try_from(number: Integer) -> Result<i16, TryFromIntegerError> {
+        let Some(value) = number.to_i128().and_then(|n| i16::try_from(n).ok()) else {
+            return Err(TryFromIntegerError::new(number));
+        };
+        Ok(value)
+    }
+}
+
+impl TryFrom<Integer> for u32 {
+    type Error = TryFromIntegerError;
+
+    ghost try_from_gives = { λ n r. Converts kind_u32 (λ x. pos x) n r };
+
+    fn try_from(number: Integer) -> Result<u32, TryFromIntegerError> {
+        let Some(value) = number.to_i128().and_then(|n| u32::try_from(n).ok()) else {
+            return Err(TryFromIntegerError::new(number));
+        };
+        Ok(value)
+    }
+}
+
+impl TryFrom<Integer> for i32 {
+    type Error = TryFromIntegerError;
+
+    ghost try_from_gives = { λ n r. Converts kind_i32 (λ x. x) n r };
+
+    fn try_from(number: Integer) -> Result<i32, TryFromIntegerError> {
+        let Some(value) = number.to_i128().and_then(|n| i32::try_from(n).ok()) else {
+            return Err(TryFromIntegerError::new(number));
+        };
+        Ok(value)
+    }
+}
+
+impl TryFrom<Integer> for u64 {
+    type Error = TryFromIntegerError;
+
+    ghost try_from_gives = { λ n r. Converts kind_u64 (λ x. pos x) n r };
+
+    fn try_from(number: Integer) -> Result<u64, TryFromIntegerError> {
+        let Some(value) = number.to_i128().and_then(|n| u64::try_from(n).ok()) else {
+            return Err(TryFromIntegerError::new(number));
+        };
+        Ok(value)
+    }
+}
+
+impl TryFrom<Integer> for i64 {
+    type Error = TryFromIntegerError;
+
+    ghost try_from_gives = { λ n r. Converts kind_i64 (λ x. x) n r };
+
+    fn try_from(number: Integer) -> Result<i64, TryFromIntegerError> {
+        let Some(value) = number.to_i128().and_then(|n| i64::try_from(n).ok()) else {
+            return Err(TryFromIntegerError::new(number));
+        };
+        Ok(value)
+    }
+}
+
+impl TryFrom<Integer> for u128 {
+    type Error = TryFromIntegerError;
+
+    ghost try_from_gives = { λ n r. Converts kind_u128 (λ x. pos x) n r };
+
+    fn try_from(number: Integer) -> Result<u128, TryFromIntegerError> {
+        let Some(value) = number.to_u128() else {
+            return Err(TryFromIntegerError::new(number));
+        };
+        Ok(value)
+    }
+}
+
+impl TryFrom<Integer> for i128 {
+    type Error = TryFromIntegerError;
+
+    ghost try_from_gives = { λ n r. Converts kind_i128 (λ x. x) n r };
+
+    fn try_from(number: Integer) -> Result<i128, TryFromIntegerError> {
+        let Some(value) = number.to_i128() else {
+            return Err(TryFromIntegerError::new(number));
+        };
+        Ok(value)
+    }
+}
+
+impl TryFrom<Integer> for usize {
+    type Error = TryFromIntegerError;
+
+    ghost try_from_gives = { λ n r. Converts kind_usize (λ x. pos x) n r };
+
+    fn try_from(number: Integer) -> Result<usize, TryFromIntegerError> {
+        let Some(value) = number.to_i128().and_then(|n| usize::try_from(n).ok()) else {
+            return Err(TryFromIntegerError::new(number));
+        };
+        Ok(value)
+    }
+}
+
+impl TryFrom<Integer> for isize {
+    type Error = TryFromIntegerError;
+
+    ghost try_from_gives = { λ n r. Converts kind_isize (λ x. x) n r };
+
+    fn try_from(number: Integer) -> Result<isize, TryFromIntegerError> {
+        let Some(value) = number.to_i128().and_then(|n| isize::try_from(n).ok()) else {
+            return Err(TryFromIntegerError::new(number));
+        };
+        Ok(value)
+    }
+}
