@@ -4,3 +4,5 @@ pub mod PlaceLemmas
 pub mod WordLemmas
 pub mod StringLemmas
 pub mod PieceLemmas
+pub mod TextLemmas
+pub mod BmpLemmas

@@ -6,6 +6,7 @@ use Rattle.std.proofs.lemmas.Nat.{pow-add}
 use Rattle.std.proofs.lemmas.List.{get_or-map}
 use Rattle.std.proofs.lemmas.List.FromFn.{get_or-map-range_with_len, length-map-range_with_len}
 use Rattle.asn1_strings.specs.Pieces.{piece, pieces}
+use Rattle.asn1_strings.specs.PieceLaws.{length-pieces}
 
 -- one more octet
 pub octet_step : (i n octet : ℕ) → n < 2 ^ (8 * i) → octet < 256 → 256 * n + octet < 2 ^ (8 * (i + 1))
@@ -18,16 +19,6 @@ pub octet_fits : (i n octet : ℕ) → i < 4 → n < 2 ^ (8 * i) → octet < 256
 octet_fits i n octet few low small =
     let step = octet_step i n octet low small in
     let room : 2 ^ (8 * (i + 1)) ≤ 2 ^ 32 = pow_mono (let e : 8 * (i + 1) ≤ 32 = omega arith in e) in
-    omega arith
-
-pub length-pieces : {X : Type 0} (w : ℕ) (xs : List X) → length (pieces w xs) ≡ length xs / w
-length-pieces w xs = length-map-range_with_len (piece w xs) 0 (length xs / w)
-
--- a piece lies within the list
-pub piece_within : (w n i : ℕ) → i < n / w → i * w + w ≤ n
-piece_within w n i lt =
-    let up : suc i * w ≤ n / w * w = mul-le-mul_right w lt in
-    let down = div-mul-le_self n w in
     omega arith
 
 -- the number at a place, of what f gives of each piece

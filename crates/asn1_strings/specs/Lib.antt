@@ -5,4 +5,6 @@ pub mod Errors
 pub mod Words
 pub mod SetLaws
 pub mod Pieces
+pub mod PieceLaws
 pub mod Strings
+pub mod StringLaws

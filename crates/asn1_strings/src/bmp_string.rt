@@ -1,11 +1,15 @@
 //! `BmpString`.
-ghost use Rattle.std.specs.Prelude.{refl};
+ghost use Rattle.std.specs.Prelude.{◌≡◌, ◌≢◌, [], Ok, IfOk, OnErr, refl};
+ghost use Rattle.std.specs.List.{flat_map};
+ghost use Rattle.std.specs.Int.{w16, to_be_bytes};
+ghost use Rattle.asn1_strings.specs.Strings.{character_octets, string_of_octets};
 ghost use Rattle.asn1_strings.specs.SetLaws.{below_limit};
 ghost use Rattle.asn1_strings.specs.declared.character_set.CharacterSetName.TheVariants.{Bmp as name};
 
 use crate::character_set::CharacterSetName;
 use crate::restricted_string::RestrictedString;
 use crate::string_kind::StringKind;
+use std::alloc::{AllocError, Global};
 
 /// The kind of `BmpString`.
 #[derive(Clone, Copy, Debug)]
@@ -25,3 +29,20 @@ impl StringKind for Bmp {
 
 /// A `BmpString` (X.680 41): characters of 16 bits, 0 to FFFD.
 pub type BmpString = RestrictedString<Bmp>;
+
+impl RestrictedString<Bmp> {
+    /// Two octets for each character, the higher first. Memory is asked for where there are any.
+    pub fn to_bytes(&self, alloc: Global) -> Result<Vec<u8>, AllocError>
+        ensures octets { IfOk result (λ v. v.items ≡ flat_map (to_be_bytes w16) self.now) }
+        // `try_from_slice` of them is the same string.
+        ensures read_back { let width = character_octets name in
+            IfOk result (λ v. string_of_octets name width v.items ≡ Ok self.now) }
+        ensures memory { OnErr result (self.now ≢ []) }
+    {
+        let mut bytes = Vec::new(alloc);
+        for unit in self.as_slice() {
+            bytes.extend_from_slice(&unit.to_be_bytes())?;
+        }
+        Ok(bytes)
+    }
+}

@@ -4,6 +4,7 @@ ghost use Rattle.asn1_strings.specs.SetLaws.{below_limit};
 ghost use Rattle.asn1_strings.specs.declared.character_set.CharacterSetName.TheVariants.{General as name};
 
 use crate::character_set::CharacterSetName;
+use crate::octet_kinds::{AsBytes, FromBytes};
 use crate::restricted_string::RestrictedString;
 use crate::string_kind::StringKind;
 
@@ -22,6 +23,10 @@ impl StringKind for General {
 
     ghost octets = { refl };
 }
+
+impl FromBytes for General {}
+
+impl AsBytes for General {}
 
 /// A `GeneralString` (X.680 41): 0 to 7F and A1 to FF.
 pub type GeneralString = RestrictedString<General>;

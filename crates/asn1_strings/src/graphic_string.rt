@@ -4,6 +4,7 @@ ghost use Rattle.asn1_strings.specs.SetLaws.{below_limit};
 ghost use Rattle.asn1_strings.specs.declared.character_set.CharacterSetName.TheVariants.{Graphic as name};
 
 use crate::character_set::CharacterSetName;
+use crate::octet_kinds::{AsBytes, FromBytes};
 use crate::restricted_string::RestrictedString;
 use crate::string_kind::StringKind;
 
@@ -22,6 +23,10 @@ impl StringKind for Graphic {
 
     ghost octets = { refl };
 }
+
+impl FromBytes for Graphic {}
+
+impl AsBytes for Graphic {}
 
 /// A `GraphicString` (X.680 41): 20 to 7E and A1 to FF.
 pub type GraphicString = RestrictedString<Graphic>;

@@ -4,6 +4,7 @@ ghost use Rattle.asn1_strings.specs.SetLaws.{below_limit};
 ghost use Rattle.asn1_strings.specs.declared.character_set.CharacterSetName.TheVariants.{IA5 as name};
 
 use crate::character_set::CharacterSetName;
+use crate::octet_kinds::Iso646;
 use crate::restricted_string::RestrictedString;
 use crate::string_kind::StringKind;
 
@@ -23,5 +24,9 @@ impl StringKind for Ia5 {
     ghost octets = { refl };
 }
 
-/// A `Ia5String` (X.680 41): 0 to 7F.
+impl Iso646 for Ia5 {
+    ghost is_ascii = { below_limit name 128 refl };
+}
+
+/// An `Ia5String` (X.680 41): 0 to 7F.
 pub type Ia5String = RestrictedString<Ia5>;

@@ -12,6 +12,7 @@ mod general_string;
 mod graphic_string;
 mod ia5_string;
 mod numeric_string;
+mod octet_kinds;
 mod octet_string;
 mod pieces;
 mod printable_string;
@@ -35,6 +36,7 @@ pub use general_string::{General, GeneralString};
 pub use graphic_string::{Graphic, GraphicString};
 pub use ia5_string::{Ia5, Ia5String};
 pub use numeric_string::{Numeric, NumericString};
+pub use octet_kinds::{AsBytes, FromBytes, Iso646};
 pub use octet_string::OctetString;
 pub use printable_string::{Printable, PrintableString};
 pub use restricted_string::RestrictedString;
@@ -42,3 +44,6 @@ pub use static_permitted_alphabet::StaticPermittedAlphabet;
 pub use string_kind::StringKind;
 pub use teletex_string::{Teletex, TeletexString};
 pub use visible_string::{Visible, VisibleString};
+
+/// A `UTF8String` (X.680 41): any text.
+pub type Utf8String = String;

@@ -4,6 +4,7 @@ ghost use Rattle.asn1_strings.specs.SetLaws.{below_limit};
 ghost use Rattle.asn1_strings.specs.declared.character_set.CharacterSetName.TheVariants.{Numeric as name};
 
 use crate::character_set::CharacterSetName;
+use crate::octet_kinds::{AsBytes, FromBytes};
 use crate::restricted_string::RestrictedString;
 use crate::string_kind::StringKind;
 
@@ -22,6 +23,10 @@ impl StringKind for Numeric {
 
     ghost octets = { refl };
 }
+
+impl FromBytes for Numeric {}
+
+impl AsBytes for Numeric {}
 
 /// A `NumericString` (X.680 41): the space and the digits.
 pub type NumericString = RestrictedString<Numeric>;

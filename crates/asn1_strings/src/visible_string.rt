@@ -4,6 +4,7 @@ ghost use Rattle.asn1_strings.specs.SetLaws.{below_limit};
 ghost use Rattle.asn1_strings.specs.declared.character_set.CharacterSetName.TheVariants.{Visible as name};
 
 use crate::character_set::CharacterSetName;
+use crate::octet_kinds::Iso646;
 use crate::restricted_string::RestrictedString;
 use crate::string_kind::StringKind;
 
@@ -21,6 +22,10 @@ impl StringKind for Visible {
     ghost fits = { below_limit name 256 refl };
 
     ghost octets = { refl };
+}
+
+impl Iso646 for Visible {
+    ghost is_ascii = { below_limit name 128 refl };
 }
 
 /// A `VisibleString` (X.680 41): 20 to 7E.

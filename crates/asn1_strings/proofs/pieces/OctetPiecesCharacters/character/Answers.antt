@@ -1,7 +1,8 @@
 use Rattle.std.proofs.Common.{ap, sym, ◌∙◌, arith}
 use Rattle.std.proofs.lemmas.List.{length-map, length-take}
 use Rattle.asn1_strings.specs.Pieces.{pieces, unsigned}
-use Rattle.asn1_strings.proofs.PieceLemmas.{length-pieces, get_or-pieces}
+use Rattle.asn1_strings.specs.PieceLaws.{length-pieces}
+use Rattle.asn1_strings.proofs.PieceLemmas.{get_or-pieces}
 use Rattle.asn1_strings.proofs.pieces.OctetPiecesCharacters.character.Goals as goal
 
 pub piece_of-requires : goal.piece_of-requires

@@ -1,0 +1,59 @@
+-- Laws of pieces: each has its length, and one after another they are the list again.
+use Rattle.std.proofs.Common.{◌≡◌, ℕ, suc, zero, ◌+◌, ◌*◌, ◌/◌, ◌%◌, ◌<◌, ◌≤◌, List, [], ◌∷◌, ◌++◌, length, take, drop, map, refl, ap, sym, ◌∙◌, arith}
+use Rattle.std.specs.List.{All, flat_map, range_with_len}
+use Rattle.std.proofs.Math.Seq.{drop-append-add, take-append_seam}
+use Rattle.std.proofs.Math.Nat.{zero-div, add-div_left, div-mul-le_self, mul-le-mul_right}
+use Rattle.std.proofs.lemmas.Nat.{div-add-mod'}
+use Rattle.std.proofs.lemmas.List.{length-append, length-take, length-drop, length-map, take-append-drop, get_or-map}
+use Rattle.std.proofs.lemmas.List.FromFn.{length-map-range_with_len, get_or-map-range_with_len}
+use Rattle.asn1_strings.specs.Pieces.{piece, pieces}
+
+-- past a first piece, the pieces are those of the rest
+shifted : {X : Type 0} (w : ℕ) (p rest : List X) → length p ≡ w → (n i : ℕ) → map (piece w (p ++ rest)) (range_with_len (i + 1) n) ≡ map (piece w rest) (range_with_len i n)
+shifted w p rest long zero i = refl
+shifted w p rest long (suc n) i =
+    let next : (i + 1) * w ≡ length p + i * w = rw long (omega arith) in
+    let head : piece w (p ++ rest) (i + 1) ≡ piece w rest i = ap (take w) (ap (λ k. drop k (p ++ rest)) next ∙ drop-append-add p rest (i * w)) in
+    rw (head, shifted w p rest long n (i + 1)) refl
+
+-- a list that begins with a piece has it as its first piece
+pub pieces_cons : {X : Type 0} (w : ℕ) (p rest : List X) → 0 < w → length p ≡ w → pieces w (p ++ rest) ≡ p ∷ pieces w rest
+pieces_cons w p rest some long =
+    let count : length (p ++ rest) / w ≡ suc (length rest / w) = ap (λ n. n / w) (length-append p rest ∙ ap (λ n. n + length rest) long) ∙ add-div_left (length rest) some ∙ omega arith in
+    let first : piece w (p ++ rest) 0 ≡ p = let none : 0 * w ≡ 0 = omega arith in rw none (ap (λ n. take n (p ++ rest)) (sym long) ∙ take-append_seam p rest) in
+    rw count (rw (first, shifted w p rest long (length rest / w) 0) refl)
+
+pub length-pieces : {X : Type 0} (w : ℕ) (xs : List X) → length (pieces w xs) ≡ length xs / w
+length-pieces w xs = length-map-range_with_len (piece w xs) 0 (length xs / w)
+
+-- a piece lies within the list
+pub piece_within : (w n i : ℕ) → i < n / w → i * w + w ≤ n
+piece_within w n i lt =
+    let up : suc i * w ≤ n / w * w = mul-le-mul_right w lt in
+    let down = div-mul-le_self n w in
+    omega arith
+
+joined_count : {X : Type 0} (w n : ℕ) (xs : List X) → 0 < w → length xs ≡ n * w → flat_map (λ p. p) (pieces w xs) ≡ xs
+joined_count w zero [] some long = rw (zero-div w) refl
+joined_count w zero (x ∷ xs) some long = absurd (omega arith)
+joined_count w (suc n) xs some long =
+    let front : length (take w xs) ≡ w = length-take w xs ∙ omega arith in
+    let back : length (drop w xs) ≡ n * w = length-drop w xs ∙ omega arith in
+    let whole = take-append-drop w xs in
+    ap (λ l. flat_map (λ p. p) (pieces w l)) (sym whole)
+    ∙ ap (flat_map (λ p. p)) (pieces_cons w (take w xs) (drop w xs) some front)
+    ∙ ap (λ l. take w xs ++ l) (joined_count w n (drop w xs) some back)
+    ∙ whole
+
+-- the pieces of a list of whole pieces, one after another, are the list
+pub joined : {X : Type 0} (w : ℕ) (xs : List X) → 0 < w → length xs % w ≡ 0 → flat_map (λ p. p) (pieces w xs) ≡ xs
+joined w xs some even =
+    let count : length xs ≡ length xs / w * w = omega (arith, div-add-mod' (length xs) w) in joined_count w (length xs / w) xs some count
+
+-- each piece has w elements
+pub length-piece : {X : Type 0} (w : ℕ) (xs : List X) → All (λ p. length p ≡ w) (pieces w xs)
+length-piece w xs i d lt =
+    let within : i < length xs / w = rw (length-pieces w xs) at lt in
+    let room = piece_within w (length xs) i within in
+    rw (get_or-map-range_with_len (piece w xs) 0 (length xs / w) i i d within (omega arith))
+    (length-take w (drop (i * w) xs) ∙ let rest = length-drop (i * w) xs in omega arith)

@@ -1,0 +1,92 @@
+//! What strings have whose characters are octets.
+ghost use Rattle.std.specs.Prelude.{◌≡◌, ◌≢◌, ◌<◌, ℕ, true, [], Some, OnErr, IfOk, IfErr, string_bytes};
+ghost use Rattle.asn1_strings.specs.Sets.{base_set, has_character};
+ghost use Rattle.asn1_strings.specs.Strings.{Answers, string_of_octets};
+
+use crate::error::PermittedAlphabetError;
+use crate::octet_string::OctetString;
+use crate::restricted_string::RestrictedString;
+use crate::static_permitted_alphabet::StaticPermittedAlphabet;
+use crate::string_kind::StringKind;
+use std::alloc::Global;
+use std::fmt;
+
+/// A kind whose strings have `from_bytes`.
+pub trait FromBytes: StringKind<T = u8> {}
+
+/// A kind whose strings have `as_bytes`.
+pub trait AsBytes: StringKind<T = u8> {}
+
+/// A kind whose characters are below 128, those of ISO 646.
+pub trait Iso646: StringKind<T = u8> {
+    ghost is_ascii: { (c : ℕ) → has_character (base_set Self.NAME) c ≡ true → c < 128 };
+}
+
+impl<K: FromBytes> RestrictedString<K> {
+    /// The string of these characters, one octet each; refused as by `try_from_slice`.
+    pub fn from_bytes(alloc: Global, bytes: &[u8]) -> Result<Self, PermittedAlphabetError>
+        ensures { Answers (λ s. s) result (string_of_octets K.NAME 1 bytes.now) }
+    {
+        Self::try_from_slice(alloc, bytes)
+    }
+}
+
+impl<K: AsBytes> RestrictedString<K> {
+    /// The characters, one octet each.
+    pub fn as_bytes(&self) -> &[u8]
+        ensures { result.now ≡ self.now }
+    {
+        self.as_slice()
+    }
+}
+
+impl<K: Iso646> RestrictedString<K> {
+    /// The string of these characters, one octet each; refused as by `try_from_slice`.
+    pub fn from_iso646_bytes(alloc: Global, bytes: &[u8]) -> Result<Self, PermittedAlphabetError>
+        ensures { Answers (λ s. s) result (string_of_octets K.NAME 1 bytes.now) }
+    {
+        Self::try_from_slice(alloc, bytes)
+    }
+
+    /// The characters, one octet each.
+    pub fn as_iso646_bytes(&self) -> &[u8]
+        ensures { result.now ≡ self.now }
+    {
+        self.as_slice()
+    }
+
+    // The characters as a text.
+    fn as_text(&self) -> &str
+        ensures { result.now ≡ self.now }
+    {
+        str::from_utf8(self.as_slice()).unwrap()
+    }
+
+    /// The characters as a text, without a copy. No memory is asked for.
+    pub fn into_string(self) -> String
+        ensures { string_bytes result ≡ self }
+    {
+        String::from_utf8(self.into_vec()).unwrap()
+    }
+
+    /// The characters as octets, without a copy. Where memory for their count of owners is refused,
+    /// which the empty string does not need, the string comes back.
+    pub fn into_octet_string(self) -> Result<OctetString, Self>
+        ensures octets { IfOk result (λ octets. octets ≡ self) }
+        ensures back { IfErr result (λ s. s ≡ self) }
+        ensures memory { OnErr result (self ≢ []) }
+    {
+        match OctetString::from_vec(self.into_vec()) {
+            Ok(octets) => Ok(octets),
+            Err(units) => Err(RestrictedString::from_units(units)),
+        }
+    }
+}
+
+impl<K: Iso646> fmt::Display for RestrictedString<K> {
+    ghost output = { λ s. Some s };
+
+    fn fmt<W: fmt::Write>(&self, f: &mut fmt::Formatter<W>) -> fmt::Result {
+        f.write_str(self.as_text())
+    }
+}
