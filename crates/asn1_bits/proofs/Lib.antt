@@ -1,0 +1,13 @@
+pub mod BufferLemmas
+pub mod ByteLemmas
+pub mod DigitLaws
+pub mod DigitLemmas
+pub mod NumberLemmas
+pub mod OrderLemmas
+pub mod OredLemmas
+pub mod ReadWideLemmas
+pub mod RoomLemmas
+pub mod ViewLemmas
+pub mod WalkSteps
+pub mod WindowLemmas
+pub mod ZeroLemmas

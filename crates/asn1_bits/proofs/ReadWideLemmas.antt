@@ -1,0 +1,178 @@
+-- The number of bits that are read octet by octet.
+use Rattle.std.proofs.Common.{◌≡◌, ℕ, ◌+◌, ◌-◌, ◌*◌, ◌/◌, ◌%◌, ◌^◌, ◌<◌, ◌≤◌, Bool, List, [], ◌++◌, length, get_or, take, drop, sym, ap, ◌∙◌, arith}
+use Rattle.std.specs.Prelude.{bit_and, bit_or}
+use Rattle.std.proofs.Math.Nat.{mul-add-div_right, mul_assoc, pow-le-pow_right, mod-eq_of_lt}
+use Rattle.std.proofs.Math.Seq.{take-add}
+use Rattle.std.proofs.lemmas.List.{take_at, drop-drop, length-take, length-drop, take_more, take-take, drop-take, take-append-drop, drop_at, drop-append-le}
+use Rattle.std.proofs.lemmas.Nat.{shr_high, and_mask, or_shifted, pow_pos, pow-add, shl_whole, shr_below, field_of, shr-shr, shl-shr}
+use Rattle.std.proofs.lemmas.Nat.Bits.{ones_shr}
+use Rattle.asn1_bits.specs.Bits.{digits, number, bits}
+use Rattle.asn1_bits.proofs.DigitLemmas.{length-digits, length-bits, bits-take, bits-push, drop_split}
+use Rattle.asn1_bits.proofs.NumberLemmas.{number-append, number-digits, number-lt, digits-append}
+
+-- the number of the bits of the first k octets, but for the first shift bits
+abbrev pub gathered : List ℕ → ℕ → ℕ → ℕ
+gathered field shift k = number (drop shift (bits (take k field)))
+
+octet_number : (o : ℕ) → o < 256 → number (digits o 8) ≡ o
+octet_number o h = number-digits o 8 ∙ omega arith
+
+pub gathered-more : (field : List ℕ) (shift k : ℕ) → shift ≤ 8 * k → k < length field → get_or field k 0 < 256
+    → gathered field shift (k + 1) ≡ gathered field shift k * 256 + get_or field k 0
+gathered-more field shift k h lt small =
+    let o = get_or field k 0 in
+    let front = bits (take k field) in
+    ap (λ (l : List ℕ). number (drop shift (bits l))) (take_more field k 0 lt)
+    ∙ ap (λ (l : List Bool). number (drop shift l)) (bits-push (take k field) o)
+    ∙ ap number (drop-append-le shift front (digits o 8) (omega (arith, length-bits (take k field), length-take k field)))
+    ∙ number-append (drop shift front) (digits o 8)
+    ∙ ap (λ (n : ℕ). number (drop shift front) * 2 ^ n + number (digits o 8)) (length-digits o 8)
+    ∙ ap (λ (n : ℕ). number (drop shift front) * 256 + n) (octet_number o small)
+
+low-digits : (o shift : ℕ) → shift ≤ 8 → drop shift (digits o 8) ≡ digits o (8 - shift)
+low-digits o shift h =
+    let e : 8 ≡ shift + (8 - shift) = omega arith in
+    ap (drop shift) (ap (digits o) e ∙ digits-append o shift (8 - shift))
+    ∙ drop_at (digits (o / 2 ^ (8 - shift)) shift) (digits o (8 - shift)) shift (length-digits (o / 2 ^ (8 - shift)) shift)
+
+pub gathered-first : (field : List ℕ) (shift : ℕ) → shift ≤ 8 → 0 < length field → bit_and (get_or field 0 0) (255 / 2 ^ shift) ≡ gathered field shift 1
+unfolding bits
+gathered-first field shift h lt =
+    let o = get_or field 0 0 in
+    ap (bit_and o) (ones_shr 8 shift h) ∙ and_mask o (8 - shift)
+    ∙ sym (ap (λ (l : List ℕ). number (drop shift (bits l))) (take_more field 0 0 lt)
+    ∙ ap (λ (l : List Bool). number (drop shift l)) (bits-push [] o)
+    ∙ ap number (low-digits o shift h)
+    ∙ number-digits o (8 - shift))
+
+pub gathered-lt : (field : List ℕ) (shift k : ℕ) → k ≤ length field → gathered field shift k < 2 ^ (8 * k - shift)
+gathered-lt field shift k h =
+    let l = drop shift (bits (take k field)) in
+    let n : length l ≡ 8 * k - shift = omega (arith, length-drop shift (bits (take k field)), length-bits (take k field), length-take k field) in
+    rw n at (number-lt l)
+
+-- the bits past the width go
+pub gathered-end : (field : List ℕ) (shift width excess m : ℕ) → shift + width + excess ≡ 8 * m → m ≤ length field
+    → number (take width (drop shift (bits field))) ≡ gathered field shift m / 2 ^ excess
+gathered-end field shift width excess m e h =
+    let all = drop shift (bits field) in
+    let part = drop shift (bits (take m field)) in
+    let sum : 8 * m ≡ shift + (width + excess) = omega arith in
+    let is : part ≡ take (width + excess) all =
+    ap (drop shift) (bits-take m field ∙ ap (λ (n : ℕ). take n (bits field)) sum) ∙ drop-take shift (width + excess) (bits field) in
+    let front : take width part ≡ take width all = ap (take width) is ∙ take-take width (width + excess) all (omega arith) in
+    let rest = drop width part in
+    let n : length rest ≡ excess = omega (arith, length-drop width part, length-drop shift (bits (take m field)), length-bits (take m field), length-take m field) in
+    let small : number rest < 2 ^ excess = rw n at (number-lt rest) in
+    let whole : number part ≡ number (take width all) * 2 ^ excess + number rest =
+    ap number (sym (take-append-drop width part)) ∙ number-append (take width part) rest
+    ∙ ap (λ (l : List Bool). number l * 2 ^ length rest + number rest) front
+    ∙ ap (λ (k : ℕ). number (take width all) * 2 ^ k + number rest) n in
+    sym (ap (λ (k : ℕ). k / 2 ^ excess) whole ∙ shr_high (number (take width all)) excess (number rest) small)
+
+-- the seventeenth octet
+pub gathered-last : (field : List ℕ) (shift excess k : ℕ) → shift ≤ 8 * k → k < length field → get_or field k 0 < 256 → excess ≤ 8
+    → gathered field shift (k + 1) / 2 ^ excess ≡ gathered field shift k * 2 ^ (8 - excess) + get_or field k 0 / 2 ^ excess
+gathered-last field shift excess k h lt small e =
+    let o = get_or field k 0 in
+    let g = gathered field shift k in
+    let p : 256 ≡ 2 ^ (8 - excess) * 2 ^ excess = (let s : 8 ≡ (8 - excess) + excess = omega arith in ap (λ (n : ℕ). 2 ^ n) s ∙ pow-add 2 (8 - excess) excess) in
+    ap (λ (n : ℕ). n / 2 ^ excess) (gathered-more field shift k h lt small)
+    ∙ ap (λ (n : ℕ). (n + o) / 2 ^ excess) (ap (λ (n : ℕ). g * n) p ∙ sym (mul_assoc g (2 ^ (8 - excess)) (2 ^ excess)))
+    ∙ mul-add-div_right (pow_pos excess) (g * 2 ^ (8 - excess)) o
+
+-- as the code joins the two
+pub joined : (g o k w top : ℕ) → g < 2 ^ top → top + k ≤ w → o < 2 ^ k → bit_or (g * 2 ^ k % 2 ^ w) o ≡ g * 2 ^ k + o
+joined g o k w top h fits small = rw (shl_whole g top k w h fits) (or_shifted g k o small)
+
+pub gathered-fits : (field : List ℕ) (shift k : ℕ) → k ≤ length field → k < 16 → gathered field shift k * 256 + 255 < 2 ^ 128
+gathered-fits field shift k h lt =
+    let top : 2 ^ (8 * k - shift) ≤ 2 ^ 120 = pow-le-pow_right {n = 2} (omega arith) {i = 8 * k - shift} {j = 120} (omega arith) in
+    omega (arith, gathered-lt field shift k h, top)
+
+-- what is read where sixteen octets are enough
+pub read-short : (bytes field : List ℕ) (position width excess needed value k : ℕ) → field ≡ drop (position / 8) bytes
+    → position % 8 + width + excess ≡ 8 * needed → needed ≤ length field → k ≡ needed → value ≡ gathered field (position % 8) k
+    → value / 2 ^ excess ≡ number (take width (drop position (bits bytes)))
+read-short bytes field position width excess needed value k f e h n v =
+    let shift = position % 8 in
+    ap (λ (m : ℕ). m / 2 ^ excess) (v ∙ ap (gathered field shift) n)
+    ∙ sym (gathered-end field shift width excess needed e h)
+    ∙ ap (λ (l : List Bool). number (take width l)) (ap (λ (l : List ℕ). drop shift (bits l)) f ∙ drop_split bytes position)
+
+-- what is read where a seventeenth octet is met
+pub read-long : (bytes field : List ℕ) (position width excess value k last : ℕ) → field ≡ drop (position / 8) bytes
+    → position % 8 + width + excess ≡ 136 → width ≤ 128 → excess < 8 → 17 ≤ length field → k ≡ 16 → value ≡ gathered field (position % 8) k
+    → get_or field 16 0 < 256 → last ≡ get_or field 16 0 / 2 ^ excess
+    → bit_or (value * 2 ^ (8 - excess) % 2 ^ 128) last ≡ number (take width (drop position (bits bytes)))
+read-long bytes field position width excess value k last f e w small h n v octet l =
+    let shift = position % 8 in
+    let g = gathered field shift 16 in
+    let o = get_or field 16 0 in
+    let is : value ≡ g = v ∙ ap (gathered field shift) n in
+    let room : 256 ≡ 2 ^ ((8 - excess) + excess) = (let s : 8 ≡ (8 - excess) + excess = omega arith in ap (λ (m : ℕ). 2 ^ m) s) in
+    let low : o / 2 ^ excess < 2 ^ (8 - excess) = shr_below o (8 - excess) excess (omega arith) in
+    ap (λ (m : ℕ). bit_or (m * 2 ^ (8 - excess) % 2 ^ 128) last) is
+    ∙ ap (bit_or (g * 2 ^ (8 - excess) % 2 ^ 128)) l
+    ∙ joined g (o / 2 ^ excess) (8 - excess) 128 (128 - shift) (gathered-lt field shift 16 (omega arith)) (omega arith) low
+    ∙ sym (gathered-last field shift excess 16 (omega arith) (omega arith) octet (omega arith))
+    ∙ sym (gathered-end field shift width excess 17 e h)
+    ∙ ap (λ (m : List Bool). number (take width m)) (ap (λ (m : List ℕ). drop shift (bits m)) f ∙ drop_split bytes position)
+
+-- ---- words that are read
+
+low-part : (n s width : ℕ) → drop s (digits n (s + width)) ≡ digits n width
+low-part n s width =
+    ap (drop s) (digits-append n s width) ∙ drop_at (digits (n / 2 ^ width) s) (digits n width) s (length-digits (n / 2 ^ width) s)
+
+-- fewer than 64 bits, of a word of eight octets
+pub read-word : (list : List Bool) (place shift width word : ℕ) → shift + width ≤ 64
+    → digits word 64 ≡ take 64 (drop place list)
+    → word * 2 ^ shift % 2 ^ 64 / 2 ^ (64 - width) ≡ number (take width (drop (place + shift) list))
+read-word list place shift width word h e =
+    let end = 64 - shift - width in
+    let all = drop place list in
+    let a : 64 ≡ width + (64 - width) = omega arith in
+    let b : 64 - width ≡ shift + end = omega arith in
+    let c : 64 ≡ shift + (width + end) = omega arith in
+    let value : word * 2 ^ shift % 2 ^ 64 / 2 ^ (64 - width) ≡ word / 2 ^ end % 2 ^ width =
+    ap (λ (k : ℕ). word * 2 ^ shift % 2 ^ k / 2 ^ (64 - width)) a
+    ∙ field_of (word * 2 ^ shift) width (64 - width)
+    ∙ ap (λ (k : ℕ). word * 2 ^ shift / 2 ^ k % 2 ^ width) b
+    ∙ ap (λ (m : ℕ). m % 2 ^ width) (sym (shr-shr (word * 2 ^ shift) shift end) ∙ ap (λ (m : ℕ). m / 2 ^ end) (shl-shr word shift)) in
+    let part : digits (word / 2 ^ end) width ≡ take width (drop (place + shift) list) =
+    sym (ap (take width) (ap (λ (k : ℕ). drop shift (digits word k)) c ∙ low-part word shift (width + end) ∙ digits-append word width end)
+    ∙ take_at (digits (word / 2 ^ end) width) (digits word end) width (length-digits (word / 2 ^ end) width))
+    ∙ ap (λ (l : List Bool). take width (drop shift l)) (e ∙ ap (λ (k : ℕ). take k all) c)
+    ∙ ap (take width) (drop-take shift (width + end) all)
+    ∙ take-take width (width + end) (drop shift all) (omega arith)
+    ∙ ap (take width) (drop-drop shift place list) in
+    value ∙ sym (number-digits (word / 2 ^ end) width) ∙ ap number part
+
+-- more than 64 bits, of the word of the first and of the last 64
+pub read-two : (list : List Bool) (place last width high low : ℕ) → 64 < width → width ≤ 128 → last ≡ place + (width - 64)
+    → high < 2 ^ 64 → low < 2 ^ 64
+    → digits high 64 ≡ take 64 (drop place list) → digits low 64 ≡ take 64 (drop last list)
+    → bit_or (high / 2 ^ (128 - width) * 2 ^ 64 % 2 ^ 128) low ≡ number (take width (drop place list))
+read-two list place last width high low more most l hs ls a b =
+    let all = drop place list in
+    let top = width - 64 in
+    let end = 128 - width in
+    let g = high / 2 ^ end in
+    let s : 64 ≡ top + end = omega arith in
+    let w : width ≡ top + 64 = omega arith in
+    let less : g < 2 ^ top = shr_below high top end (rw (ap (λ (k : ℕ). 2 ^ k) (sym s)) hs) in
+    let back : take 64 (drop top all) ≡ digits low 64 =
+    ap (take 64) (drop-drop top place list ∙ ap (λ (k : ℕ). drop k list) (sym l)) ∙ sym b in
+    let front : take top all ≡ digits g top =
+    sym (take-take top 64 all (omega arith)) ∙ ap (take top) (sym a ∙ ap (digits high) s ∙ digits-append high top end)
+    ∙ take_at (digits g top) (digits high end) top (length-digits g top) in
+    joined g low 64 128 top less (omega arith) ls
+    ∙ sym (ap (λ (k : ℕ). number (take k all)) w
+    ∙ ap number (take-add top 64 all)
+    ∙ ap (λ (x : List Bool). number (x ++ take 64 (drop top all))) front
+    ∙ ap (λ (x : List Bool). number (digits g top ++ x)) back
+    ∙ number-append (digits g top) (digits low 64)
+    ∙ ap (λ (k : ℕ). number (digits g top) * 2 ^ k + number (digits low 64)) (length-digits low 64)
+    ∙ ap (λ (m : ℕ). m * 2 ^ 64 + number (digits low 64)) (number-digits g top ∙ mod-eq_of_lt less)
+    ∙ ap (λ (m : ℕ). g * 2 ^ 64 + m) (number-digits low 64 ∙ omega (arith, ls)))

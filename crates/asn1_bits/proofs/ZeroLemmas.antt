@@ -1,0 +1,14 @@
+-- A list that is zeros from a place on.
+use Rattle.std.proofs.Common.{◌≡◌, ℕ, ◌-◌, ◌≤◌, Bool, false, List, ◌++◌, length, take, drop, replicate, sym, ap, ◌∙◌, arith}
+use Rattle.std.proofs.lemmas.List.{length-take, take-append-drop, drop_at}
+use Rattle.asn1_bits.specs.Bits.{IsZeroFrom}
+
+-- what comes before the place, and the zeros
+pub zeros_behind : (place : ℕ) (list : List Bool) → IsZeroFrom place list → list ≡ take place list ++ replicate (length list - place) false
+zeros_behind place list z = sym (take-append-drop place list) ∙ ap (λ (l : List Bool). take place list ++ l) z.zero
+
+pub zero_from : (place : ℕ) (list : List Bool) → place ≤ length list → list ≡ take place list ++ replicate (length list - place) false → IsZeroFrom place list
+zero_from place list h e = record {
+  within = h;
+  zero = ap (drop place) e ∙ drop_at (take place list) (replicate (length list - place) false) place (omega (arith, length-take place list));
+}

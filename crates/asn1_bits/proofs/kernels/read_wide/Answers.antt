@@ -1,0 +1,21 @@
+use Rattle.std.proofs.Common.{◌≡◌, ◌^◌, ◌<◌, take, drop, arith}
+use Rattle.std.proofs.lemmas.List.{length-take, length-drop}
+use Rattle.asn1_bits.specs.Bits.{bits, digits}
+use Rattle.asn1_bits.proofs.DigitLemmas.{length-bits}
+use Rattle.asn1_bits.proofs.NumberLemmas.{number_is}
+use Rattle.asn1_bits.proofs.kernels.read_wide.Goals as goal
+
+field : (c : goal.After-read_number-value) → (c.read_number-value.result < 2 ^ c.args.width)
+    × (digits c.read_number-value.result c.args.width ≡ take c.args.width (drop c.args.position (bits c.args.bytes.now)))
+field c =
+    let all = bits c.args.bytes.now in
+    let rest = drop c.args.position all in
+    number_is (take c.args.width rest) c.read_number-value.result c.args.width
+    (omega (arith, length-take c.args.width rest, length-drop c.args.position all, length-bits c.args.bytes.now, c.requires.within))
+    c.read_number-value.ensures
+
+pub returns-clause-digits : goal.returns-clause-digits
+returns-clause-digits c = (field c).1
+
+pub returns-clause-below : goal.returns-clause-below
+returns-clause-below c = (field c).0

@@ -1,0 +1,19 @@
+-- What an appender has pushed, the room that is left, and the buffer that it fills.
+use Rattle.std.specs.Prelude.{ℕ, ◌-◌, Bool, List, take, length}
+use Rattle.asn1_bits.specs.declared.bit_appender.BitAppender.{BitAppender}
+
+-- the old bits of the buffer, and what was pushed behind them
+abbrev pub bits_written : BitAppender → List Bool
+bits_written a = take a.position a.buffer.now
+
+-- how many bits may still be pushed
+abbrev pub room : BitAppender → ℕ
+room a = length a.buffer.now - a.position
+
+-- the bits that the buffer holds now
+abbrev pub bits_held : BitAppender → List Bool
+bits_held a = a.buffer.now
+
+-- the ghost name of the buffer that it fills
+abbrev pub lender_of : BitAppender → ℕ
+lender_of a = a.buffer.ghost_name

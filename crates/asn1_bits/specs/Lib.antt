@@ -1,0 +1,10 @@
+pub mod BitAppender
+pub mod BitBuffer
+pub mod BitLists
+pub mod BitReader
+pub mod Bits
+pub mod BitStr
+pub mod FixedBitString
+pub mod Octets
+pub mod Turns
+pub mod View

@@ -1,0 +1,118 @@
+//! Digits and octets, written into room that a buffer made at once.
+
+ghost use Rattle.std.specs.Prelude.{◌≡◌, ◌+◌, ◌-◌, ◌*◌, ◌^◌, ◌<◌, ◌≤◌, ◌++◌, length, replicate, false, IsOk, IfOk};
+ghost use Rattle.std.specs.Int.{div_ceil};
+ghost use Rattle.asn1_bits.specs.Bits.{bits, digits, octets_for, IsZeroFrom};
+ghost use Rattle.asn1_bits.specs.BitStr.{view_of, bits_of};
+ghost use Rattle.asn1_bits.specs.Turns.{turns_for};
+
+use crate::bit_buffer::{BitBuffer, top_octets};
+use crate::bit_str::BitStr;
+use crate::turns::Turns;
+use std::alloc::AllocError;
+
+/// Fills the zero bits that a buffer appended for it. When it ends, the buffer holds its old bits, what was pushed in
+/// order, and zeros for the room that is left.
+#[derive(Drop)]
+pub struct BitAppender<'a> {
+    buffer: &'a mut BitBuffer,
+    position: usize,
+    pub ghost zeros: { IsZeroFrom position buffer.now },
+}
+
+impl BitBuffer {
+    ghost use Rattle.std.specs.Borrow.{sem, RestsIfErr};
+    ghost use Rattle.asn1_bits.specs.contracts.bit_buffer.BitBuffer.{the_row};
+    ghost use Rattle.asn1_bits.specs.BitAppender.{bits_written, bits_held, room, lender_of};
+
+    /// Appends `additional` zero bits, by one growth, for the appender to fill. Where memory is wanting, the bits stay.
+    pub fn appender(&mut self, additional: usize) -> Result<BitAppender<'_>, AllocError>
+        requires { length self.old + additional < 2 ^ 64 }
+        // Where memory is wanting, the buffer is as before; else it ends as the appender leaves it.
+        ensures* refused { sem 𝓛 (RestsIfErr the_row self.entry lender_of result (λ bits. bits ≡ self.old)) }
+        ensures lender { IfOk result (λ a. lender_of a ≡ self.entry.ghost_name) }
+        ensures written { IfOk result (λ a. bits_written a ≡ self.old) }
+        ensures room { IfOk result (λ a. room a ≡ additional) }
+        ensures held { IfOk result (λ a. bits_held a ≡ bits_written a ++ replicate (room a) false) }
+        // Where no octet is added, no memory is asked for.
+        ensures free { octets_for (length self.old + additional) ≡ octets_for (length self.old) → IsOk result }
+    {
+        let position = self.len();
+        self.grow(additional)?;
+        Ok(BitAppender {
+            buffer: self,
+            position,
+        })
+    }
+}
+
+impl<'a> BitAppender<'a> {
+    ghost use Rattle.asn1_bits.specs.BitAppender.{bits_written, bits_held, room, lender_of};
+
+    /// How many bits may still be pushed.
+    pub fn room(&self) -> usize
+        ensures { result ≡ room self.now }
+    {
+        self.buffer.len() - self.position
+    }
+
+    /// Writes the lowest `width` binary digits of `value`, most significant first.
+    pub fn push(&mut self, value: u32, width: usize)
+        requires width { width ≤ 32 }
+        requires room { width ≤ room self.old }
+        ensures lender { lender_of self.new ≡ lender_of self.old }
+        ensures written { bits_written self.new ≡ bits_written self.old ++ digits value width }
+        ensures room { room self.new + width ≡ room self.old }
+        ensures held { bits_held self.new ≡ bits_written self.new ++ replicate (room self.new) false }
+    {
+        self.push_wide(u128::from(value), width, &mut Turns::new());
+    }
+
+    /// Writes the lowest `width` binary digits of `value`, most significant first, 64 bits a turn.
+    pub fn push_wide(&mut self, value: u128, width: usize, turns: &mut Turns)
+        requires width { width ≤ 128 }
+        requires room { width ≤ room self.old }
+        ensures lender { lender_of self.new ≡ lender_of self.old }
+        ensures written { bits_written self.new ≡ bits_written self.old ++ digits value width }
+        ensures room { room self.new + width ≡ room self.old }
+        ensures held { bits_held self.new ≡ bits_written self.new ++ replicate (room self.new) false }
+        ensures at_least { turns.old.count + div_ceil width 64 ≤ turns.new.count }
+        ensures at_most { turns.new.count ≤ turns.old.count + turns_for width }
+    {
+        let octets = top_octets(value, width);
+        self.push_bitslice(BitStr::front_of(&octets, width), turns);
+    }
+
+    /// Writes the bits of the octets, 64 bits a turn.
+    pub fn push_octets(&mut self, octets: &[u8], turns: &mut Turns)
+        requires { 8 * length octets.now ≤ room self.old }
+        ensures lender { lender_of self.new ≡ lender_of self.old }
+        ensures written { bits_written self.new ≡ bits_written self.old ++ bits octets.now }
+        ensures room { room self.new + 8 * length octets.now ≡ room self.old }
+        ensures held { bits_held self.new ≡ bits_written self.new ++ replicate (room self.new) false }
+        ensures at_least { turns.old.count + div_ceil (8 * length octets.now) 64 ≤ turns.new.count }
+        ensures at_most { turns.new.count ≤ turns.old.count + turns_for (8 * length octets.now) }
+    {
+        // A length fits `usize`, and so do the bits of octets that fit the room.
+        let _len = self.buffer.len();
+        self.push_bitslice(BitStr::from_octets(octets), turns);
+    }
+
+    /// Writes the bits of the view, 64 bits a turn.
+    pub fn push_bitslice(&mut self, src: BitStr<'_>, turns: &mut Turns)
+        requires { (view_of src).len ≤ room self.old }
+        ensures lender { lender_of self.new ≡ lender_of self.old }
+        ensures written { bits_written self.new ≡ bits_written self.old ++ bits_of src.entry }
+        ensures room { room self.new + (view_of src.entry).len ≡ room self.old }
+        ensures held { bits_held self.new ≡ bits_written self.new ++ replicate (room self.new) false }
+        ensures at_least { turns.old.count + div_ceil (view_of src.entry).len 64 ≤ turns.new.count }
+        ensures at_most { turns.new.count ≤ turns.old.count + turns_for (view_of src.entry).len }
+    {
+        let position = self.position;
+        // A length fits `usize`.
+        let _len = self.buffer.len();
+        // The zeros count as pushed before the bits are ORed in, so that what lies behind stays zeros throughout.
+        self.position += src.len();
+        self.buffer.write_at(position, src, turns);
+    }
+}

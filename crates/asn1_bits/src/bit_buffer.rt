@@ -1,0 +1,264 @@
+//! A list of bits that grows.
+
+ghost use Rattle.std.specs.Prelude.{◌≡◌, ℕ, ◌+◌, ◌-◌, ◌*◌, ◌^◌, ◌<◌, ◌≤◌, [], ◌∷◌, ◌++◌, length, take, replicate, slice_set, IfOk, OnOk, OnErr, IsOk, false, vec_len};
+ghost use Rattle.std.specs.Int.{div_ceil};
+ghost use Rattle.asn1_bits.specs.Bits.{bits, digits, octets_for, ored, padded};
+ghost use Rattle.asn1_bits.specs.BitStr.{view_of, bits_of};
+ghost use Rattle.asn1_bits.specs.Turns.{turns_for};
+
+use crate::bit_str::BitStr;
+use crate::kernels::write_bitslice;
+use crate::single_bits::{clear_from, set_bit};
+use crate::turns::Turns;
+use std::alloc::{AllocError, Global};
+use std::marker::Model;
+
+/// A list of bits. Its octets are exactly those that the list fills, and the bits of the last one past the list are
+/// zero.
+#[derive(Debug, Drop)]
+pub struct BitBuffer {
+    bytes: Vec<u8>,
+    len: usize,
+}
+
+impl Model for BitBuffer {
+    ghost use Rattle.std.specs.Prelude.{Bool, List};
+    ghost use Rattle.asn1_bits.specs.BitBuffer.{bits_shown, IsFilled};
+
+    ghost Value = { List Bool };
+
+    ghost view = { λ b. bits_shown b.bytes.items b.len };
+
+    ghost invariant = { λ b. IsFilled b.bytes.items b.len };
+}
+
+impl BitBuffer {
+    /// No bits. It asks for no memory.
+    pub fn new(alloc: Global) -> BitBuffer
+        ensures { result ≡ [] }
+    {
+        BitBuffer {
+            bytes: Vec::new(alloc),
+            len: 0,
+        }
+    }
+
+    /// No bits, in the allocation of the vector, whose octets are dropped.
+    pub fn from_vec(mut bytes: Vec<u8>) -> BitBuffer
+        ensures { result ≡ [] }
+    {
+        bytes.clear();
+        BitBuffer { bytes, len: 0 }
+    }
+
+    /// How many bits it has.
+    pub fn len(&self) -> usize
+        ensures { result ≡ length self.now }
+    {
+        self.len
+    }
+
+    /// Drops all bits, and keeps the allocation.
+    pub fn clear(&mut self)
+        ensures { self.new ≡ [] }
+    {
+        self.bytes.clear();
+        self.len = 0;
+    }
+
+    /// A copy.
+    pub fn clone(&self) -> Result<BitBuffer, AllocError>
+        ensures { IfOk result (λ b. b ≡ self.now) }
+    {
+        Ok(BitBuffer {
+            bytes: self.bytes.clone()?,
+            len: self.len,
+        })
+    }
+
+    /// The octets of the list: its bits, then zeros to the octet's end.
+    pub fn as_bytes(&self) -> &[u8]
+        ensures spelled { bits result.now ≡ padded self.now }
+        ensures count { length result.now ≡ octets_for (length self.now) }
+    {
+        self.bytes.as_slice()
+    }
+
+    /// The octets of the list: its bits, then zeros to the octet's end.
+    pub fn into_vec(self) -> Vec<u8>
+        ensures spelled { bits result.items ≡ padded self }
+        ensures count { vec_len result ≡ octets_for (length self) }
+    {
+        let BitBuffer { bytes, len: _ } = self;
+        bytes
+    }
+
+    /// Makes bit `index` that bit.
+    pub fn set(&mut self, index: usize, bit: bool)
+        requires { index < length self.old }
+        ensures { self.new ≡ slice_set self.old index bit }
+    {
+        set_bit(self.bytes.as_mut_slice(), index, bit);
+    }
+
+    /// Makes room for `additional` octets more. The bits stay.
+    pub fn reserve_bytes(&mut self, additional: usize) -> Result<(), AllocError>
+        ensures { self.new ≡ self.old }
+    {
+        self.bytes.reserve(additional)
+    }
+
+    /// Appends copies of `bit` up to `new_len` bits. Where memory is wanting, the bits stay.
+    pub fn resize(&mut self, new_len: usize, bit: bool) -> Result<(), AllocError>
+        requires { length self.old ≤ new_len }
+        ensures ok { OnOk result (self.new ≡ self.old ++ replicate (new_len - length self.old) bit) }
+        ensures err { OnErr result (self.new ≡ self.old) }
+        // Where no octet is added, no memory is asked for.
+        ensures free { octets_for new_len ≡ octets_for (length self.old) → IsOk result }
+    {
+        let position = self.len();
+        self.grow(new_len - position)?;
+        if bit {
+            for index in position..new_len {
+                self.set(index, true);
+            }
+        }
+        Ok(())
+    }
+
+    /// Appends the bit. Where memory is wanting, the bits stay.
+    pub fn push(&mut self, bit: bool) -> Result<(), AllocError>
+        requires { length self.old + 1 < 2 ^ 64 }
+        ensures ok { OnOk result (self.new ≡ self.old ++ bit ∷ []) }
+        ensures err { OnErr result (self.new ≡ self.old) }
+        // Where no octet is added, no memory is asked for.
+        ensures free { octets_for (length self.old + 1) ≡ octets_for (length self.old) → IsOk result }
+    {
+        let position = self.len();
+        self.grow(1)?;
+        self.set(position, bit);
+        Ok(())
+    }
+
+    /// Appends the lowest `width` binary digits of `value`, most significant first. Where memory is wanting, the bits
+    /// stay.
+    pub fn push_bits(&mut self, value: u128, width: usize) -> Result<(), AllocError>
+        requires width { width ≤ 128 }
+        requires fits { length self.old + width < 2 ^ 64 }
+        ensures ok { OnOk result (self.new ≡ self.old ++ digits value width) }
+        ensures len { OnOk result (length self.new ≡ length self.old + width) }
+        ensures err { OnErr result (self.new ≡ self.old) }
+        // Where no octet is added, no memory is asked for.
+        ensures free { octets_for (length self.old + width) ≡ octets_for (length self.old) → IsOk result }
+    {
+        let octets = top_octets(value, width);
+        self.extend_from_bitslice(BitStr::front_of(&octets, width))
+    }
+
+    /// Appends the bits of the octets. Where memory is wanting, the bits stay.
+    pub fn extend_from_bytes(&mut self, src: &[u8]) -> Result<(), AllocError>
+        requires { length self.old + 8 * length src.now < 2 ^ 64 }
+        ensures ok { OnOk result (self.new ≡ self.old ++ bits src.now) }
+        ensures len { OnOk result (length self.new ≡ length self.old + 8 * length src.now) }
+        ensures err { OnErr result (self.new ≡ self.old) }
+        // Where no octet is added, no memory is asked for.
+        ensures free { octets_for (length self.old + 8 * length src.now) ≡ octets_for (length self.old) → IsOk result }
+    {
+        self.extend_from_bitslice(BitStr::from_octets(src))
+    }
+
+    /// Appends the bits of the view. Where memory is wanting, the bits stay.
+    pub fn extend_from_bitslice(&mut self, src: BitStr<'_>) -> Result<(), AllocError>
+        requires { length self.old + (view_of src).len < 2 ^ 64 }
+        ensures ok { OnOk result (self.new ≡ self.old ++ bits_of src.entry) }
+        ensures len { OnOk result (length self.new ≡ length self.old + (view_of src.entry).len) }
+        ensures err { OnErr result (self.new ≡ self.old) }
+        // Where no octet is added, no memory is asked for.
+        ensures free { octets_for (length self.old + (view_of src.entry).len) ≡ octets_for (length self.old) → IsOk result }
+    {
+        let position = self.len();
+        self.grow(src.len())?;
+        self.write_at(position, src, &mut Turns::new());
+        Ok(())
+    }
+
+    /// Appends the bits of the other buffer. Where memory is wanting, the bits stay.
+    pub fn extend_from_buffer(&mut self, src: &BitBuffer) -> Result<(), AllocError>
+        requires { length self.old + length src.now < 2 ^ 64 }
+        ensures ok { OnOk result (self.new ≡ self.old ++ src.now) }
+        ensures err { OnErr result (self.new ≡ self.old) }
+        // Where no octet is added, no memory is asked for.
+        ensures free { octets_for (length self.old + length src.now) ≡ octets_for (length self.old) → IsOk result }
+    {
+        self.extend_from_bitslice(src.as_bitstr())
+    }
+
+    /// The list as a view of its octets.
+    pub(crate) fn as_bitstr(&self) -> BitStr<'_>
+        ensures list { bits_of result ≡ self.now }
+        ensures len { (view_of result).len ≡ length self.now }
+        ensures first { (view_of result).first ≡ 0 }
+        ensures storage { bits (view_of result).storage ≡ padded self.now }
+    {
+        let len = self.len;
+        BitStr::front_of(self.as_bytes(), len)
+    }
+
+    /// All bits of the octets.
+    pub(crate) fn of_octets(bytes: Vec<u8>) -> BitBuffer
+        requires { 8 * vec_len bytes < 2 ^ 64 }
+        ensures { result ≡ bits bytes.items }
+    {
+        let len = bytes.len() * 8;
+        BitBuffer { bytes, len }
+    }
+
+    /// Keeps the first `len` bits, and clears the rest of the last octet.
+    pub(crate) fn truncate(&mut self, len: usize)
+        ensures { self.new ≡ take len self.old }
+    {
+        if len >= self.len {
+            return;
+        }
+        self.bytes.truncate(len.div_ceil(8));
+        clear_from(self.bytes.as_mut_slice(), len);
+        self.len = len;
+    }
+
+    /// Appends zeros.
+    pub(crate) fn grow(&mut self, count: usize) -> Result<(), AllocError>
+        requires { length self.old + count < 2 ^ 64 }
+        ensures ok { OnOk result (self.new ≡ self.old ++ replicate count false) }
+        ensures err { OnErr result (self.new ≡ self.old) }
+        ensures free { octets_for (length self.old + count) ≡ octets_for (length self.old) → IsOk result }
+    {
+        let len = self.len + count;
+        let needed = len.div_ceil(8);
+        if needed > self.bytes.len() {
+            self.bytes.resize(needed, 0)?;
+        }
+        self.len = len;
+        Ok(())
+    }
+
+    /// ORs the view in from bit `position` on.
+    pub(crate) fn write_at(&mut self, position: usize, src: BitStr<'_>, turns: &mut Turns)
+        requires { position + (view_of src).len ≤ length self.old }
+        ensures list { self.new ≡ ored self.old position (bits_of src.entry) }
+        ensures at_least { turns.old.count + div_ceil (view_of src.entry).len 64 ≤ turns.new.count }
+        ensures at_most { turns.new.count ≤ turns.old.count + turns_for (view_of src.entry).len }
+    {
+        write_bitslice(self.bytes.as_mut_slice(), position, src, turns);
+    }
+}
+
+/// Octets that begin with the lowest `width` binary digits of the value.
+pub(crate) fn top_octets(value: u128, width: usize) -> [u8; 16]
+    requires { width ≤ 128 }
+    ensures { take width (bits result) ≡ digits value width }
+{
+    if width == 0 {
+        return [0; 16];
+    }
+    (value << (128 - width)).to_be_bytes()
+}

@@ -1,0 +1,133 @@
+//! A reader of bits.
+
+ghost use Rattle.std.specs.Prelude.{◌≡◌, ℕ, ◌+◌, ◌-◌, ◌*◌, ◌%◌, ◌^◌, ◌<◌, ◌≤◌, ◌↔◌, length, take, drop, OnOk, OnErr, IfOk, IfErr, IfSome, IsSome, IsErr, IsOk, Some, All, slice_get};
+ghost use Rattle.asn1_bits.specs.Bits.{bits, number, digits};
+ghost use Rattle.asn1_bits.specs.BitStr.{view_of, bits_of};
+ghost use Rattle.asn1_bits.specs.View.{whole, part, IsAligned};
+ghost use Rattle.asn1_bits.specs.BitReader.{view_left, bits_left};
+ghost use Rattle.asn1_bits.specs.Octets.{octets_in, IsBorrowed};
+
+use crate::bit_str::BitStr;
+use crate::octets::Octets;
+use std::alloc::{AllocError, Global};
+
+/// The view that is left of an input.
+#[derive(Clone, Copy, Debug)]
+pub struct BitReader<'a> {
+    view: BitStr<'a>,
+}
+
+impl<'a> BitReader<'a> {
+    /// A reader over all of the view.
+    pub fn new(view: BitStr<'a>) -> BitReader<'a>
+        ensures { view_left result ≡ view_of view.entry }
+    {
+        BitReader { view }
+    }
+
+    /// A reader over all bits of the octets.
+    pub fn from_octets(octets: &'a [u8]) -> BitReader<'a>
+        requires { 8 * length octets.now < 2 ^ 64 }
+        ensures view { view_left result ≡ whole octets.now }
+        ensures list { bits_left result ≡ bits octets.now }
+    {
+        BitReader {
+            view: BitStr::from_octets(octets),
+        }
+    }
+
+    /// The view that is left.
+    pub fn bits(&self) -> BitStr<'a>
+        ensures { view_of result ≡ view_left self.now }
+    {
+        self.view
+    }
+
+    /// How many bits are left.
+    pub fn len(&self) -> usize
+        ensures len { result ≡ (view_left self.now).len }
+        ensures list { result ≡ length (bits_left self.now) }
+    {
+        self.view.len()
+    }
+
+    /// The octets that are left, where they lie on octet boundaries of the storage.
+    pub fn aligned_octets(&self) -> Option<&'a [u8]>
+        ensures aligned { IsSome result ↔ IsAligned (view_left self.now) }
+        ensures bits { IfSome result (λ o. bits o.now ≡ bits_left self.now) }
+        ensures count { IfSome result (λ o. 8 * length o.now ≡ (view_left self.now).len) }
+        ensures octets { IfSome result (λ o. All (λ octet. octet < 256) o.now) }
+    {
+        self.view.aligned()
+    }
+
+    /// The octets that are left, copied only where they do not lie on octet boundaries of the storage.
+    pub fn octets(&self, alloc: Global) -> Result<Octets<'a>, AllocError>
+        requires { (view_left self.now).len % 8 ≡ 0 }
+        ensures bits { IfOk result (λ o. bits (octets_in o) ≡ bits_left self.now) }
+        ensures count { IfOk result (λ o. 8 * length (octets_in o) ≡ (view_left self.now).len) }
+        ensures octets { IfOk result (λ o. All (λ octet. octet < 256) (octets_in o)) }
+        ensures borrowed { IfOk result (λ o. IsBorrowed o ↔ IsAligned (view_left self.now)) }
+        // Where they are borrowed, or there are none, no memory is asked for.
+        ensures aligned { IsAligned (view_left self.now) → IsOk result }
+        ensures empty { (view_left self.now).len ≡ 0 → IsOk result }
+    {
+        if let Some(octets) = self.view.aligned() {
+            return Ok(Octets::Borrowed(octets));
+        }
+        let mut octets = Vec::new(alloc);
+        self.view.push_octets_to(&mut octets)?;
+        Ok(Octets::Owned(octets))
+    }
+
+    /// The first `count` bits, past which the reader moves; or by how many bits it is short, and it stays.
+    pub fn split(&mut self, count: usize) -> Result<BitReader<'a>, usize>
+        ensures short { IsErr result ↔ ((view_left self.old).len < count) }
+        ensures enough { OnOk result (count ≤ (view_left self.old).len) }
+        ensures front { IfOk result (λ r. view_left r ≡ part (view_left self.old) 0 count) }
+        ensures front_list { IfOk result (λ r. bits_left r ≡ take count (bits_left self.old)) }
+        ensures rest { OnOk result
+            (view_left self.new ≡ part (view_left self.old) count ((view_left self.old).len - count)) }
+        ensures rest_list { OnOk result (bits_left self.new ≡ drop count (bits_left self.old)) }
+        ensures lacks { IfErr result (λ n. (view_left self.old).len + n ≡ count) }
+        ensures unchanged { OnErr result (view_left self.new ≡ view_left self.old) }
+    {
+        let len = self.view.len();
+        if count > len {
+            return Err(count - len);
+        }
+        let (front, rest) = self.view.split_at(count);
+        self.view = rest;
+        Ok(BitReader { view: front })
+    }
+
+    /// The first bit.
+    pub fn first_bit(&self) -> bool
+        requires { 0 < (view_left self.now).len }
+        ensures { slice_get (bits_left self.now) 0 ≡ Some result }
+    {
+        self.view.get(0)
+    }
+
+    /// The number of the first `width` bits, the first of them its highest digit.
+    pub fn first_bits(&self, width: usize) -> u32
+        requires width { width ≤ 32 }
+        requires len { width ≤ (view_left self.now).len }
+        ensures number { result ≡ number (take width (bits_left self.now)) }
+        ensures digits { digits result width ≡ take width (bits_left self.now) }
+        ensures below { result < 2 ^ width }
+    {
+        self.view.first_u128(width) as u32
+    }
+
+    /// The number of the first `width` bits, the first of them its highest digit.
+    pub fn first_u128(&self, width: usize) -> u128
+        requires width { width ≤ 128 }
+        requires len { width ≤ (view_left self.now).len }
+        ensures number { result ≡ number (take width (bits_left self.now)) }
+        ensures digits { digits result width ≡ take width (bits_left self.now) }
+        ensures below { result < 2 ^ width }
+    {
+        self.view.first_u128(width)
+    }
+}

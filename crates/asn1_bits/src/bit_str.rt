@@ -1,0 +1,280 @@
+//! Views of bits.
+
+ghost use Rattle.std.specs.Prelude.{◌≡◌, ℕ, ◌+◌, ◌*◌, ◌^◌, ◌<◌, ◌≤◌, ◌-◌, ◌%◌, ◌↔◌, ◌++◌, length, vec_len, IsNone, IsSome, IsOk, IfSome, OnOk, OnErr, IsTrue, Some, All, take, drop, slice_get};
+ghost use Rattle.asn1_bits.specs.Bits.{bits, digits, number};
+ghost use Rattle.asn1_bits.specs.View.{IsWithin};
+
+use crate::kernels::{read_wide, write_bitslice};
+use crate::single_bits::{bit_from, from_octet};
+use crate::turns::Turns;
+use crate::window::whole_word;
+use std::alloc::AllocError;
+use std::cmp::Ordering;
+use std::hash::{Hash, Hasher};
+
+/// A view of `len` bits of a storage of octets, from any of its bits on. Its equality, order and hash are those of its
+/// list of bits.
+#[derive(Clone, Copy, Debug)]
+pub struct BitStr<'a> {
+    storage: &'a [u8],
+    // The octet with the first bit, and how many of its bits come before: together they may pass `usize`.
+    octet: usize,
+    shift: usize,
+    len: usize,
+    ghost below: { shift < 8 },
+    pub ghost within: { IsWithin (record { storage = storage.now; first = 8 * octet + shift; len = len }) },
+    pub ghost octets: { All (λ o. o < 256) storage.now },
+}
+
+impl<'a> BitStr<'a> {
+    ghost use Rattle.asn1_bits.specs.BitStr.{view_of, bits_of};
+    ghost use Rattle.asn1_bits.specs.View.{whole, part, IsAligned};
+
+    /// The `len` bits of the octets from bit `first` on; None where they have fewer.
+    pub fn new(octets: &'a [u8], first: usize, len: usize) -> Option<BitStr<'a>>
+        ensures none { IsNone result ↔ (8 * length octets.now < first + len) }
+        ensures some { IfSome result
+            (λ b. view_of b ≡ record { storage = octets.now; first = first; len = len }) }
+    {
+        if first as u128 + len as u128 > 8 * (octets.len() as u128) {
+            return None;
+        }
+        Some(BitStr {
+            storage: octets,
+            octet: first / 8,
+            shift: first % 8,
+            len,
+        })
+    }
+
+    /// All bits of the octets.
+    pub fn from_octets(octets: &'a [u8]) -> BitStr<'a>
+        requires { 8 * length octets.now < 2 ^ 64 }
+        ensures view { view_of result ≡ whole octets.now }
+        ensures list { bits_of result ≡ bits octets.now }
+    {
+        BitStr::front_of(octets, octets.len() * 8)
+    }
+
+    /// How many bits it has.
+    pub fn len(&self) -> usize
+        ensures len { result ≡ (view_of self.now).len }
+        ensures list { result ≡ length (bits_of self.now) }
+    {
+        self.len
+    }
+
+    /// Whether it has no bits.
+    pub fn is_empty(&self) -> bool
+        ensures { IsTrue result ↔ ((view_of self.now).len ≡ 0) }
+    {
+        self.len == 0
+    }
+
+    /// How many bits of the octet that holds the first bit come before it.
+    pub fn shift(&self) -> usize
+        ensures { result ≡ (view_of self.now).first % 8 }
+    {
+        self.shift
+    }
+
+    /// Bit `i`.
+    pub fn get(&self, i: usize) -> bool
+        requires { i < (view_of self.now).len }
+        ensures { slice_get (bits_of self.now) i ≡ Some result }
+    {
+        bit_from(self.storage, self.octet, self.shift, i)
+    }
+
+    /// `len` bits of it, from bit `from` on.
+    pub fn slice(&self, from: usize, len: usize) -> BitStr<'a>
+        requires { from + len ≤ (view_of self.now).len }
+        ensures view { view_of result ≡ part (view_of self.now) from len }
+        ensures list { bits_of result ≡ take len (drop from (bits_of self.now)) }
+    {
+        let low = self.shift + from % 8;
+        BitStr {
+            storage: self.storage,
+            octet: self.octet + from / 8 + low / 8,
+            shift: low % 8,
+            len,
+        }
+    }
+
+    /// The first `at` bits, and the others.
+    pub fn split_at(&self, at: usize) -> (BitStr<'a>, BitStr<'a>)
+        requires { at ≤ (view_of self.now).len }
+        ensures front { view_of result.0 ≡ part (view_of self.now) 0 at }
+        ensures back { view_of result.1 ≡ part (view_of self.now) at ((view_of self.now).len - at) }
+        ensures front_list { bits_of result.0 ≡ take at (bits_of self.now) }
+        ensures back_list { bits_of result.1 ≡ drop at (bits_of self.now) }
+    {
+        (self.slice(0, at), self.slice(at, self.len - at))
+    }
+
+    /// The first `len` bits of the octets.
+    pub(crate) fn front_of(octets: &'a [u8], len: usize) -> BitStr<'a>
+        requires { len ≤ 8 * length octets.now }
+        ensures view { view_of result ≡ record { storage = octets.now; first = 0; len = len } }
+        ensures list { bits_of result ≡ take len (bits octets.now) }
+    {
+        BitStr {
+            storage: octets,
+            octet: 0,
+            shift: 0,
+            len,
+        }
+    }
+
+    /// Its octets, where it begins and ends at octets of the storage.
+    pub(crate) fn aligned(&self) -> Option<&'a [u8]>
+        ensures aligned { IsSome result ↔ IsAligned (view_of self.now) }
+        ensures bits { IfSome result (λ o. bits o.now ≡ bits_of self.now) }
+        ensures count { IfSome result (λ o. 8 * length o.now ≡ (view_of self.now).len) }
+        ensures octets { IfSome result (λ o. All (λ octet. octet < 256) o.now) }
+    {
+        if self.shift != 0 || self.len % 8 != 0 {
+            return None;
+        }
+        let (octets, _) = from_octet(self.storage, self.octet).split_at(self.len / 8);
+        Some(octets)
+    }
+
+    /// The number of the first `width` bits.
+    pub(crate) fn first_u128(&self, width: usize) -> u128
+        requires width { width ≤ 128 }
+        requires len { width ≤ (view_of self.now).len }
+        ensures number { result ≡ number (take width (bits_of self.now)) }
+        ensures digits { digits result width ≡ take width (bits_of self.now) }
+        ensures below { result < 2 ^ width }
+    {
+        read_wide(from_octet(self.storage, self.octet), self.shift, width)
+    }
+
+    /// `width` bits from bit `at` on, as the lowest digits of a word.
+    #[inline(never)]
+    pub(crate) fn word(&self, at: usize, width: usize) -> u64
+        requires width { width ≤ 64 }
+        requires within { at + width ≤ (view_of self.now).len }
+        ensures { digits result width ≡ take width (drop at (bits_of self.now)) }
+    {
+        self.slice(at, width).first_u128(width) as u64
+    }
+
+    /// The 64 bits from bit `at` on, as the digits of a word.
+    #[inline]
+    pub(crate) fn whole(&self, at: usize) -> u64
+        requires { at + 64 ≤ (view_of self.now).len }
+        ensures { digits result 64 ≡ take 64 (drop at (bits_of self.now)) }
+    {
+        let low = self.shift + at % 8;
+        whole_word(self.storage, self.octet + at / 8 + low / 8, low % 8)
+    }
+
+    /// Appends its octets to the vector, which stays as it was where memory is wanting.
+    pub(crate) fn push_octets_to(&self, octets: &mut Vec<u8>) -> Result<(), AllocError>
+        requires { (view_of self.now).len % 8 ≡ 0 }
+        ensures ok { OnOk result (bits octets.new.items ≡ bits octets.old.items ++ bits_of self.now) }
+        ensures front { OnOk result (take (vec_len octets.old) octets.new.items ≡ octets.old.items) }
+        ensures octets { All (λ octet. octet < 256) octets.new.items }
+        ensures count { OnOk result (8 * vec_len octets.new ≡ 8 * vec_len octets.old + (view_of self.now).len) }
+        ensures err { OnErr result (octets.new.items ≡ octets.old.items) }
+        ensures free { (view_of self.now).len ≡ 0 → IsOk result }
+    {
+        let count = self.len / 8;
+        if count == 0 {
+            return Ok(());
+        }
+        let front = octets.len();
+        let Some(needed) = front.checked_add(count) else {
+            return Err(AllocError);
+        };
+        octets.resize(needed, 0)?;
+        let (_, room) = octets.as_mut_slice().split_at_mut(front);
+        write_bitslice(room, 0, *self, &mut Turns::new());
+        Ok(())
+    }
+}
+
+impl PartialEq for BitStr<'_> {
+    ghost use Rattle.std.specs.Cmp.{partial_equiv_from_equiv};
+    ghost use Rattle.std.specs.Ordering.{on};
+    ghost use Rattle.asn1_bits.specs.BitLists.{bits_eq, equiv_by};
+    ghost use Rattle.asn1_bits.specs.BitStr.{bits_of};
+
+    ghost eq = { on bits_of bits_eq };
+
+    ghost laws = { partial_equiv_from_equiv (equiv_by bits_of) };
+
+    fn eq(&self, other: &Self) -> bool {
+        self.cmp(other) == Ordering::Equal
+    }
+}
+
+impl Eq for BitStr<'_> {
+    ghost use Rattle.asn1_bits.specs.BitLists.{equiv_by};
+    ghost use Rattle.asn1_bits.specs.BitStr.{bits_of};
+
+    ghost laws = { equiv_by bits_of };
+}
+
+impl Ord for BitStr<'_> {
+    ghost use Rattle.std.specs.Ordering.{on};
+    ghost use Rattle.asn1_bits.specs.BitLists.{bits_cmp, total_by, agrees_by, ties_by};
+    ghost use Rattle.asn1_bits.specs.BitStr.{bits_of};
+
+    ghost cmp = { on bits_of bits_cmp };
+
+    ghost total = { total_by bits_of };
+
+    ghost matches_partial_cmp = { agrees_by bits_of };
+
+    ghost matches_eq = { ties_by bits_of };
+
+    fn cmp(&self, other: &Self) -> Ordering {
+        let both = self.len.min(other.len);
+        for i in 0..both {
+            let bit = self.get(i);
+            if bit != other.get(i) {
+                return if bit {
+                    Ordering::Greater
+                } else {
+                    Ordering::Less
+                };
+            }
+        }
+        self.len.cmp(&other.len)
+    }
+}
+
+impl PartialOrd for BitStr<'_> {
+    ghost use Rattle.std.specs.Ordering.{on, as_partial_cmp};
+    ghost use Rattle.std.specs.Cmp.{partial_order_from_agreeing_total};
+    ghost use Rattle.asn1_bits.specs.BitLists.{bits_cmp, total_by, agrees_by, ties_by};
+    ghost use Rattle.asn1_bits.specs.BitStr.{bits_of};
+
+    ghost partial_cmp = { as_partial_cmp (on bits_of bits_cmp) };
+
+    ghost laws = { partial_order_from_agreeing_total (on bits_of bits_cmp) (total_by bits_of)
+        (agrees_by bits_of) (ties_by bits_of) };
+
+    fn partial_cmp(&self, other: &Self) -> Option<Ordering> {
+        Some(self.cmp(other))
+    }
+}
+
+impl Hash for BitStr<'_> {
+    ghost use Rattle.asn1_bits.specs.BitLists.{bits_fed, alike_by};
+    ghost use Rattle.asn1_bits.specs.BitStr.{bits_of};
+
+    ghost hash_input = { λ b. bits_fed (bits_of b) };
+
+    ghost respects_eq = { (alike_by bits_of).fed };
+
+    fn hash<H: Hasher>(&self, state: &mut H) {
+        state.write_usize(self.len);
+        for i in 0..self.len {
+            self.get(i).hash(state);
+        }
+    }
+}

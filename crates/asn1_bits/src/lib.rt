@@ -1,0 +1,32 @@
+//! Lists of bits: views of octets, buffers that grow, readers, and the kernels below them.
+//!
+//! A bit is a truth value, and octets spell their bits most significant first. Each type means one list of bits,
+//! each call says that list's new value or an answer on it, and a call that could not have memory changes nothing.
+#![tactic(auto)]
+
+mod bit_appender;
+mod bit_buffer;
+mod bit_reader;
+mod bit_str;
+mod bit_string;
+mod fixed_bit_string;
+mod kernels;
+mod octets;
+mod places;
+mod single_bits;
+mod turns;
+mod window;
+
+pub use bit_appender::BitAppender;
+pub use bit_buffer::BitBuffer;
+pub use bit_reader::BitReader;
+pub use bit_str::BitStr;
+pub use bit_string::{BitString, extend_bitstring, to_bitstring};
+pub use fixed_bit_string::FixedBitString;
+pub use kernels::{
+    aligned_octets, extend_vec_from_bitslice, or_bits, range_from_len, read_bits, read_u128,
+    read_wide, write_bitslice,
+};
+pub use octets::Octets;
+pub use places::{Places, place_bits};
+pub use turns::Turns;

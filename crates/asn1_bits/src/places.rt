@@ -1,0 +1,77 @@
+//! Lists of bits that words are ORed into, and a view that is placed in one.
+
+ghost use Rattle.std.specs.Prelude.{◌≡◌, ℕ, ◌+◌, ◌^◌, ◌<◌, ◌≤◌, List, Bool, length};
+ghost use Rattle.std.specs.Int.{div_ceil};
+ghost use Rattle.asn1_bits.specs.Bits.{digits, ored};
+ghost use Rattle.asn1_bits.specs.BitStr.{view_of, bits_of};
+ghost use Rattle.asn1_bits.specs.Turns.{turns_for};
+
+use crate::bit_str::BitStr;
+use crate::turns::Turns;
+
+/// A list of bits into which words are ORed, at any place.
+pub trait Places {
+    /// The bits.
+    ghost list: { Self → List Bool };
+
+    /// How many words were placed.
+    ghost placements: { Self → ℕ };
+
+    /// Where it writes through a `&mut`, the ghost name of that reference: say it, or a caller learns nothing of what
+    /// lies behind.
+    ghost reference: { Self → ℕ } = { λ _. 0 };
+
+    /// How many bits there are.
+    fn len(&self) -> u128
+        ensures { result ≡ length (list self.now) };
+
+    /// ORs the lowest `width` binary digits of `word` in from bit `position` on: one turn.
+    fn place(&mut self, position: usize, word: u64, width: usize, turns: &mut Turns)
+        requires width { width ≤ 64 }
+        requires within { position + width ≤ length (list self.old) }
+        ensures list { list self.new ≡ ored (list self.old) position (digits word width) }
+        ensures counted { placements self.new ≡ placements self.old + 1 }
+        ensures same_reference { reference self.new ≡ reference self.old }
+        ensures turn { turns.new.count ≡ turns.old.count + 1 };
+}
+
+/// ORs the view into the target from bit `position` on: a turn for each 64 bits, then one for each octet, then one for
+/// the tail.
+pub fn place_bits<D: Places>(target: &mut D, position: usize, src: BitStr<'_>, turns: &mut Turns)
+    requires fits { position + (view_of src).len < 2 ^ 64 }
+    requires within { position + (view_of src).len ≤ length (D.list target.old) }
+    ensures list { D.list target.new ≡ ored (D.list target.old) position (bits_of src.entry) }
+    ensures same_reference { D.reference target.new ≡ D.reference target.old }
+    // Each turn is a word that the target placed.
+    ensures each_turn_places { turns.new.count + D.placements target.old ≡ turns.old.count + D.placements target.new }
+    ensures at_least { turns.old.count + div_ceil (view_of src.entry).len 64 ≤ turns.new.count }
+    ensures at_most { turns.new.count ≤ turns.old.count + turns_for (view_of src.entry).len }
+{
+    let words = src.len() / 64;
+    for k in 0..words {
+        target.place(position + 64 * k, src.whole(64 * k), 64, turns);
+    }
+    let (_, tail) = src.split_at(64 * words);
+    place_tail(target, position + 64 * words, tail, turns);
+}
+
+/// ORs a view shorter than a word into the target from bit `position` on, an octet a turn.
+fn place_tail<D: Places>(target: &mut D, position: usize, src: BitStr<'_>, turns: &mut Turns)
+    requires short { (view_of src).len < 64 }
+    requires fits { position + (view_of src).len < 2 ^ 64 }
+    requires within { position + (view_of src).len ≤ length (D.list target.old) }
+    ensures list { D.list target.new ≡ ored (D.list target.old) position (bits_of src.entry) }
+    ensures same_reference { D.reference target.new ≡ D.reference target.old }
+    ensures each_turn_places { turns.new.count + D.placements target.old ≡ turns.old.count + D.placements target.new }
+    ensures at_least { turns.old.count + div_ceil (view_of src.entry).len 64 ≤ turns.new.count }
+    ensures at_most { turns.new.count ≤ turns.old.count + turns_for (view_of src.entry).len }
+{
+    let len = src.len();
+    let mut at = 0;
+    while at < len {
+        let left = len - at;
+        let width = if left >= 8 { 8 } else { left };
+        target.place(position + at, src.word(at, width), width, turns);
+        at += width;
+    }
+}
