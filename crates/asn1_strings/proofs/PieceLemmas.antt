@@ -3,7 +3,7 @@ use Rattle.std.proofs.Common.{◌≡◌, ℕ, suc, ◌+◌, ◌*◌, ◌/◌, �
 use Rattle.std.proofs.Math.Pow.{pow_mono}
 use Rattle.std.proofs.Math.Nat.{mul-le-mul_right, div-mul-le_self}
 use Rattle.std.proofs.lemmas.Nat.{pow-add}
-use Rattle.std.proofs.lemmas.List.{get_or-map}
+use Rattle.std.proofs.lemmas.List.{length-map, get_or-map}
 use Rattle.std.proofs.lemmas.List.FromFn.{get_or-map-range_with_len, length-map-range_with_len}
 use Rattle.asn1_strings.specs.Pieces.{piece, pieces}
 use Rattle.asn1_strings.specs.PieceLaws.{length-pieces}
@@ -25,3 +25,6 @@ octet_fits i n octet few low small =
 pub get_or-pieces : {X : Type 0} (f : List X → ℕ) (w : ℕ) (xs : List X) (i : ℕ) → i < length xs / w → get_or (map f (pieces w xs)) i 0 ≡ f (piece w xs i)
 get_or-pieces f w xs i lt =
     get_or-map f (pieces w xs) i [] 0 (rw (length-pieces w xs) lt) ∙ ap f (get_or-map-range_with_len (piece w xs) 0 (length xs / w) i i [] lt (omega arith))
+
+pub length-numbers : {X : Type 0} (f : List X → ℕ) (w : ℕ) (xs : List X) → length (map f (pieces {X = X} w xs)) ≡ length xs / w
+length-numbers f w xs = length-map (pieces w xs) f ∙ length-pieces w xs

@@ -1,6 +1,7 @@
 -- What a string of some characters is, or why there is none.
 use Rattle.std.specs.Prelude.{◌≡◌, ◌≢◌, ◌%◌, ◌==◌, ℕ, Bool, not, List, [], length, map, find, Option, Result, Ok, Err, if◌then◌else◌}
 use Rattle.std.specs.Option.{option_map_or}
+use Rattle.asn1_bits.specs.Bits.{number}
 use Rattle.asn1_strings.specs.Sets.{base_set, has_character}
 use Rattle.asn1_strings.specs.Pieces.{pieces, unsigned}
 use Rattle.asn1_strings.specs.Errors.{own_error}
@@ -34,6 +35,12 @@ abbrev pub string_of_octets : CharacterSetName → ℕ → List ℕ → Result (
 string_of_octets name w octets =
     if w == 0 then Err (Other name)
     else (if length octets % w == 0 then string_of_characters name (map unsigned (pieces w octets)) else Err (InvalidData (length octets) w))
+
+-- the string of characters of w bits each, most significant first
+abbrev pub string_of_bits : CharacterSetName → ℕ → List Bool → Result (List ℕ) PermittedAlphabetError
+string_of_bits name w bits =
+    if w == 0 then Err (InvalidData (length bits) w)
+    else (if length bits % w == 0 then string_of_characters name (map number (pieces w bits)) else Err (InvalidData (length bits) w))
 
 -- Want of memory answers only what would else be a string that is not empty. Every other refusal is the one that was read.
 abbrev pub Refuses : PermittedAlphabetError → Result (List ℕ) PermittedAlphabetError → Type 0

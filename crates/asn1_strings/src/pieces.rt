@@ -1,6 +1,10 @@
-//! Lists of characters that are read by their places in octets.
+//! Lists of characters that are read by their places in octets and bits.
 ghost use Rattle.std.specs.Prelude.{◌≡◌, ◌≤◌, ◌+◌, ◌*◌, ◌/◌, ◌%◌, ◌^◌, ◌<◌, ℕ, List, length, map, slice_index};
+ghost use Rattle.asn1_bits.specs.BitStr.{bits_of};
+ghost use Rattle.asn1_bits.specs.Bits.{number};
 ghost use Rattle.asn1_strings.specs.Pieces.{piece, pieces, unsigned};
+
+use asn1_bits::{BitStr, read_u128};
 
 // A list of characters.
 pub(crate) trait Characters {
@@ -33,6 +37,29 @@ impl<'a> Characters for OctetPieces<'a> {
 
     fn character(&self, i: usize) -> u32 {
         unsigned_of(piece_of(self.octets, self.width, i))
+    }
+}
+
+// The characters of bits, `width` bits each.
+#[derive(Clone, Copy)]
+pub(crate) struct BitPieces<'a> {
+    pub(crate) bits: BitStr<'a>,
+    pub(crate) width: usize,
+    ghost known: { 1 ≤ width },
+    ghost small: { width ≤ 32 },
+}
+
+impl<'a> Characters for BitPieces<'a> {
+    ghost list = { λ s. map number (pieces s.width (bits_of s.bits)) };
+
+    fn count(&self) -> usize {
+        self.bits.len() / self.width
+    }
+
+    fn character(&self, i: usize) -> u32 {
+        let _len = self.bits.len();
+        let piece = self.bits.slice(i * self.width, self.width);
+        read_u128(piece) as u32
     }
 }
 

@@ -1,15 +1,17 @@
 //! What the eight strings have in common.
 ghost use Rattle.std.specs.Prelude.{◌≡◌, ◌≤◌, ◌==◌, ◌⊎◌, ℕ, Bool, true, List, [], ◌∷◌, ◌++◌, length, All, Ok, OnOk, OnErr, string_bytes};
+ghost use Rattle.asn1_bits.specs.BitStr.{bits_of};
 ghost use Rattle.asn1_strings.specs.Sets.{base_set, base_count, base_largest, base_width, base_indexed, has_character};
 ghost use Rattle.asn1_strings.specs.Errors.{own_error};
-ghost use Rattle.asn1_strings.specs.Strings.{Answers, character_octets, string_of_characters, string_of_octets};
+ghost use Rattle.asn1_strings.specs.Strings.{Answers, character_octets, string_of_characters, string_of_octets, string_of_bits};
 
 use crate::character_set::CharacterSetName;
 use crate::chars::Chars;
 use crate::code_unit::CodeUnit;
 use crate::error::{InvalidRestrictedString, PermittedAlphabetError};
 use crate::octet_string::OctetString;
-use crate::pieces::{Characters, OctetPieces};
+use crate::pieces::{BitPieces, Characters, OctetPieces};
+use asn1_bits::BitStr;
 use std::alloc::{AllocError, Global};
 
 /// A restricted character string (X.680 41): a list of characters, each in the string's base set.
@@ -161,6 +163,28 @@ pub trait StaticPermittedAlphabet: Sized + Drop {
             Answers characters result (string_of_octets CHARACTER_SET_NAME width input) }
     {
         Self::try_from_slice(alloc, input.as_ref())
+    }
+
+    /// The string of characters of `width` bits each, by value, most significant first. Width 0 is
+    /// `InvalidData`.
+    final fn try_from_bits(
+        alloc: Global,
+        input: BitStr<'_>,
+        width: usize,
+    ) -> Result<Self, PermittedAlphabetError>
+        requires { width ≤ 32 }
+        ensures {
+            let bits = bits_of input.entry in
+            Answers characters result (string_of_bits CHARACTER_SET_NAME width bits)
+        }
+    {
+        if width == 0 || input.len() % width != 0 {
+            return Err(PermittedAlphabetError::InvalidData {
+                length: input.len(),
+                width,
+            });
+        }
+        string_of::<Self, BitPieces<'_>>(alloc, &BitPieces { bits: input, width })
     }
 
     // The constants are what the table of base sets gives.
