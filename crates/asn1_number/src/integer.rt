@@ -138,12 +138,13 @@ impl Integer {
             return Ok(Integer::inline(unsigned_value(octets) as i128));
         }
         // Bit 8 of the first octet is set: a zero octet in front keeps it from being a sign.
-        let mut copy = Vec::new(alloc);
-        if copy.push(0).is_err() || copy.extend_from_slice(octets).is_err() {
+        let Ok(mut kept) = Vec::with_capacity(alloc, octets.len() + 1) else {
             return Err(IntegerError::Memory);
-        }
+        };
+        kept.push(0).unwrap();
+        kept.extend_from_slice(octets).unwrap();
         Ok(Integer {
-            form: Form::Shortest(copy),
+            form: Form::Shortest(kept),
         })
     }
 

@@ -29,8 +29,8 @@ returns-then-octets-lt16-clause-value c =
     let small : c.unsigned_value.result < 2 ^ 127 = omega (arith, c.unsigned_value.ensures, fifteen_fit c.args.octets.now h c.if-octets-lt16.true) in
     c.inline.ensures ∙ (to_z_pos w128 c.unsigned_value.result small ∙ ap pos c.unsigned_value.ensures)
 
-pub returns-then-is_err-clause-memory : goal.returns-then-is_err-clause-memory
-returns-then-is_err-clause-memory c = λ _.
+pub returns-in_default-clause-memory : goal.returns-in_default-clause-memory
+returns-in_default-clause-memory c = λ _.
     let some : 0 < length c.args.octets.now = search rules in
     let h = octets_from_places c.args.octets.now (λ i. omega (arith, c.type_inv.octets i)) in
     let s = zero_in_front c.args.octets.now h some c.if-octets-lt128.false in
