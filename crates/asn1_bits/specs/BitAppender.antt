@@ -1,5 +1,5 @@
 -- What an appender has pushed, the room that is left, and the buffer that it fills.
-use Rattle.std.specs.Prelude.{ℕ, ◌-◌, Bool, List, take, length}
+use Rattle.std.specs.Prelude.{◌≡◌, ℕ, ◌-◌, Bool, false, List, ◌++◌, take, length, replicate}
 use Rattle.asn1_bits.specs.declared.bit_appender.BitAppender.{BitAppender}
 
 -- the old bits of the buffer, and what was pushed behind them
@@ -17,3 +17,7 @@ bits_held a = a.buffer.now
 -- the ghost name of the buffer that it fills
 abbrev pub lender_of : BitAppender → ℕ
 lender_of a = a.buffer.ghost_name
+
+-- the buffer holds what was pushed, and zeros for the room that is left
+abbrev pub EndsInZeros : BitAppender → Type 0
+EndsInZeros a = bits_held a ≡ bits_written a ++ replicate (room a) false

@@ -23,6 +23,10 @@ bits octets = flat_map (λ octet. digits octet 8) octets
 abbrev pub octets_for : ℕ → ℕ
 octets_for len = div_ceil len 8
 
+-- that many bits behind a list of `len` bits take no octet more
+abbrev pub AddsNoOctet : ℕ → ℕ → Type 0
+AddsNoOctet len more = octets_for (len + more) ≡ octets_for len
+
 -- the list followed by zeros to the octet's end
 abbrev pub padded : List Bool → List Bool
 padded list = list ++ replicate (8 * octets_for (length list) - length list) false
@@ -35,4 +39,6 @@ pub record IsZeroFrom (place : ℕ) (list : List Bool) : Type 0 where
 -- old with src ORed in from a place on: place i is old's, or old's or that of src at i - place
 unfoldable pub ored : List Bool → ℕ → List Bool → List Bool
 ored old place src =
-    map (λ i. slice_index_or old i false || (nat_le place i && slice_index_or src (i - place) false)) (range_with_len 0 (length old))
+    map
+    (λ i. slice_index_or old i false || (nat_le place i && slice_index_or src (i - place) false))
+    (range_with_len 0 (length old))

@@ -2,7 +2,7 @@
 
 ghost use Rattle.std.specs.Prelude.{◌≡◌, ◌+◌, ◌-◌, ◌*◌, ◌^◌, ◌<◌, ◌≤◌, ◌++◌, length, replicate, false, IsOk, IfOk};
 ghost use Rattle.std.specs.Int.{div_ceil};
-ghost use Rattle.asn1_bits.specs.Bits.{bits, digits, octets_for, IsZeroFrom};
+ghost use Rattle.asn1_bits.specs.Bits.{bits, digits, AddsNoOctet, IsZeroFrom};
 ghost use Rattle.asn1_bits.specs.BitStr.{view_of, bits_of};
 ghost use Rattle.asn1_bits.specs.Turns.{turns_for};
 
@@ -23,19 +23,20 @@ pub struct BitAppender<'a> {
 impl BitBuffer {
     ghost use Rattle.std.specs.Borrow.{sem, RestsIfErr};
     ghost use Rattle.asn1_bits.specs.contracts.bit_buffer.BitBuffer.{the_row};
-    ghost use Rattle.asn1_bits.specs.BitAppender.{bits_written, bits_held, room, lender_of};
+    ghost use Rattle.asn1_bits.specs.BitAppender.{bits_written, room, lender_of, EndsInZeros};
 
     /// Appends `additional` zero bits, by one growth, for the appender to fill. Where memory is wanting, the bits stay.
     pub fn appender(&mut self, additional: usize) -> Result<BitAppender<'_>, AllocError>
         requires { length self.old + additional < 2 ^ 64 }
         // Where memory is wanting, the buffer is as before; else it ends as the appender leaves it.
-        ensures* refused { sem 𝓛 (RestsIfErr the_row self.entry lender_of result (λ bits. bits ≡ self.old)) }
+        ensures* refused { sem 𝓛
+            (RestsIfErr the_row self.entry lender_of result (λ bits. bits ≡ self.old)) }
         ensures lender { IfOk result (λ a. lender_of a ≡ self.entry.ghost_name) }
         ensures written { IfOk result (λ a. bits_written a ≡ self.old) }
         ensures room { IfOk result (λ a. room a ≡ additional) }
-        ensures held { IfOk result (λ a. bits_held a ≡ bits_written a ++ replicate (room a) false) }
+        ensures held { IfOk result EndsInZeros }
         // Where no octet is added, no memory is asked for.
-        ensures free { octets_for (length self.old + additional) ≡ octets_for (length self.old) → IsOk result }
+        ensures free { AddsNoOctet (length self.old) additional → IsOk result }
     {
         let position = self.len();
         self.grow(additional)?;
@@ -47,7 +48,7 @@ impl BitBuffer {
 }
 
 impl<'a> BitAppender<'a> {
-    ghost use Rattle.asn1_bits.specs.BitAppender.{bits_written, bits_held, room, lender_of};
+    ghost use Rattle.asn1_bits.specs.BitAppender.{bits_written, room, lender_of, EndsInZeros};
 
     /// How many bits may still be pushed.
     pub fn room(&self) -> usize
@@ -63,7 +64,7 @@ impl<'a> BitAppender<'a> {
         ensures lender { lender_of self.new ≡ lender_of self.old }
         ensures written { bits_written self.new ≡ bits_written self.old ++ digits value width }
         ensures room { room self.new + width ≡ room self.old }
-        ensures held { bits_held self.new ≡ bits_written self.new ++ replicate (room self.new) false }
+        ensures held { EndsInZeros self.new }
     {
         self.push_wide(u128::from(value), width, &mut Turns::new());
     }
@@ -75,7 +76,7 @@ impl<'a> BitAppender<'a> {
         ensures lender { lender_of self.new ≡ lender_of self.old }
         ensures written { bits_written self.new ≡ bits_written self.old ++ digits value width }
         ensures room { room self.new + width ≡ room self.old }
-        ensures held { bits_held self.new ≡ bits_written self.new ++ replicate (room self.new) false }
+        ensures held { EndsInZeros self.new }
         ensures at_least { turns.old.count + div_ceil width 64 ≤ turns.new.count }
         ensures at_most { turns.new.count ≤ turns.old.count + turns_for width }
     {
@@ -89,7 +90,7 @@ impl<'a> BitAppender<'a> {
         ensures lender { lender_of self.new ≡ lender_of self.old }
         ensures written { bits_written self.new ≡ bits_written self.old ++ bits octets.now }
         ensures room { room self.new + 8 * length octets.now ≡ room self.old }
-        ensures held { bits_held self.new ≡ bits_written self.new ++ replicate (room self.new) false }
+        ensures held { EndsInZeros self.new }
         ensures at_least { turns.old.count + div_ceil (8 * length octets.now) 64 ≤ turns.new.count }
         ensures at_most { turns.new.count ≤ turns.old.count + turns_for (8 * length octets.now) }
     {
@@ -104,7 +105,7 @@ impl<'a> BitAppender<'a> {
         ensures lender { lender_of self.new ≡ lender_of self.old }
         ensures written { bits_written self.new ≡ bits_written self.old ++ bits_of src.entry }
         ensures room { room self.new + (view_of src.entry).len ≡ room self.old }
-        ensures held { bits_held self.new ≡ bits_written self.new ++ replicate (room self.new) false }
+        ensures held { EndsInZeros self.new }
         ensures at_least { turns.old.count + div_ceil (view_of src.entry).len 64 ≤ turns.new.count }
         ensures at_most { turns.new.count ≤ turns.old.count + turns_for (view_of src.entry).len }
     {

@@ -2,7 +2,7 @@
 
 ghost use Rattle.std.specs.Prelude.{◌≡◌, ℕ, ◌+◌, ◌-◌, ◌*◌, ◌^◌, ◌<◌, ◌≤◌, [], ◌∷◌, ◌++◌, length, take, replicate, slice_set, IfOk, OnOk, OnErr, IsOk, false, vec_len};
 ghost use Rattle.std.specs.Int.{div_ceil};
-ghost use Rattle.asn1_bits.specs.Bits.{bits, digits, octets_for, ored, padded};
+ghost use Rattle.asn1_bits.specs.Bits.{bits, digits, octets_for, ored, padded, AddsNoOctet};
 ghost use Rattle.asn1_bits.specs.BitStr.{view_of, bits_of};
 ghost use Rattle.asn1_bits.specs.Turns.{turns_for};
 
@@ -111,10 +111,11 @@ impl BitBuffer {
     /// Appends copies of `bit` up to `new_len` bits. Where memory is wanting, the bits stay.
     pub fn resize(&mut self, new_len: usize, bit: bool) -> Result<(), AllocError>
         requires { length self.old ≤ new_len }
-        ensures ok { OnOk result (self.new ≡ self.old ++ replicate (new_len - length self.old) bit) }
+        ensures ok { OnOk result
+            (self.new ≡ self.old ++ replicate (new_len - length self.old) bit) }
         ensures err { OnErr result (self.new ≡ self.old) }
         // Where no octet is added, no memory is asked for.
-        ensures free { octets_for new_len ≡ octets_for (length self.old) → IsOk result }
+        ensures free { AddsNoOctet (length self.old) (new_len - length self.old) → IsOk result }
     {
         let position = self.len();
         self.grow(new_len - position)?;
@@ -132,7 +133,7 @@ impl BitBuffer {
         ensures ok { OnOk result (self.new ≡ self.old ++ bit ∷ []) }
         ensures err { OnErr result (self.new ≡ self.old) }
         // Where no octet is added, no memory is asked for.
-        ensures free { octets_for (length self.old + 1) ≡ octets_for (length self.old) → IsOk result }
+        ensures free { AddsNoOctet (length self.old) 1 → IsOk result }
     {
         let position = self.len();
         self.grow(1)?;
@@ -149,7 +150,7 @@ impl BitBuffer {
         ensures len { OnOk result (length self.new ≡ length self.old + width) }
         ensures err { OnErr result (self.new ≡ self.old) }
         // Where no octet is added, no memory is asked for.
-        ensures free { octets_for (length self.old + width) ≡ octets_for (length self.old) → IsOk result }
+        ensures free { AddsNoOctet (length self.old) width → IsOk result }
     {
         let octets = top_octets(value, width);
         self.extend_from_bitslice(BitStr::front_of(&octets, width))
@@ -162,7 +163,7 @@ impl BitBuffer {
         ensures len { OnOk result (length self.new ≡ length self.old + 8 * length src.now) }
         ensures err { OnErr result (self.new ≡ self.old) }
         // Where no octet is added, no memory is asked for.
-        ensures free { octets_for (length self.old + 8 * length src.now) ≡ octets_for (length self.old) → IsOk result }
+        ensures free { AddsNoOctet (length self.old) (8 * length src.now) → IsOk result }
     {
         self.extend_from_bitslice(BitStr::from_octets(src))
     }
@@ -174,7 +175,7 @@ impl BitBuffer {
         ensures len { OnOk result (length self.new ≡ length self.old + (view_of src.entry).len) }
         ensures err { OnErr result (self.new ≡ self.old) }
         // Where no octet is added, no memory is asked for.
-        ensures free { octets_for (length self.old + (view_of src.entry).len) ≡ octets_for (length self.old) → IsOk result }
+        ensures free { AddsNoOctet (length self.old) (view_of src.entry).len → IsOk result }
     {
         let position = self.len();
         self.grow(src.len())?;
@@ -188,7 +189,7 @@ impl BitBuffer {
         ensures ok { OnOk result (self.new ≡ self.old ++ src.now) }
         ensures err { OnErr result (self.new ≡ self.old) }
         // Where no octet is added, no memory is asked for.
-        ensures free { octets_for (length self.old + length src.now) ≡ octets_for (length self.old) → IsOk result }
+        ensures free { AddsNoOctet (length self.old) (length src.now) → IsOk result }
     {
         self.extend_from_bitslice(src.as_bitstr())
     }
@@ -230,7 +231,7 @@ impl BitBuffer {
         requires { length self.old + count < 2 ^ 64 }
         ensures ok { OnOk result (self.new ≡ self.old ++ replicate count false) }
         ensures err { OnErr result (self.new ≡ self.old) }
-        ensures free { octets_for (length self.old + count) ≡ octets_for (length self.old) → IsOk result }
+        ensures free { AddsNoOctet (length self.old) count → IsOk result }
     {
         let len = self.len + count;
         let needed = len.div_ceil(8);

@@ -174,10 +174,13 @@ impl<'a> BitStr<'a> {
     /// Appends its octets to the vector, which stays as it was where memory is wanting.
     pub(crate) fn push_octets_to(&self, octets: &mut Vec<u8>) -> Result<(), AllocError>
         requires { (view_of self.now).len % 8 ≡ 0 }
-        ensures ok { OnOk result (bits octets.new.items ≡ bits octets.old.items ++ bits_of self.now) }
-        ensures front { OnOk result (take (vec_len octets.old) octets.new.items ≡ octets.old.items) }
+        ensures ok { OnOk result
+            (bits octets.new.items ≡ bits octets.old.items ++ bits_of self.now) }
+        ensures front { OnOk result
+            (take (vec_len octets.old) octets.new.items ≡ octets.old.items) }
         ensures octets { All (λ octet. octet < 256) octets.new.items }
-        ensures count { OnOk result (8 * vec_len octets.new ≡ 8 * vec_len octets.old + (view_of self.now).len) }
+        ensures count { OnOk result
+            (8 * vec_len octets.new ≡ 8 * vec_len octets.old + (view_of self.now).len) }
         ensures err { OnErr result (octets.new.items ≡ octets.old.items) }
         ensures free { (view_of self.now).len ≡ 0 → IsOk result }
     {

@@ -1,7 +1,7 @@
 //! An owned list of bits.
 
 ghost use Rattle.std.specs.Prelude.{◌≡◌, ℕ, ◌+◌, ◌*◌, ◌^◌, ◌<◌, ◌↔◌, [], ◌++◌, length, take, IsTrue, IsOk, IfOk, OnOk, OnErr, vec_len};
-ghost use Rattle.asn1_bits.specs.Bits.{bits, octets_for, padded};
+ghost use Rattle.asn1_bits.specs.Bits.{bits, octets_for, padded, AddsNoOctet};
 ghost use Rattle.asn1_bits.specs.BitStr.{view_of, bits_of};
 
 use crate::bit_buffer::BitBuffer;
@@ -111,7 +111,7 @@ pub fn extend_bitstring(dst: &mut BitString, src: BitStr<'_>) -> Result<(), Allo
     ensures len { OnOk result (length dst.new ≡ length dst.old + (view_of src.entry).len) }
     ensures err { OnErr result (dst.new ≡ dst.old) }
     // Where no octet is added, no memory is asked for.
-    ensures free { octets_for (length dst.old + (view_of src.entry).len) ≡ octets_for (length dst.old) → IsOk result }
+    ensures free { AddsNoOctet (length dst.old) (view_of src.entry).len → IsOk result }
 {
     dst.buffer.extend_from_bitslice(src)
 }

@@ -69,7 +69,8 @@ impl<const N: usize> FixedBitString<N> {
         ensures list { bits_of result ≡ fixed_bits N self.now }
         ensures first { (view_of result).first ≡ 0 }
         ensures len { (view_of result).len ≡ N }
-        ensures storage { bits (view_of result).storage ≡ fixed_bits N self.now ++ replicate (7 * N) false }
+        ensures storage { bits (view_of result).storage ≡ fixed_bits N self.now
+            ++ replicate (7 * N) false }
     {
         BitStr::front_of(&self.octets, N)
     }

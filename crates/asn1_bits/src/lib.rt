@@ -30,3 +30,6 @@ pub use kernels::{
 pub use octets::Octets;
 pub use places::{Places, place_bits};
 pub use turns::Turns;
+
+#[cfg(test)]
+mod tests;

@@ -43,7 +43,8 @@ pub fn place_bits<D: Places>(target: &mut D, position: usize, src: BitStr<'_>, t
     ensures list { D.list target.new ≡ ored (D.list target.old) position (bits_of src.entry) }
     ensures same_reference { D.reference target.new ≡ D.reference target.old }
     // Each turn is a word that the target placed.
-    ensures each_turn_places { turns.new.count + D.placements target.old ≡ turns.old.count + D.placements target.new }
+    ensures each_turn_places { turns.new.count + D.placements target.old
+        ≡ turns.old.count + D.placements target.new }
     ensures at_least { turns.old.count + div_ceil (view_of src.entry).len 64 ≤ turns.new.count }
     ensures at_most { turns.new.count ≤ turns.old.count + turns_for (view_of src.entry).len }
 {
@@ -62,7 +63,8 @@ fn place_tail<D: Places>(target: &mut D, position: usize, src: BitStr<'_>, turns
     requires within { position + (view_of src).len ≤ length (D.list target.old) }
     ensures list { D.list target.new ≡ ored (D.list target.old) position (bits_of src.entry) }
     ensures same_reference { D.reference target.new ≡ D.reference target.old }
-    ensures each_turn_places { turns.new.count + D.placements target.old ≡ turns.old.count + D.placements target.new }
+    ensures each_turn_places { turns.new.count + D.placements target.old
+        ≡ turns.old.count + D.placements target.new }
     ensures at_least { turns.old.count + div_ceil (view_of src.entry).len 64 ≤ turns.new.count }
     ensures at_most { turns.new.count ≤ turns.old.count + turns_for (view_of src.entry).len }
 {

@@ -37,7 +37,8 @@ pub(crate) fn set_bit(octets: &mut [u8], i: usize, bit: bool)
 /// Clears the bits from bit `from` on, all of which lie in the last octet.
 pub(crate) fn clear_from(octets: &mut [u8], from: usize)
     requires { length octets.old ≡ div_ceil from 8 }
-    ensures { bits octets.new ≡ take from (bits octets.old) ++ replicate (8 * length octets.old - from) false }
+    ensures { bits octets.new ≡ take from (bits octets.old)
+        ++ replicate (8 * length octets.old - from) false }
 {
     for k in 0..(8 - from % 8) % 8 {
         set_bit(octets, from + k, false);

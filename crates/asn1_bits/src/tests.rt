@@ -1,0 +1,8 @@
+//! Worked rows, comparisons with a plain definition on lists of truth values, and callers that stand on the contracts
+//! alone.
+
+mod callers;
+mod comparisons;
+mod kernel_rows;
+mod plain;
+mod rows;
