@@ -1,5 +1,4 @@
 -- The laws of `specs/Laws`, and each of them in the form that a proof cites.
-use Rattle.std.proofs.Common.{◌≡◌, ◌≢◌, ℕ, zero, suc, ◌<◌, ◌≤◌, ℤ, List, length, Ok, arith, sym, refl}
 use Rattle.asn1_number.specs.Octets.{IsShortest, signed}
 use Rattle.asn1_number.specs.Shortest.{shortest_octets}
 use Rattle.asn1_number.specs.Readings.{IntegerKind, SignedOf, UnsignedOf, Unbounded, IsInRange, signed_reading}
@@ -18,8 +17,6 @@ pub shortest_keep_order : ShortestKeepOrder
 shortest_keep_order m n a b s t = shortest_order m n a b s t
 
 pub shortest_are_read_back : ShortestAreReadBack
-shortest_are_read_back (SignedOf zero) n o sized r s = absurd (sized.0 refl)
-shortest_are_read_back (SignedOf (suc k)) n o sized r s = signed_law (suc k) n o (omega arith) r s
-shortest_are_read_back (UnsignedOf zero) n o sized r s = absurd (sized.1 refl)
-shortest_are_read_back (UnsignedOf (suc k)) n o sized r s = unsigned_law (suc k) n o (omega arith) r s
+shortest_are_read_back (SignedOf size) n o sized r s = signed_law size n o sized r s
+shortest_are_read_back (UnsignedOf size) n o sized r s = unsigned_law size n o sized r s
 shortest_are_read_back Unbounded n o sized r s = unbounded_law n o s

@@ -1,9 +1,9 @@
 -- What follows from the definitions, for every number and every list of octets.
-use Rattle.std.specs.Prelude.{◌≡◌, ◌≢◌, ℕ, ◌<◌, ◌≤◌, ◌↔◌, ℤ, List, length, Ok}
+use Rattle.std.specs.Prelude.{◌≡◌, ℕ, ◌<◌, ◌≤◌, ◌↔◌, ℤ, List, length, ⊤, Ok}
 use Rattle.std.specs.Ordering.{int_cmp}
 use Rattle.asn1_number.specs.Octets.{IsOctets, signed, IsShortest}
 use Rattle.asn1_number.specs.Order.{NineBitsDiffer, octets_cmp}
-use Rattle.asn1_number.specs.Readings.{IntegerKind, SignedOf, UnsignedOf, IsInRange, signed_reading}
+use Rattle.asn1_number.specs.Readings.{IntegerKind, SignedOf, UnsignedOf, Unbounded, IsInRange, signed_reading}
 
 -- every number has a shortest list, and no other
 abbrev pub EachNumberHasOneShortestList : Type 0
@@ -21,9 +21,11 @@ abbrev pub ShortestKeepOrder : Type 0
 ShortestKeepOrder =
     (m n : ℤ) (a b : List ℕ) → IsShortest m a → IsShortest n b → octets_cmp a b ≡ int_cmp m n
 
--- a kind of integers of at least one octet
+-- the type has at least one octet
 abbrev pub HasOctets : IntegerKind → Type 0
-HasOctets kind = (kind ≢ SignedOf 0) × (kind ≢ UnsignedOf 0)
+HasOctets (SignedOf size) = 1 ≤ size
+HasOctets (UnsignedOf size) = 1 ≤ size
+HasOctets Unbounded = ⊤
 
 -- each type reads each of its numbers from the number's shortest octets
 abbrev pub ShortestAreReadBack : Type 0

@@ -1,6 +1,5 @@
-ghost use Rattle.std.specs.Prelude.{◌≡◌, ◌≤◌, length};
+ghost use Rattle.std.specs.Prelude.{◌≡◌, ℕ, pos, ◌≤◌, length};
 ghost use Rattle.asn1_number.specs.Octets.{IsShortest, IsShortestUnsigned};
-ghost use Rattle.std.specs.Prelude.{ℕ, pos};
 
 use crate::sign_octets::without_zero_first;
 use arrayvec::ArrayVec;
@@ -67,8 +66,9 @@ impl<'a> IntegerBytes<'a> {
         self.as_ref().len()
     }
 
-    /// Of a number's shortest two's complement octets, its shortest octets without a sign.
-    pub(crate) fn without_sign(self) -> IntegerBytes<'a>
+    /// The shortest octets without a sign, where these are the shortest two's complement octets of
+    /// a number that is not negative.
+    pub fn without_sign(self) -> IntegerBytes<'a>
         ensures { (n : ℕ) → IsShortest (pos n) self.entry → IsShortestUnsigned n result }
     {
         match self.storage {
