@@ -117,7 +117,8 @@ impl<'a> BitReader<'a> {
         ensures digits { digits result width ≡ take width (bits_left self.now) }
         ensures below { result < 2 ^ width }
     {
-        self.view.first_u128(width) as u32
+        let number = self.view.first_u128(width);
+        number as u32
     }
 
     /// The number of the first `width` bits, the first of them its highest digit.

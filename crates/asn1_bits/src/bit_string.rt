@@ -57,7 +57,7 @@ impl BitString {
     pub fn is_empty(&self) -> bool
         ensures { IsTrue result ↔ (length self.now ≡ 0) }
     {
-        self.buffer.len() == 0
+        self.len() == 0
     }
 
     /// The list as a view of its octets.

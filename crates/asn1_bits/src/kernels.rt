@@ -74,8 +74,7 @@ pub fn read_wide(bytes: &[u8], position: usize, width: usize) -> u128
     ensures digits { digits result width ≡ take width (drop position (bits bytes.now)) }
     ensures below { result < 2 ^ width }
 {
-    let value = read_number(bytes, position, width);
-    value
+    read_number(bytes, position, width)
 }
 
 /// The number of `width` bits, by two words or one where they lie in the octets.

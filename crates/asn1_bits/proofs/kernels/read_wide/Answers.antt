@@ -5,14 +5,14 @@ use Rattle.asn1_bits.proofs.DigitLemmas.{length-bits}
 use Rattle.asn1_bits.proofs.NumberLemmas.{number_is}
 use Rattle.asn1_bits.proofs.kernels.read_wide.Goals as goal
 
-field : (c : goal.After-read_number-value) → (c.read_number-value.result < 2 ^ c.args.width)
-    × (digits c.read_number-value.result c.args.width ≡ take c.args.width (drop c.args.position (bits c.args.bytes.now)))
+field : (c : goal.After-read_number) → (c.read_number.result < 2 ^ c.args.width)
+    × (digits c.read_number.result c.args.width ≡ take c.args.width (drop c.args.position (bits c.args.bytes.now)))
 field c =
     let all = bits c.args.bytes.now in
     let rest = drop c.args.position all in
-    number_is (take c.args.width rest) c.read_number-value.result c.args.width
+    number_is (take c.args.width rest) c.read_number.result c.args.width
     (omega (arith, length-take c.args.width rest, length-drop c.args.position all, length-bits c.args.bytes.now, c.requires.within))
-    c.read_number-value.ensures
+    c.read_number.ensures
 
 pub returns-clause-digits : goal.returns-clause-digits
 returns-clause-digits c = (field c).1
