@@ -1,4 +1,3 @@
-pub mod WidthLemmas
 pub mod SetLemmas
 pub mod PlaceLemmas
 pub mod WordLemmas
@@ -6,3 +5,5 @@ pub mod StringLemmas
 pub mod PieceLemmas
 pub mod TextLemmas
 pub mod BmpLemmas
+pub mod KeyLemmas
+pub mod AscendingLemmas

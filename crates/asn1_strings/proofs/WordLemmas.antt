@@ -3,6 +3,12 @@ use Rattle.std.proofs.Common.{◌≡◌, ℕ, suc, zero, ◌+◌, ◌<◌, ◌�
 use Rattle.std.specs.Prelude.{◌⊎◌, ◌≢◌}
 use Rattle.std.proofs.lemmas.Bool.{cases_lt}
 use Rattle.std.proofs.lemmas.Bool.Decides.{nat_tests}
+use Rattle.std.proofs.Common.{set}
+use Rattle.std.proofs.Math.Pow.{pow_mono}
+use Rattle.std.proofs.lemmas.List.{get_or-set_same, get_or-set_other}
+use Rattle.std.specs.Int.{bit_at}
+use Rattle.std.proofs.Common.{eqb, ◌||◌, ◌/◌, ◌%◌, ◌^◌, ◌*◌, length, get_or, bit_or, max}
+use Rattle.std.proofs.lemmas.Nat.Bits.{bit_at_or, bit_at-lt, bit_at-pow_same, bit_at-pow_other}
 use Rattle.asn1_strings.specs.Sets.{ranges_of, base_set, has_character}
 use Rattle.asn1_strings.specs.SetLaws.{lies_in, has_in_base, below_limit, all_below}
 use Rattle.asn1_strings.specs.Words.{in_words}
@@ -63,3 +69,40 @@ bmp_lies c = grind (arith, nat_tests)
 
 pub bmp_is : (c : ℕ) → leb c 65533 ≡ has_character (base_set Bmp) c
 bmp_is c = bmp_lies c ∙ sym (has_in_base Bmp c)
+
+-- the bit of a character in a word, where one more bit is set
+more_bit : (w n c : ℕ) → (eqb (bit_at (bit_or w (2 ^ n)) c) 1) ≡ (eqb n c || eqb (bit_at w c) 1)
+more_bit w n c = by_case (same_or_not n c)
+  where
+    same_or_not : (n c : ℕ) → (n ≡ c) ⊎ (n ≢ c)
+    same_or_not n c = elim (cases_lt n c) [ inl lt ↦ inr (λ e. omega arith) | inr ge ↦ elim (cases_lt c n) [ inl lt ↦ inr (λ e. omega arith) | inr le ↦ inl (omega arith) ] ]
+    by_case : (n ≡ c) ⊎ (n ≢ c) → (eqb (bit_at (bit_or w (2 ^ n)) c) 1) ≡ (eqb n c || eqb (bit_at w c) 1)
+    by_case (inl same) =
+        let one : bit_at (2 ^ n) c ≡ 1 = rw (sym same) (bit_at-pow_same n) in
+        let small = bit_at-lt w c in
+        rw (bit_at_or w (2 ^ n) c, one) (grind (arith, nat_tests))
+    by_case (inr other) =
+        let none : bit_at (2 ^ n) c ≡ 0 = bit_at-pow_other n c (λ e. other (sym e)) in
+        rw (bit_at_or w (2 ^ n) c, none) (grind (arith, nat_tests))
+
+-- one bit of a word
+pub one_bit : (k : ℕ) → k < 64 → 1 * 2 ^ k % 18446744073709551616 ≡ 2 ^ k
+one_bit k lt =
+    let up : 2 ^ k ≤ 2 ^ 63 = pow_mono (let le : k ≤ 63 = omega arith in le) in
+    omega arith
+
+-- the words with the bit of one more character
+pub words_with : (words : List ℕ) (n c : ℕ) → n / 64 < length words → in_words (set words (n / 64) (bit_or (get_or words (n / 64) 0) (2 ^ (n % 64)))) c ≡ (eqb n c || in_words words c)
+words_with words n c within = by_case (cases_lt (n / 64) (c / 64))
+  where
+    by_case : (n / 64 < c / 64) ⊎ (c / 64 ≤ n / 64) → in_words (set words (n / 64) (bit_or (get_or words (n / 64) 0) (2 ^ (n % 64)))) c ≡ (eqb n c || in_words words c)
+    by_case (inl lt) =
+        let apart : eqb n c ≡ false = grind (arith, nat_tests) in
+        rw (get_or-set_other words (n / 64) (c / 64) (bit_or (get_or words (n / 64) 0) (2 ^ (n % 64))) 0 (λ e. omega arith), apart) refl
+    by_case (inr le) = elim (cases_lt (c / 64) (n / 64)) [
+      | inl lt ↦ (let apart : eqb n c ≡ false = grind (arith, nat_tests) in
+        rw (get_or-set_other words (n / 64) (c / 64) (bit_or (get_or words (n / 64) 0) (2 ^ (n % 64))) 0 (λ e. omega arith), apart) refl)
+      | inr ge ↦ (let same : c / 64 ≡ n / 64 = omega arith in
+        let tests : eqb n c ≡ eqb (n % 64) (c % 64) = grind (arith, nat_tests) in
+        rw (same, get_or-set_same words (n / 64) (bit_or (get_or words (n / 64) 0) (2 ^ (n % 64))) 0 within, tests) (more_bit (get_or words (n / 64) 0) (n % 64) (c % 64)))
+    ]

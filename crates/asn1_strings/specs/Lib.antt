@@ -1,4 +1,5 @@
 pub mod Widths
+pub mod WidthLaws
 pub mod Sets
 pub mod Texts
 pub mod Errors
@@ -8,3 +9,7 @@ pub mod Pieces
 pub mod PieceLaws
 pub mod Strings
 pub mod StringLaws
+pub mod Maps
+pub mod Alphabet
+pub mod AlphabetInMemory
+pub mod AlphabetLaws

@@ -1,6 +1,6 @@
 //! Sets of characters below 256, a bit for each character.
-ghost use Rattle.std.specs.Prelude.{◌≡◌, ◌≢◌, ◌<◌, ◌∷◌, [], ℕ};
-ghost use Rattle.asn1_strings.specs.Sets.{base_set, has_character};
+ghost use Rattle.std.specs.Prelude.{◌≡◌, ◌≢◌, ◌<◌, ◌∷◌, [], ◌==◌, ◌||◌, ℕ, length};
+ghost use Rattle.asn1_strings.specs.Sets.{base_set, has_character, largest};
 ghost use Rattle.asn1_strings.specs.Words.{in_words};
 ghost use Rattle.asn1_strings.specs.declared.character_set.CharacterSetName.TheVariants.{Bmp};
 
@@ -10,6 +10,7 @@ use crate::character_set::CharacterSetName;
 #[derive(Clone, Copy, Debug)]
 pub(crate) struct CharacterWords {
     words: [u64; 4],
+    ghost four: { length words ≡ 4 },
 }
 
 impl CharacterWords {
@@ -28,6 +29,34 @@ impl CharacterWords {
     {
         let word = self.words[(character / 64) as usize];
         (word >> (character % 64)) % 2 == 1
+    }
+}
+
+impl CharacterWords {
+    // The words of a set whose characters are below 256.
+    pub(crate) fn of(set: &[u32]) -> CharacterWords
+        requires { largest set.now < 256 }
+        ensures { (c : ℕ) → c < 256 → in_words result.words c ≡ has_character set.now c }
+    {
+        let mut words = CharacterWords::new(0, 0, 0, 0);
+        for character in set {
+            words = words.with(*character);
+        }
+        words
+    }
+
+    // These words with the bit of one more character.
+    fn with(self, character: u32) -> CharacterWords
+        requires { character < 256 }
+        ensures {
+            (c : ℕ) → c < 256 →
+                in_words result.words c ≡ (character == c || in_words self.words c)
+        }
+    {
+        let mut words = self.words;
+        let place = (character / 64) as usize;
+        words[place] = words[place] | (1 << (character % 64));
+        CharacterWords { words }
     }
 }
 

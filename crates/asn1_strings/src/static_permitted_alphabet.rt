@@ -1,7 +1,10 @@
 //! What the eight strings have in common.
-ghost use Rattle.std.specs.Prelude.{◌≡◌, ◌≤◌, ◌==◌, ◌⊎◌, ℕ, Bool, true, List, [], ◌∷◌, ◌++◌, length, All, Ok, OnOk, OnErr, string_bytes};
+ghost use Rattle.std.specs.Prelude.{◌≡◌, ◌≤◌, ◌^◌, ◌==◌, ◌⊎◌, ℕ, Bool, true, List, [], ◌∷◌, ◌++◌, length, All, Ok, None, OnOk, OnErr, string_bytes};
 ghost use Rattle.asn1_bits.specs.BitStr.{bits_of};
 ghost use Rattle.asn1_strings.specs.Sets.{base_set, base_count, base_largest, base_width, base_indexed, has_character};
+ghost use Rattle.std.specs.Option.{ForSome, option_copied};
+ghost use Rattle.std.specs.BTreeMap.{btree_map_len};
+ghost use Rattle.asn1_strings.specs.Maps.{string_of_alphabet};
 ghost use Rattle.asn1_strings.specs.Errors.{own_error};
 ghost use Rattle.asn1_strings.specs.Strings.{Answers, character_octets, string_of_characters, string_of_octets, string_of_bits};
 
@@ -9,10 +12,12 @@ use crate::character_set::CharacterSetName;
 use crate::chars::Chars;
 use crate::code_unit::CodeUnit;
 use crate::error::{InvalidRestrictedString, PermittedAlphabetError};
+use crate::key_maps::string_of_bits_in;
 use crate::octet_string::OctetString;
 use crate::pieces::{BitPieces, Characters, OctetPieces};
-use asn1_bits::BitStr;
+use asn1_bits::{BitStr, BitString};
 use std::alloc::{AllocError, Global};
+use std::collections::BTreeMap;
 
 /// A restricted character string (X.680 41): a list of characters, each in the string's base set.
 ///
@@ -185,6 +190,42 @@ pub trait StaticPermittedAlphabet: Sized + Drop {
             });
         }
         string_of::<Self, BitPieces<'_>>(alloc, &BitPieces { bits: input, width })
+    }
+
+    /// The string of bits that an alphabet spells (X.691 30.5): a map takes keys to characters, and
+    /// None is the base set with its places as keys. Each character has the least width of so many
+    /// entries; width 0, so also a map of one entry or none, is `InvalidData`. Where the largest
+    /// character does not fit the width, the numbers are keys: one that is missing is
+    /// `IndexNotFound`. Else they are characters, which the string's own set alone decides.
+    final fn try_from_permitted_alphabet(
+        alloc: Global,
+        input: BitStr<'_>,
+        alphabet: Option<&BTreeMap<u32, u32>>,
+    ) -> Result<Self, PermittedAlphabetError>
+        requires { ForSome (option_copied alphabet) (λ m. btree_map_len m ≤ 2 ^ 31) }
+        ensures {
+            let map = option_copied alphabet.entry in
+            let bits = bits_of input.entry in
+            Answers characters result (string_of_alphabet CHARACTER_SET_NAME map bits)
+        }
+    {
+        match alphabet {
+            Some(map) => string_of_bits_in::<Self, &BTreeMap<u32, u32>>(alloc, input, &map),
+            None => {
+                let name = Self::CHARACTER_SET_NAME;
+                string_of_bits_in::<Self, CharacterSetName>(alloc, input, &name)
+            }
+        }
+    }
+
+    /// As `try_from_permitted_alphabet` without a map.
+    final fn try_from_bit_string(
+        alloc: Global,
+        input: BitString,
+    ) -> Result<Self, PermittedAlphabetError>
+        ensures { Answers characters result (string_of_alphabet CHARACTER_SET_NAME None input) }
+    {
+        Self::try_from_permitted_alphabet(alloc, input.as_bitstr(), None)
     }
 
     // The constants are what the table of base sets gives.

@@ -1,4 +1,4 @@
--- Least widths.
+-- Laws of the least width.
 use Rattle.std.proofs.Common.{◌≡◌, ℕ, suc, zero, ◌+◌, ◌*◌, ◌%◌, ◌^◌, ◌<◌, ◌≤◌, Bool, true, false, leb, refl, ap, ◌∙◌, arith, inl, inr}
 use Rattle.std.proofs.lemmas.Bool.{cases_lt}
 use Rattle.std.proofs.Math.Pow.{pow_mono}
@@ -40,7 +40,7 @@ found (suc more) w n goal is low high =
     pick (leb n (2 ^ w)) w (least_from more (w + 1) n) goal (λ e. same_width w n goal is low e)
     (λ e. let up = next_width w n goal is e in found more (w + 1) n goal is up (omega arith))
 
--- the least width is the one that is defined
+-- a least width is the one that is defined
 pub ceil_log2_is : (n w : ℕ) → IsLeastWidth n w → ceil_log2 n ≡ w
 unfolding ceil_log2
 ceil_log2_is n w is = found n 0 n w is (omega arith) (let below = below_pow n in omega (arith, is.least n (omega arith)))
@@ -69,10 +69,10 @@ least_above (suc more) w n enough least =
     let up : w + suc more ≡ w + 1 + more = omega arith in
     least_above more (w + 1) n (rw up at enough) (λ v h. too_few n w v few h))
 
--- the least width is the least
-pub ceil_log2_least : (n : ℕ) → IsLeastWidth n (ceil_log2 n)
+-- `ceil_log2` is the least width
+pub ceil_log2_is_least : (n : ℕ) → IsLeastWidth n (ceil_log2 n)
 unfolding ceil_log2
-ceil_log2_least n =
+ceil_log2_is_least n =
     let below = below_pow n in
     let e : 0 + n ≡ n = omega arith in
     least_above n 0 n (rw e (let le : n ≤ 2 ^ n = omega arith in le)) (λ v h. omega arith)

@@ -1,0 +1,55 @@
+//! Widths of characters in bits.
+ghost use Rattle.std.specs.Prelude.{◌≡◌, ◌≤◌, ◌^◌};
+ghost use Rattle.asn1_strings.specs.Widths.{IsLeastWidth, ceil_log2, align, width_for};
+
+// The least width in which so many things have codes of their own.
+pub(crate) fn ceil_log2(count: u64) -> u32
+    requires { count ≤ 2 ^ 32 }
+    ensures value { result ≡ ceil_log2 count }
+    ensures least { IsLeastWidth count result }
+    ensures bound { result ≤ 32 }
+{
+    let mut width: u32 = 0;
+    let mut codes: u64 = 1;
+    while codes < count {
+        width += 1;
+        codes *= 2;
+    }
+    width
+}
+
+// How many codes a width has.
+pub(crate) fn codes_of(width: u32) -> u64
+    requires { width ≤ 32 }
+    ensures { result ≡ 2 ^ width }
+{
+    1 << width
+}
+
+// A width, in the aligned variant the least power of two that is not below it.
+pub(crate) fn align(aligned: bool, width: u32) -> u32
+    requires { width ≤ 32 }
+    ensures value { result ≡ align aligned width }
+    ensures bound { result ≤ 32 }
+    ensures grows { width ≤ result }
+{
+    if aligned {
+        codes_of(ceil_log2(width as u64)) as u32
+    } else {
+        width
+    }
+}
+
+// The width of so many characters.
+pub(crate) fn width_for(aligned: bool, count: u64) -> u32
+    requires { count ≤ 2 ^ 32 }
+    ensures value { result ≡ width_for aligned count }
+    ensures bound { result ≤ 32 }
+    ensures enough { count ≤ 2 ^ result }
+{
+    if count <= 1 {
+        0
+    } else {
+        align(aligned, ceil_log2(count))
+    }
+}
