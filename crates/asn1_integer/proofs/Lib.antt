@@ -1,0 +1,4 @@
+pub mod ReadingLemmas
+pub mod NativeLemmas
+pub mod WrapLemmas
+pub mod UnsignedLemmas

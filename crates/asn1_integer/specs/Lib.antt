@@ -1,0 +1,4 @@
+pub mod Wrapping
+pub mod Calls
+pub mod NativeBits
+pub mod NativeLaws

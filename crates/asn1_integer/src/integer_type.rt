@@ -1,0 +1,142 @@
+ghost use Rattle.std.specs.Prelude.{◌≡◌, ℕ, ◌+◌, ◌/◌, ◌↔◌, ℤ, pos, ◌+ℤ◌, ◌-ℤ◌, ◌<ℤ◌, List, Ok};
+ghost use Rattle.std.specs.Prelude.{IsTrue, IfOk, OnErr, SomeIff, MatchOption};
+ghost use Rattle.asn1_number.specs.Octets.{IsShortest};
+ghost use Rattle.asn1_number.specs.Readings.{IntegerKind, width_of, IsInRange, FitsI128, Answers};
+ghost use Rattle.asn1_number.specs.Readings.{signed_reading, unsigned_reading};
+ghost use Rattle.asn1_integer.specs.Calls.{IsSignedKind, own_reading, IsInReach, IsChecked, WrapsSum};
+ghost use Rattle.asn1_integer.specs.Calls.{IsNonNegativeUnlessNative, SpellsUnsigned, WantsMemory};
+
+use asn1_number::{Integer, IntegerBytes, IntegerError};
+use std::alloc::{AllocError, Global};
+
+/// A type of whole numbers: a native integer type, or `Integer`.
+///
+/// Octets are most significant first. The readings refuse an empty list, too many octets for the
+/// type and a sign that it does not hold, in the order of the table `signed_reading` and
+/// `unsigned_reading`; want of memory is met by `Integer` alone, outside `i128`.
+pub trait IntegerType {
+    /// The type's bits; `u32::MAX` for `Integer`.
+    const WIDTH: u32;
+
+    /// The type's octets, `WIDTH / 8`.
+    const BYTE_WIDTH: usize;
+
+    /// The unsigned type of the same width.
+    type UnsignedPair;
+
+    /// The signed type that holds each of the type's numbers, `i128` at most.
+    type SignedPair;
+
+    ghost WIDTH: { ℕ };
+
+    ghost BYTE_WIDTH: { ℕ };
+
+    /// Which of the integer types it is.
+    ghost kind: { IntegerKind };
+
+    /// The number.
+    ghost value: { Self → ℤ };
+
+    /// The number of a pair.
+    ghost pair_value: { Self.UnsignedPair → ℤ };
+
+    /// The number 0.
+    fn zero() -> Self
+    where
+        Self: Sized,
+        ensures { value result ≡ pos 0 };
+
+    /// The number that the octets spell: two's complement, or without a sign for an unsigned type.
+    fn try_from_bytes(alloc: Global, octets: &[u8]) -> Result<Self, IntegerError>
+    where
+        Self: Sized,
+        ensures { Answers kind value result (own_reading kind octets.now) };
+
+    /// The number that two's complement octets spell (X.690 8.3.3).
+    fn try_from_signed_bytes(alloc: Global, octets: &[u8]) -> Result<Self, IntegerError>
+    where
+        Self: Sized,
+        ensures { Answers kind value result (signed_reading kind octets.now) };
+
+    /// The number that octets without a sign spell.
+    fn try_from_unsigned_bytes(alloc: Global, octets: &[u8]) -> Result<Self, IntegerError>
+    where
+        Self: Sized,
+        ensures { Answers kind value result (unsigned_reading kind octets.now) };
+
+    /// The shortest two's complement octets, the contents of an INTEGER (X.690 8.3).
+    fn to_signed_bytes_be(&self) -> IntegerBytes<'_>
+        ensures shortest { IsShortest (value self.now) result }
+        ensures in_range { IsInRange kind (value self.now) };
+
+    /// The shortest octets of the number modulo 2 to the type's bits, of an `Integer` of the
+    /// number itself.
+    fn to_unsigned_bytes_be(&self) -> IntegerBytes<'_>
+        requires { IsNonNegativeUnlessNative kind (value self.now) }
+        ensures { SpellsUnsigned kind (value self.now) result };
+
+    /// The sum, wrapped at the type's width. `Integer` does not wrap: it has the sum, where that
+    /// and the operands lie within `i128`.
+    fn wrapping_unsigned_add(self, other: Self::UnsignedPair) -> Option<Self>
+    where
+        Self: Sized,
+        ensures { WrapsSum kind value (value self) (pair_value other) result };
+
+    /// Whether the number is below 0.
+    fn is_negative(&self) -> bool
+        ensures { IsTrue result ↔ (value self.now <ℤ pos 0) };
+
+    /// Whether the type has numbers below 0.
+    fn is_signed(&self) -> bool
+        ensures { IsTrue result ↔ IsSignedKind kind };
+
+    /// The same number. Memory is asked for by a `u128` above `i128::MAX` alone.
+    fn to_integer(self, alloc: Global) -> Result<Integer, AllocError>
+    where
+        Self: Sized,
+        ensures value { IfOk result (λ n. n ≡ value self) }
+        ensures memory { OnErr result (WantsMemory kind (value self)) };
+
+    /// The sum, exactly where the type holds it; of `Integer` where it and both operands lie within
+    /// `i128`.
+    fn checked_add(&self, other: &Self) -> Option<Self>
+    where
+        Self: Sized,
+        ensures { let sum = value self.now +ℤ value other.now in
+            IsChecked kind value (value self.now) (value other.now) sum result };
+
+    /// The difference, exactly where the type holds it; of `Integer` where it and both operands lie
+    /// within `i128`.
+    fn checked_sub(&self, other: &Self) -> Option<Self>
+    where
+        Self: Sized,
+        ensures { let difference = value self.now -ℤ value other.now in
+            IsChecked kind value (value self.now) (value other.now) difference result };
+
+    /// The same number, exactly where it lies within `i128`.
+    fn to_i128(&self) -> Option<i128>
+        ensures { SomeIff result (FitsI128 (value self.now)) (value self.now) };
+
+    /// The same number, exactly where the type holds it.
+    fn try_from_i128(number: i128) -> Option<Self>
+    where
+        Self: Sized,
+        ensures { MatchOption result (¬ (IsInRange kind number))
+            (λ x. (value x ≡ number) × IsInRange kind number) };
+
+    /// The same number, exactly where a native type holds it; `Integer` gives it within `i128`.
+    fn from_integer(number: &Integer) -> Option<Self>
+    where
+        Self: Sized,
+        ensures { MatchOption result (¬ (IsInReach kind number.now))
+            (λ x. (value x ≡ number.now) × IsInReach kind number.now) };
+
+    /// The constants are those of the kind.
+    ghost width: { WIDTH ≡ width_of kind };
+
+    ghost byte_width: { BYTE_WIDTH ≡ WIDTH / 8 };
+
+    /// What a type reads from the shortest octets of one of its numbers is that number.
+    ghost reads_shortest: { (n : ℤ) (octets : List ℕ) → IsInRange kind n → IsShortest n octets
+        → signed_reading kind octets ≡ Ok n };
+}

@@ -1,0 +1,21 @@
+//! The integer types: one contract for the twelve native types and for `Integer`.
+//!
+//! [`IntegerType`] speaks of a type's numbers as whole numbers. Its readings are the table of
+//! `asn1_number`, its octets the shortest of the number (X.690 8.3), and what is written is read
+//! back: a law of the trait, which each type proves.
+#![tactic(auto)]
+
+mod integer;
+mod integer_type;
+mod native;
+mod readings;
+mod signed;
+#[cfg(test)]
+mod tests;
+mod unsigned;
+
+pub use asn1_number::{
+    ConstrainedInteger, Integer, IntegerBytes, IntegerError, TryFromIntegerError,
+    laws_of_shortest_octets, signed_value, unsigned_value, without_redundant_sign_octets,
+};
+pub use integer_type::IntegerType;
