@@ -7,3 +7,5 @@ pub mod TextLemmas
 pub mod BmpLemmas
 pub mod KeyLemmas
 pub mod AscendingLemmas
+pub mod RepeatLemmas
+pub mod AlphabetLemmas

@@ -146,3 +146,25 @@ not_indexed Numeric other = absurd (other refl)
 not_indexed Printable other = indexed-base_set Printable
 not_indexed Teletex other = indexed-base_set Teletex
 not_indexed Visible other = indexed-base_set Visible
+
+-- no width is large
+pub width_small : (name : CharacterSetName) → base_width name ≤ 16
+width_small Bmp = rw (width-base_set Bmp) (lit≤ tt)
+width_small General = rw (width-base_set General) (lit≤ tt)
+width_small Graphic = rw (width-base_set Graphic) (lit≤ tt)
+width_small IA5 = rw (width-base_set IA5) (lit≤ tt)
+width_small Numeric = rw (width-base_set Numeric) (lit≤ tt)
+width_small Printable = rw (width-base_set Printable) (lit≤ tt)
+width_small Teletex = rw (width-base_set Teletex) (lit≤ tt)
+width_small Visible = rw (width-base_set Visible) (lit≤ tt)
+
+-- but for `BmpString` no character is 256 or above
+pub largest_small : (name : CharacterSetName) → name ≢ Bmp → largest (base_set name) < 256
+largest_small Bmp other = absurd (other refl)
+largest_small General other = rw (largest-base_set General) (lit≤ tt)
+largest_small Graphic other = rw (largest-base_set Graphic) (lit≤ tt)
+largest_small IA5 other = rw (largest-base_set IA5) (lit≤ tt)
+largest_small Numeric other = rw (largest-base_set Numeric) (lit≤ tt)
+largest_small Printable other = rw (largest-base_set Printable) (lit≤ tt)
+largest_small Teletex other = rw (largest-base_set Teletex) (lit≤ tt)
+largest_small Visible other = rw (largest-base_set Visible) (lit≤ tt)

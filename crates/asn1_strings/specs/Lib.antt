@@ -12,4 +12,5 @@ pub mod StringLaws
 pub mod Maps
 pub mod Alphabet
 pub mod AlphabetInMemory
+pub mod AlphabetView
 pub mod AlphabetLaws

@@ -1,6 +1,7 @@
 //! Octet strings, the eight restricted character strings and permitted alphabets of ASN.1.
 #![tactic(auto)]
 
+mod alphabet;
 mod bmp_string;
 mod character_set;
 mod character_words;
@@ -15,6 +16,7 @@ mod key_maps;
 mod numeric_string;
 mod octet_kinds;
 mod octet_string;
+mod permitted_set;
 mod pieces;
 mod printable_string;
 mod restricted_string;
@@ -25,6 +27,7 @@ mod teletex_string;
 mod visible_string;
 mod widths;
 
+pub use alphabet::{CharacterAlphabet, should_be_indexed};
 pub use bmp_string::{Bmp, BmpString};
 pub use character_set::CharacterSetName;
 pub use chars::Chars;

@@ -1,0 +1,314 @@
+//! The alphabets that characters are written in (X.691 30.5).
+ghost use Rattle.std.specs.Prelude.{◌≡◌, ◌≢◌, ◌≤◌, ◌+◌, ◌<◌, ◌^◌, ℕ, Bool, true, false, AllPairs, length, slice_get, is_some, Some, OnSome, OnOk, MatchBool, MatchOption};
+ghost use Rattle.std.specs.Option.{ForSome, option_copied};
+ghost use Rattle.std.specs.List.Sorted.{IsNonDecreasing};
+ghost use Rattle.asn1_strings.specs.Sets.{base_set, has_character, largest};
+ghost use Rattle.asn1_strings.specs.Widths.{ceil_log2};
+ghost use Rattle.asn1_strings.specs.Alphabet.{is_indexed, kept_set, effective, IsCode, missing_error, Encodes, Decodes, IsLongAscending};
+ghost use Rattle.asn1_strings.specs.AlphabetInMemory.{set_of, HasWords, IsKnown};
+
+use crate::character_set::CharacterSetName;
+use crate::character_words::CharacterWords;
+use crate::error::{InvalidRestrictedString, PermittedAlphabetError};
+use crate::permitted_set::{is_ascending, largest_of, place_in, repeats_in};
+use crate::search::find_ascending;
+use crate::static_permitted_alphabet::StaticPermittedAlphabet;
+use crate::widths::{align, ceil_log2, codes_of, width_for};
+use asn1_bits::Turns;
+
+/// Whether characters of a set are written by their places in `width` bits, since its largest
+/// character does not fit them. The largest of no characters is 0.
+pub fn should_be_indexed(width: u32, set: &[u32]) -> bool
+    requires { width ≤ 31 }
+    ensures { result ≡ is_indexed width set.now }
+{
+    1 << width <= largest_of(set)
+}
+
+/// An alphabet: a set of characters, their width in bits, and whether they are written by their
+/// places in the set or by their values. No call takes memory.
+#[derive(Clone, Copy, Debug)]
+pub struct CharacterAlphabet<'s> {
+    name: CharacterSetName,
+    // The permitted set, where it is kept. Else the base set of `name` counts.
+    permitted: Option<&'s [u32]>,
+    width: usize,
+    indexed: bool,
+    // Whether the permitted set never falls.
+    sorted: bool,
+    // Where all characters are below 256.
+    words: Option<CharacterWords>,
+    ghost known: { IsKnown name permitted width indexed sorted words },
+}
+
+impl<'s> CharacterAlphabet<'s> {
+    ghost use Rattle.asn1_strings.specs.AlphabetView.{alphabet_of};
+
+    /// The alphabet of the string `S` with a permitted set, which is kept where the string is
+    /// written by places or needs more bits than the set does. Else the base set alone counts. A
+    /// kept set may hold characters that the base set lacks.
+    pub fn new<S: StaticPermittedAlphabet>(
+        permitted: Option<&'s [u32]>,
+        aligned: bool,
+    ) -> CharacterAlphabet<'s>
+        requires { ForSome (option_copied permitted) (λ set. length set ≤ 2 ^ 32) }
+        ensures {
+            let set = option_copied permitted.entry in
+            alphabet_of result ≡ effective S.CHARACTER_SET_NAME set aligned
+        }
+    {
+        let name = S::CHARACTER_SET_NAME;
+        let permitted = kept_set(name, permitted, aligned);
+        let width = width_for(aligned, count_of(name, permitted));
+        let indexed = codes_of(width) <= largest_in(name, permitted) as u64;
+        let sorted = is_sorted(name, permitted);
+        let words = words_of(name, permitted);
+        CharacterAlphabet {
+            name,
+            permitted,
+            width: width as usize,
+            indexed,
+            sorted,
+            words,
+        }
+    }
+
+    /// How many bits each character takes, at most 32.
+    pub fn width(&self) -> usize
+        ensures value { result ≡ (alphabet_of self.now).width }
+        ensures bound { result ≤ 32 }
+        ensures codes { (c k : ℕ) → IsCode (alphabet_of self.now) c k → k < 2 ^ result }
+    {
+        self.width
+    }
+
+    /// A code of the character. Where it has none, it is `CharacterNotFound` in a permitted set,
+    /// and the string's own error in a base set.
+    pub fn encode(&self, character: u32) -> Result<u32, PermittedAlphabetError>
+        ensures { Encodes (alphabet_of self.now) character result }
+    {
+        self.encode_counted(character, &mut Turns::new())
+    }
+
+    /// As `encode`. In a set of more than 64 characters that never falls it makes few probes.
+    pub fn encode_counted(
+        &self,
+        character: u32,
+        probes: &mut Turns,
+    ) -> Result<u32, PermittedAlphabetError>
+        ensures code { Encodes (alphabet_of self.now) character result }
+        ensures counts { probes.old.count ≤ probes.new.count }
+        ensures cost {
+            let set = (alphabet_of self.now).characters in
+            IsLongAscending set → probes.new.count ≤ probes.old.count + ceil_log2 (length set) + 1
+        }
+        ensures looked {
+            IsLongAscending (alphabet_of self.now).characters →
+                (alphabet_of self.now).indexed ≡ true →
+                OnOk result (probes.old.count + 1 ≤ probes.new.count)
+        }
+    {
+        if self.indexed {
+            match self.place_of(character, probes) {
+                Some(place) => Ok(place),
+                None => Err(self.missing(character)),
+            }
+        } else if self.contains(character, probes) {
+            Ok(character)
+        } else {
+            Err(self.missing(character))
+        }
+    }
+
+    /// The character of the code. A place past the set is `IndexNotFound`; a value that is not in
+    /// the set is refused as by `encode`.
+    pub fn decode(&self, code: u32) -> Result<u32, PermittedAlphabetError>
+        ensures { Decodes (alphabet_of self.now) code result }
+    {
+        if self.indexed {
+            match self.character_at(code) {
+                Some(character) => Ok(character),
+                None => Err(PermittedAlphabetError::IndexNotFound {
+                    index: code as usize,
+                }),
+            }
+        } else if self.contains(code, &mut Turns::new()) {
+            Ok(code)
+        } else {
+            Err(self.missing(code))
+        }
+    }
+
+    /// Whether the set has a character twice. Where it has none, each character has one code.
+    pub fn repeats(&self) -> bool
+        ensures twice {
+            let set = (alphabet_of self.now).characters in
+            MatchBool result (¬ (AllPairs (λ a b. a ≢ b) set)) (AllPairs (λ a b. a ≢ b) set)
+        }
+        ensures once {
+            result ≡ false → (c j k : ℕ) → IsCode (alphabet_of self.now) c j →
+                IsCode (alphabet_of self.now) c k → j ≡ k
+        }
+    {
+        match self.permitted {
+            Some(set) => repeats_in(set),
+            None => false,
+        }
+    }
+
+    // The error for a character that the set lacks.
+    fn missing(&self, character: u32) -> PermittedAlphabetError
+        ensures { result ≡ missing_error (alphabet_of self.now) character }
+    {
+        match self.permitted {
+            Some(_) => PermittedAlphabetError::CharacterNotFound { character },
+            None => PermittedAlphabetError::InvalidRestrictedString {
+                source: InvalidRestrictedString::of(self.name, character),
+            },
+        }
+    }
+
+    // Whether the set has the character: by its words where it has any.
+    fn contains(&self, character: u32, probes: &mut Turns) -> bool
+        ensures value { result ≡ has_character (alphabet_of self.now).characters character }
+        ensures counts { probes.old.count ≤ probes.new.count }
+        ensures cost {
+            let set = (alphabet_of self.now).characters in
+            IsLongAscending set → probes.new.count ≤ probes.old.count + ceil_log2 (length set) + 1
+        }
+    {
+        match self.words {
+            Some(words) => character < 256 && words.contains(character),
+            None => match self.permitted {
+                Some(set) => place_among(set, self.sorted, character, probes).is_some(),
+                None => self.name.contains(character),
+            },
+        }
+    }
+
+    // A place of the character.
+    fn place_of(&self, character: u32, probes: &mut Turns) -> Option<u32>
+        requires { self.now.indexed ≡ true }
+        ensures place {
+            let set = (alphabet_of self.now).characters in
+            MatchOption result (has_character set character ≡ false)
+                (λ k. slice_get set k ≡ Some character)
+        }
+        ensures counts { probes.old.count ≤ probes.new.count }
+        ensures cost {
+            let set = (alphabet_of self.now).characters in
+            IsLongAscending set → probes.new.count ≤ probes.old.count + ceil_log2 (length set) + 1
+        }
+        ensures looked {
+            IsLongAscending (alphabet_of self.now).characters →
+                OnSome result (probes.old.count + 1 ≤ probes.new.count)
+        }
+    {
+        match self.permitted {
+            Some(set) => place_among(set, self.sorted, character, probes),
+            None => self.name.place_of(character),
+        }
+    }
+
+    // The character at a place.
+    fn character_at(&self, place: u32) -> Option<u32>
+        ensures { result ≡ slice_get (alphabet_of self.now).characters place }
+    {
+        match self.permitted {
+            Some(set) => set.get(place as usize).copied(),
+            None => self.name.character_at(place),
+        }
+    }
+}
+
+// A place of the character, by halves where the set is long and never falls.
+fn place_among(set: &[u32], sorted: bool, character: u32, probes: &mut Turns) -> Option<u32>
+    requires few { length set.now ≤ 2 ^ 32 }
+    requires rises { sorted ≡ true → IsNonDecreasing set.now }
+    requires falls { sorted ≡ false → ¬ (IsNonDecreasing set.now) }
+    ensures place {
+        MatchOption result (has_character set.now character ≡ false)
+            (λ k. slice_get set.now k ≡ Some character)
+    }
+    ensures counts { probes.old.count ≤ probes.new.count }
+    ensures cost {
+        IsLongAscending set.now →
+            probes.new.count ≤ probes.old.count + ceil_log2 (length set.now) + 1
+    }
+    ensures looked {
+        IsLongAscending set.now → OnSome result (probes.old.count + 1 ≤ probes.new.count)
+    }
+{
+    if sorted && set.len() > 64 {
+        let place = find_ascending(&set, character, probes)?;
+        Some(place as u32)
+    } else {
+        place_in(set, character)
+    }
+}
+
+// The permitted set, where it is kept.
+fn kept_set<'s>(
+    name: CharacterSetName,
+    permitted: Option<&'s [u32]>,
+    aligned: bool,
+) -> Option<&'s [u32]>
+    requires { ForSome (option_copied permitted) (λ set. length set ≤ 2 ^ 32) }
+    ensures set { option_copied result ≡ kept_set name (option_copied permitted.entry) aligned }
+    ensures few { length (set_of name result) ≤ 2 ^ 32 }
+{
+    let set = permitted?;
+    let count = (set.len() as u64).max(1);
+    if name.is_indexed() || align(aligned, ceil_log2(count)) < name.width() as u32 {
+        Some(set)
+    } else {
+        None
+    }
+}
+
+// How many characters the set that counts has.
+fn count_of(name: CharacterSetName, kept: Option<&[u32]>) -> u64
+    ensures { result ≡ length (set_of name kept.entry) }
+{
+    match kept {
+        Some(set) => set.len() as u64,
+        None => name.count() as u64,
+    }
+}
+
+// The largest character of the set that counts.
+fn largest_in(name: CharacterSetName, kept: Option<&[u32]>) -> u32
+    ensures { result ≡ largest (set_of name kept.entry) }
+{
+    match kept {
+        Some(set) => largest_of(set),
+        None => name.largest(),
+    }
+}
+
+// Whether a permitted set that was kept never falls.
+fn is_sorted(name: CharacterSetName, kept: Option<&[u32]>) -> bool
+    ensures rises { result ≡ true → IsNonDecreasing (set_of name kept.entry) }
+    ensures falls {
+        result ≡ false → is_some kept.entry ≡ true → ¬ (IsNonDecreasing (set_of name kept.entry))
+    }
+{
+    match kept {
+        Some(set) => is_ascending(set),
+        None => false,
+    }
+}
+
+// The words of the set that counts, where its characters are below 256.
+fn words_of(name: CharacterSetName, kept: Option<&[u32]>) -> Option<CharacterWords>
+    ensures { ForSome result (HasWords (set_of name kept.entry)) }
+{
+    match kept {
+        Some(set) if largest_of(set) < 256 => Some(CharacterWords::of(set)),
+        Some(_) => None,
+        None => match name {
+            CharacterSetName::Bmp => None,
+            _ => Some(name.words()),
+        },
+    }
+}

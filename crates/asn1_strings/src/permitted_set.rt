@@ -1,0 +1,59 @@
+//! Permitted sets: lists of characters in the caller's order.
+ghost use Rattle.std.specs.Prelude.{◌≡◌, ◌≢◌, ◌≤◌, ◌^◌, ℕ, true, false, AllPairs, length, slice_get, Some, MatchBool, MatchOption};
+ghost use Rattle.std.specs.List.Sorted.{IsNonDecreasing};
+ghost use Rattle.asn1_strings.specs.Sets.{has_character, largest};
+
+// The largest character, or 0.
+pub(crate) fn largest_of(set: &[u32]) -> u32
+    ensures { result ≡ largest set.now }
+{
+    let mut most = 0;
+    for character in set {
+        most = most.max(*character);
+    }
+    most
+}
+
+// A place of the character.
+pub(crate) fn place_in(set: &[u32], character: u32) -> Option<u32>
+    requires { length set.now ≤ 2 ^ 32 }
+    ensures {
+        MatchOption result (has_character set.now character ≡ false)
+            (λ k. slice_get set.now k ≡ Some character)
+    }
+{
+    for (i, candidate) in set.iter().enumerate() {
+        if *candidate == character {
+            return Some(i as u32);
+        }
+    }
+    None
+}
+
+// Whether the list has a character twice.
+pub(crate) fn repeats_in(set: &[u32]) -> bool
+    ensures {
+        MatchBool result (¬ (AllPairs (λ a b. a ≢ b) set.now)) (AllPairs (λ a b. a ≢ b) set.now)
+    }
+{
+    for i in 0..set.len() {
+        let rest = &set[i + 1..];
+        if rest.contains(&set[i]) {
+            return true;
+        }
+    }
+    false
+}
+
+// Whether no entry is below the one before it.
+pub(crate) fn is_ascending(set: &[u32]) -> bool
+    ensures rises { result ≡ true → IsNonDecreasing set.now }
+    ensures falls { result ≡ false → ¬ (IsNonDecreasing set.now) }
+{
+    for i in 1..set.len() {
+        if set[i] < set[i - 1] {
+            return false;
+        }
+    }
+    true
+}
