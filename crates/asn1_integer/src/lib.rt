@@ -7,6 +7,7 @@
 
 mod integer;
 mod integer_type;
+mod laws;
 mod native;
 mod readings;
 mod signed;
@@ -19,3 +20,4 @@ pub use asn1_number::{
     laws_of_shortest_octets, signed_value, unsigned_value, without_redundant_sign_octets,
 };
 pub use integer_type::IntegerType;
+pub use laws::laws_of_wrapping;

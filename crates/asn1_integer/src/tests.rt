@@ -1,1 +1,296 @@
 use super::*;
+use std::alloc::Global;
+use std::process::Abort;
+use std::test::Fail;
+
+/// What a type reads from octets, as a number.
+fn read<T: IntegerType + Drop>(
+    alloc: Global,
+    octets: &[u8],
+    has_sign: bool,
+) -> Result<Option<i128>, IntegerError> {
+    let number = if has_sign {
+        T::try_from_signed_bytes(alloc, octets)?
+    } else {
+        T::try_from_unsigned_bytes(alloc, octets)?
+    };
+    Ok(number.to_i128())
+}
+
+/// Why a native type refuses so many octets that begin with this one, all of them alike.
+fn refusal(
+    first: u8,
+    count: usize,
+    size: usize,
+    is_signed: bool,
+    has_sign: bool,
+) -> Option<IntegerError> {
+    let width = [0, 8, 16, 0, 32, 0, 0, 0, 64, 0, 0, 0, 0, 0, 0, 0, 128];
+    let bits = *width.get(size)?;
+    if count == 0 {
+        return Some(IntegerError::UnexpectedEmptyInput);
+    }
+    let top = first >= 0x80;
+    if has_sign && !is_signed && top {
+        return Some(IntegerError::TypeConversionFailed { bits });
+    }
+    let uncounted = has_sign && !is_signed && first == 0;
+    let counted = if uncounted { count - 1 } else { count };
+    if counted > size {
+        return Some(IntegerError::Overflow {
+            max_integer_bits: bits,
+        });
+    }
+    if !has_sign && is_signed && top && count == size {
+        return Some(IntegerError::TypeConversionFailed { bits });
+    }
+    None
+}
+
+fn check_readings<T: IntegerType + Drop>(
+    rt: &impl Abort,
+    alloc: Global,
+    size: usize,
+    is_signed: bool,
+) {
+    for octet in [0x00, 0x7F, 0x80, 0xFF] {
+        let octets = [octet; 18];
+        for count in 0..19 {
+            let part = &octets[..count];
+            for has_sign in [false, true] {
+                let want = refusal(octet, count, size, is_signed, has_sign);
+                let read_octets = read::<T>(alloc, part, has_sign);
+                assert_eq!(rt; read_octets.err(), want, "{octet} times {count}");
+                if want.is_none() && count < 16 {
+                    assert_eq!(rt; read_octets, read::<Integer>(alloc, part, has_sign));
+                }
+            }
+        }
+    }
+}
+
+#[test]
+fn each_native_type_reads_as_the_table_says(rt: HostRuntime) {
+    check_readings::<u8>(&rt, rt.alloc(), 1, false);
+    check_readings::<i8>(&rt, rt.alloc(), 1, true);
+    check_readings::<u16>(&rt, rt.alloc(), 2, false);
+    check_readings::<i16>(&rt, rt.alloc(), 2, true);
+    check_readings::<u32>(&rt, rt.alloc(), 4, false);
+    check_readings::<i32>(&rt, rt.alloc(), 4, true);
+    check_readings::<u64>(&rt, rt.alloc(), 8, false);
+    check_readings::<i64>(&rt, rt.alloc(), 8, true);
+    check_readings::<u128>(&rt, rt.alloc(), 16, false);
+    check_readings::<i128>(&rt, rt.alloc(), 16, true);
+    check_readings::<usize>(&rt, rt.alloc(), 8, false);
+    check_readings::<isize>(&rt, rt.alloc(), 8, true);
+}
+
+/// The number and its two's complement octets, through the bound.
+fn check_signed<T: IntegerType + Drop>(
+    rt: &impl Abort,
+    alloc: Global,
+    number: i128,
+    octets: &[u8],
+) {
+    let Some(value) = T::try_from_i128(number) else {
+        return assert!(rt; false, "the type does not hold {number}");
+    };
+    assert_eq!(rt; value.to_signed_bytes_be().as_ref(), octets, "of {number}");
+    assert_eq!(rt; value.to_i128(), Some(number));
+    assert_eq!(rt; value.is_negative(), number < 0);
+    let Ok(back) = T::try_from_signed_bytes(alloc, octets) else {
+        return assert!(rt; false, "{number} is not read back");
+    };
+    assert_eq!(rt; back.to_i128(), Some(number));
+    let Some(same) = T::from_integer(&Integer::from(number)) else {
+        return assert!(rt; false, "{number} is not given out");
+    };
+    assert_eq!(rt; same.to_i128(), Some(number));
+    let Ok(integer) = same.to_integer(alloc) else {
+        return assert!(rt; false, "{number} takes no memory");
+    };
+    assert_eq!(rt; integer, Integer::from(number));
+}
+
+#[test]
+fn each_type_writes_the_shortest_octets_and_reads_them_back(rt: HostRuntime) {
+    let one = [0x01];
+    let least_of_i8 = [0x80];
+    let minus_one = [0xFF];
+    check_signed::<u8>(&rt, rt.alloc(), 1, &one);
+    check_signed::<u8>(&rt, rt.alloc(), 255, &[0x00, 0xFF]);
+    check_signed::<i8>(&rt, rt.alloc(), -1, &minus_one);
+    check_signed::<i8>(&rt, rt.alloc(), -128, &least_of_i8);
+    check_signed::<u16>(&rt, rt.alloc(), 65535, &[0x00, 0xFF, 0xFF]);
+    check_signed::<i16>(&rt, rt.alloc(), 127, &[0x7F]);
+    check_signed::<i16>(&rt, rt.alloc(), 128, &[0x00, 0x80]);
+    check_signed::<u32>(&rt, rt.alloc(), 32768, &[0x00, 0x80, 0x00]);
+    check_signed::<i32>(&rt, rt.alloc(), 0, &[0x00]);
+    check_signed::<i32>(&rt, rt.alloc(), -129, &[0xFF, 0x7F]);
+    check_signed::<u64>(&rt, rt.alloc(), 2147483647, &[0x7F, 0xFF, 0xFF, 0xFF]);
+    check_signed::<i64>(&rt, rt.alloc(), -1, &minus_one);
+    check_signed::<usize>(&rt, rt.alloc(), 32767, &[0x7F, 0xFF]);
+    check_signed::<isize>(&rt, rt.alloc(), -32769, &[0xFF, 0x7F, 0xFF]);
+    check_signed::<u128>(&rt, rt.alloc(), 1, &one);
+    check_signed::<i128>(&rt, rt.alloc(), -128, &least_of_i8);
+    check_signed::<Integer>(&rt, rt.alloc(), -128, &least_of_i8);
+}
+
+/// The constants, the sum and the difference of a type, through the bound.
+fn check_sums<T: IntegerType + Drop>(rt: &impl Abort, most: i128, width: u32, is_signed: bool) {
+    assert_eq!(rt; T::WIDTH, width);
+    assert_eq!(rt; T::BYTE_WIDTH, width as usize / 8);
+    let (Some(greatest), Some(one)) = (T::try_from_i128(most), T::try_from_i128(1)) else {
+        return assert!(rt; false, "the type does not hold {most}");
+    };
+    assert_eq!(rt; greatest.is_signed(), is_signed);
+    assert!(rt; greatest.checked_add(&one).is_none());
+    let Some(below) = greatest.checked_sub(&one) else {
+        return assert!(rt; false, "{most} has one below");
+    };
+    let Some(same) = below.checked_add(&one) else {
+        return assert!(rt; false, "{most} is one above");
+    };
+    assert_eq!(rt; same.to_i128(), Some(most));
+    assert_eq!(rt; T::zero().checked_sub(&one).is_none(), !is_signed);
+    assert!(rt; T::try_from_i128(-1).is_some() == is_signed);
+}
+
+#[test]
+fn sums_and_differences_stay_within_the_type(rt: HostRuntime) {
+    check_sums::<u8>(&rt, 255, 8, false);
+    check_sums::<i8>(&rt, 127, 8, true);
+    check_sums::<u16>(&rt, 65535, 16, false);
+    check_sums::<i16>(&rt, 32767, 16, true);
+    check_sums::<u32>(&rt, 4294967295, 32, false);
+    check_sums::<i32>(&rt, 2147483647, 32, true);
+    check_sums::<u64>(&rt, 18446744073709551615, 64, false);
+    check_sums::<i64>(&rt, 9223372036854775807, 64, true);
+    check_sums::<usize>(&rt, 18446744073709551615, 64, false);
+    check_sums::<isize>(&rt, 9223372036854775807, 64, true);
+    check_sums::<i128>(&rt, i128::MAX, 128, true);
+    check_sums::<Integer>(&rt, i128::MAX, 4294967295, true);
+    assert_eq!(rt; IntegerType::checked_add(&u128::MAX, &1), None);
+    assert_eq!(rt; IntegerType::checked_sub(&0u128, &1), None);
+}
+
+#[test]
+fn residues_have_their_shortest_octets(rt: HostRuntime) {
+    assert_eq!(rt; 128i32.to_unsigned_bytes_be().as_ref(), [0x80].as_slice());
+    assert_eq!(rt; 0u8.to_unsigned_bytes_be().as_ref(), [0].as_slice());
+    assert_eq!(rt;
+        Integer::zero().to_unsigned_bytes_be().as_ref(),
+        [0].as_slice()
+    );
+    assert_eq!(rt;
+        (-1i8).to_unsigned_bytes_be().as_ref(),
+        [0xFF; 1].as_slice()
+    );
+    assert_eq!(rt;
+        (-1i16).to_unsigned_bytes_be().as_ref(),
+        [0xFF; 2].as_slice()
+    );
+    assert_eq!(rt;
+        (-1i32).to_unsigned_bytes_be().as_ref(),
+        [0xFF; 4].as_slice()
+    );
+    assert_eq!(rt;
+        (-1i64).to_unsigned_bytes_be().as_ref(),
+        [0xFF; 8].as_slice()
+    );
+    assert_eq!(rt;
+        (-1i128).to_unsigned_bytes_be().as_ref(),
+        [0xFF; 16].as_slice()
+    );
+    assert_eq!(rt;
+        (-1isize).to_unsigned_bytes_be().as_ref(),
+        [0xFF; 8].as_slice()
+    );
+    assert_eq!(rt;
+        u16::MAX.to_unsigned_bytes_be().as_ref(),
+        [0xFF; 2].as_slice()
+    );
+    assert_eq!(rt;
+        u32::MAX.to_unsigned_bytes_be().as_ref(),
+        [0xFF; 4].as_slice()
+    );
+    assert_eq!(rt;
+        u64::MAX.to_unsigned_bytes_be().as_ref(),
+        [0xFF; 8].as_slice()
+    );
+    assert_eq!(rt;
+        usize::MAX.to_unsigned_bytes_be().as_ref(),
+        [0xFF; 8].as_slice()
+    );
+    assert_eq!(rt;
+        u128::MAX.to_unsigned_bytes_be().as_ref(),
+        [0xFF; 16].as_slice()
+    );
+    let mut signed = [0xFF; 17];
+    signed[0] = 0;
+    assert_eq!(rt; u128::MAX.to_signed_bytes_be().as_ref(), signed.as_slice());
+}
+
+#[test]
+fn native_sums_wrap_and_integers_do_not(rt: HostRuntime) {
+    assert_eq!(rt; (-128i8).wrapping_unsigned_add(255), Some(127));
+    assert_eq!(rt; 127i8.wrapping_unsigned_add(255), Some(126));
+    assert_eq!(rt; 255u8.wrapping_unsigned_add(1), Some(0));
+    assert_eq!(rt;
+        u128::MAX.wrapping_unsigned_add(u128::MAX),
+        Some(u128::MAX - 1)
+    );
+    let most = Integer::from(i128::MAX);
+    assert!(rt; IntegerType::checked_add(&most, &Integer::one()).is_none());
+    assert!(rt; most.wrapping_unsigned_add(Integer::one()).is_none());
+    let sum = Integer::from(isize::MAX).wrapping_unsigned_add(Integer::one());
+    assert_eq!(rt; sum, Some(Integer::from(9223372036854775808i128)));
+    let least = Integer::from(isize::MIN);
+    let difference = IntegerType::checked_sub(&least, &Integer::one());
+    assert_eq!(rt; difference, Some(Integer::from(-9223372036854775809i128)));
+}
+
+#[test]
+fn integers_past_i128_are_out_of_reach(rt: HostRuntime) {
+    let Ok(two_to_127) = (1u128 << 127).to_integer(rt.alloc()) else {
+        return;
+    };
+    assert!(rt; IntegerType::to_i128(&two_to_127).is_none());
+    assert!(rt; IntegerType::checked_sub(&two_to_127, &Integer::one()).is_none());
+    assert!(rt; Integer::from_integer(&two_to_127).is_none());
+    assert!(rt; i128::from_integer(&two_to_127).is_none());
+    assert_eq!(rt; u128::from_integer(&two_to_127), Some(1 << 127));
+    assert!(rt;
+        two_to_127
+            .wrapping_unsigned_add(Integer::from(-1i8))
+            .is_none()
+    );
+}
+
+#[test]
+fn worked_readings(rt: HostRuntime) -> Result<(), Fail> {
+    let alloc = rt.alloc();
+    let overflow = IntegerError::Overflow {
+        max_integer_bits: 8,
+    };
+    let no_value = IntegerError::TypeConversionFailed { bits: 8 };
+    let empty = IntegerError::UnexpectedEmptyInput;
+    assert_eq!(rt; i8::try_from_signed_bytes(alloc, &[0, 5]), Err(overflow));
+    assert_eq!(rt; u8::try_from_signed_bytes(alloc, &[0, 0, 5]), Err(overflow));
+    assert_eq!(rt; u8::try_from_signed_bytes(alloc, &[0x80]), Err(no_value));
+    assert_eq!(rt;
+        u8::try_from_signed_bytes(alloc, &[0x80, 0, 0]),
+        Err(no_value)
+    );
+    assert_eq!(rt; u8::try_from_signed_bytes(alloc, &[]), Err(empty));
+    assert_eq!(rt; i8::try_from_unsigned_bytes(alloc, &[0x80]), Err(no_value));
+    assert_eq!(rt; u8::try_from_signed_bytes(alloc, &[0, 0xFF]), Ok(255));
+    assert_eq!(rt; u8::try_from_bytes(alloc, &[0xFF]), Ok(255));
+    assert_eq!(rt; i8::try_from_bytes(alloc, &[0xFF]), Ok(-1));
+    assert_eq!(rt;
+        Integer::try_from_bytes(alloc, &[0xFF])?,
+        Integer::from(-1i8)
+    );
+    laws_of_wrapping();
+    Ok(())
+}
