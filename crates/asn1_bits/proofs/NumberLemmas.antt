@@ -1,7 +1,7 @@
 -- A number and its binary digits.
 use Rattle.std.proofs.Common.{◌≡◌, ℕ, zero, suc, ◌+◌, ◌-◌, ◌*◌, ◌/◌, ◌%◌, ◌^◌, ◌<◌, ◌≤◌, Bool, true, false, cond, eqb, List, [], ◌∷◌, ◌++◌, length, get_or, take, refl, sym, ap, ◌∙◌, append_assoc, arith}
 use Rattle.std.specs.Int.{from_bool}
-use Rattle.std.proofs.Math.Nat.{div-one, pow-suc, add-zero, add-suc, mul-le-mul_right, pow-le-pow_right}
+use Rattle.std.proofs.Math.Nat.{mod-eq_of_lt, div-one, pow-suc, add-zero, add-suc, mul-le-mul_right, pow-le-pow_right}
 use Rattle.std.proofs.lemmas.Bool.{eqb-true, eqb-false}
 use Rattle.std.proofs.lemmas.List.{length-take, append-nil, take_more, ext_get_or}
 use Rattle.std.proofs.lemmas.Nat.{shr-shr, shr_high, mod-pow-add}
@@ -125,3 +125,11 @@ number-below list k h =
 pub number_is : (list : List Bool) (n width : ℕ) → length list ≡ width → n ≡ number list → (n < 2 ^ width) × (digits n width ≡ list)
 number_is list n width e is =
     (rw (is, ← e) (number-lt list), rw (is, ← e) (digits-number list))
+
+-- the number of a number's digits, where it fits them
+pub number_of-digits : (n width : ℕ) → n < 2 ^ width → number (digits n width) ≡ n
+number_of-digits n width h = number-digits n width ∙ mod-eq_of_lt h
+
+-- the digits of a list's number
+pub digits_of-number : (list : List Bool) (width : ℕ) → length list ≡ width → digits (number list) width ≡ list
+digits_of-number list width e = (number_is list (number list) width e refl).1

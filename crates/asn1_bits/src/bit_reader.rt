@@ -84,12 +84,14 @@ impl<'a> BitReader<'a> {
     pub fn split(&mut self, count: usize) -> Result<BitReader<'a>, usize>
         ensures short { IsErr result ↔ ((view_left self.old).len < count) }
         ensures enough { OnOk result (count ≤ (view_left self.old).len) }
+        ensures enough_bits { OnOk result (count ≤ length (bits_left self.old)) }
         ensures front { IfOk result (λ r. view_left r ≡ part (view_left self.old) 0 count) }
         ensures front_list { IfOk result (λ r. bits_left r ≡ take count (bits_left self.old)) }
         ensures rest { OnOk result
             (view_left self.new ≡ part (view_left self.old) count ((view_left self.old).len - count)) }
         ensures rest_list { OnOk result (bits_left self.new ≡ drop count (bits_left self.old)) }
         ensures lacks { IfErr result (λ n. (view_left self.old).len + n ≡ count) }
+        ensures lacks_bits { IfErr result (λ n. length (bits_left self.old) + n ≡ count) }
         ensures unchanged { OnErr result (view_left self.new ≡ view_left self.old) }
     {
         let len = self.view.len();
