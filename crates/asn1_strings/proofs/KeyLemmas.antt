@@ -1,5 +1,5 @@
 -- The first wrong key.
-use Rattle.std.proofs.Common.{◌≡◌, ℕ, suc, zero, ◌<◌, Bool, true, false, not, List, [], ◌∷◌, length, get_or, map, Option, Some, None, Result, Ok, Err, refl, ap, sym, ◌∙◌, arith}
+use Rattle.std.proofs.Common.{◌≡◌, ℕ, suc, ◌<◌, Bool, true, false, not, List, [], ◌∷◌, length, get_or, map, Option, Some, None, Result, Ok, Err, refl, ap, sym, ◌∙◌, arith}
 use Rattle.std.specs.Option.{option_map_or, unwrap_or}
 use Rattle.std.specs.List.{filter_map}
 use Rattle.std.proofs.lemmas.List.{length-map, get_or-map}

@@ -1,14 +1,13 @@
 -- The base sets and their ranges.
-use Rattle.std.proofs.Common.{◌≡◌, ℕ, suc, zero, ◌+◌, ◌-◌, ◌<◌, ◌≤◌, Bool, true, ◌&&◌, ◌||◌, eqb, leb, ltb, List, [], ◌∷◌, refl, ap, sym, ◌∙◌, arith}
+use Rattle.std.proofs.Common.{◌≡◌, ℕ, suc, zero, ◌+◌, ◌-◌, ◌<◌, ◌≤◌, Bool, true, ◌&&◌, leb, List, [], ◌∷◌, refl, ap, ◌∙◌, arith}
 use Rattle.std.proofs.Common.{length, max, lit≤, ◌^◌, get_or, false}
 use Rattle.std.specs.Prelude.{◌≢◌}
-use Rattle.std.specs.List.{list_any, flat_map, range_with_len, fold}
+use Rattle.std.specs.List.{flat_map, range_with_len, fold}
 use Rattle.std.proofs.lemmas.List.{length-append}
 use Rattle.std.proofs.lemmas.List.FromFn.{length-range_with_len}
 use Rattle.std.proofs.lemmas.List.Sums.{fold-append}
 use Rattle.std.proofs.lemmas.Bool.Decides.{nat_tests}
-use Rattle.std.proofs.lemmas.List.Folds.{list_any-append}
-use Rattle.asn1_strings.specs.Sets.{ranges_of, base_set, characters_between, has_character, largest, base_width, base_indexed, IsRange}
+use Rattle.asn1_strings.specs.Sets.{ranges_of, base_set, characters_between, largest, base_width, base_indexed, IsRange}
 use Rattle.asn1_strings.specs.Widths.{ceil_log2, least_from}
 use Rattle.asn1_strings.specs.SetLaws.{all_below}
 use Rattle.asn1_strings.specs.declared.character_set.CharacterSetName.{CharacterSetName}

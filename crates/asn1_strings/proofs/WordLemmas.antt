@@ -7,7 +7,7 @@ use Rattle.std.proofs.Common.{set}
 use Rattle.std.proofs.Math.Pow.{pow_mono}
 use Rattle.std.proofs.lemmas.List.{get_or-set_same, get_or-set_other}
 use Rattle.std.specs.Int.{bit_at}
-use Rattle.std.proofs.Common.{eqb, ◌||◌, ◌/◌, ◌%◌, ◌^◌, ◌*◌, length, get_or, bit_or, max}
+use Rattle.std.proofs.Common.{eqb, ◌||◌, ◌/◌, ◌%◌, ◌^◌, ◌*◌, length, get_or, bit_or}
 use Rattle.std.proofs.lemmas.Nat.Bits.{bit_at_or, bit_at-lt, bit_at-pow_same, bit_at-pow_other}
 use Rattle.asn1_strings.specs.Sets.{ranges_of, base_set, has_character}
 use Rattle.asn1_strings.specs.SetLaws.{lies_in, has_in_base, below_limit, all_below}
@@ -76,6 +76,7 @@ more_bit w n c = by_case (same_or_not n c)
   where
     same_or_not : (n c : ℕ) → (n ≡ c) ⊎ (n ≢ c)
     same_or_not n c = elim (cases_lt n c) [ inl lt ↦ inr (λ e. omega arith) | inr ge ↦ elim (cases_lt c n) [ inl lt ↦ inr (λ e. omega arith) | inr le ↦ inl (omega arith) ] ]
+
     by_case : (n ≡ c) ⊎ (n ≢ c) → (eqb (bit_at (bit_or w (2 ^ n)) c) 1) ≡ (eqb n c || eqb (bit_at w c) 1)
     by_case (inl same) =
         let one : bit_at (2 ^ n) c ≡ 1 = rw (sym same) (bit_at-pow_same n) in
@@ -101,8 +102,8 @@ words_with words n c within = by_case (cases_lt (n / 64) (c / 64))
         rw (get_or-set_other words (n / 64) (c / 64) (bit_or (get_or words (n / 64) 0) (2 ^ (n % 64))) 0 (λ e. omega arith), apart) refl
     by_case (inr le) = elim (cases_lt (c / 64) (n / 64)) [
       | inl lt ↦ (let apart : eqb n c ≡ false = grind (arith, nat_tests) in
-        rw (get_or-set_other words (n / 64) (c / 64) (bit_or (get_or words (n / 64) 0) (2 ^ (n % 64))) 0 (λ e. omega arith), apart) refl)
+          rw (get_or-set_other words (n / 64) (c / 64) (bit_or (get_or words (n / 64) 0) (2 ^ (n % 64))) 0 (λ e. omega arith), apart) refl)
       | inr ge ↦ (let same : c / 64 ≡ n / 64 = omega arith in
-        let tests : eqb n c ≡ eqb (n % 64) (c % 64) = grind (arith, nat_tests) in
-        rw (same, get_or-set_same words (n / 64) (bit_or (get_or words (n / 64) 0) (2 ^ (n % 64))) 0 within, tests) (more_bit (get_or words (n / 64) 0) (n % 64) (c % 64)))
+          let tests : eqb n c ≡ eqb (n % 64) (c % 64) = grind (arith, nat_tests) in
+          rw (same, get_or-set_same words (n / 64) (bit_or (get_or words (n / 64) 0) (2 ^ (n % 64))) 0 within, tests) (more_bit (get_or words (n / 64) 0) (n % 64) (c % 64)))
     ]

@@ -1,5 +1,5 @@
 -- The alphabets that characters are written in (X.691 30.5).
-use Rattle.std.specs.Prelude.{◌≡◌, ◌^◌, ◌<◌, ◌≤◌, ◌||◌, ℕ, Bool, true, List, length, max, Option, Some, None, Result, nat_le, nat_lt, slice_get, MatchBool, MatchResult, if◌then◌else◌}
+use Rattle.std.specs.Prelude.{◌≡◌, ◌^◌, ◌<◌, ◌||◌, ℕ, Bool, true, List, length, max, Option, Some, None, Result, nat_le, nat_lt, slice_get, MatchBool, MatchResult, if◌then◌else◌}
 use Rattle.std.specs.List.Sorted.{IsNonDecreasing}
 use Rattle.asn1_strings.specs.Widths.{ceil_log2, align, width_for}
 use Rattle.asn1_strings.specs.Sets.{base_set, base_width, base_indexed, has_character, largest}

@@ -1,12 +1,12 @@
 -- Laws of alphabets: codes and characters.
-use Rattle.std.proofs.Common.{◌≡◌, ℕ, ◌^◌, ◌<◌, ◌≤◌, Bool, true, false, leb, eqb, List, length, get_or, Some, refl, sym, ◌∙◌, arith, inl, inr}
+use Rattle.std.proofs.Common.{◌≡◌, ℕ, ◌^◌, ◌<◌, ◌≤◌, Bool, true, false, eqb, List, length, get_or, Some, refl, sym, ◌∙◌, arith, inl, inr}
 use Rattle.std.specs.Prelude.{◌≢◌}
 use Rattle.std.specs.List.{AllPairs, slice_get}
 use Rattle.std.proofs.lemmas.Bool.{cases_lt, false≢true}
 use Rattle.std.proofs.lemmas.Bool.Decides.{nat_tests}
 use Rattle.std.proofs.lemmas.Option.{slice_get_within, slice_get-get_or}
 use Rattle.std.proofs.lemmas.Map.Keys.{any_passes_from_place}
-use Rattle.asn1_strings.specs.Sets.{has_character, largest}
+use Rattle.asn1_strings.specs.Sets.{has_character}
 use Rattle.asn1_strings.specs.SetLaws.{not_above}
 use Rattle.asn1_strings.specs.Alphabet.{Alphabet, IsCode, is_indexed}
 

@@ -1,6 +1,6 @@
 -- Laws of the first character that a set lacks.
-use Rattle.std.proofs.Common.{◌≡◌, ℕ, suc, zero, ◌<◌, Bool, true, false, not, List, [], ◌∷◌, length, get_or, Option, Some, None, refl, ap, sym, arith}
-use Rattle.std.specs.List.{All, find, slice_get}
+use Rattle.std.proofs.Common.{◌≡◌, ℕ, suc, zero, ◌<◌, Bool, true, false, List, [], ◌∷◌, length, get_or, Option, Some, None, refl, sym, arith}
+use Rattle.std.specs.List.{slice_get}
 use Rattle.asn1_strings.specs.Sets.{has_character}
 use Rattle.asn1_strings.specs.Strings.{first_outside}
 

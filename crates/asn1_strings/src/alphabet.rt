@@ -52,10 +52,8 @@ impl<'s> CharacterAlphabet<'s> {
         aligned: bool,
     ) -> CharacterAlphabet<'s>
         requires { ForSome (option_copied permitted) (λ set. length set ≤ 2 ^ 32) }
-        ensures {
-            let set = option_copied permitted.entry in
-            alphabet_of result ≡ effective S.CHARACTER_SET_NAME set aligned
-        }
+        ensures { let set = option_copied permitted.entry in
+            alphabet_of result ≡ effective S.CHARACTER_SET_NAME set aligned }
     {
         let name = S::CHARACTER_SET_NAME;
         let permitted = kept_set(name, permitted, aligned);
@@ -98,15 +96,11 @@ impl<'s> CharacterAlphabet<'s> {
     ) -> Result<u32, PermittedAlphabetError>
         ensures code { Encodes (alphabet_of self.now) character result }
         ensures counts { probes.old.count ≤ probes.new.count }
-        ensures cost {
-            let set = (alphabet_of self.now).characters in
-            IsLongAscending set → probes.new.count ≤ probes.old.count + ceil_log2 (length set) + 1
-        }
-        ensures looked {
-            IsLongAscending (alphabet_of self.now).characters →
-                (alphabet_of self.now).indexed ≡ true →
-                OnOk result (probes.old.count + 1 ≤ probes.new.count)
-        }
+        ensures cost { let set = (alphabet_of self.now).characters in
+            IsLongAscending set → probes.new.count ≤ probes.old.count + ceil_log2 (length set) + 1 }
+        ensures looked { IsLongAscending (alphabet_of self.now).characters →
+            (alphabet_of self.now).indexed ≡ true →
+            OnOk result (probes.old.count + 1 ≤ probes.new.count) }
     {
         if self.indexed {
             match self.place_of(character, probes) {
@@ -141,14 +135,10 @@ impl<'s> CharacterAlphabet<'s> {
 
     /// Whether the set has a character twice. Where it has none, each character has one code.
     pub fn repeats(&self) -> bool
-        ensures twice {
-            let set = (alphabet_of self.now).characters in
-            MatchBool result (¬ (AllPairs (λ a b. a ≢ b) set)) (AllPairs (λ a b. a ≢ b) set)
-        }
-        ensures once {
-            result ≡ false → (c j k : ℕ) → IsCode (alphabet_of self.now) c j →
-                IsCode (alphabet_of self.now) c k → j ≡ k
-        }
+        ensures twice { let set = (alphabet_of self.now).characters in
+            MatchBool result (¬ (AllPairs (λ a b. a ≢ b) set)) (AllPairs (λ a b. a ≢ b) set) }
+        ensures once { result ≡ false → (c j k : ℕ) → IsCode (alphabet_of self.now) c j →
+            IsCode (alphabet_of self.now) c k → j ≡ k }
     {
         match self.permitted {
             Some(set) => repeats_in(set),
@@ -172,10 +162,8 @@ impl<'s> CharacterAlphabet<'s> {
     fn contains(&self, character: u32, probes: &mut Turns) -> bool
         ensures value { result ≡ has_character (alphabet_of self.now).characters character }
         ensures counts { probes.old.count ≤ probes.new.count }
-        ensures cost {
-            let set = (alphabet_of self.now).characters in
-            IsLongAscending set → probes.new.count ≤ probes.old.count + ceil_log2 (length set) + 1
-        }
+        ensures cost { let set = (alphabet_of self.now).characters in
+            IsLongAscending set → probes.new.count ≤ probes.old.count + ceil_log2 (length set) + 1 }
     {
         match self.words {
             Some(words) => character < 256 && words.contains(character),
@@ -189,20 +177,14 @@ impl<'s> CharacterAlphabet<'s> {
     // A place of the character.
     fn place_of(&self, character: u32, probes: &mut Turns) -> Option<u32>
         requires { self.now.indexed ≡ true }
-        ensures place {
-            let set = (alphabet_of self.now).characters in
+        ensures place { let set = (alphabet_of self.now).characters in
             MatchOption result (has_character set character ≡ false)
-                (λ k. slice_get set k ≡ Some character)
-        }
+            (λ k. slice_get set k ≡ Some character) }
         ensures counts { probes.old.count ≤ probes.new.count }
-        ensures cost {
-            let set = (alphabet_of self.now).characters in
-            IsLongAscending set → probes.new.count ≤ probes.old.count + ceil_log2 (length set) + 1
-        }
-        ensures looked {
-            IsLongAscending (alphabet_of self.now).characters →
-                OnSome result (probes.old.count + 1 ≤ probes.new.count)
-        }
+        ensures cost { let set = (alphabet_of self.now).characters in
+            IsLongAscending set → probes.new.count ≤ probes.old.count + ceil_log2 (length set) + 1 }
+        ensures looked { IsLongAscending (alphabet_of self.now).characters →
+            OnSome result (probes.old.count + 1 ≤ probes.new.count) }
     {
         match self.permitted {
             Some(set) => place_among(set, self.sorted, character, probes),
@@ -226,18 +208,12 @@ fn place_among(set: &[u32], sorted: bool, character: u32, probes: &mut Turns) ->
     requires few { length set.now ≤ 2 ^ 32 }
     requires rises { sorted ≡ true → IsNonDecreasing set.now }
     requires falls { sorted ≡ false → ¬ (IsNonDecreasing set.now) }
-    ensures place {
-        MatchOption result (has_character set.now character ≡ false)
-            (λ k. slice_get set.now k ≡ Some character)
-    }
+    ensures place { MatchOption result (has_character set.now character ≡ false)
+        (λ k. slice_get set.now k ≡ Some character) }
     ensures counts { probes.old.count ≤ probes.new.count }
-    ensures cost {
-        IsLongAscending set.now →
-            probes.new.count ≤ probes.old.count + ceil_log2 (length set.now) + 1
-    }
-    ensures looked {
-        IsLongAscending set.now → OnSome result (probes.old.count + 1 ≤ probes.new.count)
-    }
+    ensures cost { IsLongAscending set.now →
+        probes.new.count ≤ probes.old.count + ceil_log2 (length set.now) + 1 }
+    ensures looked { IsLongAscending set.now → OnSome result (probes.old.count + 1 ≤ probes.new.count) }
 {
     if sorted && set.len() > 64 {
         let place = find_ascending(&set, character, probes)?;
@@ -289,9 +265,7 @@ fn largest_in(name: CharacterSetName, kept: Option<&[u32]>) -> u32
 // Whether a permitted set that was kept never falls.
 fn is_sorted(name: CharacterSetName, kept: Option<&[u32]>) -> bool
     ensures rises { result ≡ true → IsNonDecreasing (set_of name kept.entry) }
-    ensures falls {
-        result ≡ false → is_some kept.entry ≡ true → ¬ (IsNonDecreasing (set_of name kept.entry))
-    }
+    ensures falls { result ≡ false → is_some kept.entry ≡ true → ¬ (IsNonDecreasing (set_of name kept.entry)) }
 {
     match kept {
         Some(set) => is_ascending(set),

@@ -48,10 +48,8 @@ impl CharacterWords {
     // These words with the bit of one more character.
     fn with(self, character: u32) -> CharacterWords
         requires { character < 256 }
-        ensures {
-            (c : ℕ) → c < 256 →
-                in_words result.words c ≡ (character == c || in_words self.words c)
-        }
+        ensures { (c : ℕ) → c < 256 →
+            in_words result.words c ≡ (character == c || in_words self.words c) }
     {
         let mut words = self.words;
         let place = (character / 64) as usize;

@@ -75,10 +75,8 @@ struct KeyedPieces<'a, M: Keys> {
 }
 
 impl<'a, M: Keys> Characters for KeyedPieces<'a, M> {
-    ghost list = {
-        λ s. map_of (λ k. unwrap_or ((M.key_map s.map.now).get k) 0)
-            (map_of number (pieces s.keys.width (bits_of s.keys.bits)))
-    };
+    ghost list = { λ s. map_of (λ k. unwrap_or ((M.key_map s.map.now).get k) 0)
+        (map_of number (pieces s.keys.width (bits_of s.keys.bits))) };
 
     fn count(&self) -> usize {
         self.keys.count()
@@ -95,11 +93,9 @@ fn string_at_keys<'a, S: StaticPermittedAlphabet, M: Keys>(
     keys: BitPieces<'a>,
     map: &'a M,
 ) -> Result<S, PermittedAlphabetError>
-    ensures {
-        let numbers = map_of number (pieces keys.entry.width (bits_of keys.entry.bits)) in
+    ensures { let numbers = map_of number (pieces keys.entry.width (bits_of keys.entry.bits)) in
         Answers S.characters result
-            (string_of_keys S.CHARACTER_SET_NAME (M.key_map map.now).get numbers)
-    }
+        (string_of_keys S.CHARACTER_SET_NAME (M.key_map map.now).get numbers) }
 {
     for i in 0..keys.count() {
         let key = keys.character(i);
@@ -124,10 +120,8 @@ pub(crate) fn string_of_bits_in<'a, S: StaticPermittedAlphabet, M: Keys>(
     map: &'a M,
 ) -> Result<S, PermittedAlphabetError>
     requires { (M.key_map map.now).count ≤ 2 ^ 32 }
-    ensures {
-        Answers S.characters result
-            (string_of_map S.CHARACTER_SET_NAME (M.key_map map.now) (bits_of input.entry))
-    }
+    ensures { Answers S.characters result
+        (string_of_map S.CHARACTER_SET_NAME (M.key_map map.now) (bits_of input.entry)) }
 {
     let width = ceil_log2(map.count());
     if width == 0 || input.len() % width as usize != 0 {

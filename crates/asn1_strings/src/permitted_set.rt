@@ -17,10 +17,8 @@ pub(crate) fn largest_of(set: &[u32]) -> u32
 // A place of the character.
 pub(crate) fn place_in(set: &[u32], character: u32) -> Option<u32>
     requires { length set.now ≤ 2 ^ 32 }
-    ensures {
-        MatchOption result (has_character set.now character ≡ false)
-            (λ k. slice_get set.now k ≡ Some character)
-    }
+    ensures { MatchOption result (has_character set.now character ≡ false)
+        (λ k. slice_get set.now k ≡ Some character) }
 {
     for (i, candidate) in set.iter().enumerate() {
         if *candidate == character {
@@ -32,9 +30,7 @@ pub(crate) fn place_in(set: &[u32], character: u32) -> Option<u32>
 
 // Whether the list has a character twice.
 pub(crate) fn repeats_in(set: &[u32]) -> bool
-    ensures {
-        MatchBool result (¬ (AllPairs (λ a b. a ≢ b) set.now)) (AllPairs (λ a b. a ≢ b) set.now)
-    }
+    ensures { MatchBool result (¬ (AllPairs (λ a b. a ≢ b) set.now)) (AllPairs (λ a b. a ≢ b) set.now) }
 {
     for i in 0..set.len() {
         let rest = &set[i + 1..];

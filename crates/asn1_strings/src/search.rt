@@ -37,21 +37,13 @@ impl Entries for &[u32] {
 
 /// A place of the character in a list that never falls, and None where the list lacks it. It makes at
 /// most as many probes as the list's count has binary digits, and one more.
-pub fn find_ascending<L: Entries>(
-    entries: &L,
-    character: u32,
-    probes: &mut Turns,
-) -> Option<usize>
+pub fn find_ascending<L: Entries>(entries: &L, character: u32, probes: &mut Turns) -> Option<usize>
     requires { IsNonDecreasing (L.list entries.now) }
-    ensures place {
-        MatchOption result (has_character (L.list entries.now) character ≡ false)
-            (λ k. slice_get (L.list entries.now) k ≡ Some character)
-    }
+    ensures place { MatchOption result (has_character (L.list entries.now) character ≡ false)
+        (λ k. slice_get (L.list entries.now) k ≡ Some character) }
     ensures looked { OnSome result (probes.old.count + 1 ≤ probes.new.count) }
     ensures counts { probes.old.count ≤ probes.new.count }
-    ensures cost {
-        probes.new.count ≤ probes.old.count + ceil_log2 (length (L.list entries.now)) + 1
-    }
+    ensures cost { probes.new.count ≤ probes.old.count + ceil_log2 (length (L.list entries.now)) + 1 }
 {
     let mut low = 0;
     let mut high = entries.count();

@@ -178,10 +178,8 @@ pub trait StaticPermittedAlphabet: Sized + Drop {
         width: usize,
     ) -> Result<Self, PermittedAlphabetError>
         requires { width ≤ 32 }
-        ensures {
-            let bits = bits_of input.entry in
-            Answers characters result (string_of_bits CHARACTER_SET_NAME width bits)
-        }
+        ensures { let bits = bits_of input.entry in
+            Answers characters result (string_of_bits CHARACTER_SET_NAME width bits) }
     {
         if width == 0 || input.len() % width != 0 {
             return Err(PermittedAlphabetError::InvalidData {
@@ -203,11 +201,9 @@ pub trait StaticPermittedAlphabet: Sized + Drop {
         alphabet: Option<&BTreeMap<u32, u32>>,
     ) -> Result<Self, PermittedAlphabetError>
         requires { ForSome (option_copied alphabet) (λ m. btree_map_len m ≤ 2 ^ 31) }
-        ensures {
-            let map = option_copied alphabet.entry in
+        ensures { let map = option_copied alphabet.entry in
             let bits = bits_of input.entry in
-            Answers characters result (string_of_alphabet CHARACTER_SET_NAME map bits)
-        }
+            Answers characters result (string_of_alphabet CHARACTER_SET_NAME map bits) }
     {
         match alphabet {
             Some(map) => string_of_bits_in::<Self, &BTreeMap<u32, u32>>(alloc, input, &map),

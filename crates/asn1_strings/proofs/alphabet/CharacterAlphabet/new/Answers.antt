@@ -3,7 +3,7 @@ use Rattle.asn1_strings.proofs.AlphabetLemmas.{few_places}
 use Rattle.asn1_strings.proofs.alphabet.CharacterAlphabet.new.Goals as goal
 
 pub invariant_of-result : goal.invariant_of-result
-invariant_of-result g c = 
+invariant_of-result g c =
     record {
       known = record {
         narrow = c.width_for-width.ensures.bound;

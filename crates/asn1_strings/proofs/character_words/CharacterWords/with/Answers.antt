@@ -1,4 +1,4 @@
-use Rattle.std.proofs.Common.{◌≡◌, ◌*◌, ◌%◌, ◌^◌, sym, ◌∙◌, arith}
+use Rattle.std.proofs.Common.{◌≡◌, ◌*◌, ◌%◌, ◌^◌, arith}
 use Rattle.asn1_strings.proofs.WordLemmas.{words_with, one_bit}
 use Rattle.asn1_strings.proofs.character_words.CharacterWords.with.Goals as goal
 
