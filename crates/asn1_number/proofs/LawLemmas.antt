@@ -1,9 +1,9 @@
 -- The laws of `specs/Laws`, and each of them in the form that a proof cites.
-use Rattle.asn1_number.specs.Octets.{IsShortest, signed}
+use Rattle.asn1_number.specs.Octets.{signed}
 use Rattle.asn1_number.specs.Shortest.{shortest_octets}
-use Rattle.asn1_number.specs.Readings.{IntegerKind, SignedOf, UnsignedOf, Unbounded, IsInRange, signed_reading}
-use Rattle.asn1_number.specs.Laws.{EachNumberHasOneShortestList, ShortestByNineBits, ShortestKeepOrder, HasOctets, ShortestAreReadBack}
-use Rattle.asn1_number.proofs.OctetLemmas.{shortest_once, nine_bits_from_shortest, shortest_from_nine_bits, shortest_order}
+use Rattle.asn1_number.specs.Readings.{SignedOf, UnsignedOf, Unbounded}
+use Rattle.asn1_number.specs.Laws.{EachNumberHasOneShortestList, ShortestByNineBits, ShortestKeepOrder, ShortestAreReadBack}
+use Rattle.asn1_number.proofs.OctetLemmas.{nine_bits_from_shortest, shortest_from_nine_bits, shortest_order}
 use Rattle.asn1_number.proofs.ShortestLemmas.{shortest_octets_are, shortest_octets_only}
 use Rattle.asn1_number.proofs.ReadingLemmas.{signed_law, unsigned_law, unbounded_law}
 

@@ -1,14 +1,14 @@
 -- Lemmas on what the types read.
-use Rattle.std.proofs.Common.{◌≡◌, ℕ, zero, suc, ◌+◌, ◌-◌, ◌*◌, ◌^◌, ◌<◌, ◌≤◌, ◌≤ℤ◌, ℤ, pos, neg_ℤ, List, [], ◌∷◌, length, get_or, drop, refl, sym, ap, subst, ◌∙◌, arith, ⊎_elim, ◌⊎◌, inl, inr, Ok}
+use Rattle.std.proofs.Common.{◌≡◌, ℕ, zero, suc, ◌+◌, ◌-◌, ◌*◌, ◌^◌, ◌<◌, ◌≤◌, ℤ, pos, neg_ℤ, List, [], ◌∷◌, length, get_or, drop, refl, sym, ap, subst, ◌∙◌, arith, ⊎_elim, ◌⊎◌, inl, inr, Ok}
 use Rattle.std.proofs.Math.Nat.{pow-le-pow_right, pow-suc, mul-le-mul_right}
-use Rattle.std.proofs.lemmas.Bool.{cond-true, cond-false, lt-ltb, le-ltb, le-leb, lt-leb, eq-eqb, ne_eqb, cases_lt}
+use Rattle.std.proofs.lemmas.Bool.{cond-true, cond-false, le-ltb, lt-leb, eq-eqb, ne_eqb, cases_lt}
 use Rattle.std.proofs.lemmas.Nat.{pow-add}
 use lib.Dec.{ltb, leb, eqb}
 use borrow.Author.Differences.{up, down, lt_out, le_out, neg_is, at_most_in, below_in}
 use Rattle.asn1_number.specs.Octets.{IsOctets, unsigned, signed, IsShortest}
 use Rattle.asn1_number.specs.Order.{NineBitsDiffer}
 use Rattle.asn1_number.specs.Readings.{SignedOf, UnsignedOf, Unbounded, IsInRange, signed_reading, counted_length}
-use Rattle.asn1_number.proofs.OctetLemmas.{signed_outside, one_part, low_parts, high_parts, signed_low, signed_range, unsigned-cons, unsigned_below, unsigned-zero_first, nine_bits_from_shortest, shortest_from_nine_bits}
+use Rattle.asn1_number.proofs.OctetLemmas.{signed_outside, one_part, low_parts, high_parts, signed_low, unsigned-cons, unsigned_below, unsigned-zero_first, nine_bits_from_shortest, shortest_from_nine_bits}
 
 -- more than sixteen octets with none to spare lie outside `i128`
 pub past_sixteen : (o : List ℕ) → IsOctets o → NineBitsDiffer o → 16 < length o → IsInRange (SignedOf 16) (signed o) → ⊥

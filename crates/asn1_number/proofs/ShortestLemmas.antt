@@ -1,11 +1,11 @@
 -- Each number has shortest octets.
-use Rattle.std.proofs.Common.{◌≡◌, ℕ, zero, suc, ◌+◌, ◌-◌, ◌*◌, ◌^◌, ◌<◌, ◌≤◌, ℤ, pos, negsuc, List, [], ◌∷◌, length, sym, ap, subst, ◌∙◌, arith, ⊎_elim, zero-add}
+use Rattle.std.proofs.Common.{◌≡◌, ℕ, zero, suc, ◌+◌, ◌-◌, ◌*◌, ◌^◌, ◌<◌, ◌≤◌, ℤ, pos, negsuc, List, [], ◌∷◌, length, ap, subst, ◌∙◌, arith, ⊎_elim, zero-add}
 use Rattle.std.specs.Prelude.{nat_le}
 use Rattle.std.specs.List.{prefix_len, range_with_len}
 use Rattle.std.proofs.lemmas.Bool.{cases_lt, cond-true, cond-false, lt-ltb, le-ltb, le-leb, lt-leb}
 use Rattle.std.specs.Int.{bytes_high_first}
 use mir.Val.{sel}
-use lib.Dec.{ltb, leb}
+use lib.Dec.{leb}
 use lib.Signed.{mag}
 use borrow.Author.Differences.{up, down, mag_is}
 use Rattle.asn1_number.specs.Octets.{IsOctets, signed, IsShortest}

@@ -1,5 +1,5 @@
 -- Lemmas on octets and the numbers of the machine's types.
-use Rattle.std.proofs.Common.{◌≡◌, ℕ, zero, suc, ◌+◌, ◌-◌, ◌*◌, ◌/◌, ◌%◌, ◌^◌, ◌<◌, ◌≤◌, ℤ, pos, negsuc, ◌-ℤ◌, ◌+ℤ◌, ◌*ℤ◌, List, [], ◌∷◌, ◌++◌, length, get_or, take, drop, refl, sym, ap, subst, ◌∙◌, arith, ⊎_elim, cond, true, false, Bool, length-append, length-take, to_z-of_z}
+use Rattle.std.proofs.Common.{◌≡◌, ℕ, zero, suc, ◌+◌, ◌-◌, ◌*◌, ◌/◌, ◌%◌, ◌^◌, ◌<◌, ◌≤◌, ℤ, pos, negsuc, ◌+ℤ◌, ◌*ℤ◌, List, [], ◌∷◌, ◌++◌, length, get_or, take, refl, sym, ap, subst, ◌∙◌, arith, ⊎_elim, true, false, length-append, length-take, to_z-of_z}
 use Rattle.std.proofs.Math.Nat.{pow-suc, mul-le-mul_right, pow-le-pow_right, div-add-mod', div-div-eq-div-mul, div-one, div-eq_of_lt}
 use Rattle.std.proofs.lemmas.List.{take_more}
 use Rattle.std.proofs.lemmas.Nat.{mul-add-lt, mod_below}
@@ -10,7 +10,7 @@ use mir.Val.{SFits, of_z, to_z, sel}
 use lib.Dec.{ltb}
 use borrow.Author.Differences.{up, down, sum_is_lem, product_is, same_in}
 use Rattle.asn1_number.specs.Octets.{IsOctets, unsigned, signed}
-use Rattle.asn1_number.proofs.OctetLemmas.{unsigned-cons, unsigned_nil, unsigned_below, low_parts, high_parts, signed_low, signed_high, signed_range, power_step, octets_from_places}
+use Rattle.asn1_number.proofs.OctetLemmas.{unsigned-cons, unsigned_nil, unsigned_below, low_parts, high_parts, signed_low, signed_range, power_step, octets_from_places}
 
 -- ---- one octet more at the end
 

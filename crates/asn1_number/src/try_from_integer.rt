@@ -1,8 +1,9 @@
 ghost use Rattle.std.specs.Prelude.{◌≡◌, pos, Some, codes, IfOk, OnErr};
 ghost use Rattle.asn1_number.specs.Conversions.{Converts};
 ghost use Rattle.asn1_number.specs.Readings.{FitsI128};
-ghost use Rattle.asn1_number.specs.Readings.{kind_u8, kind_i8, kind_u16, kind_i16, kind_u32, kind_i32};
-ghost use Rattle.asn1_number.specs.Readings.{kind_u64, kind_i64, kind_u128, kind_i128, kind_usize, kind_isize};
+ghost use Rattle.asn1_number.specs.Readings.{kind_u8, kind_u16, kind_u32, kind_u64};
+ghost use Rattle.asn1_number.specs.Readings.{kind_i8, kind_i16, kind_i32, kind_i64};
+ghost use Rattle.asn1_number.specs.Readings.{kind_u128, kind_i128, kind_usize, kind_isize};
 
 use crate::integer::Integer;
 use std::alloc::AllocError;
@@ -52,7 +53,8 @@ impl TryFromIntegerError {
 }
 
 impl fmt::Display for TryFromIntegerError {
-    ghost output = { λ _. Some (codes "out of range conversion regarding integer conversion attempted") };
+    ghost output = { λ _.
+        Some (codes "out of range conversion regarding integer conversion attempted") };
 
     fn fmt<W: fmt::Write>(&self, f: &mut fmt::Formatter<W>) -> fmt::Result {
         write!(
