@@ -11,6 +11,9 @@ abbrev pub IsWithin : ℤ → ℤ → ℤ → Type 0
 IsWithin start end n = (start ≤ℤ n) × (n ≤ℤ end)
 
 -- n is kept where it lies from start to end, and is handed back where it does not
-abbrev pub AcceptsFrom : {START END : ℕ} → ℤ → ℤ → ℤ → Result (ConstrainedInteger START END) ℤ → Type 0
+abbrev pub AcceptsFrom : {START END : ℕ} →
+    ℤ → ℤ → ℤ → Result (ConstrainedInteger START END) ℤ → Type 0
 AcceptsFrom start end n r =
-    MatchResult r (λ c. (constrained_number c ≡ n) × IsWithin start end n) (λ refused. (refused ≡ n) × ¬ (IsWithin start end n))
+    MatchResult r
+    (λ c. (constrained_number c ≡ n) × IsWithin start end n)
+    (λ refused. (refused ≡ n) × ¬ (IsWithin start end n))

@@ -5,4 +5,6 @@ use Rattle.asn1_number.specs.Readings.{IntegerKind, IsInRange}
 -- n is converted where the type holds it, and is handed back where it does not
 abbrev pub Converts : {T : Type 0} → IntegerKind → (T → ℤ) → ℤ → Result T ℤ → Type 0
 Converts kind value n r =
-    MatchResult r (λ x. (value x ≡ n) × IsInRange kind n) (λ refused. (refused ≡ n) × ¬ (IsInRange kind n))
+    MatchResult r
+    (λ x. (value x ≡ n) × IsInRange kind n)
+    (λ refused. (refused ≡ n) × ¬ (IsInRange kind n))

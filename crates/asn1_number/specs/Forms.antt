@@ -9,7 +9,8 @@ abbrev pub number_in : Form → ℤ
 number_in (Inline z) = z
 number_in (Shortest v) = signed v.items
 
--- a number has one form: octets only where it lies outside `i128`, and then its shortest ones, more than sixteen
+-- a number has one form: octets only where it lies outside `i128`, and then its shortest ones,
+-- more than sixteen
 abbrev pub IsOneForm : Form → Type 0
 IsOneForm (Inline z) = ⊤
 IsOneForm (Shortest v) = IsShortest (signed v.items) v.items × (16 < length v.items)

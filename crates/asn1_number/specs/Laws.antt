@@ -10,8 +10,8 @@ abbrev pub EachNumberHasOneShortestList : Type 0
 EachNumberHasOneShortestList =
     (n : ℤ) → (o : List ℕ) × IsShortest n o × ((other : List ℕ) → IsShortest n other → other ≡ o)
 
--- octets are shortest for a number exactly where the eight bits of the first and bit 8 of the second are not all
--- alike (X.690 8.3.2); one octet always is
+-- octets are shortest for a number exactly where the eight bits of the first and bit 8 of the
+-- second are not all alike (X.690 8.3.2); one octet always is
 abbrev pub ShortestByNineBits : Type 0
 ShortestByNineBits =
     (o : List ℕ) → IsOctets o → 0 < length o → IsShortest (signed o) o ↔ NineBitsDiffer o

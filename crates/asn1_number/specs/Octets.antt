@@ -15,18 +15,24 @@ unsigned (b ∷ bs) = b * 256 ^ length bs + unsigned bs
 unfoldable pub signed : List ℕ → ℤ
 signed [] = pos 0
 signed (b ∷ bs) =
-    if nat_lt b 128 then pos (unsigned (b ∷ bs)) else pos (unsigned (b ∷ bs)) -ℤ pos (256 ^ length (b ∷ bs))
+    if nat_lt b 128
+    then pos (unsigned (b ∷ bs))
+    else pos (unsigned (b ∷ bs)) -ℤ pos (256 ^ length (b ∷ bs))
 
 -- o is the two's complement contents of n: its value is n, and no shorter list has that value
 pub record IsShortest (n : ℤ) (o : List ℕ) : Type 0 where
   pub octets : IsOctets o
   pub some : 0 < length o
   pub value : signed o ≡ n
-  pub least : (other : List ℕ) → IsOctets other → 0 < length other → signed other ≡ n → length o ≤ length other
+  pub least :
+      (other : List ℕ) → IsOctets other → 0 < length other → signed other ≡ n →
+      length o ≤ length other
 
 -- o spells n without a sign: its positional sum is n, and no shorter list has that sum
 pub record IsShortestUnsigned (n : ℕ) (o : List ℕ) : Type 0 where
   pub octets : IsOctets o
   pub some : 0 < length o
   pub value : unsigned o ≡ n
-  pub least : (other : List ℕ) → IsOctets other → 0 < length other → unsigned other ≡ n → length o ≤ length other
+  pub least :
+      (other : List ℕ) → IsOctets other → 0 < length other → unsigned other ≡ n →
+      length o ≤ length other

@@ -4,7 +4,7 @@ use Rattle.asn1_number.specs.declared.error.IntegerError.{IntegerError}
 use Rattle.asn1_number.specs.declared.error.IntegerError.TheVariants.{UnexpectedEmptyInput, Overflow, TypeConversionFailed, Memory}
 use Rattle.asn1_number.specs.Octets.{unsigned, signed}
 
--- A type of integers: the native signed or unsigned type of so many octets, or `Integer`, of any size.
+-- A type of integers: the native signed or unsigned type of so many octets, or `Integer`.
 pub data IntegerKind : Type 0 where
   SignedOf : ℕ → IntegerKind
   UnsignedOf : ℕ → IntegerKind
@@ -18,7 +18,8 @@ width_of Unbounded = 4294967295
 
 -- n is a value of the type
 abbrev pub IsInRange : IntegerKind → ℤ → Type 0
-IsInRange (SignedOf size) n = (neg_ℤ (pos (2 ^ (8 * size - 1))) ≤ℤ n) × (n <ℤ pos (2 ^ (8 * size - 1)))
+IsInRange (SignedOf size) n =
+    (neg_ℤ (pos (2 ^ (8 * size - 1))) ≤ℤ n) × (n <ℤ pos (2 ^ (8 * size - 1)))
 IsInRange (UnsignedOf size) n = (pos 0 ≤ℤ n) × (n <ℤ pos (2 ^ (8 * size)))
 IsInRange Unbounded n = ⊤
 
@@ -72,11 +73,15 @@ counted_length (b ∷ bs) = if nat_eq b 0 then length bs else length (b ∷ bs)
 unfoldable pub signed_reading : IntegerKind → List ℕ → Result ℤ IntegerError
 signed_reading kind [] = Err UnexpectedEmptyInput
 signed_reading (SignedOf size) (b ∷ bs) =
-    if nat_lt size (length (b ∷ bs)) then Err (Overflow (width_of (SignedOf size))) else Ok (signed (b ∷ bs))
+    if nat_lt size (length (b ∷ bs))
+    then Err (Overflow (width_of (SignedOf size)))
+    else Ok (signed (b ∷ bs))
 signed_reading (UnsignedOf size) (b ∷ bs) =
     if nat_le 128 b
     then Err (TypeConversionFailed (width_of (UnsignedOf size)))
-    else (if nat_lt size (counted_length (b ∷ bs)) then Err (Overflow (width_of (UnsignedOf size))) else Ok (signed (b ∷ bs)))
+    else (if nat_lt size (counted_length (b ∷ bs))
+    then Err (Overflow (width_of (UnsignedOf size)))
+    else Ok (signed (b ∷ bs)))
 signed_reading Unbounded (b ∷ bs) = Ok (signed (b ∷ bs))
 
 -- what each type reads from octets without a sign
@@ -85,9 +90,13 @@ unsigned_reading kind [] = Err UnexpectedEmptyInput
 unsigned_reading (SignedOf size) (b ∷ bs) =
     if nat_lt size (length (b ∷ bs))
     then Err (Overflow (width_of (SignedOf size)))
-    else (if nat_lt (unsigned (b ∷ bs)) (2 ^ (width_of (SignedOf size) - 1)) then Ok (pos (unsigned (b ∷ bs))) else Err (TypeConversionFailed (width_of (SignedOf size))))
+    else (if nat_lt (unsigned (b ∷ bs)) (2 ^ (width_of (SignedOf size) - 1))
+    then Ok (pos (unsigned (b ∷ bs)))
+    else Err (TypeConversionFailed (width_of (SignedOf size))))
 unsigned_reading (UnsignedOf size) (b ∷ bs) =
-    if nat_lt size (length (b ∷ bs)) then Err (Overflow (width_of (UnsignedOf size))) else Ok (pos (unsigned (b ∷ bs)))
+    if nat_lt size (length (b ∷ bs))
+    then Err (Overflow (width_of (UnsignedOf size)))
+    else Ok (pos (unsigned (b ∷ bs)))
 unsigned_reading Unbounded (b ∷ bs) = Ok (pos (unsigned (b ∷ bs)))
 
 -- want of memory is answered by `Integer` alone, for a number outside `i128`
@@ -96,9 +105,11 @@ MayWantMemory Unbounded (Ok n) = ¬ (FitsI128 n)
 MayWantMemory kind reading = ⊥
 
 -- what a call answered, seen by value, is the reading, unless memory ran out where it may
-abbrev pub Answers : {T : Type 0} → IntegerKind → (T → ℤ) → Result T IntegerError → Result ℤ IntegerError → Type 0
+abbrev pub Answers : {T : Type 0} →
+    IntegerKind → (T → ℤ) → Result T IntegerError → Result ℤ IntegerError → Type 0
 Answers kind value (Ok x) reading = reading ≡ Ok (value x)
 Answers kind value (Err UnexpectedEmptyInput) reading = reading ≡ Err UnexpectedEmptyInput
 Answers kind value (Err (Overflow bits)) reading = reading ≡ Err (Overflow bits)
-Answers kind value (Err (TypeConversionFailed bits)) reading = reading ≡ Err (TypeConversionFailed bits)
+Answers kind value (Err (TypeConversionFailed bits)) reading =
+    reading ≡ Err (TypeConversionFailed bits)
 Answers kind value (Err Memory) reading = MayWantMemory kind reading
