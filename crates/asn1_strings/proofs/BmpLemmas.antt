@@ -13,6 +13,7 @@ use Rattle.asn1_strings.specs.declared.character_set.CharacterSetName.TheVariant
 
 -- the number of a character's two octets
 pair_number : (c : ℕ) → c < 65536 → unsigned (to_be_bytes w16 c) ≡ c
+unfolding unsigned
 pair_number c lt = omega arith
 
 numbers : (cs : List ℕ) → ((k : ℕ) → k < length cs → get_or cs k 0 < 65536) → map unsigned (pieces 2 (flat_map (to_be_bytes w16) cs)) ≡ cs

@@ -1,11 +1,29 @@
 -- Pieces, and the numbers that they spell.
-use Rattle.std.proofs.Common.{◌≡◌, ℕ, ◌+◌, ◌*◌, ◌/◌, ◌^◌, ◌<◌, ◌≤◌, List, [], length, get_or, map, ap, ◌∙◌, arith}
+use Rattle.std.proofs.Common.{◌≡◌, ℕ, suc, ◌+◌, ◌*◌, ◌/◌, ◌^◌, ◌<◌, ◌≤◌, List, [], ◌∷◌, length, get_or, map, ap, ◌∙◌, arith}
+use Rattle.std.specs.List.{fold}
+use Rattle.std.proofs.Math.Nat.{pow-succ'}
 use Rattle.std.proofs.Math.Pow.{pow_mono}
 use Rattle.std.proofs.lemmas.Nat.{pow-add}
 use Rattle.std.proofs.lemmas.List.{length-map, get_or-map}
 use Rattle.std.proofs.lemmas.List.FromFn.{get_or-map-range_with_len}
-use Rattle.asn1_strings.specs.Pieces.{piece, pieces}
+use Rattle.asn1_strings.specs.Pieces.{piece, pieces, unsigned}
 use Rattle.asn1_strings.specs.PieceLaws.{length-pieces}
+
+-- the number of octets, gathered from the first on
+abbrev pub gathered : List ℕ → ℕ
+gathered octets = fold (λ n octet. 256 * n + octet) 0 octets
+
+gathered_from : (octets : List ℕ) (m : ℕ) → fold (λ n octet. 256 * n + octet) m octets ≡ m * 256 ^ length octets + unsigned octets
+unfolding unsigned
+gathered_from [] m = omega arith
+gathered_from (b ∷ bs) m =
+    let rest = gathered_from bs (256 * m + b) in
+    let power : 256 ^ suc (length bs) ≡ 256 * 256 ^ length bs = pow-succ' 256 (length bs) in
+    rest ∙ rw power (omega arith)
+
+-- it is their positional sum
+pub unsigned-gathered : (octets : List ℕ) → gathered octets ≡ unsigned octets
+unsigned-gathered octets = gathered_from octets 0 ∙ omega arith
 
 -- one more octet
 pub octet_step : (i n octet : ℕ) → n < 2 ^ (8 * i) → octet < 256 → 256 * n + octet < 2 ^ (8 * (i + 1))

@@ -1,5 +1,5 @@
 -- Lists that are cut into parts of one length, and the numbers that octets spell.
-use Rattle.std.specs.Prelude.{◌+◌, ◌*◌, ◌/◌, ℕ, List, length, map, fold, take, drop}
+use Rattle.std.specs.Prelude.{◌+◌, ◌*◌, ◌/◌, ◌^◌, ℕ, List, [], ◌∷◌, length, map, take, drop}
 use Rattle.std.specs.List.{range_with_len}
 
 -- the piece at a place, where each piece has w elements
@@ -10,6 +10,7 @@ piece w xs i = take w (drop (i * w) xs)
 abbrev pub pieces : {X : Type 0} → ℕ → List X → List (List X)
 pieces w xs = map (piece w xs) (range_with_len 0 (length xs / w))
 
--- the number of octets, most significant first
-abbrev pub unsigned : List ℕ → ℕ
-unsigned octets = fold (λ n octet. 256 * n + octet) 0 octets
+-- the number of octets, most significant first: their positional sum to base 256
+unfoldable pub unsigned : List ℕ → ℕ
+unsigned [] = 0
+unsigned (b ∷ bs) = b * 256 ^ length bs + unsigned bs

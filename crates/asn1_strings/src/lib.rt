@@ -54,3 +54,6 @@ pub use visible_string::{Visible, VisibleString};
 
 /// A `UTF8String` (X.680 41): any text.
 pub type Utf8String = String;
+
+#[cfg(test)]
+mod tests;

@@ -1,6 +1,7 @@
-use Rattle.std.proofs.Common.{◌<◌, ◌*◌, ◌+◌, arith}
+use Rattle.std.proofs.Common.{◌<◌, ◌*◌, ◌+◌, ap, ◌∙◌, arith}
+use Rattle.std.proofs.lemmas.List.{take_all}
 use Rattle.std.proofs.lemmas.List.Sums.{fold_more}
-use Rattle.asn1_strings.proofs.PieceLemmas.{octet_fits, octet_step}
+use Rattle.asn1_strings.proofs.PieceLemmas.{gathered, unsigned-gathered, octet_fits, octet_step}
 use Rattle.asn1_strings.proofs.pieces.unsigned_of.Goals as goal
 
 pub overflow_mul-n : goal.overflow_mul-n
@@ -21,3 +22,8 @@ loop-octet-preserved c =
       cc,
       octet_step c.loop-octet.octet-index c.loop-octet.n c.from.result c.loop-octet.invariant.1 small,
     )
+
+pub returns : goal.returns
+returns c =
+    let octets = c.args.octets.now in
+    c.loop-octet.invariant.0 ∙ ap gathered (take_all c.loop-octet.octet-index octets (omega arith)) ∙ unsigned-gathered octets

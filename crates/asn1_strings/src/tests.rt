@@ -1,0 +1,8 @@
+//! Rows with answers from outside, and each public call once.
+mod alphabets;
+mod every_call;
+mod maps;
+mod octet_strings;
+mod sets;
+mod strings;
+mod texts;
