@@ -26,8 +26,10 @@ IsNonNegativeUnlessNative Unbounded n = IsNonNegative n
 
 -- o is the shortest spelling without a sign of a native number's residue, of an `Integer`'s value
 abbrev pub SpellsUnsigned : IntegerKind → ℤ → List ℕ → Type 0
-SpellsUnsigned (SignedOf size) n o = (r : ℕ) × IsResidue (SignedOf size) n r × IsShortestUnsigned r o
-SpellsUnsigned (UnsignedOf size) n o = (r : ℕ) × IsResidue (UnsignedOf size) n r × IsShortestUnsigned r o
+SpellsUnsigned (SignedOf size) n o =
+    (r : ℕ) × IsResidue (SignedOf size) n r × IsShortestUnsigned r o
+SpellsUnsigned (UnsignedOf size) n o =
+    (r : ℕ) × IsResidue (UnsignedOf size) n r × IsShortestUnsigned r o
 SpellsUnsigned Unbounded n o = (r : ℕ) → n ≡ pos r → IsShortestUnsigned r o
 
 -- the type gives n out: a native type all its numbers, `Integer` those within `i128`
@@ -49,8 +51,10 @@ IsChecked kind value a b n result =
 
 -- a native type always has the sum of a and b, wrapped; `Integer` has the sum where it is in reach
 abbrev pub WrapsSum : {T : Type 0} → IntegerKind → (T → ℤ) → ℤ → ℤ → Option T → Type 0
-WrapsSum (SignedOf size) value a b result = IsSomeAnd result (λ x. IsWrapped (SignedOf size) (a +ℤ b) (value x))
-WrapsSum (UnsignedOf size) value a b result = IsSomeAnd result (λ x. IsWrapped (UnsignedOf size) (a +ℤ b) (value x))
+WrapsSum (SignedOf size) value a b result =
+    IsSomeAnd result (λ x. IsWrapped (SignedOf size) (a +ℤ b) (value x))
+WrapsSum (UnsignedOf size) value a b result =
+    IsSomeAnd result (λ x. IsWrapped (UnsignedOf size) (a +ℤ b) (value x))
 WrapsSum Unbounded value a b result = IsChecked Unbounded value a b (a +ℤ b) result
 
 -- an `Integer` made of n wants memory: n is a `u128` above `i128::MAX`

@@ -1,4 +1,5 @@
--- How the twelve native types are seen by their low bits, of a number of 128 bits. No public clause cites this.
+-- How the twelve native types are seen by their low bits, of a number of 128 bits. No public
+-- clause cites this.
 use Rattle.std.specs.Prelude.{◌≡◌, ℕ, ◌-◌, ◌*◌, ◌^◌, ◌%◌, ◌≤◌, ℤ, pos, ◌-ℤ◌, Bool, true, false, nat_lt, if◌then◌else◌, Result, Ok, Err}
 use Rattle.std.specs.Int.{cast_unsigned, w128}
 use Rattle.asn1_number.specs.declared.error.IntegerError.{IntegerError}
@@ -18,7 +19,9 @@ IsNativeSize size = (1 ≤ size) × (size ≤ 16)
 abbrev pub wrapped_bits : Bool → ℕ → ℕ → ℤ
 wrapped_bits false size n = pos (n % 2 ^ (8 * size))
 wrapped_bits true size n =
-    if nat_lt (n % 2 ^ (8 * size)) (2 ^ (8 * size - 1)) then pos (n % 2 ^ (8 * size)) else pos (n % 2 ^ (8 * size)) -ℤ pos (2 ^ (8 * size))
+    if nat_lt (n % 2 ^ (8 * size)) (2 ^ (8 * size - 1))
+    then pos (n % 2 ^ (8 * size))
+    else pos (n % 2 ^ (8 * size)) -ℤ pos (2 ^ (8 * size))
 
 -- n has these 128 bits, in two's complement where it is of a signed type
 abbrev pub AreBitsOf : Bool → ℤ → ℕ → Type 0
@@ -27,7 +30,8 @@ AreBitsOf false n bits = n ≡ pos bits
 
 -- the bits of the number of the type that the reading has, or its refusal
 abbrev pub ReadsBits : IntegerKind → Result ℕ IntegerError → Result ℤ IntegerError → Type 0
-ReadsBits kind (Ok bits) reading = (n : ℤ) × (reading ≡ Ok n) × (bits ≡ cast_unsigned w128 n) × IsInRange kind n
+ReadsBits kind (Ok bits) reading =
+    (n : ℤ) × (reading ≡ Ok n) × (bits ≡ cast_unsigned w128 n) × IsInRange kind n
 ReadsBits kind (Err UnexpectedEmptyInput) reading = reading ≡ Err UnexpectedEmptyInput
 ReadsBits kind (Err (Overflow bits)) reading = reading ≡ Err (Overflow bits)
 ReadsBits kind (Err (TypeConversionFailed bits)) reading = reading ≡ Err (TypeConversionFailed bits)

@@ -7,12 +7,17 @@ use Rattle.asn1_number.specs.Readings.{SignedOf, UnsignedOf, Unbounded, IsInRang
 use Rattle.asn1_number.proofs.LawLemmas.{shortest_are_read_back}
 use Rattle.asn1_integer.specs.NativeBits.{native_kind, IsNativeSize}
 
-pub native_reads_shortest : (is_signed : Bool) (size : ℕ) → IsNativeSize size → (n : ℤ) (octets : List ℕ) → IsInRange (native_kind is_signed size) n → IsShortest n octets →
+pub native_reads_shortest : (is_signed : Bool) (size : ℕ) → IsNativeSize size →
+    (n : ℤ) (octets : List ℕ) → IsInRange (native_kind is_signed size) n → IsShortest n octets →
     signed_reading (native_kind is_signed size) octets ≡ Ok n
-native_reads_shortest true size sized n octets r s = shortest_are_read_back (SignedOf size) n octets sized.0 r s
-native_reads_shortest false size sized n octets r s = shortest_are_read_back (UnsignedOf size) n octets sized.0 r s
+native_reads_shortest true size sized n octets r s =
+    shortest_are_read_back (SignedOf size) n octets sized.0 r s
+native_reads_shortest false size sized n octets r s =
+    shortest_are_read_back (UnsignedOf size) n octets sized.0 r s
 
-pub unbounded_reads_shortest : (n : ℤ) (octets : List ℕ) → IsInRange Unbounded n → IsShortest n octets → signed_reading Unbounded octets ≡ Ok n
+pub unbounded_reads_shortest : (n : ℤ) (octets : List ℕ) →
+    IsInRange Unbounded n → IsShortest n octets →
+    signed_reading Unbounded octets ≡ Ok n
 unbounded_reads_shortest n octets r s = shortest_are_read_back Unbounded n octets r r s
 
 pub native_width : (is_signed : Bool) (size : ℕ) → 8 * size ≡ width_of (native_kind is_signed size)

@@ -17,9 +17,11 @@ IsResidue kind n r = (r < 2 ^ width_of kind) × DifferByMultiple (2 ^ width_of k
 -- a whole number wraps to one number of a type of at least one octet
 abbrev pub WrapsToOne : (ℕ → IntegerKind) → Type 0
 WrapsToOne kind_of =
-    (size : ℕ) (n a b : ℤ) → 1 ≤ size → IsWrapped (kind_of size) n a → IsWrapped (kind_of size) n b → a ≡ b
+    (size : ℕ) (n a b : ℤ) → 1 ≤ size →
+    IsWrapped (kind_of size) n a → IsWrapped (kind_of size) n b → a ≡ b
 
 -- and has one residue
 abbrev pub HasOneResidue : (ℕ → IntegerKind) → Type 0
 HasOneResidue kind_of =
-    (size : ℕ) (n : ℤ) (r s : ℕ) → IsResidue (kind_of size) n r → IsResidue (kind_of size) n s → r ≡ s
+    (size : ℕ) (n : ℤ) (r s : ℕ) →
+    IsResidue (kind_of size) n r → IsResidue (kind_of size) n s → r ≡ s

@@ -3,8 +3,8 @@ ghost use Rattle.std.specs.Prelude.{IsTrue, IfOk, OnErr, SomeIff, MatchOption};
 ghost use Rattle.asn1_number.specs.Octets.{IsShortest};
 ghost use Rattle.asn1_number.specs.Readings.{IntegerKind, width_of, IsInRange, FitsI128, Answers};
 ghost use Rattle.asn1_number.specs.Readings.{signed_reading, unsigned_reading};
-ghost use Rattle.asn1_integer.specs.Calls.{IsSignedKind, own_reading, IsInReach, IsChecked, WrapsSum};
-ghost use Rattle.asn1_integer.specs.Calls.{IsNonNegativeUnlessNative, SpellsUnsigned, WantsMemory};
+ghost use Rattle.asn1_integer.specs.Calls.{IsSignedKind, own_reading, IsInReach, IsChecked};
+ghost use Rattle.asn1_integer.specs.Calls.{WrapsSum, IsNonNegativeUnlessNative, SpellsUnsigned, WantsMemory};
 
 use asn1_number::{Integer, IntegerBytes, IntegerError};
 use std::alloc::{AllocError, Global};

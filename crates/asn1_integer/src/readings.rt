@@ -1,4 +1,5 @@
-ghost use Rattle.std.specs.Prelude.{◌≡◌, ℕ, ◌≤◌, ◌%◌, ◌*◌, ◌^◌, ◌&&◌, ℤ, pos, nat_le, length, SomeIff};
+ghost use Rattle.std.specs.Prelude.{◌≡◌, ℕ, ℤ, pos, ◌≤◌, ◌*◌, ◌%◌, ◌^◌, ◌&&◌, nat_le, length};
+ghost use Rattle.std.specs.Prelude.{SomeIff};
 ghost use Rattle.asn1_number.specs.Octets.{IsShortest, IsShortestUnsigned, unsigned};
 ghost use Rattle.asn1_number.specs.Readings.{SignedOf, UnsignedOf, FitsI128, counted_length};
 ghost use Rattle.asn1_number.specs.Readings.{signed_reading, unsigned_reading};
