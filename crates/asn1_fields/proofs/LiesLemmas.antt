@@ -78,4 +78,3 @@ left_more view now new fs field before one front s =
 -- a field lies where the view that was left begins
 pub lies_there : (view now : View) (front : List Bool) (field : Field) → now ≡ after view front → LiesAt now now.first field → LiesAt view (view.first + length front) field
 lies_there view now front field e at = subst (λ (v : View). LiesAt v v.first field) e at
-

@@ -8,7 +8,6 @@ use Rattle.asn1_fields.specs.Wrong.{Fault, NumberWidth, IsReason}
 use Rattle.asn1_fields.specs.Walk.{cut_at, number_content, field_at}
 use Rattle.asn1_fields.proofs.ExactKinds.{IsExact, HoldsExactly, Takes, cut_exact, chosen, err_is, err_is_no_ok, held_is, no_fault}
 
-
 number_holds : (width : ℕ) → width ≤ 128 → HoldsExactly (OfNumber width) width (number_content width)
 number_holds width le = record { taken = taken; again = again; reason = λ front rest fault len e. absurd (no_fault _ _ e); short = λ list k s. (le, s) }
   where

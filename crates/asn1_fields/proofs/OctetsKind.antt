@@ -6,7 +6,6 @@ use Rattle.asn1_fields.specs.Walk.{octets_of, cut_at, octets_content, field_at}
 use Rattle.asn1_fields.proofs.OctetLemmas.{length-octets_of, octets-octets_of, bits-octets_of, octets_of-bits}
 use Rattle.asn1_fields.proofs.ExactKinds.{IsExact, cut_exact, held_is, no_fault}
 
-
 pub octets_exact : (count : ℕ) → IsExact (OfOctets count) (field_at (OfOctets count))
 unfolding field_at
 octets_exact count = cut_exact (OfOctets count) (8 * count) (octets_content count) (record { taken = taken; again = again; reason = λ front rest fault len e. absurd (no_fault _ _ e); short = λ list k s. s })

@@ -44,7 +44,7 @@ pub fn read_fields<'a>(
     ensures rest { IfOk result (λ fields. (front : List Bool)
         → AreSpelledBy (plain_fields fields.items) front
         → view_left reader.new ≡ part (view_left reader.old) (length front)
-            ((view_left reader.old).len - length front)) }
+        ((view_left reader.old).len - length front)) }
     // Octets are borrowed exactly where they lie on octet boundaries of the storage.
     ensures places { IfOk result (λ fields. LieFrom (view_left reader.old) fields.items) }
 
@@ -122,10 +122,12 @@ fn take_bits<'a>(
             bits: need - left,
         });
     }
-    reader.split(need as usize).map_err(|bits| ReadError::Short {
-        field,
-        bits: bits as u128,
-    })
+    reader
+        .split(need as usize)
+        .map_err(|bits| ReadError::Short {
+            field,
+            bits: bits as u128,
+        })
 }
 
 /// Reads fields that are there.
@@ -141,7 +143,7 @@ fn collect<'a>(
     ensures rest { IfOk result (λ fields. (front : List Bool)
         → AreSpelledBy (plain_fields fields.items) front
         → view_left reader.new ≡ part (view_left reader.old) (length front)
-            ((view_left reader.old).len - length front)) }
+        ((view_left reader.old).len - length front)) }
     ensures no_shapes { shapes.now ≡ [] → IsOk result }
 {
     let mut fields = Vec::new(alloc);
@@ -164,7 +166,7 @@ fn read_field<'a>(
     ensures place { IfOk result (LiesAt (view_left reader.old) (view_left reader.old).first) }
     ensures rest { IfOk result (λ field. (list : List Bool) → IsSpelledBy (plain_field field) list
         → view_left reader.new ≡ part (view_left reader.old) (length list)
-            ((view_left reader.old).len - length list)) }
+        ((view_left reader.old).len - length list)) }
 {
     // A length fits `usize`, and so do the bits of octets that are there.
     let _len = reader.len();

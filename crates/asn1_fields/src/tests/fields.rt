@@ -1,0 +1,209 @@
+//! Rows on the two calls, and the texts of their errors.
+
+use crate::bit_fields::{Field, ReadError, Shape, WriteError, read_fields, shape_of, write_fields};
+use asn1_bits::{BitBuffer, BitReader, BitStr, Octets};
+use std::test::Fail;
+
+#[test]
+fn fields_are_written_behind_the_old_bits(rt: HostRuntime) -> Result<(), Fail> {
+    let mut buffer = BitBuffer::new(rt.alloc());
+    buffer.push_bits(0b111, 3)?;
+    let fields = [
+        Field::Number { value: 5, width: 3 },
+        Field::Octets(Octets::Borrowed(&[0xA5])),
+        Field::Number {
+            value: 128,
+            width: 16,
+        },
+    ];
+    write_fields(&mut buffer, &fields)?;
+    assert_eq!(rt; buffer.len(), 30);
+    assert_eq!(rt; buffer.as_bytes(), [0xF6, 0x94, 0x02, 0x00].as_slice());
+    Ok(())
+}
+
+#[test]
+fn fields_are_read_from_any_bit(rt: HostRuntime) -> Result<(), Fail> {
+    let octets = [0xF6, 0x94, 0x02, 0x02];
+    let view = BitStr::new(&octets, 3, 29).ok_or("within")?;
+    let mut reader = BitReader::new(view);
+    let shapes = [
+        Shape::Number { width: 3 },
+        Shape::Octets { count: 1 },
+        Shape::Number { width: 16 },
+    ];
+    let fields = read_fields(rt.alloc(), &mut reader, &shapes)?;
+    assert_eq!(rt; fields.len(), 3);
+    assert!(rt; matches!(&fields[0], Field::Number { value: 5, width: 3 }));
+    assert!(rt;
+        matches!(
+            &fields[2],
+            Field::Number {
+                value: 128,
+                width: 16
+            }
+        )
+    );
+    match &fields[1] {
+        Field::Octets(octets) => {
+            assert!(rt; matches!(octets, Octets::Owned(_)));
+            assert_eq!(rt; octets.as_ref(), [0xA5].as_slice());
+        }
+        Field::Number { .. } => assert!(rt; false),
+    }
+    assert!(rt; matches!(shape_of(&fields[0]), Shape::Number { width: 3 }));
+    assert!(rt; matches!(shape_of(&fields[1]), Shape::Octets { count: 1 }));
+    assert_eq!(rt; reader.len(), 2);
+    Ok(())
+}
+
+#[test]
+fn octets_are_lent_where_they_lie_on_octet_boundaries(rt: HostRuntime) -> Result<(), Fail> {
+    let octets = [0xF6, 0x94, 0x02, 0x02];
+    let view = BitStr::new(&octets, 8, 24).ok_or("within")?;
+    let mut reader = BitReader::new(view);
+    let fields = read_fields(rt.alloc(), &mut reader, &[Shape::Octets { count: 1 }])?;
+    assert_eq!(rt; fields.len(), 1);
+    match &fields[0] {
+        Field::Octets(octets) => {
+            assert!(rt; matches!(octets, Octets::Borrowed(_)));
+            assert_eq!(rt; octets.as_ref(), [0x94].as_slice());
+        }
+        Field::Number { .. } => assert!(rt; false),
+    }
+    Ok(())
+}
+
+#[test]
+fn no_octets_are_read_at_any_bit(rt: HostRuntime) -> Result<(), Fail> {
+    for first in [3, 8] {
+        let view = BitStr::new(&[0xF6, 0x94], first, 8).ok_or("within")?;
+        let mut reader = BitReader::new(view);
+        let fields = read_fields(rt.alloc(), &mut reader, &[Shape::Octets { count: 0 }])?;
+        assert_eq!(rt; fields.len(), 1);
+        match &fields[0] {
+            Field::Octets(octets) => {
+                assert_eq!(rt; octets.as_ref().len(), 0);
+                assert_eq!(rt; matches!(octets, Octets::Borrowed(_)), first == 8);
+            }
+            Field::Number { .. } => assert!(rt; false),
+        }
+        assert_eq!(rt; reader.len(), 8);
+    }
+    Ok(())
+}
+
+#[test]
+fn a_wide_number_is_written_and_read_behind_seven_ones(rt: HostRuntime) -> Result<(), Fail> {
+    let value = (1u128 << 127) + 1;
+    let mut buffer = BitBuffer::new(rt.alloc());
+    buffer.resize(7, true)?;
+    write_fields(&mut buffer, &[Field::Number { value, width: 128 }])?;
+    assert_eq!(rt; buffer.len(), 135);
+    let octets = buffer.into_vec();
+    let mut wanted = [0u8; 17];
+    wanted[0] = 0xFF;
+    wanted[16] = 0x02;
+    assert_eq!(rt; octets.as_slice(), wanted.as_slice());
+    let mut reader = BitReader::new(BitStr::new(octets.as_slice(), 7, 129).ok_or("within")?);
+    let fields = read_fields(rt.alloc(), &mut reader, &[Shape::Number { width: 128 }])?;
+    assert_eq!(rt; fields.len(), 1);
+    match &fields[0] {
+        Field::Number { value: read, .. } => assert_eq!(rt; *read, value),
+        Field::Octets(_) => assert!(rt; false),
+    }
+    assert_eq!(rt; reader.len(), 1);
+    Ok(())
+}
+
+#[test]
+fn reading_names_the_first_wrong_field(rt: HostRuntime) -> Result<(), Fail> {
+    let octets = [0xFF, 0xFF];
+    let mut reader = BitReader::from_octets(&octets);
+    let shapes = [Shape::Number { width: 3 }, Shape::Octets { count: 2 }];
+    let refused = read_fields(rt.alloc(), &mut reader, &shapes).err();
+    assert_eq!(rt; refused, Some(ReadError::Short { field: 1, bits: 3 }));
+    assert_eq!(rt; reader.len(), 16);
+    let mut none = BitReader::from_octets(&[]);
+    let most = [Shape::Octets { count: usize::MAX }];
+    let refused = read_fields(rt.alloc(), &mut none, &most).err();
+    let bits = 147573952589676412920;
+    assert_eq!(rt; refused, Some(ReadError::Short { field: 0, bits }));
+    let wide = [Shape::Number { width: 8 }, Shape::Number { width: 129 }];
+    let refused = read_fields(rt.alloc(), &mut none, &wide).err();
+    assert_eq!(rt; refused, Some(ReadError::Short { field: 0, bits: 8 }));
+    let refused = read_fields(rt.alloc(), &mut BitReader::from_octets(&[0]), &wide).err();
+    let wanted = ReadError::NumberWidth {
+        field: 1,
+        width: 129,
+    };
+    assert_eq!(rt; refused, Some(wanted));
+    Ok(())
+}
+
+#[test]
+fn writing_names_the_first_wrong_field(rt: HostRuntime) -> Result<(), Fail> {
+    let mut buffer = BitBuffer::new(rt.alloc());
+    let fields = [
+        Field::Octets(Octets::Borrowed(&[1])),
+        Field::Number { value: 8, width: 3 },
+    ];
+    let refused = write_fields(&mut buffer, &fields).err();
+    assert_eq!(rt; refused, Some(WriteError::Number { field: 1 }));
+    assert_eq!(rt; buffer.len(), 0);
+    let refused = write_fields(&mut buffer, &[Field::Number { value: 1, width: 0 }]).err();
+    assert_eq!(rt; refused, Some(WriteError::Number { field: 0 }));
+    let wide = [Field::Number {
+        value: 0,
+        width: 129,
+    }];
+    let refused = write_fields(&mut buffer, &wide).err();
+    let wanted = WriteError::NumberWidth {
+        field: 0,
+        width: 129,
+    };
+    assert_eq!(rt; refused, Some(wanted));
+    write_fields(&mut buffer, &[Field::Number { value: 0, width: 0 }])?;
+    assert_eq!(rt; buffer.len(), 0);
+    Ok(())
+}
+
+#[test]
+fn errors_are_printed_with_their_place(rt: HostRuntime) -> Result<(), Fail> {
+    let writing = [
+        (
+            WriteError::NumberWidth {
+                field: 2,
+                width: 129,
+            },
+            "field 2: width 129 is over 128",
+        ),
+        (
+            WriteError::Number { field: 0 },
+            "field 0: the number does not fit its width",
+        ),
+        (WriteError::TooLong, "too many bits"),
+        (WriteError::Memory, "out of memory"),
+    ];
+    for (error, text) in writing {
+        assert_eq!(rt; format!(in rt.alloc(); "{error}")?.as_str(), text);
+    }
+    let reading = [
+        (
+            ReadError::NumberWidth {
+                field: 1,
+                width: 200,
+            },
+            "field 1: width 200 is over 128",
+        ),
+        (
+            ReadError::Short { field: 3, bits: 17 },
+            "field 3: 17 bits short",
+        ),
+        (ReadError::Memory, "out of memory"),
+    ];
+    for (error, text) in reading {
+        assert_eq!(rt; format!(in rt.alloc(); "{error}")?.as_str(), text);
+    }
+    Ok(())
+}
