@@ -8,21 +8,25 @@ use Rattle.asn1_strings.specs.declared.character_set.CharacterSetName.{Character
 use Rattle.asn1_strings.specs.declared.error.PermittedAlphabetError.{PermittedAlphabetError}
 use Rattle.asn1_strings.specs.declared.error.PermittedAlphabetError.TheVariants.{CharacterNotFound, IndexNotFound, InvalidRestrictedString}
 
--- where an alphabet's set comes from, which says how it refuses: it is a permitted set, or the base set of a string
+-- where an alphabet's set comes from, which says how it refuses: it is a permitted set, or the base
+-- set of a string
 pub data Origin : Type 0 where
   Permitted : Origin
   BaseOf : CharacterSetName → Origin
 
--- an alphabet: its set, the width of its characters in bits, whether they are written by their places, and its origin
+-- an alphabet: its set, the width of its characters in bits, whether they are written by their
+-- places, and its origin
 pub record Alphabet : Type 0 where
   pub characters : List ℕ
   pub width : ℕ
   pub indexed : Bool
   pub origin : Origin
 
--- whether a permitted set of so many characters is kept: where the string is written by places, or needs more bits
+-- whether a permitted set of so many characters is kept: where the string is written by places, or
+-- needs more bits
 abbrev pub keeps : CharacterSetName → Bool → ℕ → Bool
-keeps name aligned count = base_indexed name || nat_lt (align aligned (ceil_log2 (max count 1))) (base_width name)
+keeps name aligned count =
+    base_indexed name || nat_lt (align aligned (ceil_log2 (max count 1))) (base_width name)
 
 -- the permitted set, where there is one and it is kept
 abbrev pub kept_set : CharacterSetName → Option (List ℕ) → Bool → Option (List ℕ)
@@ -47,16 +51,23 @@ abbrev pub alphabet_on : CharacterSetName → Option (List ℕ) → Bool → Alp
 alphabet_on name kept aligned =
     let set = counting_set name kept in
     let width = width_for aligned (length set) in
-    record { characters = set; width = width; indexed = is_indexed width set; origin = origin_of name kept }
+    record {
+      characters = set;
+      width = width;
+      indexed = is_indexed width set;
+      origin = origin_of name kept;
+    }
 
 -- the alphabet of a string with a permitted set
 abbrev pub effective : CharacterSetName → Option (List ℕ) → Bool → Alphabet
 effective name permitted aligned = alphabet_on name (kept_set name permitted aligned) aligned
 
--- k is a code of the character c: in an indexed alphabet a place of it, else c itself, where it is in the set
+-- k is a code of the character c: in an indexed alphabet a place of it, else c itself, where it is
+-- in the set
 abbrev pub IsCode : Alphabet → ℕ → ℕ → Type 0
 IsCode alphabet c k =
-    MatchBool alphabet.indexed (slice_get alphabet.characters k ≡ Some c) ((has_character alphabet.characters c ≡ true) × (k ≡ c))
+    MatchBool alphabet.indexed (slice_get alphabet.characters k ≡ Some c)
+    ((has_character alphabet.characters c ≡ true) × (k ≡ c))
 
 -- how an alphabet refuses a character
 abbrev pub missing_from : Origin → ℕ → PermittedAlphabetError
@@ -69,17 +80,20 @@ missing_error alphabet c = missing_from alphabet.origin c
 
 -- the refusal of a number that is no code
 abbrev pub uncoded_error : Alphabet → ℕ → PermittedAlphabetError
-uncoded_error alphabet k = if alphabet.indexed then IndexNotFound k else missing_from alphabet.origin k
+uncoded_error alphabet k =
+    if alphabet.indexed then IndexNotFound k else missing_from alphabet.origin k
 
 -- the result is a code of the character, which fits the width, or its refusal where it has none
 abbrev pub Encodes : Alphabet → ℕ → Result ℕ PermittedAlphabetError → Type 0
 Encodes alphabet c result =
-    MatchResult result (λ k. IsCode alphabet c k × (k < 2 ^ alphabet.width)) (λ e. (e ≡ missing_error alphabet c) × ((k : ℕ) → ¬ (IsCode alphabet c k)))
+    MatchResult result (λ k. IsCode alphabet c k × (k < 2 ^ alphabet.width))
+    (λ e. (e ≡ missing_error alphabet c) × ((k : ℕ) → ¬ (IsCode alphabet c k)))
 
 -- the result is the character of the code, or the code's refusal where it has none
 abbrev pub Decodes : Alphabet → ℕ → Result ℕ PermittedAlphabetError → Type 0
 Decodes alphabet k result =
-    MatchResult result (λ c. IsCode alphabet c k) (λ e. (e ≡ uncoded_error alphabet k) × ((c : ℕ) → ¬ (IsCode alphabet c k)))
+    MatchResult result (λ c. IsCode alphabet c k)
+    (λ e. (e ≡ uncoded_error alphabet k) × ((c : ℕ) → ¬ (IsCode alphabet c k)))
 
 -- the set never falls and is long enough for a search by halves
 abbrev pub IsLongAscending : List ℕ → Type 0

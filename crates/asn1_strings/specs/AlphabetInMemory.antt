@@ -18,9 +18,11 @@ pub record HasWords (set : List ℕ) (words : CharacterWords) : Type 0 where
   pub below : largest set < 256
   pub same : (c : ℕ) → c < 256 → in_words words.words c ≡ has_character set c
 
--- What the fields of an alphabet say of its set. `sorted` is of permitted sets alone: a base set needs no search, since
+-- What the fields of an alphabet say of its set. `sorted` is of permitted sets alone: a base set
+-- needs no search, since
 -- none that is written by places has more than 64 characters.
-pub record IsKnown (name : CharacterSetName) (kept : Option (Bor (List ℕ))) (width : ℕ) (indexed sorted : Bool) (words : Option CharacterWords) : Type 0 where
+pub record IsKnown (name : CharacterSetName) (kept : Option (Bor (List ℕ))) (width : ℕ)
+    (indexed sorted : Bool) (words : Option CharacterWords) : Type 0 where
   pub narrow : width ≤ 32
   pub few : length (set_of name kept) ≤ 2 ^ 32
   pub room : length (set_of name kept) ≤ 2 ^ width

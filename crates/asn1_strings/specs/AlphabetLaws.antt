@@ -15,7 +15,8 @@ pub stands_in : (set : List ℕ) (k c : ℕ) → slice_get set k ≡ Some c → 
 stands_in set k c place = any_passes_from_place (λ x. eqb x c) set k c place (grind (arith, nat_tests))
 
 -- a code is of one character
-pub code_is_of_one : (alphabet : Alphabet) (c d k : ℕ) → IsCode alphabet c k → IsCode alphabet d k → c ≡ d
+pub code_is_of_one : (alphabet : Alphabet) (c d k : ℕ) → IsCode alphabet c k →
+    IsCode alphabet d k → c ≡ d
 code_is_of_one alphabet c d k first second = by_case alphabet.indexed refl
   where
     by_case : (b : Bool) → alphabet.indexed ≡ b → c ≡ d
@@ -23,7 +24,8 @@ code_is_of_one alphabet c d k first second = by_case alphabet.indexed refl
     by_case false e = let p = rw e at first in let q = rw e at second in sym p.1 ∙ q.1
 
 -- what the set lacks has no code
-pub missing_has_none : (alphabet : Alphabet) (c k : ℕ) → has_character alphabet.characters c ≡ false → ¬ (IsCode alphabet c k)
+pub missing_has_none : (alphabet : Alphabet) (c k : ℕ) →
+    has_character alphabet.characters c ≡ false → ¬ (IsCode alphabet c k)
 missing_has_none alphabet c k none code = absent alphabet.indexed refl
   where
     absent : (b : Bool) → alphabet.indexed ≡ b → ⊥
@@ -31,11 +33,16 @@ missing_has_none alphabet c k none code = absent alphabet.indexed refl
     absent false e = let value = rw e at code in false≢true (sym none ∙ value.0)
 
 -- a character of the set fits a width that the largest fits
-pub value_fits : (set : List ℕ) (w c : ℕ) → is_indexed w set ≡ false → has_character set c ≡ true → c < 2 ^ w
+pub value_fits : (set : List ℕ) (w c : ℕ) → is_indexed w set ≡ false →
+    has_character set c ≡ true → c < 2 ^ w
 value_fits set w c low has = let most = not_above set c has in grind (arith, nat_tests)
 
--- a code fits the width, where each place does and the alphabet goes by place wherever a character does not
-pub code_fits : (alphabet : Alphabet) (c k : ℕ) → length alphabet.characters ≤ 2 ^ alphabet.width → alphabet.indexed ≡ is_indexed alphabet.width alphabet.characters → IsCode alphabet c k → k < 2 ^ alphabet.width
+-- a code fits the width, where each place does and the alphabet goes by place wherever a character
+-- does not
+pub code_fits : (alphabet : Alphabet) (c k : ℕ) →
+    length alphabet.characters ≤ 2 ^ alphabet.width →
+    alphabet.indexed ≡ is_indexed alphabet.width alphabet.characters → IsCode alphabet c k →
+    k < 2 ^ alphabet.width
 code_fits alphabet c k room by code = fits alphabet.indexed refl
   where
     fits : (b : Bool) → alphabet.indexed ≡ b → k < 2 ^ alphabet.width
@@ -45,7 +52,8 @@ code_fits alphabet c k room by code = fits alphabet.indexed refl
         let low = value_fits alphabet.characters alphabet.width c (sym by ∙ e) value.0 in
         omega (arith, value.1)
 
-places_differ : (set : List ℕ) (c j k : ℕ) → AllPairs (λ a b. a ≢ b) set → slice_get set j ≡ Some c → slice_get set k ≡ Some c → j < k → ⊥
+places_differ : (set : List ℕ) (c j k : ℕ) → AllPairs (λ a b. a ≢ b) set →
+    slice_get set j ≡ Some c → slice_get set k ≡ Some c → j < k → ⊥
 places_differ set c j k differ first second lt =
     let within = slice_get_within set k c second in
     let one = slice_get-get_or set j 0 (omega arith) in
@@ -53,7 +61,9 @@ places_differ set c j k differ first second lt =
     differ j k 0 lt (omega arith) (let a : get_or set j 0 ≡ c = cc in let b : get_or set k 0 ≡ c = cc in a ∙ sym b)
 
 -- where no two characters are equal, a character has one code
-pub code_is_one : (alphabet : Alphabet) (c j k : ℕ) → AllPairs (λ a b. a ≢ b) alphabet.characters → IsCode alphabet c j → IsCode alphabet c k → j ≡ k
+pub code_is_one : (alphabet : Alphabet) (c j k : ℕ) →
+    AllPairs (λ a b. a ≢ b) alphabet.characters → IsCode alphabet c j → IsCode alphabet c k →
+    j ≡ k
 code_is_one alphabet c j k differ first second = by_case alphabet.indexed refl
   where
     by_case : (b : Bool) → alphabet.indexed ≡ b → j ≡ k

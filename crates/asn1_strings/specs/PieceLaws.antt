@@ -9,7 +9,8 @@ use Rattle.std.proofs.lemmas.List.FromFn.{length-map-range_with_len, get_or-map-
 use Rattle.asn1_strings.specs.Pieces.{piece, pieces}
 
 -- past a first piece, the pieces are those of the rest
-shifted : {X : Type 0} (w : ℕ) (p rest : List X) → length p ≡ w → (n i : ℕ) → map (piece w (p ++ rest)) (range_with_len (i + 1) n) ≡ map (piece w rest) (range_with_len i n)
+shifted : {X : Type 0} (w : ℕ) (p rest : List X) → length p ≡ w → (n i : ℕ) →
+    map (piece w (p ++ rest)) (range_with_len (i + 1) n) ≡ map (piece w rest) (range_with_len i n)
 shifted w p rest long zero i = refl
 shifted w p rest long (suc n) i =
     let next : (i + 1) * w ≡ length p + i * w = rw long (omega arith) in
@@ -17,7 +18,8 @@ shifted w p rest long (suc n) i =
     rw (head, shifted w p rest long n (i + 1)) refl
 
 -- a list that begins with a piece has it as its first piece
-pub pieces_cons : {X : Type 0} (w : ℕ) (p rest : List X) → 0 < w → length p ≡ w → pieces w (p ++ rest) ≡ p ∷ pieces w rest
+pub pieces_cons : {X : Type 0} (w : ℕ) (p rest : List X) → 0 < w → length p ≡ w →
+    pieces w (p ++ rest) ≡ p ∷ pieces w rest
 pieces_cons w p rest some long =
     let count : length (p ++ rest) / w ≡ suc (length rest / w) = ap (λ n. n / w) (length-append p rest ∙ ap (λ n. n + length rest) long) ∙ add-div_left (length rest) some ∙ omega arith in
     let first : piece w (p ++ rest) 0 ≡ p = let none : 0 * w ≡ 0 = omega arith in rw none (ap (λ n. take n (p ++ rest)) (sym long) ∙ take-append_seam p rest) in
@@ -33,7 +35,8 @@ piece_within w n i lt =
     let down = div-mul-le_self n w in
     omega arith
 
-joined_count : {X : Type 0} (w n : ℕ) (xs : List X) → 0 < w → length xs ≡ n * w → flat_map (λ p. p) (pieces w xs) ≡ xs
+joined_count : {X : Type 0} (w n : ℕ) (xs : List X) → 0 < w → length xs ≡ n * w →
+    flat_map (λ p. p) (pieces w xs) ≡ xs
 joined_count w zero [] some long = rw (zero-div w) refl
 joined_count w zero (x ∷ xs) some long = absurd (omega arith)
 joined_count w (suc n) xs some long =
@@ -46,7 +49,8 @@ joined_count w (suc n) xs some long =
     ∙ whole
 
 -- the pieces of a list of whole pieces, one after another, are the list
-pub joined : {X : Type 0} (w : ℕ) (xs : List X) → 0 < w → length xs % w ≡ 0 → flat_map (λ p. p) (pieces w xs) ≡ xs
+pub joined : {X : Type 0} (w : ℕ) (xs : List X) → 0 < w → length xs % w ≡ 0 →
+    flat_map (λ p. p) (pieces w xs) ≡ xs
 joined w xs some even =
     let count : length xs ≡ length xs / w * w = omega (arith, div-add-mod' (length xs) w) in joined_count w (length xs / w) xs some count
 

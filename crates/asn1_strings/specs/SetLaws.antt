@@ -8,7 +8,8 @@ use Rattle.std.proofs.lemmas.List.Folds.{list_any-append}
 use Rattle.asn1_strings.specs.Sets.{ranges_of, base_set, characters_between, has_character, largest}
 use Rattle.asn1_strings.specs.declared.character_set.CharacterSetName.{CharacterSetName}
 
-has_head : (a n c : ℕ) → (eqb a c || (leb (a + 1) c && ltb c (a + 1 + n))) ≡ (leb a c && ltb c (a + (suc n)))
+has_head : (a n c : ℕ) →
+    (eqb a c || (leb (a + 1) c && ltb c (a + 1 + n))) ≡ (leb a c && ltb c (a + (suc n)))
 has_head a n c = grind (arith, nat_tests)
 
 -- a run of characters has what lies between its ends
@@ -20,7 +21,8 @@ ends : (a b c : ℕ) → (leb a c && ltb c (a + (b + 1 - a))) ≡ (leb a c && le
 ends a b c = grind (arith, nat_tests)
 
 -- a range has what lies between its ends
-pub has_between : (r : ℕ × ℕ) (c : ℕ) → has_character (characters_between r) c ≡ (leb r.0 c && leb c r.1)
+pub has_between : (r : ℕ × ℕ) (c : ℕ) →
+    has_character (characters_between r) c ≡ (leb r.0 c && leb c r.1)
 has_between r c = has_in_run r.0 (r.1 + 1 - r.0) c ∙ ends r.0 r.1 c
 
 -- whether a character lies in one of the ranges
@@ -28,13 +30,15 @@ abbrev pub lies_in : List (ℕ × ℕ) → ℕ → Bool
 lies_in ranges c = list_any (λ r. leb r.0 c && leb c r.1) ranges
 
 -- ranges have what lies in one of them
-pub has_in_ranges : (rs : List (ℕ × ℕ)) (c : ℕ) → has_character (flat_map characters_between rs) c ≡ lies_in rs c
+pub has_in_ranges : (rs : List (ℕ × ℕ)) (c : ℕ) →
+    has_character (flat_map characters_between rs) c ≡ lies_in rs c
 has_in_ranges [] c = refl
 has_in_ranges (r ∷ rs) c =
     list_any-append (λ x. eqb x c) (characters_between r) (flat_map characters_between rs) ∙ rw (has_between r c, has_in_ranges rs c) refl
 
 -- a base set has what lies in its ranges
-pub has_in_base : (name : CharacterSetName) (c : ℕ) → has_character (base_set name) c ≡ lies_in (ranges_of name) c
+pub has_in_base : (name : CharacterSetName) (c : ℕ) →
+    has_character (base_set name) c ≡ lies_in (ranges_of name) c
 unfolding base_set
 has_in_base name c = has_in_ranges (ranges_of name) c
 
@@ -43,12 +47,15 @@ abbrev pub all_below : ℕ → List (ℕ × ℕ) → Bool
 all_below limit [] = true
 all_below limit (r ∷ rs) = ltb r.1 limit && all_below limit rs
 
-lies_below : (limit c : ℕ) (rs : List (ℕ × ℕ)) → all_below limit rs ≡ true → lies_in rs c ≡ true → c < limit
+lies_below : (limit c : ℕ) (rs : List (ℕ × ℕ)) → all_below limit rs ≡ true → lies_in rs c ≡ true →
+    c < limit
 lies_below limit c [] b h = cc
 lies_below limit c (r ∷ rs) b h = grind (arith, nat_tests, lies_below limit c rs)
 
 -- a character of the set is below a limit of its ranges
-pub below_limit : (name : CharacterSetName) (limit : ℕ) → all_below limit (ranges_of name) ≡ true → (c : ℕ) → has_character (base_set name) c ≡ true → c < limit
+pub below_limit : (name : CharacterSetName) (limit : ℕ) →
+    all_below limit (ranges_of name) ≡ true → (c : ℕ) → has_character (base_set name) c ≡ true →
+    c < limit
 below_limit name limit b c h = lies_below limit c (ranges_of name) b (sym (has_in_base name c) ∙ h)
 
 fold_above : (set : List ℕ) (m : ℕ) → m ≤ fold max m set
@@ -72,7 +79,8 @@ has_below (x ∷ set) m c has =
 pub not_above : (set : List ℕ) (c : ℕ) → has_character set c ≡ true → c ≤ largest set
 not_above set c has = has_below set 0 c has
 
-from_start : (set : List ℕ) (m : ℕ) → (fold max m set ≡ m) ⊎ (has_character set (fold max m set) ≡ true)
+from_start : (set : List ℕ) (m : ℕ) →
+    (fold max m set ≡ m) ⊎ (has_character set (fold max m set) ≡ true)
 from_start [] m = inl refl
 from_start (x ∷ set) m = elim (from_start set (max m x)) [
   | inl start ↦ elim (cases_lt m x) [

@@ -11,7 +11,8 @@ pub record IsFirstOutside (set cs : List ℕ) (c : ℕ) : Type 0 where
   pub wrong : has_character set c ≡ false
   pub before : (k : ℕ) → k < place → has_character set (get_or cs k 0) ≡ true
 
-later : (set cs : List ℕ) (x c : ℕ) → has_character set x ≡ true → IsFirstOutside set cs c → IsFirstOutside set (x ∷ cs) c
+later : (set cs : List ℕ) (x c : ℕ) → has_character set x ≡ true → IsFirstOutside set cs c →
+    IsFirstOutside set (x ∷ cs) c
 later set cs x c right is = record {
   place = suc is.place;
   there = is.there;
@@ -24,7 +25,8 @@ later set cs x c right is = record {
     earlier (suc k) h = is.before k (omega arith)
 
 -- what `first_outside` gives is the wrong character at the least place
-pub first_outside_is_first : (set cs : List ℕ) (c : ℕ) → first_outside set cs ≡ Some c → IsFirstOutside set cs c
+pub first_outside_is_first : (set cs : List ℕ) (c : ℕ) → first_outside set cs ≡ Some c →
+    IsFirstOutside set cs c
 first_outside_is_first set [] c found = cc
 first_outside_is_first set (x ∷ cs) c found = by_case (has_character set x) refl (λ none. first_outside_is_first set cs c none)
   where
@@ -34,12 +36,15 @@ first_outside_is_first set (x ∷ cs) c found = by_case (has_character set x) re
         let same : Some x ≡ Some c = rw e at found in
         let is : x ≡ c = cc in record { place = 0; there = same; wrong = rw (sym is) e; before = λ k h. absurd (omega arith) }
 
-one_more : (set cs : List ℕ) (x k : ℕ) → has_character set x ≡ true → ((k : ℕ) → k < length cs → has_character set (get_or cs k 0) ≡ true) → k < length (x ∷ cs) → has_character set (get_or (x ∷ cs) k 0) ≡ true
+one_more : (set cs : List ℕ) (x k : ℕ) → has_character set x ≡ true → ((k : ℕ) → k < length cs →
+    has_character set (get_or cs k 0) ≡ true) → k < length (x ∷ cs) →
+    has_character set (get_or (x ∷ cs) k 0) ≡ true
 one_more set cs x zero right rest h = right
 one_more set cs x (suc k) right rest h = rest k (omega arith)
 
 -- where it gives none, the set has every character
-pub nothing_outside : (set cs : List ℕ) → first_outside set cs ≡ None → (k : ℕ) → k < length cs → has_character set (get_or cs k 0) ≡ true
+pub nothing_outside : (set cs : List ℕ) → first_outside set cs ≡ None → (k : ℕ) → k < length cs →
+    has_character set (get_or cs k 0) ≡ true
 nothing_outside set [] none k lt = absurd (omega arith)
 nothing_outside set (x ∷ cs) none k lt = by_case (has_character set x) refl (λ e. nothing_outside set cs e)
   where

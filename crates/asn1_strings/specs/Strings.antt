@@ -10,6 +10,10 @@ use Rattle.asn1_strings.specs.declared.character_set.CharacterSetName.TheVariant
 use Rattle.asn1_strings.specs.declared.error.PermittedAlphabetError.{PermittedAlphabetError}
 use Rattle.asn1_strings.specs.declared.error.PermittedAlphabetError.TheVariants.{Other, InvalidData, IndexNotFound, CharacterNotFound, InvalidRestrictedString, Memory}
 
+-- what is read: the characters of a string, or its refusal
+abbrev pub Reading : Type 0
+Reading = Result (List ℕ) PermittedAlphabetError
+
 -- how many octets a character has (X.690 8.21): two in `BmpString`, one in the other seven
 abbrev pub character_octets : CharacterSetName → ℕ
 character_octets Bmp = 2
@@ -25,25 +29,32 @@ character_octets Visible = 1
 abbrev pub first_outside : List ℕ → List ℕ → Option ℕ
 first_outside set cs = find (λ c. not (has_character set c)) cs
 
--- the string of these characters: all of them, or the string's own error for the first that it may not hold
-abbrev pub string_of_characters : CharacterSetName → List ℕ → Result (List ℕ) PermittedAlphabetError
+-- the string of these characters: all of them, or the string's own error for the first that it may
+-- not hold
+abbrev pub string_of_characters : CharacterSetName → List ℕ → Reading
 string_of_characters name cs =
-    option_map_or (λ c. Err (InvalidRestrictedString (own_error name c))) (first_outside (base_set name) cs) (Ok cs)
+    option_map_or (λ c. Err (InvalidRestrictedString (own_error name c)))
+    (first_outside (base_set name) cs) (Ok cs)
 
 -- the string of characters of w octets each, most significant first
-abbrev pub string_of_octets : CharacterSetName → ℕ → List ℕ → Result (List ℕ) PermittedAlphabetError
+abbrev pub string_of_octets : CharacterSetName → ℕ → List ℕ → Reading
 string_of_octets name w octets =
     if w == 0 then Err (Other name)
-    else (if length octets % w == 0 then string_of_characters name (map unsigned (pieces w octets)) else Err (InvalidData (length octets) w))
+    else (if length octets % w == 0
+    then string_of_characters name (map unsigned (pieces w octets))
+    else Err (InvalidData (length octets) w))
 
 -- the string of characters of w bits each, most significant first
-abbrev pub string_of_bits : CharacterSetName → ℕ → List Bool → Result (List ℕ) PermittedAlphabetError
+abbrev pub string_of_bits : CharacterSetName → ℕ → List Bool → Reading
 string_of_bits name w bits =
     if w == 0 then Err (InvalidData (length bits) w)
-    else (if length bits % w == 0 then string_of_characters name (map number (pieces w bits)) else Err (InvalidData (length bits) w))
+    else (if length bits % w == 0
+    then string_of_characters name (map number (pieces w bits))
+    else Err (InvalidData (length bits) w))
 
--- Want of memory answers only what would else be a string that is not empty. Every other refusal is the one that was read.
-abbrev pub Refuses : PermittedAlphabetError → Result (List ℕ) PermittedAlphabetError → Type 0
+-- Want of memory answers only what would else be a string that is not empty. Every other refusal is
+-- the one that was read.
+abbrev pub Refuses : PermittedAlphabetError → Reading → Type 0
 Refuses Memory (Ok cs) = cs ≢ []
 Refuses Memory (Err e) = ⊥
 Refuses (Other name) read = read ≡ Err (Other name)
@@ -52,7 +63,9 @@ Refuses (IndexNotFound i) read = read ≡ Err (IndexNotFound i)
 Refuses (CharacterNotFound c) read = read ≡ Err (CharacterNotFound c)
 Refuses (InvalidRestrictedString e) read = read ≡ Err (InvalidRestrictedString e)
 
--- The result, seen by view, is what was read: the same list, or the same refusal. Where memory was refused, a list that is not empty was read.
-abbrev pub Answers : {S : Type 0} → (S → List ℕ) → Result S PermittedAlphabetError → Result (List ℕ) PermittedAlphabetError → Type 0
+-- The result, seen by view, is what was read: the same list, or the same refusal. Where memory was
+-- refused, a list that is not empty was read.
+abbrev pub Answers : {S : Type 0} → (S → List ℕ) → Result S PermittedAlphabetError → Reading →
+    Type 0
 Answers view (Ok s) read = read ≡ Ok (view s)
 Answers view (Err e) read = Refuses e read

@@ -49,11 +49,15 @@ restricted_text (strings.InvalidVisibleString e) = character_text Visible e.char
 -- the text of a refusal
 abbrev pub alphabet_error_text : PermittedAlphabetError → List ℕ
 alphabet_error_text (Other name) =
-    codes "error converting to string: Character set width set to zero when parsing string " ++ set_name name
+    codes "error converting to string: Character set width set to zero when parsing string " ++
+    set_name name
 alphabet_error_text (InvalidData l w) =
-    codes "length of bits (" ++ (decimal l ++ (codes ") provided not divisible by character width (" ++ (decimal w ++ codes ")")))
+    codes "length of bits (" ++ (decimal l ++
+    (codes ") provided not divisible by character width (" ++ (decimal w ++ codes ")")))
 alphabet_error_text (IndexNotFound i) = codes "index not found " ++ decimal i
 alphabet_error_text (CharacterNotFound c) =
-    codes "Character with decimal value " ++ decimal c ++ codes " not found from the permitted list."
-alphabet_error_text (InvalidRestrictedString e) = codes "Invalid alphabet constrained string: " ++ restricted_text e
+    codes "Character with decimal value " ++ decimal c ++
+    codes " not found from the permitted list."
+alphabet_error_text (InvalidRestrictedString e) =
+    codes "Invalid alphabet constrained string: " ++ restricted_text e
 alphabet_error_text Memory = codes "out of memory"

@@ -21,7 +21,8 @@ below_pow (suc n) =
 pub too_few : (n w v : ℕ) → 2 ^ w < n → n ≤ 2 ^ v → w + 1 ≤ v
 too_few n w v few enough = elim (cases_lt w v) [ inl lt ↦ omega arith | inr le ↦ absurd (let up = pow_mono le in omega arith) ]
 
-pick : (b : Bool) (w r goal : ℕ) → (b ≡ true → w ≡ goal) → (b ≡ false → r ≡ goal) → ◌≡◌ {A = ℕ} (elim b as (λ x. ℕ) [ true ↦ w | false ↦ r ]) goal
+pick : (b : Bool) (w r goal : ℕ) → (b ≡ true → w ≡ goal) → (b ≡ false → r ≡ goal) →
+    ◌≡◌ {A = ℕ} (elim b as (λ x. ℕ) [ true ↦ w | false ↦ r ]) goal
 pick true w r goal first second = first refl
 pick false w r goal first second = second refl
 
@@ -33,7 +34,8 @@ same_width w n goal is low e =
 next_width : (w n goal : ℕ) → IsLeastWidth n goal → leb n (2 ^ w) ≡ false → w + 1 ≤ goal
 next_width w n goal is e = too_few n w goal (grind (arith, nat_tests)) is.enough
 
-found : (more w n goal : ℕ) → IsLeastWidth n goal → w ≤ goal → goal ≤ w + more → least_from more w n ≡ goal
+found : (more w n goal : ℕ) → IsLeastWidth n goal → w ≤ goal → goal ≤ w + more →
+    least_from more w n ≡ goal
 unfolding least_from
 found zero w n goal is low high = omega arith
 found (suc more) w n goal is low high =
@@ -55,11 +57,13 @@ codes_small w narrow =
 pub few_codes : (n w : ℕ) → n ≤ 32 → IsLeastWidth n w → 2 ^ w ≤ 32
 few_codes n w small is = let low = is.least 5 (omega arith) in let up : 2 ^ w ≤ 2 ^ 5 = pow_mono low in omega arith
 
-choose : (b : Bool) (w r n : ℕ) → (b ≡ true → IsLeastWidth n w) → (b ≡ false → IsLeastWidth n r) → IsLeastWidth n (elim b as (λ x. ℕ) [ true ↦ w | false ↦ r ])
+choose : (b : Bool) (w r n : ℕ) → (b ≡ true → IsLeastWidth n w) → (b ≡ false → IsLeastWidth n r) →
+    IsLeastWidth n (elim b as (λ x. ℕ) [ true ↦ w | false ↦ r ])
 choose true w r n first second = first refl
 choose false w r n first second = second refl
 
-least_above : (more w n : ℕ) → n ≤ 2 ^ (w + more) → ((v : ℕ) → n ≤ 2 ^ v → w ≤ v) → IsLeastWidth n (least_from more w n)
+least_above : (more w n : ℕ) → n ≤ 2 ^ (w + more) → ((v : ℕ) → n ≤ 2 ^ v → w ≤ v) →
+    IsLeastWidth n (least_from more w n)
 unfolding least_from
 least_above zero w n enough least = record { enough = let e : w + 0 ≡ w = omega arith in rw e at enough; least = least }
 least_above (suc more) w n enough least =

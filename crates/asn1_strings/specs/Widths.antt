@@ -1,7 +1,8 @@
 -- Widths: how many bits give so many things codes of their own.
 use Rattle.std.specs.Prelude.{◌^◌, ◌+◌, ◌≤◌, ℕ, suc, zero, Bool, true, false, nat_le, if◌then◌else◌}
 
--- w is the least width in which n things can have codes of their own: for no thing, and for one, it is 0
+-- w is the least width in which n things can have codes of their own: for no thing, and for one, it
+-- is 0
 pub record IsLeastWidth (n w : ℕ) : Type 0 where
   pub enough : n ≤ 2 ^ w
   pub least : (v : ℕ) → n ≤ 2 ^ v → w ≤ v
@@ -15,7 +16,8 @@ least_from (suc more) w n = elim (nat_le n (2 ^ w)) [ true ↦ w | false ↦ lea
 unfoldable pub ceil_log2 : ℕ → ℕ
 ceil_log2 n = least_from n 0 n
 
--- a width as it is, and in the aligned variant the least power of two that is at least as large, which is 1 for 0
+-- a width as it is, and in the aligned variant the least power of two that is at least as large,
+-- which is 1 for 0
 abbrev pub align : Bool → ℕ → ℕ
 align aligned w = if aligned then 2 ^ ceil_log2 w else w
 
