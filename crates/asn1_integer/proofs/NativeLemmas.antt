@@ -1,5 +1,5 @@
 -- Lemmas on the values of the native types.
-use Rattle.std.proofs.Common.{◌≡◌, ℕ, zero, suc, ◌+◌, ◌-◌, ◌*◌, ◌%◌, ◌^◌, ◌<◌, ◌≤◌, ℤ, pos, negsuc, ◌-ℤ◌, neg_ℤ, ◌≤ℤ◌, refl, sym, ap, subst, ◌∙◌, arith, Bool, true, false, ◌&&◌, of_z, to_z, to_z-of_z, Result, Ok, Err, OnErr, IfOk, IsTrue, ◌↔◌, ◌<ℤ◌, ◌∷◌, cond, length}
+use Rattle.std.proofs.Common.{◌≡◌, ℕ, zero, suc, ◌+◌, ◌-◌, ◌*◌, ◌%◌, ◌^◌, ◌<◌, ◌≤◌, ℤ, pos, negsuc, ◌-ℤ◌, neg_ℤ, ◌≤ℤ◌, sym, ap, subst, ◌∙◌, arith, Bool, true, false, ◌&&◌, of_z, to_z, to_z-of_z, Result, Ok, Err, OnErr, IsTrue, ◌↔◌, ◌<ℤ◌, ◌∷◌, cond, length}
 use Rattle.std.proofs.lemmas.Bool.{false≢true}
 use Rattle.std.specs.Int.{to_be_bytes, bytes_high_first}
 use mir.Val.{SFits}

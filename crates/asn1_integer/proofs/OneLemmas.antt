@@ -1,9 +1,9 @@
 -- A number wraps to one number of a type, and has one residue.
-use Rattle.std.proofs.Common.{◌≡◌, ℕ, suc, ◌+◌, ◌-◌, ◌*◌, ◌^◌, ◌<◌, ◌≤◌, ℤ, pos, ◌+ℤ◌, ◌*ℤ◌, neg_ℤ, sym, ap, ◌∙◌, arith, ⊎_elim}
+use Rattle.std.proofs.Common.{◌≡◌, ℕ, suc, ◌+◌, ◌-◌, ◌*◌, ◌^◌, ◌<◌, ◌≤◌, ℤ, pos, ◌+ℤ◌, ◌*ℤ◌, neg_ℤ, ap, arith, ⊎_elim}
 use Rattle.std.proofs.Math.Nat.{suc-mul, mul-le-mul_right}
 use Rattle.std.proofs.lemmas.Bool.{cases_lt}
 use borrow.Author.Differences.{up, down, le_out, lt_out, neg_is, sum_is_lem, product_is, same_in}
-use Rattle.asn1_number.specs.Readings.{IntegerKind, SignedOf, UnsignedOf}
+use Rattle.asn1_number.specs.Readings.{SignedOf, UnsignedOf}
 use Rattle.asn1_integer.specs.Wrapping.{WrapsToOne, HasOneResidue}
 use Rattle.asn1_integer.proofs.NativeLemmas.{halves}
 

@@ -1,5 +1,5 @@
 -- What the calls of `IntegerType` answer, for a type of any kind.
-use Rattle.std.specs.Prelude.{◌≡◌, ℕ, ◌*◌, ◌^◌, ℤ, pos, ◌+ℤ◌, ◌≤ℤ◌, List, ⊤, Result, Option, MatchOption, IsSomeAnd}
+use Rattle.std.specs.Prelude.{◌≡◌, ℕ, ◌^◌, ℤ, pos, ◌+ℤ◌, ◌≤ℤ◌, List, ⊤, Result, Option, MatchOption, IsSomeAnd}
 use Rattle.std.specs.Int.{IsNonNegative}
 use Rattle.asn1_number.specs.declared.error.IntegerError.{IntegerError}
 use Rattle.asn1_number.specs.Octets.{IsShortestUnsigned}

@@ -1,5 +1,5 @@
 -- The one number of a native type's range that a whole number wraps to.
-use Rattle.std.specs.Prelude.{◌≡◌, ℕ, ◌*◌, ◌^◌, ◌<◌, ◌≤◌, ℤ, pos, ◌+ℤ◌, ◌*ℤ◌}
+use Rattle.std.specs.Prelude.{◌≡◌, ℕ, ◌^◌, ◌<◌, ◌≤◌, ℤ, pos, ◌+ℤ◌, ◌*ℤ◌}
 use Rattle.asn1_number.specs.Readings.{IntegerKind, width_of, IsInRange}
 
 -- n is m and a multiple of the modulus

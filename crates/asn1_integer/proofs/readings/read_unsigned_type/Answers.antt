@@ -1,4 +1,4 @@
-use Rattle.std.proofs.Common.{rules, arith, ◌<◌, ◌≤◌, length, subst, sym, ap, ◌∙◌, pos}
+use Rattle.std.proofs.Common.{rules, arith, ◌<◌, ◌≤◌, length, subst, ◌∙◌, pos}
 use Rattle.asn1_number.specs.Octets.{unsigned}
 use Rattle.asn1_number.specs.Readings.{UnsignedOf, counted_length}
 use Rattle.asn1_number.proofs.OctetLemmas.{octets_from_places}

@@ -1,4 +1,4 @@
-use Rattle.std.proofs.Common.{rules, arith, ◌≡◌, ◌≤◌, ◌-◌, length, drop, take, get_or, ap, ◌∙◌}
+use Rattle.std.proofs.Common.{arith, ◌≡◌, ◌-◌, length, drop, take, get_or, ap, ◌∙◌}
 use Rattle.std.proofs.lemmas.Grind.{common_steps}
 use Rattle.asn1_number.specs.Octets.{unsigned}
 use Rattle.asn1_integer.proofs.ReadingLemmas.{counted_after_zero}

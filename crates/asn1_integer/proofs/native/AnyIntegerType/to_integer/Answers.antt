@@ -1,4 +1,4 @@
-use Rattle.std.proofs.Common.{◌≡◌, ◌≤◌, ◌^◌, pos, IfOk, subst, ap, ◌∙◌, to_z, of_z, to_z-of_z}
+use Rattle.std.proofs.Common.{◌≡◌, ◌≤◌, ◌^◌, IfOk, subst, ap, ◌∙◌, to_z, of_z, to_z-of_z}
 use Rattle.std.specs.Int.{w128}
 use Rattle.asn1_integer.proofs.NativeLemmas.{fits_signed, bits_at, bits_of_native, great_is_unsigned, great_wants_memory, on_err}
 use Rattle.asn1_integer.proofs.native.AnyIntegerType.to_integer.Goals as goal
