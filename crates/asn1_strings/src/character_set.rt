@@ -1,7 +1,9 @@
 //! The base sets of the eight strings (X.680 41).
 ghost use Rattle.std.specs.Prelude.{◌≡◌, ◌≢◌, ◌<◌, ℕ, length, false, Some, slice_get, slice_index_or, MatchOption};
 ghost use Rattle.asn1_strings.specs.Sets.{ranges_of, base_set, base_count, base_largest, base_width, base_indexed, has_character, IsRange};
+ghost use Rattle.asn1_strings.specs.Words.{in_words};
 ghost use Rattle.asn1_strings.specs.Texts.{set_name};
+ghost use Rattle.asn1_strings.specs.declared.character_set.CharacterSetName.TheVariants.{Bmp};
 
 use crate::character_words::CharacterWords;
 use std::fmt;
@@ -109,6 +111,53 @@ impl CharacterSetName {
         match self {
             CharacterSetName::Bmp => character <= 0xFFFD,
             _ => character < 256 && self.words().contains(character),
+        }
+    }
+
+    // The words of a base set. That of `BmpString` is larger, and has none.
+    pub(crate) fn words(self) -> CharacterWords
+        requires { self ≢ Bmp }
+        ensures { (c : ℕ) → c < 256 → in_words result.words c ≡ has_character (base_set self) c }
+    {
+        match self {
+            CharacterSetName::Bmp => CharacterWords::new(0, 0, 0, 0),
+            CharacterSetName::General => CharacterWords::new(
+                0xffffffffffffffff,
+                0xffffffffffffffff,
+                0xfffffffe00000000,
+                0xffffffffffffffff,
+            ),
+            CharacterSetName::Graphic => CharacterWords::new(
+                0xffffffff00000000,
+                0x7fffffffffffffff,
+                0xfffffffe00000000,
+                0xffffffffffffffff,
+            ),
+            CharacterSetName::IA5 => CharacterWords::new(
+                0xffffffffffffffff,
+                0xffffffffffffffff,
+                0,
+                0,
+            ),
+            CharacterSetName::Numeric => CharacterWords::new(0x03ff000100000000, 0, 0, 0),
+            CharacterSetName::Printable => CharacterWords::new(
+                0xa7fffb8100000000,
+                0x07fffffe07fffffe,
+                0,
+                0,
+            ),
+            CharacterSetName::Teletex => CharacterWords::new(
+                0xffffffffffffffff,
+                0xffffffffffffffff,
+                0xffffffffffffffff,
+                0xffffffffffffffff,
+            ),
+            CharacterSetName::Visible => CharacterWords::new(
+                0xffffffff00000000,
+                0x7fffffffffffffff,
+                0,
+                0,
+            ),
         }
     }
 

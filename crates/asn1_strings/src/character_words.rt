@@ -14,7 +14,8 @@ pub(crate) struct CharacterWords {
 }
 
 impl CharacterWords {
-    const fn new(first: u64, second: u64, third: u64, fourth: u64) -> CharacterWords
+    // The set of these words.
+    pub(crate) const fn new(first: u64, second: u64, third: u64, fourth: u64) -> CharacterWords
         ensures { result.words ≡ first ∷ second ∷ third ∷ fourth ∷ [] }
     {
         CharacterWords {
@@ -55,54 +56,5 @@ impl CharacterWords {
         let place = (character / 64) as usize;
         words[place] = words[place] | (1 << (character % 64));
         CharacterWords { words }
-    }
-}
-
-impl CharacterSetName {
-    // The words of a base set. That of `BmpString` is larger, and has none.
-    pub(crate) fn words(self) -> CharacterWords
-        requires { self ≢ Bmp }
-        ensures { (c : ℕ) → c < 256 → in_words result.words c ≡ has_character (base_set self) c }
-    {
-        match self {
-            CharacterSetName::Bmp => CharacterWords::new(0, 0, 0, 0),
-            CharacterSetName::General => CharacterWords::new(
-                0xffffffffffffffff,
-                0xffffffffffffffff,
-                0xfffffffe00000000,
-                0xffffffffffffffff,
-            ),
-            CharacterSetName::Graphic => CharacterWords::new(
-                0xffffffff00000000,
-                0x7fffffffffffffff,
-                0xfffffffe00000000,
-                0xffffffffffffffff,
-            ),
-            CharacterSetName::IA5 => CharacterWords::new(
-                0xffffffffffffffff,
-                0xffffffffffffffff,
-                0,
-                0,
-            ),
-            CharacterSetName::Numeric => CharacterWords::new(0x03ff000100000000, 0, 0, 0),
-            CharacterSetName::Printable => CharacterWords::new(
-                0xa7fffb8100000000,
-                0x07fffffe07fffffe,
-                0,
-                0,
-            ),
-            CharacterSetName::Teletex => CharacterWords::new(
-                0xffffffffffffffff,
-                0xffffffffffffffff,
-                0xffffffffffffffff,
-                0xffffffffffffffff,
-            ),
-            CharacterSetName::Visible => CharacterWords::new(
-                0xffffffff00000000,
-                0x7fffffffffffffff,
-                0,
-                0,
-            ),
-        }
     }
 }

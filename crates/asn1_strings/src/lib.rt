@@ -1,4 +1,8 @@
 //! Octet strings, the eight restricted character strings and permitted alphabets of ASN.1.
+//!
+//! A string is a list of characters, each in the base set of its kind (X.680 41). It is read from its contents
+//! (X.690 8.21), a text, bits or an alphabet, whole and in order, or refused by its first wrong piece. An alphabet
+//! gives a character the code that X.691 30.5 names, and takes no memory.
 #![tactic(auto)]
 
 mod alphabet;
@@ -24,6 +28,7 @@ mod search;
 mod static_permitted_alphabet;
 mod string_kind;
 mod teletex_string;
+mod utf8_string;
 mod visible_string;
 mod widths;
 
@@ -50,10 +55,8 @@ pub use search::{Entries, find_ascending};
 pub use static_permitted_alphabet::StaticPermittedAlphabet;
 pub use string_kind::StringKind;
 pub use teletex_string::{Teletex, TeletexString};
+pub use utf8_string::Utf8String;
 pub use visible_string::{Visible, VisibleString};
-
-/// A `UTF8String` (X.680 41): any text.
-pub type Utf8String = String;
 
 #[cfg(test)]
 mod tests;

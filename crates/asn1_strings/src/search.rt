@@ -35,8 +35,9 @@ impl Entries for &[u32] {
     }
 }
 
-/// A place of the character in a list that never falls, and None where the list lacks it. It makes at
-/// most as many probes as the list's count has binary digits, and one more.
+/// A place of the character in a list that never falls, and None where the list lacks it. Among N
+/// entries it makes at most w + 1 probes, w being the least width in which N things have codes, and
+/// at least one where it answers a place.
 pub fn find_ascending<L: Entries>(entries: &L, character: u32, probes: &mut Turns) -> Option<usize>
     requires { IsNonDecreasing (L.list entries.now) }
     ensures place { MatchOption result (has_character (L.list entries.now) character ≡ false)
