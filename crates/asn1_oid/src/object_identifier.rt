@@ -1,0 +1,173 @@
+//! Identifiers that own their arcs, or borrow them for good.
+
+ghost use Rattle.std.specs.Prelude.{◌≡◌, ◌↔◌, IsTrue, IfOk, Some, MatchOption, nat_eq, refl};
+ghost use Rattle.std.specs.Cmp.{partial_equiv_from_equiv, unsigned_Decides};
+ghost use Rattle.std.specs.Cmp.Lexicographic.{pointwise, slice_cmp, nat_list_eq_equiv, nat_list_cmp_total, texts_po, texts_ties, pointwise_decides};
+ghost use Rattle.std.specs.Cow.{cow_slice_items};
+ghost use Rattle.std.specs.Hash as fed;
+ghost use Rattle.std.specs.Hash.{same_Alike};
+ghost use Rattle.std.specs.Ordering.{nat_cmp};
+ghost use Rattle.asn1_oid.specs.Arcs.{IsValidArcs, dotted};
+ghost use Rattle.asn1_oid.specs.Oid.{arcs_of};
+
+use crate::oid::{Oid, is_valid};
+use std::alloc::{AllocError, Global};
+use std::borrow::CowSlice;
+use std::cmp::Ordering;
+use std::fmt;
+use std::hash::{Hash, Hasher};
+use std::marker::Model;
+
+/// An object identifier that owns its arcs, or borrows them for good.
+#[derive(Debug, Drop)]
+pub struct ObjectIdentifier {
+    arcs: CowSlice<'static, u32>,
+}
+
+impl Model for ObjectIdentifier {
+    ghost use Rattle.std.specs.Prelude.{List, ℕ};
+    ghost use Rattle.std.specs.Cow.{cow_slice_items};
+    ghost use Rattle.asn1_oid.specs.Arcs.{IsValidArcs};
+
+    ghost Value = { List ℕ };
+
+    ghost view = { λ o. cow_slice_items o.arcs };
+
+    ghost invariant = { λ o. IsValidArcs (cow_slice_items o.arcs) };
+}
+
+impl ObjectIdentifier {
+    /// An identifier of the arcs; None where they are not valid (X.660).
+    pub fn new(arcs: CowSlice<'static, u32>) -> Option<ObjectIdentifier>
+        ensures { MatchOption result (¬ (IsValidArcs (cow_slice_items arcs.entry)))
+            (λ oid. (oid ≡ cow_slice_items arcs.entry) × IsValidArcs oid) }
+    {
+        if is_valid(arcs.as_slice()) {
+            Some(ObjectIdentifier { arcs })
+        } else {
+            None
+        }
+    }
+
+    /// An identifier of the arcs; None where they are not valid (X.660).
+    pub fn from_vec(arcs: Vec<u32>) -> Option<ObjectIdentifier>
+        ensures { MatchOption result (¬ (IsValidArcs arcs.items))
+            (λ oid. (oid ≡ arcs.items) × IsValidArcs oid) }
+    {
+        ObjectIdentifier::new(CowSlice::Owned(arcs))
+    }
+
+    /// An identifier of arcs that the caller knows to be valid.
+    pub fn new_unchecked(arcs: CowSlice<'static, u32>) -> ObjectIdentifier
+        requires { IsValidArcs (cow_slice_items arcs) }
+        ensures { result ≡ cow_slice_items arcs.entry }
+    {
+        ObjectIdentifier { arcs }
+    }
+
+    /// A copy that owns its arcs.
+    pub fn from_oid(alloc: Global, oid: Oid<'_>) -> Result<ObjectIdentifier, AllocError>
+        ensures { IfOk result (λ copy. copy ≡ arcs_of oid.entry) }
+    {
+        let arcs = Vec::from_slice(alloc, oid.as_ref())?;
+        Ok(ObjectIdentifier {
+            arcs: CowSlice::Owned(arcs),
+        })
+    }
+
+    /// The identifier, borrowed.
+    pub fn as_oid(&self) -> Oid<'_>
+        ensures { arcs_of result ≡ self.now }
+    {
+        Oid::new_unchecked(self.arcs.as_slice())
+    }
+
+    /// The arcs.
+    pub fn as_ref(&self) -> &[u32]
+        ensures arcs { result.now ≡ self.now }
+        ensures valid { IsValidArcs result.now }
+    {
+        self.arcs.as_slice()
+    }
+
+    /// The arcs, taken out.
+    pub fn into_arcs(self) -> CowSlice<'static, u32>
+        ensures arcs { cow_slice_items result ≡ self }
+        ensures valid { IsValidArcs (cow_slice_items result) }
+    {
+        let ObjectIdentifier { arcs } = self;
+        arcs
+    }
+
+    /// Whether these are its arcs.
+    pub fn eq_arcs(&self, arcs: &[u32]) -> bool
+        ensures { IsTrue result ↔ (self.now ≡ arcs.now) }
+    {
+        self.as_ref() == arcs
+    }
+
+    /// A copy that owns its arcs.
+    pub fn clone(&self, alloc: Global) -> Result<ObjectIdentifier, AllocError>
+        ensures { IfOk result (λ copy. copy ≡ self.now) }
+    {
+        ObjectIdentifier::from_oid(alloc, self.as_oid())
+    }
+}
+
+/// The arcs in decimal, joined by full stops.
+impl fmt::Display for ObjectIdentifier {
+    ghost output = { λ oid. Some (dotted oid) };
+
+    fn fmt<W: fmt::Write>(&self, f: &mut fmt::Formatter<W>) -> fmt::Result {
+        let oid = self.as_oid();
+        write!(f, "{oid}")
+    }
+}
+
+impl PartialEq for ObjectIdentifier {
+    ghost eq = { pointwise nat_eq };
+
+    ghost laws = { partial_equiv_from_equiv nat_list_eq_equiv };
+
+    fn eq(&self, other: &ObjectIdentifier) -> bool {
+        self.as_ref() == other.as_ref()
+    }
+}
+
+impl Eq for ObjectIdentifier {
+    ghost laws = { nat_list_eq_equiv };
+}
+
+impl PartialOrd for ObjectIdentifier {
+    ghost partial_cmp = { λ a b. Some (slice_cmp nat_cmp a b) };
+
+    ghost laws = { texts_po };
+
+    fn partial_cmp(&self, other: &ObjectIdentifier) -> Option<Ordering> {
+        Some(self.cmp(other))
+    }
+}
+
+impl Ord for ObjectIdentifier {
+    ghost cmp = { slice_cmp nat_cmp };
+
+    ghost total = { nat_list_cmp_total };
+
+    ghost matches_partial_cmp = { λ a b. refl };
+
+    ghost matches_eq = { texts_ties };
+
+    fn cmp(&self, other: &ObjectIdentifier) -> Ordering {
+        self.as_ref().cmp(other.as_ref())
+    }
+}
+
+impl Hash for ObjectIdentifier {
+    ghost hash_input = { fed.slice fed.u32 };
+
+    ghost respects_eq = { (same_Alike (fed.slice fed.u32) (pointwise_decides unsigned_Decides)).fed };
+
+    fn hash<H: Hasher>(&self, state: &mut H) {
+        self.as_ref().hash(state);
+    }
+}

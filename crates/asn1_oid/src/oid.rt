@@ -1,0 +1,92 @@
+//! Identifiers that borrow their arcs.
+
+ghost use Rattle.std.specs.Prelude.{◌≡◌, ◌<◌, ◌≤◌, ◌↔◌, Some, length, IsTrue, IfOk, MatchOption};
+ghost use Rattle.asn1_oid.specs.Arcs.{IsValidArcs, dotted};
+
+use crate::object_identifier::ObjectIdentifier;
+use std::alloc::{AllocError, Global};
+use std::fmt;
+
+/// An object identifier that borrows its arcs.
+#[derive(Clone, Copy, Debug, PartialEq, Eq, PartialOrd, Ord, Hash)]
+pub struct Oid<'a> {
+    arcs: &'a [u32],
+    ghost valid: { IsValidArcs arcs.now },
+}
+
+/// Whether the arcs are those of an identifier.
+pub(crate) fn is_valid(arcs: &[u32]) -> bool
+    ensures { IsTrue result ↔ IsValidArcs arcs.now }
+{
+    match arcs {
+        [] => false,
+        [first] => *first <= 2,
+        [first, second, ..] => *first == 2 || *first < 2 && *second <= 39,
+    }
+}
+
+impl<'a> Oid<'a> {
+    ghost use Rattle.asn1_oid.specs.Oid.{arcs_of};
+
+    /// An identifier of the arcs; None where they are not valid (X.660).
+    pub fn new(arcs: &'a [u32]) -> Option<Oid<'a>>
+        ensures { MatchOption result (¬ (IsValidArcs arcs.now))
+            (λ oid. (arcs_of oid ≡ arcs.now) × IsValidArcs arcs.now) }
+    {
+        if is_valid(arcs) {
+            Some(Oid { arcs })
+        } else {
+            None
+        }
+    }
+
+    /// An identifier of arcs that the caller knows to be valid.
+    pub fn new_unchecked(arcs: &'a [u32]) -> Oid<'a>
+        requires { IsValidArcs arcs.now }
+        ensures { arcs_of result ≡ arcs.now }
+    {
+        Oid { arcs }
+    }
+
+    /// The arcs.
+    pub fn as_ref(&self) -> &'a [u32]
+        ensures arcs { result.now ≡ arcs_of self.now }
+        ensures valid { IsValidArcs result.now }
+    {
+        self.arcs
+    }
+
+    /// A copy that owns its arcs.
+    pub fn to_owned(&self, alloc: Global) -> Result<ObjectIdentifier, AllocError>
+        ensures { IfOk result (λ copy. copy ≡ arcs_of self.now) }
+    {
+        ObjectIdentifier::from_oid(alloc, *self)
+    }
+
+    /// Whether these are its arcs.
+    pub fn eq_arcs(&self, arcs: &[u32]) -> bool
+        ensures { IsTrue result ↔ (arcs_of self.now ≡ arcs.now) }
+    {
+        self.arcs == arcs
+    }
+}
+
+/// The arcs in decimal, joined by full stops.
+impl fmt::Display for Oid<'_> {
+    ghost use Rattle.std.specs.Prelude.{Some};
+    ghost use Rattle.asn1_oid.specs.Arcs.{dotted};
+    ghost use Rattle.asn1_oid.specs.Oid.{arcs_of};
+
+    ghost output = { λ oid. Some (dotted (arcs_of oid)) };
+
+    fn fmt<W: fmt::Write>(&self, f: &mut fmt::Formatter<W>) -> fmt::Result {
+        let Some((first, rest)) = self.arcs.split_first() else {
+            return Ok(());
+        };
+        write!(f, "{first}")?;
+        for arc in rest {
+            write!(f, ".{arc}")?;
+        }
+        Ok(())
+    }
+}
