@@ -1,12 +1,12 @@
 //! Callers that are proved from the contracts alone: none of their proofs names a lemma of this crate.
 
-ghost use Rattle.std.specs.Prelude.{◌≡◌, ◌+◌, ◌*◌, ◌^◌, ◌<◌, ◌≤◌, ◌++◌, length, replicate, false, take, drop, OnOk, OnErr, IfOk};
-ghost use Rattle.asn1_bits.specs.Bits.{bits, digits, octets_for};
-ghost use Rattle.asn1_bits.specs.BitStr.{view_of, bits_of};
-ghost use Rattle.asn1_bits.specs.BitReader.{view_left, bits_left};
+ghost use Rattle.std.specs.Prelude.{◌≡◌, ◌+◌, ◌%◌, ◌^◌, ◌<◌, ◌++◌, length, replicate, false, take, drop, OnOk, OnErr, IfOk, IsOk};
+ghost use Rattle.asn1_bits.specs.Bits.{digits};
+ghost use Rattle.asn1_bits.specs.BitReader.{bits_left};
+ghost use Rattle.asn1_bits.specs.Octets.{IsBorrowed};
 
-use crate::{BitBuffer, BitReader};
-use std::alloc::AllocError;
+use crate::{BitBuffer, BitReader, BitStr, BitString, Octets, to_bitstring};
+use std::alloc::{AllocError, Global};
 use std::test::Fail;
 
 /// Room that is filled.
@@ -32,6 +32,15 @@ fn leaves_room(buffer: &mut BitBuffer) -> Result<(), AllocError>
     Ok(())
 }
 
+/// The octets of a bit string that fills them are lent.
+fn lends_its_octets(alloc: Global, bits: &BitString) -> Result<Octets<'_>, AllocError>
+    requires { length bits.now % 8 ≡ 0 }
+    ensures lent { IfOk result IsBorrowed }
+    ensures free { IsOk result }
+{
+    BitReader::new(bits.as_bitstr()).octets(alloc)
+}
+
 /// Two numbers, one after another.
 fn reads_two(reader: &mut BitReader<'_>) -> Result<(u128, u128), usize>
     ensures first { IfOk result (λ r. digits r.0 3 ≡ take 3 (bits_left reader.old)) }
@@ -49,6 +58,13 @@ fn callers_stand_on_the_contracts(rt: HostRuntime) -> Result<(), Fail> {
     assert!(rt; buffer.len() < 100);
     leaves_room(&mut buffer)?;
     assert_eq!(rt; buffer.as_bytes(), [0xEC, 0x50, 0x00].as_slice());
+    let copy = to_bitstring(
+        rt.alloc(),
+        BitStr::new(&[0xF6, 0x94], 4, 8).ok_or("within")?,
+    )?;
+    assert!(rt; copy.len() % 8 == 0);
+    let lent = lends_its_octets(rt.alloc(), &copy)?;
+    assert_eq!(rt; lent.as_ref(), [0x69].as_slice());
     let mut reader = BitReader::from_octets(&[0xF6, 0x94, 0x02]);
     let two = reads_two(&mut reader).map_err(|_| "short")?;
     assert_eq!(rt; two, (0b111, 0b1_0110_1001_0100_000));
