@@ -1,0 +1,118 @@
+-- For each kind: what is taken is spelled so, what is spelled so is taken again, and a refusal has its reason.
+use Rattle.std.proofs.Common.{◌≡◌, ℕ, ◌-◌, ◌<◌, ◌≤◌, Bool, true, false, cond, ltb, List, ◌++◌, length, take, drop, Result, Ok, Err, refl, sym, subst, arith, inl, inr, ◌⊎◌}
+use Rattle.std.proofs.lemmas.List.{length-append, take_at, drop_at, length-take, take-append-drop}
+use Rattle.std.proofs.lemmas.Bool.{ltb-true, ltb-false, le-ltb}
+use Rattle.asn1_values.specs.Fields.{Field, Shape, IsSpelledBy, IsOfShape}
+use Rattle.asn1_values.specs.Wrong.{Fault, Short, IsShortBy, IsReason}
+use Rattle.asn1_values.specs.Walk.{◌>>=◌, cut_at}
+
+-- the field stands at the front of the list, and the rest follows
+pub record Takes (shape : Shape) (list : List Bool) (field : Field) (rest : List Bool) : Type 0 where
+  pub front : List Bool
+  pub of_shape : IsOfShape field shape
+  pub spelled : IsSpelledBy field front
+  pub parts : list ≡ front ++ rest
+
+-- reading a field of the shape is exact
+pub record IsExact (shape : Shape) (read : List Bool → Result (Field × List Bool) Fault) : Type 0 where
+  pub taken : (list : List Bool) (field : Field) (rest : List Bool) → read list ≡ Ok (field, rest) → Takes shape list field rest
+  pub again : (field : Field) (front rest : List Bool) → IsOfShape field shape → IsSpelledBy field front → read (front ++ rest) ≡ Ok (field, rest)
+  pub reason : (list : List Bool) (fault : Fault) → read list ≡ Err fault → IsReason shape list fault
+
+-- the same of the bits of a whole field, of which there are n
+pub record HoldsExactly (shape : Shape) (n : ℕ) (content : List Bool → Result Field Fault) : Type 0 where
+  pub taken : (front : List Bool) (field : Field) → length front ≡ n → content front ≡ Ok field → IsOfShape field shape × IsSpelledBy field front
+  pub again : (field : Field) (front : List Bool) → IsOfShape field shape → IsSpelledBy field front → (length front ≡ n) × (content front ≡ Ok field)
+  pub reason : (front rest : List Bool) (fault : Fault) → length front ≡ n → content front ≡ Err fault → IsReason shape (front ++ rest) fault
+  pub short : (list : List Bool) (k : ℕ) → IsShortBy n list k → IsReason shape list (Short k)
+
+-- ---- steps that may fail
+
+pub bind_ok : {A B E : Type 0} (r : Result A E) (f : A → Result B E) (y : B) → (r >>= f) ≡ Ok y → (x : A) × (r ≡ Ok x) × (f x ≡ Ok y)
+bind_ok (Ok x) f y e = (x, refl, e)
+bind_ok (Err d) f y e = absurd cc
+
+pub bind_err : {A B E : Type 0} (r : Result A E) (f : A → Result B E) (d : E) → (r >>= f) ≡ Err d → (r ≡ Err d) ⊎ ((x : A) × (r ≡ Ok x) × (f x ≡ Err d))
+bind_err (Ok x) f d e = inr (x, refl, e)
+bind_err (Err c) f d e = inl (cc)
+
+pub chosen : {A : Type 0} (b : Bool) (x y z : A) → cond b x y ≡ z → ((b ≡ true) × (x ≡ z)) ⊎ ((b ≡ false) × (y ≡ z))
+chosen true x y z e = inl (refl, e)
+chosen false x y z e = inr (refl, e)
+
+abbrev pub Read : Type 0
+Read = Result (Field × List Bool) Fault
+
+pub err_is : (c d : Fault) → ◌≡◌ {A = Read} (Err c) (Err d) → c ≡ d
+err_is c d e = cc
+
+pub ok_is : (x y : Field × List Bool) → ◌≡◌ {A = Read} (Ok x) (Ok y) → x ≡ y
+ok_is x y e = cc
+
+pub err_is_no_ok : (c : Fault) (x : Field × List Bool) → ◌≡◌ {A = Read} (Err c) (Ok x) → ⊥
+err_is_no_ok c x e = cc
+
+pub ok_is_no_err : (x : Field × List Bool) (c : Fault) → ◌≡◌ {A = Read} (Ok x) (Err c) → ⊥
+ok_is_no_err x c e = cc
+
+-- ---- from the bits of a whole field to the bits that begin with it
+
+module _ (shape : Shape) (n : ℕ) (content : List Bool → Result Field Fault) (exact : HoldsExactly shape n content) where
+  step : List Bool → Field → Read
+  step list field = Ok (field, drop n list)
+
+  cut_taken : (list : List Bool) (field : Field) (rest : List Bool) → cut_at n content list ≡ Ok (field, rest) → Takes shape list field rest
+  unfolding cut_at step
+  cut_taken list field rest e =
+      elim (chosen (ltb (length list) n) (Err (Short (n - length list))) (content (take n list) >>= step list) (Ok (field, rest)) e) [
+        | inl h ↦ absurd (err_is_no_ok _ _ h.1)
+        | inr h ↦
+            let long : n ≤ length list = ltb-false _ _ h.0 in
+            let b = bind_ok (content (take n list)) (step list) (field, rest) h.1 in
+            let same : (b.0, drop n list) ≡ (field, rest) = ok_is (b.0, drop n list) (field, rest) b.2 in
+            let t = exact.taken (take n list) b.0 (omega (arith, length-take n list)) b.1 in
+            let takes : Takes shape list b.0 (drop n list) = record { front = take n list; of_shape = t.0; spelled = t.1; parts = sym (take-append-drop n list) } in
+            subst (λ (p : Field × List Bool). Takes shape list p.0 p.1) same takes
+      ]
+
+  cut_again : (field : Field) (front rest : List Bool) → IsOfShape field shape → IsSpelledBy field front → cut_at n content (front ++ rest) ≡ Ok (field, rest)
+  unfolding cut_at
+  cut_again field front rest of_shape spelled =
+      let a = exact.again field front of_shape spelled in
+      let long : ltb (length (front ++ rest)) n ≡ false = le-ltb _ _ (omega (arith, length-append front rest, a.0)) in
+      rw (long, take_at front rest n a.0, drop_at front rest n a.0, a.1) refl
+
+  cut_reason : (list : List Bool) (fault : Fault) → cut_at n content list ≡ Err fault → IsReason shape list fault
+  unfolding cut_at step
+  cut_reason list fault e =
+      elim (chosen (ltb (length list) n) (Err (Short (n - length list))) (content (take n list) >>= step list) (Err fault) e) [
+        | inl h ↦
+            let short : length list < n = ltb-true _ _ h.0 in
+            subst (λ (f : Fault). IsReason shape list f) (err_is _ _ h.1) (exact.short list (n - length list) (omega arith, omega arith))
+        | inr h ↦
+            let long : n ≤ length list = ltb-false _ _ h.0 in
+            elim (bind_err (content (take n list)) (step list) fault h.1) [
+              | inl c ↦ subst (λ (l : List Bool). IsReason shape l fault) (take-append-drop n list) (exact.reason (take n list) (drop n list) fault (omega (arith, length-take n list)) c)
+              | inr c ↦ absurd (ok_is_no_err _ _ c.2)
+            ]
+      ]
+
+  pub cut_exact : IsExact shape (cut_at n content)
+  cut_exact = record { taken = cut_taken; again = cut_again; reason = cut_reason }
+
+-- ---- what the bits of a whole field hold
+
+abbrev pub Held : Type 0
+Held = Result Field Fault
+
+pub held_is : (x y : Field) → ◌≡◌ {A = Held} (Ok x) (Ok y) → x ≡ y
+held_is x y e = cc
+
+pub fault_is : (c d : Fault) → ◌≡◌ {A = Held} (Err c) (Err d) → c ≡ d
+fault_is c d e = cc
+
+pub no_field : (c : Fault) (x : Field) → ◌≡◌ {A = Held} (Err c) (Ok x) → ⊥
+no_field c x e = cc
+
+pub no_fault : (x : Field) (c : Fault) → ◌≡◌ {A = Held} (Ok x) (Err c) → ⊥
+no_fault x c e = cc

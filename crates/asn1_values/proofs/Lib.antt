@@ -1,0 +1,15 @@
+pub mod BitsKind
+pub mod CharacterKind
+pub mod ExactKinds
+pub mod HeadlineLemmas
+pub mod IntegerKind
+pub mod JoinedLemmas
+pub mod LiesLemmas
+pub mod ListLemmas
+pub mod NumberKind
+pub mod OctetLemmas
+pub mod OctetsKind
+pub mod OneSpelling
+pub mod RefusalLemmas
+pub mod SpellingLemmas
+pub mod WalkLemmas

@@ -1,0 +1,99 @@
+-- Lists of fields: the walk against the relations, whatever kinds of field there are.
+use Rattle.std.proofs.Common.{◌≡◌, ℕ, Bool, List, [], ◌∷◌, ◌++◌, Result, Ok, Err, refl, sym, ap, subst, ◌∙◌, append_assoc}
+use Rattle.std.specs.List.{AllByRecursion}
+use Rattle.std.proofs.lemmas.List.{append-nil}
+use Rattle.asn1_values.specs.Fields.{Field, Shape, IsSpelledBy, IsOfShape, Begins}
+use Rattle.asn1_values.specs.Wrong.{Fault}
+use Rattle.asn1_values.specs.Walk.{◌>>=◌, field_at, fields_at, at_place, one_later}
+use Rattle.asn1_values.proofs.ExactKinds.{IsExact, Takes, bind_ok, Read, ok_is}
+
+abbrev pub AreExact : List Shape → Type 0
+AreExact shapes = AllByRecursion (λ shape. IsExact shape (field_at shape)) shapes
+
+-- one more field in front
+pub Begins-cons : (list : List Bool) (shape : Shape) (field : Field) (middle : List Bool) (shapes : List Shape) (fields : List Field) (rest : List Bool)
+    → Takes shape list field middle → Begins middle shapes fields rest → Begins list (shape ∷ shapes) (field ∷ fields) rest
+Begins-cons list shape field middle shapes fields rest t b =
+    record {
+      of_shapes = (t.of_shape, b.of_shapes);
+      front = t.front ++ b.front;
+      spelled = (t.front, b.front, t.spelled, b.spelled, refl);
+      parts = t.parts ∙ ap (λ (l : List Bool). t.front ++ l) b.parts ∙ sym (append_assoc t.front b.front rest);
+    }
+
+pub Begins-none : (list : List Bool) → Begins list [] [] list
+Begins-none list = record { of_shapes = tt; front = []; spelled = refl; parts = refl }
+
+-- the first field, and the others
+pub record Splits (list : List Bool) (shape : Shape) (field : Field) (shapes : List Shape) (fields : List Field) (rest : List Bool) : Type 0 where
+  pub middle : List Bool
+  pub first : Takes shape list field middle
+  pub others : Begins middle shapes fields rest
+
+pub Begins-split : (list : List Bool) (shape : Shape) (field : Field) (shapes : List Shape) (fields : List Field) (rest : List Bool)
+    → Begins list (shape ∷ shapes) (field ∷ fields) rest → Splits list shape field shapes fields rest
+Begins-split list shape field shapes fields rest b =
+    let s = b.spelled in
+    record {
+      middle = s.1 ++ rest;
+      first = record { front = s.0; of_shape = b.of_shapes.0; spelled = s.2; parts = b.parts ∙ ap (λ (l : List Bool). l ++ rest) s.4 ∙ append_assoc s.0 s.1 rest };
+      others = record { of_shapes = b.of_shapes.1; front = s.1; spelled = s.3; parts = refl };
+    }
+
+-- ---- what is read begins so
+
+abbrev pub ReadAll : Type 0
+ReadAll = Result (List Field × List Bool) (ℕ × Fault)
+
+pub all_is : (x y : List Field × List Bool) → ◌≡◌ {A = ReadAll} (Ok x) (Ok y) → x ≡ y
+all_is x y e = cc
+
+pub placed_ok : (r : Read) (x : Field × List Bool) → at_place 0 r ≡ Ok x → r ≡ Ok x
+placed_ok (Ok y) x e = cc
+placed_ok (Err d) x e = absurd cc
+
+pub later_ok : (r : ReadAll) (x : List Field × List Bool) → one_later r ≡ Ok x → r ≡ Ok x
+later_ok (Ok y) x e = cc
+later_ok (Err d) x e = absurd cc
+
+unfoldable pub others_of : Field → ReadAll → ReadAll
+others_of field others = one_later others >>= λ x. Ok (field ∷ x.0, x.1)
+
+pub fields_taken : (shapes : List Shape) (list : List Bool) (fields : List Field) (rest : List Bool) → AreExact shapes → fields_at shapes list ≡ Ok (fields, rest) → Begins list shapes fields rest
+unfolding fields_at others_of
+fields_taken [] list fields rest exact e =
+    subst (λ (x : List Field × List Bool). Begins list [] x.0 x.1) (all_is ([], list) (fields, rest) e) (Begins-none list)
+fields_taken (shape ∷ shapes) list fields rest exact e =
+    let a = bind_ok (at_place 0 (field_at shape list)) (λ first. others_of first.0 (fields_at shapes first.1)) (fields, rest) e in
+    let b = bind_ok (one_later (fields_at shapes a.0.1)) (λ others. Ok (a.0.0 ∷ others.0, others.1)) (fields, rest) a.2 in
+    let first = exact.0.taken list a.0.0 a.0.1 (placed_ok _ _ a.1) in
+    let second = fields_taken shapes a.0.1 b.0.0 b.0.1 exact.1 (later_ok _ _ b.1) in
+    subst (λ (x : List Field × List Bool). Begins list (shape ∷ shapes) x.0 x.1) (all_is (a.0.0 ∷ b.0.0, b.0.1) (fields, rest) b.2)
+    (Begins-cons list shape a.0.0 a.0.1 shapes b.0.0 b.0.1 first second)
+
+-- ---- what begins so is read
+
+pub fields_again : (shapes : List Shape) (list : List Bool) (fields : List Field) (rest : List Bool) → AreExact shapes → Begins list shapes fields rest → fields_at shapes list ≡ Ok (fields, rest)
+unfolding fields_at
+fields_again [] list [] rest exact b = ap (λ (l : List Bool). Ok ([], l)) (b.parts ∙ ap (λ (l : List Bool). l ++ rest) b.spelled)
+fields_again [] list (field ∷ fields) rest exact b = absurd b.of_shapes
+fields_again (shape ∷ shapes) list [] rest exact b = absurd b.of_shapes
+fields_again (shape ∷ shapes) list (field ∷ fields) rest exact b =
+    let s = Begins-split list shape field shapes fields rest b in
+    let one : field_at shape list ≡ Ok (field, s.middle) = ap (field_at shape) s.first.parts ∙ exact.0.again field s.first.front s.middle s.first.of_shape s.first.spelled in
+    let two = fields_again shapes s.middle fields rest exact.1 s.others in
+    rw (one, two) refl
+
+-- the fields are the only ones
+pub only_fields : (shapes : List Shape) (list : List Bool) (fields others : List Field) (rest left : List Bool) → AreExact shapes → Begins list shapes fields rest → Begins list shapes others left → (fields ≡ others) × (rest ≡ left)
+only_fields shapes list fields others rest left exact a b =
+    let same : (fields, rest) ≡ (others, left) = all_is _ _ (sym (fields_again shapes list fields rest exact a) ∙ fields_again shapes list others left exact b) in
+    (ap (λ (x : List Field × List Bool). x.0) same, ap (λ (x : List Field × List Bool). x.1) same)
+
+-- no spelling of a field begins another spelling of the same shape
+pub no_front : (shape : Shape) (f g : Field) (x y z : List Bool) → IsExact shape (field_at shape) → IsOfShape f shape → IsOfShape g shape → IsSpelledBy f x → IsSpelledBy g (x ++ y) → (f ≡ g) × (y ≡ [])
+no_front shape f g x y z exact fs gs fx gx =
+    let one = exact.again f x y fs fx in
+    let two : field_at shape (x ++ y) ≡ Ok (g, []) = ap (field_at shape) (sym (append-nil (x ++ y))) ∙ exact.again g (x ++ y) [] gs gx in
+    let same : (f, y) ≡ (g, []) = ok_is _ _ (sym one ∙ two) in
+    (ap (λ (x : Field × List Bool). x.0) same, ap (λ (x : Field × List Bool). x.1) same)

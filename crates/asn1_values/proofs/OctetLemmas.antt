@@ -1,0 +1,49 @@
+-- Octets and their bits, one from the other.
+use Rattle.std.proofs.Common.{◌≡◌, ℕ, zero, suc, ◌*◌, ◌<◌, ◌≤◌, Bool, List, [], ◌∷◌, length, take, drop, refl, sym, ap, ◌∙◌, arith}
+use Rattle.std.proofs.lemmas.List.{length-append, nil_from_length, take_at, drop_at, length-take, length-drop, take-append-drop}
+use Rattle.std.proofs.lemmas.List.Elements.{All-nil, All-cons, All-head, All-tail}
+use Rattle.std.specs.Prelude.{All}
+use Rattle.asn1_bits.specs.Bits.{digits, number, bits}
+use Rattle.asn1_number.specs.Octets.{IsOctets}
+use Rattle.asn1_values.specs.Walk.{octets_of}
+use Rattle.asn1_bits.proofs.DigitLaws.{length-digits, length-bits, number_of-digits, digits_of-number, number-below}
+
+pub length-octets_of : (n : ℕ) (list : List Bool) → length (octets_of n list) ≡ n
+length-octets_of zero list = refl
+length-octets_of (suc n) list = ap suc (length-octets_of n (drop 8 list))
+
+pub octets-octets_of : (n : ℕ) (list : List Bool) → 8 * n ≤ length list → All (λ octet. octet < 256) (octets_of n list)
+octets-octets_of zero list le = All-nil (λ octet. octet < 256)
+octets-octets_of (suc n) list le =
+    All-cons (λ octet. octet < 256) (number (take 8 list)) (octets_of n (drop 8 list))
+    (number-below (take 8 list) 8 (omega (arith, length-take 8 list)))
+    (octets-octets_of n (drop 8 list) (omega (arith, length-drop 8 list)))
+
+pub bits-octets_of : (n : ℕ) (list : List Bool) → length list ≡ 8 * n → bits (octets_of n list) ≡ list
+unfolding bits
+bits-octets_of zero list e = sym (nil_from_length list (omega arith))
+bits-octets_of (suc n) list e =
+    rw (digits_of-number (take 8 list) 8 (omega (arith, length-take 8 list)), bits-octets_of n (drop 8 list) (omega (arith, length-drop 8 list))) (take-append-drop 8 list)
+
+pub octets_of-bits : (octets : List ℕ) → All (λ octet. octet < 256) octets → octets_of (length octets) (bits octets) ≡ octets
+unfolding bits
+octets_of-bits [] h = refl
+octets_of-bits (x ∷ xs) h =
+    let lt : x < 256 = All-head (λ octet. octet < 256) x xs h in
+    let l = length-digits x 8 in
+    rw (take_at (digits x 8) (bits xs) 8 l, drop_at (digits x 8) (bits xs) 8 l, number_of-digits x 8 lt, octets_of-bits xs (All-tail (λ octet. octet < 256) x xs h)) refl
+
+-- the two ways to say that each is an octet
+pub IsOctets_from_All : (octets : List ℕ) → All (λ octet. octet < 256) octets → IsOctets octets
+IsOctets_from_All [] h = tt
+IsOctets_from_All (x ∷ xs) h = (All-head (λ octet. octet < 256) x xs h, IsOctets_from_All xs (All-tail (λ octet. octet < 256) x xs h))
+
+pub All_from_IsOctets : (octets : List ℕ) → IsOctets octets → All (λ octet. octet < 256) octets
+All_from_IsOctets [] h = All-nil (λ octet. octet < 256)
+All_from_IsOctets (x ∷ xs) h = All-cons (λ octet. octet < 256) x xs h.0 (All_from_IsOctets xs h.1)
+
+-- octets are those of their bits
+pub same_octets : (o p : List ℕ) → All (λ octet. octet < 256) o → All (λ octet. octet < 256) p → bits o ≡ bits p → o ≡ p
+same_octets o p of_o of_p same =
+    let n : length o ≡ length p = omega (arith, ap length same, length-bits o, length-bits p) in
+    sym (octets_of-bits o of_o) ∙ ap (octets_of (length o)) same ∙ ap (λ (k : ℕ). octets_of k (bits p)) n ∙ octets_of-bits p of_p

@@ -1,0 +1,240 @@
+-- Fields that fit, one after another, and the first that doesn't.
+use Rattle.std.proofs.Common.{◌≡◌, ℕ, zero, suc, ◌+◌, ◌-◌, ◌*◌, ◌/◌, ◌^◌, ◌<◌, ◌≤◌, Bool, List, [], ◌∷◌, ◌++◌, length, take, drop, min, get_or, refl, sym, ap, subst, ◌∙◌, append_assoc, arith, inl, inr, Some, slice_get}
+use Rattle.std.specs.Prelude.{All, ℤ}
+use Rattle.std.specs.Int.{div_ceil}
+use Rattle.asn1_bits.specs.Turns.{turns_for}
+use Rattle.asn1_number.specs.Octets.{IsShortest}
+use Rattle.asn1_strings.specs.Alphabet.{Alphabet, IsCode}
+use Rattle.asn1_values.proofs.OneSpelling.{same_shortest}
+use Rattle.std.specs.Option.{option_map}
+use Rattle.std.proofs.lemmas.Bool.{cases_eq}
+use Rattle.std.proofs.lemmas.List.{length-append, map_more, map-append, take-map, take-append-drop, drop_more, append-nil}
+use Rattle.std.proofs.lemmas.Nat.{pow_pos}
+use Rattle.std.proofs.Math.Nat.{lt-div-mul-add}
+use Rattle.std.proofs.lemmas.Option.{same_Some, slice_get_read, slice_get-map}
+use Rattle.asn1_bits.specs.Bits.{digits, bits, octets_for, AddsNoOctet}
+use Rattle.asn1_bits.specs.declared.bit_appender.BitAppender.{BitAppender}
+use Rattle.asn1_bits.specs.BitAppender.{bits_written, room}
+use Rattle.asn1_bits.proofs.DigitLaws.{length-digits, length-bits}
+use Rattle.asn1_values.specs.declared.bit_fields.error.WriteError.{WriteError}
+use Rattle.asn1_values.specs.declared.bit_fields.error.WriteError.TheVariants as errors
+use Rattle.asn1_values.specs.declared.bit_fields.field.Field.{Field as Program}
+use Rattle.asn1_values.specs.Plain.{plain_field, plain_fields}
+use Rattle.asn1_values.specs.Fields.{Field, IsSpelledBy, AreSpelledBy, Number, Octets, Bits, Integer, Character}
+use Rattle.asn1_values.specs.Wrong.{Misfit, WidthOver, PastWidth, NotInAlphabet, Fits, IsMisfit, IsFirstMisfit}
+use Rattle.asn1_values.specs.Refusals.{IsWriteRefusal}
+use Rattle.asn1_values.specs.Steps.{NamesMisfit, NamesFirstMisfit, FitsIn, EndsAt, Pushes, PushesAll, HasRoom, TakesTurns, TakeTurns}
+use Rattle.asn1_values.proofs.JoinedLemmas.{joins_push, joins_append, joins_split, one_joined, each_joined, slice_get_take, Split}
+
+-- ---- one field
+
+pub number_fits : (value width : ℕ) → width ≤ 128 → value < 2 ^ width → FitsIn (Number value width) width
+number_fits value width le lt = record { fits = (digits value width, (le, lt, refl)); len = λ list s. ap length s.2 ∙ length-digits value width }
+
+pub octets_fit : (octets : List ℕ) → All (λ octet. octet < 256) octets → FitsIn (Octets octets) (8 * length octets)
+octets_fit octets are = record { fits = (bits octets, (are, refl)); len = λ list s. ap length s.1 ∙ length-bits octets }
+
+pub bits_fit : (view : List Bool) → FitsIn (Bits view) (length view)
+bits_fit view = record { fits = (view, refl); len = λ list s. ap length s }
+
+pub integer_fits : (n : ℤ) (octets : List ℕ) → IsShortest n octets → FitsIn (Integer n) (8 * length octets)
+integer_fits n octets shortest = record {
+  fits = (bits octets, (octets, shortest, refl));
+  len = λ list s. ap length s.2 ∙ length-bits s.0 ∙ ap (λ (o : List ℕ). 8 * length o) (same_shortest n s.0 octets s.1 shortest);
+}
+
+pub character_fits : (a : Alphabet) (c k : ℕ) → IsCode a c k → FitsIn (Character a c) a.width
+character_fits a c k code = record { fits = (digits k a.width, (k, code, refl)); len = λ list s. ap length s.2 ∙ length-digits s.0 a.width }
+
+-- what has a misfit has no spelling
+misfit_unfit : (field : Field) (misfit : Misfit) → IsMisfit field misfit → Fits field → ⊥
+misfit_unfit (Number v w) (WidthOver x) m f = let a = m.1 in let b = f.1.0 in omega arith
+misfit_unfit (Number v w) PastWidth m f = let a = m.1 in let b = f.1.1 in omega arith
+misfit_unfit (Character a c) (NotInAlphabet x) m f = m.1 f.1.0 f.1.1
+misfit_unfit field misfit m f = absurd m
+
+-- ---- the first misfit
+
+first_misfit : (fields : List Field) (front : List Bool) (i : ℕ) (field : Field) (misfit : Misfit) → AreSpelledBy (take i fields) front → i < length fields → slice_get fields i ≡ Some field → IsMisfit field misfit → IsFirstMisfit fields i misfit
+first_misfit fields front i field misfit before lt here is =
+    record {
+      wrong = λ other e fits. misfit_unfit field misfit is (subst (λ (f : Field). Fits f) (same_Some other field (sym e ∙ here)) fits);
+      least = λ j other j_lt e. each_joined IsSpelledBy (take i fields) front j other before (slice_get_take fields i j j_lt ∙ e);
+      within = lt;
+      reason = λ other e. subst (λ (f : Field). IsMisfit f misfit) (same_Some field other (sym here ∙ e)) is;
+    }
+
+pub names_first : (fields : List Field) (front : List Bool) (i : ℕ) (field : Field) (e : WriteError) → AreSpelledBy (take i fields) front → i < length fields → slice_get fields i ≡ Some field → NamesMisfit i field e → NamesFirstMisfit fields e
+names_first fields front i field (errors.NumberWidth at width) before lt here is = subst (λ (k : ℕ). IsFirstMisfit fields k (WidthOver width)) (sym is.0) (first_misfit fields front i field (WidthOver width) before lt here is.1)
+names_first fields front i field (errors.Number at) before lt here is = subst (λ (k : ℕ). IsFirstMisfit fields k PastWidth) (sym is.0) (first_misfit fields front i field PastWidth before lt here is.1)
+names_first fields front i field (errors.Character at c) before lt here is = subst (λ (k : ℕ). IsFirstMisfit fields k (NotInAlphabet c)) (sym is.0) (first_misfit fields front i field (NotInAlphabet c) before lt here is.1)
+names_first fields front i field errors.TooLong before lt here is = absurd is
+names_first fields front i field errors.Memory before lt here is = absurd is
+
+pub misfit_refused : (start : ℕ) (fields : List Field) (e : WriteError) → NamesFirstMisfit fields e → IsWriteRefusal start fields e
+misfit_refused start fields (errors.NumberWidth at width) h = h
+misfit_refused start fields (errors.Number at) h = h
+misfit_refused start fields (errors.Character at c) h = h
+misfit_refused start fields errors.TooLong h = absurd h
+misfit_refused start fields errors.Memory h = absurd h
+
+some_at : (fields : List Field) (i : ℕ) → i < length fields → (field : Field) × (slice_get fields i ≡ Some field)
+some_at [] i lt = absurd (omega arith)
+some_at (f ∷ fs) zero lt = (f, refl)
+some_at (f ∷ fs) (suc i) lt = some_at fs i (omega arith)
+
+none_misfit : (fields : List Field) (i : ℕ) (misfit : Misfit) (list : List Bool) → IsFirstMisfit fields i misfit → AreSpelledBy fields list → ⊥
+none_misfit fields i misfit list m s =
+    let f = some_at fields i m.within in
+    m.wrong f.0 f.1 (each_joined IsSpelledBy fields list i f.0 s f.1)
+
+-- where all fit, no error names a misfit
+pub names_none : (fields : List Field) (e : WriteError) (list : List Bool) → NamesFirstMisfit fields e → AreSpelledBy fields list → ⊥
+names_none fields (errors.NumberWidth at width) list h s = none_misfit fields at (WidthOver width) list h s
+names_none fields (errors.Number at) list h s = none_misfit fields at PastWidth list h s
+names_none fields (errors.Character at c) list h s = none_misfit fields at (NotInAlphabet c) list h s
+names_none fields errors.TooLong list h s = h
+names_none fields errors.Memory list h s = h
+
+-- ---- the length that fields lead to
+
+pub ends_none : (start : ℕ) → start < 2 ^ 64 → EndsAt start [] start
+ends_none start lt = record { end = start; list = []; spelled = refl; each = λ others s. let e : length others ≡ 0 = ap length s in omega arith; capped = omega arith }
+
+pub ends_more : (start n k m : ℕ) (fields : List Field) (field : Field) → EndsAt start fields n → FitsIn field k → m ≡ min (n + k) (2 ^ 128 - 1) → EndsAt start (fields ++ field ∷ []) m
+ends_more start n k m fields field e f sum =
+    record {
+      end = e.end + k;
+      list = e.list ++ f.fits.0;
+      spelled = joins_push IsSpelledBy fields field e.list f.fits.0 e.spelled f.fits.1;
+      each = λ others s.
+          let p : Split IsSpelledBy fields (field ∷ []) others = joins_split IsSpelledBy fields (field ∷ []) others s in
+          let a = e.each p.front p.of_front in
+          let b = f.len p.back (one_joined IsSpelledBy field p.back p.of_back) in
+          let l : length others ≡ length p.front + length p.back = ap length p.parts ∙ length-append p.front p.back in
+          omega arith;
+      capped = let c = e.capped in omega arith;
+    }
+
+pub below_width : (value width : ℕ) → value / 2 ^ width ≡ 0 → value < 2 ^ width
+below_width value width e = let p = lt-div-mul-add {a = value} {b = 2 ^ width} (pow_pos width) in let q : value / 2 ^ width * 2 ^ width ≡ 0 = rw e (omega arith) in omega arith
+
+pub at_128 : (value width : ℕ) → width ≤ 128 → 128 ≤ width → value < 2 ^ 128 → value < 2 ^ width
+at_128 value width le ge lt = let e : width ≡ 128 = omega arith in rw e lt
+
+-- where all fit, the end tells the length of each concatenation
+pub ends_below : (start n : ℕ) (fields : List Field) (list : List Bool) → EndsAt start fields n → AreSpelledBy fields list → n < 2 ^ 64 → start + length list ≡ n
+ends_below start n fields list e s lt = let a = e.each list s in let c = e.capped in omega arith
+
+pub ends_past : (start n : ℕ) (fields : List Field) (list : List Bool) → EndsAt start fields n → AreSpelledBy fields list → 2 ^ 64 ≤ n → 2 ^ 64 ≤ start + length list
+ends_past start n fields list e s le = let a = e.each list s in let c = e.capped in omega arith
+
+pub starts_below : (start n : ℕ) (fields : List Field) → start < 2 ^ 64 → EndsAt start fields n → start ≤ n
+starts_below start n fields lt e = let d = e.capped in let a = e.each e.list e.spelled in omega arith
+
+pub refused_long : (start n : ℕ) (fields : List Field) → EndsAt start fields n → 2 ^ 64 ≤ n → IsWriteRefusal start fields errors.TooLong
+refused_long start n fields e le = (e.list, e.spelled, ends_past start n fields e.list e e.spelled le)
+
+-- bits that take an octet more
+octet_added : (n m : ℕ) → n ≤ m → (octets_for m ≡ octets_for n → ⊥) → octets_for n < octets_for m
+octet_added n m le ne = elim (cases_eq (octets_for m) (octets_for n)) [ inl e ↦ absurd (ne e) | inr h ↦ omega arith ]
+
+pub refused_memory : (start n : ℕ) (fields : List Field) → EndsAt start fields n → start < 2 ^ 64 → n < 2 ^ 64 → (AddsNoOctet start (n - start) → ⊥) → IsWriteRefusal start fields errors.Memory
+refused_memory start n fields e small lt ne =
+    let at = ends_below start n fields e.list e e.spelled lt in
+    let le = starts_below start n fields small e in
+    let same : start + length e.list ≡ start + (n - start) = omega arith in
+    (e.list, e.spelled, omega arith, octet_added start (start + length e.list) (omega arith) (λ h. ne (ap octets_for (sym same) ∙ h)))
+
+pub has_room : (start n space : ℕ) (fields : List Field) → EndsAt start fields n → start ≤ n → n < 2 ^ 64 → space ≡ n - start → HasRoom fields space
+has_room start n space fields e le lt s = record {
+  list = e.list;
+  spelled = e.spelled;
+  space_for = λ others o. let a = ends_below start n fields others e o lt in omega arith;
+}
+
+-- ---- pushing one field, and fields one after another
+
+-- a field that fits the room has no more bits than that
+pub space_of : (field : Field) (list : List Bool) (n space : ℕ) → IsSpelledBy field list → length list ≡ n → ((others : List Bool) → IsSpelledBy field others → length others ≤ space) → n ≤ space
+space_of field list n space s len enough = let r = enough list s in omega arith
+
+pub pushes : (field : Field) (list : List Bool) (n : ℕ) (old new : BitAppender) → IsSpelledBy field list → length list ≡ n → bits_written new ≡ bits_written old ++ list → room new + n ≡ room old → Pushes field old new
+pushes field list n old new s len e r = record { list = list; spelled = s; written = e; left = omega arith }
+
+-- the turns of one field, whichever list spells it
+pub takes : (field : Field) (n old new : ℕ) → FitsIn field n → old + div_ceil n 64 ≤ new → new ≤ old + turns_for n → (list : List Bool) → IsSpelledBy field list → TakesTurns (length list) old new
+takes field n old new fits low high list s = subst (λ (k : ℕ). TakesTurns k old new) (sym (fits.len list s)) (record { at_least = low; at_most = omega arith })
+
+pub pushed_none : (old : BitAppender) → PushesAll [] old old
+pushed_none old = record { list = []; spelled = refl; written = sym (append-nil (bits_written old)); left = omega arith }
+
+pub pushed_more : (before : List Field) (field : Field) (old now new : BitAppender) → PushesAll before old now → Pushes field now new → PushesAll (before ++ field ∷ []) old new
+pushed_more before field old now new w one = record {
+  list = w.list ++ one.list;
+  spelled = joins_push IsSpelledBy before field w.list one.list w.spelled one.spelled;
+  written = one.written ∙ ap (λ (l : List Bool). l ++ one.list) w.written ∙ append_assoc (bits_written old) w.list one.list;
+  left = omega (arith, w.left, one.left, length-append w.list one.list);
+}
+
+pub no_turns : (n : ℕ) → TakeTurns [] n n
+no_turns n = record {
+  at_least = λ list s. let z : length list ≡ 0 = ap length s in omega arith;
+  at_most = λ list s. omega arith;
+}
+
+pub more_turns : (before : List Field) (field : Field) (old now new : ℕ) → TakeTurns before old now → ((list : List Bool) → IsSpelledBy field list → TakesTurns (length list) now new) → TakeTurns (before ++ field ∷ []) old new
+more_turns before field old now new all one = record { at_least = at_least; at_most = at_most }
+  where
+    cut : (list : List Bool) → AreSpelledBy (before ++ field ∷ []) list → Split IsSpelledBy before (field ∷ []) list
+    cut list s = joins_split IsSpelledBy before (field ∷ []) list s
+
+    sum : (list : List Bool) (s : AreSpelledBy (before ++ field ∷ []) list) → length list ≡ length (cut list s).front + length (cut list s).back
+    sum list s = ap length (cut list s).parts ∙ length-append (cut list s).front (cut list s).back
+
+    last : (list : List Bool) (s : AreSpelledBy (before ++ field ∷ []) list) → TakesTurns (length (cut list s).back) now new
+    last list s = one (cut list s).back (one_joined IsSpelledBy field (cut list s).back (cut list s).of_back)
+
+    at_least : (list : List Bool) → AreSpelledBy (before ++ field ∷ []) list → old + div_ceil (length list) 64 ≤ new
+    at_least list s =
+        let a = all.at_least (cut list s).front (cut list s).of_front in
+        let b = (last list s).at_least in
+        let n = sum list s in
+        omega arith
+
+    at_most : (list : List Bool) → AreSpelledBy (before ++ field ∷ []) list → new ≤ old + length list / 64 + 8 * length (before ++ field ∷ [])
+    at_most list s =
+        let a = all.at_most (cut list s).front (cut list s).of_front in
+        let b = (last list s).at_most in
+        let n = sum list s in
+        omega (arith, length-append before (field ∷ []))
+
+module _ (fields before after : List Field) (field : Field) (cut : fields ≡ before ++ field ∷ after) where
+  pub field_fits : (list : List Bool) → AreSpelledBy fields list → Fits field
+  field_fits list s =
+      let p : Split IsSpelledBy before (field ∷ after) list = joins_split IsSpelledBy before (field ∷ after) list (subst (λ (fs : List Field). AreSpelledBy fs list) cut s) in
+      (p.of_back.0, p.of_back.2)
+
+  pub space_now : (old now : BitAppender) → HasRoom fields (room old) → PushesAll before old now → (list : List Bool) → IsSpelledBy field list → length list ≤ room now
+  space_now old now h w list l =
+      let p : Split IsSpelledBy before (field ∷ after) h.list = joins_split IsSpelledBy before (field ∷ after) h.list (subst (λ (fs : List Field). AreSpelledBy fs h.list) cut h.spelled) in
+      let rest : List Bool = p.of_back.1 in
+      let whole : AreSpelledBy (before ++ field ∷ after) (w.list ++ (list ++ rest)) = joins_append IsSpelledBy before (field ∷ after) w.list (list ++ rest) w.spelled (list, rest, l, p.of_back.3, refl) in
+      let r = h.space_for (w.list ++ (list ++ rest)) (subst (λ (fs : List Field). AreSpelledBy fs (w.list ++ (list ++ rest))) (sym cut) whole) in
+      omega (arith, w.left, length-append w.list (list ++ rest), length-append list rest)
+
+-- ---- fields of the program, by their places
+
+pub cut_of : (fs : List Program) (i : ℕ) (x : Program) → i < length fs → x ≡ get_or fs i x → plain_fields fs ≡ plain_fields (take i fs) ++ plain_field x ∷ plain_fields (drop (i + 1) fs)
+cut_of fs i x lt is =
+    let e : fs ≡ take i fs ++ x ∷ drop (i + 1) fs = sym (take-append-drop i fs) ∙ ap (λ (l : List Program). take i fs ++ l) (drop_more fs i x lt ∙ ap (λ (y : Program). y ∷ drop (i + 1) fs) (sym is)) in
+    ap plain_fields e ∙ map-append plain_field (take i fs) (x ∷ drop (i + 1) fs)
+
+pub more_of : (fs : List Program) (i : ℕ) (x : Program) → i < length fs → x ≡ get_or fs i x → plain_fields (take (i + 1) fs) ≡ plain_fields (take i fs) ++ plain_field x ∷ []
+more_of fs i x lt is = map_more plain_field fs i x lt ∙ ap (λ (y : Program). plain_fields (take i fs) ++ plain_field y ∷ []) (sym is)
+
+pub here_of : (fs : List Program) (i : ℕ) (x : Program) → i < length fs → x ≡ get_or fs i x → slice_get (plain_fields fs) i ≡ Some (plain_field x)
+here_of fs i x lt is = slice_get-map plain_field fs i ∙ ap (option_map plain_field) (slice_get_read fs (length fs) i x refl lt is)
+
+pub take_of : (fs : List Program) (i : ℕ) → take i (plain_fields fs) ≡ plain_fields (take i fs)
+take_of fs i = take-map plain_field i fs

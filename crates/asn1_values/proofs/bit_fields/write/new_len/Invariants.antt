@@ -1,0 +1,7 @@
+use Rattle.std.proofs.Common.{take}
+use Rattle.asn1_values.specs.Plain.{plain_fields}
+use Rattle.asn1_values.specs.Steps.{EndsAt}
+use Rattle.asn1_values.proofs.bit_fields.write.new_len.Given as goal
+
+abbrev pub invariant-loop-i : goal.invariant-loop-i
+invariant-loop-i l = EndsAt l.len (plain_fields (take l.i l.fields)) l.end

@@ -1,0 +1,30 @@
+use Rattle.std.proofs.Common.{rules, ◌≡◌, ◌+◌, ℕ, List, Bool, ◌++◌, length, sym, ap, ◌∙◌, arith}
+use Rattle.std.proofs.lemmas.Grind.{common_steps}
+use Rattle.asn1_values.specs.Plain.{plain_fields}
+use Rattle.asn1_values.proofs.SpellingLemmas.{names_none, misfit_refused, ends_below, ends_past, starts_below, refused_long, refused_memory, has_room}
+use Rattle.asn1_values.proofs.OneSpelling.{all_one}
+use Rattle.asn1_values.proofs.bit_fields.write.write_fields_counted.Goals as goal
+
+pub returns-in_err-end-clause-too_long : goal.returns-in_err-end-clause-too_long
+returns-in_err-end-clause-too_long c = λ list s le. absurd (names_none (plain_fields c.args.fields.now) c.in_err-end.field-0.0 list c.in_err-end.ensures.err s)
+
+pub returns-in_err-end-clause-accepted : goal.returns-in_err-end-clause-accepted
+returns-in_err-end-clause-accepted c = λ list s lt. absurd (names_none (plain_fields c.args.fields.now) c.in_err-end.field-0.0 list c.in_err-end.ensures.err s)
+
+pub returns-in_err-end-clause-free : goal.returns-in_err-end-clause-free
+returns-in_err-end-clause-free c = λ list s lt none. absurd (names_none (plain_fields c.args.fields.now) c.in_err-end.field-0.0 list c.in_err-end.ensures.err s)
+
+-- what is written is the same list, whichever spells the fields
+same_end : (old a b new : List Bool) → new ≡ old ++ a → a ≡ b → new ≡ old ++ b
+same_end old a b new e same = e ∙ ap (λ (l : List Bool). old ++ l) same
+
+pub returns-clause-one : goal.returns-clause-one
+returns-clause-one c = λ codes list s.
+    let p = c.push_all.ensures.pushed in
+    same_end c.args.buffer.now p.list list _ (grind (arith, common_steps)) (all_one (plain_fields c.args.fields.now) p.list list codes p.spelled s)
+
+pub returns-in_err-end-clause-turns_at_least : goal.returns-in_err-end-clause-turns_at_least
+returns-in_err-end-clause-turns_at_least c = λ list s. absurd (names_none (plain_fields c.args.fields.now) c.in_err-end.field-0.0 list c.in_err-end.ensures.err s)
+
+pub returns-in_err-end-clause-turns_at_most : goal.returns-in_err-end-clause-turns_at_most
+returns-in_err-end-clause-turns_at_most c = λ list s. absurd (names_none (plain_fields c.args.fields.now) c.in_err-end.field-0.0 list c.in_err-end.ensures.err s)

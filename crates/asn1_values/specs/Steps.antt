@@ -1,0 +1,91 @@
+-- How the steps of the two calls are stated. No public contract cites this.
+use Rattle.std.specs.Prelude.{◌≡◌, ℕ, ◌+◌, ◌-◌, ◌*◌, ◌/◌, ◌^◌, ◌≤◌, Bool, List, ◌++◌, length, min, Result, Ok, Err}
+use Rattle.std.specs.Int.{div_ceil}
+use Rattle.asn1_bits.specs.declared.bit_appender.BitAppender.{BitAppender}
+use Rattle.asn1_bits.specs.BitAppender.{bits_written, room}
+use Rattle.asn1_values.specs.declared.bit_fields.error.ReadError.{ReadError}
+use Rattle.asn1_values.specs.declared.bit_fields.error.ReadError.TheVariants as reading
+use Rattle.asn1_values.specs.declared.bit_fields.error.WriteError.{WriteError}
+use Rattle.asn1_values.specs.declared.bit_fields.error.WriteError.TheVariants as writing
+use Rattle.asn1_values.specs.Fields.{Field, IsSpelledBy, AreSpelledBy}
+use Rattle.asn1_values.specs.Wrong.{Fault, NumberWidth, NotInteger, Short, NoCharacter, WidthOver, PastWidth, NotInAlphabet, Fits, IsMisfit, IsFirstMisfit}
+
+-- ---- reading
+
+-- the error that names a fault and its place
+abbrev pub error_at : ℕ → Fault → ReadError
+error_at field (NumberWidth width) = reading.NumberWidth field width
+error_at field NotInteger = reading.Integer field
+error_at field (Short bits) = reading.Short field bits
+error_at field (NoCharacter code) = reading.Character field code
+
+-- what is left after a field, or the error
+abbrev pub past : ℕ → Result (Field × List Bool) Fault → Result (List Bool) ReadError
+past i (Ok x) = Ok x.1
+past i (Err fault) = Err (error_at i fault)
+
+-- what is left after fields, of which the first is at this place
+abbrev pub past_all : ℕ → Result (List Field × List Bool) (ℕ × Fault) → Result (List Bool) ReadError
+past_all i (Ok x) = Ok x.1
+past_all i (Err e) = Err (error_at (i + e.0) e.1)
+
+-- ---- writing
+
+-- the error names the misfit of the field at this place
+abbrev pub NamesMisfit : ℕ → Field → WriteError → Type 0
+NamesMisfit i field (writing.NumberWidth at width) = (at ≡ i) × IsMisfit field (WidthOver width)
+NamesMisfit i field (writing.Number at) = (at ≡ i) × IsMisfit field PastWidth
+NamesMisfit i field (writing.Character at character) = (at ≡ i) × IsMisfit field (NotInAlphabet character)
+NamesMisfit i field writing.TooLong = ⊥
+NamesMisfit i field writing.Memory = ⊥
+
+-- the error names the first field that doesn't fit, with its reason
+abbrev pub NamesFirstMisfit : List Field → WriteError → Type 0
+NamesFirstMisfit fields (writing.NumberWidth at width) = IsFirstMisfit fields at (WidthOver width)
+NamesFirstMisfit fields (writing.Number at) = IsFirstMisfit fields at PastWidth
+NamesFirstMisfit fields (writing.Character at character) = IsFirstMisfit fields at (NotInAlphabet character)
+NamesFirstMisfit fields writing.TooLong = ⊥
+NamesFirstMisfit fields writing.Memory = ⊥
+
+-- the field fits, in n bits
+pub record FitsIn (field : Field) (n : ℕ) : Type 0 where
+  pub fits : Fits field
+  pub len : (list : List Bool) → IsSpelledBy field list → length list ≡ n
+
+-- the fields all fit, with them the start becomes an end, and n is the end, or the greatest number that the sum takes
+pub record EndsAt (start : ℕ) (fields : List Field) (n : ℕ) : Type 0 where
+  pub end : ℕ
+  pub list : List Bool
+  pub spelled : AreSpelledBy fields list
+  pub each : (others : List Bool) → AreSpelledBy fields others → start + length others ≡ end
+  pub capped : n ≡ min end (2 ^ 128 - 1)
+
+-- there is room for the fields
+pub record HasRoom (fields : List Field) (space : ℕ) : Type 0 where
+  pub list : List Bool
+  pub spelled : AreSpelledBy fields list
+  pub space_for : (others : List Bool) → AreSpelledBy fields others → length others ≤ space
+
+-- the spelling of the field was pushed
+pub record Pushes (field : Field) (old new : BitAppender) : Type 0 where
+  pub list : List Bool
+  pub spelled : IsSpelledBy field list
+  pub written : bits_written new ≡ bits_written old ++ list
+  pub left : room new + length list ≡ room old
+
+-- the spellings of the fields were pushed, one after another
+pub record PushesAll (fields : List Field) (old new : BitAppender) : Type 0 where
+  pub list : List Bool
+  pub spelled : AreSpelledBy fields list
+  pub written : bits_written new ≡ bits_written old ++ list
+  pub left : room new + length list ≡ room old
+
+-- so many turns were taken for one field of n bits
+pub record TakesTurns (n old new : ℕ) : Type 0 where
+  pub at_least : old + div_ceil n 64 ≤ new
+  pub at_most : new ≤ old + n / 64 + 8
+
+-- so many turns were taken for the fields, whichever list spells them
+pub record TakeTurns (fields : List Field) (old new : ℕ) : Type 0 where
+  pub at_least : (list : List Bool) → AreSpelledBy fields list → old + div_ceil (length list) 64 ≤ new
+  pub at_most : (list : List Bool) → AreSpelledBy fields list → new ≤ old + length list / 64 + 8 * length fields

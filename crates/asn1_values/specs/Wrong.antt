@@ -1,0 +1,77 @@
+-- The first wrong field, and its reason.
+use Rattle.std.specs.Prelude.{◌≡◌, ℕ, ℤ, ◌+◌, ◌*◌, ◌^◌, ◌<◌, ◌≤◌, ◌⊎◌, Bool, List, Some, length, take, slice_get}
+use Rattle.asn1_bits.specs.Bits.{number, bits}
+use Rattle.asn1_number.specs.Octets.{IsShortest}
+use Rattle.asn1_strings.specs.Alphabet.{IsCode}
+use Rattle.asn1_values.specs.Fields.{Field, Shape, IsSpelledBy, Begins, Number, Character, OfNumber, OfOctets, OfBits, OfInteger, OfCharacter}
+
+-- ---- reading
+
+-- what is wrong at a field's place in a list of bits
+pub data Fault : Type 0 where
+  NumberWidth : ℕ → Fault
+  NotInteger : Fault
+  Short : ℕ → Fault
+  NoCharacter : ℕ → Fault
+
+-- so many bits are asked for, and n are missing
+abbrev pub IsShortBy : ℕ → List Bool → ℕ → Type 0
+IsShortBy asked left n = (0 < n) × (length left + n ≡ asked)
+
+-- the bits are octets that are shortest for no number
+abbrev pub IsNoInteger : List Bool → Type 0
+IsNoInteger list = (octets : List ℕ) (n : ℤ) → list ≡ bits octets → ¬ (IsShortest n octets)
+
+-- why no field of the shape begins what is left; the first reason that applies
+abbrev pub IsReason : Shape → List Bool → Fault → Type 0
+IsReason (OfNumber width) left (NumberWidth w) = (w ≡ width) × (128 < width)
+IsReason (OfNumber width) left (Short n) = (width ≤ 128) × IsShortBy width left n
+IsReason (OfOctets count) left (Short n) = IsShortBy (8 * count) left n
+IsReason (OfBits len) left (Short n) = IsShortBy len left n
+IsReason (OfInteger count) left NotInteger =
+    (count ≡ 0) ⊎ ((8 * count ≤ length left) × IsNoInteger (take (8 * count) left))
+IsReason (OfInteger count) left (Short n) = (0 < count) × IsShortBy (8 * count) left n
+IsReason (OfCharacter alphabet) left (Short n) = IsShortBy alphabet.width left n
+IsReason (OfCharacter alphabet) left (NoCharacter k) =
+    (alphabet.width ≤ length left) × (k ≡ number (take alphabet.width left))
+    × ((c : ℕ) → ¬ (IsCode alphabet c k))
+IsReason shape left fault = ⊥
+
+-- some fields of these shapes begin the list
+abbrev pub CanBegin : List Bool → List Shape → Type 0
+CanBegin list shapes = (fields : List Field) × (rest : List Bool) × Begins list shapes fields rest
+
+-- i is the least place such that no fields of the shapes up to it begin the list, and the fault is its reason
+pub record IsFirstFault (list : List Bool) (shapes : List Shape) (i : ℕ) (fault : Fault) : Type 0 where
+  pub within : i < length shapes
+  pub wrong : CanBegin list (take (i + 1) shapes) → ⊥
+  pub least : (j : ℕ) → j < i → CanBegin list (take (j + 1) shapes)
+  pub reason : (shape : Shape) (fields : List Field) (left : List Bool)
+      → slice_get shapes i ≡ Some shape → Begins list (take i shapes) fields left → IsReason shape left fault
+
+-- ---- writing
+
+-- why a field has no spelling
+pub data Misfit : Type 0 where
+  WidthOver : ℕ → Misfit
+  PastWidth : Misfit
+  NotInAlphabet : ℕ → Misfit
+
+-- some bits spell the field
+abbrev pub Fits : Field → Type 0
+Fits field = (list : List Bool) × IsSpelledBy field list
+
+-- the first reason that applies
+abbrev pub IsMisfit : Field → Misfit → Type 0
+IsMisfit (Number value width) (WidthOver w) = (w ≡ width) × (128 < width)
+IsMisfit (Number value width) PastWidth = (width ≤ 128) × (2 ^ width ≤ value)
+IsMisfit (Character alphabet character) (NotInAlphabet c) =
+    (c ≡ character) × ((k : ℕ) → ¬ (IsCode alphabet character k))
+IsMisfit field misfit = ⊥
+
+-- i is the least place of a field that doesn't fit, and the misfit is its reason
+pub record IsFirstMisfit (fields : List Field) (i : ℕ) (misfit : Misfit) : Type 0 where
+  pub within : i < length fields
+  pub wrong : (field : Field) → slice_get fields i ≡ Some field → Fits field → ⊥
+  pub least : (j : ℕ) (field : Field) → j < i → slice_get fields j ≡ Some field → Fits field
+  pub reason : (field : Field) → slice_get fields i ≡ Some field → IsMisfit field misfit

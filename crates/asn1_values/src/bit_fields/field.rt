@@ -1,0 +1,26 @@
+//! Fields.
+
+use asn1_bits::{BitStr, Octets};
+use asn1_integer::Integer;
+use asn1_strings::CharacterAlphabet;
+
+/// A field that is written, or that was read.
+#[derive(Debug, Drop)]
+pub enum Field<'a, 's> {
+    /// The `width` binary digits of a number below 2 to the power of `width`; at most 128.
+    Number {
+        value: u128,
+        width: usize,
+    },
+    /// Octets, eight bits each, most significant first.
+    Octets(Octets<'a>),
+    /// Bits of a storage.
+    Bits(BitStr<'a>),
+    /// The shortest two's complement octets of a whole number (X.690 8.3).
+    Integer(Integer),
+    /// The code of a character in the width of its alphabet (X.691 30.5).
+    Character {
+        alphabet: CharacterAlphabet<'s>,
+        character: u32,
+    },
+}

@@ -1,0 +1,167 @@
+//! Writing fields.
+
+ghost use Rattle.std.specs.Prelude.{◌≡◌, ℕ, Bool, List, Err, ◌+◌, ◌*◌, ◌/◌, ◌^◌, ◌<◌, ◌≤◌, ◌++◌, length, OnOk, IfOk, IfErr, OnErr, IsOk, IsOkUnless};
+ghost use Rattle.std.specs.Int.{div_ceil};
+ghost use Rattle.asn1_bits.specs.Bits.{AddsNoOctet};
+ghost use Rattle.asn1_bits.specs.BitAppender.{room, lender_of};
+ghost use Rattle.asn1_values.specs.Fields.{IsSpelledBy, AreSpelledBy, AreInOneCode};
+ghost use Rattle.asn1_values.specs.Plain.{plain_field, plain_fields};
+ghost use Rattle.asn1_values.specs.Refusals.{IsWriteRefusal};
+ghost use Rattle.asn1_values.specs.Steps.{NamesMisfit, NamesFirstMisfit, FitsIn, EndsAt, HasRoom, Pushes, PushesAll, TakesTurns, TakeTurns};
+ghost use Rattle.asn1_values.specs.Wrong.{Fits};
+
+use super::error::WriteError;
+use super::field::Field;
+use asn1_bits::{BitAppender, BitBuffer, Turns};
+
+/// Appends the fields' bits to the buffer, one after another, by one growth. The whole list is examined first; where it
+/// is refused, the buffer stays.
+pub fn write_fields(buffer: &mut BitBuffer, fields: &[Field<'_, '_>]) -> Result<(), WriteError>
+    // The old bits are followed by a concatenation of the fields' spellings.
+    ensures written { OnOk result ((list : List Bool) × AreSpelledBy (plain_fields fields.now) list
+        × (buffer.new ≡ buffer.old ++ list)) }
+    // It is the one concatenation, where no alphabet gives a character two codes.
+    ensures one { AreInOneCode (plain_fields fields.now)
+        → (list : List Bool) → AreSpelledBy (plain_fields fields.now) list
+        → OnOk result (buffer.new ≡ buffer.old ++ list) }
+
+    // Where all fit, it is refused for the new length exactly where that passes `usize::MAX`, and else for memory alone,
+    // which is asked for only where an octet is added.
+    ensures too_long { (list : List Bool) → AreSpelledBy (plain_fields fields.now) list
+        → 2 ^ 64 ≤ length buffer.old + length list → result ≡ Err WriteError.TooLong }
+    ensures accepted { (list : List Bool) → AreSpelledBy (plain_fields fields.now) list
+        → length buffer.old + length list < 2 ^ 64 → IsOkUnless result WriteError.Memory }
+    ensures free { (list : List Bool) → AreSpelledBy (plain_fields fields.now) list
+        → length buffer.old + length list < 2 ^ 64 → AddsNoOctet (length buffer.old) (length list)
+        → IsOk result }
+
+    // A refusal names the first field that doesn't fit, with its reason; where all fit, the new length or memory.
+    ensures refused { IfErr result (IsWriteRefusal (length buffer.old) (plain_fields fields.now)) }
+    ensures unchanged { OnErr result (buffer.new ≡ buffer.old) }
+{
+    write_fields_counted(buffer, fields, &mut Turns::new())
+}
+
+/// As `write_fields`, and counts the turns: one for each word of 64 bits, each octet and each tail that is written.
+pub fn write_fields_counted(
+    buffer: &mut BitBuffer,
+    fields: &[Field<'_, '_>],
+    turns: &mut Turns,
+) -> Result<(), WriteError>
+    ensures written { OnOk result ((list : List Bool) × AreSpelledBy (plain_fields fields.now) list
+        × (buffer.new ≡ buffer.old ++ list)) }
+    ensures one { AreInOneCode (plain_fields fields.now)
+        → (list : List Bool) → AreSpelledBy (plain_fields fields.now) list
+        → OnOk result (buffer.new ≡ buffer.old ++ list) }
+    ensures too_long { (list : List Bool) → AreSpelledBy (plain_fields fields.now) list
+        → 2 ^ 64 ≤ length buffer.old + length list → result ≡ Err WriteError.TooLong }
+    ensures accepted { (list : List Bool) → AreSpelledBy (plain_fields fields.now) list
+        → length buffer.old + length list < 2 ^ 64 → IsOkUnless result WriteError.Memory }
+    ensures free { (list : List Bool) → AreSpelledBy (plain_fields fields.now) list
+        → length buffer.old + length list < 2 ^ 64 → AddsNoOctet (length buffer.old) (length list)
+        → IsOk result }
+    ensures refused { IfErr result (IsWriteRefusal (length buffer.old) (plain_fields fields.now)) }
+    ensures unchanged { OnErr result (buffer.new ≡ buffer.old) }
+
+    // For b bits of F fields it takes at least b / 64 turns, rounded up, and at most b / 64 + 8 * F.
+    ensures turns_at_least { (list : List Bool) → AreSpelledBy (plain_fields fields.now) list
+        → OnOk result (turns.old.count + div_ceil (length list) 64 ≤ turns.new.count) }
+    ensures turns_at_most { (list : List Bool) → AreSpelledBy (plain_fields fields.now) list
+        → OnOk result (turns.new.count ≤ turns.old.count + length list / 64 + 8 * length fields.now) }
+    ensures turns_unchanged { OnErr result (turns.new.count ≡ turns.old.count) }
+{
+    let len = buffer.len();
+    let end = new_len(len, fields)?;
+    if end > usize::MAX as u128 {
+        return Err(WriteError::TooLong);
+    }
+    let mut appender = buffer.appender(end as usize - len)?;
+    push_all(&mut appender, fields, turns);
+    Ok(())
+}
+
+/// The length that the fields lead to, if they all fit. The sum stops growing at `u128::MAX`, and later fields are still
+/// examined.
+fn new_len(len: usize, fields: &[Field<'_, '_>]) -> Result<u128, WriteError>
+    ensures ok { IfOk result (EndsAt len (plain_fields fields.now)) }
+    ensures err { IfErr result (NamesFirstMisfit (plain_fields fields.now)) }
+{
+    let mut end = len as u128;
+    for (i, field) in fields.iter().enumerate() {
+        end = end.saturating_add(fitting_len(field, i)?);
+    }
+    Ok(end)
+}
+
+/// How many bits a field has, if it fits.
+fn fitting_len(field: &Field<'_, '_>, place: usize) -> Result<u128, WriteError>
+    ensures ok { IfOk result (FitsIn (plain_field field.now)) }
+    ensures err { IfErr result (NamesMisfit place (plain_field field.now)) }
+{
+    match field {
+        Field::Number { value, width } => {
+            let value = *value;
+            let width = *width;
+            if width > 128 {
+                return Err(WriteError::NumberWidth {
+                    field: place,
+                    width,
+                });
+            }
+            if width < 128 && value >> width != 0 {
+                return Err(WriteError::Number { field: place });
+            }
+            Ok(width as u128)
+        }
+        Field::Octets(octets) => Ok(8 * octets.as_ref().len() as u128),
+        Field::Bits(bits) => Ok(bits.len() as u128),
+        Field::Integer(number) => Ok(8 * number.signed_octets().len() as u128),
+        Field::Character {
+            alphabet,
+            character,
+        } => match alphabet.encode(*character) {
+            Ok(_) => Ok(alphabet.width() as u128),
+            Err(_) => Err(WriteError::Character {
+                field: place,
+                character: *character,
+            }),
+        },
+    }
+}
+
+/// Pushes fields that fit the room.
+fn push_all(appender: &mut BitAppender<'_>, fields: &[Field<'_, '_>], turns: &mut Turns)
+    requires { HasRoom (plain_fields fields.now) (room appender.old) }
+    ensures lender { lender_of appender.new ≡ lender_of appender.old }
+    ensures pushed { PushesAll (plain_fields fields.now) appender.old appender.new }
+    ensures counted { TakeTurns (plain_fields fields.now) turns.old.count turns.new.count }
+{
+    for field in fields {
+        push(appender, field, turns);
+    }
+}
+
+/// Pushes a field that fits the room.
+fn push(appender: &mut BitAppender<'_>, field: &Field<'_, '_>, turns: &mut Turns)
+    requires fits { Fits (plain_field field.now) }
+    requires space { (list : List Bool) → IsSpelledBy (plain_field field.now) list
+        → length list ≤ room appender.old }
+    ensures lender { lender_of appender.new ≡ lender_of appender.old }
+    ensures pushed { Pushes (plain_field field.now) appender.old appender.new }
+    ensures counted { (list : List Bool) → IsSpelledBy (plain_field field.now) list
+        → TakesTurns (length list) turns.old.count turns.new.count }
+{
+    match field {
+        Field::Number { value, width } => appender.push_wide(*value, *width, turns),
+        Field::Octets(octets) => appender.push_octets(octets.as_ref(), turns),
+        Field::Bits(bits) => appender.push_bitslice(*bits, turns),
+        Field::Integer(number) => appender.push_octets(number.signed_octets().as_ref(), turns),
+        Field::Character {
+            alphabet,
+            character,
+        } => match alphabet.encode(*character) {
+            Ok(code) => appender.push_wide(u128::from(code), alphabet.width(), turns),
+            Err(_) => unreachable!(),
+        },
+    }
+}

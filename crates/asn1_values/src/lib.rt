@@ -1,0 +1,34 @@
+//! The value layer under ASN.1 codecs: whole numbers, object identifiers, octet strings, restricted character strings,
+//! bits, and the reading and writing of bit fields that are made of them.
+//!
+//! [`bit_fields`] writes fields one after another behind the bits of a buffer, and reads them back from any bit of any
+//! storage. The other names are those of the crates below, which are passed on.
+#![tactic(auto)]
+
+pub mod bit_fields;
+#[cfg(test)]
+mod tests;
+
+pub use asn1_bits::{
+    BitAppender, BitBuffer, BitReader, BitStr, BitString, FixedBitString, Octets, Places, Turns,
+    aligned_octets, extend_bitstring, extend_vec_from_bitslice, or_bits, place_bits,
+    range_from_len, read_bits, read_u128, read_wide, to_bitstring, write_bitslice,
+};
+pub use asn1_integer::{
+    ConstrainedInteger, Integer, IntegerBytes, IntegerError, IntegerType, TryFromIntegerError,
+    laws_of_shortest_octets, laws_of_wrapping, signed_value, unsigned_value,
+    without_redundant_sign_octets,
+};
+pub use asn1_oid::{ObjectIdentifier, Oid};
+pub use asn1_strings::{
+    AsBytes, Bmp, BmpString, CharacterAlphabet, CharacterSetName, Chars, CodeUnit, Entries,
+    FixedOctetString, FromBytes, General, GeneralString, Graphic, GraphicString, Ia5, Ia5String,
+    InvalidBmpString, InvalidGeneralString, InvalidGraphicString, InvalidIA5String,
+    InvalidNumericString, InvalidPrintableString, InvalidRestrictedString, InvalidTeletexString,
+    InvalidVisibleString, Iso646, Numeric, NumericString, OctetString, PermittedAlphabetError,
+    Printable, PrintableString, RestrictedString, StaticPermittedAlphabet, StringKind, Teletex,
+    TeletexString, Utf8String, Visible, VisibleString, find_ascending, should_be_indexed,
+};
+pub use bit_fields::{
+    Field, ReadError, Shape, WriteError, read_fields, shape_of, write_fields, write_fields_counted,
+};
