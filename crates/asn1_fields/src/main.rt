@@ -2,7 +2,6 @@
 //! the bit that the third names on, and writes them again.
 #![tactic(auto)]
 
-mod bit_fields;
 mod parse;
 mod print;
 mod run;

@@ -1,6 +1,6 @@
 //! The three lines of the input.
 
-use crate::bit_fields::Shape;
+use asn1_values::{CharacterAlphabet, NumericString, Shape};
 use hex::FromHexError;
 use std::alloc::{AllocError, Global};
 
@@ -48,8 +48,9 @@ fn number(digits: &[u8]) -> Option<usize> {
     Some(value)
 }
 
-/// The shape that a word names: `n` and a number of bits, `o` and a number of octets.
-fn shape(word: &[u8]) -> Option<Shape> {
+/// The shape that a word names: `n` and the width of a number in bits, `o` and a number of octets, `b` and a number of
+/// bits, `i` and the number of an integer's octets, or `a`, a character of `NumericString`.
+fn shape(word: &[u8]) -> Option<Shape<'static>> {
     match word {
         [b'n', width @ ..] => Some(Shape::Number {
             width: number(width)?,
@@ -57,12 +58,21 @@ fn shape(word: &[u8]) -> Option<Shape> {
         [b'o', count @ ..] => Some(Shape::Octets {
             count: number(count)?,
         }),
+        [b'b', length @ ..] => Some(Shape::Bits {
+            length: number(length)?,
+        }),
+        [b'i', octets @ ..] => Some(Shape::Integer {
+            octets: number(octets)?,
+        }),
+        [b'a'] => Some(Shape::Character {
+            alphabet: CharacterAlphabet::new::<NumericString>(None, false),
+        }),
         _ => None,
     }
 }
 
 /// The shapes that the words of the line name, separated by single spaces; None for another line.
-pub fn shapes(alloc: Global, line: &[u8]) -> Result<Option<Vec<Shape>>, AllocError> {
+pub fn shapes(alloc: Global, line: &[u8]) -> Result<Option<Vec<Shape<'static>>>, AllocError> {
     let mut shapes = Vec::new(alloc);
     if line.is_empty() {
         return Ok(Some(shapes));

@@ -1,13 +1,13 @@
 //! The lines of an answer.
 
-use crate::bit_fields::Field;
+use asn1_values::{BitStr, Field};
 use std::alloc::{AllocError, Global};
 use std::fmt::Write;
 
 /// A line for each field, then the number of bits that are left, then the octets of the fields written again.
 pub fn print_fields(
     alloc: Global,
-    fields: &[Field<'_>],
+    fields: &[Field<'_, '_>],
     left: usize,
     again: &[u8],
 ) -> Result<String, AllocError> {
@@ -20,12 +20,30 @@ pub fn print_fields(
     Ok(text)
 }
 
-/// `n` and the number in decimal, or `o` and the octets.
-fn print_field(alloc: Global, text: &mut String, field: &Field<'_>) -> Result<(), AllocError> {
+/// `n` and the number in decimal, `o` and the octets, `b` and the bits, `i` and the shortest octets, or `a` and the
+/// character in decimal.
+fn print_field(alloc: Global, text: &mut String, field: &Field<'_, '_>) -> Result<(), AllocError> {
     match field {
         Field::Number { value, .. } => writeln!(text, "n {value}"),
         Field::Octets(octets) => print_octets(alloc, text, "o", octets.as_ref()),
+        Field::Bits(bits) => print_bits(text, *bits),
+        Field::Integer(number) => {
+            print_octets(alloc, text, "i", number.signed_octets().as_ref())
+        }
+        Field::Character { character, .. } => writeln!(text, "a {character}"),
     }
+}
+
+/// `b`, and the digits of the bits, or `-` where there are none.
+fn print_bits(text: &mut String, bits: BitStr<'_>) -> Result<(), AllocError> {
+    text.push_str("b ")?;
+    if bits.is_empty() {
+        text.push('-')?;
+    }
+    for i in 0..bits.len() {
+        text.push(if bits.get(i) { '1' } else { '0' })?;
+    }
+    text.push('\n')
 }
 
 /// A label, and the octets in lower-case hexadecimal, or `-` where there are none.

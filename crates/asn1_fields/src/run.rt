@@ -2,10 +2,9 @@
 
 ghost use Rattle.std.specs.Prelude.{◌≡◌, ◌≢◌, ◌≤◌, IfOk, IfErr};
 
-use crate::bit_fields::{ReadError, Shape, read_fields, write_fields};
 use crate::parse::{Lines, first_bit, octets, shapes};
 use crate::print::print_fields;
-use asn1_bits::{BitBuffer, BitReader, BitStr};
+use asn1_values::{BitBuffer, BitReader, BitStr, ReadError, Shape, read_fields, write_fields};
 use std::alloc::{AllocError, Global};
 use std::io::{Read, Write};
 
@@ -113,7 +112,7 @@ fn view_from<'a>(octets: &'a [u8], line: &[u8]) -> Option<BitStr<'a>> {
 }
 
 /// The fields of the shapes, what is left, and the fields written again.
-fn fields_of(alloc: Global, view: BitStr<'_>, shapes: &[Shape]) -> Result<Answer, AllocError> {
+fn fields_of(alloc: Global, view: BitStr<'_>, shapes: &[Shape<'_>]) -> Result<Answer, AllocError> {
     let mut reader = BitReader::new(view);
     let fields = match read_fields(alloc, &mut reader, shapes) {
         Ok(fields) => fields,

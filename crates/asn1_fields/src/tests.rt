@@ -1,5 +1,3 @@
-//! Worked rows on the two calls and on the program.
+//! Worked rows on the program.
 
-mod callers;
-mod fields;
 mod program;

@@ -1,12 +1,12 @@
 -- Fields have one spelling, where no alphabet gives a character two codes.
-use Rattle.std.proofs.Common.{◌≡◌, ℕ, ◌+◌, ◌*◌, arith, List, [], ◌∷◌, ◌++◌, Bool, length, sym, ap, ◌∙◌}
+use Rattle.std.proofs.Common.{◌≡◌, ℕ, ◌+◌, ◌*◌, arith, List, [], ◌∷◌, ◌++◌, Bool, length, sym, ap, subst, ◌∙◌}
 use Rattle.std.specs.Prelude.{ℤ}
 use Rattle.asn1_bits.specs.Bits.{digits, bits}
 use Rattle.asn1_strings.specs.Alphabet.{Alphabet}
 use Rattle.asn1_number.specs.Octets.{IsShortest}
 use Rattle.asn1_number.proofs.LawLemmas.{one_shortest_list}
 use Rattle.asn1_values.specs.Fields as plain
-use Rattle.asn1_values.specs.Fields.{IsSpelledBy, IsOfShape, AreSpelledBy, IsInOneCode, AreInOneCode, Begins, need, Number, Octets, Bits, Integer, Character, OfNumber, OfOctets, OfBits, OfInteger, OfCharacter}
+use Rattle.asn1_values.specs.Fields.{IsSpelledBy, IsOfShape, AreSpelledBy, HasOneCodeEach, IsInOneCode, AreInOneCode, IsReadInOneCode, AreReadInOneCode, Begins, need, Number, Octets, Bits, Integer, Character, OfNumber, OfOctets, OfBits, OfInteger, OfCharacter}
 use Rattle.std.specs.List.{AllZip}
 use Rattle.std.proofs.lemmas.List.{length-append}
 use Rattle.asn1_bits.proofs.DigitLaws.{length-digits, length-bits}
@@ -29,8 +29,23 @@ all_one (f ∷ fs) a b one p q =
     let others : p.1 ≡ q.1 = all_one fs p.1 q.1 one.1 p.3 q.3 in
     p.4 ∙ ap (λ (l : List Bool). l ++ p.1) first ∙ ap (λ (l : List Bool). q.0 ++ l) others ∙ sym q.4
 
-pub written_again : (fs : List plain.Field) (old left : List Bool) (shapes : List plain.Shape) → Begins old shapes fs left → AreInOneCode fs → (list : List Bool) → AreSpelledBy fs list → old ≡ list ++ left
-written_again fs old left shapes b one list s = b.parts ∙ ap (λ (l : List Bool). l ++ left) (all_one fs b.front list one b.spelled s)
+-- fields use the alphabets of their shapes
+pub in_one_code : (fs : List plain.Field) (ss : List plain.Shape) → AllZip IsOfShape fs ss → AreReadInOneCode ss → AreInOneCode fs
+in_one_code [] [] z r = tt
+in_one_code [] (s ∷ ss) z r = absurd z
+in_one_code (f ∷ fs) [] z r = absurd z
+in_one_code (f ∷ fs) (s ∷ ss) z r = (one f s z.0 r.0, in_one_code fs ss z.1 r.1)
+  where
+    one : (f : plain.Field) (s : plain.Shape) → IsOfShape f s → IsReadInOneCode s → IsInOneCode f
+    one (Number value width) s shape codes = tt
+    one (Octets octets) s shape codes = tt
+    one (Bits view) s shape codes = tt
+    one (Integer n) s shape codes = tt
+    one (Character a c) (OfCharacter b) shape codes = subst (λ (x : Alphabet). HasOneCodeEach x) (sym shape) codes
+    one (Character a c) s shape codes = absurd shape
+
+pub written_again : (fs : List plain.Field) (old left : List Bool) (shapes : List plain.Shape) → Begins old shapes fs left → AreReadInOneCode shapes → (list : List Bool) → AreSpelledBy fs list → old ≡ list ++ left
+written_again fs old left shapes b one list s = b.parts ∙ ap (λ (l : List Bool). l ++ left) (all_one fs b.front list (in_one_code fs shapes b.of_shapes one) b.spelled s)
 
 -- every spelling of a field of the shape has the bits that the shape needs
 pub length-spelled : (shape : plain.Shape) (field : plain.Field) (list : List Bool) → IsOfShape field shape → IsSpelledBy field list → length list ≡ need shape

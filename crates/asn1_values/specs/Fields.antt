@@ -69,6 +69,14 @@ abbrev pub IsInOneCode : Field → Type 0
 IsInOneCode (Character alphabet c) = HasOneCodeEach alphabet
 IsInOneCode field = ⊤
 
--- no alphabet in use gives a character two codes
+-- no alphabet that the fields use gives a character two codes
 abbrev pub AreInOneCode : List Field → Type 0
 AreInOneCode fields = AllByRecursion IsInOneCode fields
+
+abbrev pub IsReadInOneCode : Shape → Type 0
+IsReadInOneCode (OfCharacter alphabet) = HasOneCodeEach alphabet
+IsReadInOneCode shape = ⊤
+
+-- no alphabet that the shapes name gives a character two codes
+abbrev pub AreReadInOneCode : List Shape → Type 0
+AreReadInOneCode shapes = AllByRecursion IsReadInOneCode shapes

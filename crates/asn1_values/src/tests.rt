@@ -1,1 +1,10 @@
-//! Tests.
+//! Worked rows on fields.
+
+mod alphabets;
+mod callers;
+mod example;
+mod fields;
+mod integers;
+mod ragged;
+mod same;
+mod texts;

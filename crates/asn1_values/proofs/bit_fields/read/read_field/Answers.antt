@@ -37,8 +37,8 @@ pub returns-in_ok-integer_of-in-Ok-split-3-clause-rest : goal.returns-in_ok-inte
 returns-in_ok-integer_of-in-Ok-split-3-clause-rest c = λ list s.
     let front = c.in-Ok-split-3.ensures.front_list in
     let read = read_integer c.in-Integer.octets (bits_left c.args.reader.now) (bits_left c.split-in-Integer.new.self) c.in_ok-integer_of-in-Ok-split-3.field-0
-        (rw c.in-Integer.is at c.requires) c.in-Ok-split-3.ensures.rest_list
-        (λ octets is are. c.in_ok-integer_of-in-Ok-split-3.ensures octets (is ∙ sym front) are) in
+    (rw c.in-Integer.is at c.requires) c.in-Ok-split-3.ensures.rest_list
+    (λ octets is are. c.in_ok-integer_of-in-Ok-split-3.ensures octets (is ∙ sym front) are) in
     let len = length-read_integer c.in-Integer.octets (bits_left c.args.reader.now) (bits_left c.split-in-Integer.new.self) c.in_ok-integer_of-in-Ok-split-3.field-0 read list s in
     rw len c.in-Ok-split-3.ensures.rest
 

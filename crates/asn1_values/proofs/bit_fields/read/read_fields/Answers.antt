@@ -2,7 +2,7 @@ use Rattle.std.proofs.lemmas.Result.{err_from_is_err_and}
 use Rattle.asn1_bits.specs.BitReader.{bits_left}
 use Rattle.asn1_values.specs.Plain.{plain_shapes, plain_fields}
 use Rattle.asn1_values.proofs.HeadlineLemmas.{refusal, can_begin, none_refused, found, only, accepted, one_list}
-use Rattle.asn1_values.proofs.OneSpelling.{written_again, equally_long}
+use Rattle.asn1_values.proofs.OneSpelling.{in_one_code, written_again, equally_long}
 use Rattle.asn1_values.proofs.bit_fields.read.read_fields.Goals as goal
 
 pub returns-in_err-examine_all-clause-refused : goal.returns-in_err-examine_all-clause-refused
@@ -41,6 +41,11 @@ returns-clause-only c = only (bits_left c.args.reader.now) c.args.shapes.now (pl
 
 pub returns-clause-again : goal.returns-clause-again
 returns-clause-again c = written_again (plain_fields c.in_ok-fields.fields.items) (bits_left c.args.reader.now) (bits_left c.collect.new.reader) (plain_shapes c.args.shapes.now) (found (bits_left c.args.reader.now) c.args.shapes.now (plain_fields c.in_ok-fields.fields.items) (bits_left c.collect.new.reader) c.in_ok-fields.ensures.fields)
+
+pub returns-clause-one_code : goal.returns-clause-one_code
+returns-clause-one_code c =
+    let b = found (bits_left c.args.reader.now) c.args.shapes.now (plain_fields c.in_ok-fields.fields.items) (bits_left c.collect.new.reader) c.in_ok-fields.ensures.fields in
+    in_one_code (plain_fields c.in_ok-fields.fields.items) (plain_shapes c.args.shapes.now) b.of_shapes
 
 pub returns-clause-equally_long : goal.returns-clause-equally_long
 returns-clause-equally_long c = equally_long (plain_shapes c.args.shapes.now)

@@ -2,9 +2,10 @@
 
 ghost use Rattle.std.specs.Prelude.{◌≡◌, ◌++◌, IfSome, IsOk};
 ghost use Rattle.asn1_bits.specs.BitReader.{bits_left};
+ghost use Rattle.asn1_values.specs.Fields.{AreReadInOneCode};
+ghost use Rattle.asn1_values.specs.Plain.{plain_shapes};
 
-use crate::bit_fields::{Shape, WriteError, read_fields, write_fields};
-use asn1_bits::{BitBuffer, BitReader};
+use crate::{BitBuffer, BitReader, Shape, WriteError, read_fields, write_fields};
 use std::alloc::Global;
 use std::test::Fail;
 
@@ -12,8 +13,9 @@ use std::test::Fail;
 fn copies_the_front(
     alloc: Global,
     reader: &mut BitReader<'_>,
-    shapes: &[Shape],
+    shapes: &[Shape<'_>],
 ) -> Option<BitBuffer>
+    requires { AreReadInOneCode (plain_shapes shapes.now) }
     ensures { IfSome result (λ front. bits_left reader.old ≡ front ++ bits_left reader.new) }
 {
     let fields = read_fields(alloc, reader, shapes).ok()?;

@@ -1,7 +1,10 @@
-//! Rows on the two calls, and the texts of their errors.
+//! Rows on the calls.
 
-use crate::bit_fields::{Field, ReadError, Shape, WriteError, read_fields, shape_of, write_fields};
-use asn1_bits::{BitBuffer, BitReader, BitStr, Octets};
+use super::same::all_same;
+use crate::{
+    BitBuffer, BitReader, BitStr, CharacterAlphabet, Field, Ia5String, Integer, Octets, ReadError,
+    Shape, Turns, WriteError, read_fields, shape_of, write_fields, write_fields_counted,
+};
 use std::test::Fail;
 
 #[test]
@@ -49,7 +52,7 @@ fn fields_are_read_from_any_bit(rt: HostRuntime) -> Result<(), Fail> {
             assert!(rt; matches!(octets, Octets::Owned(_)));
             assert_eq!(rt; octets.as_ref(), [0xA5].as_slice());
         }
-        Field::Number { .. } => assert!(rt; false),
+        _ => assert!(rt; false),
     }
     assert!(rt; matches!(shape_of(&fields[0]), Shape::Number { width: 3 }));
     assert!(rt; matches!(shape_of(&fields[1]), Shape::Octets { count: 1 }));
@@ -69,7 +72,7 @@ fn octets_are_lent_where_they_lie_on_octet_boundaries(rt: HostRuntime) -> Result
             assert!(rt; matches!(octets, Octets::Borrowed(_)));
             assert_eq!(rt; octets.as_ref(), [0x94].as_slice());
         }
-        Field::Number { .. } => assert!(rt; false),
+        _ => assert!(rt; false),
     }
     Ok(())
 }
@@ -86,7 +89,7 @@ fn no_octets_are_read_at_any_bit(rt: HostRuntime) -> Result<(), Fail> {
                 assert_eq!(rt; octets.as_ref().len(), 0);
                 assert_eq!(rt; matches!(octets, Octets::Borrowed(_)), first == 8);
             }
-            Field::Number { .. } => assert!(rt; false),
+            _ => assert!(rt; false),
         }
         assert_eq!(rt; reader.len(), 8);
     }
@@ -94,25 +97,79 @@ fn no_octets_are_read_at_any_bit(rt: HostRuntime) -> Result<(), Fail> {
 }
 
 #[test]
-fn a_wide_number_is_written_and_read_behind_seven_ones(rt: HostRuntime) -> Result<(), Fail> {
+fn a_wide_number_is_written_and_read_behind_up_to_seven_ones(rt: HostRuntime) -> Result<(), Fail> {
     let value = (1u128 << 127) + 1;
-    let mut buffer = BitBuffer::new(rt.alloc());
-    buffer.resize(7, true)?;
-    write_fields(&mut buffer, &[Field::Number { value, width: 128 }])?;
-    assert_eq!(rt; buffer.len(), 135);
-    let octets = buffer.into_vec();
-    let mut wanted = [0u8; 17];
-    wanted[0] = 0xFF;
-    wanted[16] = 0x02;
-    assert_eq!(rt; octets.as_slice(), wanted.as_slice());
-    let mut reader = BitReader::new(BitStr::new(octets.as_slice(), 7, 129).ok_or("within")?);
-    let fields = read_fields(rt.alloc(), &mut reader, &[Shape::Number { width: 128 }])?;
-    assert_eq!(rt; fields.len(), 1);
-    match &fields[0] {
-        Field::Number { value: read, .. } => assert_eq!(rt; *read, value),
-        Field::Octets(_) => assert!(rt; false),
+    for ones in 0..8 {
+        let mut buffer = BitBuffer::new(rt.alloc());
+        buffer.resize(ones, true)?;
+        write_fields(&mut buffer, &[Field::Number { value, width: 128 }])?;
+        assert_eq!(rt; buffer.len(), ones + 128);
+        let octets = buffer.into_vec();
+        let view = BitStr::new(octets.as_slice(), ones, 128).ok_or("within")?;
+        let mut reader = BitReader::new(view);
+        let fields = read_fields(rt.alloc(), &mut reader, &[Shape::Number { width: 128 }])?;
+        assert!(rt; all_same(fields.as_slice(), &[Field::Number { value, width: 128 }]));
+        assert_eq!(rt; reader.len(), 0);
+        if ones == 7 {
+            let mut wanted = [0u8; 17];
+            wanted[0] = 0xFF;
+            wanted[16] = 0x02;
+            assert_eq!(rt; octets.as_slice(), wanted.as_slice());
+        }
     }
-    assert_eq!(rt; reader.len(), 1);
+    Ok(())
+}
+
+#[test]
+fn all_kinds_are_written_and_read(rt: HostRuntime) -> Result<(), Fail> {
+    let letters = [97, 98];
+    let alphabet = CharacterAlphabet::new::<Ia5String>(Some(&letters), false);
+    let fields = [
+        Field::Number { value: 5, width: 3 },
+        Field::Octets(Octets::Borrowed(&[0xA5])),
+        Field::Integer(Integer::from(128)),
+        Field::Character {
+            alphabet,
+            character: 98,
+        },
+        Field::Bits(BitStr::new(&[0x5A], 3, 5).ok_or("within")?),
+    ];
+    let mut buffer = BitBuffer::new(rt.alloc());
+    buffer.push_bits(0b111, 3)?;
+    write_fields_counted(&mut buffer, &fields, &mut Turns::new())?;
+    assert_eq!(rt; buffer.len(), 36);
+    let wanted = [0xF6, 0x94, 0x02, 0x03, 0xA0];
+    assert_eq!(rt; buffer.as_bytes(), wanted.as_slice());
+    let shapes = [
+        shape_of(&fields[0]),
+        shape_of(&fields[1]),
+        shape_of(&fields[2]),
+        shape_of(&fields[3]),
+        shape_of(&fields[4]),
+    ];
+    assert!(rt; matches!(shapes[0], Shape::Number { width: 3 }));
+    assert!(rt; matches!(shapes[1], Shape::Octets { count: 1 }));
+    assert!(rt; matches!(shapes[2], Shape::Integer { octets: 2 }));
+    assert!(rt; matches!(shapes[3], Shape::Character { .. }));
+    assert!(rt; matches!(shapes[4], Shape::Bits { length: 5 }));
+    let view = BitStr::new(&wanted, 3, 37).ok_or("within")?;
+    let mut reader = BitReader::new(view);
+    let read = read_fields(rt.alloc(), &mut reader, &shapes)?;
+    assert!(rt; all_same(read.as_slice(), &fields));
+    assert_eq!(rt; reader.len(), 4);
+    Ok(())
+}
+
+#[test]
+fn bits_are_written_before_a_number(rt: HostRuntime) -> Result<(), Fail> {
+    let mut buffer = BitBuffer::new(rt.alloc());
+    let fields = [
+        Field::Bits(BitStr::new(&[0x5A], 3, 5).ok_or("within")?),
+        Field::Number { value: 1, width: 1 },
+    ];
+    write_fields(&mut buffer, &fields)?;
+    assert_eq!(rt; buffer.len(), 6);
+    assert_eq!(rt; buffer.as_bytes(), [0xD4].as_slice());
     Ok(())
 }
 
@@ -165,45 +222,5 @@ fn writing_names_the_first_wrong_field(rt: HostRuntime) -> Result<(), Fail> {
     assert_eq!(rt; refused, Some(wanted));
     write_fields(&mut buffer, &[Field::Number { value: 0, width: 0 }])?;
     assert_eq!(rt; buffer.len(), 0);
-    Ok(())
-}
-
-#[test]
-fn errors_are_printed_with_their_place(rt: HostRuntime) -> Result<(), Fail> {
-    let writing = [
-        (
-            WriteError::NumberWidth {
-                field: 2,
-                width: 129,
-            },
-            "field 2: width 129 is over 128",
-        ),
-        (
-            WriteError::Number { field: 0 },
-            "field 0: the number does not fit its width",
-        ),
-        (WriteError::TooLong, "too many bits"),
-        (WriteError::Memory, "out of memory"),
-    ];
-    for (error, text) in writing {
-        assert_eq!(rt; format!(in rt.alloc(); "{error}")?.as_str(), text);
-    }
-    let reading = [
-        (
-            ReadError::NumberWidth {
-                field: 1,
-                width: 200,
-            },
-            "field 1: width 200 is over 128",
-        ),
-        (
-            ReadError::Short { field: 3, bits: 17 },
-            "field 3: 17 bits short",
-        ),
-        (ReadError::Memory, "out of memory"),
-    ];
-    for (error, text) in reading {
-        assert_eq!(rt; format!(in rt.alloc(); "{error}")?.as_str(), text);
-    }
     Ok(())
 }

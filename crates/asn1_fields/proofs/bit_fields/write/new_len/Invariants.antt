@@ -1,7 +1,0 @@
-use Rattle.std.proofs.Common.{take}
-use Rattle.asn1_fields.specs.Plain.{plain_fields}
-use Rattle.asn1_fields.specs.Steps.{EndsAt}
-use Rattle.asn1_fields.proofs.bit_fields.write.new_len.Given as goal
-
-abbrev pub invariant-loop-i : goal.invariant-loop-i
-invariant-loop-i l = EndsAt l.len (plain_fields (take l.i l.fields)) l.end

@@ -1,7 +1,0 @@
-pub mod Fields
-pub mod Joined
-pub mod Plain
-pub mod Refusals
-pub mod Steps
-pub mod Walk
-pub mod Wrong

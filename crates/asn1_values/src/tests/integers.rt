@@ -1,0 +1,115 @@
+//! Integers as fields.
+
+use super::same::all_same;
+use crate::{
+    BitBuffer, BitReader, Field, Integer, ReadError, Shape, read_fields,
+    without_redundant_sign_octets, write_fields,
+};
+use std::alloc::Global;
+use std::process::Abort;
+use std::test::Fail;
+
+/// Reads an integer of all the octets.
+fn read_integer(alloc: Global, octets: &[u8]) -> Result<Integer, ReadError> {
+    let Some(bits) = octets.len().checked_mul(8) else {
+        return Err(ReadError::Memory);
+    };
+    let Some(view) = crate::BitStr::new(octets, 0, bits) else {
+        return Err(ReadError::Memory);
+    };
+    let shapes = [Shape::Integer {
+        octets: octets.len(),
+    }];
+    let mut fields = read_fields(alloc, &mut BitReader::new(view), &shapes)?;
+    match fields.pop() {
+        Some(Field::Integer(number)) => Ok(number),
+        _ => Err(ReadError::Memory),
+    }
+}
+
+#[test]
+fn integers_are_read_from_their_shortest_octets(rt: HostRuntime) -> Result<(), Fail> {
+    let mut refused = 0;
+    for first in 0..=255u8 {
+        let one = read_integer(rt.alloc(), &[first])?;
+        assert!(rt; one == Integer::from(i8::from_be_bytes([first])));
+        for second in 0..=255u8 {
+            let long = (first == 0 && second < 0x80) || (first == 0xFF && second >= 0x80);
+            match read_integer(rt.alloc(), &[first, second]) {
+                Ok(number) => {
+                    assert!(rt; !long);
+                    assert!(rt; number == Integer::from(i16::from_be_bytes([first, second])));
+                }
+                Err(error) => {
+                    assert!(rt; long);
+                    assert_eq!(rt; error, ReadError::Integer { field: 0 });
+                    refused += 1;
+                }
+            }
+        }
+    }
+    assert_eq!(rt; refused, 256);
+    Ok(())
+}
+
+#[test]
+fn integers_of_no_octets_are_refused(rt: HostRuntime) -> Result<(), Fail> {
+    let refused = read_integer(rt.alloc(), &[]).err();
+    assert_eq!(rt; refused, Some(ReadError::Integer { field: 0 }));
+    let mut reader = BitReader::from_octets(&[0x00, 0x05]);
+    let shapes = [Shape::Integer { octets: 0 }];
+    let refused = read_fields(rt.alloc(), &mut reader, &shapes).err();
+    assert_eq!(rt; refused, Some(ReadError::Integer { field: 0 }));
+    assert_eq!(rt; reader.len(), 16);
+    Ok(())
+}
+
+/// Octets that begin with these, and go on with `count` equal ones.
+fn long(alloc: Global, front: &[u8], rest: u8, count: usize) -> Result<Vec<u8>, Fail> {
+    let mut octets = Vec::from_slice(alloc, front)?;
+    for _ in 0..count {
+        octets.push(rest)?;
+    }
+    Ok(octets)
+}
+
+/// Writes the integer of the octets to an empty buffer, compares its octets, and reads it back.
+fn there_and_back<R: Abort + AllocGlobal>(rt: &R, octets: &[u8]) -> Result<Integer, Fail> {
+    let fields = [Field::Integer(Integer::from_signed_octets(rt.alloc(), octets)?)];
+    let mut buffer = BitBuffer::new(rt.alloc());
+    write_fields(&mut buffer, &fields)?;
+    assert_eq!(rt; buffer.as_bytes(), octets);
+    let read = [Field::Integer(read_integer(rt.alloc(), octets)?)];
+    assert!(rt; all_same(&fields, &read));
+    Ok(read_integer(rt.alloc(), octets)?)
+}
+
+#[test]
+fn long_integers_are_written_and_read(rt: HostRuntime) -> Result<(), Fail> {
+    let below = long(rt.alloc(), &[0xFF], 0x00, 25)?;
+    let number = there_and_back(&rt, below.as_slice())?;
+    assert!(rt; number < Integer::zero());
+    let octets = long(rt.alloc(), &[0x7F], 0xFF, 4095)?;
+    let most = there_and_back(&rt, octets.as_slice())?;
+    let octets = long(rt.alloc(), &[0x00, 0x80], 0x00, 4095)?;
+    let more = there_and_back(&rt, octets.as_slice())?;
+    let octets = long(rt.alloc(), &[0x80], 0x00, 4095)?;
+    let least = there_and_back(&rt, octets.as_slice())?;
+    assert!(rt; most < more);
+    assert!(rt; least < most);
+    Ok(())
+}
+
+#[test]
+fn redundant_sign_octets_are_no_field(rt: HostRuntime) -> Result<(), Fail> {
+    for (octet, number) in [(0x00, 0), (0xFF, -1)] {
+        let octets = long(rt.alloc(), &[], octet, 4096)?;
+        let refused = read_integer(rt.alloc(), octets.as_slice()).err();
+        assert_eq!(rt; refused, Some(ReadError::Integer { field: 0 }));
+        let read = Integer::from_signed_octets(rt.alloc(), octets.as_slice())?;
+        assert!(rt; read == Integer::from(number));
+        let short = without_redundant_sign_octets(octets.as_slice());
+        assert!(rt; read_integer(rt.alloc(), short)? == Integer::from(number));
+    }
+    Ok(())
+}

@@ -1,0 +1,149 @@
+//! Messages that are cut off, moved to other bits, or hold numbers at the edge of their widths.
+
+use super::same::all_same;
+use crate::{
+    BitBuffer, BitReader, BitStr, CharacterAlphabet, Field, Ia5String, Integer, Octets, ReadError,
+    Shape, WriteError, read_fields, write_fields,
+};
+use std::test::Fail;
+
+const LETTERS: [u32; 2] = [97, 98];
+
+/// A number, an octet, an integer and a character: 3, 8, 16 bits and one.
+fn message() -> [Field<'static, 'static>; 4] {
+    [
+        Field::Number { value: 5, width: 3 },
+        Field::Octets(Octets::Borrowed(&[0xA5])),
+        Field::Integer(Integer::from(128)),
+        Field::Character {
+            alphabet: CharacterAlphabet::new::<Ia5String>(Some(&LETTERS), false),
+            character: 98,
+        },
+    ]
+}
+
+fn shapes() -> [Shape<'static>; 4] {
+    [
+        Shape::Number { width: 3 },
+        Shape::Octets { count: 1 },
+        Shape::Integer { octets: 2 },
+        Shape::Character {
+            alphabet: CharacterAlphabet::new::<Ia5String>(Some(&LETTERS), false),
+        },
+    ]
+}
+
+#[test]
+fn a_message_is_refused_wherever_it_is_cut(rt: HostRuntime) -> Result<(), Fail> {
+    let ends = [3usize, 11, 27, 28];
+    for len in 0..28usize {
+        let view = BitStr::new(&[0xF6, 0x94, 0x02, 0x02], 3, len).ok_or("within")?;
+        let mut reader = BitReader::new(view);
+        let refused = read_fields(rt.alloc(), &mut reader, &shapes()).err();
+        let mut wanted = None;
+        for (field, end) in ends.iter().enumerate() {
+            if len < *end && wanted.is_none() {
+                let bits = (*end - len) as u128;
+                wanted = Some(ReadError::Short { field, bits });
+            }
+        }
+        assert_eq!(rt; refused, wanted);
+        assert_eq!(rt; reader.len(), len);
+    }
+    let view = BitStr::new(&[0xF6, 0x94, 0x02, 0x02], 3, 28).ok_or("within")?;
+    let mut reader = BitReader::new(view);
+    let read = read_fields(rt.alloc(), &mut reader, &shapes())?;
+    assert!(rt; all_same(read.as_slice(), &message()));
+    assert_eq!(rt; reader.len(), 0);
+    Ok(())
+}
+
+#[test]
+fn a_message_is_read_from_each_bit_of_an_octet(rt: HostRuntime) -> Result<(), Fail> {
+    for start in 0..8 {
+        let mut buffer = BitBuffer::new(rt.alloc());
+        buffer.resize(start, true)?;
+        write_fields(&mut buffer, &message())?;
+        buffer.push(false)?;
+        assert_eq!(rt; buffer.len(), start + 29);
+        let view = BitStr::new(buffer.as_bytes(), start, 29).ok_or("within")?;
+        let mut reader = BitReader::new(view);
+        let read = read_fields(rt.alloc(), &mut reader, &shapes())?;
+        assert!(rt; all_same(read.as_slice(), &message()));
+        assert_eq!(rt; reader.len(), 1);
+        match read.get(1) {
+            Some(Field::Octets(octets)) => {
+                assert_eq!(rt; matches!(octets, Octets::Borrowed(_)), start == 5);
+            }
+            _ => assert!(rt; false),
+        }
+    }
+    Ok(())
+}
+
+#[test]
+fn bits_are_a_view_of_the_storage(rt: HostRuntime) -> Result<(), Fail> {
+    let octets = [0xF6, 0x94, 0x02, 0x02];
+    let view = BitStr::new(&octets, 3, 29).ok_or("within")?;
+    let shapes = [Shape::Bits { length: 6 }, Shape::Bits { length: 0 }];
+    let read = read_fields(rt.alloc(), &mut BitReader::new(view), &shapes)?;
+    match read.as_slice() {
+        [Field::Bits(six), Field::Bits(none)] => {
+            assert_eq!(rt; six.shift(), 3);
+            assert!(rt; *six == BitStr::new(&octets, 3, 6).ok_or("within")?);
+            assert_eq!(rt; none.shift(), 1);
+            assert!(rt; none.is_empty());
+        }
+        _ => assert!(rt; false),
+    }
+    Ok(())
+}
+
+#[test]
+fn numbers_fit_their_widths_or_are_refused(rt: HostRuntime) -> Result<(), Fail> {
+    for width in 0..128usize {
+        let over = 1u128 << width;
+        let mut buffer = BitBuffer::new(rt.alloc());
+        let refused = write_fields(&mut buffer, &[Field::Number { value: over, width }]).err();
+        assert_eq!(rt; refused, Some(WriteError::Number { field: 0 }));
+        assert_eq!(rt; buffer.len(), 0);
+        let most = [Field::Number {
+            value: over - 1,
+            width,
+        }];
+        write_fields(&mut buffer, &most)?;
+        assert_eq!(rt; buffer.len(), width);
+        let view = BitStr::new(buffer.as_bytes(), 0, width).ok_or("within")?;
+        let read = read_fields(
+            rt.alloc(),
+            &mut BitReader::new(view),
+            &[Shape::Number { width }],
+        )?;
+        assert!(rt; all_same(read.as_slice(), &most));
+    }
+    let most = [Field::Number {
+        value: u128::MAX,
+        width: 128,
+    }];
+    let mut buffer = BitBuffer::new(rt.alloc());
+    write_fields(&mut buffer, &most)?;
+    assert_eq!(rt; buffer.as_bytes(), [0xFF; 16].as_slice());
+    let wide = Field::Number {
+        value: u128::MAX,
+        width: 129,
+    };
+    let refused = write_fields(&mut buffer, &[wide]).err();
+    let wanted = WriteError::NumberWidth {
+        field: 0,
+        width: 129,
+    };
+    assert_eq!(rt; refused, Some(wanted));
+    let mut none = BitReader::from_octets(&[]);
+    let refused = read_fields(rt.alloc(), &mut none, &[Shape::Number { width: 129 }]).err();
+    let wanted = ReadError::NumberWidth {
+        field: 0,
+        width: 129,
+    };
+    assert_eq!(rt; refused, Some(wanted));
+    Ok(())
+}
