@@ -41,6 +41,22 @@ fn lines_are_answered_with_and_without_the_last_end(rt: HostRuntime) -> Result<(
         ("n1234567890\n00\n0", "bad shapes\n", 1),
         ("\nff\n8", "rest 0\nagain -\n", 0),
         ("o0 o1\nAb\n0", "o -\no ab\nrest 0\nagain ab\n", 0),
+        (
+            "n3 o1 i2 b2\nf6940202\n3",
+            "n 5\no a5\ni 0080\nb 10\nrest 0\nagain b4a01010\n",
+            0,
+        ),
+        (
+            "i2\n0005\n0",
+            "refused: field 0: not a shortest integer\n",
+            1,
+        ),
+        ("i0\n00\n0", "refused: field 0: not a shortest integer\n", 1),
+        ("a a\n0A\n0", "a 32\na 57\nrest 0\nagain 0a\n", 0),
+        ("a\nb0\n0", "refused: field 0: code 11 is no character\n", 1),
+        ("b5\n00\n0", "b 00000\nrest 3\nagain 00\n", 0),
+        ("b0 b3\n60\n1", "b -\nb 110\nrest 4\nagain c0\n", 0),
+        ("i1\nff\n0", "i ff\nrest 0\nagain ff\n", 0),
     ];
     for (lines, output, status) in rows {
         answers(&rt, lines, output, status)?;
@@ -65,9 +81,12 @@ fn other_inputs_are_refused_by_their_first_wrong_line(rt: HostRuntime) -> Result
         ("n3  n3\n00\n0\n", "bad shapes\n"),
         (" \n00\n0\n", "bad shapes\n"),
         ("n\n00\n0\n", "bad shapes\n"),
-        ("b5\n00\n0\n", "bad shapes\n"),
-        ("i2\n00\n0\n", "bad shapes\n"),
-        ("a\n00\n0\n", "bad shapes\n"),
+        ("b\n00\n0\n", "bad shapes\n"),
+        ("i\n00\n0\n", "bad shapes\n"),
+        ("i02\n00\n0\n", "bad shapes\n"),
+        ("a1\n00\n0\n", "bad shapes\n"),
+        ("c\n00\n0\n", "bad shapes\n"),
+        ("N3\n00\n0\n", "bad shapes\n"),
     ];
     for (input, output) in rows {
         answers(&rt, input, output, 1)?;
