@@ -38,20 +38,13 @@ fn a_message_of_mixed_fields_is_written_read_and_refused(rt: HostRuntime) -> Res
     let mut reader = BitReader::new(view);
     let read = read_fields(rt.alloc(), &mut reader, &shapes)?;
     assert_eq!(rt; reader.len(), 1);
-    match read.as_slice() {
-        [
-            Field::Number { value, .. },
-            Field::Octets(octets),
-            Field::Integer(number),
-            Field::Character { character, .. },
-        ] => {
-            assert_eq!(rt; *value, 5);
-            assert_eq!(rt; octets.as_ref(), [0xA5].as_slice());
-            assert_eq!(rt; number.to_i128(), Some(128));
-            assert_eq!(rt; *character, 98);
-        }
-        _ => assert!(rt; false),
-    }
+    let [number, octets, integer, letter] = read.as_slice() else {
+        return Err("four fields".into());
+    };
+    assert!(rt; matches!(number, Field::Number { value: 5, .. }));
+    assert!(rt; matches!(octets, Field::Octets(octets) if octets.as_ref() == [0xA5].as_slice()));
+    assert!(rt; matches!(integer, Field::Integer(integer) if integer.to_i128() == Some(128)));
+    assert!(rt; matches!(letter, Field::Character { character: 98, .. }));
 
     // Other bits are refused by the first field that is wrong, and the reader stays: 00 05 is not the shortest
     // integer of its value.

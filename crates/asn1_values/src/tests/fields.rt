@@ -147,11 +147,11 @@ fn all_kinds_are_written_and_read(rt: HostRuntime) -> Result<(), Fail> {
         shape_of(&fields[3]),
         shape_of(&fields[4]),
     ];
-    assert!(rt; matches!(shapes[0], Shape::Number { width: 3 }));
-    assert!(rt; matches!(shapes[1], Shape::Octets { count: 1 }));
-    assert!(rt; matches!(shapes[2], Shape::Integer { octets: 2 }));
-    assert!(rt; matches!(shapes[3], Shape::Character { .. }));
-    assert!(rt; matches!(shapes[4], Shape::Bits { length: 5 }));
+    assert!(rt; matches!(&shapes[0], Shape::Number { width: 3 }));
+    assert!(rt; matches!(&shapes[1], Shape::Octets { count: 1 }));
+    assert!(rt; matches!(&shapes[2], Shape::Integer { octets: 2 }));
+    assert!(rt; matches!(&shapes[3], Shape::Character { .. }));
+    assert!(rt; matches!(&shapes[4], Shape::Bits { length: 5 }));
     let view = BitStr::new(&wanted, 3, 37).ok_or("within")?;
     let mut reader = BitReader::new(view);
     let read = read_fields(rt.alloc(), &mut reader, &shapes)?;

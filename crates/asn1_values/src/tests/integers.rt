@@ -29,7 +29,7 @@ fn read_integer(alloc: Global, octets: &[u8]) -> Result<Integer, ReadError> {
 
 #[test]
 fn integers_are_read_from_their_shortest_octets(rt: HostRuntime) -> Result<(), Fail> {
-    let mut refused = 0;
+    let mut refused = 0u32;
     for first in 0..=255u8 {
         let one = read_integer(rt.alloc(), &[first])?;
         assert!(rt; one == Integer::from(i8::from_be_bytes([first])));
@@ -43,7 +43,7 @@ fn integers_are_read_from_their_shortest_octets(rt: HostRuntime) -> Result<(), F
                 Err(error) => {
                     assert!(rt; long);
                     assert_eq!(rt; error, ReadError::Integer { field: 0 });
-                    refused += 1;
+                    refused = refused.saturating_add(1);
                 }
             }
         }
