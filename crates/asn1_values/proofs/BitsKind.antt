@@ -1,7 +1,7 @@
 -- The laws of bits as fields.
-use Rattle.std.proofs.Common.{◌≡◌, ℕ, Bool, List, length, Ok, refl, sym, ap, subst, ◌∙◌}
+use Rattle.std.proofs.Common.{◌≡◌, ℕ, Bool, List, length, Ok, refl, ap, subst, ◌∙◌}
 use Rattle.asn1_values.specs.Fields.{Field, IsSpelledBy, IsOfShape, Bits, OfBits}
-use Rattle.asn1_values.specs.Walk.{cut_at, bits_content, field_at}
+use Rattle.asn1_values.specs.Walk.{bits_content, field_at}
 use Rattle.asn1_values.proofs.ExactKinds.{IsExact, cut_exact, held_is, no_fault}
 
 pub bits_exact : (len : ℕ) → IsExact (OfBits len) (field_at (OfBits len))

@@ -1,6 +1,6 @@
 -- Octets and their bits, one from the other.
 use Rattle.std.proofs.Common.{◌≡◌, ℕ, zero, suc, ◌*◌, ◌<◌, ◌≤◌, Bool, List, [], ◌∷◌, length, take, drop, refl, sym, ap, ◌∙◌, arith}
-use Rattle.std.proofs.lemmas.List.{length-append, nil_from_length, take_at, drop_at, length-take, length-drop, take-append-drop}
+use Rattle.std.proofs.lemmas.List.{nil_from_length, take_at, drop_at, length-take, length-drop, take-append-drop}
 use Rattle.std.proofs.lemmas.List.Elements.{All-nil, All-cons, All-head, All-tail}
 use Rattle.std.specs.Prelude.{All}
 use Rattle.asn1_bits.specs.Bits.{digits, number, bits}

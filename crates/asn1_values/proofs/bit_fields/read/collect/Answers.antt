@@ -1,8 +1,7 @@
-use Rattle.std.proofs.Common.{◌≡◌, ℕ, ◌+◌, Bool, List, [], length, sym, ap, subst, ◌∙◌}
+use Rattle.std.proofs.Common.{◌≡◌, Bool, List, [], sym, ap, ◌∙◌}
 use Rattle.std.proofs.lemmas.List.{map_push}
 use Rattle.asn1_bits.specs.BitReader.{view_left, bits_left}
-use Rattle.asn1_bits.specs.View.{View}
-use Rattle.asn1_values.specs.Plain.{plain_field, plain_fields, plain_shapes, LiesAt}
+use Rattle.asn1_values.specs.Plain.{plain_field, plain_fields, plain_shapes}
 use Rattle.asn1_values.specs.Walk.{fields_at}
 use Rattle.asn1_values.proofs.LiesLemmas.{after, lie_none, lie_more, left_more, after-none, lies_there}
 use Rattle.asn1_values.proofs.WalkLemmas.{read_more, next_is_ok, read_all, from_front}

@@ -6,7 +6,7 @@ use Rattle.asn1_strings.specs.Alphabet.{IsCode}
 use Rattle.asn1_strings.specs.AlphabetView.{alphabet_of}
 use Rattle.asn1_values.specs.Fields.{Character, OfCharacter}
 use Rattle.asn1_values.proofs.IntegerKind.{read_integer, length-read_integer}
-use Rattle.asn1_values.proofs.CharacterKind.{character_there, read_character, cut_twice}
+use Rattle.asn1_values.proofs.CharacterKind.{character_there, cut_twice}
 use Rattle.asn1_values.proofs.OneSpelling.{length-spelled}
 use Rattle.asn1_values.proofs.HeadlineLemmas.{read_octets, octets_there}
 use Rattle.asn1_values.proofs.bit_fields.read.read_field.Goals as goal

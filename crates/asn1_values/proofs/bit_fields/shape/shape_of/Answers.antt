@@ -1,8 +1,7 @@
 use Rattle.std.proofs.Common.{length, sym}
 use Rattle.asn1_number.proofs.LawLemmas.{one_shortest_list}
-use Rattle.asn1_bits.specs.BitStr.{bits_of}
 use Rattle.asn1_strings.specs.AlphabetView.{alphabet_of}
-use Rattle.asn1_values.specs.Fields.{OfNumber, OfOctets, OfBits, OfInteger, OfCharacter}
+use Rattle.asn1_values.specs.Fields.{OfNumber, OfOctets, OfInteger, OfCharacter}
 use Rattle.asn1_values.proofs.OneSpelling.{length-spelled}
 use Rattle.asn1_values.proofs.bit_fields.shape.shape_of.Goals as goal
 

@@ -1,7 +1,7 @@
-use Rattle.std.proofs.Common.{rules, ◌≡◌, ◌+◌, ℕ, List, Bool, ◌++◌, length, sym, ap, ◌∙◌, arith}
+use Rattle.std.proofs.Common.{◌≡◌, List, Bool, ◌++◌, ap, ◌∙◌, arith}
 use Rattle.std.proofs.lemmas.Grind.{common_steps}
 use Rattle.asn1_values.specs.Plain.{plain_fields}
-use Rattle.asn1_values.proofs.SpellingLemmas.{names_none, misfit_refused, ends_below, ends_past, starts_below, refused_long, refused_memory, has_room}
+use Rattle.asn1_values.proofs.SpellingLemmas.{names_none}
 use Rattle.asn1_values.proofs.OneSpelling.{all_one}
 use Rattle.asn1_values.proofs.bit_fields.write.write_fields_counted.Goals as goal
 
