@@ -1,5 +1,5 @@
 -- Strings whose bits are read by a map from keys to characters.
-use Rattle.std.specs.Prelude.{◌%◌, ◌^◌, ◌==◌, ℕ, Bool, true, not, List, length, map, find, filter_map, Option, Some, None, Result, Ok, Err, slice_get, nat_le, if◌then◌else◌}
+use Rattle.std.specs.Prelude.{◌%◌, ◌^◌, ◌==◌, ℕ, Bool, true, not, List, length, map, find, filter_map, Option, Some, None, Ok, Err, slice_get, nat_le, if◌then◌else◌}
 use Rattle.std.specs.Option.{option_map_or}
 use Rattle.std.specs.Ordering.{nat_cmp}
 use Rattle.std.specs.BTreeMap.{BTreeMap, btree_map_len, get, values}

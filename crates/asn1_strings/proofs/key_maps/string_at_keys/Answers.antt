@@ -1,4 +1,4 @@
-use Rattle.std.proofs.Common.{◌≡◌, ℕ, Option, map, get_or, Some, None, ap, sym, ◌∙◌, arith}
+use Rattle.std.proofs.Common.{◌≡◌, ℕ, Option, map, get_or, Some, None, sym, ◌∙◌, arith}
 use Rattle.asn1_bits.specs.BitStr.{bits_of}
 use Rattle.asn1_bits.specs.Bits.{number}
 use Rattle.asn1_strings.specs.Pieces.{pieces}
