@@ -1,10 +1,10 @@
 -- The number of bits that are read octet by octet.
 use Rattle.std.proofs.Common.{◌≡◌, ℕ, ◌+◌, ◌-◌, ◌*◌, ◌/◌, ◌%◌, ◌^◌, ◌<◌, ◌≤◌, Bool, List, [], ◌++◌, length, get_or, take, drop, sym, ap, ◌∙◌, arith}
 use Rattle.std.specs.Prelude.{bit_and, bit_or}
-use Rattle.std.proofs.Math.Nat.{mul-add-div_right, mul_assoc, pow-le-pow_right, mod-eq_of_lt}
+use Rattle.std.proofs.Math.Nat.{pow-le-pow_right, mod-eq_of_lt}
 use Rattle.std.proofs.Math.Seq.{take-add}
 use Rattle.std.proofs.lemmas.List.{take_at, drop-drop, length-take, length-drop, take_more, take-take, drop-take, take-append-drop, drop_at, drop-append-le}
-use Rattle.std.proofs.lemmas.Nat.{shr_high, and_mask, or_shifted, pow_pos, pow-add, shl_whole, shr_below, field_of, shr-shr, shl-shr}
+use Rattle.std.proofs.lemmas.Nat.{shr_high, and_mask, or_shifted, shl_whole, shr_below, field_of, shr-shr, shl-shr}
 use Rattle.std.proofs.lemmas.Nat.Bits.{ones_shr}
 use Rattle.asn1_bits.specs.Bits.{digits, number, bits}
 use Rattle.asn1_bits.proofs.DigitLemmas.{length-digits, length-bits, bits-take, bits-push, drop_split}
@@ -70,17 +70,6 @@ gathered-end field shift width excess m e h =
     ∙ ap (λ (k : ℕ). number (take width all) * 2 ^ k + number rest) n in
     sym (ap (λ (k : ℕ). k / 2 ^ excess) whole ∙ shr_high (number (take width all)) excess (number rest) small)
 
--- the seventeenth octet
-pub gathered-last : (field : List ℕ) (shift excess k : ℕ) → shift ≤ 8 * k → k < length field → get_or field k 0 < 256 → excess ≤ 8
-    → gathered field shift (k + 1) / 2 ^ excess ≡ gathered field shift k * 2 ^ (8 - excess) + get_or field k 0 / 2 ^ excess
-gathered-last field shift excess k h lt small e =
-    let o = get_or field k 0 in
-    let g = gathered field shift k in
-    let p : 256 ≡ 2 ^ (8 - excess) * 2 ^ excess = (let s : 8 ≡ (8 - excess) + excess = omega arith in ap (λ (n : ℕ). 2 ^ n) s ∙ pow-add 2 (8 - excess) excess) in
-    ap (λ (n : ℕ). n / 2 ^ excess) (gathered-more field shift k h lt small)
-    ∙ ap (λ (n : ℕ). (n + o) / 2 ^ excess) (ap (λ (n : ℕ). g * n) p ∙ sym (mul_assoc g (2 ^ (8 - excess)) (2 ^ excess)))
-    ∙ mul-add-div_right (pow_pos excess) (g * 2 ^ (8 - excess)) o
-
 -- as the code joins the two
 pub joined : (g o k w top : ℕ) → g < 2 ^ top → top + k ≤ w → o < 2 ^ k → bit_or (g * 2 ^ k % 2 ^ w) o ≡ g * 2 ^ k + o
 joined g o k w top h fits small = rw (shl_whole g top k w h fits) (or_shifted g k o small)
@@ -90,7 +79,7 @@ gathered-fits field shift k h lt =
     let top : 2 ^ (8 * k - shift) ≤ 2 ^ 120 = pow-le-pow_right {n = 2} (omega arith) {i = 8 * k - shift} {j = 120} (omega arith) in
     omega (arith, gathered-lt field shift k h, top)
 
--- what is read where sixteen octets are enough
+-- what is read octet by octet
 pub read-short : (bytes field : List ℕ) (position width excess needed value k : ℕ) → field ≡ drop (position / 8) bytes
     → position % 8 + width + excess ≡ 8 * needed → needed ≤ length field → k ≡ needed → value ≡ gathered field (position % 8) k
     → value / 2 ^ excess ≡ number (take width (drop position (bits bytes)))
@@ -99,25 +88,6 @@ read-short bytes field position width excess needed value k f e h n v =
     ap (λ (m : ℕ). m / 2 ^ excess) (v ∙ ap (gathered field shift) n)
     ∙ sym (gathered-end field shift width excess needed e h)
     ∙ ap (λ (l : List Bool). number (take width l)) (ap (λ (l : List ℕ). drop shift (bits l)) f ∙ drop_split bytes position)
-
--- what is read where a seventeenth octet is met
-pub read-long : (bytes field : List ℕ) (position width excess value k last : ℕ) → field ≡ drop (position / 8) bytes
-    → position % 8 + width + excess ≡ 136 → width ≤ 128 → excess < 8 → 17 ≤ length field → k ≡ 16 → value ≡ gathered field (position % 8) k
-    → get_or field 16 0 < 256 → last ≡ get_or field 16 0 / 2 ^ excess
-    → bit_or (value * 2 ^ (8 - excess) % 2 ^ 128) last ≡ number (take width (drop position (bits bytes)))
-read-long bytes field position width excess value k last f e w small h n v octet l =
-    let shift = position % 8 in
-    let g = gathered field shift 16 in
-    let o = get_or field 16 0 in
-    let is : value ≡ g = v ∙ ap (gathered field shift) n in
-    let room : 256 ≡ 2 ^ ((8 - excess) + excess) = (let s : 8 ≡ (8 - excess) + excess = omega arith in ap (λ (m : ℕ). 2 ^ m) s) in
-    let low : o / 2 ^ excess < 2 ^ (8 - excess) = shr_below o (8 - excess) excess (omega arith) in
-    ap (λ (m : ℕ). bit_or (m * 2 ^ (8 - excess) % 2 ^ 128) last) is
-    ∙ ap (bit_or (g * 2 ^ (8 - excess) % 2 ^ 128)) l
-    ∙ joined g (o / 2 ^ excess) (8 - excess) 128 (128 - shift) (gathered-lt field shift 16 (omega arith)) (omega arith) low
-    ∙ sym (gathered-last field shift excess 16 (omega arith) (omega arith) octet (omega arith))
-    ∙ sym (gathered-end field shift width excess 17 e h)
-    ∙ ap (λ (m : List Bool). number (take width m)) (ap (λ (m : List ℕ). drop shift (bits m)) f ∙ drop_split bytes position)
 
 -- ---- words that are read
 
@@ -148,6 +118,16 @@ read-word list place shift width word h e =
     ∙ take-take width (width + end) (drop shift all) (omega arith)
     ∙ ap (take width) (drop-drop shift place list) in
     value ∙ sym (number-digits (word / 2 ^ end) width) ∙ ap number part
+
+-- at most 64 bits, of the word that begins with them
+pub read-front : (list : List Bool) (place width word : ℕ) → width ≤ 64 → word < 2 ^ 64 → digits word 64 ≡ take 64 (drop place list)
+    → word / 2 ^ (64 - width) ≡ number (take width (drop place list))
+read-front list place width word h small e =
+    let same : word * 2 ^ 0 % 2 ^ 64 ≡ word = ap (λ (n : ℕ). n % 2 ^ 64) (let one : word * 2 ^ 0 ≡ word = omega arith in one) ∙ mod-eq_of_lt small in
+    let there : place + 0 ≡ place = omega arith in
+    ap (λ (n : ℕ). n / 2 ^ (64 - width)) (sym same)
+    ∙ read-word list place 0 width word (omega arith) e
+    ∙ ap (λ (k : ℕ). number (take width (drop k list))) there
 
 -- more than 64 bits, of the word of the first and of the last 64
 pub read-two : (list : List Bool) (place last width high low : ℕ) → 64 < width → width ≤ 128 → last ≡ place + (width - 64)

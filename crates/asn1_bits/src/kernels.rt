@@ -77,7 +77,7 @@ pub fn read_wide(bytes: &[u8], position: usize, width: usize) -> u128
     read_number(bytes, position, width)
 }
 
-/// The number of `width` bits, by two words or one where they lie in the octets.
+/// The number of `width` bits: by two words or one, and octet by octet near the end of the octets.
 #[inline]
 fn read_number(bytes: &[u8], position: usize, width: usize) -> u128
     requires width { width ≤ 128 }
@@ -92,16 +92,20 @@ fn read_number(bytes: &[u8], position: usize, width: usize) -> u128
         let rest = whole_word(bytes, first + low / 8, low % 8);
         return (u128::from(high >> (128 - width)) << 64) | u128::from(rest);
     }
-    if width > 0 && shift + width <= 64 && bytes.len() - first >= 8 {
+    if shift + width > 64 {
+        // The bits lie in nine octets.
+        return u128::from(whole_word(bytes, first, shift) >> (64 - width));
+    }
+    if width > 0 && bytes.len() - first >= 8 {
         return u128::from((load(bytes, first) << shift) >> (64 - width));
     }
     read_octets(bytes, position, width)
 }
 
-/// The number of `width` bits, octet by octet: up to sixteen at once, and a seventeenth folded in where it is met.
+/// The number of `width` bits that lie in eight octets, octet by octet.
 #[inline(never)]
 fn read_octets(bytes: &[u8], position: usize, width: usize) -> u128
-    requires width { width ≤ 128 }
+    requires width { position % 8 + width ≤ 64 }
     requires within { position + width ≤ 8 * length bytes.now }
     ensures { result ≡ number (take width (drop position (bits bytes.now))) }
 {
@@ -113,14 +117,10 @@ fn read_octets(bytes: &[u8], position: usize, width: usize) -> u128
     let needed = (shift + width).div_ceil(8);
     let excess = needed * 8 - shift - width;
     let mut value = u128::from(field[0] & (0xff >> shift));
-    for k in 1..needed.min(16) {
+    for k in 1..needed {
         value = value * 256 + u128::from(field[k]);
     }
-    if needed > 16 {
-        (value << (8 - excess)) | u128::from(field[16] >> excess)
-    } else {
-        value >> excess
-    }
+    value >> excess
 }
 
 /// The number of the `width` bits from bit `position` on, the first of them its highest digit.

@@ -1,7 +1,7 @@
 use Rattle.std.proofs.Common.{ℕ, ◌+◌, ◌-◌, ◌*◌, ◌/◌, ◌%◌, ◌^◌, ◌≡◌, take, drop, ap, ◌∙◌, arith}
 use Rattle.std.specs.Prelude.{bit_or}
 use Rattle.asn1_bits.specs.Bits.{bits, number}
-use Rattle.asn1_bits.proofs.ReadWideLemmas.{read-word, read-two}
+use Rattle.asn1_bits.proofs.ReadWideLemmas.{read-word, read-front, read-two}
 use Rattle.asn1_bits.proofs.kernels.read_number.Goals as goal
 
 pub returns-then-width-gt64 : goal.returns-then-width-gt64
@@ -20,11 +20,20 @@ returns-then-width-gt64 c =
     ∙ read-two list position last width high rest (omega (arith, c.if-width-gt64.true)) c.requires.width (omega arith) (omega arith) (omega arith)
     (c.whole_word-high.ensures ∙ ap (λ (k : ℕ). take 64 (drop k list)) p) (c.whole_word-rest.ensures ∙ ap (λ (k : ℕ). take 64 (drop k list)) q)
 
+pub returns-then-shift-width-gt64 : goal.returns-then-shift-width-gt64
+returns-then-shift-width-gt64 c =
+    let position = c.args.position in
+    let list = bits c.args.bytes.now in
+    let p : 8 * (position / 8) + position % 8 ≡ position = omega arith in
+    c.from-then-shift-width-gt64.ensures
+    ∙ read-front list position c.args.width c.whole_word.result (omega (arith, c.if-width-gt64.false)) (omega (arith, c.whole_word.type_inv))
+    (c.whole_word.ensures ∙ ap (λ (k : ℕ). take 64 (drop k list)) p)
+
 pub returns-then-bytes-first-ge8 : goal.returns-then-bytes-first-ge8
 returns-then-bytes-first-ge8 c =
     let position = c.args.position in
     let list = bits c.args.bytes.now in
     let p : 8 * (position / 8) + position % 8 ≡ position = omega arith in
     c.from-then-bytes-first-ge8.ensures
-    ∙ read-word list (8 * (position / 8)) (position % 8) c.args.width c.load.result (omega (arith, c.if-shift-width-le64.true)) c.load.ensures
+    ∙ read-word list (8 * (position / 8)) (position % 8) c.args.width c.load.result (omega (arith, c.if-shift-width-gt64.false)) c.load.ensures
     ∙ ap (λ (k : ℕ). number (take c.args.width (drop k list))) p

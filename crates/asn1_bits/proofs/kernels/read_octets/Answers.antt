@@ -1,7 +1,7 @@
-use Rattle.std.proofs.Common.{ℕ, ◌+◌, ◌-◌, ◌*◌, ◌/◌, ◌%◌, List, length, get_or, sym, ap, ◌∙◌, arith}
-use Rattle.std.proofs.lemmas.List.{length-drop, get_or-drop}
+use Rattle.std.proofs.Common.{ℕ, ◌-◌, ◌*◌, ◌/◌, ◌%◌, List, length, sym, ap, ◌∙◌, arith}
+use Rattle.std.proofs.lemmas.List.{length-drop}
 use Rattle.asn1_bits.proofs.NumberLemmas.{number-nil}
-use Rattle.asn1_bits.proofs.ReadWideLemmas.{gathered-first, gathered-more, gathered-fits, read-short, read-long}
+use Rattle.asn1_bits.proofs.ReadWideLemmas.{gathered-first, gathered-more, gathered-fits, read-short}
 use Rattle.asn1_bits.proofs.kernels.read_octets.Goals as goal
 
 pub returns-then-width-eq0 : goal.returns-then-width-eq0
@@ -17,14 +17,14 @@ pub overflow_mul-value : goal.overflow_mul-value
 overflow_mul-value c =
     let field = c.from_octet-field.result.now in
     let n = ap (λ (l : List ℕ). length l) c.from_octet-field.ensures ∙ length-drop (c.args.position / 8) c.args.bytes.now in
-    let h = gathered-fits field (c.args.position % 8) c.loop-k.k (omega (arith, n, c.min-k-end.ensures, c.div_ceil-needed.ensures)) (omega (arith, c.min-k-end.ensures)) in
+    let h = gathered-fits field (c.args.position % 8) c.loop-k.k (omega (arith, n, c.div_ceil-needed.ensures)) (omega (arith)) in
     omega (arith, h, c.loop-k.invariant)
 
 pub overflow_add-value : goal.overflow_add-value
 overflow_add-value c =
     let field = c.from_octet-field.result.now in
     let n = ap (λ (l : List ℕ). length l) c.from_octet-field.ensures ∙ length-drop (c.args.position / 8) c.args.bytes.now in
-    let h = gathered-fits field (c.args.position % 8) c.loop-k.k (omega (arith, n, c.min-k-end.ensures, c.div_ceil-needed.ensures)) (omega (arith, c.min-k-end.ensures)) in
+    let h = gathered-fits field (c.args.position % 8) c.loop-k.k (omega (arith, n, c.div_ceil-needed.ensures)) (omega (arith)) in
     omega (arith, h, c.loop-k.invariant, c.from.ensures, c.type_inv.field c.loop-k.k)
 
 pub loop-k-preserved : goal.loop-k-preserved
@@ -33,27 +33,14 @@ loop-k-preserved c =
     let shift = c.args.position % 8 in
     let n = ap (λ (l : List ℕ). length l) c.from_octet-field.ensures ∙ length-drop (c.args.position / 8) c.args.bytes.now in
     rw (c.from.ensures, c.loop-k.invariant)
-    (sym (gathered-more field shift c.loop-k.k (omega (arith, c.loop-k.auto.k)) (omega (arith, n, c.min-k-end.ensures, c.div_ceil-needed.ensures)) (omega (arith, c.type_inv.field c.loop-k.k))))
+    (sym (gathered-more field shift c.loop-k.k (omega (arith, c.loop-k.auto.k)) (omega (arith, n, c.div_ceil-needed.ensures)) (omega (arith, c.type_inv.field c.loop-k.k))))
 
-pub returns-then-needed-gt16 : goal.returns-then-needed-gt16
-returns-then-needed-gt16 c =
-    let field = c.from_octet-field.result.now in
-    let position = c.args.position in
-    let needed = c.div_ceil-needed.result in
-    let excess = needed * 8 - position % 8 - c.args.width in
-    let n = ap (λ (l : List ℕ). length l) c.from_octet-field.ensures ∙ length-drop (position / 8) c.args.bytes.now in
-    read-long c.args.bytes.now field position c.args.width excess c.loop-k.value c.loop-k.k c.from-then-needed-gt16.result c.from_octet-field.ensures
-    (omega (arith, c.div_ceil-needed.ensures)) (omega arith) (omega (arith, c.div_ceil-needed.ensures)) (omega (arith, n, c.div_ceil-needed.ensures))
-    (omega (arith, c.min-k-end.ensures, c.loop-k.auto)) c.loop-k.invariant
-    (let o = ap (λ (l : List ℕ). get_or l 16 0) c.from_octet-field.ensures ∙ get_or-drop (position / 8) c.args.bytes.now 16 0 in omega (arith, o, c.type_inv.bytes (position / 8 + 16)))
-    c.from-then-needed-gt16.ensures
-
-pub returns-else-needed-gt16 : goal.returns-else-needed-gt16
-returns-else-needed-gt16 c =
+pub returns : goal.returns
+returns c =
     let field = c.from_octet-field.result.now in
     let position = c.args.position in
     let needed = c.div_ceil-needed.result in
     let excess = needed * 8 - position % 8 - c.args.width in
     let n = ap (λ (l : List ℕ). length l) c.from_octet-field.ensures ∙ length-drop (position / 8) c.args.bytes.now in
     read-short c.args.bytes.now field position c.args.width excess needed c.loop-k.value c.loop-k.k c.from_octet-field.ensures
-    (omega (arith, c.div_ceil-needed.ensures)) (omega (arith, n, c.div_ceil-needed.ensures)) (omega (arith, c.min-k-end.ensures, c.loop-k.auto)) c.loop-k.invariant
+    (omega (arith, c.div_ceil-needed.ensures)) (omega (arith, n, c.div_ceil-needed.ensures)) (omega (arith, c.loop-k.auto)) c.loop-k.invariant
