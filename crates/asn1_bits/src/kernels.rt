@@ -92,12 +92,12 @@ fn read_number(bytes: &[u8], position: usize, width: usize) -> u128
         let rest = whole_word(bytes, first + low / 8, low % 8);
         return (u128::from(high >> (128 - width)) << 64) | u128::from(rest);
     }
+    if width > 0 && shift + width <= 64 && bytes.len() - first >= 8 {
+        return u128::from((load(bytes, first) << shift) >> (64 - width));
+    }
     if shift + width > 64 {
         // The bits lie in nine octets.
         return u128::from(whole_word(bytes, first, shift) >> (64 - width));
-    }
-    if width > 0 && bytes.len() - first >= 8 {
-        return u128::from((load(bytes, first) << shift) >> (64 - width));
     }
     read_octets(bytes, position, width)
 }

@@ -35,5 +35,5 @@ returns-then-bytes-first-ge8 c =
     let list = bits c.args.bytes.now in
     let p : 8 * (position / 8) + position % 8 ≡ position = omega arith in
     c.from-then-bytes-first-ge8.ensures
-    ∙ read-word list (8 * (position / 8)) (position % 8) c.args.width c.load.result (omega (arith, c.if-shift-width-gt64.false)) c.load.ensures
+    ∙ read-word list (8 * (position / 8)) (position % 8) c.args.width c.load.result (omega (arith, c.if-shift-width-le64.true)) c.load.ensures
     ∙ ap (λ (k : ℕ). number (take c.args.width (drop k list))) p
