@@ -1,5 +1,7 @@
 //! The lines of an answer.
 
+ghost use Rattle.std.specs.Prelude.{◌<◌, length, OnOk, IfOk, string_bytes};
+
 use asn1_values::{BitStr, Field};
 use std::alloc::{AllocError, Global};
 use std::fmt::Write;
@@ -10,7 +12,9 @@ pub fn print_fields(
     fields: &[Field<'_, '_>],
     left: usize,
     again: &[u8],
-) -> Result<String, AllocError> {
+) -> Result<String, AllocError>
+    ensures { IfOk result (λ text. 0 < length (string_bytes text)) }
+{
     let mut text = String::new(alloc);
     for field in fields {
         print_field(alloc, &mut text, field)?;
@@ -52,7 +56,9 @@ fn print_octets(
     text: &mut String,
     label: &str,
     octets: &[u8],
-) -> Result<(), AllocError> {
+) -> Result<(), AllocError>
+    ensures { OnOk result (0 < length (string_bytes text.new)) }
+{
     if octets.is_empty() {
         return writeln!(text, "{label} -");
     }

@@ -1,6 +1,7 @@
 //! The program over any reader and writer.
 
-ghost use Rattle.std.specs.Prelude.{◌≡◌, ◌≢◌, ◌≤◌, IfOk, IfErr};
+ghost use Rattle.std.specs.Prelude.{◌≡◌, ◌≢◌, ◌≤◌, ◌<◌, ℕ, List, [], ◌∷◌, ◌++◌, length, IfOk, OnOk, IfErr, string_bytes};
+ghost use Rattle.std.specs.Io.KnownBytes.{Appends, Consumes, IsAtEnd};
 
 use crate::parse::{Lines, first_bit, octets, shapes};
 use crate::print::print_fields;
@@ -39,11 +40,16 @@ struct Answer {
     text: String,
     status: u8,
     ghost bit: { status ≤ 1 },
+    ghost some: { 0 < length (string_bytes text) },
 }
 
 /// Reads the input to its end, writes the whole answer at once, and answers the status: 0 for fields, 1 for a refusal.
 pub fn run<R: Read, W: Write>(alloc: Global, input: &mut R, output: &mut W) -> Result<u8, RunError>
     ensures status { IfOk result (λ status. status ≤ 1) }
+    // Where it answers, it has read to the end, and has written one answer, which is not empty.
+    ensures end { OnOk result (IsAtEnd (R.remaining input.new)) }
+    ensures written { OnOk result ((answer : List ℕ) × (0 < length answer)
+        × Appends (W.contents output.old) (W.contents output.new) answer) }
     // Only where writing fails has anything been written.
     ensures nothing { IfErr result (λ e. e ≢ RunError.Write → W.contents output.new ≡ W.contents output.old) }
 {
@@ -55,12 +61,17 @@ pub fn run<R: Read, W: Write>(alloc: Global, input: &mut R, output: &mut W) -> R
 
 /// The whole input.
 fn read_all<R: Read>(alloc: Global, input: &mut R) -> Result<Vec<u8>, RunError>
-    ensures { IfErr result (λ e. e ≢ RunError.Write) }
+    ensures text { IfOk result
+        (λ text. Consumes (R.remaining input.old) (R.remaining input.new) text.items) }
+    ensures end { OnOk result (IsAtEnd (R.remaining input.new)) }
+    ensures err { IfErr result (λ e. e ≢ RunError.Write) }
 {
     let mut text = Vec::new(alloc);
     let mut buffer = [0u8; 4096];
     for _ in 0..READS {
-        let count = input.read(&mut buffer).map_err(|_| RunError::Read)?;
+        let Ok(count) = input.read(&mut buffer) else {
+            return Err(RunError::Read);
+        };
         if count == 0 {
             return Ok(text);
         }
@@ -71,7 +82,9 @@ fn read_all<R: Read>(alloc: Global, input: &mut R) -> Result<Vec<u8>, RunError>
 
 /// Writes the answer, and sends it off.
 fn write_answer<W: Write>(output: &mut W, answer: &Answer) -> Result<(), RunError>
-    ensures { IfErr result (λ e. e ≡ RunError.Write) }
+    ensures written { OnOk result
+        (Appends (W.contents output.old) (W.contents output.new) (string_bytes answer.now.text)) }
+    ensures err { IfErr result (λ e. e ≡ RunError.Write) }
 {
     output
         .write_all(answer.text.as_bytes())
@@ -80,7 +93,9 @@ fn write_answer<W: Write>(output: &mut W, answer: &Answer) -> Result<(), RunErro
 }
 
 /// The one line that refuses an input.
-fn refusal(alloc: Global, text: &str) -> Result<Answer, AllocError> {
+fn refusal(alloc: Global, text: &str) -> Result<Answer, AllocError>
+    ensures { IfOk result (λ answer. (string_bytes answer.text ≡ text.now ++ 10 ∷ []) × (answer.status ≡ 1)) }
+{
     Ok(Answer {
         text: format!(in alloc; "{text}\n")?,
         status: 1,
