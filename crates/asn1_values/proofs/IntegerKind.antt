@@ -2,7 +2,7 @@
 use Rattle.std.proofs.Common.{◌≡◌, ℕ, ◌+◌, ◌*◌, ◌/◌, ◌^◌, ◌<◌, ◌≤◌, ℤ, Bool, true, false, cond, eqb, ltb, List, [], ◌∷◌, ◌++◌, length, take, drop, Result, Ok, Err, refl, sym, ap, subst, ◌∙◌, append_assoc, arith, inl, inr}
 use Rattle.std.specs.Prelude.{◌||◌, ◌&&◌, nat_lt, is_ok, All}
 use Rattle.std.proofs.lemmas.List.{length-append, take_at, drop_at}
-use Rattle.std.proofs.lemmas.Bool.{eqb-true, eqb-false, ne_eqb, lt-ltb, cases_eq}
+use Rattle.std.proofs.lemmas.Bool.{false≢true, eqb-true, eqb-false, ne_eqb, lt-ltb, cases_eq}
 use Rattle.asn1_bits.specs.Bits.{digits, number, bits}
 use Rattle.asn1_bits.proofs.DigitLaws.{length-digits, length-bits, number-append, number_of-digits, digits-append}
 use Rattle.asn1_number.specs.Octets.{IsOctets, IsShortest, signed}
@@ -46,16 +46,7 @@ alike_not n z t = rw (ne_eqb n 0 z, ne_eqb n 511 t) refl
 
 not_alike : (n : ℕ) → alike n ≡ false → (n ≡ 0 → ⊥) × (n ≡ 511 → ⊥)
 unfolding alike
-not_alike n e = (λ z. no_zero z, λ t. no_top t)
-  where
-    both : (b : Bool) → b ≡ true → b ≡ false → ⊥
-    both b x y = absurd cc
-
-    no_zero : n ≡ 0 → ⊥
-    no_zero z = both (alike n) (ap alike z) e
-
-    no_top : n ≡ 511 → ⊥
-    no_top t = both (alike n) (ap alike t) e
+not_alike n e = (λ z. false≢true (sym e ∙ ap alike z), λ t. false≢true (sym e ∙ ap alike t))
 
 -- there is a second octet, and the first nine bits are alike
 pub fails : List ℕ → Bool
@@ -106,9 +97,6 @@ bits_from_shortest n octets s =
 
 -- ---- integers as fields
 
-both : (b : Bool) → b ≡ true → b ≡ false → ⊥
-both b x y = absurd cc
-
 held_integer : (b : Bool) (n : ℤ) (field : Field) → cond b (Err NotInteger) (Ok (Integer n)) ≡ Ok field → (b ≡ false) × (Integer n ≡ field)
 held_integer true n field h = absurd (no_field _ _ h)
 held_integer false n field h = (refl, held_is _ _ h)
@@ -155,7 +143,7 @@ integer_holds count some = record { taken = taken; again = again; reason = reaso
         let none : IsNoInteger (take (8 * count) (front ++ rest)) = λ octets n is s.
         let here : bits octets ≡ front = sym is ∙ cut in
         let m : length octets ≡ count = omega (arith, ap length here, length-bits octets) in
-        both (nat_lt 1 count && nine_alike front) h.0 (fails_at octets count front m here ∙ bits_from_shortest n octets s) in
+        false≢true (sym (fails_at octets count front m here ∙ bits_from_shortest n octets s) ∙ h.0) in
         subst (λ (f : Fault). IsReason (OfInteger count) (front ++ rest) f) h.1
         (inr (omega (arith, length-append front rest), none))
 
