@@ -46,7 +46,8 @@ struct Answer {
 /// Reads the input to its end, writes the whole answer at once, and answers the status: 0 for fields, 1 for a refusal.
 pub fn run<R: Read, W: Write>(alloc: Global, input: &mut R, output: &mut W) -> Result<u8, RunError>
     ensures status { IfOk result (λ status. status ≤ 1) }
-    // Where it answers, it has read to the end, and has written one answer, which is not empty.
+    // Where it answers, it has read to the end, and has written something. Both speak of inputs and outputs whose
+    // octets are known, as those over memory.
     ensures end { OnOk result (IsAtEnd (R.remaining input.new)) }
     ensures written { OnOk result ((answer : List ℕ) × (0 < length answer)
         × Appends (W.contents output.old) (W.contents output.new) answer) }

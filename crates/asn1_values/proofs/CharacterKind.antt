@@ -108,11 +108,6 @@ character_there a list ok =
     let h = chosen_ok (ltb (length list) a.width) (Short (a.width - length list)) (character_content a (take a.width list) >>= after a.width list) ok in
     (ltb-false _ _ h.0, coded a k list (character_of a k) refl h.1)
 
-pub read_character : (a : Alphabet) (list left : List Bool) (c : ℕ) → a.width ≤ length list → left ≡ drop a.width list → IsCode a c (number (take a.width list)) → field_at (OfCharacter a) list ≡ Ok (Character a c, left)
-unfolding field_at cut_at
-read_character a list left c le rest code =
-    rw (le-ltb _ _ le, character_from_code a c (number (take a.width list)) code, rest) refl
-
 pub character_refused : (a : Alphabet) (list : List Bool) (k : ℕ) → a.width ≤ length list → k ≡ number (take a.width list) → ((c : ℕ) → ¬ (IsCode a c k)) → field_at (OfCharacter a) list ≡ Err (NoCharacter k)
 unfolding field_at cut_at
 character_refused a list k le is none =

@@ -1,11 +1,10 @@
 -- Lists of fields: the walk against the relations, whatever kinds of field there are.
 use Rattle.std.proofs.Common.{◌≡◌, ℕ, Bool, List, [], ◌∷◌, ◌++◌, Result, Ok, Err, refl, sym, ap, subst, ◌∙◌, append_assoc}
 use Rattle.std.specs.List.{AllByRecursion}
-use Rattle.std.proofs.lemmas.List.{append-nil}
-use Rattle.asn1_values.specs.Fields.{Field, Shape, IsSpelledBy, IsOfShape, Begins}
+use Rattle.asn1_values.specs.Fields.{Field, Shape, Begins}
 use Rattle.asn1_values.specs.Wrong.{Fault}
 use Rattle.asn1_values.specs.Walk.{◌>>=◌, field_at, fields_at, at_place, one_later}
-use Rattle.asn1_values.proofs.ExactKinds.{IsExact, Takes, bind_ok, Read, ok_is}
+use Rattle.asn1_values.proofs.ExactKinds.{IsExact, Takes, bind_ok, Read}
 
 abbrev pub AreExact : List Shape → Type 0
 AreExact shapes = AllByRecursion (λ shape. IsExact shape (field_at shape)) shapes
@@ -89,11 +88,3 @@ pub only_fields : (shapes : List Shape) (list : List Bool) (fields others : List
 only_fields shapes list fields others rest left exact a b =
     let same : (fields, rest) ≡ (others, left) = all_is _ _ (sym (fields_again shapes list fields rest exact a) ∙ fields_again shapes list others left exact b) in
     (ap (λ (x : List Field × List Bool). x.0) same, ap (λ (x : List Field × List Bool). x.1) same)
-
--- no spelling of a field begins another spelling of the same shape
-pub no_front : (shape : Shape) (f g : Field) (x y z : List Bool) → IsExact shape (field_at shape) → IsOfShape f shape → IsOfShape g shape → IsSpelledBy f x → IsSpelledBy g (x ++ y) → (f ≡ g) × (y ≡ [])
-no_front shape f g x y z exact fs gs fx gx =
-    let one = exact.again f x y fs fx in
-    let two : field_at shape (x ++ y) ≡ Ok (g, []) = ap (field_at shape) (sym (append-nil (x ++ y))) ∙ exact.again g (x ++ y) [] gs gx in
-    let same : (f, y) ≡ (g, []) = ok_is _ _ (sym one ∙ two) in
-    (ap (λ (x : Field × List Bool). x.0) same, ap (λ (x : Field × List Bool). x.1) same)

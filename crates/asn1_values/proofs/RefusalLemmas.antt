@@ -75,9 +75,6 @@ fault_later list shape field middle shapes i fault exact e first =
       reason = reason_later list shape field middle shapes i fault exact e first.reason;
     }
 
-refused_is : (x y : ℕ × Fault) → ◌≡◌ {A = ReadAll} (Err x) (Err y) → x ≡ y
-refused_is x y e = cc
-
 placed_err : (r : Read) (x : ℕ × Fault) → at_place 0 r ≡ Err x → (fault : Fault) × (r ≡ Err fault) × ((0, fault) ≡ x)
 placed_err (Ok y) x e = absurd cc
 placed_err (Err d) x e = (d, refl, cc)

@@ -1,5 +1,5 @@
 -- Fields that fit, one after another, and the first that doesn't.
-use Rattle.std.proofs.Common.{◌≡◌, ℕ, zero, suc, ◌+◌, ◌-◌, ◌*◌, ◌/◌, ◌^◌, ◌<◌, ◌≤◌, Bool, List, [], ◌∷◌, ◌++◌, length, take, drop, min, get_or, refl, sym, ap, subst, ◌∙◌, append_assoc, arith, inl, inr, Some, slice_get}
+use Rattle.std.proofs.Common.{◌≡◌, ℕ, zero, suc, ◌+◌, ◌-◌, ◌*◌, ◌/◌, ◌^◌, ◌<◌, ◌≤◌, Bool, List, [], ◌∷◌, ◌++◌, length, take, drop, min, get_or, refl, sym, ap, subst, ◌∙◌, append_assoc, arith, Some, slice_get}
 use Rattle.std.specs.Prelude.{All, ℤ}
 use Rattle.std.specs.Int.{div_ceil}
 use Rattle.asn1_bits.specs.Turns.{turns_for}
@@ -7,12 +7,11 @@ use Rattle.asn1_number.specs.Octets.{IsShortest}
 use Rattle.asn1_strings.specs.Alphabet.{Alphabet, IsCode}
 use Rattle.asn1_values.proofs.OneSpelling.{same_shortest}
 use Rattle.std.specs.Option.{option_map}
-use Rattle.std.proofs.lemmas.Bool.{cases_eq}
 use Rattle.std.proofs.lemmas.List.{length-append, map_more, map-append, take-map, take-append-drop, drop_more, append-nil}
 use Rattle.std.proofs.lemmas.Nat.{pow_pos}
 use Rattle.std.proofs.Math.Nat.{lt-div-mul-add}
 use Rattle.std.proofs.lemmas.Option.{same_Some, slice_get_read, slice_get-map}
-use Rattle.asn1_bits.specs.Bits.{digits, bits, octets_for, AddsNoOctet}
+use Rattle.asn1_bits.specs.Bits.{digits, bits}
 use Rattle.asn1_bits.specs.declared.bit_appender.BitAppender.{BitAppender}
 use Rattle.asn1_bits.specs.BitAppender.{bits_written, room}
 use Rattle.asn1_bits.proofs.DigitLaws.{length-digits, length-bits}
@@ -22,7 +21,6 @@ use Rattle.asn1_values.specs.declared.bit_fields.field.Field.{Field as Program}
 use Rattle.asn1_values.specs.Plain.{plain_field, plain_fields}
 use Rattle.asn1_values.specs.Fields.{Field, IsSpelledBy, AreSpelledBy, Number, Octets, Bits, Integer, Character}
 use Rattle.asn1_values.specs.Wrong.{Misfit, WidthOver, PastWidth, NotInAlphabet, Fits, IsMisfit, IsFirstMisfit}
-use Rattle.asn1_values.specs.Refusals.{IsWriteRefusal}
 use Rattle.asn1_values.specs.Steps.{NamesMisfit, NamesFirstMisfit, FitsIn, EndsAt, Pushes, PushesAll, HasRoom, TakesTurns, TakeTurns}
 use Rattle.asn1_values.proofs.JoinedLemmas.{joins_push, joins_append, joins_split, one_joined, each_joined, slice_get_take, Split}
 
@@ -71,13 +69,6 @@ names_first fields front i field (errors.Character at c) before lt here is = sub
 names_first fields front i field errors.TooLong before lt here is = absurd is
 names_first fields front i field errors.Memory before lt here is = absurd is
 
-pub misfit_refused : (start : ℕ) (fields : List Field) (e : WriteError) → NamesFirstMisfit fields e → IsWriteRefusal start fields e
-misfit_refused start fields (errors.NumberWidth at width) h = h
-misfit_refused start fields (errors.Number at) h = h
-misfit_refused start fields (errors.Character at c) h = h
-misfit_refused start fields errors.TooLong h = absurd h
-misfit_refused start fields errors.Memory h = absurd h
-
 some_at : (fields : List Field) (i : ℕ) → i < length fields → (field : Field) × (slice_get fields i ≡ Some field)
 some_at [] i lt = absurd (omega arith)
 some_at (f ∷ fs) zero lt = (f, refl)
@@ -121,37 +112,6 @@ below_width value width e = let p = lt-div-mul-add {a = value} {b = 2 ^ width} (
 
 pub at_128 : (value width : ℕ) → width ≤ 128 → 128 ≤ width → value < 2 ^ 128 → value < 2 ^ width
 at_128 value width le ge lt = let e : width ≡ 128 = omega arith in rw e lt
-
--- where all fit, the end tells the length of each concatenation
-pub ends_below : (start n : ℕ) (fields : List Field) (list : List Bool) → EndsAt start fields n → AreSpelledBy fields list → n < 2 ^ 64 → start + length list ≡ n
-ends_below start n fields list e s lt = let a = e.each list s in let c = e.capped in omega arith
-
-pub ends_past : (start n : ℕ) (fields : List Field) (list : List Bool) → EndsAt start fields n → AreSpelledBy fields list → 2 ^ 64 ≤ n → 2 ^ 64 ≤ start + length list
-ends_past start n fields list e s le = let a = e.each list s in let c = e.capped in omega arith
-
-pub starts_below : (start n : ℕ) (fields : List Field) → start < 2 ^ 64 → EndsAt start fields n → start ≤ n
-starts_below start n fields lt e = let d = e.capped in let a = e.each e.list e.spelled in omega arith
-
-pub refused_long : (start n : ℕ) (fields : List Field) → EndsAt start fields n → 2 ^ 64 ≤ n → IsWriteRefusal start fields errors.TooLong
-refused_long start n fields e le = (e.list, e.spelled, ends_past start n fields e.list e e.spelled le)
-
--- bits that take an octet more
-octet_added : (n m : ℕ) → n ≤ m → (octets_for m ≡ octets_for n → ⊥) → octets_for n < octets_for m
-octet_added n m le ne = elim (cases_eq (octets_for m) (octets_for n)) [ inl e ↦ absurd (ne e) | inr h ↦ omega arith ]
-
-pub refused_memory : (start n : ℕ) (fields : List Field) → EndsAt start fields n → start < 2 ^ 64 → n < 2 ^ 64 → (AddsNoOctet start (n - start) → ⊥) → IsWriteRefusal start fields errors.Memory
-refused_memory start n fields e small lt ne =
-    let at = ends_below start n fields e.list e e.spelled lt in
-    let le = starts_below start n fields small e in
-    let same : start + length e.list ≡ start + (n - start) = omega arith in
-    (e.list, e.spelled, omega arith, octet_added start (start + length e.list) (omega arith) (λ h. ne (ap octets_for (sym same) ∙ h)))
-
-pub has_room : (start n space : ℕ) (fields : List Field) → EndsAt start fields n → start ≤ n → n < 2 ^ 64 → space ≡ n - start → HasRoom fields space
-has_room start n space fields e le lt s = record {
-  list = e.list;
-  spelled = e.spelled;
-  space_for = λ others o. let a = ends_below start n fields others e o lt in omega arith;
-}
 
 -- ---- pushing one field, and fields one after another
 
