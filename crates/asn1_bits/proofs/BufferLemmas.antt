@@ -1,6 +1,6 @@
 -- The octets of a buffer, through its changes.
-use Rattle.std.proofs.Common.{◌≡◌, ℕ, zero, suc, ◌+◌, ◌-◌, ◌*◌, ◌<◌, ◌≤◌, Bool, true, false, List, [], ◌∷◌, ◌++◌, length, get_or, set, take, drop, replicate, refl, sym, ap, ◌∙◌, append_assoc, arith}
-use Rattle.std.proofs.lemmas.List.{length-append, length-take, length-set, length-replicate, take_all, drop_at, take_at, take-take, take-append-le, drop_more, set_at, set-append_left, replicate_more, replicate-append-replicate}
+use Rattle.std.proofs.Common.{◌≡◌, ℕ, zero, suc, ◌+◌, ◌-◌, ◌*◌, ◌%◌, ◌<◌, ◌≤◌, Bool, true, false, List, [], ◌∷◌, ◌++◌, length, get_or, set, take, drop, replicate, refl, sym, ap, ◌∙◌, append_assoc, arith}
+use Rattle.std.proofs.lemmas.List.{length-append, length-take, length-set, length-replicate, take_all, drop_all, drop_at, take_at, take-take, take-append-le, drop_more, set_at, set-append_left, replicate_more, replicate-append-replicate}
 use Rattle.asn1_bits.specs.Bits.{digits, bits, octets_for, ored, padded, IsZeroFrom}
 use Rattle.asn1_bits.specs.BitBuffer.{bits_shown, IsFilled}
 use Rattle.asn1_bits.proofs.DigitLemmas.{length-bits, bits-append, bits-take}
@@ -162,3 +162,36 @@ bits-lengthened octets grown front room dst list n needed count g l e f r d len 
     ∙ bits-append octets dst
     ∙ ap (λ (m : List Bool). bits octets ++ m)
     (ored-onto [] (bits dst) list 0 (8 * count) (d ∙ ap (λ (m : List Bool). ored m 0 list) fresh) refl len)
+
+-- zeros at the end of what a buffer shows are zeros of its octets
+pub zeros-shown : (octets : List ℕ) (len place : ℕ) (list : List Bool) → IsFilled octets len → bits_shown octets len ≡ list → IsZeroFrom place list
+    → IsZeroFrom place (bits octets)
+zeros-shown octets len place list f e z =
+    let rest = 8 * octets_for len - len in
+    let front = take place list in
+    let shape : bits octets ≡ list ++ replicate rest false = spelled octets len f ∙ ap (λ (l : List Bool). l ++ replicate rest false) e in
+    let total : length (bits octets) ≡ length list + rest = ap (λ (l : List Bool). length l) shape ∙ omega (arith, length-append list (replicate rest false), length-replicate rest false) in
+    let same : take place (bits octets) ≡ front = ap (take place) shape ∙ take-append-le place list (replicate rest false) z.within in
+    let n : length list - place + rest ≡ length (bits octets) - place = omega (arith, total, z.within) in
+    zero_from place (bits octets) (omega (arith, total, z.within))
+    (shape
+    ∙ ap (λ (l : List Bool). l ++ replicate rest false) (zeros_behind place list z)
+    ∙ append_assoc front (replicate (length list - place) false) (replicate rest false)
+    ∙ ap (λ (l : List Bool). front ++ l) (replicate-append-replicate (length list - place) rest false ∙ ap (λ (k : ℕ). replicate k false) n)
+    ∙ ap (λ (l : List Bool). l ++ replicate (length (bits octets) - place) false) (sym same))
+
+-- octets behind whole octets
+pub whole-filled : (items src : List ℕ) (len : ℕ) → IsFilled items len → len % 8 ≡ 0
+    → IsFilled (items ++ src) (len + 8 * length src) × (bits_shown (items ++ src) (len + 8 * length src) ≡ bits_shown items len ++ bits src)
+unfolding bits_shown
+whole-filled items src len f whole =
+    let end = len + 8 * length src in
+    let all = bits (items ++ src) in
+    let n : end ≡ length all = omega (arith, f.count, length-bits (items ++ src), length-append items src) in
+    let none : 0 ≡ length all - end = omega (arith, n) in (
+      record {
+        count = omega (arith, f.count, length-append items src);
+        rest = record { within = omega (arith, n); zero = drop_all end all (omega (arith, n)) ∙ ap (λ (k : ℕ). replicate k false) none };
+      },
+      take_all end all (omega (arith, n)) ∙ bits-append items src ∙ ap (λ (l : List Bool). l ++ bits src) (sym (take_all len (bits items) (omega (arith, f.count, length-bits items)))),
+    )

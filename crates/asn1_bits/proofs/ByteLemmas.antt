@@ -1,11 +1,9 @@
 -- The octets of a number, most significant first, have its digits.
-use Rattle.std.proofs.Common.{◌≡◌, ℕ, zero, suc, ◌+◌, ◌-◌, ◌*◌, ◌/◌, ◌%◌, ◌^◌, ◌≤◌, Bool, List, ◌++◌, take, refl, sym, ap, ◌∙◌, arith}
+use Rattle.std.proofs.Common.{◌≡◌, ℕ, zero, suc, ◌+◌, ◌*◌, ◌/◌, ◌%◌, ◌^◌, Bool, List, ◌++◌, refl, sym, ap, ◌∙◌, arith}
 use Rattle.std.specs.Int.{byte_at, bytes_high_first}
 use Rattle.std.proofs.Math.Nat.{div-one, pow-suc}
-use Rattle.std.proofs.lemmas.List.{take_at}
-use Rattle.std.proofs.lemmas.Nat.{div-add-mod', pow-add, field_of, shl-shr}
+use Rattle.std.proofs.lemmas.Nat.{div-add-mod', pow-add}
 use Rattle.asn1_bits.specs.Bits.{digits, bits}
-use Rattle.asn1_bits.proofs.DigitLemmas.{length-digits}
 use Rattle.asn1_bits.proofs.NumberLemmas.{digits-append, digits-low}
 
 pub digits-mod : (n width : ℕ) → digits (n % 2 ^ width) width ≡ digits n width
@@ -18,7 +16,7 @@ octet_power (suc k) =
     let e : 8 * suc k ≡ 8 * k + 8 = omega arith in
     pow-suc 256 k ∙ ap (λ (m : ℕ). m * 256) (octet_power k) ∙ sym (ap (λ (j : ℕ). 2 ^ j) e ∙ pow-add 2 (8 * k) 8)
 
-byte_at_is : (k n : ℕ) → byte_at k n ≡ n / 2 ^ (8 * k) % 256
+pub byte_at_is : (k n : ℕ) → byte_at k n ≡ n / 2 ^ (8 * k) % 256
 byte_at_is zero n = ap (λ (m : ℕ). m % 256) (sym (div-one n))
 byte_at_is (suc k) n = ap (λ (m : ℕ). n / m % 256) (octet_power (suc k))
 
@@ -30,23 +28,3 @@ bits-bytes (suc k) n =
     ∙ ap (λ (l : List Bool). digits (n / 2 ^ (8 * k)) 8 ++ l) (bits-bytes k n)
     ∙ sym (digits-append n 8 (8 * k))
     ∙ (let e : 8 + 8 * k ≡ 8 * suc k = omega arith in ap (digits n) e)
-
--- the lowest digits of a number that was shifted to the top of a word
-pub digits-top : (n width spare : ℕ) → take width (digits (n * 2 ^ spare % 2 ^ (width + spare)) (width + spare)) ≡ digits n width
-digits-top n width spare =
-    let m = n * 2 ^ spare % 2 ^ (width + spare) in
-    ap (take width) (digits-append m width spare)
-    ∙ take_at (digits (m / 2 ^ spare) width) (digits m spare) width (length-digits (m / 2 ^ spare) width)
-    ∙ ap (λ (k : ℕ). digits k width) (field_of (n * 2 ^ spare) width spare ∙ ap (λ (k : ℕ). k % 2 ^ width) (shl-shr n spare))
-    ∙ digits-mod n width
-
--- the octets of a number that was shifted to the top of k octets
-pub bits-top : (k n width : ℕ) (octets : List ℕ) → width ≤ 8 * k → octets ≡ bytes_high_first k (n * 2 ^ (8 * k - width) % 2 ^ (8 * k))
-    → take width (bits octets) ≡ digits n width
-bits-top k n width octets h e =
-    let spare = 8 * k - width in
-    let whole : width + spare ≡ 8 * k = omega arith in
-    ap (λ (l : List ℕ). take width (bits l)) e
-    ∙ ap (take width) (bits-bytes k (n * 2 ^ spare % 2 ^ (8 * k)))
-    ∙ sym (ap (λ (m : ℕ). take width (digits (n * 2 ^ spare % 2 ^ m) m)) whole)
-    ∙ digits-top n width spare

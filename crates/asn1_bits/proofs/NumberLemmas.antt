@@ -1,9 +1,8 @@
 -- A number and its binary digits.
-use Rattle.std.proofs.Common.{◌≡◌, ℕ, zero, suc, ◌+◌, ◌-◌, ◌*◌, ◌/◌, ◌%◌, ◌^◌, ◌<◌, ◌≤◌, Bool, true, false, cond, eqb, List, [], ◌∷◌, ◌++◌, length, get_or, take, refl, sym, ap, ◌∙◌, append_assoc, arith}
-use Rattle.std.specs.Int.{from_bool}
+use Rattle.std.proofs.Common.{◌≡◌, ℕ, zero, suc, ◌+◌, ◌-◌, ◌*◌, ◌/◌, ◌%◌, ◌^◌, ◌<◌, ◌≤◌, Bool, true, false, cond, eqb, List, [], ◌∷◌, ◌++◌, length, refl, sym, ap, ◌∙◌, append_assoc, arith}
 use Rattle.std.proofs.Math.Nat.{mod-eq_of_lt, div-one, pow-suc, add-zero, add-suc, mul-le-mul_right, pow-le-pow_right}
 use Rattle.std.proofs.lemmas.Bool.{eqb-true, eqb-false}
-use Rattle.std.proofs.lemmas.List.{length-take, append-nil, take_more, ext_get_or}
+use Rattle.std.proofs.lemmas.List.{append-nil, ext_get_or}
 use Rattle.std.proofs.lemmas.Nat.{shr-shr, shr_high, mod-pow-add}
 use Rattle.std.proofs.lemmas.Nat.Bits.{bit_at_cat_low}
 use Rattle.std.proofs.lemmas.Grind.{fold-append}
@@ -44,10 +43,6 @@ number-lt (bit ∷ list) =
     rw number-cons (let p = pow-suc 2 (length list) in let h = number-lt list in
     let w : cond bit 1 0 * 2 ^ length list ≤ 1 * 2 ^ length list = mul-le-mul_right (2 ^ length list) (worth_le bit) in
     omega arith)
-
-from_bool_is : (b : Bool) → from_bool b ≡ cond b 1 0
-from_bool_is true = refl
-from_bool_is false = refl
 
 pub worth-is_odd : (n : ℕ) → cond (is_odd n) 1 0 ≡ n % 2
 worth-is_odd n = elim (is_odd n) as (λ b. is_odd n ≡ b → cond b 1 0 ≡ n % 2) [
@@ -100,20 +95,6 @@ digits-number (bit ∷ list) =
     ∙ ap (λ (m : ℕ). digits m 1 ++ digits (cond bit 1 0 * 2 ^ w + n) w) (shr_high (cond bit 1 0) w n (number-lt list))
     ∙ ap (λ (l : List Bool). l ++ digits (cond bit 1 0 * 2 ^ w + n) w) (one_digit bit)
     ∙ ap (λ (l : List Bool). bit ∷ l) (digits-low (cond bit 1 0) n w ∙ digits-number list)
-
--- one bit more of a list is read
-pub number-more : (list : List Bool) (i : ℕ) → i < length list → number (take (i + 1) list) ≡ 2 * number (take i list) + cond (get_or list i false) 1 0
-number-more list i h = ap number (take_more list i false h) ∙ number-push (take i list) (get_or list i false)
-
--- the step of a loop that reads a number
-pub read-more : (list : List Bool) (i value bit : ℕ) (b : Bool) → i < length list → value ≡ number (take i list) → b ≡ get_or list i false → bit ≡ from_bool b
-    → value * 2 + bit ≡ number (take (i + 1) list)
-read-more list i value bit b h e f g =
-    rw (e, g) (omega (arith, number-more list i h, ap from_bool f, from_bool_is (get_or list i false)))
-
-pub read-fits : (list : List Bool) (i value : ℕ) → i < 128 → value ≡ number (take i list) → value * 2 + 1 < 2 ^ 128
-read-fits list i value h e =
-    omega (arith, number-lt (take i list), pow-le-pow_right {n = 2} (omega arith) {i = length (take i list)} {j = 127} (omega (arith, length-take i list)), e)
 
 -- a number of at most k digits
 pub number-below : (list : List Bool) (k : ℕ) → length list ≤ k → number list < 2 ^ k

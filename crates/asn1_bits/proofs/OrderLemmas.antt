@@ -1,11 +1,11 @@
--- The turns of a loop that compares two lists of bits.
-use Rattle.std.proofs.Common.{◌≡◌, ℕ, ◌+◌, ◌<◌, min, Bool, true, false, not, List, [], ◌∷◌, length, get_or, drop, refl, sym, ap, ◌∙◌, arith, Ordering}
+-- The steps of a loop that compares two lists of bits.
+use Rattle.std.proofs.Common.{◌≡◌, ℕ, ◌+◌, ◌<◌, min, Bool, true, false, not, List, [], ◌∷◌, ◌++◌, length, get_or, take, drop, refl, sym, ap, ◌∙◌, arith, Ordering}
 use Rattle.std.specs.Bool.{beq}
 use Rattle.std.specs.declared.cmp.Ordering.TheVariants.{Less, Equal, Greater}
 use Rattle.std.specs.Prelude.{◌==◌}
 use Rattle.std.specs.Ordering.{bool_cmp, nat_cmp, ordering_then, ordering_index, is_eq}
 use Rattle.std.specs.Cmp.Lexicographic.{slice_cmp}
-use Rattle.std.proofs.lemmas.List.{drop_more, length-drop}
+use Rattle.std.proofs.lemmas.List.{drop_more, length-drop, take-append-drop}
 use Rattle.std.proofs.lemmas.Bool.{le-ltb, lt-ltb, eq-eqb, ne_eqb}
 
 -- what the parts from i on answer
@@ -19,6 +19,18 @@ heads xs ys i h k = rw (drop_more xs i false h, drop_more ys i false k) refl
 same_bit : (b : Bool) (o : Ordering) → ordering_then (bool_cmp b b) o ≡ o
 same_bit true o = refl
 same_bit false o = refl
+
+same_front : (zs us vs : List Bool) → slice_cmp bool_cmp (zs ++ us) (zs ++ vs) ≡ slice_cmp bool_cmp us vs
+same_front [] us vs = refl
+same_front (z ∷ zs) us vs = same_bit z (slice_cmp bool_cmp (zs ++ us) (zs ++ vs)) ∙ same_front zs us vs
+
+-- behind fronts that are the same
+pub rest-from : (xs ys : List Bool) (n : ℕ) → take n xs ≡ take n ys → Rest xs ys n
+rest-from xs ys n e =
+    sym (ap (λ (l : List Bool). slice_cmp bool_cmp l ys) (sym (take-append-drop n xs))
+    ∙ ap (λ (l : List Bool). slice_cmp bool_cmp (take n xs ++ drop n xs) l) (sym (take-append-drop n ys))
+    ∙ ap (λ (l : List Bool). slice_cmp bool_cmp (take n xs ++ drop n xs) (l ++ drop n ys)) (sym e)
+    ∙ same_front (take n xs) (drop n xs) (drop n ys))
 
 pub rest-more : (xs ys : List Bool) (i : ℕ) → i < length xs → i < length ys → get_or xs i false ≡ get_or ys i false → Rest xs ys i → Rest xs ys (i + 1)
 rest-more xs ys i h k e r =

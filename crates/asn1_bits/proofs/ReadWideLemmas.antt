@@ -7,8 +7,9 @@ use Rattle.std.proofs.lemmas.List.{take_at, drop-drop, length-take, length-drop,
 use Rattle.std.proofs.lemmas.Nat.{shr_high, and_mask, or_shifted, shl_whole, shr_below, field_of, shr-shr, shl-shr}
 use Rattle.std.proofs.lemmas.Nat.Bits.{ones_shr}
 use Rattle.asn1_bits.specs.Bits.{digits, number, bits}
-use Rattle.asn1_bits.proofs.DigitLemmas.{length-digits, length-bits, bits-take, bits-push, drop_split}
-use Rattle.asn1_bits.proofs.NumberLemmas.{number-append, number-digits, number-lt, digits-append}
+use Rattle.asn1_bits.proofs.DigitLemmas.{length-digits, length-bits, bits-take, bits-push}
+use Rattle.asn1_bits.proofs.WindowLemmas.{low-part}
+use Rattle.asn1_bits.proofs.NumberLemmas.{number-append, number-digits, number-lt, digits-append, digits-low}
 
 -- the number of the bits of the first k octets, but for the first shift bits
 abbrev pub gathered : List ℕ → ℕ → ℕ → ℕ
@@ -74,26 +75,18 @@ gathered-end field shift width excess m e h =
 pub joined : (g o k w top : ℕ) → g < 2 ^ top → top + k ≤ w → o < 2 ^ k → bit_or (g * 2 ^ k % 2 ^ w) o ≡ g * 2 ^ k + o
 joined g o k w top h fits small = rw (shl_whole g top k w h fits) (or_shifted g k o small)
 
-pub gathered-fits : (field : List ℕ) (shift k : ℕ) → k ≤ length field → k < 16 → gathered field shift k * 256 + 255 < 2 ^ 128
+pub gathered-fits : (field : List ℕ) (shift k : ℕ) → k ≤ length field → k < 8 → gathered field shift k * 256 + 255 < 2 ^ 64
 gathered-fits field shift k h lt =
-    let top : 2 ^ (8 * k - shift) ≤ 2 ^ 120 = pow-le-pow_right {n = 2} (omega arith) {i = 8 * k - shift} {j = 120} (omega arith) in
+    let top : 2 ^ (8 * k - shift) ≤ 2 ^ 56 = pow-le-pow_right {n = 2} (omega arith) {i = 8 * k - shift} {j = 56} (omega arith) in
     omega (arith, gathered-lt field shift k h, top)
 
 -- what is read octet by octet
-pub read-short : (bytes field : List ℕ) (position width excess needed value k : ℕ) → field ≡ drop (position / 8) bytes
-    → position % 8 + width + excess ≡ 8 * needed → needed ≤ length field → k ≡ needed → value ≡ gathered field (position % 8) k
-    → value / 2 ^ excess ≡ number (take width (drop position (bits bytes)))
-read-short bytes field position width excess needed value k f e h n v =
-    let shift = position % 8 in
-    ap (λ (m : ℕ). m / 2 ^ excess) (v ∙ ap (gathered field shift) n)
-    ∙ sym (gathered-end field shift width excess needed e h)
-    ∙ ap (λ (l : List Bool). number (take width l)) (ap (λ (l : List ℕ). drop shift (bits l)) f ∙ drop_split bytes position)
+pub read-short : (field : List ℕ) (shift width excess needed value k : ℕ) → shift + width + excess ≡ 8 * needed → needed ≤ length field → k ≡ needed → value ≡ gathered field shift k
+    → value / 2 ^ excess ≡ number (take width (drop shift (bits field)))
+read-short field shift width excess needed value k e h n v =
+    ap (λ (m : ℕ). m / 2 ^ excess) (v ∙ ap (gathered field shift) n) ∙ sym (gathered-end field shift width excess needed e h)
 
 -- ---- words that are read
-
-low-part : (n s width : ℕ) → drop s (digits n (s + width)) ≡ digits n width
-low-part n s width =
-    ap (drop s) (digits-append n s width) ∙ drop_at (digits (n / 2 ^ width) s) (digits n width) s (length-digits (n / 2 ^ width) s)
 
 -- fewer than 64 bits, of a word of eight octets
 pub read-word : (list : List Bool) (place shift width word : ℕ) → shift + width ≤ 64
@@ -119,15 +112,29 @@ read-word list place shift width word h e =
     ∙ ap (take width) (drop-drop shift place list) in
     value ∙ sym (number-digits (word / 2 ^ end) width) ∙ ap number part
 
--- at most 64 bits, of the word that begins with them
-pub read-front : (list : List Bool) (place width word : ℕ) → width ≤ 64 → word < 2 ^ 64 → digits word 64 ≡ take 64 (drop place list)
-    → word / 2 ^ (64 - width) ≡ number (take width (drop place list))
-read-front list place width word h small e =
-    let same : word * 2 ^ 0 % 2 ^ 64 ≡ word = ap (λ (n : ℕ). n % 2 ^ 64) (let one : word * 2 ^ 0 ≡ word = omega arith in one) ∙ mod-eq_of_lt small in
-    let there : place + 0 ≡ place = omega arith in
-    ap (λ (n : ℕ). n / 2 ^ (64 - width)) (sym same)
-    ∙ read-word list place 0 width word (omega arith) e
-    ∙ ap (λ (k : ℕ). number (take width (drop k list))) there
+-- the first bits of a word that begins with them
+pub read-top : (list : List Bool) (size width word : ℕ) → width ≤ size → word < 2 ^ size → digits word size ≡ take size list
+    → word / 2 ^ (size - width) ≡ number (take width list)
+read-top list size width word h small e =
+    let end = size - width in
+    let n = word / 2 ^ end in
+    let s : size ≡ width + end = omega arith in
+    let less : n < 2 ^ width = shr_below word width end (rw (ap (λ (k : ℕ). 2 ^ k) (sym s)) small) in
+    let front : digits n width ≡ take width list =
+    sym (ap (take width) (ap (digits word) s ∙ digits-append word width end) ∙ take_at (digits n width) (digits word end) width (length-digits n width))
+    ∙ ap (take width) e ∙ take-take width size list h in
+    sym (mod-eq_of_lt less) ∙ sym (number-digits n width) ∙ ap number front
+
+-- two words, one behind the other
+pub pair-digits : (list : List Bool) (a b : ℕ) → a < 2 ^ 64 → b < 2 ^ 64 → digits a 64 ≡ take 64 list → digits b 64 ≡ take 64 (drop 64 list)
+    → digits (bit_or (a * 2 ^ 64 % 2 ^ 128) b) 128 ≡ take 128 list
+pair-digits list a b h k e f =
+    ap (λ (m : ℕ). digits m 128) (joined a b 64 128 64 h (omega arith) k)
+    ∙ digits-append (a * 2 ^ 64 + b) 64 64
+    ∙ ap (λ (m : ℕ). digits m 64 ++ digits (a * 2 ^ 64 + b) 64) (shr_high a 64 b k)
+    ∙ ap (λ (l : List Bool). digits a 64 ++ l) (digits-low a b 64 ∙ f)
+    ∙ ap (λ (l : List Bool). l ++ take 64 (drop 64 list)) e
+    ∙ sym (take-add 64 64 list)
 
 -- more than 64 bits, of the word of the first and of the last 64
 pub read-two : (list : List Bool) (place last width high low : ℕ) → 64 < width → width ≤ 128 → last ≡ place + (width - 64)

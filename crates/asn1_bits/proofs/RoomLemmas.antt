@@ -1,12 +1,8 @@
 -- Room at the end of a list, as it is filled.
-use Rattle.std.proofs.Common.{◌≡◌, ℕ, ◌+◌, ◌-◌, ◌*◌, ◌%◌, ◌^◌, ◌<◌, ◌≤◌, Bool, false, List, ◌++◌, length, take, set, replicate, refl, sym, ap, ◌∙◌, append_assoc, arith}
+use Rattle.std.proofs.Common.{◌≡◌, ℕ, ◌+◌, ◌-◌, ◌<◌, ◌≤◌, Bool, false, List, ◌++◌, length, take, set, replicate, refl, sym, ap, ◌∙◌, append_assoc, arith}
 use Rattle.std.proofs.lemmas.List.{take-replicate, length-set, set-append_left, length-append, length-take, length-replicate, take_at, replicate-append-replicate}
 use Rattle.std.proofs.Math.Seq.{take-set-lt}
-use Rattle.std.specs.Int.{bytes_high_first}
-use Rattle.asn1_bits.specs.Bits.{bits, digits, ored}
-use Rattle.asn1_bits.specs.Bits.{IsZeroFrom}
-use Rattle.asn1_bits.proofs.DigitLemmas.{length-digits}
-use Rattle.asn1_bits.proofs.ByteLemmas.{bits-top}
+use Rattle.asn1_bits.specs.Bits.{ored, IsZeroFrom}
 use Rattle.asn1_bits.proofs.OredLemmas.{length-ored, ored-append_left, ored-zeros}
 use Rattle.asn1_bits.proofs.ZeroLemmas.{zeros_behind, zero_from}
 
@@ -59,14 +55,6 @@ room-step list after src place width z e n h =
       taken = room-taken list src place z (omega arith);
       len = length-ored list place src;
     }
-
--- the same where the bits are the digits of a number, from the top of its k octets
-pub push-step : (k value width place : ℕ) (octets : List ℕ) (list after : List Bool) → IsZeroFrom place list
-    → octets ≡ bytes_high_first k (value * 2 ^ (8 * k - width) % 2 ^ (8 * k))
-    → after ≡ ored list place (take width (bits octets)) → width ≤ 8 * k → place + width ≤ length list
-    → Filled list after (digits value width) place width
-push-step k value width place octets list after z o e small h =
-    room-step list after (digits value width) place width z (e ∙ ap (ored list place) (bits-top k value width octets small o)) (length-digits value width) h
 
 pub room-zeros : (place n : ℕ) → place ≤ n → IsZeroFrom place (replicate n false) × (take place (replicate n false) ≡ replicate place false)
 room-zeros place n h =

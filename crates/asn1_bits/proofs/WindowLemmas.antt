@@ -2,11 +2,11 @@
 use Rattle.std.proofs.Common.{◌≡◌, ℕ, zero, suc, ◌+◌, ◌-◌, ◌*◌, ◌/◌, ◌%◌, ◌^◌, ◌<◌, ◌≤◌, max, Bool, false, eqb, ◌||◌, List, ◌++◌, length, get_or, set, take, drop, replicate, refl, sym, ap, ◌∙◌, inl, inr, append_assoc, arith}
 use Rattle.std.specs.Prelude.{bit_or}
 use Rattle.std.specs.Int.{bit_at, bytes_high_first, from_be_bytes, w64}
-use Rattle.std.proofs.Math.Nat.{mul_assoc, mul-mod_left, div-eq_of_lt, div-one}
+use Rattle.std.proofs.Math.Nat.{mul_assoc, mul-mod_left, div-eq_of_lt}
 use Rattle.std.proofs.Math.Seq.{take-add}
 use Rattle.std.proofs.lemmas.Bool.{cases_eq, cases_lt}
 use Rattle.std.proofs.lemmas.List.{length-append, length-replicate, length-set, length-take, length-drop, ext_get_or, get_or-set_same, get_or-set_other, get_or-take, get_or-drop, get_or_past, drop_at, drop-drop, drop-take, take-take, take_at, take_all, drop_more, replicate-append-replicate}
-use Rattle.std.proofs.lemmas.Nat.{mod-pow-add, pow-add, pow_pos, shl-shr, shr-shr, shl_below, shr_below, shr_high, or_shifted, be_bytes_8, mod_below}
+use Rattle.std.proofs.lemmas.Nat.{mod-pow-add, pow-add, pow_pos, shl-shr, shr-shr, shl_below, shl_whole, shr_below, shr_high, or_shifted, be_bytes_8, mod_below}
 use Rattle.std.proofs.lemmas.Nat.Bits.{bit_at_or, bit_at-lt}
 use Rattle.asn1_bits.specs.Bits.{is_odd, digits, bits, ored}
 use Rattle.asn1_bits.proofs.DigitLemmas.{length-digits, length-bits, get_or-digits, get_or-bits, bits-drop, bits-take}
@@ -26,7 +26,7 @@ either (suc zero) (suc zero) h k = refl
 either (suc zero) (suc (suc y)) h k = absurd (omega arith)
 either (suc (suc x)) y h k = absurd (omega arith)
 
-is_odd-or : (a b k : ℕ) → is_odd (bit_or a b / 2 ^ k) ≡ (is_odd (a / 2 ^ k) || is_odd (b / 2 ^ k))
+pub is_odd-or : (a b k : ℕ) → is_odd (bit_or a b / 2 ^ k) ≡ (is_odd (a / 2 ^ k) || is_odd (b / 2 ^ k))
 is_odd-or a b k = ap (λ (m : ℕ). eqb m 1) (bit_at_or a b k) ∙ either (bit_at a k) (bit_at b k) (bit_at-lt a k) (bit_at-lt b k)
 
 pub bits-or : (octets : List ℕ) (q octet : ℕ) → q < length octets
@@ -55,7 +55,7 @@ bits-or octets q octet h =
 -- ---- the window
 
 -- a number whose bits below a place are zero
-shifted-digits : (a width rest : ℕ) → digits (a * 2 ^ rest) (width + rest) ≡ digits a width ++ replicate rest false
+pub shifted-digits : (a width rest : ℕ) → digits (a * 2 ^ rest) (width + rest) ≡ digits a width ++ replicate rest false
 shifted-digits a width rest =
     digits-append (a * 2 ^ rest) width rest
     ∙ ap (λ (m : ℕ). digits m width ++ digits (a * 2 ^ rest) rest) (shl-shr a rest)
@@ -154,60 +154,32 @@ ored-no_digits old place n = sym (ored-none old place)
 
 -- ---- eight octets at a time
 
--- all octets of a word
-pub or-all : (old new : List Bool) (octets : List ℕ) (q word k : ℕ) → octets ≡ bytes_high_first 8 word → k ≡ 8
-    → new ≡ ored old (8 * q) (take (8 * k) (bits octets)) → new ≡ ored old (8 * q) (digits word 64)
-or-all old new octets q word k e n h =
-    h
-    ∙ ap (λ (j : ℕ). ored old (8 * q) (take (8 * j) (bits octets))) n
-    ∙ ap (λ (l : List Bool). ored old (8 * q) (take 64 l)) (ap bits e ∙ bits-bytes 8 word)
-    ∙ ap (ored old (8 * q)) (take_all 64 (digits word 64) (omega (arith, length-digits word 64)))
-
--- a word that begins within an octet, as two words
-two-words : (n shift : ℕ) → shift ≤ 64 → n < 2 ^ 64
-    → digits (n / 2 ^ shift) 64 ++ digits (n * 2 ^ (64 - shift) % 2 ^ 64) 64 ≡ replicate shift false ++ (digits n 64 ++ replicate (64 - shift) false)
-two-words n shift h small =
-    let rest = 64 - shift in
-    let v = n * 2 ^ rest in
-    let top : v / 2 ^ 64 ≡ n / 2 ^ shift =
-    (let s : 64 ≡ rest + shift = omega arith in
-    ap (λ (k : ℕ). v / 2 ^ k) s ∙ sym (shr-shr v rest shift) ∙ ap (λ (m : ℕ). m / 2 ^ shift) (shl-shr n rest)) in
-    let low : v < 2 ^ (64 + rest) = shl_below n 64 rest small in
-    ap (λ (m : ℕ). digits m 64 ++ digits (v % 2 ^ 64) 64) (sym top)
-    ∙ ap (λ (l : List Bool). digits (v / 2 ^ 64) 64 ++ l) (digits-mod v 64)
-    ∙ sym (digits-append v 64 64)
-    ∙ (let s : 128 ≡ shift + (64 + rest) = omega arith in ap (digits v) s)
-    ∙ digits-append v shift (64 + rest)
-    ∙ ap (λ (m : ℕ). digits m shift ++ digits v (64 + rest)) (div-eq_of_lt low)
-    ∙ ap (λ (l : List Bool). l ++ digits v (64 + rest)) (digits-zero shift)
-    ∙ ap (λ (l : List Bool). replicate shift false ++ l) (shifted-digits n 64 rest)
-
-pub or-two : (old mid new : List Bool) (place n : ℕ) → n < 2 ^ 64 → 8 * (place / 8) + 128 ≤ length old
-    → mid ≡ ored old (8 * (place / 8)) (digits (n / 2 ^ (place % 8)) 64)
-    → new ≡ ored mid (8 * (place / 8 + 8)) (digits (n * 2 ^ (64 - place % 8) % 2 ^ 64) 64)
-    → new ≡ ored old place (digits n 64)
-or-two old mid new place n small room a b =
-    let q = place / 8 in let shift = place % 8 in
-    let one = digits (n / 2 ^ shift) 64 in
-    let two = digits (n * 2 ^ (64 - shift) % 2 ^ 64) 64 in
-    b
-    ∙ ap (λ (l : List Bool). ored l (8 * (q + 8)) two) a
-    ∙ ored-append old (8 * q) (8 * (q + 8)) one two (omega (arith, length-digits (n / 2 ^ shift) 64)) (omega (arith, length-digits (n * 2 ^ (64 - shift) % 2 ^ 64) 64))
-    ∙ ap (ored old (8 * q)) (two-words n shift (omega arith) small)
-    ∙ ored-within old (digits n 64) (8 * q) shift (64 - shift) (omega (arith, length-digits n 64))
-    ∙ (let p : 8 * q + shift ≡ place = omega arith in ap (λ (k : ℕ). ored old k (digits n 64)) p)
-
--- at an octet's beginning the first is enough
-pub or-one : (old new : List Bool) (place n : ℕ) → place % 8 ≡ 0
-    → new ≡ ored old (8 * (place / 8)) (digits (n / 2 ^ (place % 8)) 64) → new ≡ ored old place (digits n 64)
-or-one old new place n e h =
-    let p : 8 * (place / 8) ≡ place = omega arith in
-    h
-    ∙ ap (λ (k : ℕ). ored old (8 * (place / 8)) (digits (n / 2 ^ k) 64)) e
-    ∙ ap (λ (m : ℕ). ored old (8 * (place / 8)) (digits m 64)) (div-one n)
-    ∙ ap (λ (k : ℕ). ored old k (digits n 64)) p
+-- the digits of a word, shifted to where they stand, where eight octets hold them
+pub or-near : (old new : List Bool) (place n width : ℕ) → 0 < width → place % 8 + width ≤ 64 → 8 * (place / 8) + 64 ≤ length old
+    → new ≡ ored old (8 * (place / 8)) (digits (n * 2 ^ (64 - width) % 2 ^ 64 / 2 ^ (place % 8)) 64)
+    → new ≡ ored old place (digits n width)
+or-near old new place n width some fits room e =
+    let q = place / 8 in
+    let shift = place % 8 in
+    let w = n * 2 ^ (64 - width) % 2 ^ 64 / 2 ^ shift in
+    let octets = bytes_high_first 8 w in
+    let whole : take 64 (bits octets) ≡ digits w 64 = ap (take 64) (bits-bytes 8 w) ∙ take_all 64 (digits w 64) (omega (arith, length-digits w 64)) in
+    e
+    ∙ ap (ored old (8 * q)) (sym whole ∙ window-front 8 n width shift 8 octets fits (omega arith) refl)
+    ∙ ored-within old (digits n width) (8 * q) shift (64 - shift - width) (omega (arith, length-digits n width))
+    ∙ (let p : 8 * q + shift ≡ place = omega arith in ap (λ (k : ℕ). ored old k (digits n width)) p)
 
 -- ---- a word that is read
+
+-- eight of the octets are octets
+pub eight-small : (octets eight : List ℕ) (first : ℕ) → ((i : ℕ) → get_or octets i 0 < 256) → eight ≡ take 8 (drop first octets) → (i : ℕ) → get_or eight i 0 < 256
+eight-small octets eight first small e i =
+    elim (cases_lt i 8) [
+      | inl lt ↦
+          rw (ap (λ (l : List ℕ). get_or l i 0) e ∙ get_or-take 8 (drop first octets) i 0 lt ∙ get_or-drop first octets i 0) (small (first + i))
+      | inr past ↦
+          rw (get_or_past eight i 0 (omega (arith, ap (λ (l : List ℕ). length l) e, length-take 8 (drop first octets)))) (omega arith)
+    ]
 
 -- the word of eight octets
 pub loaded : (octets chunk : List ℕ) (first n : ℕ) → ((i : ℕ) → get_or octets i 0 < 256) → first + 8 ≤ length octets
@@ -215,65 +187,83 @@ pub loaded : (octets chunk : List ℕ) (first n : ℕ) → ((i : ℕ) → get_or
     → digits n 64 ≡ take 64 (drop (8 * first) (bits octets))
 loaded octets chunk first n small h e is =
     let len : length chunk ≡ 8 = ap (λ (l : List ℕ). length l) e ∙ omega (arith, length-take 8 (drop first octets), length-drop first octets) in
-    let at : (i : ℕ) → get_or chunk i 0 < 256 = λ i. elim (cases_lt i 8) [
-      | inl lt ↦
-          rw (ap (λ (l : List ℕ). get_or l i 0) e ∙ get_or-take 8 (drop first octets) i 0 lt ∙ get_or-drop first octets i 0) (small (first + i))
-      | inr past ↦ rw (get_or_past chunk i 0 (omega (arith, len))) (omega arith)
-    ] in
     sym (bits-bytes 8 n)
-    ∙ ap bits (be_bytes_8 chunk n len at is ∙ e)
+    ∙ ap bits (be_bytes_8 chunk n len (eight-small octets chunk first small e) is ∙ e)
     ∙ bits-take 8 (drop first octets)
     ∙ ap (take 64) (bits-drop first octets)
 
-low-part : (n s width : ℕ) → drop s (digits n (s + width)) ≡ digits n width
+pub low-part : (n s width : ℕ) → drop s (digits n (s + width)) ≡ digits n width
 low-part n s width =
     ap (drop s) (digits-append n s width) ∙ drop_at (digits (n / 2 ^ width) s) (digits n width) s (length-digits (n / 2 ^ width) s)
 
--- 64 bits from within an octet: those of eight octets but for the first, and the first of the ninth
-sixty_four : (list : List Bool) (place shift : ℕ) → shift ≤ 8
-    → take 64 (drop (place + shift) list) ≡ drop shift (take 64 (drop place list)) ++ take shift (take 8 (drop (place + 64) list))
-sixty_four list place shift h =
+-- bits from within a number: those of it but for the first, and the first of the next number
+carried : (list : List Bool) (place size n shift : ℕ) → shift ≤ n → shift ≤ size
+    → take size (drop (place + shift) list) ≡ drop shift (take size (drop place list)) ++ take shift (take n (drop (place + size) list))
+carried list place size n shift h k =
     let all = drop (place + shift) list in
-    let a : 64 ≡ (64 - shift) + shift = omega arith in
-    let b : shift + (64 - shift) ≡ 64 = omega arith in
-    let c : place + shift + (64 - shift) ≡ place + 64 = omega arith in
+    let w = size - shift in
+    let a : size ≡ w + shift = omega arith in
+    let b : shift + w ≡ size = omega arith in
+    let c : place + shift + w ≡ place + size = omega arith in
     ap (λ (k : ℕ). take k all) a
-    ∙ take-add (64 - shift) shift all
-    ∙ ap (λ (l : List Bool). take (64 - shift) l ++ take shift (drop (64 - shift) all)) (sym (drop-drop shift place list))
-    ∙ ap (λ (l : List Bool). l ++ take shift (drop (64 - shift) all)) (sym (drop-take shift (64 - shift) (drop place list)) ∙ ap (λ (k : ℕ). drop shift (take k (drop place list))) b)
-    ∙ ap (λ (l : List Bool). drop shift (take 64 (drop place list)) ++ take shift l) (drop-drop (64 - shift) (place + shift) list ∙ ap (λ (k : ℕ). drop k list) c)
-    ∙ ap (λ (l : List Bool). drop shift (take 64 (drop place list)) ++ l) (sym (take-take shift 8 (drop (place + 64) list) h))
+    ∙ take-add w shift all
+    ∙ ap (λ (l : List Bool). take w l ++ take shift (drop w all)) (sym (drop-drop shift place list))
+    ∙ ap (λ (l : List Bool). l ++ take shift (drop w all)) (sym (drop-take shift w (drop place list)) ∙ ap (λ (k : ℕ). drop shift (take k (drop place list))) b)
+    ∙ ap (λ (l : List Bool). drop shift (take size (drop place list)) ++ take shift l) (drop-drop w (place + shift) list ∙ ap (λ (k : ℕ). drop k list) c)
+    ∙ ap (λ (l : List Bool). drop shift (take size (drop place list)) ++ l) (sym (take-take shift n (drop (place + size) list) h))
 
+-- the number that the code joins of a number and the next one, of n digits
+pub joined : (list : List Bool) (place size n shift high o : ℕ) → shift ≤ n → shift ≤ size → o < 2 ^ n
+    → digits high size ≡ take size (drop place list)
+    → digits o n ≡ take n (drop (place + size) list)
+    → digits (bit_or (high * 2 ^ shift % 2 ^ size) (o / 2 ^ (n - shift))) size ≡ take size (drop (place + shift) list)
+joined list place size n shift high o h fits small e f =
+    let w = size - shift in
+    let low = o / 2 ^ (n - shift) in
+    let top = high % 2 ^ w in
+    let a : w + shift ≡ size = omega arith in
+    let b : shift + w ≡ size = omega arith in
+    let s : n ≡ shift + (n - shift) = omega arith in
+    let less : low < 2 ^ shift = shr_below o shift (n - shift) (rw (ap (λ (k : ℕ). 2 ^ k) (sym s)) small) in
+    let sum : bit_or (high * 2 ^ shift % 2 ^ size) low ≡ top * 2 ^ shift + low =
+    ap (λ (k : ℕ). bit_or (high * 2 ^ shift % 2 ^ k) low) (sym a)
+    ∙ ap (λ (m : ℕ). bit_or m low) (top-shifted high w shift)
+    ∙ or_shifted top shift low less in
+    let tail : digits low shift ≡ take shift (take n (drop (place + size) list)) =
+    sym (ap (take shift) (ap (digits o) s ∙ digits-append o shift (n - shift)) ∙ take_at (digits low shift) (digits o (n - shift)) shift (length-digits low shift))
+    ∙ ap (take shift) f in
+    let head : digits top w ≡ drop shift (take size (drop place list)) =
+    digits-mod high w ∙ sym (low-part high shift w) ∙ ap (λ (k : ℕ). drop shift (digits high k)) b ∙ ap (drop shift) e in
+    ap (λ (m : ℕ). digits m size) sum
+    ∙ ap (digits (top * 2 ^ shift + low)) (sym a)
+    ∙ digits-append (top * 2 ^ shift + low) w shift
+    ∙ ap (λ (m : ℕ). digits m w ++ digits (top * 2 ^ shift + low) shift) (shr_high top shift low less)
+    ∙ ap (λ (l : List Bool). digits top w ++ l) (digits-low top low shift ∙ tail)
+    ∙ ap (λ (l : List Bool). l ++ take shift (take n (drop (place + size) list))) head
+    ∙ sym (carried list place size n shift h fits)
+
+-- a word of the eight octets from one of them on, and of the ninth
 pub word-joined : (octets : List ℕ) (first shift high low n : ℕ) → shift ≤ 8 → first + 8 < length octets → get_or octets (first + 8) 0 < 256
     → digits high 64 ≡ take 64 (drop (8 * first) (bits octets))
     → low ≡ get_or octets (first + 8) 0 / 2 ^ (8 - shift) → n ≡ bit_or (high * 2 ^ shift % 2 ^ 64) low
     → digits n 64 ≡ take 64 (drop (8 * first + shift) (bits octets))
 word-joined octets first shift high low n h lt small e l is =
-    let o = get_or octets (first + 8) 0 in
-    let w = 64 - shift in
-    let top = high % 2 ^ w in
-    let a : w + shift ≡ 64 = omega arith in
-    let b : shift + w ≡ 64 = omega arith in
-    let octet_power : 256 ≡ 2 ^ (shift + (8 - shift)) = (let s : 8 ≡ shift + (8 - shift) = omega arith in ap (λ (k : ℕ). 2 ^ k) s) in
-    let less : low < 2 ^ shift = rw l (shr_below o shift (8 - shift) (omega (arith, small, octet_power))) in
-    let sum : n ≡ top * 2 ^ shift + low =
-    is
-    ∙ ap (λ (k : ℕ). bit_or (high * 2 ^ shift % 2 ^ k) low) (sym a)
-    ∙ ap (λ (m : ℕ). bit_or m low) (top-shifted high w shift)
-    ∙ or_shifted top shift low less in
-    let tail : digits low shift ≡ take shift (take 8 (drop (8 * first + 64) (bits octets))) =
-    (let s : 8 ≡ shift + (8 - shift) = omega arith in
     let p : 8 * (first + 8) ≡ 8 * first + 64 = omega arith in
-    ap (λ (m : ℕ). digits m shift) l
-    ∙ sym (ap (take shift) (ap (digits o) s ∙ digits-append o shift (8 - shift)) ∙ take_at (digits (o / 2 ^ (8 - shift)) shift) (digits o (8 - shift)) shift (length-digits (o / 2 ^ (8 - shift)) shift))
-    ∙ ap (take shift) (sym (bits-octet octets (first + 8) lt))
-    ∙ ap (λ (k : ℕ). take shift (take 8 (drop k (bits octets)))) p) in
-    let head : digits top w ≡ drop shift (take 64 (drop (8 * first) (bits octets))) =
-    digits-mod high w ∙ sym (low-part high shift w) ∙ ap (λ (k : ℕ). drop shift (digits high k)) b ∙ ap (drop shift) e in
-    ap (λ (m : ℕ). digits m 64) sum
-    ∙ ap (digits (top * 2 ^ shift + low)) (sym a)
-    ∙ digits-append (top * 2 ^ shift + low) w shift
-    ∙ ap (λ (m : ℕ). digits m w ++ digits (top * 2 ^ shift + low) shift) (shr_high top shift low less)
-    ∙ ap (λ (l : List Bool). digits top w ++ l) (digits-low top low shift ∙ tail)
-    ∙ ap (λ (l : List Bool). l ++ take shift (take 8 (drop (8 * first + 64) (bits octets)))) head
-    ∙ sym (sixty_four (bits octets) (8 * first) shift h)
+    ap (λ (m : ℕ). digits m 64) (is ∙ ap (bit_or (high * 2 ^ shift % 2 ^ 64)) l)
+    ∙ joined (bits octets) (8 * first) 64 8 shift high (get_or octets (first + 8) 0) h (omega arith) small e
+    (sym (bits-octet octets (first + 8) lt) ∙ ap (λ (k : ℕ). take 8 (drop k (bits octets))) p)
+
+-- the same without a branch where the bits begin at the octet's first
+pub carry-joined : (list : List Bool) (size shift high o : ℕ) → shift < 8 → 16 ≤ size → o < 256
+    → digits high size ≡ take size list → digits o 8 ≡ take 8 (drop size list)
+    → digits (bit_or (high * 2 ^ shift % 2 ^ size) (o * 2 ^ shift % 2 ^ size / 2 ^ 8)) size ≡ take size (drop shift list)
+carry-joined list size shift high o h big small e f =
+    let s : 8 ≡ shift + (8 - shift) = omega arith in
+    let here : 0 + size ≡ size = omega arith in
+    let there : 0 + shift ≡ shift = omega arith in
+    let low : o * 2 ^ shift % 2 ^ size / 2 ^ 8 ≡ o / 2 ^ (8 - shift) =
+    ap (λ (m : ℕ). m / 2 ^ 8) (shl_whole o 8 shift size small (omega arith))
+    ∙ ap (λ (k : ℕ). o * 2 ^ shift / 2 ^ k) s ∙ sym (shr-shr (o * 2 ^ shift) shift (8 - shift)) ∙ ap (λ (m : ℕ). m / 2 ^ (8 - shift)) (shl-shr o shift) in
+    ap (λ (m : ℕ). digits (bit_or (high * 2 ^ shift % 2 ^ size) m) size) low
+    ∙ joined list 0 size 8 shift high o (omega arith) (omega arith) small e (f ∙ ap (λ (k : ℕ). take 8 (drop k list)) (sym here))
+    ∙ ap (λ (k : ℕ). take size (drop k list)) there

@@ -1,7 +1,7 @@
--- Turns: each places one word of 64 bits, one octet or the tail.
+-- Turns: each places one word of 64 bits, one octet or one tail.
 use Rattle.std.specs.Prelude.{ℕ, ◌+◌, ◌/◌, ◌%◌}
 use Rattle.std.specs.Int.{div_ceil}
 
--- the turns that n bits take: words of 64 bits, then octets, then the tail
+-- the most turns that n bits take: one for each whole word of 64 bits, then one for each octet of the rest, also a begun one
 abbrev pub turns_for : ℕ → ℕ
 turns_for n = n / 64 + div_ceil (n % 64) 8

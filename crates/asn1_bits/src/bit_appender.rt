@@ -6,7 +6,7 @@ ghost use Rattle.asn1_bits.specs.Bits.{bits, digits, AddsNoOctet, IsZeroFrom};
 ghost use Rattle.asn1_bits.specs.BitStr.{view_of, bits_of};
 ghost use Rattle.asn1_bits.specs.Turns.{turns_for};
 
-use crate::bit_buffer::{BitBuffer, top_octets};
+use crate::bit_buffer::BitBuffer;
 use crate::bit_str::BitStr;
 use crate::turns::Turns;
 use std::alloc::AllocError;
@@ -51,6 +51,7 @@ impl<'a> BitAppender<'a> {
     ghost use Rattle.asn1_bits.specs.BitAppender.{bits_written, room, lender_of, EndsInZeros};
 
     /// How many bits may still be pushed.
+    #[inline]
     pub fn room(&self) -> usize
         ensures { result ≡ room self.now }
     {
@@ -58,6 +59,7 @@ impl<'a> BitAppender<'a> {
     }
 
     /// Writes the lowest `width` binary digits of `value`, most significant first.
+    #[inline]
     pub fn push(&mut self, value: u32, width: usize)
         requires width { width ≤ 32 }
         requires room { width ≤ room self.old }
@@ -66,10 +68,17 @@ impl<'a> BitAppender<'a> {
         ensures room { room self.new + width ≡ room self.old }
         ensures held { EndsInZeros self.new }
     {
-        self.push_wide(u128::from(value), width, &mut Turns::new());
+        let position = self.position;
+        // A length fits `usize`.
+        let _len = self.buffer.len();
+        // As in `push_wide`.
+        self.position += width;
+        self.buffer
+            .put_at(position, u64::from(value), width, &mut Turns::new());
     }
 
     /// Writes the lowest `width` binary digits of `value`, most significant first, 64 bits a turn.
+    #[inline]
     pub fn push_wide(&mut self, value: u128, width: usize, turns: &mut Turns)
         requires width { width ≤ 128 }
         requires room { width ≤ room self.old }
@@ -80,8 +89,12 @@ impl<'a> BitAppender<'a> {
         ensures at_least { turns.old.count + div_ceil width 64 ≤ turns.new.count }
         ensures at_most { turns.new.count ≤ turns.old.count + turns_for width }
     {
-        let octets = top_octets(value, width);
-        self.push_bitslice(BitStr::front_of(&octets, width), turns);
+        let position = self.position;
+        // A length fits `usize`.
+        let _len = self.buffer.len();
+        // The zeros count as pushed before the digits are written, so that what lies behind stays zeros throughout.
+        self.position += width;
+        self.buffer.put_wide(position, value, width, turns);
     }
 
     /// Writes the bits of the octets, 64 bits a turn.

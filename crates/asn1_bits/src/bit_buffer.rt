@@ -1,8 +1,8 @@
 //! A list of bits that grows.
 
-ghost use Rattle.std.specs.Prelude.{◌≡◌, ℕ, ◌+◌, ◌-◌, ◌*◌, ◌^◌, ◌<◌, ◌≤◌, [], ◌∷◌, ◌++◌, length, take, replicate, slice_set, IfOk, OnOk, OnErr, IsOk, false, vec_len};
+ghost use Rattle.std.specs.Prelude.{◌≡◌, ℕ, ◌+◌, ◌-◌, ◌*◌, ◌%◌, ◌^◌, ◌<◌, ◌≤◌, [], ◌∷◌, ◌++◌, length, take, replicate, slice_set, IfOk, OnOk, OnErr, IsOk, false, vec_len};
 ghost use Rattle.std.specs.Int.{div_ceil};
-ghost use Rattle.asn1_bits.specs.Bits.{bits, digits, octets_for, ored, padded, AddsNoOctet};
+ghost use Rattle.asn1_bits.specs.Bits.{bits, digits, octets_for, ored, padded, AddsNoOctet, IsZeroFrom};
 ghost use Rattle.asn1_bits.specs.BitStr.{view_of, bits_of};
 ghost use Rattle.asn1_bits.specs.Turns.{turns_for};
 
@@ -10,6 +10,7 @@ use crate::bit_str::BitStr;
 use crate::kernels::write_bitslice;
 use crate::single_bits::{clear_from, set_bit};
 use crate::turns::Turns;
+use crate::window::{or_within, put_word};
 use std::alloc::{AllocError, Global};
 use std::marker::Model;
 
@@ -52,6 +53,7 @@ impl BitBuffer {
     }
 
     /// How many bits it has.
+    #[inline]
     pub fn len(&self) -> usize
         ensures { result ≡ length self.now }
     {
@@ -143,6 +145,7 @@ impl BitBuffer {
 
     /// Appends the lowest `width` binary digits of `value`, most significant first. Where memory is wanting, the bits
     /// stay.
+    #[inline]
     pub fn push_bits(&mut self, value: u128, width: usize) -> Result<(), AllocError>
         requires width { width ≤ 128 }
         requires fits { length self.old + width < 2 ^ 64 }
@@ -152,8 +155,38 @@ impl BitBuffer {
         // Where no octet is added, no memory is asked for.
         ensures free { AddsNoOctet (length self.old) width → IsOk result }
     {
-        let octets = top_octets(value, width);
-        self.extend_from_bitslice(BitStr::front_of(&octets, width))
+        if width <= 56 {
+            return self.push_short((value & 0xFFFF_FFFF_FFFF_FFFF) as u64, width);
+        }
+        let position = self.len();
+        self.grow(width)?;
+        self.put_wide(position, value, width, &mut Turns::new());
+        Ok(())
+    }
+
+    /// Appends the lowest `width` binary digits of the word, which eight octets hold from any bit of the first on.
+    #[inline]
+    fn push_short(&mut self, word: u64, width: usize) -> Result<(), AllocError>
+        requires width { width ≤ 56 }
+        requires fits { length self.old + width < 2 ^ 64 }
+        ensures ok { OnOk result (self.new ≡ self.old ++ digits word width) }
+        ensures err { OnErr result (self.new ≡ self.old) }
+        ensures free { AddsNoOctet (length self.old) width → IsOk result }
+    {
+        let position = self.len;
+        let end = position + width;
+        let needed = end.div_ceil(8);
+        let octets = self.bytes.len();
+        if needed > octets {
+            // For a moment eight octets stand behind the others, so that the word can be stored whole.
+            self.bytes.resize(octets + 8, 0)?;
+            put_word(self.bytes.as_mut_slice(), position, word, width);
+            self.bytes.truncate(needed);
+        } else {
+            or_within(self.bytes.as_mut_slice(), position, word, width);
+        }
+        self.len = end;
+        Ok(())
     }
 
     /// Appends the bits of the octets. Where memory is wanting, the bits stay.
@@ -165,7 +198,24 @@ impl BitBuffer {
         // Where no octet is added, no memory is asked for.
         ensures free { AddsNoOctet (length self.old) (8 * length src.now) → IsOk result }
     {
+        if self.len() % 8 == 0 {
+            return self.extend_whole(src);
+        }
         self.extend_from_bitslice(BitStr::from_octets(src))
+    }
+
+    /// As `extend_from_bytes`, behind whole octets: no zeros are written first.
+    fn extend_whole(&mut self, src: &[u8]) -> Result<(), AllocError>
+        requires whole { length self.old % 8 ≡ 0 }
+        requires fits { length self.old + 8 * length src.now < 2 ^ 64 }
+        ensures ok { OnOk result (self.new ≡ self.old ++ bits src.now) }
+        ensures len { OnOk result (length self.new ≡ length self.old + 8 * length src.now) }
+        ensures err { OnErr result (self.new ≡ self.old) }
+        ensures free { length src.now ≡ 0 → IsOk result }
+    {
+        self.bytes.extend_from_slice(src)?;
+        self.len += 8 * src.len();
+        Ok(())
     }
 
     /// Appends the bits of the view. Where memory is wanting, the bits stay.
@@ -242,6 +292,40 @@ impl BitBuffer {
         Ok(())
     }
 
+    /// Writes the lowest `width` binary digits of the word over the zeros from bit `position` on: one turn.
+    #[inline]
+    pub(crate) fn put_at(&mut self, position: usize, word: u64, width: usize, turns: &mut Turns)
+        requires width { width ≤ 64 }
+        requires within { position + width ≤ length self.old }
+        requires zeros { IsZeroFrom position self.old }
+        ensures list { self.new ≡ ored self.old position (digits word width) }
+        ensures turn { turns.new.count ≡ turns.old.count + 1 }
+    {
+        put_word(self.bytes.as_mut_slice(), position, word, width);
+        turns.tick();
+    }
+
+    /// Writes the lowest `width` binary digits of the value over the zeros from bit `position` on, 64 bits a turn.
+    #[inline]
+    pub(crate) fn put_wide(&mut self, position: usize, value: u128, width: usize, turns: &mut Turns)
+        requires width { width ≤ 128 }
+        requires within { position + width ≤ length self.old }
+        requires zeros { IsZeroFrom position self.old }
+        ensures list { self.new ≡ ored self.old position (digits value width) }
+        ensures turns { turns.new.count ≡ turns.old.count + div_ceil width 64 }
+    {
+        // A length fits `usize`.
+        let _len = self.len();
+        let low = (value & 0xFFFF_FFFF_FFFF_FFFF) as u64;
+        if width > 64 {
+            let front = width - 64;
+            self.put_at(position, (value >> 64) as u64, front, turns);
+            self.put_at(position + front, low, 64, turns);
+        } else if width > 0 {
+            self.put_at(position, low, width, turns);
+        }
+    }
+
     /// ORs the view in from bit `position` on.
     pub(crate) fn write_at(&mut self, position: usize, src: BitStr<'_>, turns: &mut Turns)
         requires { position + (view_of src).len ≤ length self.old }
@@ -251,15 +335,4 @@ impl BitBuffer {
     {
         write_bitslice(self.bytes.as_mut_slice(), position, src, turns);
     }
-}
-
-/// Octets that begin with the lowest `width` binary digits of the value.
-pub(crate) fn top_octets(value: u128, width: usize) -> [u8; 16]
-    requires { width ≤ 128 }
-    ensures { take width (bits result) ≡ digits value width }
-{
-    if width == 0 {
-        return [0; 16];
-    }
-    (value << (128 - width)).to_be_bytes()
 }

@@ -1,13 +1,13 @@
 //! Views of bits.
 
-ghost use Rattle.std.specs.Prelude.{◌≡◌, ℕ, ◌+◌, ◌*◌, ◌^◌, ◌<◌, ◌≤◌, ◌-◌, ◌%◌, ◌↔◌, ◌++◌, length, vec_len, IsNone, IsSome, IsOk, IfSome, OnOk, OnErr, IsTrue, Some, All, take, drop, slice_get};
-ghost use Rattle.asn1_bits.specs.Bits.{bits, digits, number};
+ghost use Rattle.std.specs.Prelude.{◌≡◌, ℕ, ◌+◌, ◌*◌, ◌/◌, ◌^◌, ◌<◌, ◌≤◌, ◌-◌, ◌%◌, ◌↔◌, ◌++◌, length, vec_len, IsNone, IsSome, IsOk, IfSome, OnOk, OnErr, IsTrue, Some, All, take, drop, slice_get};
+ghost use Rattle.asn1_bits.specs.Bits.{bits, digits, number, ored};
 ghost use Rattle.asn1_bits.specs.View.{IsWithin};
 
-use crate::kernels::{read_wide, write_bitslice};
+use crate::kernels::{read_wide, read_word, write_bitslice};
 use crate::single_bits::{bit_from, from_octet};
 use crate::turns::Turns;
-use crate::window::whole_word;
+use crate::window::{or_shifted_words, or_within, or_words, whole_word};
 use std::alloc::AllocError;
 use std::cmp::Ordering;
 use std::hash::{Hash, Hasher};
@@ -57,6 +57,7 @@ impl<'a> BitStr<'a> {
     }
 
     /// How many bits it has.
+    #[inline]
     pub fn len(&self) -> usize
         ensures len { result ≡ (view_of self.now).len }
         ensures list { result ≡ length (bits_of self.now) }
@@ -87,6 +88,7 @@ impl<'a> BitStr<'a> {
     }
 
     /// `len` bits of it, from bit `from` on.
+    #[inline]
     pub fn slice(&self, from: usize, len: usize) -> BitStr<'a>
         requires { from + len ≤ (view_of self.now).len }
         ensures view { view_of result ≡ part (view_of self.now) from len }
@@ -102,6 +104,7 @@ impl<'a> BitStr<'a> {
     }
 
     /// The first `at` bits, and the others.
+    #[inline]
     pub fn split_at(&self, at: usize) -> (BitStr<'a>, BitStr<'a>)
         requires { at ≤ (view_of self.now).len }
         ensures front { view_of result.0 ≡ part (view_of self.now) 0 at }
@@ -113,6 +116,7 @@ impl<'a> BitStr<'a> {
     }
 
     /// The first `len` bits of the octets.
+    #[inline]
     pub(crate) fn front_of(octets: &'a [u8], len: usize) -> BitStr<'a>
         requires { len ≤ 8 * length octets.now }
         ensures view { view_of result ≡ record { storage = octets.now; first = 0; len = len } }
@@ -141,6 +145,7 @@ impl<'a> BitStr<'a> {
     }
 
     /// The number of the first `width` bits.
+    #[inline]
     pub(crate) fn first_u128(&self, width: usize) -> u128
         requires width { width ≤ 128 }
         requires len { width ≤ (view_of self.now).len }
@@ -152,13 +157,28 @@ impl<'a> BitStr<'a> {
     }
 
     /// `width` bits from bit `at` on, as the lowest digits of a word.
-    #[inline(never)]
+    #[inline]
     pub(crate) fn word(&self, at: usize, width: usize) -> u64
         requires width { width ≤ 64 }
         requires within { at + width ≤ (view_of self.now).len }
         ensures { digits result width ≡ take width (drop at (bits_of self.now)) }
     {
-        self.slice(at, width).first_u128(width) as u64
+        let low = self.shift + at % 8;
+        let octets = from_octet(self.storage, self.octet + at / 8 + low / 8);
+        read_word(octets, low % 8, width)
+    }
+
+    /// ORs `width` bits of it, from bit `at` on, into the octet of `dst` that bit `position` lies in.
+    #[inline]
+    pub(crate) fn or_edge(&self, at: usize, width: usize, dst: &mut [u8], position: usize)
+        requires source { at + width ≤ (view_of self.now).len }
+        requires octet { position % 8 + width ≤ 8 }
+        requires within { position + width ≤ 8 * length dst.old }
+        ensures { bits dst.new ≡ ored (bits dst.old) position (take width (drop at (bits_of self.now))) }
+    {
+        if width > 0 {
+            or_within(dst, position, self.word(at, width), width);
+        }
     }
 
     /// The 64 bits from bit `at` on, as the digits of a word.
@@ -171,8 +191,72 @@ impl<'a> BitStr<'a> {
         whole_word(self.storage, self.octet + at / 8 + low / 8, low % 8)
     }
 
+    /// How many words of 64 bits the two begin with that are the same.
+    fn same_words(&self, other: &Self) -> usize
+        ensures len { 64 * result ≤ (view_of self.now).len }
+        ensures other_len { 64 * result ≤ (view_of other.now).len }
+        ensures same { take (64 * result) (bits_of self.now) ≡ take (64 * result) (bits_of other.now) }
+    {
+        let words = self.len.min(other.len) / 64;
+        for k in 0..words {
+            if self.whole(64 * k) != other.whole(64 * k) {
+                return k;
+            }
+        }
+        words
+    }
+
+    /// ORs `count` words of it, from bit `at` on, into the octets of `dst` from one of them on: a word a turn.
+    pub(crate) fn or_words(
+        &self,
+        at: usize,
+        dst: &mut [u8],
+        first: usize,
+        count: usize,
+        turns: &mut Turns,
+    )
+        requires behind { 56 ≤ at }
+        requires within { at + 64 * count ≤ (view_of self.now).len }
+        requires room { first + 8 * count ≤ length dst.old }
+        ensures bits { bits dst.new
+            ≡ ored (bits dst.old) (8 * first) (take (64 * count) (drop at (bits_of self.now))) }
+        ensures turns { turns.new.count ≡ turns.old.count + count }
+    {
+        let low = self.shift + at % 8;
+        let octet = self.octet + at / 8 + low / 8;
+        if low % 8 == 0 {
+            or_words(dst, first, from_octet(self.storage, octet), count, turns);
+        } else {
+            // Seven octets before: so the second of two words ends with the octet that the bits end in.
+            let src = from_octet(self.storage, octet - 7);
+            or_shifted_words(dst, first, src, 56 + low % 8, count, turns);
+        }
+    }
+
     /// Appends its octets to the vector, which stays as it was where memory is wanting.
     pub(crate) fn push_octets_to(&self, octets: &mut Vec<u8>) -> Result<(), AllocError>
+        requires { (view_of self.now).len % 8 ≡ 0 }
+        ensures ok { OnOk result
+            (bits octets.new.items ≡ bits octets.old.items ++ bits_of self.now) }
+        ensures front { OnOk result
+            (take (vec_len octets.old) octets.new.items ≡ octets.old.items) }
+        ensures octets { All (λ octet. octet < 256) octets.new.items }
+        ensures count { OnOk result
+            (8 * vec_len octets.new ≡ 8 * vec_len octets.old + (view_of self.now).len) }
+        ensures err { OnErr result (octets.new.items ≡ octets.old.items) }
+        ensures free { (view_of self.now).len ≡ 0 → IsOk result }
+    {
+        if self.len > 0 {
+            if let Some(own) = self.aligned() {
+                octets.extend_from_slice(own)?;
+                return Ok(());
+            }
+        }
+        self.push_moved_octets_to(octets)
+    }
+
+    /// As `push_octets_to`, wherever the bits lie: the octets are ORed into zeros.
+    fn push_moved_octets_to(&self, octets: &mut Vec<u8>) -> Result<(), AllocError>
         requires { (view_of self.now).len % 8 ≡ 0 }
         ensures ok { OnOk result
             (bits octets.new.items ≡ bits octets.old.items ++ bits_of self.now) }
@@ -236,7 +320,7 @@ impl Ord for BitStr<'_> {
 
     fn cmp(&self, other: &Self) -> Ordering {
         let both = self.len.min(other.len);
-        for i in 0..both {
+        for i in 64 * self.same_words(other)..both {
             let bit = self.get(i);
             if bit != other.get(i) {
                 return if bit {
@@ -276,8 +360,13 @@ impl Hash for BitStr<'_> {
 
     fn hash<H: Hasher>(&self, state: &mut H) {
         state.write_usize(self.len);
-        for i in 0..self.len {
-            self.get(i).hash(state);
+        let words = self.len / 64;
+        for k in 0..words {
+            state.write_u64(self.whole(64 * k));
+        }
+        let (_, tail) = self.split_at(64 * words);
+        if tail.len > 0 {
+            state.write_u64(tail.first_u128(tail.len) as u64);
         }
     }
 }

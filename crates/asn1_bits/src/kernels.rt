@@ -8,36 +8,10 @@ ghost use Rattle.asn1_bits.specs.Turns.{turns_for};
 ghost use Rattle.asn1_bits.specs.View.{IsAligned};
 
 use crate::bit_str::BitStr;
-use crate::places::{Places, place_bits};
 use crate::single_bits::from_octet;
 use crate::turns::Turns;
-use crate::window::{load, or_word, whole_word};
+use crate::window::{load, or_word, whole_word, wide_of_seventeen, word_of_nine};
 use std::alloc::AllocError;
-
-/// Octets that words are placed in.
-#[derive(Drop)]
-struct Target<'a> {
-    octets: &'a mut [u8],
-    placed: Turns,
-}
-
-impl Places for Target<'_> {
-    ghost list = { λ t. bits t.octets.now };
-
-    ghost placements = { λ t. t.placed.count };
-
-    ghost reference = { λ t. t.octets.ghost_name };
-
-    fn len(&self) -> u128 {
-        8 * (self.octets.len() as u128)
-    }
-
-    fn place(&mut self, position: usize, word: u64, width: usize, turns: &mut Turns) {
-        or_word(self.octets, position, word, width);
-        self.placed.tick();
-        turns.tick();
-    }
-}
 
 /// ORs the first `count` bits of `src` into `dst` from bit `position` on, and leaves every other bit.
 pub fn or_bits(dst: &mut [u8], position: usize, src: &[u8], count: usize, turns: &mut Turns)
@@ -52,6 +26,7 @@ pub fn or_bits(dst: &mut [u8], position: usize, src: &[u8], count: usize, turns:
 }
 
 /// ORs the view into `dst` from bit `position` on, and leaves every other bit.
+#[inline]
 pub fn write_bitslice(dst: &mut [u8], position: usize, src: BitStr<'_>, turns: &mut Turns)
     requires room { position + (view_of src).len ≤ 8 * length dst.old }
     requires fits { position + (view_of src).len < 2 ^ 64 }
@@ -59,14 +34,47 @@ pub fn write_bitslice(dst: &mut [u8], position: usize, src: BitStr<'_>, turns: &
     ensures at_least { turns.old.count + div_ceil (view_of src.entry).len 64 ≤ turns.new.count }
     ensures at_most { turns.new.count ≤ turns.old.count + turns_for (view_of src.entry).len }
 {
-    let mut target = Target {
-        octets: dst,
-        placed: Turns::new(),
-    };
-    place_bits(&mut target, position, src, turns);
+    let len = src.len();
+    if len > 64 {
+        write_long(dst, position, src, turns);
+    } else if len > 0 {
+        or_word(dst, position, src.word(0, len), len);
+        turns.tick();
+    }
+}
+
+/// As `write_bitslice`, for more than a word. It is a call of its own, so that short views are written in line.
+#[inline(never)]
+fn write_long(dst: &mut [u8], position: usize, src: BitStr<'_>, turns: &mut Turns)
+    requires long { 64 < (view_of src).len }
+    requires room { position + (view_of src).len ≤ 8 * length dst.old }
+    requires fits { position + (view_of src).len < 2 ^ 64 }
+    ensures bits { bits dst.new ≡ ored (bits dst.old) position (bits_of src.entry) }
+    ensures turns { turns.new.count ≡ turns.old.count + div_ceil (view_of src.entry).len 64 }
+{
+    let len = src.len();
+    let words = len / 64;
+    let tail = len % 64;
+    let spill = position % 8;
+    // A word a turn. Off an octet boundary a word's last bits lie in the eight octets behind: they go in with the next
+    // word, and those of the last word by themselves.
+    or_word(dst, position, src.word(0, 64 - spill), 64 - spill);
+    turns.tick();
+    src.or_words(64 - spill, dst, position / 8 + 8, words - 1, turns);
+    src.or_edge(
+        64 * words - spill,
+        spill,
+        dst,
+        position + 64 * words - spill,
+    );
+    if tail > 0 {
+        or_word(dst, position + 64 * words, src.word(64 * words, tail), tail);
+        turns.tick();
+    }
 }
 
 /// The number of the `width` bits from bit `position` on, the first of them its highest digit.
+#[inline]
 pub fn read_wide(bytes: &[u8], position: usize, width: usize) -> u128
     requires width { width ≤ 128 }
     requires within { position + width ≤ 8 * length bytes.now }
@@ -77,48 +85,61 @@ pub fn read_wide(bytes: &[u8], position: usize, width: usize) -> u128
     read_number(bytes, position, width)
 }
 
-/// The number of `width` bits: by two words or one, and octet by octet near the end of the octets.
+/// The number of `width` bits: of one window, or of two words near the end of the octets.
 #[inline]
 fn read_number(bytes: &[u8], position: usize, width: usize) -> u128
     requires width { width ≤ 128 }
     requires within { position + width ≤ 8 * length bytes.now }
     ensures { result ≡ number (take width (drop position (bits bytes.now))) }
 {
-    let first = position / 8;
+    let octets = from_octet(bytes, position / 8);
     let shift = position % 8;
-    if width > 64 {
-        let low = shift + (width - 64);
-        let high = whole_word(bytes, first, shift);
-        let rest = whole_word(bytes, first + low / 8, low % 8);
-        return (u128::from(high >> (128 - width)) << 64) | u128::from(rest);
+    if width <= 64 {
+        return u128::from(read_word(octets, shift, width));
     }
-    if width > 0 && shift + width <= 64 && bytes.len() - first >= 8 {
-        return u128::from((load(bytes, first) << shift) >> (64 - width));
+    if octets.len() >= 17 {
+        return wide_of_seventeen(octets, shift) >> (128 - width);
     }
-    if shift + width > 64 {
-        // The bits lie in nine octets.
-        return u128::from(whole_word(bytes, first, shift) >> (64 - width));
-    }
-    read_octets(bytes, position, width)
+    let low = shift + (width - 64);
+    let high = whole_word(octets, 0, shift);
+    let rest = whole_word(octets, low / 8, low % 8);
+    (u128::from(high >> (128 - width)) << 64) | u128::from(rest)
 }
 
-/// The number of `width` bits that lie in eight octets, octet by octet.
+/// The number of `width` bits from bit `shift` of the first octet on.
+#[inline]
+pub(crate) fn read_word(octets: &[u8], shift: usize, width: usize) -> u64
+    requires shift { shift < 8 }
+    requires width { width ≤ 64 }
+    requires within { shift + width ≤ 8 * length octets.now }
+    ensures { result ≡ number (take width (drop shift (bits octets.now))) }
+{
+    if width > 0 && octets.len() >= 9 {
+        return word_of_nine(octets, shift) >> (64 - width);
+    }
+    if width > 0 && octets.len() == 8 {
+        return (load(octets, 0) << shift) >> (64 - width);
+    }
+    read_octets(octets, shift, width)
+}
+
+/// The number of `width` bits that lie in eight octets, octet by octet. It is a call of its own: only the last octets of
+/// a slice need it.
 #[inline(never)]
-fn read_octets(bytes: &[u8], position: usize, width: usize) -> u128
-    requires width { position % 8 + width ≤ 64 }
-    requires within { position + width ≤ 8 * length bytes.now }
-    ensures { result ≡ number (take width (drop position (bits bytes.now))) }
+fn read_octets(octets: &[u8], shift: usize, width: usize) -> u64
+    requires shift { shift < 8 }
+    requires width { shift + width ≤ 64 }
+    requires within { shift + width ≤ 8 * length octets.now }
+    ensures { result ≡ number (take width (drop shift (bits octets.now))) }
 {
     if width == 0 {
         return 0;
     }
-    let shift = position % 8;
-    let field = from_octet(bytes, position / 8);
     let needed = (shift + width).div_ceil(8);
     let excess = needed * 8 - shift - width;
-    let mut value = u128::from(field[0] & (0xff >> shift));
+    let mut value = u64::from(octets[0] & (0xff >> shift));
     for k in 1..needed {
-        value = value * 256 + u128::from(field[k]);
+        value = value * 256 + u64::from(octets[k]);
     }
     value >> excess
 }

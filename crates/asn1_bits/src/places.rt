@@ -14,7 +14,7 @@ pub trait Places {
     /// The bits.
     ghost list: { Self → List Bool };
 
-    /// How many words were placed.
+    /// How many words were placed: mostly the `count` of a `Turns` of its own, which each `place` ticks too.
     ghost placements: { Self → ℕ };
 
     /// Where it writes through a `&mut`, the ghost name of that reference: say it, or a caller learns nothing of what
@@ -35,8 +35,7 @@ pub trait Places {
         ensures turn { turns.new.count ≡ turns.old.count + 1 };
 }
 
-/// ORs the view into the target from bit `position` on: a turn for each 64 bits, then one for each octet, then one for
-/// the tail.
+/// ORs the view into the target from bit `position` on: a turn for each word of 64 bits, and one for the tail.
 pub fn place_bits<D: Places>(target: &mut D, position: usize, src: BitStr<'_>, turns: &mut Turns)
     requires fits { position + (view_of src).len < 2 ^ 64 }
     requires within { position + (view_of src).len ≤ length (D.list target.old) }
@@ -56,7 +55,7 @@ pub fn place_bits<D: Places>(target: &mut D, position: usize, src: BitStr<'_>, t
     place_tail(target, position + 64 * words, tail, turns);
 }
 
-/// ORs a view shorter than a word into the target from bit `position` on, an octet a turn.
+/// ORs a view shorter than a word into the target from bit `position` on, in one turn.
 fn place_tail<D: Places>(target: &mut D, position: usize, src: BitStr<'_>, turns: &mut Turns)
     requires short { (view_of src).len < 64 }
     requires fits { position + (view_of src).len < 2 ^ 64 }
@@ -69,11 +68,7 @@ fn place_tail<D: Places>(target: &mut D, position: usize, src: BitStr<'_>, turns
     ensures at_most { turns.new.count ≤ turns.old.count + turns_for (view_of src.entry).len }
 {
     let len = src.len();
-    let mut at = 0;
-    while at < len {
-        let left = len - at;
-        let width = if left >= 8 { 8 } else { left };
-        target.place(position + at, src.word(at, width), width, turns);
-        at += width;
+    if len > 0 {
+        target.place(position, src.word(0, len), len, turns);
     }
 }

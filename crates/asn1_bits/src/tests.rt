@@ -3,6 +3,7 @@
 
 mod callers;
 mod comparisons;
+mod hashes;
 mod kernel_rows;
 mod plain;
 mod rows;

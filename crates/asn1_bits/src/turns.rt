@@ -5,8 +5,9 @@ ghost use base.Fml.{ftrue};
 
 use std::marker::Model;
 
-/// How many turns were taken. One turn places one word of 64 bits, one octet or the tail of a list of bits.
-/// It takes no bytes at run time: only clauses see its number.
+/// A counter of turns for proofs alone: it takes no bytes, nothing reads it at run time, and clauses see its number as
+/// `count`. A turn places one word of 64 bits, one octet or one tail; a search takes one for each look. Where no count
+/// is wanted, pass `&mut Turns::new()`.
 #[derive(Drop)]
 pub struct Turns {
     pub ghost count: { ℕ },
@@ -21,11 +22,29 @@ impl Turns {
     pub fn new() -> Turns
         ensures { result.count ≡ 0 }
     {
-        Turns {}
+        Turns::counting()
     }
 
     /// Counts one turn more. The number is ghost data, so nothing happens at run time.
     pub fn tick(&mut self)
         ensures { self.new.count ≡ self.old.count + 1 }
-    {}
+    {
+        self.set();
+    }
+
+    /// Makes its number the one that the caller's proof names.
+    fn set(&mut self)
+        ghost number: { ℕ }
+        ensures { self.new.count ≡ number }
+    {
+        *self = Turns::counting();
+    }
+
+    /// A counter at the number that the caller's proof names.
+    fn counting() -> Turns
+        ghost number: { ℕ }
+        ensures { result.count ≡ number }
+    {
+        Turns {}
+    }
 }

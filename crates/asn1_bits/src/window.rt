@@ -1,9 +1,25 @@
 //! A word of bits, at any place of octets.
 
-ghost use Rattle.std.specs.Prelude.{◌≡◌, ◌+◌, ◌*◌, ◌/◌, ◌%◌, ◌<◌, ◌≤◌, length, take, drop};
-ghost use Rattle.asn1_bits.specs.Bits.{bits, digits, ored};
+ghost use Rattle.std.specs.Prelude.{◌≡◌, ◌+◌, ◌*◌, ◌/◌, ◌%◌, ◌^◌, ◌<◌, ◌≤◌, ◌++◌, length, take, drop};
+ghost use Rattle.std.specs.Int.{to_le_bytes, w64};
+ghost use Rattle.asn1_bits.specs.Bits.{bits, digits, ored, IsZeroFrom};
 
 use crate::single_bits::from_octet;
+use crate::turns::Turns;
+
+/// Eight octets from one of them on.
+#[inline]
+fn eight(octets: &[u8], first: usize) -> [u8; 8]
+    requires { first + 8 ≤ length octets.now }
+    ensures { result ≡ take 8 (drop first octets.now) }
+{
+    // The front has eight octets, so the second arm is never taken, and no test is made.
+    let (front, _) = from_octet(octets, first).split_at(8);
+    match front.first_chunk::<8>() {
+        Some(chunk) => *chunk,
+        None => [0; 8],
+    }
+}
 
 /// The word of the eight octets from one of them on.
 #[inline]
@@ -11,10 +27,7 @@ pub(crate) fn load(octets: &[u8], first: usize) -> u64
     requires { first + 8 ≤ length octets.now }
     ensures { digits result 64 ≡ take 64 (drop (8 * first) (bits octets.now)) }
 {
-    match from_octet(octets, first).first_chunk::<8>() {
-        Some(chunk) => u64::from_be_bytes(*chunk),
-        None => 0,
-    }
+    u64::from_be_bytes(eight(octets, first))
 }
 
 /// The word of the 64 bits from bit `shift` of an octet on.
@@ -32,77 +45,98 @@ pub(crate) fn whole_word(octets: &[u8], first: usize, shift: usize) -> u64
     }
 }
 
+/// The word of the 64 bits from bit `shift` of the first of nine octets on, with no branch on the shift.
+#[inline]
+pub(crate) fn word_of_nine(octets: &[u8], shift: usize) -> u64
+    requires shift { shift < 8 }
+    requires nine { 9 ≤ length octets.now }
+    ensures { digits result 64 ≡ take 64 (drop shift (bits octets.now)) }
+{
+    let last = (u64::from(octets[8]) << shift) >> 8;
+    (load(octets, 0) << shift) | last
+}
+
+/// The 128 bits from bit `shift` of the first of seventeen octets on, as a number's digits.
+#[inline]
+pub(crate) fn wide_of_seventeen(octets: &[u8], shift: usize) -> u128
+    requires shift { shift < 8 }
+    requires seventeen { 17 ≤ length octets.now }
+    ensures { digits result 128 ≡ take 128 (drop shift (bits octets.now)) }
+{
+    let front = (u128::from(load(octets, 0)) << 64) | u128::from(load(octets, 8));
+    let last = (u128::from(octets[16]) << shift) >> 8;
+    (front << shift) | last
+}
+
+/// Eight octets from one of them on, as a word whose lowest octet is the first of them.
+#[inline]
+fn load_native(octets: &[u8], first: usize) -> u64
+    requires { first + 8 ≤ length octets.now }
+    ensures { to_le_bytes w64 result ≡ take 8 (drop first octets.now) }
+{
+    u64::from_ne_bytes(eight(octets, first))
+}
+
+/// ORs eight octets of `src`, from octet `at` on, into those of `dst` from octet `first` on.
+#[inline]
+fn or_eight(dst: &mut [u8], first: usize, src: &[u8], at: usize)
+    requires room { first + 8 ≤ length dst.old }
+    requires source { at + 8 ≤ length src.now }
+    ensures { bits dst.new ≡ ored (bits dst.old) (8 * first) (bits (take 8 (drop at src.now))) }
+{
+    let word = load_native(dst, first) | load_native(src, at);
+    let (_, rest) = dst.split_at_mut(first);
+    let (room, _) = rest.split_at_mut(8);
+    // The room has eight octets, so no test is made.
+    if let Some(target) = room.as_mut_array::<8>() {
+        *target = word.to_ne_bytes();
+    }
+}
+
 /// ORs the digits of the word into the eight octets from one of them on.
 #[inline]
 fn or_octets(dst: &mut [u8], first: usize, word: u64)
     requires { first + 8 ≤ length dst.old }
     ensures { bits dst.new ≡ ored (bits dst.old) (8 * first) (digits word 64) }
 {
-    let octets = word.to_be_bytes();
-    for k in 0..8 {
-        dst[first + k] |= octets[k];
-    }
-}
-
-/// As `or_octets`, and a call of its own: inlined, the two of a word would be joined into a vector that is slow to fill.
-#[inline(never)]
-fn or_spill(dst: &mut [u8], first: usize, word: u64)
-    requires { first + 8 ≤ length dst.old }
-    ensures { bits dst.new ≡ ored (bits dst.old) (8 * first) (digits word 64) }
-{
-    or_octets(dst, first, word);
-}
-
-/// ORs the digits of the word in from bit `position` on, where the slice has octets for two words.
-#[inline]
-fn or_whole(dst: &mut [u8], position: usize, word: u64)
-    requires { position / 8 + 16 ≤ length dst.old }
-    ensures { bits dst.new ≡ ored (bits dst.old) position (digits word 64) }
-{
-    let first = position / 8;
-    let shift = position % 8;
-    or_octets(dst, first, word >> shift);
-    if shift != 0 {
-        or_spill(dst, first + 8, word << (64 - shift));
-    }
+    or_eight(dst, first, &word.to_be_bytes(), 0);
 }
 
 /// ORs the lowest `width` digits of the word into the octets from bit `position` on.
 #[inline]
 pub(crate) fn or_word(dst: &mut [u8], position: usize, word: u64, width: usize)
     requires width { width ≤ 64 }
+    requires fits { position + width < 2 ^ 64 }
     requires within { position + width ≤ 8 * length dst.old }
     ensures { bits dst.new ≡ ored (bits dst.old) position (digits word width) }
 {
-    if width == 64 && dst.len() - position / 8 >= 16 {
-        or_whole(dst, position, word);
-    } else if position % 8 + width <= 64 {
-        or_short(dst, position, word, width);
+    if position % 8 + width <= 64 {
+        or_near(dst, position, word, width);
     } else {
-        or_part(dst, position, word, width);
+        // The last digits lie in a ninth octet.
+        let past = position % 8 + width - 64;
+        or_near(dst, position, word >> past, width - past);
+        or_within(dst, position + (width - past), word, past);
     }
 }
 
-/// ORs the lowest `width` digits of the word in from bit `position` on, octet by octet.
-#[inline(never)]
-fn or_part(dst: &mut [u8], position: usize, word: u64, width: usize)
-    requires width { width ≤ 64 }
+/// As `or_word`, where the digits lie in eight octets.
+#[inline]
+fn or_near(dst: &mut [u8], position: usize, word: u64, width: usize)
+    requires width { position % 8 + width ≤ 64 }
     requires within { position + width ≤ 8 * length dst.old }
     ensures { bits dst.new ≡ ored (bits dst.old) position (digits word width) }
 {
-    if width == 0 {
+    let first = position / 8;
+    if width == 0 || dst.len() - first < 8 {
+        or_short(dst, position, word, width);
         return;
     }
-    let first = position / 8;
-    let shift = position % 8;
-    let octets = ((u128::from(word) << (128 - width)) >> shift).to_be_bytes();
-    let count = (shift + width).div_ceil(8);
-    for k in 0..count {
-        dst[first + k] |= octets[k];
-    }
+    or_octets(dst, first, (word << (64 - width)) >> (position % 8));
 }
 
-/// ORs the lowest `width` digits of the word in from bit `position` on, where they lie in eight octets.
+/// As `or_near`, octet by octet. It is a call of its own: only the last octets of a slice need it.
+#[inline(never)]
 fn or_short(dst: &mut [u8], position: usize, word: u64, width: usize)
     requires width { position % 8 + width ≤ 64 }
     requires within { position + width ≤ 8 * length dst.old }
@@ -117,5 +151,110 @@ fn or_short(dst: &mut [u8], position: usize, word: u64, width: usize)
     let count = (shift + width).div_ceil(8);
     for k in 0..count {
         dst[first + k] |= octets[k];
+    }
+}
+
+/// Writes the digits of the word over the eight octets from one of them on.
+#[inline]
+fn set_octets(dst: &mut [u8], first: usize, word: u64)
+    requires { first + 8 ≤ length dst.old }
+    ensures { bits dst.new ≡ take (8 * first) (bits dst.old)
+        ++ (digits word 64 ++ drop (8 * first + 64) (bits dst.old)) }
+{
+    let octets = word.to_be_bytes();
+    for k in 0..8 {
+        dst[first + k] = octets[k];
+    }
+}
+
+/// As `or_word`, where zeros stand from bit `position` on. So one octet is read, and the next call need not wait for
+/// what this one wrote.
+#[inline]
+pub(crate) fn put_word(dst: &mut [u8], position: usize, word: u64, width: usize)
+    requires width { width ≤ 64 }
+    requires fits { position + width < 2 ^ 64 }
+    requires within { position + width ≤ 8 * length dst.old }
+    requires zeros { IsZeroFrom position (bits dst.old) }
+    ensures { bits dst.new ≡ ored (bits dst.old) position (digits word width) }
+{
+    if position % 8 + width <= 64 {
+        put_near(dst, position, word, width);
+    } else {
+        // The last digits lie in a ninth octet.
+        let past = position % 8 + width - 64;
+        put_near(dst, position, word >> past, width - past);
+        or_within(dst, position + (width - past), word, past);
+    }
+}
+
+/// As `put_word`, where the digits lie in eight octets.
+#[inline]
+fn put_near(dst: &mut [u8], position: usize, word: u64, width: usize)
+    requires width { position % 8 + width ≤ 64 }
+    requires within { position + width ≤ 8 * length dst.old }
+    requires zeros { IsZeroFrom position (bits dst.old) }
+    ensures { bits dst.new ≡ ored (bits dst.old) position (digits word width) }
+{
+    let first = position / 8;
+    if width == 0 || dst.len() - first < 8 {
+        or_short(dst, position, word, width);
+        return;
+    }
+    let begun = u64::from(dst[first]) << 56;
+    set_octets(
+        dst,
+        first,
+        begun | ((word << (64 - width)) >> (position % 8)),
+    );
+}
+
+/// ORs the lowest `width` digits of the word in from bit `position` on, where they lie in one octet.
+#[inline]
+pub(crate) fn or_within(dst: &mut [u8], position: usize, word: u64, width: usize)
+    requires width { position % 8 + width ≤ 8 }
+    requires within { position + width ≤ 8 * length dst.old }
+    ensures { bits dst.new ≡ ored (bits dst.old) position (digits word width) }
+{
+    if width == 0 {
+        return;
+    }
+    let octets = ((word << (64 - width)) >> (position % 8)).to_be_bytes();
+    dst[position / 8] |= octets[0];
+}
+
+/// ORs `count` words of the octets of `src` into those of `dst` from one of them on: a word a turn.
+pub(crate) fn or_words(dst: &mut [u8], first: usize, src: &[u8], count: usize, turns: &mut Turns)
+    requires room { first + 8 * count ≤ length dst.old }
+    requires source { 8 * count ≤ length src.now }
+    ensures bits { bits dst.new ≡ ored (bits dst.old) (8 * first) (take (64 * count) (bits src.now)) }
+    ensures turns { turns.new.count ≡ turns.old.count + count }
+{
+    for k in 0..count {
+        or_eight(dst, first + 8 * k, src, 8 * k);
+        turns.tick();
+    }
+}
+
+/// As `or_words`, where the source's bits begin at bit `shift` of its first word: each word is put together of two.
+pub(crate) fn or_shifted_words(
+    dst: &mut [u8],
+    first: usize,
+    src: &[u8],
+    shift: usize,
+    count: usize,
+    turns: &mut Turns,
+)
+    requires shift { 0 < shift }
+    requires word { shift < 64 }
+    requires room { first + 8 * count ≤ length dst.old }
+    requires source { 8 * count + 8 ≤ length src.now }
+    ensures bits { bits dst.new
+        ≡ ored (bits dst.old) (8 * first) (take (64 * count) (drop shift (bits src.now))) }
+    ensures turns { turns.new.count ≡ turns.old.count + count }
+{
+    for k in 0..count {
+        let word = (load(src, 8 * k) << shift) | (load(src, 8 * k + 8) >> (64 - shift));
+        or_octets(dst, first + 8 * k, word);
+        turns.tick();
     }
 }

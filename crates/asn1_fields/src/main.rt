@@ -8,11 +8,23 @@ mod run;
 #[cfg(test)]
 mod tests;
 
-use crate::run::run;
+ghost use Rattle.std.specs.Prelude.{◌≡◌, MatchResult};
+
+use crate::run::{RunError, run};
 use std::process::ExitCode;
 
-/// Runs on standard input and output, and ends with the status that `run` answers, or with 1 for an error.
+/// Runs on standard input and output.
 fn main(rt: HostRuntime) -> ExitCode {
-    let status = run(rt.alloc(), &mut rt.stdin(), &mut rt.stdout());
-    ExitCode::from(status.unwrap_or(1))
+    let answered = run(rt.alloc(), &mut rt.stdin(), &mut rt.stdout());
+    ExitCode::from(status_of(answered))
+}
+
+/// The status that the program ends with: the one that `run` answered, or 1 for an error.
+fn status_of(answered: Result<u8, RunError>) -> u8
+    ensures { MatchResult answered (λ status. result ≡ status) (λ _. result ≡ 1) }
+{
+    match answered {
+        Ok(status) => status,
+        Err(_) => 1,
+    }
 }

@@ -49,8 +49,9 @@ fn number(digits: &[u8]) -> Option<usize> {
 }
 
 /// The shape that a word names: `n` and the width of a number in bits, `o` and a number of octets, `b` and a number of
-/// bits, `i` and the number of an integer's octets, or `a`, a character of `NumericString`.
-fn shape(word: &[u8]) -> Option<Shape<'static>> {
+/// bits, `i` and the number of an integer's octets, `a`, a character of the `numeric` alphabet, `c`, an integer behind the
+/// number of its octets, or `d` and the number of octets of an identifier's contents.
+fn shape(word: &[u8], numeric: &CharacterAlphabet<'static>) -> Option<Shape<'static>> {
     match word {
         [b'n', width @ ..] => Some(Shape::Number {
             width: number(width)?,
@@ -64,8 +65,10 @@ fn shape(word: &[u8]) -> Option<Shape<'static>> {
         [b'i', octets @ ..] => Some(Shape::Integer {
             octets: number(octets)?,
         }),
-        [b'a'] => Some(Shape::Character {
-            alphabet: CharacterAlphabet::new::<NumericString>(None, false),
+        [b'a'] => Some(Shape::Character { alphabet: *numeric }),
+        [b'c'] => Some(Shape::CountedInteger),
+        [b'd', octets @ ..] => Some(Shape::Oid {
+            octets: number(octets)?,
         }),
         _ => None,
     }
@@ -77,8 +80,9 @@ pub fn shapes(alloc: Global, line: &[u8]) -> Result<Option<Vec<Shape<'static>>>,
     if line.is_empty() {
         return Ok(Some(shapes));
     }
+    let numeric = CharacterAlphabet::new::<NumericString>(None, false);
     for word in line.split(|octet| *octet == b' ') {
-        let Some(shape) = shape(word) else {
+        let Some(shape) = shape(word, &numeric) else {
             return Ok(None);
         };
         shapes.push(shape)?;

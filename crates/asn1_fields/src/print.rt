@@ -24,8 +24,8 @@ pub fn print_fields(
     Ok(text)
 }
 
-/// `n` and the number in decimal, `o` and the octets, `b` and the bits, `i` and the shortest octets, or `a` and the
-/// character in decimal.
+/// `n` and the number in decimal, `o` and the octets, `b` and the bits, `i` or `c` and the shortest octets, `a` and the
+/// character in decimal, or `d` and the arcs with full stops.
 fn print_field(alloc: Global, text: &mut String, field: &Field<'_, '_>) -> Result<(), AllocError> {
     match field {
         Field::Number { value, .. } => writeln!(text, "n {value}"),
@@ -35,6 +35,10 @@ fn print_field(alloc: Global, text: &mut String, field: &Field<'_, '_>) -> Resul
             print_octets(alloc, text, "i", number.signed_octets().as_ref())
         }
         Field::Character { character, .. } => writeln!(text, "a {character}"),
+        Field::CountedInteger(number) => {
+            print_octets(alloc, text, "c", number.signed_octets().as_ref())
+        }
+        Field::Oid(oid) => writeln!(text, "d {oid}"),
     }
 }
 

@@ -1,3 +1,4 @@
 //! Worked rows on the program.
 
 mod program;
+mod refusals;

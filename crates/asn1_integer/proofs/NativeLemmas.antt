@@ -1,12 +1,11 @@
 -- Lemmas on the values of the native types.
-use Rattle.std.proofs.Common.{◌≡◌, ℕ, zero, suc, ◌+◌, ◌-◌, ◌*◌, ◌%◌, ◌^◌, ◌<◌, ◌≤◌, ℤ, pos, negsuc, ◌-ℤ◌, neg_ℤ, ◌≤ℤ◌, sym, ap, subst, ◌∙◌, arith, Bool, true, false, ◌&&◌, of_z, to_z, to_z-of_z, Result, Ok, Err, OnErr, IsTrue, ◌↔◌, ◌<ℤ◌, ◌∷◌, cond, length}
-use Rattle.std.proofs.lemmas.Bool.{false≢true}
-use Rattle.std.specs.Int.{to_be_bytes, bytes_high_first}
+use Rattle.std.proofs.Common.{◌≡◌, ℕ, zero, suc, ◌+◌, ◌-◌, ◌*◌, ◌%◌, ◌^◌, ◌<◌, ◌≤◌, ℤ, pos, negsuc, ◌-ℤ◌, neg_ℤ, ◌≤ℤ◌, sym, ap, subst, ◌∙◌, arith, Bool, true, false, ◌&&◌, of_z, Result, Ok, Err, OnErr, IsTrue, ◌↔◌, ◌<ℤ◌, ◌∷◌}
+use Rattle.std.specs.Int.{bytes_high_first}
 use mir.Val.{SFits}
 use Rattle.asn1_number.specs.Octets as S
 use Rattle.asn1_number.specs.Readings.{FitsI128}
-use Rattle.asn1_number.proofs.OctetLemmas.{unsigned-cons, signed_low, signed_high, power_step}
-use Rattle.asn1_number.proofs.WidthLemmas.{length-bytes, unsigned-bytes, fits_by_parts}
+use Rattle.asn1_number.proofs.OctetLemmas.{unsigned-cons, signed_low}
+use Rattle.asn1_number.proofs.WidthLemmas.{unsigned-bytes, fits_by_parts}
 use Rattle.asn1_number.specs.declared.error.IntegerError.{IntegerError}
 use Rattle.std.proofs.Math.Nat.{mod-eq_of_lt, pow-le-pow_right, one-le-pow, pow-suc, suc-mul}
 use Rattle.std.proofs.lemmas.Nat.{mod-mul-add, pow-add}
@@ -61,17 +60,9 @@ wrapped_bits_back true size (negsuc m) s r =
     cond-false (ltb ((2 ^ 128 - suc m) % 2 ^ (8 * size)) (2 ^ (8 * size - 1))) _ _ (le-ltb _ _ (omega arith))
     ∙ (ap (λ x. pos x -ℤ pos (2 ^ (8 * size))) e ∙ omega (arith, ints))
 
-behind_zero : (k bits : ℕ) → bits < 256 ^ k → S.signed (0 ∷ bytes_high_first k bits) ≡ pos bits
+pub behind_zero : (k bits : ℕ) → bits < 256 ^ k → S.signed (0 ∷ bytes_high_first k bits) ≡ pos bits
 behind_zero k bits h =
     signed_low 0 (bytes_high_first k bits) (omega arith) ∙ ap pos (unsigned-cons 0 (bytes_high_first k bits) ∙ omega (arith, unsigned-bytes k bits h))
-
-behind_ones : (k bits : ℕ) → bits < 256 ^ k → S.signed (255 ∷ bytes_high_first k bits) ≡ pos bits -ℤ pos (256 ^ k)
-behind_ones k bits h =
-    let l : 256 ^ length (bytes_high_first k bits) ≡ 256 ^ k = ap (λ (m : ℕ). 256 ^ m) (length-bytes k bits) in
-    let u = unsigned-cons 255 (bytes_high_first k bits) in
-    let v = unsigned-bytes k bits h in
-    let s = power_step (length (bytes_high_first k bits)) in
-    signed_high 255 (bytes_high_first k bits) (omega arith) ∙ omega (arith, ints)
 
 -- its low bits are those of a number of 128 bits
 pub bits_of_native : (signed : Bool) (size bits : ℕ) (n : ℤ) → IsNativeSize size → IsInRange (native_kind signed size) n → bits ≡ of_z w128 n → AreBitsOf signed n bits
@@ -105,9 +96,6 @@ pub fits_signed : (n : ℤ) → FitsI128 n → SFits w128 n
 fits_signed (pos m) r = fits_by_parts (pos m) (omega (arith, lt_out (pos m) (pos (2 ^ 127)) r.1)) (omega arith)
 fits_signed (negsuc m) r = fits_by_parts (negsuc m) (omega arith) (omega (arith, le_out (neg_ℤ (pos (2 ^ 127))) (negsuc m) r.0))
 
-pub signed_from_bits : (n : ℤ) (bits : ℕ) → AreBitsOf true n bits → to_z w128 bits ≡ n
-signed_from_bits n bits b = ap (to_z w128) b.1 ∙ to_z-of_z (fits_signed n b.0)
-
 -- the number is negative where its signed type has bit 128 set
 pub below_zero_by_bits : (signed : Bool) (n : ℤ) (bits : ℕ) → AreBitsOf signed n bits → IsTrue (signed && leb (2 ^ 127) bits) ↔ (n <ℤ pos 0)
 below_zero_by_bits false n bits b = (λ t. cc, λ l. absurd (omega (arith, lt_out n (pos 0) l, ap up b, ap down b)))
@@ -120,26 +108,7 @@ below_zero_by_bits true (negsuc m) bits b =
     let e : bits ≡ 2 ^ 128 - suc m = b.1 in
     (λ t. below_in (negsuc m) (pos 0) (omega arith), λ l. le-leb (2 ^ 127) bits (omega arith))
 
--- the bits of a number behind an octet of its sign
-pub behind_sign : (negative signed : Bool) (n : ℤ) (bits : ℕ) → AreBitsOf signed n bits → negative ≡ (signed && leb (2 ^ 127) bits) → bits < 2 ^ 128 → S.signed (cond negative 255 0 ∷ to_be_bytes w128 bits) ≡ n
-behind_sign false signed (pos m) bits b e h = behind_zero 16 bits h ∙ positive signed b
-  where
-    positive : (s : Bool) → AreBitsOf s (pos m) bits → pos bits ≡ pos m
-    positive false b = sym b
-    positive true b = ap pos b.1
-behind_sign true signed (pos m) bits b e h = absurd (let t = (below_zero_by_bits signed (pos m) bits b).0 (sym e) in omega (arith, lt_out (pos m) (pos 0) t))
-behind_sign false signed (negsuc m) bits b e h =
-    absurd (false≢true (e ∙ (below_zero_by_bits signed (negsuc m) bits b).1 (below_in (negsuc m) (pos 0) (omega arith))))
-behind_sign true signed (negsuc m) bits b e h = behind_ones 16 bits h ∙ negative signed b
-  where
-    negative : (s : Bool) → AreBitsOf s (negsuc m) bits → pos bits -ℤ pos (256 ^ 16) ≡ negsuc m
-    negative false b = cc
-    negative true b =
-        let small : suc m ≤ 2 ^ 127 = omega (arith, le_out (neg_ℤ (pos (2 ^ 127))) (negsuc m) b.0.0) in
-        let e : bits ≡ 2 ^ 128 - suc m = b.1 in
-        omega (arith, ints)
-
--- the same, where the code was handed the type's sign
+-- the bits of a native number, where the code was handed the type's sign
 pub bits_at : (a signed : Bool) (size bits : ℕ) (n : ℤ) → a ≡ signed → IsNativeSize size → IsInRange (native_kind signed size) n → bits ≡ of_z w128 n → AreBitsOf a n bits
 bits_at a signed size bits n e s r b = subst (λ t. AreBitsOf t n bits) (sym e) (bits_of_native signed size bits n s r b)
 

@@ -61,7 +61,10 @@ impl IntegerType for Integer {
     }
 
     fn is_negative(&self) -> bool {
-        *self < Integer::zero()
+        match Integer::to_i128(self) {
+            Some(number) => number < 0,
+            None => *self < Integer::zero(),
+        }
     }
 
     fn is_signed(&self) -> bool {

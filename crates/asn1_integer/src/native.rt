@@ -156,6 +156,9 @@ impl<N: Native> IntegerType for N {
     }
 
     fn from_integer(number: &Integer) -> Option<N> {
+        if let Some(inline) = Integer::to_i128(number) {
+            return N::try_from_i128(inline);
+        }
         let octets = number.signed_octets();
         match read_with_sign(octets.as_ref(), N::BYTE_WIDTH as usize, N::IS_SIGNED) {
             Ok(bits) => Some(N::from_low_bits(bits)),

@@ -1,4 +1,4 @@
-ghost use Rattle.std.specs.Prelude.{◌≡◌, ℕ, ℤ, pos, ◌≤◌, ◌*◌, ◌%◌, ◌^◌, ◌&&◌, nat_le, length};
+ghost use Rattle.std.specs.Prelude.{◌≡◌, ℤ, pos, ◌*◌, ◌%◌, ◌^◌, ◌&&◌, nat_le, length};
 ghost use Rattle.std.specs.Prelude.{SomeIff};
 ghost use Rattle.asn1_number.specs.Octets.{IsShortest, IsShortestUnsigned, unsigned};
 ghost use Rattle.asn1_number.specs.Readings.{SignedOf, UnsignedOf, FitsI128, counted_length};
@@ -7,7 +7,8 @@ ghost use Rattle.asn1_integer.specs.Calls.{own_reading};
 ghost use Rattle.asn1_integer.specs.NativeBits.{native_kind, IsNativeSize, AreBitsOf, ReadsBits};
 
 use asn1_number::{
-    IntegerBytes, IntegerError, signed_value, unsigned_value, without_redundant_sign_octets,
+    IntegerBytes, IntegerError, shortest_of, signed_value, unsigned_value,
+    without_redundant_sign_octets,
 };
 
 /// The bits of the number that a native type reads from two's complement octets.
@@ -116,17 +117,29 @@ fn without_zero_first(octets: &[u8]) -> &[u8]
 }
 
 /// The shortest two's complement octets of the number of a native type that has these bits.
+#[inline]
 pub(crate) fn signed_octets_of<'a>(bits: u128, is_signed: bool) -> IntegerBytes<'a>
     ensures { (n : ℤ) → AreBitsOf is_signed n bits → IsShortest n result }
 {
-    let is_negative = is_below_zero(bits, is_signed);
+    match i128_of(bits, is_signed) {
+        Some(number) => shortest_of(number),
+        None => octets_behind_zero(bits),
+    }
+}
+
+/// The shortest two's complement octets of the bits as a number: seventeen where it is above
+/// `i128`'s.
+#[inline(never)]
+fn octets_behind_zero<'a>(bits: u128) -> IntegerBytes<'a>
+    ensures { IsShortest (pos bits) result }
+{
     let mut octets = [0; 17];
-    octets[0] = if is_negative { 0xFF } else { 0 };
     octets[1..].copy_from_slice(&bits.to_be_bytes());
     IntegerBytes::from_octets(without_redundant_sign_octets(&octets))
 }
 
 /// The shortest octets without a sign of the bits of so many low octets.
+#[inline]
 pub(crate) fn unsigned_octets_of<'a>(bits: u128, size: usize) -> IntegerBytes<'a>
     requires { IsNativeSize size }
     ensures { IsShortestUnsigned (bits % 2 ^ (8 * size)) result }

@@ -1,3 +1,7 @@
+ghost use Rattle.std.specs.Prelude.{ℤ};
+ghost use Rattle.std.specs.Int.{IsNonNegative};
+ghost use Rattle.asn1_integer.specs.Calls.{IsNonNegativeUnlessNative};
+
 use super::*;
 use std::alloc::Global;
 use std::process::Abort;
@@ -47,6 +51,20 @@ fn refusal(
     None
 }
 
+/// The value of so many octets, all of them alike, where it lies within `i128`.
+fn value_of(octet: u8, count: usize, has_sign: bool) -> Option<i128> {
+    let is_negative = has_sign && octet >= 0x80;
+    if !has_sign && octet >= 0x80 && count >= 16 {
+        return None;
+    }
+    let mut value = if is_negative { -1i128 } else { 0 };
+    for _ in 0..count {
+        value = value.wrapping_mul(256).wrapping_add(i128::from(octet));
+    }
+    Some(value)
+}
+
+/// Each reading of a type against a plain table.
 fn check_readings<T: IntegerType + Drop>(
     rt: &impl Abort,
     alloc: Global,
@@ -61,8 +79,8 @@ fn check_readings<T: IntegerType + Drop>(
                 let want = refusal(octet, count, size, is_signed, has_sign);
                 let read_octets = read::<T>(alloc, part, has_sign);
                 assert_eq!(rt; read_octets.err(), want, "{octet} times {count}");
-                if want.is_none() && count < 16 {
-                    assert_eq!(rt; read_octets, read::<Integer>(alloc, part, has_sign));
+                if want.is_none() {
+                    assert_eq!(rt; read_octets, Ok(value_of(octet, count, has_sign)));
                 }
             }
         }
@@ -122,10 +140,15 @@ fn each_type_writes_the_shortest_octets_and_reads_them_back(rt: HostRuntime) {
     check_signed::<i8>(&rt, rt.alloc(), -1, &minus_one);
     check_signed::<i8>(&rt, rt.alloc(), -128, &least_of_i8);
     check_signed::<u16>(&rt, rt.alloc(), 65535, &[0x00, 0xFF, 0xFF]);
+    check_signed::<i16>(&rt, rt.alloc(), -1, &minus_one);
     check_signed::<i16>(&rt, rt.alloc(), 127, &[0x7F]);
     check_signed::<i16>(&rt, rt.alloc(), 128, &[0x00, 0x80]);
     check_signed::<u32>(&rt, rt.alloc(), 32768, &[0x00, 0x80, 0x00]);
     check_signed::<i32>(&rt, rt.alloc(), 0, &[0x00]);
+    check_signed::<i32>(&rt, rt.alloc(), -1, &minus_one);
+    check_signed::<i32>(&rt, rt.alloc(), 127, &[0x7F]);
+    check_signed::<i32>(&rt, rt.alloc(), 128, &[0x00, 0x80]);
+    check_signed::<i32>(&rt, rt.alloc(), -128, &least_of_i8);
     check_signed::<i32>(&rt, rt.alloc(), -129, &[0xFF, 0x7F]);
     check_signed::<u64>(&rt, rt.alloc(), 2147483647, &[0x7F, 0xFF, 0xFF, 0xFF]);
     check_signed::<i64>(&rt, rt.alloc(), -1, &minus_one);
@@ -229,6 +252,10 @@ fn residues_have_their_shortest_octets(rt: HostRuntime) {
     let mut signed = [0xFF; 17];
     signed[0] = 0;
     assert_eq!(rt; u128::MAX.to_signed_bytes_be().as_ref(), signed.as_slice());
+    let mut least = [0; 16];
+    least[0] = 0x80;
+    assert_eq!(rt; i128::MIN.to_signed_bytes_be().as_ref(), least.as_slice());
+    assert_eq!(rt; i128::MIN.to_unsigned_bytes_be().as_ref(), least.as_slice());
 }
 
 #[test]
@@ -248,13 +275,21 @@ fn native_sums_wrap_and_integers_do_not(rt: HostRuntime) {
     let least = Integer::from(isize::MIN);
     let difference = IntegerType::checked_sub(&least, &Integer::one());
     assert_eq!(rt; difference, Some(Integer::from(-9223372036854775809i128)));
+    let five = Integer::from(5u8);
+    let sum = five.wrapping_unsigned_add(Integer::from(-7i8));
+    assert_eq!(rt; sum, Some(Integer::from(-2i8)));
+    let most = Integer::from(isize::MAX);
+    let sum = IntegerType::checked_add(&most, &Integer::one());
+    assert_eq!(rt; sum, Some(Integer::from(9223372036854775808i128)));
+    assert_eq!(rt; IntegerType::checked_add(&isize::MAX, &1), None);
+    let least = Integer::from(i128::MIN);
+    assert!(rt; IntegerType::checked_sub(&Integer::zero(), &least).is_none());
+    assert_eq!(rt; u8::from_integer(&Integer::from(256u16)), None);
 }
 
 #[test]
-fn integers_past_i128_are_out_of_reach(rt: HostRuntime) {
-    let Ok(two_to_127) = (1u128 << 127).to_integer(rt.alloc()) else {
-        return;
-    };
+fn integers_past_i128_are_out_of_reach(rt: HostRuntime) -> Result<(), Fail> {
+    let two_to_127 = (1u128 << 127).to_integer(rt.alloc())?;
     assert!(rt; IntegerType::to_i128(&two_to_127).is_none());
     assert!(rt; IntegerType::checked_sub(&two_to_127, &Integer::one()).is_none());
     assert!(rt; Integer::from_integer(&two_to_127).is_none());
@@ -265,6 +300,18 @@ fn integers_past_i128_are_out_of_reach(rt: HostRuntime) {
             .wrapping_unsigned_add(Integer::from(-1i8))
             .is_none()
     );
+    let mut octets = [0; 26];
+    octets[0] = 0x01;
+    let two_to_200 = Integer::try_from_bytes(rt.alloc(), &octets)?;
+    assert!(rt; IntegerType::checked_add(&two_to_200, &Integer::zero()).is_none());
+    assert!(rt; !two_to_200.is_negative());
+    octets[0] = 0xFF;
+    let below = Integer::try_from_signed_bytes(rt.alloc(), &octets)?;
+    assert!(rt; below.is_negative());
+    assert!(rt; u128::from_integer(&below).is_none());
+    let same = Integer::try_from_unsigned_bytes(rt.alloc(), &octets)?;
+    assert!(rt; !same.is_negative());
+    Ok(())
 }
 
 #[test]
@@ -286,6 +333,10 @@ fn worked_readings(rt: HostRuntime) -> Result<(), Fail> {
     assert_eq!(rt; i8::try_from_unsigned_bytes(alloc, &[0x80]), Err(no_value));
     assert_eq!(rt; u8::try_from_signed_bytes(alloc, &[0, 0xFF]), Ok(255));
     assert_eq!(rt; u8::try_from_bytes(alloc, &[0xFF]), Ok(255));
+    assert_eq!(rt;
+        u128::try_from_unsigned_bytes(alloc, &[0xFF; 16]),
+        Ok(u128::MAX)
+    );
     assert_eq!(rt; i8::try_from_bytes(alloc, &[0xFF]), Ok(-1));
     assert_eq!(rt;
         Integer::try_from_bytes(alloc, &[0xFF])?,
@@ -293,4 +344,91 @@ fn worked_readings(rt: HostRuntime) -> Result<(), Fail> {
     );
     laws_of_wrapping();
     Ok(())
+}
+
+/// Both forms of octets of so many rows, which are those that the type holds, and what is read
+/// from them.
+fn check_forms<T: IntegerType + Drop>(rt: &impl Abort, alloc: Global, held: usize)
+    requires { (n : ℤ) → IsNonNegative n → IsNonNegativeUnlessNative T.kind n }
+{
+    let rows: [(u64, &[u8], &[u8]); 7] = [
+        (1, &[0x01], &[0x01]),
+        (127, &[0x7F], &[0x7F]),
+        (128, &[0x00, 0x80], &[0x80]),
+        (32767, &[0x7F, 0xFF], &[0x7F, 0xFF]),
+        (32768, &[0x00, 0x80, 0x00], &[0x80, 0x00]),
+        (
+            2147483647,
+            &[0x7F, 0xFF, 0xFF, 0xFF],
+            &[0x7F, 0xFF, 0xFF, 0xFF],
+        ),
+        (
+            9223372036854775807,
+            &[0x7F, 0xFF, 0xFF, 0xFF, 0xFF, 0xFF, 0xFF, 0xFF],
+            &[0x7F, 0xFF, 0xFF, 0xFF, 0xFF, 0xFF, 0xFF, 0xFF],
+        ),
+    ];
+    for (place, (number, signed, unsigned)) in rows.iter().enumerate() {
+        let number = i128::from(*number);
+        let Some(value) = T::try_from_i128(number) else {
+            assert!(rt; place >= held, "the type does not hold {number}");
+            continue;
+        };
+        assert!(rt; place < held, "the type holds {number}");
+        assert_eq!(rt; value.to_signed_bytes_be().as_ref(), *signed, "of {number}");
+        assert_eq!(rt;
+            value.to_unsigned_bytes_be().as_ref(),
+            *unsigned,
+            "of {number}"
+        );
+        assert_eq!(rt; read::<T>(alloc, signed, true), Ok(Some(number)));
+        assert_eq!(rt; read::<T>(alloc, unsigned, false), Ok(Some(number)));
+        assert_eq!(rt; read::<Integer>(alloc, signed, true), Ok(Some(number)));
+    }
+}
+
+#[test]
+fn each_native_type_has_both_forms_of_octets(rt: HostRuntime) {
+    check_forms::<u8>(&rt, rt.alloc(), 3);
+    check_forms::<i8>(&rt, rt.alloc(), 2);
+    check_forms::<u16>(&rt, rt.alloc(), 5);
+    check_forms::<i16>(&rt, rt.alloc(), 4);
+    check_forms::<u32>(&rt, rt.alloc(), 6);
+    check_forms::<i32>(&rt, rt.alloc(), 6);
+    check_forms::<u64>(&rt, rt.alloc(), 7);
+    check_forms::<i64>(&rt, rt.alloc(), 7);
+    check_forms::<u128>(&rt, rt.alloc(), 7);
+    check_forms::<i128>(&rt, rt.alloc(), 7);
+    check_forms::<usize>(&rt, rt.alloc(), 7);
+    check_forms::<isize>(&rt, rt.alloc(), 7);
+}
+
+/// A sum of a type with one of its unsigned pair; its signed pair is named alone.
+fn check_pairs<T: IntegerType<UnsignedPair = U, SignedPair = S> + Drop, U, S>(
+    rt: &impl Abort,
+    number: T,
+    other: U,
+    sum: i128,
+) {
+    let Some(result) = number.wrapping_unsigned_add(other) else {
+        return assert!(rt; false, "no sum {sum}");
+    };
+    assert_eq!(rt; result.to_i128(), Some(sum));
+}
+
+#[test]
+fn each_type_has_its_pairs(rt: HostRuntime) {
+    check_pairs::<u8, u8, i16>(&rt, 1, 255, 0);
+    check_pairs::<i8, u8, i8>(&rt, 1, 255, 0);
+    check_pairs::<u16, u16, i32>(&rt, 1, 65535, 0);
+    check_pairs::<i16, u16, i16>(&rt, 1, 65535, 0);
+    check_pairs::<u32, u32, i64>(&rt, 1, 4294967295, 0);
+    check_pairs::<i32, u32, i32>(&rt, 1, 4294967295, 0);
+    check_pairs::<u64, u64, i128>(&rt, 1, u64::MAX, 0);
+    check_pairs::<i64, u64, i64>(&rt, 1, u64::MAX, 0);
+    check_pairs::<u128, u128, i128>(&rt, 1, u128::MAX, 0);
+    check_pairs::<i128, u128, i128>(&rt, 1, u128::MAX, 0);
+    check_pairs::<usize, usize, i128>(&rt, 1, usize::MAX, 0);
+    check_pairs::<isize, usize, isize>(&rt, 1, usize::MAX, 0);
+    check_pairs::<Integer, Integer, Integer>(&rt, Integer::one(), Integer::from(-1i8), 0);
 }

@@ -3,3 +3,4 @@ pub mod WidthLemmas
 pub mod ReadingLemmas
 pub mod ShortestLemmas
 pub mod LawLemmas
+pub mod SpellingLemmas

@@ -39,10 +39,10 @@ pub signed_high : (b : ℕ) (bs : List ℕ) → 128 ≤ b → signed (b ∷ bs) 
 unfolding signed
 signed_high b bs h = cond-false (ltb b 128) _ _ (le-ltb b 128 h)
 
--- one of the two parts of a whole number is 0
+-- a number has no part below zero, or none above it
 pub one_part : (z : ℤ) → (up z ≡ 0) ⊎ (down z ≡ 0)
-one_part (pos n) = inr refl
-one_part (negsuc n) = inl refl
+one_part (negsuc below) = inl (omega arith)
+one_part (pos above) = inr (omega arith)
 
 below_zero : (u n : ℕ) → u < n → (up (pos u -ℤ pos n) ≡ 0) × (down (pos u -ℤ pos n) + u ≡ n)
 below_zero u n h =

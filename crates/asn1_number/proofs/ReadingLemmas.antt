@@ -188,12 +188,6 @@ pub low_value : (o : List ℕ) → 0 < length o → get_or o 0 0 < 128 → signe
 low_value [] some l = absurd (omega arith)
 low_value (b ∷ bs) some l = signed_low b bs l
 
-pub fits_i128 : (n : ℕ) → n < 2 ^ 127 → IsInRange (SignedOf 16) (pos n)
-fits_i128 n l = (at_most_in (neg_ℤ (pos (2 ^ 127))) (pos n) (omega arith), below_in (pos n) (pos (2 ^ 127)) (omega arith))
-
-pub past_i128 : (n : ℕ) → (IsInRange (SignedOf 16) (pos n) → ⊥) → 2 ^ 127 ≤ n
-past_i128 n h = ⊎_elim (λ l. absurd (h (fits_i128 n l))) (λ l. l) (cases_lt n (2 ^ 127))
-
 -- a kept list of more than sixteen octets spells no `u128`, unless it is a zero octet and sixteen others
 pub spells_no_u128 : (n : ℤ) (o s : List ℕ) → s ≡ o → signed o ≡ n → IsShortest (signed o) o → 16 < length o → (length s ≡ 17 → get_or s 0 0 ≡ 0 → ⊥) → IsInRange (UnsignedOf 16) n → ⊥
 spells_no_u128 n o s e v k l d r =

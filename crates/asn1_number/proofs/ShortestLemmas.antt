@@ -52,6 +52,17 @@ fewer_do_not (suc turns) k z j p l =
     absurd (omega arith))
     (cases_le (128 * 256 ^ k) (mag z))
 
+pub past_first_enough : (z : ℤ) → mag z < 128 * 256 ^ octets_past_first z
+past_first_enough z = subst (λ x. mag z < 128 * 256 ^ x) (zero-add (octets_past_first z)) (past_first_holds (suc (mag z)) 0 z (omega arith))
+
+-- the count is known by its bounds
+pub past_first_only : (k : ℕ) (z : ℤ) → mag z < 128 * 256 ^ k → ((i : ℕ) → i < k → 128 * 256 ^ i ≤ mag z) → k ≡ octets_past_first z
+past_first_only k z h f =
+    ⊎_elim
+    (λ l. absurd (let e = fewer_do_not (suc (mag z)) 0 z k (omega arith) (omega arith) in omega arith))
+    (λ l. ⊎_elim (λ m. absurd (let e = f (octets_past_first z) m in omega (arith, past_first_enough z))) (λ m. omega arith) (cases_lt (octets_past_first z) k))
+    (cases_lt k (octets_past_first z))
+
 value_at : (k : ℕ) (z : ℤ) → mag z < 128 * 256 ^ k → signed (bytes_high_first (suc k) (residue_at (suc k) z)) ≡ z
 value_at k (pos n) h =
     let s = power_step k in
@@ -67,7 +78,7 @@ unfolding shortest_octets
 shortest_octets_are z = record {
   octets = octets_of_bytes (suc (octets_past_first z)) (residue_at (suc (octets_past_first z)) z);
   some = omega arith;
-  value = value_at (octets_past_first z) z (subst (λ x. mag z < 128 * 256 ^ x) (zero-add (octets_past_first z)) (past_first_holds (suc (mag z)) 0 z (omega arith)));
+  value = value_at (octets_past_first z) z (past_first_enough z);
   least = least;
 }
   where

@@ -3,9 +3,8 @@ use Rattle.std.proofs.Common.{◌≡◌, ℕ, zero, suc, ◌+◌, ◌-◌, ◌*�
 use Rattle.std.proofs.Math.Nat.{pow-suc, mul-le-mul_right, pow-le-pow_right, div-add-mod', div-div-eq-div-mul, div-one, div-eq_of_lt}
 use Rattle.std.proofs.lemmas.List.{take_more}
 use Rattle.std.proofs.lemmas.Nat.{mul-add-lt, mod_below}
-use Rattle.std.proofs.lemmas.Int.{ints}
 use Rattle.std.proofs.lemmas.Bool.{cases_lt, lt-ltb, le-ltb}
-use Rattle.std.specs.Int.{byte_at, bytes_high_first, to_be_bytes, w8, w128}
+use Rattle.std.specs.Int.{byte_at, bytes_high_first, w8, w128}
 use mir.Val.{SFits, of_z, to_z, sel}
 use lib.Dec.{ltb}
 use borrow.Author.Differences.{up, down, sum_is_lem, product_is, same_in}
@@ -49,7 +48,7 @@ signed-push b bs d h l = ⊎_elim low high (cases_lt b 128)
 
 -- ---- the bytes of a number
 
-byte_at_is : (k n : ℕ) → byte_at k n ≡ n / 256 ^ k % 256
+pub byte_at_is : (k n : ℕ) → byte_at k n ≡ n / 256 ^ k % 256
 byte_at_is zero n = ap (λ x. x % 256) (sym (div-one n))
 byte_at_is (suc k) n = refl
 
@@ -61,7 +60,7 @@ pub octets_of_bytes : (k n : ℕ) → IsOctets (bytes_high_first k n)
 octets_of_bytes zero n = tt
 octets_of_bytes (suc k) n = (subst (λ x. x < 256) (sym (byte_at_is k n)) (mod_below (n / 256 ^ k) 256 (omega arith)), octets_of_bytes k n)
 
-unsigned-bytes_and_rest : (k n : ℕ) → unsigned (bytes_high_first k n) + n / 256 ^ k * 256 ^ k ≡ n
+pub unsigned-bytes_and_rest : (k n : ℕ) → unsigned (bytes_high_first k n) + n / 256 ^ k * 256 ^ k ≡ n
 unsigned-bytes_and_rest zero n = omega (arith, div-one n, unsigned_nil)
 unsigned-bytes_and_rest (suc k) n =
     let ih = unsigned-bytes_and_rest k n in
@@ -111,12 +110,6 @@ signed-bytes k n h =
     signed_as_bits (byte_at k n) (bytes_high_first k n) (octets_of_bytes (suc k) n)
     ∙ (ap (λ x. sel (ltb x (128 * 256 ^ length (bytes_high_first k n))) (pos x) (negsuc (256 ^ suc (length (bytes_high_first k n)) - suc x))) u
     ∙ ap (λ m. sel (ltb n (128 * 256 ^ m)) (pos n) (negsuc (256 ^ suc m - suc n))) l)
-
--- the sixteen octets of an `i128`
-pub signed-sixteen : (z : ℤ) → SFits w128 z → signed (to_be_bytes w128 (of_z w128 z)) ≡ z
-signed-sixteen z f =
-    let b : of_z w128 z < 2 ^ 128 = omega (arith, ints) in
-    signed-bytes 15 (of_z w128 z) b ∙ to_z-of_z f
 
 pub fits_by_parts : (z : ℤ) → up z < 2 ^ 127 → down z ≤ 2 ^ 127 → SFits w128 z
 fits_by_parts (pos n) h k = record { sfits = h }

@@ -3,12 +3,17 @@ use Rattle.std.specs.Prelude.{◌≡◌, ℕ, ◌<◌, ◌≤◌, ◌↔◌, ℤ
 use Rattle.std.specs.Ordering.{int_cmp}
 use Rattle.asn1_number.specs.Octets.{IsOctets, signed, IsShortest}
 use Rattle.asn1_number.specs.Order.{NineBitsDiffer, octets_cmp}
+use Rattle.asn1_number.specs.Shortest.{shortest_octets}
 use Rattle.asn1_number.specs.Readings.{IntegerKind, SignedOf, UnsignedOf, Unbounded, IsInRange, signed_reading}
 
 -- every number has a shortest list, and no other
 abbrev pub EachNumberHasOneShortestList : Type 0
 EachNumberHasOneShortestList =
     (n : ℤ) → (o : List ℕ) × IsShortest n o × ((other : List ℕ) → IsShortest n other → other ≡ o)
+
+-- the list that is computed is that one
+abbrev pub ComputedAreShortest : Type 0
+ComputedAreShortest = (n : ℤ) → IsShortest n (shortest_octets n)
 
 -- octets are shortest for a number exactly where the eight bits of the first and bit 8 of the
 -- second are not all alike (X.690 8.3.2); one octet always is

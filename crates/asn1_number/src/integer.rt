@@ -13,7 +13,7 @@ ghost use Rattle.asn1_number.specs.Shortest.{shortest_octets};
 use crate::error::IntegerError;
 use crate::integer_bytes::IntegerBytes;
 use crate::sign_octets::without_redundant_sign_octets;
-use crate::values::{shortest_of, signed_value, unsigned_value};
+use crate::values::{shortest_of, signed_value, unsigned_value, words_of};
 use std::alloc::{AllocError, Global};
 use std::cmp::Ordering;
 use std::hash::{Hash, Hasher};
@@ -90,6 +90,9 @@ impl Integer {
         ensures value { IfOk result (λ n. n ≡ pos number) }
         ensures memory { OnErr result (2 ^ 127 ≤ number) }
     {
+        if let Ok(inline) = i128::try_from(number) {
+            return Ok(Integer::inline(inline));
+        }
         let Ok(integer) = Integer::from_unsigned_octets(alloc, &number.to_be_bytes()) else {
             return Err(AllocError);
         };
@@ -98,6 +101,7 @@ impl Integer {
 
     /// The two's complement value of the octets, at any length (X.690 8.3.3). Memory is asked for
     /// only where it lies outside `i128`, and then for its shortest octets alone.
+    #[inline]
     pub fn from_signed_octets(alloc: Global, octets: &[u8]) -> Result<Integer, IntegerError>
         ensures empty { octets.now ≡ [] → IsErrOf result IntegerError.UnexpectedEmptyInput }
         ensures value { IfOk result (λ n. n ≡ signed octets.now) }
@@ -107,6 +111,20 @@ impl Integer {
         if octets.is_empty() {
             return Err(IntegerError::UnexpectedEmptyInput);
         }
+        if octets.len() <= 16 {
+            return Ok(Integer::inline(signed_value(octets)));
+        }
+        Integer::from_many_octets(alloc, octets)
+    }
+
+    /// The same of one octet or more. Up to sixteen octets are read where they stand, without this
+    /// call.
+    #[inline(never)]
+    fn from_many_octets(alloc: Global, octets: &[u8]) -> Result<Integer, IntegerError>
+        requires { 0 < length octets.now }
+        ensures value { IfOk result (λ n. n ≡ signed octets.now) }
+        ensures memory { IfErr result (λ e. (e ≡ IntegerError.Memory) × ¬ (FitsI128 (signed octets.now))) }
+    {
         let shortest = without_redundant_sign_octets(octets);
         if shortest.len() <= 16 {
             return Ok(Integer::inline(signed_value(shortest)));
@@ -162,7 +180,13 @@ impl Integer {
     pub fn signed_len(&self) -> usize
         ensures { (o : List ℕ) → IsShortest self.now o → result ≡ length o }
     {
-        self.signed_octets().len()
+        match &self.form {
+            Form::Inline(number) => {
+                let (start, _, _) = words_of(*number);
+                16 - start
+            }
+            Form::Shortest(octets) => octets.as_slice().len(),
+        }
     }
 
     /// The shortest octets without a sign of a number that is not negative.
@@ -171,6 +195,19 @@ impl Integer {
         ensures { (n : ℕ) → self.now ≡ pos n → IsShortestUnsigned n result }
     {
         self.signed_octets().without_sign()
+    }
+
+    /// The order of two numbers by their octets. Two inline numbers are compared without this call.
+    #[inline(never)]
+    fn compare_by_octets(&self, other: &Integer) -> Ordering
+        ensures { result ≡ int_cmp self.now other.now }
+    {
+        if let (Form::Shortest(octets), Form::Shortest(others)) = (&self.form, &other.form) {
+            return compare_octets(octets.as_slice(), others.as_slice());
+        }
+        let octets = self.signed_octets();
+        let others = other.signed_octets();
+        compare_octets(octets.as_ref(), others.as_ref())
     }
 
     /// The number, exactly where it lies within `i128`.
@@ -241,6 +278,7 @@ impl PartialEq for Integer {
 
     ghost laws = { Prim.search (comparing, rules) };
 
+    #[inline]
     fn eq(&self, other: &Integer) -> bool
         ensures value { result ≡ int_eq self.now other.now }
         ensures numbers { IsTrue result ↔ (self.now ≡ other.now) }
@@ -274,14 +312,16 @@ impl Ord for Integer {
 
     ghost matches_eq = { Prim.search rules };
 
+    #[inline]
     fn cmp(&self, other: &Integer) -> Ordering
         ensures value { result ≡ int_cmp self.now other.now }
         ensures octets { (a b : List ℕ) → IsShortest self.now a → IsShortest other.now b
             → result ≡ octets_cmp a b }
     {
-        let octets = self.signed_octets();
-        let others = other.signed_octets();
-        compare_octets(octets.as_ref(), others.as_ref())
+        if let (Form::Inline(number), Form::Inline(other)) = (&self.form, &other.form) {
+            return number.cmp(other);
+        }
+        self.compare_by_octets(other)
     }
 }
 

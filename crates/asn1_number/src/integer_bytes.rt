@@ -1,7 +1,8 @@
-ghost use Rattle.std.specs.Prelude.{◌≡◌, ℕ, pos, ◌≤◌, length};
+ghost use Rattle.std.specs.Prelude.{◌≡◌, ℕ, pos, ◌≤◌, ◌++◌, length, drop};
+ghost use Rattle.std.specs.Int.{to_be_bytes, w64};
 ghost use Rattle.asn1_number.specs.Octets.{IsShortest, IsShortestUnsigned};
 
-use crate::sign_octets::without_zero_first;
+use crate::sign_octets::zeros_for_sign;
 use arrayvec::ArrayVec;
 use std::marker::Model;
 
@@ -14,7 +15,11 @@ pub struct IntegerBytes<'a> {
 
 #[derive(Debug, Drop)]
 enum Storage<'a> {
-    Inline(ArrayVec<u8, 17>),
+    /// The octets kept, from `start` on.
+    Inline {
+        start: usize,
+        octets: ArrayVec<u8, 17>,
+    },
     Borrowed(&'a [u8]),
 }
 
@@ -23,9 +28,11 @@ impl<'a> Model for IntegerBytes<'a> {
 
     ghost Value = { List ℕ };
 
-    ghost use Rattle.asn1_number.specs.Storage.{octets_in};
+    ghost use Rattle.asn1_number.specs.Storage.{octets_in, IsEndOfKept};
 
     ghost view = { λ b. octets_in b.storage };
+
+    ghost invariant = { λ b. IsEndOfKept b.storage };
 }
 
 impl<'a> IntegerBytes<'a> {
@@ -34,9 +41,24 @@ impl<'a> IntegerBytes<'a> {
         requires { length octets.now ≤ 17 }
         ensures { result ≡ octets.now }
     {
-        let copy = ArrayVec::try_from(octets).unwrap();
         IntegerBytes {
-            storage: Storage::Inline(copy),
+            storage: Storage::Inline {
+                start: 0,
+                octets: ArrayVec::try_from(octets).unwrap(),
+            },
+        }
+    }
+
+    /// The octets of two words from `start` on.
+    pub(crate) fn end_of(start: usize, high: u64, low: u64) -> IntegerBytes<'a>
+        requires { start ≤ 16 }
+        ensures { result ≡ drop start (to_be_bytes w64 high ++ to_be_bytes w64 low) }
+    {
+        let mut octets = ArrayVec::new();
+        octets.try_extend_from_slice(&high.to_be_bytes()).unwrap();
+        octets.try_extend_from_slice(&low.to_be_bytes()).unwrap();
+        IntegerBytes {
+            storage: Storage::Inline { start, octets },
         }
     }
 
@@ -54,7 +76,7 @@ impl<'a> IntegerBytes<'a> {
         ensures { result.now ≡ self.now }
     {
         match &self.storage {
-            Storage::Inline(octets) => octets.as_slice(),
+            Storage::Inline { start, octets } => &octets.as_slice()[*start..],
             Storage::Borrowed(octets) => octets,
         }
     }
@@ -71,11 +93,15 @@ impl<'a> IntegerBytes<'a> {
     pub fn without_sign(self) -> IntegerBytes<'a>
         ensures { (n : ℕ) → IsShortest (pos n) self.entry → IsShortestUnsigned n result }
     {
+        let skipped = zeros_for_sign(self.as_ref());
         match self.storage {
-            Storage::Inline(octets) => {
-                IntegerBytes::from_octets(without_zero_first(octets.as_slice()))
-            }
-            Storage::Borrowed(octets) => IntegerBytes::borrowed(without_zero_first(octets)),
+            Storage::Inline { start, octets } => IntegerBytes {
+                storage: Storage::Inline {
+                    start: start + skipped,
+                    octets,
+                },
+            },
+            Storage::Borrowed(octets) => IntegerBytes::borrowed(&octets[skipped..]),
         }
     }
 }

@@ -25,4 +25,4 @@ pub use integer_bytes::IntegerBytes;
 pub use laws::laws_of_shortest_octets;
 pub use sign_octets::without_redundant_sign_octets;
 pub use try_from_integer::TryFromIntegerError;
-pub use values::{signed_value, unsigned_value};
+pub use values::{shortest_of, signed_value, unsigned_value};

@@ -24,14 +24,15 @@ pub fn without_redundant_sign_octets(octets: &[u8]) -> &[u8]
     rest
 }
 
-/// Of a number's shortest two's complement octets, its shortest octets without a sign: one zero
-/// octet in front of others, which only says that the number is not negative, is left out.
-pub(crate) fn without_zero_first(octets: &[u8]) -> &[u8]
-    ensures no_longer { length result.now ≤ length octets.now }
-    ensures shortest { (n : ℕ) → IsShortest (pos n) octets.now → IsShortestUnsigned n result.now }
+/// How many first octets of a number's shortest two's complement octets only say that it is not
+/// negative: one zero octet in front of others, or none.
+pub(crate) fn zeros_for_sign(octets: &[u8]) -> usize
+    ensures within { result ≤ length octets.now }
+    ensures shortest { (n : ℕ) → IsShortest (pos n) octets.now
+        → IsShortestUnsigned n (drop result octets.now) }
 {
     match octets {
-        [0, _, ..] => &octets[1..],
-        _ => octets,
+        [0, _, ..] => 1,
+        _ => 0,
     }
 }

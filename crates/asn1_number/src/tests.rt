@@ -1,21 +1,9 @@
 use super::*;
 use std::hash::{FoldHasher, Hash, Hasher};
-use std::process::Abort;
 use std::test::Fail;
 
 /// The numbers from -8 to 360.
 type Bounded = ConstrainedInteger<-8, 360>;
-
-/// A number outside `i128`, or None where there was no memory for it.
-fn read(rt: &impl Abort, reading: Result<Integer, IntegerError>) -> Option<Integer> {
-    match reading {
-        Ok(number) => Some(number),
-        Err(error) => {
-            assert_eq!(rt; error, IntegerError::Memory);
-            None
-        }
-    }
-}
 
 fn hash_of(number: &Integer) -> u64 {
     let mut hasher = FoldHasher::default();
@@ -25,12 +13,16 @@ fn hash_of(number: &Integer) -> u64 {
 
 #[test]
 fn small_numbers_have_their_shortest_signed_octets(rt: HostRuntime) {
-    let rows: [(i128, &[u8]); 5] = [
+    let rows: [(i128, &[u8]); 6] = [
         (0, &[0x00]),
         (127, &[0x7F]),
         (128, &[0x00, 0x80]),
         (-128, &[0x80]),
         (-129, &[0xFF, 0x7F]),
+        (
+            i128::MIN,
+            &[0x80, 0, 0, 0, 0, 0, 0, 0, 0, 0, 0, 0, 0, 0, 0, 0],
+        ),
     ];
     for (number, octets) in rows {
         let integer = Integer::from(number);
@@ -134,70 +126,76 @@ fn octets_of_many_lengths_have_their_values(rt: HostRuntime) -> Result<(), Fail>
 }
 
 #[test]
-fn the_greatest_u128_takes_seventeen_signed_octets(rt: HostRuntime) {
-    let Ok(most) = Integer::from_u128(rt.alloc(), u128::MAX) else {
-        return;
-    };
+fn the_greatest_u128_takes_seventeen_signed_octets(rt: HostRuntime) -> Result<(), Fail> {
+    let most = Integer::from_u128(rt.alloc(), u128::MAX)?;
     assert_eq!(rt; most.unsigned_octets().as_ref(), [0xFF; 16].as_slice());
     let mut signed = [0xFF; 17];
     signed[0] = 0;
     assert_eq!(rt; most.signed_octets().as_ref(), signed.as_slice());
     assert_eq!(rt; u128::try_from(most).ok(), Some(u128::MAX));
+    let same = Integer::from_signed_octets(rt.alloc(), &signed)?;
+    assert_eq!(rt; u128::try_from(same).ok(), Some(u128::MAX));
+
+    let mut next = [0; 17];
+    next[0] = 0x01;
+    let above = Integer::from_signed_octets(rt.alloc(), &next)?;
+    assert_eq!(rt; above.signed_octets().as_ref(), next.as_slice());
+    assert!(rt; u128::try_from(above).is_err());
+    Ok(())
 }
 
 #[test]
-fn a_number_past_i128_is_one_number_however_it_was_spelled(rt: HostRuntime) {
+fn numbers_of_66_octets_are_kept(rt: HostRuntime) -> Result<(), Fail> {
+    for first in [0x01, 0xFF] {
+        let mut octets = [0; 66];
+        octets[0] = first;
+        let number = Integer::from_signed_octets(rt.alloc(), &octets)?;
+        assert_eq!(rt; number.signed_octets().as_ref(), octets.as_slice());
+        assert_eq!(rt; number.signed_len(), 66);
+        assert_eq!(rt; number < Integer::zero(), first == 0xFF);
+        assert_eq!(rt; number.to_i128(), None);
+    }
+    Ok(())
+}
+
+#[test]
+fn a_number_past_i128_is_one_number_however_it_was_spelled(rt: HostRuntime) -> Result<(), Fail> {
     let mut shortest = [0; 26];
     shortest[0] = 0xFF;
     let mut longer = [0; 27];
     longer[0] = 0xFF;
     longer[1] = 0xFF;
-    let Some(number) = read(&rt, Integer::from_signed_octets(rt.alloc(), &shortest)) else {
-        return;
-    };
-    let Some(same) = read(&rt, Integer::from_signed_octets(rt.alloc(), &longer)) else {
-        return;
-    };
+    let number = Integer::from_signed_octets(rt.alloc(), &shortest)?;
+    let same = Integer::from_signed_octets(rt.alloc(), &longer)?;
     assert!(rt; number < Integer::zero());
     assert_eq!(rt; number, same);
     assert_eq!(rt; hash_of(&number), hash_of(&same));
     assert_eq!(rt; same.signed_octets().as_ref(), shortest.as_slice());
     assert_eq!(rt; number.to_i128(), None);
-    let Ok(copy) = number.clone() else {
-        return;
-    };
+    let copy = number.clone()?;
     assert_eq!(rt; copy, same);
     let Err(refused) = u8::try_from(copy) else {
-        return assert!(rt; false, "a u8 holds no -2^200");
+        return Err("a u8 holds no -2^200")?;
     };
-    let Ok(again) = refused.clone() else {
-        return;
-    };
+    let again = refused.clone()?;
     assert_eq!(rt; again, refused);
     assert_eq!(rt; again.into_original(), same);
     assert_eq!(rt; refused.into_original(), number);
+    Ok(())
 }
 
 #[test]
-fn the_order_is_that_of_the_numbers_at_every_length(rt: HostRuntime) {
+fn the_order_is_that_of_the_numbers_at_every_length(rt: HostRuntime) -> Result<(), Fail> {
     let mut far_below = [0; 26];
     far_below[0] = 0xFF;
     let mut below_i128 = [0xFF; 17];
     below_i128[1] = 0x7F;
     let mut above_i128 = [0; 17];
     above_i128[1] = 0x80;
-    let Some(far_below) = read(&rt, Integer::from_signed_octets(rt.alloc(), &far_below)) else {
-        return;
-    };
-    let Some(below) = read(&rt, Integer::from_signed_octets(rt.alloc(), &below_i128)) else {
-        return;
-    };
-    let Some(above) = read(&rt, Integer::from_signed_octets(rt.alloc(), &above_i128)) else {
-        return;
-    };
-    let Ok(far_above) = Integer::from_u128(rt.alloc(), u128::MAX) else {
-        return;
-    };
+    let far_below = Integer::from_signed_octets(rt.alloc(), &far_below)?;
+    let below = Integer::from_signed_octets(rt.alloc(), &below_i128)?;
+    let above = Integer::from_signed_octets(rt.alloc(), &above_i128)?;
+    let far_above = Integer::from_u128(rt.alloc(), u128::MAX)?;
     let ascending = [
         far_below,
         below,
@@ -216,10 +214,11 @@ fn the_order_is_that_of_the_numbers_at_every_length(rt: HostRuntime) {
             assert_eq!(rt; number == other, place == other_place);
         }
     }
+    Ok(())
 }
 
 #[test]
-fn a_number_is_given_out_exactly_where_the_type_holds_it(rt: HostRuntime) {
+fn a_number_is_given_out_exactly_where_the_type_holds_it(rt: HostRuntime) -> Result<(), Fail> {
     let rows: [(i128, Option<i64>, Option<u64>); 9] = [
         (0, Some(0), Some(0)),
         (42, Some(42), Some(42)),
@@ -243,9 +242,7 @@ fn a_number_is_given_out_exactly_where_the_type_holds_it(rt: HostRuntime) {
     }
     let mut above = [0; 17];
     above[1] = 0x80;
-    let Some(above) = read(&rt, Integer::from_signed_octets(rt.alloc(), &above)) else {
-        return;
-    };
+    let above = Integer::from_signed_octets(rt.alloc(), &above)?;
     assert_eq!(rt; above.to_i128(), None);
     assert_eq!(rt; above.to_i64(), None);
     assert_eq!(rt; above.to_u64(), None);
@@ -255,11 +252,10 @@ fn a_number_is_given_out_exactly_where_the_type_holds_it(rt: HostRuntime) {
     );
     let mut below = [0xFF; 17];
     below[1] = 0x7F;
-    let Some(below) = read(&rt, Integer::from_signed_octets(rt.alloc(), &below)) else {
-        return;
-    };
+    let below = Integer::from_signed_octets(rt.alloc(), &below)?;
     assert_eq!(rt; below.to_i128(), None);
     assert!(rt; i128::try_from(below).is_err());
+    Ok(())
 }
 
 #[test]
@@ -332,6 +328,9 @@ fn constrained_integers_lie_within_both_bounds(rt: HostRuntime) -> Result<(), Fa
     assert!(rt; Bounded::try_from(-9isize).is_err());
     assert!(rt; Bounded::try_from(i128::MAX).is_err());
     assert!(rt; least < most);
+    for number in 2i32..7 {
+        assert!(rt; ConstrainedInteger::<5, 3>::try_from(number).is_err());
+    }
     let copy = most.clone()?;
     assert!(rt; copy == most);
     Ok(())
@@ -350,7 +349,7 @@ fn octets_and_values_agree(rt: HostRuntime) {
 }
 
 #[test]
-fn errors_have_their_texts(rt: HostRuntime) {
+fn errors_have_their_texts(rt: HostRuntime) -> Result<(), Fail> {
     let rows = [
         (IntegerError::UnexpectedEmptyInput, "empty input"),
         (
@@ -366,17 +365,14 @@ fn errors_have_their_texts(rt: HostRuntime) {
         (IntegerError::Memory, "out of memory"),
     ];
     for (error, text) in rows {
-        let Ok(written) = format!(in rt.alloc(); "{error}") else {
-            return;
-        };
+        let written = format!(in rt.alloc(); "{error}")?;
         assert_eq!(rt; written.as_str(), text);
     }
     let Err(refused) = u8::try_from(Integer::from(-1i8)) else {
-        return assert!(rt; false, "a u8 holds no -1");
+        return Err("a u8 holds no -1")?;
     };
-    let Ok(written) = format!(in rt.alloc(); "{refused}") else {
-        return;
-    };
+    let written = format!(in rt.alloc(); "{refused}")?;
     let text = "out of range conversion regarding integer conversion attempted";
     assert_eq!(rt; written.as_str(), text);
+    Ok(())
 }

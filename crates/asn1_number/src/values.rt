@@ -1,10 +1,12 @@
-ghost use Rattle.std.specs.Prelude.{◌≡◌, ◌<◌, ◌≤◌, length};
+ghost use Rattle.std.specs.Prelude.{◌≡◌, ◌+◌, ◌<◌, ◌≤◌, ◌++◌, length, drop};
+ghost use Rattle.std.specs.Int.{to_be_bytes, w64};
 ghost use Rattle.asn1_number.specs.Octets.{IsShortest, signed, unsigned};
+ghost use Rattle.asn1_number.specs.Shortest.{shortest_octets};
 
 use crate::integer_bytes::IntegerBytes;
-use crate::sign_octets::without_redundant_sign_octets;
 
 /// The two's complement value of one to sixteen octets, most significant first (X.690 8.3.3).
+#[inline]
 pub fn signed_value(octets: &[u8]) -> i128
     requires some { 0 < length octets.now }
     requires few { length octets.now ≤ 16 }
@@ -29,10 +31,45 @@ pub fn unsigned_value(octets: &[u8]) -> u128
     value
 }
 
+/// How many of the eight octets of the number only repeat its sign.
+fn spare_of_eight(number: i64) -> usize
+    ensures { result + length (shortest_octets number) ≡ 8 }
+{
+    let distance = if number < 0 { -1 - number } else { number };
+    // 0 and -1 need a bit too, and each number one more bit, its sign.
+    ((2 * distance.cast_unsigned() + 1).leading_zeros() / 8) as usize
+}
+
+/// How many of the sixteen octets of the number only repeat its sign.
+fn spare_of_sixteen(number: i128) -> usize
+    ensures { result + length (shortest_octets number) ≡ 16 }
+{
+    let distance = if number < 0 { -1 - number } else { number };
+    // A bit more for the sign, as above.
+    ((2 * distance.cast_unsigned() + 1).leading_zeros() / 8) as usize
+}
+
+/// Two words of eight octets that end with the shortest octets of the number, and where these
+/// begin. A number within `i64` takes the work of one word.
+pub(crate) fn words_of(number: i128) -> (usize, u64, u64)
+    ensures count { result.0 + length (shortest_octets number) ≡ 16 }
+    ensures octets { drop result.0 (to_be_bytes w64 result.1 ++ to_be_bytes w64 result.2)
+        ≡ shortest_octets number }
+{
+    match i64::try_from(number) {
+        Ok(short) => (8 + spare_of_eight(short), 0, short.cast_unsigned()),
+        Err(_) => {
+            let bits = number.cast_unsigned();
+            let high = (bits >> 64) as u64;
+            (spare_of_sixteen(number), high, (bits % (1 << 64)) as u64)
+        }
+    }
+}
+
 /// The shortest two's complement octets of the number.
-pub(crate) fn shortest_of<'a>(number: i128) -> IntegerBytes<'a>
+pub fn shortest_of<'a>(number: i128) -> IntegerBytes<'a>
     ensures { IsShortest number result }
 {
-    let octets = number.to_be_bytes();
-    IntegerBytes::from_octets(without_redundant_sign_octets(&octets))
+    let (start, high, low) = words_of(number);
+    IntegerBytes::end_of(start, high, low)
 }

@@ -1,1 +1,4 @@
 pub mod DottedLemmas
+pub mod ReadingLemmas
+pub mod StepLemmas
+pub mod WritingLemmas

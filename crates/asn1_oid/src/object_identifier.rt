@@ -1,6 +1,6 @@
 //! Identifiers that own their arcs, or borrow them for good.
 
-ghost use Rattle.std.specs.Prelude.{◌≡◌, ◌↔◌, IsTrue, IfOk, Some, MatchOption, nat_eq, refl};
+ghost use Rattle.std.specs.Prelude.{◌≡◌, ◌↔◌, ℕ, List, IsTrue, IfOk, IsOkUnless, Err, Some, MatchOption, nat_eq, refl};
 ghost use Rattle.std.specs.Cmp.{partial_equiv_from_equiv, unsigned_Decides};
 ghost use Rattle.std.specs.Cmp.Lexicographic.{pointwise, slice_cmp, nat_list_eq_equiv, nat_list_cmp_total, texts_po, texts_ties, pointwise_decides};
 ghost use Rattle.std.specs.Cow.{cow_slice_items};
@@ -8,8 +8,10 @@ ghost use Rattle.std.specs.Hash as fed;
 ghost use Rattle.std.specs.Hash.{same_Alike};
 ghost use Rattle.std.specs.Ordering.{nat_cmp};
 ghost use Rattle.asn1_oid.specs.Arcs.{IsValidArcs, dotted};
+ghost use Rattle.asn1_oid.specs.Contents.{IsContents, FitU32};
 ghost use Rattle.asn1_oid.specs.Oid.{arcs_of};
 
+use crate::contents::{ContentsError, OctetSource, arcs_in, examine};
 use crate::oid::{Oid, is_valid};
 use std::alloc::{AllocError, Global};
 use std::borrow::CowSlice;
@@ -75,6 +77,32 @@ impl ObjectIdentifier {
         })
     }
 
+    /// The identifier of which the octets are the contents (X.690 8.19). They are examined whole before any memory is
+    /// asked for.
+    pub fn from_contents<S: OctetSource>(
+        alloc: Global,
+        source: &S,
+    ) -> Result<ObjectIdentifier, ContentsError>
+        ensures contents { IfOk result (λ oid. IsContents oid (S.list source.now) × FitU32 oid) }
+        // They are the contents of no other arcs.
+        ensures only { IfOk result (λ oid. (arcs : List ℕ)
+            → IsContents arcs (S.list source.now) → oid ≡ arcs) }
+        ensures accepted { (arcs : List ℕ) → IsContents arcs (S.list source.now) → FitU32 arcs
+            → IsOkUnless result ContentsError.Memory }
+        ensures arc_too_large { (result ≡ Err ContentsError.ArcTooLarge)
+            ↔ ((arcs : List ℕ) × IsContents arcs (S.list source.now) × ¬ (FitU32 arcs)) }
+        ensures malformed { (result ≡ Err ContentsError.Malformed)
+            ↔ ((arcs : List ℕ) → ¬ (IsContents arcs (S.list source.now))) }
+        ensures memory { result ≡ Err ContentsError.Memory
+            → (arcs : List ℕ) × IsContents arcs (S.list source.now) × FitU32 arcs }
+    {
+        examine(source)?;
+        let arcs = arcs_in(alloc, source)?;
+        Ok(ObjectIdentifier {
+            arcs: CowSlice::Owned(arcs),
+        })
+    }
+
     /// The identifier, borrowed.
     pub fn as_oid(&self) -> Oid<'_>
         ensures { arcs_of result ≡ self.now }
@@ -106,11 +134,12 @@ impl ObjectIdentifier {
         self.as_ref() == arcs
     }
 
-    /// A copy that owns its arcs.
-    pub fn clone(&self, alloc: Global) -> Result<ObjectIdentifier, AllocError>
+    /// The same identifier. Arcs that are borrowed for good stay borrowed; others are copied.
+    pub fn clone(&self) -> Result<ObjectIdentifier, AllocError>
         ensures { IfOk result (λ copy. copy ≡ self.now) }
     {
-        ObjectIdentifier::from_oid(alloc, self.as_oid())
+        let arcs = self.arcs.clone()?;
+        Ok(ObjectIdentifier { arcs })
     }
 }
 

@@ -1,9 +1,11 @@
 //! Identifiers that borrow their arcs.
 
-ghost use Rattle.std.specs.Prelude.{◌≡◌, ◌<◌, ◌≤◌, ◌↔◌, Some, length, IsTrue, IfOk, MatchOption};
+ghost use Rattle.std.specs.Prelude.{◌≡◌, ◌<◌, ◌≤◌, ◌+◌, ◌*◌, ◌^◌, ◌↔◌, ℕ, List, ◌∷◌, Some, length, IsTrue, IfOk, IfSome, MatchOption};
 ghost use Rattle.asn1_oid.specs.Arcs.{IsValidArcs, dotted};
+ghost use Rattle.asn1_oid.specs.Contents.{IsContents, subidentifiers};
 
 use crate::object_identifier::ObjectIdentifier;
+use crate::oid_contents::{OidContents, octet_count, octets_of_arcs};
 use std::alloc::{AllocError, Global};
 use std::fmt;
 
@@ -61,6 +63,38 @@ impl<'a> Oid<'a> {
         ensures { IfOk result (λ copy. copy ≡ arcs_of self.now) }
     {
         ObjectIdentifier::from_oid(alloc, *self)
+    }
+
+    /// The octets of its contents, one by one (X.690 8.19); None where it has one arc.
+    pub fn contents(&self) -> Option<OidContents<'a>>
+        ensures { MatchOption result (length (arcs_of self.now) ≡ 1)
+            (λ octets. IsContents (arcs_of self.now) octets) }
+    {
+        let (number, arcs) = self.subidentifiers()?;
+        Some(OidContents::of(number, arcs))
+    }
+
+    /// How many octets its contents have; None where it has one arc.
+    pub fn contents_len(&self) -> Option<u128>
+        ensures len { MatchOption result (length (arcs_of self.now) ≡ 1)
+            (λ len. (octets : List ℕ) × IsContents (arcs_of self.now) octets × (len ≡ length octets)) }
+        ensures bound { IfSome result (λ len. len ≤ 5 * length (arcs_of self.now)) }
+    {
+        let (number, arcs) = self.subidentifiers()?;
+        Some(u128::from(octet_count(number)) + octets_of_arcs(arcs))
+    }
+
+    // The first subidentifier, of the first two arcs, and the arcs behind these.
+    fn subidentifiers(&self) -> Option<(u64, &'a [u32])>
+        ensures numbers { MatchOption result (length (arcs_of self.now) ≡ 1)
+            (λ r. subidentifiers (arcs_of self.now) ≡ r.0 ∷ r.1.now) }
+        ensures two { IfSome result (λ r. length (arcs_of self.now) ≡ 2 + length r.1.now) }
+        ensures below { IfSome result (λ r. r.0 < 2 ^ 35) }
+    {
+        match self.arcs {
+            [x, y, arcs @ ..] => Some((40 * u64::from(*x) + u64::from(*y), arcs)),
+            _ => None,
+        }
     }
 
     /// Whether these are its arcs.

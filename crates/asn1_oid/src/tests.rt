@@ -5,6 +5,8 @@ use std::borrow::CowSlice;
 use std::collections::HashSet;
 use std::test::Fail;
 
+mod contents;
+
 #[test]
 fn arcs_are_valid_or_not(rt: HostRuntime) -> Result<(), Fail> {
     let valid: [&[u32]; 8] = [
@@ -69,7 +71,8 @@ fn borrowed_and_owned_arcs_are_one_identifier(rt: HostRuntime) -> Result<(), Fai
     let oid = Oid::new(arcs).ok_or("valid")?;
     let owned = ObjectIdentifier::from_oid(rt.alloc(), oid)?;
     assert!(rt; lent == owned);
-    assert!(rt; lent.clone(rt.alloc())? == owned);
+    assert!(rt; lent.clone()? == owned);
+    assert!(rt; owned.clone()? == lent);
     assert!(rt; owned.as_ref().starts_with(&[1, 2, 840, 10040]));
     let mut seen = HashSet::new(rt.alloc());
     seen.insert(lent)?;

@@ -5,6 +5,8 @@ use Rattle.std.proofs.lemmas.Bool.{cases_lt}
 use Rattle.std.proofs.lemmas.Bool.Decides.{nat_tests}
 use Rattle.asn1_strings.specs.Sets.{has_character}
 use Rattle.asn1_strings.specs.Widths.{ceil_log2}
+use Rattle.std.specs.Prelude.{◌≢◌}
+use Rattle.std.specs.List.{AllPairs}
 use Rattle.std.specs.List.Sorted.{IsNonDecreasing}
 use Rattle.std.proofs.lemmas.List.{get_or_default}
 use Rattle.asn1_strings.specs.WidthLaws.{twice, ceil_log2_is_least}
@@ -108,3 +110,11 @@ non_decreasing xs next i j d le lt =
     let e : i + (j - i) ≡ j = omega arith in
     let up : get_or xs i 0 ≤ get_or xs j 0 = rw e at (rises_by xs next (j - i) i (omega arith)) in
     rw (get_or_default xs i d 0 (omega arith), get_or_default xs j d 0 lt) up
+
+-- in what never falls any two differ, where neighbours do
+pub neighbours_differ : (xs : List ℕ) → IsNonDecreasing xs → ((k : ℕ) → k + 1 < length xs → get_or xs k 0 ≢ get_or xs (k + 1) 0) → AllPairs (λ a b. a ≢ b) xs
+neighbours_differ xs rises apart i j d lt within =
+    let here = rises i (i + 1) d (omega arith) (omega arith) in
+    let up = rises (i + 1) j d (omega arith) within in
+    let other : get_or xs i d ≢ get_or xs (i + 1) d = rw (get_or_default xs i d 0 (omega arith), get_or_default xs (i + 1) d 0 (omega arith)) (apart i (omega arith)) in
+    λ e. other (omega arith)

@@ -9,3 +9,5 @@ pub mod KeyLemmas
 pub mod AscendingLemmas
 pub mod RepeatLemmas
 pub mod AlphabetLemmas
+pub mod RunLemmas
+pub mod OctetLemmas

@@ -24,26 +24,30 @@ bits_same true false e = cc
 bits_same false true e = cc
 bits_same false false e = refl
 
--- words and ranges agree on so many characters from one on
-abbrev pub agree_from : ℕ → ℕ → List ℕ → List (ℕ × ℕ) → Bool
-agree_from c zero words ranges = true
-agree_from c (suc n) words ranges = same_bit (in_words words c) (lies_in ranges c) && agree_from (c + 1) n words ranges
+-- a test and ranges agree on so many characters from one on
+abbrev pub agree_from : ℕ → ℕ → (ℕ → Bool) → List (ℕ × ℕ) → Bool
+agree_from c zero test ranges = true
+agree_from c (suc n) test ranges = same_bit (test c) (lies_in ranges c) && agree_from (c + 1) n test ranges
 
-agree_at : (n a c : ℕ) (words : List ℕ) (ranges : List (ℕ × ℕ)) → agree_from a n words ranges ≡ true → a ≤ c → c < a + n → in_words words c ≡ lies_in ranges c
-agree_at zero a c words ranges agree low high = absurd (omega arith)
-agree_at (suc n) a c words ranges agree low high =
+agree_at : (n a c : ℕ) (test : ℕ → Bool) (ranges : List (ℕ × ℕ)) → agree_from a n test ranges ≡ true → a ≤ c → c < a + n → test c ≡ lies_in ranges c
+agree_at zero a c test ranges agree low high = absurd (omega arith)
+agree_at (suc n) a c test ranges agree low high =
     elim (cases_eq a c low) [
-      | inl here ↦ (let e : same_bit (in_words words a) (lies_in ranges a) ≡ true = grind (arith, nat_tests) in rw (sym here) (bits_same (in_words words a) (lies_in ranges a) e))
-      | inr later ↦ agree_at n (a + 1) c words ranges (grind (arith, nat_tests)) later (omega arith)
+      | inl here ↦ (let e : same_bit (test a) (lies_in ranges a) ≡ true = grind (arith, nat_tests) in rw (sym here) (bits_same (test a) (lies_in ranges a) e))
+      | inr later ↦ agree_at n (a + 1) c test ranges (grind (arith, nat_tests)) later (omega arith)
     ]
   where
     cases_eq : (a c : ℕ) → a ≤ c → (a ≡ c) ⊎ (a + 1 ≤ c)
     cases_eq a c le = elim (cases_lt a c) [ inl lt ↦ inr (omega arith) | inr ge ↦ inl (omega arith) ]
 
+-- where they agree below 256
+pub same_below : (test : ℕ → Bool) (ranges : List (ℕ × ℕ)) (c : ℕ) → agree_from 0 256 test ranges ≡ true → c < 256 → test c ≡ lies_in ranges c
+same_below test ranges c agree lt = agree_at 256 0 c test ranges agree (omega arith) (omega arith)
+
 -- where words and ranges agree below 256, a bit says whether the character is in the set
-pub words_right : (name : CharacterSetName) (words : List ℕ) (c : ℕ) → agree_from 0 256 words (ranges_of name) ≡ true → c < 256 → in_words words c ≡ has_character (base_set name) c
+pub words_right : (name : CharacterSetName) (words : List ℕ) (c : ℕ) → agree_from 0 256 (in_words words) (ranges_of name) ≡ true → c < 256 → in_words words c ≡ has_character (base_set name) c
 words_right name words c agree lt =
-    agree_at 256 0 c words (ranges_of name) agree (omega arith) (omega arith) ∙ sym (has_in_base name c)
+    same_below (in_words words) (ranges_of name) c agree lt ∙ sym (has_in_base name c)
 
 small_base : (name : CharacterSetName) → name ≢ Bmp → all_below 256 (ranges_of name) ≡ true
 small_base Bmp other = absurd (other refl)

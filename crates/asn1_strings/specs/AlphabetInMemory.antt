@@ -1,5 +1,6 @@
 -- What is known of an alphabet in memory.
-use Rattle.std.specs.Prelude.{◌≡◌, ◌^◌, ◌<◌, ◌≤◌, ℕ, Bool, true, false, List, length, Option, is_some}
+use Rattle.std.specs.Prelude.{◌≡◌, ◌^◌, ◌<◌, ◌≤◌, ℕ, Bool, true, false, List, length, slice_index, Option, Some, None, is_some}
+use Rattle.std.specs.List.{range_with_len}
 use Rattle.std.specs.Option.{ForSome, option_copied}
 use Rattle.std.specs.Borrow.{Bor}
 use Rattle.std.specs.List.Sorted.{IsNonDecreasing}
@@ -8,6 +9,11 @@ use Rattle.asn1_strings.specs.Words.{in_words}
 use Rattle.asn1_strings.specs.Alphabet.{counting_set, is_indexed}
 use Rattle.asn1_strings.specs.declared.character_set.CharacterSetName.{CharacterSetName}
 use Rattle.asn1_strings.specs.declared.character_words.CharacterWords.{CharacterWords}
+
+-- the value, where there is one
+abbrev pub some_if : {A : Type 0} → Bool → A → Option A
+some_if true value = Some value
+some_if false value = None
 
 -- the set that counts, where a permitted set that was kept stands behind a reference
 abbrev pub set_of : CharacterSetName → Option (Bor (List ℕ)) → List ℕ
@@ -18,16 +24,21 @@ pub record HasWords (set : List ℕ) (words : CharacterWords) : Type 0 where
   pub below : largest set < 256
   pub same : (c : ℕ) → c < 256 → in_words words.words c ≡ has_character set c
 
+-- the characters follow one another without a gap
+abbrev pub IsRun : List ℕ → Type 0
+IsRun set = set ≡ range_with_len (slice_index set 0) (length set)
+
 -- What the fields of an alphabet say of its set. `sorted` is of permitted sets alone: a base set
 -- needs no search, since
 -- none that is written by places has more than 64 characters.
 pub record IsKnown (name : CharacterSetName) (kept : Option (Bor (List ℕ))) (width : ℕ)
-    (indexed sorted : Bool) (words : Option CharacterWords) : Type 0 where
+    (indexed sorted run : Bool) (words : Option CharacterWords) : Type 0 where
   pub narrow : width ≤ 32
   pub few : length (set_of name kept) ≤ 2 ^ 32
   pub room : length (set_of name kept) ≤ 2 ^ width
   pub by_place : indexed ≡ is_indexed width (set_of name kept)
   pub rises : sorted ≡ true → IsNonDecreasing (set_of name kept)
   pub falls : sorted ≡ false → is_some kept ≡ true → ¬ (IsNonDecreasing (set_of name kept))
+  pub gapless : run ≡ true → IsRun (set_of name kept)
   pub few_places : is_some kept ≡ false → indexed ≡ true → length (set_of name kept) ≤ 64
   pub worded : ForSome words (HasWords (set_of name kept))

@@ -5,12 +5,12 @@ ghost use Rattle.std.specs.List.Sorted.{IsNonDecreasing};
 ghost use Rattle.asn1_strings.specs.Sets.{base_set, has_character, largest};
 ghost use Rattle.asn1_strings.specs.Widths.{ceil_log2};
 ghost use Rattle.asn1_strings.specs.Alphabet.{is_indexed, kept_set, effective, IsCode, missing_error, Encodes, Decodes, IsLongAscending};
-ghost use Rattle.asn1_strings.specs.AlphabetInMemory.{set_of, HasWords, IsKnown};
+ghost use Rattle.asn1_strings.specs.AlphabetInMemory.{some_if, set_of, HasWords, IsKnown, IsRun};
 
 use crate::character_set::CharacterSetName;
 use crate::character_words::CharacterWords;
 use crate::error::{InvalidRestrictedString, PermittedAlphabetError};
-use crate::permitted_set::{is_ascending, largest_of, place_in, repeats_in};
+use crate::permitted_set::{is_ascending, is_run, largest_of, place_in, repeats_in};
 use crate::search::find_ascending;
 use crate::static_permitted_alphabet::StaticPermittedAlphabet;
 use crate::widths::{align, ceil_log2, codes_of, width_for};
@@ -30,15 +30,21 @@ pub fn should_be_indexed(width: u32, set: &[u32]) -> bool
 #[derive(Clone, Copy, Debug)]
 pub struct CharacterAlphabet<'s> {
     name: CharacterSetName,
-    // The permitted set, where it is kept. Else the base set of `name` counts.
-    permitted: Option<&'s [u32]>,
-    width: usize,
+    // At most 32 bits.
+    width: u8,
     indexed: bool,
+    // Whether a permitted set is kept. Else the base set of `name` counts.
+    kept: bool,
     // Whether the permitted set never falls.
     sorted: bool,
-    // Where all characters are below 256.
-    words: Option<CharacterWords>,
-    ghost known: { IsKnown name permitted width indexed sorted words },
+    // Whether the characters of the permitted set follow one another without a gap.
+    run: bool,
+    // Whether the words are those of the set that counts: where its characters are below 256, and
+    // leave gaps.
+    worded: bool,
+    set: &'s [u32],
+    words: CharacterWords,
+    ghost known: { IsKnown name (some_if kept set) width indexed sorted run (some_if worded words) },
 }
 
 impl<'s> CharacterAlphabet<'s> {
@@ -58,15 +64,21 @@ impl<'s> CharacterAlphabet<'s> {
         let name = S::CHARACTER_SET_NAME;
         let permitted = kept_set(name, permitted, aligned);
         let width = width_for(aligned, count_of(name, permitted));
-        let indexed = codes_of(width) <= largest_in(name, permitted) as u64;
-        let sorted = is_sorted(name, permitted);
-        let words = words_of(name, permitted);
+        let largest = largest_in(name, permitted);
+        let indexed = codes_of(width) <= largest as u64;
+        let run = is_run_in(name, permitted);
+        let sorted = is_sorted(name, permitted, run);
+        let (kept, set) = parts_of_set(permitted);
+        let (worded, words) = parts_of_words(words_of(name, permitted, run, largest));
         CharacterAlphabet {
             name,
-            permitted,
-            width: width as usize,
+            width: width as u8,
             indexed,
+            kept,
             sorted,
+            run,
+            worded,
+            set,
             words,
         }
     }
@@ -77,11 +89,12 @@ impl<'s> CharacterAlphabet<'s> {
         ensures bound { result ≤ 32 }
         ensures codes { (c k : ℕ) → IsCode (alphabet_of self.now) c k → k < 2 ^ result }
     {
-        self.width
+        self.width as usize
     }
 
     /// A code of the character. Where it has none, it is `CharacterNotFound` in a permitted set,
     /// and the string's own error in a base set.
+    #[inline]
     pub fn encode(&self, character: u32) -> Result<u32, PermittedAlphabetError>
         ensures { Encodes (alphabet_of self.now) character result }
     {
@@ -89,6 +102,7 @@ impl<'s> CharacterAlphabet<'s> {
     }
 
     /// As `encode`. In a set of more than 64 characters that never falls it makes few probes.
+    #[inline]
     pub fn encode_counted(
         &self,
         character: u32,
@@ -116,6 +130,7 @@ impl<'s> CharacterAlphabet<'s> {
 
     /// The character of the code. A place past the set is `IndexNotFound`; a value that is not in
     /// the set is refused as by `encode`.
+    #[inline]
     pub fn decode(&self, code: u32) -> Result<u32, PermittedAlphabetError>
         ensures { Decodes (alphabet_of self.now) code result }
     {
@@ -140,17 +155,33 @@ impl<'s> CharacterAlphabet<'s> {
         ensures once { result ≡ false → (c j k : ℕ) → IsCode (alphabet_of self.now) c j →
             IsCode (alphabet_of self.now) c k → j ≡ k }
     {
-        match self.permitted {
-            Some(set) => repeats_in(set),
+        match self.permitted() {
+            Some(set) => repeats_in(set, self.sorted),
             None => false,
         }
+    }
+
+    // The permitted set, where it is kept.
+    #[inline]
+    fn permitted(&self) -> Option<&'s [u32]>
+        ensures { result ≡ some_if self.now.kept self.now.set }
+    {
+        if self.kept { Some(self.set) } else { None }
+    }
+
+    // The words of the set that counts, where it has any.
+    #[inline]
+    fn words(&self) -> Option<CharacterWords>
+        ensures { result ≡ some_if self.now.worded self.now.words }
+    {
+        if self.worded { Some(self.words) } else { None }
     }
 
     // The error for a character that the set lacks.
     fn missing(&self, character: u32) -> PermittedAlphabetError
         ensures { result ≡ missing_error (alphabet_of self.now) character }
     {
-        match self.permitted {
+        match self.permitted() {
             Some(_) => PermittedAlphabetError::CharacterNotFound { character },
             None => PermittedAlphabetError::InvalidRestrictedString {
                 source: InvalidRestrictedString::of(self.name, character),
@@ -159,22 +190,24 @@ impl<'s> CharacterAlphabet<'s> {
     }
 
     // Whether the set has the character: by its words where it has any.
+    #[inline]
     fn contains(&self, character: u32, probes: &mut Turns) -> bool
         ensures value { result ≡ has_character (alphabet_of self.now).characters character }
         ensures counts { probes.old.count ≤ probes.new.count }
         ensures cost { let set = (alphabet_of self.now).characters in
             IsLongAscending set → probes.new.count ≤ probes.old.count + ceil_log2 (length set) + 1 }
     {
-        match self.words {
+        match self.words() {
             Some(words) => character < 256 && words.contains(character),
-            None => match self.permitted {
-                Some(set) => place_among(set, self.sorted, character, probes).is_some(),
+            None => match self.permitted() {
+                Some(set) => place_among(set, self.run, self.sorted, character, probes).is_some(),
                 None => self.name.contains(character),
             },
         }
     }
 
     // A place of the character.
+    #[inline]
     fn place_of(&self, character: u32, probes: &mut Turns) -> Option<u32>
         requires { self.now.indexed ≡ true }
         ensures place { let set = (alphabet_of self.now).characters in
@@ -186,26 +219,56 @@ impl<'s> CharacterAlphabet<'s> {
         ensures looked { IsLongAscending (alphabet_of self.now).characters →
             OnSome result (probes.old.count + 1 ≤ probes.new.count) }
     {
-        match self.permitted {
-            Some(set) => place_among(set, self.sorted, character, probes),
+        match self.permitted() {
+            Some(set) => place_among(set, self.run, self.sorted, character, probes),
             None => self.name.place_of(character),
         }
     }
 
     // The character at a place.
+    #[inline]
     fn character_at(&self, place: u32) -> Option<u32>
         ensures { result ≡ slice_get (alphabet_of self.now).characters place }
     {
-        match self.permitted {
+        match self.permitted() {
             Some(set) => set.get(place as usize).copied(),
             None => self.name.character_at(place),
         }
     }
 }
 
-// A place of the character, by halves where the set is long and never falls.
-fn place_among(set: &[u32], sorted: bool, character: u32, probes: &mut Turns) -> Option<u32>
+// A place of the character in a run: how far it is from the first, which is one probe.
+#[inline]
+fn place_in_run(set: &[u32], character: u32, probes: &mut Turns) -> Option<u32>
     requires few { length set.now ≤ 2 ^ 32 }
+    requires run { IsRun set.now }
+    ensures place { MatchOption result (has_character set.now character ≡ false)
+        (λ k. slice_get set.now k ≡ Some character) }
+    ensures probe { probes.new.count ≡ probes.old.count + 1 }
+{
+    probes.tick();
+    if set.is_empty() {
+        return None;
+    }
+    let first = set[0];
+    if first <= character && ((character - first) as usize) < set.len() {
+        Some(character - first)
+    } else {
+        None
+    }
+}
+
+// A place of the character, by halves where the set is long and never falls.
+#[inline]
+fn place_among(
+    set: &[u32],
+    run: bool,
+    sorted: bool,
+    character: u32,
+    probes: &mut Turns,
+) -> Option<u32>
+    requires few { length set.now ≤ 2 ^ 32 }
+    requires gapless { run ≡ true → IsRun set.now }
     requires rises { sorted ≡ true → IsNonDecreasing set.now }
     requires falls { sorted ≡ false → ¬ (IsNonDecreasing set.now) }
     ensures place { MatchOption result (has_character set.now character ≡ false)
@@ -215,7 +278,9 @@ fn place_among(set: &[u32], sorted: bool, character: u32, probes: &mut Turns) ->
         probes.new.count ≤ probes.old.count + ceil_log2 (length set.now) + 1 }
     ensures looked { IsLongAscending set.now → OnSome result (probes.old.count + 1 ≤ probes.new.count) }
 {
-    if sorted && set.len() > 64 {
+    if run {
+        place_in_run(set, character, probes)
+    } else if sorted && set.len() > 64 {
         let place = find_ascending(&set, character, probes)?;
         Some(place as u32)
     } else {
@@ -263,26 +328,63 @@ fn largest_in(name: CharacterSetName, kept: Option<&[u32]>) -> u32
 }
 
 // Whether a permitted set that was kept never falls.
-fn is_sorted(name: CharacterSetName, kept: Option<&[u32]>) -> bool
+fn is_sorted(name: CharacterSetName, kept: Option<&[u32]>, run: bool) -> bool
+    requires { run ≡ true → IsRun (set_of name kept) }
     ensures rises { result ≡ true → IsNonDecreasing (set_of name kept.entry) }
     ensures falls { result ≡ false → is_some kept.entry ≡ true → ¬ (IsNonDecreasing (set_of name kept.entry)) }
 {
     match kept {
-        Some(set) => is_ascending(set),
+        Some(set) => run || is_ascending(set),
+        None => false,
+    }
+}
+
+// Whether a permitted set that was kept leaves no gap.
+fn is_run_in(name: CharacterSetName, kept: Option<&[u32]>) -> bool
+    ensures { result ≡ true → IsRun (set_of name kept.entry) }
+{
+    match kept {
+        Some(set) => is_run(set),
         None => false,
     }
 }
 
 // The words of the set that counts, where its characters are below 256.
-fn words_of(name: CharacterSetName, kept: Option<&[u32]>) -> Option<CharacterWords>
+fn words_of(
+    name: CharacterSetName,
+    kept: Option<&[u32]>,
+    run: bool,
+    most: u32,
+) -> Option<CharacterWords>
+    requires { most ≡ largest (set_of name kept) }
     ensures { ForSome result (HasWords (set_of name kept.entry)) }
 {
     match kept {
-        Some(set) if largest_of(set) < 256 => Some(CharacterWords::of(set)),
+        Some(set) if !run && most < 256 => Some(CharacterWords::of(set)),
         Some(_) => None,
         None => match name {
             CharacterSetName::Bmp => None,
             _ => Some(name.words()),
         },
+    }
+}
+
+// Whether a permitted set is kept, and the set, or none.
+fn parts_of_set<'s>(kept: Option<&'s [u32]>) -> (bool, &'s [u32])
+    ensures { some_if result.0 result.1 ≡ kept.entry }
+{
+    match kept {
+        Some(set) => (true, set),
+        None => (false, &[]),
+    }
+}
+
+// Whether there are words, and the words, or those of no character.
+fn parts_of_words(words: Option<CharacterWords>) -> (bool, CharacterWords)
+    ensures { some_if result.0 result.1 ≡ words }
+{
+    match words {
+        Some(words) => (true, words),
+        None => (false, CharacterWords::new(0, 0, 0, 0)),
     }
 }

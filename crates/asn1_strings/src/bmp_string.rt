@@ -1,5 +1,5 @@
 //! `BmpString`.
-ghost use Rattle.std.specs.Prelude.{◌≡◌, ◌≢◌, [], Ok, IfOk, OnErr, refl};
+ghost use Rattle.std.specs.Prelude.{◌≡◌, ◌≢◌, ◌*◌, [], length, Ok, IfOk, OnErr, refl};
 ghost use Rattle.std.specs.List.{flat_map};
 ghost use Rattle.std.specs.Int.{w16, to_be_bytes};
 ghost use Rattle.asn1_strings.specs.Strings.{character_octets, string_of_octets};
@@ -39,10 +39,22 @@ impl RestrictedString<Bmp> {
             IfOk result (λ v. string_of_octets name width v.items ≡ Ok self.now) }
         ensures memory { OnErr result (self.now ≢ []) }
     {
+        let units = self.as_slice();
         let mut bytes = Vec::new(alloc);
-        for unit in self.as_slice() {
-            bytes.extend_from_slice(&unit.to_be_bytes())?;
-        }
+        bytes.resize(2 * units.len(), 0)?;
+        put_octets(bytes.as_mut_slice(), units);
         Ok(bytes)
+    }
+}
+
+// Puts the two octets of each unit in their places, the higher first.
+fn put_octets(octets: &mut [u8], units: &[u16])
+    requires { length octets.old ≡ 2 * length units.now }
+    ensures { octets.new ≡ flat_map (to_be_bytes w16) units.now }
+{
+    for (i, unit) in units.iter().enumerate() {
+        let [high, low] = unit.to_be_bytes();
+        octets[2 * i] = high;
+        octets[2 * i + 1] = low;
     }
 }

@@ -114,6 +114,28 @@ impl CharacterSetName {
         }
     }
 
+    // Whether the set has the character that an octet spells: by ranges, without a branch.
+    pub(crate) fn has_octet(self, octet: u8) -> bool
+        ensures { result ≡ has_character (base_set self) octet }
+    {
+        match self {
+            CharacterSetName::Bmp | CharacterSetName::Teletex => true,
+            CharacterSetName::General => (octet <= 0x7F) | (octet >= 0xA1),
+            CharacterSetName::Graphic => ((0x20 <= octet) & (octet <= 0x7E)) | (octet >= 0xA1),
+            CharacterSetName::IA5 => octet <= 0x7F,
+            CharacterSetName::Numeric => (octet == 0x20) | ((0x30 <= octet) & (octet <= 0x39)),
+            CharacterSetName::Printable => {
+                let letter = octet | 0x20;
+                ((0x61 <= letter) & (letter <= 0x7A))
+                    | ((0x27 <= octet) & (octet <= 0x3A) & (octet != 0x2A))
+                    | (octet == 0x20)
+                    | (octet == 0x3D)
+                    | (octet == 0x3F)
+            }
+            CharacterSetName::Visible => (0x20 <= octet) & (octet <= 0x7E),
+        }
+    }
+
     // The words of a base set. That of `BmpString` is larger, and has none.
     pub(crate) fn words(self) -> CharacterWords
         requires { self ≢ Bmp }

@@ -1,7 +1,15 @@
 //! How strings keep a character.
-ghost use Rattle.std.specs.Prelude.{◌≡◌, ◌≤◌, ◌<◌, ℕ};
+ghost use Rattle.std.specs.Prelude.{◌≡◌, ◌≢◌, ◌≤◌, ◌<◌, ℕ, true, [], nat_eq, length, map, All, IfOk, OnErr};
+ghost use Rattle.std.specs.Ordering.{nat_cmp};
+ghost use Rattle.std.specs.Cmp.Lexicographic.{pointwise, slice_cmp};
+ghost use Rattle.std.specs.Int.{w16, from_be_bytes};
 ghost use Rattle.std.proofs.Common.{lit≤};
+ghost use Rattle.asn1_strings.specs.Sets.{base_set, has_character};
+ghost use Rattle.asn1_strings.specs.Pieces.{pieces, unsigned};
 
+use crate::character_set::CharacterSetName;
+use std::alloc::{AllocError, Global};
+use std::cmp::Ordering;
 use std::fmt;
 
 /// An integer in which a string keeps one character: `u16` in `BmpString`, `u8` in the other strings.
@@ -26,6 +34,25 @@ pub trait CodeUnit: Copy + Drop + fmt::Debug {
         requires { character < limit }
         ensures { value result ≡ character };
 
+    /// Whether a set was seen to have each character of these octets. None of them ends the test, so
+    /// that many are tested at once.
+    fn are_in(name: CharacterSetName, octets: &[u8]) -> bool
+        ensures { result ≡ true → All (λ c. has_character (base_set name) c ≡ true)
+            (map unsigned (pieces OCTETS octets.now)) };
+
+    /// The units of these octets. Memory is asked for where there are any.
+    fn of_octets(alloc: Global, octets: &[u8]) -> Result<Vec<Self>, AllocError>
+        ensures units { IfOk result (λ v. map value v.items ≡ map unsigned (pieces OCTETS octets.now)) }
+        ensures memory { OnErr result (map unsigned (pieces OCTETS octets.now) ≢ []) };
+
+    /// Whether two runs of units have the same characters.
+    fn are_equal(xs: &[Self], ys: &[Self]) -> bool
+        ensures { result ≡ pointwise nat_eq (map value xs.now) (map value ys.now) };
+
+    /// How two runs of units compare, character by character.
+    fn compare(xs: &[Self], ys: &[Self]) -> Ordering
+        ensures { result ≡ slice_cmp nat_cmp (map value xs.now) (map value ys.now) };
+
     ghost few_octets: { OCTETS ≤ 4 };
 }
 
@@ -44,6 +71,29 @@ impl CodeUnit for u8 {
 
     fn from_character(character: u32) -> u8 {
         character as u8
+    }
+
+    fn are_in(name: CharacterSetName, octets: &[u8]) -> bool {
+        let mut right = true;
+        for octet in octets {
+            right = right & name.has_octet(*octet);
+        }
+        right
+    }
+
+    fn of_octets(alloc: Global, octets: &[u8]) -> Result<Vec<u8>, AllocError> {
+        if octets.is_empty() {
+            return Ok(Vec::new(alloc));
+        }
+        Vec::from_slice(alloc, octets)
+    }
+
+    fn are_equal(xs: &[u8], ys: &[u8]) -> bool {
+        xs == ys
+    }
+
+    fn compare(xs: &[u8], ys: &[u8]) -> Ordering {
+        xs.cmp(ys)
     }
 
     ghost few_octets = { lit≤ tt };
@@ -66,5 +116,40 @@ impl CodeUnit for u16 {
         character as u16
     }
 
+    fn are_in(name: CharacterSetName, octets: &[u8]) -> bool {
+        let (pairs, _) = octets.as_chunks::<2>();
+        let mut right = true;
+        for pair in pairs {
+            right = right & name.contains(u32::from(u16::from_be_bytes(*pair)));
+        }
+        right
+    }
+
+    fn of_octets(alloc: Global, octets: &[u8]) -> Result<Vec<u16>, AllocError> {
+        let (pairs, _) = octets.as_chunks::<2>();
+        let mut units = Vec::new(alloc);
+        units.resize(pairs.len(), 0)?;
+        put_pairs(units.as_mut_slice(), pairs);
+        Ok(units)
+    }
+
+    fn are_equal(xs: &[u16], ys: &[u16]) -> bool {
+        xs == ys
+    }
+
+    fn compare(xs: &[u16], ys: &[u16]) -> Ordering {
+        xs.cmp(ys)
+    }
+
     ghost few_octets = { lit≤ tt };
+}
+
+// Puts the number of each pair of octets in its unit.
+fn put_pairs(units: &mut [u16], pairs: &[[u8; 2]])
+    requires { length units.old ≡ length pairs.now }
+    ensures { units.new ≡ map (from_be_bytes w16) pairs.now }
+{
+    for (i, pair) in pairs.iter().enumerate() {
+        units[i] = u16::from_be_bytes(*pair);
+    }
 }

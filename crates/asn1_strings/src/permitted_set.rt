@@ -2,6 +2,7 @@
 ghost use Rattle.std.specs.Prelude.{◌≡◌, ◌≢◌, ◌≤◌, ◌^◌, ℕ, true, false, AllPairs, length, slice_get, Some, MatchBool, MatchOption};
 ghost use Rattle.std.specs.List.Sorted.{IsNonDecreasing};
 ghost use Rattle.asn1_strings.specs.Sets.{has_character, largest};
+ghost use Rattle.asn1_strings.specs.AlphabetInMemory.{IsRun};
 
 // The largest character, or 0.
 pub(crate) fn largest_of(set: &[u32]) -> u32
@@ -28,13 +29,30 @@ pub(crate) fn place_in(set: &[u32], character: u32) -> Option<u32>
     None
 }
 
-// Whether the list has a character twice.
-pub(crate) fn repeats_in(set: &[u32]) -> bool
+// Whether the list has a character twice. One that never falls is walked once.
+pub(crate) fn repeats_in(set: &[u32], sorted: bool) -> bool
+    requires { sorted ≡ true → IsNonDecreasing set.now }
     ensures { MatchBool result (¬ (AllPairs (λ a b. a ≢ b) set.now)) (AllPairs (λ a b. a ≢ b) set.now) }
 {
+    if sorted {
+        return repeats_in_ascending(set);
+    }
     for i in 0..set.len() {
         let rest = &set[i + 1..];
         if rest.contains(&set[i]) {
+            return true;
+        }
+    }
+    false
+}
+
+// Whether a list that never falls has a character twice: then two neighbours are equal.
+fn repeats_in_ascending(set: &[u32]) -> bool
+    requires { IsNonDecreasing set.now }
+    ensures { MatchBool result (¬ (AllPairs (λ a b. a ≢ b) set.now)) (AllPairs (λ a b. a ≢ b) set.now) }
+{
+    for i in 1..set.len() {
+        if set[i] == set[i - 1] {
             return true;
         }
     }
@@ -52,4 +70,23 @@ pub(crate) fn is_ascending(set: &[u32]) -> bool
         }
     }
     true
+}
+
+// Whether the characters follow one another without a gap. None of them ends the test, so that many
+// are tested at once.
+pub(crate) fn is_run(set: &[u32]) -> bool
+    ensures { result ≡ true → IsRun set.now }
+{
+    let Some(first) = set.first() else {
+        return true;
+    };
+    let first = *first;
+    if first as u64 + set.len() as u64 > 1 << 32 {
+        return false;
+    }
+    let mut run = true;
+    for (i, character) in set.iter().enumerate() {
+        run = run & (*character == first + i as u32);
+    }
+    run
 }

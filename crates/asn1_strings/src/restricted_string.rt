@@ -80,6 +80,16 @@ impl<K: StringKind> StaticPermittedAlphabet for RestrictedString<K> {
         self.units.len()
     }
 
+    fn from_units(units: Vec<K::T>) -> Self
+        requires { All (λ c. has_character (base_set K.NAME) c ≡ true) (map K.T.value units.items) }
+        ensures { result ≡ map K.T.value units.items }
+    {
+        RestrictedString {
+            units,
+            kind: PhantomData,
+        }
+    }
+
     fn chars(&self) -> Chars<'_, K::T> {
         Chars::of(self.units.as_slice())
     }
@@ -112,17 +122,6 @@ impl<K: StringKind> RestrictedString<K> {
         self.units
     }
 
-    // The string of these units.
-    pub(crate) fn from_units(units: Vec<K::T>) -> Self
-        requires { All (λ c. has_character (base_set K.NAME) c ≡ true) (map K.T.value units.items) }
-        ensures { result ≡ map K.T.value units.items }
-    {
-        RestrictedString {
-            units,
-            kind: PhantomData,
-        }
-    }
-
     /// A copy. Memory is asked for where the string is not empty.
     pub fn clone(&self) -> Result<Self, AllocError>
         ensures same { IfOk result (λ s. s ≡ self.now) }
@@ -146,7 +145,7 @@ impl<K: StringKind> PartialEq for RestrictedString<K> {
     ghost laws = { partial_equiv_from_equiv nat_list_eq_equiv };
 
     fn eq(&self, other: &Self) -> bool {
-        self.cmp(other).is_eq()
+        K::T::are_equal(self.units.as_slice(), other.units.as_slice())
     }
 }
 
@@ -174,7 +173,7 @@ impl<K: StringKind> Ord for RestrictedString<K> {
     ghost matches_eq = { texts_ties };
 
     fn cmp(&self, other: &Self) -> Ordering {
-        self.chars().cmp(other.chars())
+        K::T::compare(self.units.as_slice(), other.units.as_slice())
     }
 }
 

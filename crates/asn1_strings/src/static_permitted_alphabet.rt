@@ -1,11 +1,12 @@
 //! What the eight strings have in common.
-ghost use Rattle.std.specs.Prelude.{◌≡◌, ◌≤◌, ◌^◌, ◌==◌, ◌⊎◌, ℕ, Bool, true, List, [], ◌∷◌, ◌++◌, length, All, Ok, None, OnOk, OnErr, string_bytes};
+ghost use Rattle.std.specs.Prelude.{◌≡◌, ◌≤◌, ◌^◌, ◌==◌, ◌⊎◌, ℕ, Bool, true, List, [], ◌∷◌, ◌++◌, length, map, All, Ok, None, OnOk, OnErr, string_bytes};
 ghost use Rattle.asn1_bits.specs.BitStr.{bits_of};
 ghost use Rattle.asn1_strings.specs.Sets.{base_set, base_count, base_largest, base_width, base_indexed, has_character};
 ghost use Rattle.std.specs.Option.{ForSome, option_copied};
 ghost use Rattle.std.specs.BTreeMap.{btree_map_len};
 ghost use Rattle.asn1_strings.specs.Maps.{string_of_alphabet};
 ghost use Rattle.asn1_strings.specs.Errors.{own_error};
+ghost use Rattle.asn1_strings.specs.Pieces.{pieces, unsigned};
 ghost use Rattle.asn1_strings.specs.Strings.{Answers, character_octets, string_of_characters, string_of_octets, string_of_bits};
 
 use crate::character_set::CharacterSetName;
@@ -79,6 +80,11 @@ pub trait StaticPermittedAlphabet: Sized + Drop {
     fn len(&self) -> usize
         ensures { result ≡ length (characters self.now) };
 
+    /// The string of these units, each of which the caller knows to be in the set.
+    fn from_units(units: Vec<Self::T>) -> Self
+        requires { All (λ c. has_character (base_set CHARACTER_SET_NAME) c ≡ true) (map Self.T.value units.items) }
+        ensures { characters result ≡ map Self.T.value units.items };
+
     /// Its characters, in their order.
     fn chars(&self) -> Chars<'_, Self::T>
         ensures list { result ≡ characters self.now }
@@ -117,6 +123,10 @@ pub trait StaticPermittedAlphabet: Sized + Drop {
                 length: input.len(),
                 width,
             });
+        }
+        let name = Self::CHARACTER_SET_NAME;
+        if width == <Self::T as CodeUnit>::OCTETS && <Self::T as CodeUnit>::are_in(name, input) {
+            return copied_octets::<Self>(alloc, input);
         }
         let octets = OctetPieces {
             octets: input,
@@ -274,4 +284,17 @@ fn copied<S: StaticPermittedAlphabet, C: Characters>(
         string.push_char(source.character(i))?;
     }
     Ok(string)
+}
+
+// The string of octets whose characters its set has: all at once.
+fn copied_octets<S: StaticPermittedAlphabet>(
+    alloc: Global,
+    octets: &[u8],
+) -> Result<S, PermittedAlphabetError>
+    requires { All (λ c. has_character (base_set S.CHARACTER_SET_NAME) c ≡ true)
+        (map unsigned (pieces S.T.OCTETS octets.now)) }
+    ensures { Answers S.characters result (Ok (map unsigned (pieces S.T.OCTETS octets.now))) }
+{
+    let units = <S::T as CodeUnit>::of_octets(alloc, octets)?;
+    Ok(S::from_units(units))
 }

@@ -10,7 +10,7 @@ use Rattle.asn1_strings.specs.Sets.{has_character}
 use Rattle.asn1_strings.specs.Alphabet.{Alphabet, IsCode}
 use Rattle.asn1_values.specs.Fields.{Field, IsSpelledBy, IsOfShape, Character, OfCharacter}
 use Rattle.asn1_values.specs.Wrong.{Fault, Short, NoCharacter, IsReason}
-use Rattle.asn1_values.specs.Walk.{◌>>=◌, character_of, character_or_none, character_content, cut_at, field_at}
+use Rattle.asn1_values.specs.Walk.{with_rest, character_of, character_or_none, character_content, cut_at, field_at}
 use Rattle.asn1_values.proofs.ExactKinds.{IsExact, Read, cut_exact, held_is, no_fault, fault_is, no_field}
 
 -- ---- the character of a code
@@ -85,9 +85,6 @@ character_exact a fit = cut_exact (OfCharacter a) a.width (character_content a) 
 
 -- ---- what is read of them
 
-after : ℕ → List Bool → Field → Read
-after n list field = Ok (field, drop n list)
-
 failed : Fault → Read
 failed fault = Err fault
 
@@ -96,17 +93,16 @@ unfolding failed
 chosen_ok true fault r e = absurd cc
 chosen_ok false fault r e = (refl, e)
 
-coded : (a : Alphabet) (k : ℕ) (list : List Bool) (o : Option ℕ) → character_of a k ≡ o → is_ok (character_or_none a k o >>= after a.width list) ≡ true → (c : ℕ) × IsCode a c k
-unfolding after
-coded a k list (Some c) e h = (c, code_from_character a c k e)
-coded a k list None e h = absurd cc
+coded : (a : Alphabet) (k : ℕ) (rest : List Bool) (o : Option ℕ) → character_of a k ≡ o → is_ok (with_rest rest (character_or_none a k o)) ≡ true → (c : ℕ) × IsCode a c k
+coded a k rest (Some c) e h = (c, code_from_character a c k e)
+coded a k rest None e h = absurd cc
 
 pub character_there : (a : Alphabet) (list : List Bool) → is_ok (field_at (OfCharacter a) list) ≡ true → (a.width ≤ length list) × ((c : ℕ) × IsCode a c (number (take a.width list)))
-unfolding field_at cut_at after failed
+unfolding field_at cut_at failed
 character_there a list ok =
     let k : ℕ = number (take a.width list) in
-    let h = chosen_ok (ltb (length list) a.width) (Short (a.width - length list)) (character_content a (take a.width list) >>= after a.width list) ok in
-    (ltb-false _ _ h.0, coded a k list (character_of a k) refl h.1)
+    let h = chosen_ok (ltb (length list) a.width) (Short (a.width - length list)) (with_rest (drop a.width list) (character_content a (take a.width list))) ok in
+    (ltb-false _ _ h.0, coded a k (drop a.width list) (character_of a k) refl h.1)
 
 pub character_refused : (a : Alphabet) (list : List Bool) (k : ℕ) → a.width ≤ length list → k ≡ number (take a.width list) → ((c : ℕ) → ¬ (IsCode a c k)) → field_at (OfCharacter a) list ≡ Err (NoCharacter k)
 unfolding field_at cut_at

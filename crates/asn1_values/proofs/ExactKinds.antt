@@ -1,10 +1,10 @@
 -- For each kind: what is taken is spelled so, what is spelled so is taken again, and a refusal has its reason.
-use Rattle.std.proofs.Common.{◌≡◌, ℕ, ◌-◌, ◌<◌, ◌≤◌, Bool, true, false, cond, ltb, List, ◌++◌, length, take, drop, Result, Ok, Err, refl, sym, subst, arith, inl, inr, ◌⊎◌}
+use Rattle.std.proofs.Common.{◌≡◌, ℕ, ◌-◌, ◌<◌, ◌≤◌, Bool, true, false, cond, ltb, List, ◌++◌, length, take, drop, Result, Ok, Err, refl, sym, ap, subst, ◌∙◌, arith, inl, inr, ◌⊎◌}
 use Rattle.std.proofs.lemmas.List.{length-append, take_at, drop_at, length-take, take-append-drop}
 use Rattle.std.proofs.lemmas.Bool.{ltb-true, ltb-false, le-ltb}
 use Rattle.asn1_values.specs.Fields.{Field, Shape, IsSpelledBy, IsOfShape}
 use Rattle.asn1_values.specs.Wrong.{Fault, Short, IsShortBy, IsReason}
-use Rattle.asn1_values.specs.Walk.{◌>>=◌, cut_at}
+use Rattle.asn1_values.specs.Walk.{with_rest, cut_at}
 
 -- the field stands at the front of the list, and the rest follows
 pub record Takes (shape : Shape) (list : List Bool) (field : Field) (rest : List Bool) : Type 0 where
@@ -28,14 +28,6 @@ pub record HoldsExactly (shape : Shape) (n : ℕ) (content : List Bool → Resul
 
 -- ---- steps that may fail
 
-pub bind_ok : {A B E : Type 0} (r : Result A E) (f : A → Result B E) (y : B) → (r >>= f) ≡ Ok y → (x : A) × (r ≡ Ok x) × (f x ≡ Ok y)
-bind_ok (Ok x) f y e = (x, refl, e)
-bind_ok (Err d) f y e = absurd cc
-
-pub bind_err : {A B E : Type 0} (r : Result A E) (f : A → Result B E) (d : E) → (r >>= f) ≡ Err d → (r ≡ Err d) ⊎ ((x : A) × (r ≡ Ok x) × (f x ≡ Err d))
-bind_err (Ok x) f d e = inr (x, refl, e)
-bind_err (Err c) f d e = inl (cc)
-
 pub chosen : {A : Type 0} (b : Bool) (x y z : A) → cond b x y ≡ z → ((b ≡ true) × (x ≡ z)) ⊎ ((b ≡ false) × (y ≡ z))
 chosen true x y z e = inl (refl, e)
 chosen false x y z e = inr (refl, e)
@@ -55,24 +47,39 @@ err_is_no_ok c x e = cc
 pub ok_is_no_err : (x : Field × List Bool) (c : Fault) → ◌≡◌ {A = Read} (Ok x) (Err c) → ⊥
 ok_is_no_err x c e = cc
 
+abbrev pub Held : Type 0
+Held = Result Field Fault
+
+-- what was given with the rest was held, and that is the rest
+held_with : (r : Held) (rest left : List Bool) (field : Field) → with_rest rest r ≡ Ok (field, left) → (r ≡ Ok field) × (rest ≡ left)
+held_with (Ok x) rest left field e =
+    let same : (x, rest) ≡ (field, left) = ok_is (x, rest) (field, left) e in
+    (ap (λ (p : Field × List Bool). Ok p.0) same, ap (λ (p : Field × List Bool). p.1) same)
+held_with (Err fault) rest left field e = absurd (err_is_no_ok fault (field, left) e)
+
+-- and a fault was met in what was held
+fault_with : (r : Held) (rest : List Bool) (fault : Fault) → with_rest rest r ≡ Err fault → r ≡ Err fault
+fault_with (Ok x) rest fault e = absurd (ok_is_no_err (x, rest) fault e)
+fault_with (Err other) rest fault e = ap (λ (f : Fault). Err f) (err_is other fault e)
+
 -- ---- from the bits of a whole field to the bits that begin with it
 
 module _ (shape : Shape) (n : ℕ) (content : List Bool → Result Field Fault) (exact : HoldsExactly shape n content) where
-  step : List Bool → Field → Read
-  step list field = Ok (field, drop n list)
-
   cut_taken : (list : List Bool) (field : Field) (rest : List Bool) → cut_at n content list ≡ Ok (field, rest) → Takes shape list field rest
-  unfolding cut_at step
+  unfolding cut_at
   cut_taken list field rest e =
-      elim (chosen (ltb (length list) n) (Err (Short (n - length list))) (content (take n list) >>= step list) (Ok (field, rest)) e) [
+      elim (chosen (ltb (length list) n) (Err (Short (n - length list))) (with_rest (drop n list) (content (take n list))) (Ok (field, rest)) e) [
         | inl h ↦ absurd (err_is_no_ok _ _ h.1)
         | inr h ↦
             let long : n ≤ length list = ltb-false _ _ h.0 in
-            let b = bind_ok (content (take n list)) (step list) (field, rest) h.1 in
-            let same : (b.0, drop n list) ≡ (field, rest) = ok_is (b.0, drop n list) (field, rest) b.2 in
-            let t = exact.taken (take n list) b.0 (omega (arith, length-take n list)) b.1 in
-            let takes : Takes shape list b.0 (drop n list) = record { front = take n list; of_shape = t.0; spelled = t.1; parts = sym (take-append-drop n list) } in
-            subst (λ (p : Field × List Bool). Takes shape list p.0 p.1) same takes
+            let b = held_with (content (take n list)) (drop n list) rest field h.1 in
+            let t = exact.taken (take n list) field (omega (arith, length-take n list)) b.0 in
+            record {
+              front = take n list;
+              of_shape = t.0;
+              spelled = t.1;
+              parts = sym (take-append-drop n list) ∙ ap (λ (l : List Bool). take n list ++ l) b.1;
+            }
       ]
 
   cut_again : (field : Field) (front rest : List Bool) → IsOfShape field shape → IsSpelledBy field front → cut_at n content (front ++ rest) ≡ Ok (field, rest)
@@ -83,27 +90,22 @@ module _ (shape : Shape) (n : ℕ) (content : List Bool → Result Field Fault) 
       rw (long, take_at front rest n a.0, drop_at front rest n a.0, a.1) refl
 
   cut_reason : (list : List Bool) (fault : Fault) → cut_at n content list ≡ Err fault → IsReason shape list fault
-  unfolding cut_at step
+  unfolding cut_at
   cut_reason list fault e =
-      elim (chosen (ltb (length list) n) (Err (Short (n - length list))) (content (take n list) >>= step list) (Err fault) e) [
+      elim (chosen (ltb (length list) n) (Err (Short (n - length list))) (with_rest (drop n list) (content (take n list))) (Err fault) e) [
         | inl h ↦
             let short : length list < n = ltb-true _ _ h.0 in
             subst (λ (f : Fault). IsReason shape list f) (err_is _ _ h.1) (exact.short list (n - length list) (omega arith, omega arith))
         | inr h ↦
             let long : n ≤ length list = ltb-false _ _ h.0 in
-            elim (bind_err (content (take n list)) (step list) fault h.1) [
-              | inl c ↦ subst (λ (l : List Bool). IsReason shape l fault) (take-append-drop n list) (exact.reason (take n list) (drop n list) fault (omega (arith, length-take n list)) c)
-              | inr c ↦ absurd (ok_is_no_err _ _ c.2)
-            ]
+            let c = fault_with (content (take n list)) (drop n list) fault h.1 in
+            subst (λ (l : List Bool). IsReason shape l fault) (take-append-drop n list) (exact.reason (take n list) (drop n list) fault (omega (arith, length-take n list)) c)
       ]
 
   pub cut_exact : IsExact shape (cut_at n content)
   cut_exact = record { taken = cut_taken; again = cut_again; reason = cut_reason }
 
 -- ---- what the bits of a whole field hold
-
-abbrev pub Held : Type 0
-Held = Result Field Fault
 
 pub held_is : (x y : Field) → ◌≡◌ {A = Held} (Ok x) (Ok y) → x ≡ y
 held_is x y e = cc

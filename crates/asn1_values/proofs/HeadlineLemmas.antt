@@ -1,7 +1,7 @@
 -- From the walk to the headline.
 use Rattle.std.proofs.Common.{◌≡◌, ℕ, ◌+◌, ◌*◌, ◌<◌, ◌≤◌, Bool, true, List, [], ◌∷◌, ◌++◌, length, take, drop, Result, Ok, Err, refl, sym, ap, subst, ◌∙◌, arith}
 use Rattle.std.specs.Prelude.{is_ok}
-use Rattle.std.specs.List.{AllZip}
+use Rattle.std.specs.List.{AllZip, AllByRecursion}
 use Rattle.std.proofs.lemmas.List.{length-take, take-append-drop, append-nil, length-append}
 use Rattle.asn1_values.specs.declared.bit_fields.error.ReadError.{ReadError}
 use Rattle.asn1_values.specs.declared.bit_fields.shape.Shape.{Shape}
@@ -9,10 +9,10 @@ use Rattle.asn1_values.specs.declared.bit_fields.shape.Shape.TheVariants as shap
 use Rattle.std.specs.Prelude.{All}
 use Rattle.asn1_bits.specs.Bits.{bits}
 use Rattle.asn1_values.specs.Plain.{plain_shape, plain_shapes}
-use Rattle.asn1_values.proofs.ExactKinds.{IsExact}
+use Rattle.asn1_values.proofs.ExactKinds.{IsExact, ok_is}
 use Rattle.asn1_values.specs.Fields as plain
-use Rattle.asn1_values.specs.Fields.{IsOfShape, AreSpelledBy, Begins}
-use Rattle.asn1_values.specs.Wrong.{Fault, NumberWidth, NotInteger, Short, NoCharacter, CanBegin, IsFirstFault}
+use Rattle.asn1_values.specs.Fields.{IsOfShape, AreSpelledBy, Begins, NoSpellingBeginsAnother, NoneBeginsAnother}
+use Rattle.asn1_values.specs.Wrong.{Fault, NumberWidth, NotInteger, Short, NoCharacter, NoLength, NotIdentifier, ArcOver, CanBegin, IsFirstFault}
 use Rattle.asn1_values.specs.Walk.{field_at, fields_at}
 use Rattle.asn1_values.specs.Refusals.{IsReadRefusal}
 use Rattle.asn1_values.specs.Steps.{past_all, error_at}
@@ -21,6 +21,8 @@ use Rattle.asn1_strings.proofs.AlphabetLemmas.{codes_fit}
 use Rattle.asn1_strings.specs.AlphabetView.{alphabet_of}
 use Rattle.asn1_values.proofs.BitsKind.{bits_exact}
 use Rattle.asn1_values.proofs.CharacterKind.{character_exact}
+use Rattle.asn1_values.proofs.CountedIntegerKind.{counted_exact}
+use Rattle.asn1_values.proofs.IdentifierKind.{identifier_exact}
 use Rattle.asn1_values.proofs.IntegerKind.{integer_exact}
 use Rattle.asn1_values.proofs.NumberKind.{number_exact}
 use Rattle.asn1_values.proofs.OctetsKind.{octets_exact}
@@ -34,6 +36,8 @@ is_exact (shapes.Octets count) = octets_exact count
 is_exact (shapes.Bits len) = bits_exact len
 is_exact (shapes.Integer count) = integer_exact count
 is_exact (shapes.Character alphabet) = character_exact (alphabet_of alphabet) (codes_fit alphabet)
+is_exact shapes.CountedInteger = counted_exact
+is_exact (shapes.Oid octets) = identifier_exact octets
 
 are_exact : (ss : List Shape) → AreExact (plain_shapes ss)
 are_exact [] = tt
@@ -44,6 +48,9 @@ named list ss i (NumberWidth w) h = h
 named list ss i NotInteger h = h
 named list ss i (Short n) h = h
 named list ss i (NoCharacter k) h = h
+named list ss i (NoLength k) h = h
+named list ss i NotIdentifier h = h
+named list ss i ArcOver h = h
 
 abbrev Left : Type 0
 Left = Result (List Bool) ReadError
@@ -102,6 +109,24 @@ one_list ss xs ys list zx zy p q =
     let a : Begins list (plain_shapes ss) xs [] = record { of_shapes = zx; front = list; spelled = p; parts = sym (append-nil list) } in
     let b : Begins list (plain_shapes ss) ys [] = record { of_shapes = zy; front = list; spelled = q; parts = sym (append-nil list) } in
     (only_fields (plain_shapes ss) list xs ys [] [] (are_exact ss) a b).0
+
+-- and no concatenation begins that of other fields of the shapes
+pub none_begins_another : (ss : List Shape) → NoneBeginsAnother (plain_shapes ss)
+none_begins_another ss xs ys front rest zx zy p q =
+    let a : Begins (front ++ rest) (plain_shapes ss) xs rest = record { of_shapes = zx; front = front; spelled = p; parts = refl } in
+    let b : Begins (front ++ rest) (plain_shapes ss) ys [] = record { of_shapes = zy; front = front ++ rest; spelled = q; parts = sym (append-nil (front ++ rest)) } in
+    only_fields (plain_shapes ss) (front ++ rest) xs ys rest [] (are_exact ss) a b
+
+-- no spelling of one field begins that of another
+each_alone_of : (shape : plain.Shape) → IsExact shape (field_at shape) → NoSpellingBeginsAnother shape
+each_alone_of shape exact x y front rest sx sy p q =
+    let whole : field_at shape (front ++ rest) ≡ Ok (y, []) = ap (field_at shape) (sym (append-nil (front ++ rest))) ∙ exact.again y (front ++ rest) [] sy q in
+    let same : (x, rest) ≡ (y, []) = ok_is _ _ (sym (exact.again x front rest sx p) ∙ whole) in
+    (ap (λ (f : plain.Field × List Bool). f.0) same, ap (λ (f : plain.Field × List Bool). f.1) same)
+
+pub each_alone : (ss : List Shape) → AllByRecursion NoSpellingBeginsAnother (plain_shapes ss)
+each_alone [] = tt
+each_alone (s ∷ ss) = (each_alone_of (plain_shape s) (is_exact s), each_alone ss)
 
 -- octets that can be read are there
 pub octets_there : (count : ℕ) (list : List Bool) → is_ok (field_at (plain.OfOctets count) list) ≡ true → 8 * count ≤ length list

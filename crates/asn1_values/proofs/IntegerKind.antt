@@ -10,7 +10,7 @@ use Rattle.asn1_number.specs.Order.{NineBitsDiffer}
 use Rattle.asn1_number.proofs.LawLemmas.{shortest_by_nine_bits}
 use Rattle.asn1_values.specs.Fields.{Field, IsSpelledBy, IsOfShape, Integer, OfInteger}
 use Rattle.asn1_values.specs.Wrong.{Fault, NotInteger, IsReason, IsNoInteger}
-use Rattle.asn1_values.specs.Walk.{octets_of, nine_alike, integer_content, cut_at, field_at}
+use Rattle.asn1_values.specs.Walk.{octets_of, nine_alike, integer_content, cut_at, integer_at, field_at}
 use Rattle.asn1_values.proofs.OctetLemmas.{length-octets_of, octets-octets_of, bits-octets_of, octets_of-bits, IsOctets_from_All, All_from_IsOctets}
 use Rattle.asn1_values.proofs.ExactKinds.{IsExact, HoldsExactly, Takes, cut_exact, chosen, err_is, err_is_no_ok, held_is, no_fault, fault_is, no_field}
 use Rattle.asn1_values.proofs.OneSpelling.{same_shortest, length-spelled}
@@ -148,7 +148,7 @@ integer_holds count some = record { taken = taken; again = again; reason = reaso
         (inr (omega (arith, length-append front rest), none))
 
 pub integer_exact : (count : ℕ) → IsExact (OfInteger count) (field_at (OfInteger count))
-unfolding field_at
+unfolding field_at integer_at
 integer_exact count = record { taken = taken; again = again; reason = reason }
   where
     exact : (eqb count 0 ≡ false) → IsExact (OfInteger count) (cut_at (8 * count) (integer_content count))
@@ -178,10 +178,11 @@ integer_exact count = record { taken = taken; again = again; reason = reason }
 -- ---- what is read of them
 
 -- where an integer can be read, it is the value of the octets whose bits they are
-pub read_integer : (count : ℕ) (list left : List Bool) (n : ℤ) → is_ok (field_at (OfInteger count) list) ≡ true → left ≡ drop (8 * count) list
+pub read_integer : (count : ℕ) (list left : List Bool) (n : ℤ) → is_ok (integer_at count list) ≡ true → left ≡ drop (8 * count) list
     → ((octets : List ℕ) → bits octets ≡ take (8 * count) list → All (λ octet. octet < 256) octets → n ≡ signed octets)
-    → field_at (OfInteger count) list ≡ Ok (Integer n, left)
-read_integer count list left n ok rest value = there (field_at (OfInteger count) list) refl ok
+    → integer_at count list ≡ Ok (Integer n, left)
+unfolding field_at
+read_integer count list left n ok rest value = there (integer_at count list) refl ok
   where
     same_field : (field : Field) (front : List Bool) → IsOfShape field (OfInteger count) → IsSpelledBy field front → front ≡ take (8 * count) list → field ≡ Integer n
     same_field (Integer m) front shape s is =
@@ -189,7 +190,7 @@ read_integer count list left n ok rest value = there (field_at (OfInteger count)
         ap (λ (x : ℤ). Integer x) (sym s.1.value ∙ sym v)
     same_field field front shape s is = absurd shape
 
-    there : (r : Result (Field × List Bool) Fault) → field_at (OfInteger count) list ≡ r → is_ok r ≡ true → field_at (OfInteger count) list ≡ Ok (Integer n, left)
+    there : (r : Result (Field × List Bool) Fault) → integer_at count list ≡ r → is_ok r ≡ true → integer_at count list ≡ Ok (Integer n, left)
     there (Ok x) e h =
         let t = (integer_exact count).taken list x.0 x.1 e in
         let len : length t.front ≡ 8 * count = length-spelled (OfInteger count) x.0 t.front t.of_shape t.spelled in
@@ -199,7 +200,8 @@ read_integer count list left n ok rest value = there (field_at (OfInteger count)
     there (Err fault) e h = absurd cc
 
 -- and every list that spells it has the bits of the octets that were asked for
-pub length-read_integer : (count : ℕ) (list left : List Bool) (n : ℤ) → field_at (OfInteger count) list ≡ Ok (Integer n, left) → (others : List Bool) → IsSpelledBy (Integer n) others → length others ≡ 8 * count
+pub length-read_integer : (count : ℕ) (list left : List Bool) (n : ℤ) → integer_at count list ≡ Ok (Integer n, left) → (others : List Bool) → IsSpelledBy (Integer n) others → length others ≡ 8 * count
+unfolding field_at
 length-read_integer count list left n e others s =
     let t = (integer_exact count).taken list (Integer n) left e in
     length-spelled (OfInteger count) (Integer n) others t.of_shape s

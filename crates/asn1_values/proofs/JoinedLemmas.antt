@@ -1,5 +1,5 @@
 -- Lists joined of one list for each element.
-use Rattle.std.proofs.Common.{◌≡◌, ℕ, ◌<◌, List, [], ◌∷◌, ◌++◌, refl, sym, ap, subst, ◌∙◌, append_assoc, arith, Some, slice_get, suc, zero, take}
+use Rattle.std.proofs.Common.{◌≡◌, ℕ, ◌<◌, List, [], ◌∷◌, ◌++◌, length, refl, sym, ap, subst, ◌∙◌, append_assoc, arith, Some, slice_get, suc, zero, take}
 use Rattle.std.proofs.lemmas.List.{append-nil}
 use Rattle.asn1_values.specs.Joined.{AreJoined}
 
@@ -50,3 +50,9 @@ slice_get_take xs zero j lt = absurd (omega arith)
 slice_get_take [] (suc i) j lt = refl
 slice_get_take (x ∷ xs) (suc i) zero lt = refl
 slice_get_take (x ∷ xs) (suc i) (suc j) lt = slice_get_take xs i j (omega arith)
+
+-- at each place of a list stands an element
+pub some_at : {X : Type 0} (xs : List X) (i : ℕ) → i < length xs → (x : X) × (slice_get xs i ≡ Some x)
+some_at [] i lt = absurd (omega arith)
+some_at (x ∷ xs) zero lt = (x, refl)
+some_at (x ∷ xs) (suc i) lt = some_at xs i (omega arith)

@@ -1,7 +1,9 @@
 pub mod BitsKind
 pub mod CharacterKind
+pub mod CountedIntegerKind
 pub mod ExactKinds
 pub mod HeadlineLemmas
+pub mod IdentifierKind
 pub mod IntegerKind
 pub mod JoinedLemmas
 pub mod LiesLemmas
@@ -9,7 +11,10 @@ pub mod ListLemmas
 pub mod NumberKind
 pub mod OctetLemmas
 pub mod OctetsKind
+pub mod OneRefusal
 pub mod OneSpelling
 pub mod RefusalLemmas
+pub mod SixteenLemmas
 pub mod SpellingLemmas
 pub mod WalkLemmas
+pub mod WordLemmas

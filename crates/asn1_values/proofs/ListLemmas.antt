@@ -1,10 +1,10 @@
 -- Lists of fields: the walk against the relations, whatever kinds of field there are.
-use Rattle.std.proofs.Common.{◌≡◌, ℕ, Bool, List, [], ◌∷◌, ◌++◌, Result, Ok, Err, refl, sym, ap, subst, ◌∙◌, append_assoc}
+use Rattle.std.proofs.Common.{◌≡◌, ℕ, suc, Bool, List, [], ◌∷◌, ◌++◌, Result, Ok, Err, refl, sym, ap, subst, ◌∙◌, append_assoc}
 use Rattle.std.specs.List.{AllByRecursion}
 use Rattle.asn1_values.specs.Fields.{Field, Shape, Begins}
 use Rattle.asn1_values.specs.Wrong.{Fault}
-use Rattle.asn1_values.specs.Walk.{◌>>=◌, field_at, fields_at, at_place, one_later}
-use Rattle.asn1_values.proofs.ExactKinds.{IsExact, Takes, bind_ok, Read}
+use Rattle.asn1_values.specs.Walk.{field_at, fields_at, in_front, first_and}
+use Rattle.asn1_values.proofs.ExactKinds.{IsExact, Takes, Read}
 
 abbrev pub AreExact : List Shape → Type 0
 AreExact shapes = AllByRecursion (λ shape. IsExact shape (field_at shape)) shapes
@@ -47,28 +47,46 @@ ReadAll = Result (List Field × List Bool) (ℕ × Fault)
 pub all_is : (x y : List Field × List Bool) → ◌≡◌ {A = ReadAll} (Ok x) (Ok y) → x ≡ y
 all_is x y e = cc
 
-pub placed_ok : (r : Read) (x : Field × List Bool) → at_place 0 r ≡ Ok x → r ≡ Ok x
-placed_ok (Ok y) x e = cc
-placed_ok (Err d) x e = absurd cc
+pub no_end : (x : List Field × List Bool) (e : ℕ × Fault) → ◌≡◌ {A = ReadAll} (Ok x) (Err e) → ⊥
+no_end x e is = cc
 
-pub later_ok : (r : ReadAll) (x : List Field × List Bool) → one_later r ≡ Ok x → r ≡ Ok x
-later_ok (Ok y) x e = cc
-later_ok (Err d) x e = absurd cc
+-- what was read behind a field
+record Behind (field : Field) (r : ReadAll) (fields : List Field) (rest : List Bool) : Type 0 where
+  more : List Field
+  read : r ≡ Ok (more, rest)
+  these : field ∷ more ≡ fields
 
-unfoldable pub others_of : Field → ReadAll → ReadAll
-others_of field others = one_later others >>= λ x. Ok (field ∷ x.0, x.1)
+behind : (field : Field) (r : ReadAll) (fields : List Field) (rest : List Bool) → in_front field r ≡ Ok (fields, rest) → Behind field r fields rest
+behind field (Ok y) fields rest e =
+    let same : (field ∷ y.0, y.1) ≡ (fields, rest) = all_is (field ∷ y.0, y.1) (fields, rest) e in
+    record {
+      more = y.0;
+      read = ap (λ (x : List Field × List Bool). Ok (y.0, x.1)) same;
+      these = ap (λ (x : List Field × List Bool). x.0) same;
+    }
+behind field (Err x) fields rest e = absurd (no_end (fields, rest) (suc x.0, x.1) (sym e))
+
+-- the first field, and what was read behind it
+record FirstRead (others : List Bool → ReadAll) (r : Read) (fields : List Field) (rest : List Bool) : Type 0 where
+  field : Field
+  left : List Bool
+  first : r ≡ Ok (field, left)
+  then : Behind field (others left) fields rest
+
+first_read : (others : List Bool → ReadAll) (r : Read) (fields : List Field) (rest : List Bool) → first_and others r ≡ Ok (fields, rest) → FirstRead others r fields rest
+first_read others (Ok x) fields rest e = record { field = x.0; left = x.1; first = refl; then = behind x.0 (others x.1) fields rest e }
+first_read others (Err fault) fields rest e = absurd (no_end (fields, rest) (0, fault) (sym e))
 
 pub fields_taken : (shapes : List Shape) (list : List Bool) (fields : List Field) (rest : List Bool) → AreExact shapes → fields_at shapes list ≡ Ok (fields, rest) → Begins list shapes fields rest
-unfolding fields_at others_of
+unfolding fields_at
 fields_taken [] list fields rest exact e =
     subst (λ (x : List Field × List Bool). Begins list [] x.0 x.1) (all_is ([], list) (fields, rest) e) (Begins-none list)
 fields_taken (shape ∷ shapes) list fields rest exact e =
-    let a = bind_ok (at_place 0 (field_at shape list)) (λ first. others_of first.0 (fields_at shapes first.1)) (fields, rest) e in
-    let b = bind_ok (one_later (fields_at shapes a.0.1)) (λ others. Ok (a.0.0 ∷ others.0, others.1)) (fields, rest) a.2 in
-    let first = exact.0.taken list a.0.0 a.0.1 (placed_ok _ _ a.1) in
-    let second = fields_taken shapes a.0.1 b.0.0 b.0.1 exact.1 (later_ok _ _ b.1) in
-    subst (λ (x : List Field × List Bool). Begins list (shape ∷ shapes) x.0 x.1) (all_is (a.0.0 ∷ b.0.0, b.0.1) (fields, rest) b.2)
-    (Begins-cons list shape a.0.0 a.0.1 shapes b.0.0 b.0.1 first second)
+    let f = first_read (fields_at shapes) (field_at shape list) fields rest e in
+    let first = exact.0.taken list f.field f.left f.first in
+    let others = fields_taken shapes f.left f.then.more rest exact.1 f.then.read in
+    subst (λ (fs : List Field). Begins list (shape ∷ shapes) fs rest) f.then.these
+    (Begins-cons list shape f.field f.left shapes f.then.more rest first others)
 
 -- ---- what begins so is read
 

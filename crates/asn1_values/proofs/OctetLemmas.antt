@@ -1,6 +1,6 @@
 -- Octets and their bits, one from the other.
-use Rattle.std.proofs.Common.{◌≡◌, ℕ, zero, suc, ◌*◌, ◌<◌, ◌≤◌, Bool, List, [], ◌∷◌, length, take, drop, refl, sym, ap, ◌∙◌, arith}
-use Rattle.std.proofs.lemmas.List.{nil_from_length, take_at, drop_at, length-take, length-drop, take-append-drop}
+use Rattle.std.proofs.Common.{◌≡◌, ℕ, zero, suc, ◌*◌, ◌<◌, ◌≤◌, Bool, List, [], ◌∷◌, length, take, drop, get_or, ◌+◌, refl, sym, ap, ◌∙◌, arith}
+use Rattle.std.proofs.lemmas.List.{nil_from_length, take_at, drop_at, length-take, length-drop, take-append-drop, drop-drop}
 use Rattle.std.proofs.lemmas.List.Elements.{All-nil, All-cons, All-head, All-tail}
 use Rattle.std.specs.Prelude.{All}
 use Rattle.asn1_bits.specs.Bits.{digits, number, bits}
@@ -32,6 +32,14 @@ octets_of-bits (x ∷ xs) h =
     let lt : x < 256 = All-head (λ octet. octet < 256) x xs h in
     let l = length-digits x 8 in
     rw (take_at (digits x 8) (bits xs) 8 l, drop_at (digits x 8) (bits xs) 8 l, number_of-digits x 8 lt, octets_of-bits xs (All-tail (λ octet. octet < 256) x xs h)) refl
+
+-- the octet at a place
+pub get_or-octets_of : (n i : ℕ) (list : List Bool) → i < n → get_or (octets_of n list) i 0 ≡ number (take 8 (drop (8 * i) list))
+get_or-octets_of zero i list lt = absurd (omega arith)
+get_or-octets_of (suc n) zero list lt = refl
+get_or-octets_of (suc n) (suc i) list lt =
+    let e : 8 + 8 * i ≡ 8 * suc i = omega arith in
+    get_or-octets_of n i (drop 8 list) (omega arith) ∙ ap (λ (l : List Bool). number (take 8 l)) (drop-drop (8 * i) 8 list ∙ ap (λ (k : ℕ). drop k list) e)
 
 -- the two ways to say that each is an octet
 pub IsOctets_from_All : (octets : List ℕ) → All (λ octet. octet < 256) octets → IsOctets octets

@@ -1,14 +1,14 @@
 -- The walk stops at the first wrong field, with its reason.
-use Rattle.std.proofs.Common.{◌≡◌, ℕ, zero, suc, ◌+◌, ◌<◌, Bool, List, [], ◌∷◌, ◌++◌, take, Ok, Err, Some, refl, sym, ap, subst, ◌∙◌, arith, inl, inr, slice_get}
+use Rattle.std.proofs.Common.{◌≡◌, ℕ, zero, suc, ◌+◌, ◌<◌, Bool, List, [], ◌∷◌, ◌++◌, take, Ok, Err, Some, refl, sym, ap, subst, ◌∙◌, arith, slice_get}
 use Rattle.std.proofs.lemmas.Option.{same_Some}
 use Rattle.asn1_values.specs.Fields.{Field, Shape, Begins}
 use Rattle.asn1_values.specs.Wrong.{Fault, IsReason, CanBegin, IsFirstFault}
-use Rattle.asn1_values.specs.Walk.{field_at, fields_at, at_place, one_later}
-use Rattle.asn1_values.proofs.ExactKinds.{IsExact, Takes, bind_err, Read, ok_is, err_is_no_ok}
-use Rattle.asn1_values.proofs.ListLemmas.{AreExact, Begins-cons, Begins-none, Begins-split, ReadAll, placed_ok, others_of}
+use Rattle.asn1_values.specs.Walk.{field_at, fields_at, in_front, first_and}
+use Rattle.asn1_values.proofs.ExactKinds.{IsExact, Takes, Read, ok_is, err_is_no_ok}
+use Rattle.asn1_values.proofs.ListLemmas.{AreExact, Begins-cons, Begins-none, Begins-split, ReadAll, no_end}
 
 -- fields of one more shape begin the list, if others begin what is behind the first
-CanBegin-cons : (list : List Bool) (shape : Shape) (field : Field) (middle : List Bool) (shapes : List Shape) → Takes shape list field middle → CanBegin middle shapes → CanBegin list (shape ∷ shapes)
+pub CanBegin-cons : (list : List Bool) (shape : Shape) (field : Field) (middle : List Bool) (shapes : List Shape) → Takes shape list field middle → CanBegin middle shapes → CanBegin list (shape ∷ shapes)
 CanBegin-cons list shape field middle shapes t c = (field ∷ c.0, c.1, Begins-cons list shape field middle shapes c.0 c.1 t c.2)
 
 -- and the other way round, since the first field is the only one
@@ -75,32 +75,26 @@ fault_later list shape field middle shapes i fault exact e first =
       reason = reason_later list shape field middle shapes i fault exact e first.reason;
     }
 
-placed_err : (r : Read) (x : ℕ × Fault) → at_place 0 r ≡ Err x → (fault : Fault) × (r ≡ Err fault) × ((0, fault) ≡ x)
-placed_err (Ok y) x e = absurd cc
-placed_err (Err d) x e = (d, refl, cc)
+end_is : (x y : ℕ × Fault) → ◌≡◌ {A = ReadAll} (Err x) (Err y) → x ≡ y
+end_is x y e = cc
 
-later_err : (r : ReadAll) (x : ℕ × Fault) → one_later r ≡ Err x → (y : ℕ × Fault) × (r ≡ Err y) × ((suc y.0, y.1) ≡ x)
-later_err (Ok y) x e = absurd cc
-later_err (Err d) x e = (d, refl, cc)
-
-no_refusal : (x : List Field × List Bool) (y : ℕ × Fault) → ◌≡◌ {A = ReadAll} (Ok x) (Err y) → ⊥
-no_refusal x y e = cc
+-- a fault that was met behind a field
+behind_fault : (field : Field) (r : ReadAll) (x : ℕ × Fault) → in_front field r ≡ Err x → (y : ℕ × Fault) × (r ≡ Err y) × ((suc y.0, y.1) ≡ x)
+behind_fault field (Ok y) x e = absurd (no_end (field ∷ y.0, y.1) x e)
+behind_fault field (Err y) x e = (y, refl, end_is (suc y.0, y.1) x e)
 
 pub fields_refused : (shapes : List Shape) (list : List Bool) (x : ℕ × Fault) → AreExact shapes → fields_at shapes list ≡ Err x → IsFirstFault list shapes x.0 x.1
-unfolding fields_at others_of
-fields_refused [] list x exact e = absurd (no_refusal _ _ e)
+unfolding fields_at
+fields_refused [] list x exact e = absurd (no_end ([], list) x e)
 fields_refused (shape ∷ shapes) list x exact e =
-    elim (bind_err (at_place 0 (field_at shape list)) (λ first. others_of first.0 (fields_at shapes first.1)) x e) [
-      | inl h ↦
-          let p = placed_err (field_at shape list) x h in
-          subst (λ (y : ℕ × Fault). IsFirstFault list (shape ∷ shapes) y.0 y.1) p.2 (fault_here list shape p.0 shapes exact.0 p.1)
-      | inr h ↦
-          let first : field_at shape list ≡ Ok h.0 = placed_ok _ _ h.1 in
-          elim (bind_err (one_later (fields_at shapes h.0.1)) (λ others. Ok (h.0.0 ∷ others.0, others.1)) x h.2) [
-            | inl c ↦
-                let p = later_err (fields_at shapes h.0.1) x c in
-                let rest = fields_refused shapes h.0.1 p.0 exact.1 p.1 in
-                subst (λ (y : ℕ × Fault). IsFirstFault list (shape ∷ shapes) y.0 y.1) p.2 (fault_later list shape h.0.0 h.0.1 shapes p.0.0 p.0.1 exact.0 first rest)
-            | inr c ↦ absurd (no_refusal _ _ c.2)
-          ]
-    ]
+    by_first (field_at shape list) refl e (λ left y is. fields_refused shapes left y exact.1 is)
+  where
+    whole : (y : ℕ × Fault) → y ≡ x → IsFirstFault list (shape ∷ shapes) y.0 y.1 → IsFirstFault list (shape ∷ shapes) x.0 x.1
+    whole y same first = subst (λ (z : ℕ × Fault). IsFirstFault list (shape ∷ shapes) z.0 z.1) same first
+
+    by_first : (r : Read) → field_at shape list ≡ r → first_and (fields_at shapes) r ≡ Err x
+        → ((left : List Bool) (y : ℕ × Fault) → fields_at shapes left ≡ Err y → IsFirstFault left shapes y.0 y.1) → IsFirstFault list (shape ∷ shapes) x.0 x.1
+    by_first (Err fault) is h others = whole (0, fault) (end_is (0, fault) x h) (fault_here list shape fault shapes exact.0 is)
+    by_first (Ok z) is h others =
+        let b = behind_fault z.0 (fields_at shapes z.1) x h in
+        whole (suc b.0.0, b.0.1) b.2 (fault_later list shape z.0 z.1 shapes b.0.0 b.0.1 exact.0 is (others z.1 b.0 b.1))

@@ -1,9 +1,11 @@
 -- Fields that fit, one after another, and the first that doesn't.
-use Rattle.std.proofs.Common.{◌≡◌, ℕ, zero, suc, ◌+◌, ◌-◌, ◌*◌, ◌/◌, ◌^◌, ◌<◌, ◌≤◌, Bool, List, [], ◌∷◌, ◌++◌, length, take, drop, min, get_or, refl, sym, ap, subst, ◌∙◌, append_assoc, arith, Some, slice_get}
+use Rattle.std.proofs.Common.{◌≡◌, ℕ, ◌+◌, ◌-◌, ◌*◌, ◌/◌, ◌^◌, ◌<◌, ◌≤◌, Bool, List, [], ◌∷◌, ◌++◌, length, take, drop, min, get_or, refl, sym, ap, subst, ◌∙◌, append_assoc, arith, Some, slice_get}
 use Rattle.std.specs.Prelude.{All, ℤ}
 use Rattle.std.specs.Int.{div_ceil}
 use Rattle.asn1_bits.specs.Turns.{turns_for}
 use Rattle.asn1_number.specs.Octets.{IsShortest}
+use Rattle.asn1_oid.specs.Contents.{IsContents, FitU32}
+use Rattle.asn1_oid.specs.WritingLaws.{contents_only}
 use Rattle.asn1_strings.specs.Alphabet.{Alphabet, IsCode}
 use Rattle.asn1_values.proofs.OneSpelling.{same_shortest}
 use Rattle.std.specs.Option.{option_map}
@@ -19,10 +21,10 @@ use Rattle.asn1_values.specs.declared.bit_fields.error.WriteError.{WriteError}
 use Rattle.asn1_values.specs.declared.bit_fields.error.WriteError.TheVariants as errors
 use Rattle.asn1_values.specs.declared.bit_fields.field.Field.{Field as Program}
 use Rattle.asn1_values.specs.Plain.{plain_field, plain_fields}
-use Rattle.asn1_values.specs.Fields.{Field, IsSpelledBy, AreSpelledBy, Number, Octets, Bits, Integer, Character}
-use Rattle.asn1_values.specs.Wrong.{Misfit, WidthOver, PastWidth, NotInAlphabet, Fits, IsMisfit, IsFirstMisfit}
+use Rattle.asn1_values.specs.Fields.{Field, IsSpelledBy, AreSpelledBy, Number, Octets, Bits, Integer, Character, CountedInteger, Identifier}
+use Rattle.asn1_values.specs.Wrong.{Misfit, WidthOver, PastWidth, NotInAlphabet, PastLength, TooFewArcs, Fits, IsMisfit, IsFirstMisfit}
 use Rattle.asn1_values.specs.Steps.{NamesMisfit, NamesFirstMisfit, FitsIn, EndsAt, Pushes, PushesAll, HasRoom, TakesTurns, TakeTurns}
-use Rattle.asn1_values.proofs.JoinedLemmas.{joins_push, joins_append, joins_split, one_joined, each_joined, slice_get_take, Split}
+use Rattle.asn1_values.proofs.JoinedLemmas.{joins_push, joins_append, joins_split, one_joined, each_joined, slice_get_take, some_at, Split}
 
 -- ---- one field
 
@@ -44,11 +46,31 @@ integer_fits n octets shortest = record {
 pub character_fits : (a : Alphabet) (c k : ℕ) → IsCode a c k → FitsIn (Character a c) a.width
 character_fits a c k code = record { fits = (digits k a.width, (k, code, refl)); len = λ list s. ap length s.2 ∙ length-digits s.0 a.width }
 
+pub counted_fits : (n : ℤ) (octets : List ℕ) → IsShortest n octets → length octets ≤ 127 → FitsIn (CountedInteger n) (8 + 8 * length octets)
+counted_fits n octets shortest le = record {
+  fits = (bits (length octets ∷ octets), (octets, shortest, le, refl));
+  len = λ list s.
+      let same : list ≡ bits (length octets ∷ octets) = s.3 ∙ ap (λ (o : List ℕ). bits (length o ∷ o)) (same_shortest n s.0 octets s.1 shortest) in
+      omega (arith, ap length same, length-bits (length octets ∷ octets));
+}
+
+pub identifier_fits : (arcs octets : List ℕ) → IsContents arcs octets → FitU32 arcs → FitsIn (Identifier arcs) (8 * length octets)
+identifier_fits arcs octets contents fit = record {
+  fits = (bits octets, (octets, contents, fit, refl));
+  len = λ list s. ap length s.3 ∙ length-bits s.0 ∙ ap (λ (o : List ℕ). 8 * length o) (contents_only arcs s.0 octets s.1 contents);
+}
+
 -- what has a misfit has no spelling
 misfit_unfit : (field : Field) (misfit : Misfit) → IsMisfit field misfit → Fits field → ⊥
 misfit_unfit (Number v w) (WidthOver x) m f = let a = m.1 in let b = f.1.0 in omega arith
 misfit_unfit (Number v w) PastWidth m f = let a = m.1 in let b = f.1.1 in omega arith
 misfit_unfit (Character a c) (NotInAlphabet x) m f = m.1 f.1.0 f.1.1
+misfit_unfit (CountedInteger n) PastLength m f =
+    let same : length m.0 ≡ length f.1.0 = ap length (same_shortest n m.0 f.1.0 m.1 f.1.1) in
+    let le = f.1.2 in
+    let lt = m.2 in
+    omega arith
+misfit_unfit (Identifier arcs) TooFewArcs m f = let two = f.1.1.two in omega arith
 misfit_unfit field misfit m f = absurd m
 
 -- ---- the first misfit
@@ -66,13 +88,10 @@ pub names_first : (fields : List Field) (front : List Bool) (i : ℕ) (field : F
 names_first fields front i field (errors.NumberWidth at width) before lt here is = subst (λ (k : ℕ). IsFirstMisfit fields k (WidthOver width)) (sym is.0) (first_misfit fields front i field (WidthOver width) before lt here is.1)
 names_first fields front i field (errors.Number at) before lt here is = subst (λ (k : ℕ). IsFirstMisfit fields k PastWidth) (sym is.0) (first_misfit fields front i field PastWidth before lt here is.1)
 names_first fields front i field (errors.Character at c) before lt here is = subst (λ (k : ℕ). IsFirstMisfit fields k (NotInAlphabet c)) (sym is.0) (first_misfit fields front i field (NotInAlphabet c) before lt here is.1)
+names_first fields front i field (errors.IntegerLength at) before lt here is = subst (λ (k : ℕ). IsFirstMisfit fields k PastLength) (sym is.0) (first_misfit fields front i field PastLength before lt here is.1)
+names_first fields front i field (errors.ArcCount at) before lt here is = subst (λ (k : ℕ). IsFirstMisfit fields k TooFewArcs) (sym is.0) (first_misfit fields front i field TooFewArcs before lt here is.1)
 names_first fields front i field errors.TooLong before lt here is = absurd is
 names_first fields front i field errors.Memory before lt here is = absurd is
-
-some_at : (fields : List Field) (i : ℕ) → i < length fields → (field : Field) × (slice_get fields i ≡ Some field)
-some_at [] i lt = absurd (omega arith)
-some_at (f ∷ fs) zero lt = (f, refl)
-some_at (f ∷ fs) (suc i) lt = some_at fs i (omega arith)
 
 none_misfit : (fields : List Field) (i : ℕ) (misfit : Misfit) (list : List Bool) → IsFirstMisfit fields i misfit → AreSpelledBy fields list → ⊥
 none_misfit fields i misfit list m s =
@@ -84,6 +103,8 @@ pub names_none : (fields : List Field) (e : WriteError) (list : List Bool) → N
 names_none fields (errors.NumberWidth at width) list h s = none_misfit fields at (WidthOver width) list h s
 names_none fields (errors.Number at) list h s = none_misfit fields at PastWidth list h s
 names_none fields (errors.Character at c) list h s = none_misfit fields at (NotInAlphabet c) list h s
+names_none fields (errors.IntegerLength at) list h s = none_misfit fields at PastLength list h s
+names_none fields (errors.ArcCount at) list h s = none_misfit fields at TooFewArcs list h s
 names_none fields errors.TooLong list h s = h
 names_none fields errors.Memory list h s = h
 
@@ -125,6 +146,34 @@ pushes field list n old new s len e r = record { list = list; spelled = s; writt
 -- the turns of one field, whichever list spells it
 pub takes : (field : Field) (n old new : ℕ) → FitsIn field n → old + div_ceil n 64 ≤ new → new ≤ old + turns_for n → (list : List Bool) → IsSpelledBy field list → TakesTurns (length list) old new
 takes field n old new fits low high list s = subst (λ (k : ℕ). TakesTurns k old new) (sym (fits.len list s)) (record { at_least = low; at_most = omega arith })
+
+-- ---- a counted integer: an octet, and octets behind it
+
+-- all of it fits the room
+pub counted_space : (n : ℤ) (octets : List ℕ) (space : ℕ) → IsShortest n octets → Fits (CountedInteger n)
+    → ((list : List Bool) → IsSpelledBy (CountedInteger n) list → length list ≤ space) → (length octets ≤ 127) × (8 + 8 * length octets ≤ space)
+counted_space n octets space shortest fits enough =
+    let same : length fits.1.0 ≡ length octets = ap length (same_shortest n fits.1.0 octets fits.1.1 shortest) in
+    let small = fits.1.2 in
+    let le : length octets ≤ 127 = omega arith in
+    let len = length-bits (length octets ∷ octets) in
+    let r = enough (bits (length octets ∷ octets)) (octets, shortest, le, refl) in
+    (le, omega arith)
+
+pub counted_pushes : (n : ℤ) (octets : List ℕ) (old now new : BitAppender) → IsShortest n octets → length octets ≤ 127
+    → bits_written now ≡ bits_written old ++ digits (length octets) 8 → room now + 8 ≡ room old
+    → bits_written new ≡ bits_written now ++ bits octets → room new + 8 * length octets ≡ room now → Pushes (CountedInteger n) old new
+unfolding bits
+counted_pushes n octets old now new shortest le first before second after =
+    let list : List Bool = bits (length octets ∷ octets) in
+    let written : bits_written new ≡ bits_written old ++ list =
+    second ∙ ap (λ (l : List Bool). l ++ bits octets) first ∙ append_assoc (bits_written old) (digits (length octets) 8) (bits octets) in
+    let len : length list ≡ 8 + 8 * length octets = omega (arith, length-bits (length octets ∷ octets)) in
+    pushes (CountedInteger n) list (8 + 8 * length octets) old new (octets, shortest, le, refl) len written (omega arith)
+
+-- the turns of an octet, and of n octets behind it
+pub counted_turns : (n old now new : ℕ) → old + div_ceil 8 64 ≤ now → now ≤ old + turns_for 8 → now + div_ceil (8 * n) 64 ≤ new → new ≤ now + turns_for (8 * n) → TakesTurns (8 + 8 * n) old new
+counted_turns n old now new low high low_2 high_2 = record { at_least = omega arith; at_most = omega arith }
 
 pub pushed_none : (old : BitAppender) → PushesAll [] old old
 pushed_none old = record { list = []; spelled = refl; written = sym (append-nil (bits_written old)); left = omega arith }

@@ -7,7 +7,7 @@ use Rattle.std.specs.Prelude.{is_ok}
 use Rattle.asn1_values.specs.Plain.{plain_shapes, plain_shape}
 use Rattle.asn1_values.specs.Fields as plain
 use Rattle.asn1_values.specs.Wrong.{Fault}
-use Rattle.asn1_values.specs.Walk.{◌>>=◌, field_at, fields_at, at_place, one_later}
+use Rattle.asn1_values.specs.Walk.{field_at, fields_at, in_front, first_and}
 use Rattle.asn1_values.specs.Steps.{past, past_all, error_at}
 
 -- fields that were read before
@@ -38,16 +38,12 @@ past_is_err i (Err fault) e h = (fault, refl, error_is (error_at i fault) e h)
     error_is : (a b : ReadError) → ◌≡◌ {A = Left} (Err a) (Err b) → a ≡ b
     error_is a b e = cc
 
-one_more : plain.Field → ReadAll → ReadAll
-one_more field others = one_later others >>= λ x. Ok (field ∷ x.0, x.1)
-
-past_later : (i : ℕ) (field : plain.Field) (r : ReadAll) → past_all i (one_more field r) ≡ past_all (i + 1) r
-unfolding one_more
+past_later : (i : ℕ) (field : plain.Field) (r : ReadAll) → past_all i (in_front field r) ≡ past_all (i + 1) r
 past_later i field (Ok x) = refl
 past_later i field (Err e) = let n : i + suc e.0 ≡ i + 1 + e.0 = omega arith in ap (λ (k : ℕ). Err (error_at k e.1)) n
 
 past_step : (i : ℕ) (shape : plain.Shape) (shapes : List plain.Shape) (list left : List Bool) → past i (field_at shape list) ≡ Ok left → past_all i (fields_at (shape ∷ shapes) list) ≡ past_all (i + 1) (fields_at shapes left)
-unfolding fields_at one_more
+unfolding fields_at
 past_step i shape shapes list left e =
     let p = past_is_ok i (field_at shape list) left e in
     rw p.1 (past_later i p.0 (fields_at shapes left))
@@ -85,13 +81,12 @@ is_ok_from_past i (Err x) left e = absurd cc
 
 -- ---- with the fields that were read
 
-front_later : (front : List plain.Field) (field : plain.Field) (r : ReadAll) → with_front front (one_more field r) ≡ with_front (front ++ field ∷ []) r
-unfolding one_more
+front_later : (front : List plain.Field) (field : plain.Field) (r : ReadAll) → with_front front (in_front field r) ≡ with_front (front ++ field ∷ []) r
 front_later front field (Ok x) = ap (λ (fs : List plain.Field). Ok (fs, x.1)) (sym (append_assoc front (field ∷ []) x.0))
 front_later front field (Err e) = let n : length front + suc e.0 ≡ length (front ++ field ∷ []) + e.0 = omega (arith, length-append front (field ∷ [])) in ap (λ (k : ℕ). Err (k, e.1)) n
 
 front_step : (front : List plain.Field) (shape : plain.Shape) (shapes : List plain.Shape) (list : List Bool) (field : plain.Field) (left : List Bool) → field_at shape list ≡ Ok (field, left) → with_front front (fields_at (shape ∷ shapes) list) ≡ with_front (front ++ field ∷ []) (fields_at shapes left)
-unfolding fields_at one_more
+unfolding fields_at
 front_step front shape shapes list field left e = rw e (front_later front field (fields_at shapes left))
 
 pub read_more : (ss : List Shape) (i : ℕ) (x : Shape) (front : List plain.Field) (list : List Bool) (field : plain.Field) (left : List Bool) (total : ReadAll) → i < length ss → x ≡ get_or ss i x → field_at (plain_shape x) list ≡ Ok (field, left)
@@ -99,17 +94,17 @@ pub read_more : (ss : List Shape) (i : ℕ) (x : Shape) (front : List plain.Fiel
 read_more ss i x front list field left total lt is e so_far =
     sym (front_step front (plain_shape x) (plain_shapes (drop (i + 1) ss)) list field left e) ∙ ap (λ (shapes : List plain.Shape). with_front front (fields_at shapes list)) (sym (shapes_more ss i x lt is)) ∙ so_far
 
-bound_is_ok : {A B : Type 0} (r : Result A Fault) (f : A → Result B (ℕ × Fault)) → is_ok (at_place 0 r >>= f) ≡ true → is_ok r ≡ true
-bound_is_ok (Ok x) f h = refl
-bound_is_ok (Err fault) f h = absurd cc
+first_read : (others : List Bool → ReadAll) (r : ReadOne) → is_ok (first_and others r) ≡ true → is_ok r ≡ true
+first_read others (Ok x) h = refl
+first_read others (Err fault) h = absurd cc
 
 front_is_ok : (front : List plain.Field) (r : ReadAll) → is_ok (with_front front r) ≡ true → is_ok r ≡ true
 front_is_ok front (Ok x) h = refl
 front_is_ok front (Err e) h = absurd cc
 
 first_is_ok : (front : List plain.Field) (shape : plain.Shape) (shapes : List plain.Shape) (list : List Bool) → is_ok (with_front front (fields_at (shape ∷ shapes) list)) ≡ true → is_ok (field_at shape list) ≡ true
-unfolding fields_at one_more
-first_is_ok front shape shapes list h = bound_is_ok (field_at shape list) (λ first. one_more first.0 (fields_at shapes first.1)) (front_is_ok front (at_place 0 (field_at shape list) >>= λ first. one_more first.0 (fields_at shapes first.1)) h)
+unfolding fields_at
+first_is_ok front shape shapes list h = first_read (fields_at shapes) (field_at shape list) (front_is_ok front (first_and (fields_at shapes) (field_at shape list)) h)
 
 pub next_is_ok : (ss : List Shape) (i : ℕ) (x : Shape) (front : List plain.Field) (list : List Bool) (total : ReadAll) → i < length ss → x ≡ get_or ss i x → is_ok total ≡ true → with_front front (fields_at (plain_shapes (drop i ss)) list) ≡ total → is_ok (field_at (plain_shape x) list) ≡ true
 next_is_ok ss i x front list total lt is ok so_far =

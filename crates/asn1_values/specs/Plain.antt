@@ -17,6 +17,8 @@ plain_field (fields.Octets octets) = plain.Octets (octets_in octets)
 plain_field (fields.Bits view) = plain.Bits (bits_of view)
 plain_field (fields.Integer n) = plain.Integer n
 plain_field (fields.Character alphabet c) = plain.Character (alphabet_of alphabet) c
+plain_field (fields.CountedInteger n) = plain.CountedInteger n
+plain_field (fields.Oid arcs) = plain.Identifier arcs
 
 abbrev pub plain_fields : List Field → List plain.Field
 plain_fields fs = map plain_field fs
@@ -27,6 +29,8 @@ plain_shape (shapes.Octets count) = plain.OfOctets count
 plain_shape (shapes.Bits len) = plain.OfBits len
 plain_shape (shapes.Integer count) = plain.OfInteger count
 plain_shape (shapes.Character alphabet) = plain.OfCharacter (alphabet_of alphabet)
+plain_shape shapes.CountedInteger = plain.OfCountedInteger
+plain_shape (shapes.Oid octets) = plain.OfIdentifier octets
 
 abbrev pub plain_shapes : List Shape → List plain.Shape
 plain_shapes ss = map plain_shape ss

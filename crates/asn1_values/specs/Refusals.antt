@@ -6,7 +6,7 @@ use Rattle.asn1_values.specs.declared.bit_fields.error.ReadError.TheVariants as 
 use Rattle.asn1_values.specs.declared.bit_fields.error.WriteError.{WriteError}
 use Rattle.asn1_values.specs.declared.bit_fields.error.WriteError.TheVariants as writing
 use Rattle.asn1_values.specs.Fields.{Field, Shape, AreSpelledBy}
-use Rattle.asn1_values.specs.Wrong.{NumberWidth, NotInteger, Short, NoCharacter, WidthOver, PastWidth, NotInAlphabet, CanBegin, IsFirstFault, IsFirstMisfit}
+use Rattle.asn1_values.specs.Wrong.{NumberWidth, NotInteger, Short, NoCharacter, NoLength, NotIdentifier, ArcOver, WidthOver, PastWidth, NotInAlphabet, PastLength, TooFewArcs, CanBegin, IsFirstFault, IsFirstMisfit}
 
 -- reading fields of these shapes is refused by the first wrong field, with its reason; where none is wrong, for want of
 -- memory
@@ -15,6 +15,9 @@ IsReadRefusal list shapes (reading.NumberWidth field width) = IsFirstFault list 
 IsReadRefusal list shapes (reading.Integer field) = IsFirstFault list shapes field NotInteger
 IsReadRefusal list shapes (reading.Short field bits) = IsFirstFault list shapes field (Short bits)
 IsReadRefusal list shapes (reading.Character field code) = IsFirstFault list shapes field (NoCharacter code)
+IsReadRefusal list shapes (reading.Length field octet) = IsFirstFault list shapes field (NoLength octet)
+IsReadRefusal list shapes (reading.Identifier field) = IsFirstFault list shapes field NotIdentifier
+IsReadRefusal list shapes (reading.Arc field) = IsFirstFault list shapes field ArcOver
 IsReadRefusal list shapes reading.Memory = CanBegin list shapes
 
 -- writing these fields behind n bits is refused by the first that doesn't fit, with its reason; where all fit, for the
@@ -23,6 +26,8 @@ abbrev pub IsWriteRefusal : ℕ → List Field → WriteError → Type 0
 IsWriteRefusal n fields (writing.NumberWidth field width) = IsFirstMisfit fields field (WidthOver width)
 IsWriteRefusal n fields (writing.Number field) = IsFirstMisfit fields field PastWidth
 IsWriteRefusal n fields (writing.Character field character) = IsFirstMisfit fields field (NotInAlphabet character)
+IsWriteRefusal n fields (writing.IntegerLength field) = IsFirstMisfit fields field PastLength
+IsWriteRefusal n fields (writing.ArcCount field) = IsFirstMisfit fields field TooFewArcs
 IsWriteRefusal n fields writing.TooLong =
     (list : List Bool) × AreSpelledBy fields list × (2 ^ 64 ≤ n + length list)
 IsWriteRefusal n fields writing.Memory =

@@ -8,7 +8,7 @@ use Rattle.asn1_values.specs.declared.bit_fields.error.ReadError.TheVariants as 
 use Rattle.asn1_values.specs.declared.bit_fields.error.WriteError.{WriteError}
 use Rattle.asn1_values.specs.declared.bit_fields.error.WriteError.TheVariants as writing
 use Rattle.asn1_values.specs.Fields.{Field, IsSpelledBy, AreSpelledBy}
-use Rattle.asn1_values.specs.Wrong.{Fault, NumberWidth, NotInteger, Short, NoCharacter, WidthOver, PastWidth, NotInAlphabet, Fits, IsMisfit, IsFirstMisfit}
+use Rattle.asn1_values.specs.Wrong.{Fault, NumberWidth, NotInteger, Short, NoCharacter, NoLength, NotIdentifier, ArcOver, WidthOver, PastWidth, NotInAlphabet, PastLength, TooFewArcs, Fits, IsMisfit, IsFirstMisfit}
 
 -- ---- reading
 
@@ -18,6 +18,9 @@ error_at field (NumberWidth width) = reading.NumberWidth field width
 error_at field NotInteger = reading.Integer field
 error_at field (Short bits) = reading.Short field bits
 error_at field (NoCharacter code) = reading.Character field code
+error_at field (NoLength octet) = reading.Length field octet
+error_at field NotIdentifier = reading.Identifier field
+error_at field ArcOver = reading.Arc field
 
 -- what is left after a field, or the error
 abbrev pub past : ℕ → Result (Field × List Bool) Fault → Result (List Bool) ReadError
@@ -36,6 +39,8 @@ abbrev pub NamesMisfit : ℕ → Field → WriteError → Type 0
 NamesMisfit i field (writing.NumberWidth at width) = (at ≡ i) × IsMisfit field (WidthOver width)
 NamesMisfit i field (writing.Number at) = (at ≡ i) × IsMisfit field PastWidth
 NamesMisfit i field (writing.Character at character) = (at ≡ i) × IsMisfit field (NotInAlphabet character)
+NamesMisfit i field (writing.IntegerLength at) = (at ≡ i) × IsMisfit field PastLength
+NamesMisfit i field (writing.ArcCount at) = (at ≡ i) × IsMisfit field TooFewArcs
 NamesMisfit i field writing.TooLong = ⊥
 NamesMisfit i field writing.Memory = ⊥
 
@@ -44,6 +49,8 @@ abbrev pub NamesFirstMisfit : List Field → WriteError → Type 0
 NamesFirstMisfit fields (writing.NumberWidth at width) = IsFirstMisfit fields at (WidthOver width)
 NamesFirstMisfit fields (writing.Number at) = IsFirstMisfit fields at PastWidth
 NamesFirstMisfit fields (writing.Character at character) = IsFirstMisfit fields at (NotInAlphabet character)
+NamesFirstMisfit fields (writing.IntegerLength at) = IsFirstMisfit fields at PastLength
+NamesFirstMisfit fields (writing.ArcCount at) = IsFirstMisfit fields at TooFewArcs
 NamesFirstMisfit fields writing.TooLong = ⊥
 NamesFirstMisfit fields writing.Memory = ⊥
 

@@ -1,9 +1,10 @@
 -- The first wrong field, and its reason.
-use Rattle.std.specs.Prelude.{◌≡◌, ℕ, ℤ, ◌+◌, ◌*◌, ◌^◌, ◌<◌, ◌≤◌, ◌⊎◌, Bool, List, Some, length, take, slice_get}
+use Rattle.std.specs.Prelude.{◌≡◌, ℕ, ℤ, ◌+◌, ◌*◌, ◌^◌, ◌<◌, ◌≤◌, ◌⊎◌, Bool, List, Some, length, take, drop, slice_get}
 use Rattle.asn1_bits.specs.Bits.{number, bits}
 use Rattle.asn1_number.specs.Octets.{IsShortest}
+use Rattle.asn1_oid.specs.Contents.{IsContents, FitU32}
 use Rattle.asn1_strings.specs.Alphabet.{IsCode}
-use Rattle.asn1_values.specs.Fields.{Field, Shape, IsSpelledBy, Begins, Number, Character, OfNumber, OfOctets, OfBits, OfInteger, OfCharacter}
+use Rattle.asn1_values.specs.Fields.{Field, Shape, IsSpelledBy, Begins, Number, Character, CountedInteger, Identifier, OfNumber, OfOctets, OfBits, OfInteger, OfCharacter, OfCountedInteger, OfIdentifier}
 
 -- ---- reading
 
@@ -13,6 +14,9 @@ pub data Fault : Type 0 where
   NotInteger : Fault
   Short : ℕ → Fault
   NoCharacter : ℕ → Fault
+  NoLength : ℕ → Fault
+  NotIdentifier : Fault
+  ArcOver : Fault
 
 -- so many bits are asked for, and n are missing
 abbrev pub IsShortBy : ℕ → List Bool → ℕ → Type 0
@@ -21,6 +25,22 @@ IsShortBy asked left n = (0 < n) × (length left + n ≡ asked)
 -- the bits are octets that are shortest for no number
 abbrev pub IsNoInteger : List Bool → Type 0
 IsNoInteger list = (octets : List ℕ) (n : ℤ) → list ≡ bits octets → ¬ (IsShortest n octets)
+
+-- the bits are octets that are the contents of no arcs, whatever their size
+abbrev pub IsNoIdentifier : List Bool → Type 0
+IsNoIdentifier list = (octets arcs : List ℕ) → list ≡ bits octets → ¬ (IsContents arcs octets)
+
+-- the bits are the contents of arcs that do not all fit `u32`
+abbrev pub HoldsLargeArc : List Bool → Type 0
+HoldsLargeArc list = (octets : List ℕ) × (arcs : List ℕ) × (list ≡ bits octets) × IsContents arcs octets × ¬ (FitU32 arcs)
+
+-- a counted integer can have so many octets
+abbrev pub IsCount : ℕ → Type 0
+IsCount k = (1 ≤ k) × (k ≤ 127)
+
+-- the number of the first octet
+abbrev pub first_octet : List Bool → ℕ
+first_octet left = number (take 8 left)
 
 -- why no field of the shape begins what is left; the first reason that applies
 abbrev pub IsReason : Shape → List Bool → Fault → Type 0
@@ -35,6 +55,19 @@ IsReason (OfCharacter alphabet) left (Short n) = IsShortBy alphabet.width left n
 IsReason (OfCharacter alphabet) left (NoCharacter k) =
     (alphabet.width ≤ length left) × (k ≡ number (take alphabet.width left))
     × ((c : ℕ) → ¬ (IsCode alphabet c k))
+IsReason OfCountedInteger left (Short n) =
+    IsShortBy 8 left n
+    ⊎ ((8 ≤ length left) × IsCount (first_octet left) × IsShortBy (8 + 8 * first_octet left) left n)
+IsReason OfCountedInteger left (NoLength octet) =
+    (8 ≤ length left) × (octet ≡ first_octet left) × ¬ (IsCount octet)
+IsReason OfCountedInteger left NotInteger =
+    (8 + 8 * first_octet left ≤ length left) × IsCount (first_octet left)
+    × IsNoInteger (take (8 * first_octet left) (drop 8 left))
+IsReason (OfIdentifier count) left NotIdentifier =
+    (count ≡ 0) ⊎ ((8 * count ≤ length left) × IsNoIdentifier (take (8 * count) left))
+IsReason (OfIdentifier count) left ArcOver =
+    (0 < count) × (8 * count ≤ length left) × HoldsLargeArc (take (8 * count) left)
+IsReason (OfIdentifier count) left (Short n) = (0 < count) × IsShortBy (8 * count) left n
 IsReason shape left fault = ⊥
 
 -- some fields of these shapes begin the list
@@ -56,6 +89,8 @@ pub data Misfit : Type 0 where
   WidthOver : ℕ → Misfit
   PastWidth : Misfit
   NotInAlphabet : ℕ → Misfit
+  PastLength : Misfit
+  TooFewArcs : Misfit
 
 -- some bits spell the field
 abbrev pub Fits : Field → Type 0
@@ -67,6 +102,8 @@ IsMisfit (Number value width) (WidthOver w) = (w ≡ width) × (128 < width)
 IsMisfit (Number value width) PastWidth = (width ≤ 128) × (2 ^ width ≤ value)
 IsMisfit (Character alphabet character) (NotInAlphabet c) =
     (c ≡ character) × ((k : ℕ) → ¬ (IsCode alphabet character k))
+IsMisfit (CountedInteger n) PastLength = (octets : List ℕ) × IsShortest n octets × (127 < length octets)
+IsMisfit (Identifier arcs) TooFewArcs = length arcs < 2
 IsMisfit field misfit = ⊥
 
 -- i is the least place of a field that doesn't fit, and the misfit is its reason

@@ -5,6 +5,7 @@ mod error;
 mod field;
 mod read;
 mod shape;
+mod view_octets;
 mod write;
 
 pub use error::{ReadError, WriteError};

@@ -19,7 +19,10 @@ pub use asn1_integer::{
     laws_of_shortest_octets, laws_of_wrapping, signed_value, unsigned_value,
     without_redundant_sign_octets,
 };
-pub use asn1_oid::{ObjectIdentifier, Oid};
+pub use asn1_oid::{
+    ContentsError, ObjectIdentifier, OctetSource, Oid, OidContents, check_contents,
+    laws_of_contents,
+};
 pub use asn1_strings::{
     AsBytes, Bmp, BmpString, CharacterAlphabet, CharacterSetName, Chars, CodeUnit, Entries,
     FixedOctetString, FromBytes, General, GeneralString, Graphic, GraphicString, Ia5, Ia5String,

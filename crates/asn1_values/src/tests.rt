@@ -2,8 +2,10 @@
 
 mod alphabets;
 mod callers;
+mod counted;
 mod example;
 mod fields;
+mod identifiers;
 mod integers;
 mod ragged;
 mod same;

@@ -195,6 +195,8 @@ fn vectors_take_octets_from_any_bit(rt: HostRuntime) -> Result<(), Fail> {
 #[test]
 fn views_are_written_into_zeros(rt: HostRuntime) -> Result<(), Fail> {
     let octets = pattern(rt.alloc(), 20)?;
+    let bits = plain_bits(rt.alloc(), octets.as_slice())?;
+    assert!(rt; bits.len() == 160);
     for first in 0..9 {
         for len in [1, 5, 8, 9, 64, 70] {
             let view = BitStr::new(octets.as_slice(), first, len).ok_or("within")?;
@@ -205,9 +207,9 @@ fn views_are_written_into_zeros(rt: HostRuntime) -> Result<(), Fail> {
                 let written = BitStr::from_octets(&target);
                 let (front, rest) = written.split_at(position);
                 let (middle, back) = rest.split_at(len);
-                assert!(rt; middle == view);
-                assert!(rt; front == BitStr::from_octets(&[0; 16]).slice(0, position));
-                assert!(rt; back == BitStr::from_octets(&[0; 16]).slice(0, 128 - position - len));
+                assert!(rt; shows(middle, &bits[first..first + len]));
+                assert!(rt; shows(front, &[false; 17][..position]));
+                assert!(rt; shows(back, &[false; 128][..128 - position - len]));
             }
         }
     }

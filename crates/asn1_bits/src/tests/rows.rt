@@ -175,6 +175,25 @@ fn an_appender_takes_digits_octets_and_views(rt: HostRuntime) -> Result<(), Fail
 }
 
 #[test]
+fn an_appender_fills_its_room_with_octets_and_bits(rt: HostRuntime) -> Result<(), Fail> {
+    let mut buffer = BitBuffer::new(rt.alloc());
+    buffer.push_bits(0b111, 3)?;
+    assert_eq!(rt; buffer.len(), 3);
+    let mut appender = buffer.appender(24)?;
+    assert_eq!(rt; appender.room(), 24);
+    appender.push_octets(&[0xA5, 0x5A], &mut Turns::new());
+    let view = BitStr::new(&[0x5A, 0x7F], 3, 8).ok_or("within")?;
+    assert_eq!(rt; view.len(), 8);
+    assert_eq!(rt; appender.room(), 8);
+    appender.push_bitslice(view, &mut Turns::new());
+    assert_eq!(rt; appender.room(), 0);
+    drop(appender);
+    assert_eq!(rt; buffer.len(), 27);
+    assert_eq!(rt; buffer.as_bytes(), [0xF4, 0xAB, 0x5A, 0x60].as_slice());
+    Ok(())
+}
+
+#[test]
 fn a_bit_string_keeps_a_front(rt: HostRuntime) -> Result<(), Fail> {
     let mut bits = BitString::from_vec([0xFF].to_vec(rt.alloc())?);
     bits.truncate(3);

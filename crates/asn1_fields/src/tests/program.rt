@@ -27,6 +27,18 @@ fn lines_are_answered_with_and_without_the_last_end(rt: HostRuntime) -> Result<(
             "n 5\no a5\nn 128\nrest 2\nagain b4a01000\n",
             0,
         ),
+        (
+            "n1 n2 n3 n2 o1 o2 n128\nd7abcdefffffffffffffffffffffffffffffffff\n0",
+            "n 1\nn 2\nn 5\nn 3\no ab\no cdef\nn 340282366920938463463374607431768211455\nrest 0\n\
+             again d7abcdefffffffffffffffffffffffffffffffff\n",
+            0,
+        ),
+        (
+            "o30\n000102030405060708090a0b0c0d0e0f101112131415161718191a1b1c1d\n0",
+            "o 000102030405060708090a0b0c0d0e0f101112131415161718191a1b1c1d\nrest 0\n\
+             again 000102030405060708090a0b0c0d0e0f101112131415161718191a1b1c1d\n",
+            0,
+        ),
         ("n3 o2\nffff\n0", "refused: field 1: 3 bits short\n", 1),
         ("\n\n0", "rest 0\nagain -\n", 0),
         (
@@ -57,6 +69,55 @@ fn lines_are_answered_with_and_without_the_last_end(rt: HostRuntime) -> Result<(
         ("b5\n00\n0", "b 00000\nrest 3\nagain 00\n", 0),
         ("b0 b3\n60\n1", "b -\nb 110\nrest 4\nagain c0\n", 0),
         ("i1\nff\n0", "i ff\nrest 0\nagain ff\n", 0),
+        ("c\n020080\n0", "c 0080\nrest 0\nagain 020080\n", 0),
+        ("c\nf017f0\n4", "c 7f\nrest 4\nagain 017f\n", 0),
+        (
+            "c\n020005\n0",
+            "refused: field 0: not a shortest integer\n",
+            1,
+        ),
+        (
+            "c\n80\n0",
+            "refused: field 0: length octet 128 is not 1 to 127\n",
+            1,
+        ),
+        (
+            "c\n00\n0",
+            "refused: field 0: length octet 0 is not 1 to 127\n",
+            1,
+        ),
+        ("c\n030080\n0", "refused: field 0: 8 bits short\n", 1),
+        ("c\n\n0", "refused: field 0: 8 bits short\n", 1),
+        (
+            "d6\n2a864886f70d\n0",
+            "d 1.2.840.113549\nrest 0\nagain 2a864886f70d\n",
+            0,
+        ),
+        (
+            "d3 n4\n5883703f\n4",
+            "d 2.999.3\nn 15\nrest 0\nagain 883703f0\n",
+            0,
+        ),
+        (
+            "d3\n2a8001\n0",
+            "refused: field 0: not the contents of an identifier\n",
+            1,
+        ),
+        (
+            "d6\n2a9080808000\n0",
+            "refused: field 0: an arc is past 32 bits\n",
+            1,
+        ),
+        (
+            "d0\n2a\n0",
+            "refused: field 0: not the contents of an identifier\n",
+            1,
+        ),
+        (
+            "c c\n01050180\n0",
+            "c 05\nc 80\nrest 0\nagain 01050180\n",
+            0,
+        ),
     ];
     for (lines, output, status) in rows {
         answers(&rt, lines, output, status)?;
@@ -85,7 +146,7 @@ fn other_inputs_are_refused_by_their_first_wrong_line(rt: HostRuntime) -> Result
         ("i\n00\n0\n", "bad shapes\n"),
         ("i02\n00\n0\n", "bad shapes\n"),
         ("a1\n00\n0\n", "bad shapes\n"),
-        ("c\n00\n0\n", "bad shapes\n"),
+        ("c1\n00\n0\n", "bad shapes\n"),
         ("N3\n00\n0\n", "bad shapes\n"),
     ];
     for (input, output) in rows {
@@ -94,7 +155,7 @@ fn other_inputs_are_refused_by_their_first_wrong_line(rt: HostRuntime) -> Result
     Ok(())
 }
 
-/// Gives the text, and then fails.
+/// Gives the text, an octet at each read, and then fails.
 #[derive(Drop)]
 struct Failing<'a> {
     text: &'a [u8],
@@ -105,7 +166,8 @@ impl Read for Failing<'_> {
         if self.text.is_empty() {
             return Err(io::Error::other("no more"));
         }
-        self.text.read(buf)
+        let most = buf.len().min(1);
+        self.text.read(&mut buf[..most])
     }
 }
 
@@ -134,5 +196,136 @@ fn reading_and_writing_may_fail(rt: HostRuntime) -> Result<(), Fail> {
     assert_eq!(rt; written.len(), 0);
     let answered = run(rt.alloc(), &mut b"n3\n00\n0\n".as_slice(), &mut Full);
     assert_eq!(rt; answered, Err(RunError::Write));
+    Ok(())
+}
+
+/// Gives the text, an octet at each read.
+#[derive(Drop)]
+struct OctetByOctet<'a> {
+    text: &'a [u8],
+}
+
+impl Read for OctetByOctet<'_> {
+    fn read(&mut self, buf: &mut [u8]) -> io::Result<usize> {
+        let most = buf.len().min(1);
+        self.text.read(&mut buf[..most])
+    }
+}
+
+/// Keeps what is written, and how often.
+#[derive(Drop)]
+struct Counting {
+    octets: Vec<u8>,
+    writes: u32,
+}
+
+impl Write for Counting {
+    fn write(&mut self, buf: &[u8]) -> io::Result<usize> {
+        self.writes = self.writes.saturating_add(1);
+        self.octets.write(buf)
+    }
+
+    fn flush(&mut self) -> io::Result<()> {
+        Ok(())
+    }
+}
+
+#[test]
+fn long_inputs_are_read_to_their_end_and_answered_at_once(rt: HostRuntime) -> Result<(), Fail> {
+    let mut digits = String::new(rt.alloc());
+    for _ in 0..3000 {
+        digits.push_str("a5")?;
+    }
+    let input = format!(in rt.alloc(); "o3000\n{digits}\n0\n")?;
+    let output = format!(in rt.alloc(); "o {digits}\nrest 0\nagain {digits}\n")?;
+    answers(&rt, input.as_str(), output.as_str(), 0)?;
+    let mut written = Counting {
+        octets: Vec::new(rt.alloc()),
+        writes: 0,
+    };
+    let mut reader = OctetByOctet {
+        text: input.as_bytes(),
+    };
+    let answered = run(rt.alloc(), &mut reader, &mut written);
+    assert_eq!(rt; answered, Ok(0));
+    assert_eq!(rt; written.octets.as_slice(), output.as_bytes());
+    assert_eq!(rt; written.writes, 1);
+    Ok(())
+}
+
+/// Gives an LF at each read, without end.
+#[derive(Drop)]
+struct Endless {
+    reads: u32,
+}
+
+impl Read for Endless {
+    fn read(&mut self, buf: &mut [u8]) -> io::Result<usize> {
+        self.reads = self.reads.saturating_add(1);
+        let Some(first) = buf.first_mut() else {
+            return Ok(0);
+        };
+        *first = b'\n';
+        Ok(1)
+    }
+}
+
+#[test]
+fn each_read_may_fail(rt: HostRuntime) -> Result<(), Fail> {
+    let text = b"n3 o1 n16\nf6940202\n3\n".as_slice();
+    for k in 0..=text.len() {
+        let front = text.get(..k).ok_or("within")?;
+        let mut written = Vec::new(rt.alloc());
+        let answered = run(rt.alloc(), &mut Failing { text: front }, &mut written);
+        assert_eq!(rt; answered, Err(RunError::Read));
+        assert_eq!(rt; written.len(), 0);
+    }
+    Ok(())
+}
+
+#[test]
+fn an_input_without_end_is_given_up(rt: HostRuntime) -> Result<(), Fail> {
+    let mut input = Endless { reads: 0 };
+    let mut written = Vec::new(rt.alloc());
+    let answered = run(rt.alloc(), &mut input, &mut written);
+    assert_eq!(rt; answered, Err(RunError::Read));
+    assert_eq!(rt; input.reads, 1_048_576);
+    assert_eq!(rt; written.len(), 0);
+    Ok(())
+}
+
+/// Takes an octet at each write, and fails once so many were taken.
+#[derive(Drop)]
+struct FullAfter {
+    taken: usize,
+    most: usize,
+}
+
+impl Write for FullAfter {
+    fn write(&mut self, buf: &[u8]) -> io::Result<usize> {
+        if self.taken >= self.most {
+            return Err(io::Error::other("full"));
+        }
+        self.taken = self.taken.saturating_add(1);
+        Ok(buf.len().min(1))
+    }
+
+    fn flush(&mut self) -> io::Result<()> {
+        Ok(())
+    }
+}
+
+#[test]
+fn each_write_may_fail(rt: HostRuntime) -> Result<(), Fail> {
+    // The answer: `n 0`, `rest 5` and `again 00`, each with its LF, are 20 octets.
+    for most in 0..20usize {
+        let mut output = FullAfter { taken: 0, most };
+        let answered = run(rt.alloc(), &mut b"n3\n00\n0\n".as_slice(), &mut output);
+        assert_eq!(rt; answered, Err(RunError::Write));
+        assert_eq!(rt; output.taken, most);
+    }
+    let mut output = FullAfter { taken: 0, most: 20 };
+    let answered = run(rt.alloc(), &mut b"n3\n00\n0\n".as_slice(), &mut output);
+    assert_eq!(rt; answered, Ok(0));
     Ok(())
 }

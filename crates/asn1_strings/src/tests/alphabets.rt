@@ -10,6 +10,7 @@ use crate::{
 };
 use asn1_bits::Turns;
 use std::cell::Cell;
+use std::mem::size_of;
 use std::process::Abort;
 
 // The alphabet of `S` has the width, and writes each character by the code beside it.
@@ -209,4 +210,9 @@ fn a_search_among_65_looks_at_most_8_times(rt: HostRuntime) {
         );
         assert!(rt; looks >= 1 && looks <= 8, "{character}");
     }
+}
+
+#[test]
+fn an_alphabet_is_small(rt: HostRuntime) {
+    assert_eq!(rt; size_of::<CharacterAlphabet<'_>>(), 56);
 }

@@ -21,6 +21,12 @@ pub enum WriteError {
     /// Every field fits, and memory is wanting.
     #[error("out of memory")]
     Memory,
+    /// A counted integer whose shortest octets are more than 127.
+    #[error("field {field}: the integer is longer than 127 octets")]
+    IntegerLength { field: usize },
+    /// An identifier of one arc, which has no contents.
+    #[error("field {field}: fewer than two arcs")]
+    ArcCount { field: usize },
 }
 
 /// Why fields were not read. Fields are counted from 0.
@@ -41,6 +47,15 @@ pub enum ReadError {
     /// No field is wrong, and memory is wanting.
     #[error("out of memory")]
     Memory,
+    /// A length octet of a counted integer that is 0 or at least 128.
+    #[error("field {field}: length octet {octet} is not 1 to 127")]
+    Length { field: usize, octet: u8 },
+    /// No octets, or octets that are the contents of no identifier, however large its arcs.
+    #[error("field {field}: not the contents of an identifier")]
+    Identifier { field: usize },
+    /// The contents of an identifier, one of whose arcs passes `u32`.
+    #[error("field {field}: an arc is past 32 bits")]
+    Arc { field: usize },
 }
 
 impl From<AllocError> for WriteError {

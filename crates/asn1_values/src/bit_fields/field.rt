@@ -2,6 +2,7 @@
 
 use asn1_bits::{BitStr, Octets};
 use asn1_integer::Integer;
+use asn1_oid::ObjectIdentifier;
 use asn1_strings::CharacterAlphabet;
 
 /// A field that is written, or that was read.
@@ -23,4 +24,8 @@ pub enum Field<'a, 's> {
         alphabet: CharacterAlphabet<'s>,
         character: u32,
     },
+    /// One octet with the number of the integer's shortest octets, 1 to 127, and these octets.
+    CountedInteger(Integer),
+    /// The contents of an identifier (X.690 8.19).
+    Oid(ObjectIdentifier),
 }

@@ -1,26 +1,30 @@
 //! Reading fields.
 
-ghost use Rattle.std.specs.Prelude.{◌≡◌, ℕ, Bool, List, [], Ok, Err, ◌+◌, ◌-◌, ◌*◌, ◌%◌, ◌<◌, ◌≤◌, ◌++◌, length, take, drop, All, OnOk, IfOk, IfErr, OnErr, IsOk, IsOkUnless};
-ghost use Rattle.std.specs.List.{AllZip};
+ghost use Rattle.std.specs.Prelude.{◌≡◌, ◌≢◌, ℕ, pos, ◌-ℤ◌, ◌^◌, Bool, List, [], Ok, Err, ◌+◌, ◌-◌, ◌*◌, ◌/◌, ◌%◌, ◌<◌, ◌≤◌, ◌++◌, length, take, drop, All, OnOk, IfOk, IfErr, OnErr, IfSome, IsOk, IsOkUnless, ◌↔◌};
+ghost use Rattle.std.specs.List.{AllZip, AllByRecursion};
 ghost use Rattle.asn1_bits.specs.BitReader.{view_left, bits_left};
 ghost use Rattle.asn1_bits.specs.Bits.{bits, number};
+ghost use Rattle.asn1_bits.specs.Octets.{octets_in, IsBorrowed};
 ghost use Rattle.asn1_bits.specs.View.{part};
 ghost use Rattle.asn1_number.specs.Octets.{signed};
 ghost use Rattle.asn1_strings.specs.Alphabet.{IsCode};
 ghost use Rattle.asn1_strings.specs.AlphabetView.{alphabet_of};
 ghost use Rattle.asn1_values.specs.Fields as plain;
-ghost use Rattle.asn1_values.specs.Fields.{Begins, IsOfShape, IsSpelledBy, AreSpelledBy, AreInOneCode, AreReadInOneCode};
+ghost use Rattle.asn1_values.specs.Fields.{Begins, IsOfShape, IsSpelledBy, AreSpelledBy, NoSpellingBeginsAnother, NoneBeginsAnother, needs, AreInOneCode, AreReadInOneCode};
 ghost use Rattle.asn1_values.specs.Plain.{plain_field, plain_fields, plain_shape, plain_shapes, LiesAt, LieFrom};
 ghost use Rattle.asn1_values.specs.Refusals.{IsReadRefusal};
 ghost use Rattle.asn1_values.specs.Steps.{past, past_all};
-ghost use Rattle.asn1_values.specs.Walk.{field_at, fields_at};
+ghost use Rattle.asn1_oid.specs.Reading.{contents_reading};
+ghost use Rattle.asn1_values.specs.Walk.{field_at, fields_at, integer_at, octets_of};
 ghost use Rattle.asn1_values.specs.Wrong.{CanBegin};
 
 use super::error::ReadError;
 use super::field::Field;
 use super::shape::Shape;
-use asn1_bits::BitReader;
+use super::view_octets::ViewOctets;
+use asn1_bits::{BitReader, Octets};
 use asn1_integer::Integer;
+use asn1_oid::{ContentsError, ObjectIdentifier, check_contents};
 use asn1_strings::CharacterAlphabet;
 use std::alloc::{AllocError, Global};
 
@@ -58,18 +62,28 @@ pub fn read_fields<'a, 's>(
     // own first bit on.
     ensures places { IfOk result (λ fields. LieFrom (view_left reader.old) fields.items) }
 
-    // A refusal names the first wrong field, with its reason; where none is wrong, it is want of memory.
+    // A refusal names the first wrong field, with its reason; where none is wrong, it is want of memory. A refusal
+    // that names a field is the only one that can be, and is given whatever memory there is.
     ensures refused { IfErr result (IsReadRefusal (bits_left reader.old) (plain_shapes shapes.now)) }
+    ensures named { (e : ReadError) → e ≢ ReadError.Memory
+        → IsReadRefusal (bits_left reader.old) (plain_shapes shapes.now) e → result ≡ Err e }
     ensures unchanged { OnErr result (view_left reader.new ≡ view_left reader.old) }
     ensures no_shapes { shapes.now ≡ [] → IsOk result }
 
-    // Concatenations for the same shapes are equally long, and spell one list of fields.
-    ensures equally_long { (xs ys : List plain.Field) (a b : List Bool)
-        → AllZip IsOfShape xs (plain_shapes shapes.now) → AllZip IsOfShape ys (plain_shapes shapes.now)
-        → AreSpelledBy xs a → AreSpelledBy ys b → length a ≡ length b }
+    // No spelling of a field begins that of another field of the same shape. So no concatenation for these shapes
+    // begins another one of other fields, and each spells one list of fields.
+    ensures each_alone { AllByRecursion NoSpellingBeginsAnother (plain_shapes shapes.now) }
+    ensures none_begins_another { NoneBeginsAnother (plain_shapes shapes.now) }
     ensures one_list { (xs ys : List plain.Field) (list : List Bool)
         → AllZip IsOfShape xs (plain_shapes shapes.now) → AllZip IsOfShape ys (plain_shapes shapes.now)
         → AreSpelledBy xs list → AreSpelledBy ys list → xs ≡ ys }
+    // Where each shape has its number of bits, concatenations for them are equally long, and the reader moves by as
+    // many bits.
+    ensures equally_long { (xs : List plain.Field) (list : List Bool)
+        → AllZip IsOfShape xs (plain_shapes shapes.now) → AreSpelledBy xs list
+        → IfSome (needs (plain_shapes shapes.now)) (λ n. length list ≡ n) }
+    ensures moved { OnOk result (IfSome (needs (plain_shapes shapes.now))
+        (λ n. length (bits_left reader.old) ≡ n + length (bits_left reader.new))) }
 {
     examine_all(*reader, shapes)?;
     let mut rest = *reader;
@@ -86,46 +100,49 @@ fn examine_all(reader: BitReader<'_>, shapes: &[Shape<'_>]) -> Result<(), ReadEr
 {
     let mut left = reader;
     for (i, shape) in shapes.iter().enumerate() {
-        examine(&mut left, *shape, i)?;
+        examine(&mut left, shape, i)?;
     }
     Ok(())
 }
 
 /// Goes past one field, if there is one of the shape.
 #[tactic(auto, unfolding(crate::specs::Walk::field_at, crate::specs::Walk::cut_at))]
-fn examine(reader: &mut BitReader<'_>, shape: Shape<'_>, field: usize) -> Result<(), ReadError>
+fn examine(reader: &mut BitReader<'_>, shape: &Shape<'_>, field: usize) -> Result<(), ReadError>
     ensures ok { OnOk result
-        (past field (field_at (plain_shape shape.entry) (bits_left reader.old)) ≡ Ok (bits_left reader.new)) }
+        (past field (field_at (plain_shape shape.now) (bits_left reader.old)) ≡ Ok (bits_left reader.new)) }
     ensures err { IfErr result
-        (λ e. past field (field_at (plain_shape shape.entry) (bits_left reader.old)) ≡ Err e) }
+        (λ e. past field (field_at (plain_shape shape.now) (bits_left reader.old)) ≡ Err e) }
 {
     match shape {
         Shape::Number { width } => {
+            let width = *width;
             if width > 128 {
                 return Err(ReadError::NumberWidth { field, width });
             }
             take_bits(reader, width as u128, field)?;
         }
         Shape::Octets { count } => {
-            take_bits(reader, 8 * count as u128, field)?;
+            take_bits(reader, 8 * *count as u128, field)?;
         }
         Shape::Bits { length } => {
-            take_bits(reader, length as u128, field)?;
+            take_bits(reader, *length as u128, field)?;
         }
-        Shape::Integer { octets } => examine_integer(reader, octets, field)?,
-        Shape::Character { alphabet } => examine_character(reader, &alphabet, field)?,
+        Shape::Integer { octets } => examine_integer(reader, *octets, field)?,
+        Shape::Character { alphabet } => examine_character(reader, alphabet, field)?,
+        Shape::CountedInteger => examine_counted(reader, field)?,
+        Shape::Oid { octets } => examine_identifier(reader, *octets, field)?,
     }
     Ok(())
 }
 
 /// Goes past an integer, if its octets are the shortest of a number: if the first nine of their bits are not all alike
 /// (X.690 8.3.2), or there is one octet.
-#[tactic(auto, unfolding(crate::specs::Walk::field_at, crate::specs::Walk::cut_at))]
+#[tactic(auto, unfolding(crate::specs::Walk::integer_at, crate::specs::Walk::cut_at))]
 fn examine_integer(reader: &mut BitReader<'_>, octets: usize, field: usize) -> Result<(), ReadError>
     ensures ok { OnOk result
-        (past field (field_at (plain.OfInteger octets) (bits_left reader.old)) ≡ Ok (bits_left reader.new)) }
+        (past field (integer_at octets (bits_left reader.old)) ≡ Ok (bits_left reader.new)) }
     ensures err { IfErr result
-        (λ e. past field (field_at (plain.OfInteger octets) (bits_left reader.old)) ≡ Err e) }
+        (λ e. past field (integer_at octets (bits_left reader.old)) ≡ Err e) }
 {
     if octets == 0 {
         return Err(ReadError::Integer { field });
@@ -138,6 +155,45 @@ fn examine_integer(reader: &mut BitReader<'_>, octets: usize, field: usize) -> R
         }
     }
     Ok(())
+}
+
+/// Goes past a counted integer, if its first octet is 1 to 127, and so many octets are the shortest of a number.
+#[tactic(auto, unfolding(crate::specs::Walk::field_at, crate::specs::Walk::counted_at))]
+fn examine_counted(reader: &mut BitReader<'_>, field: usize) -> Result<(), ReadError>
+    ensures ok { OnOk result
+        (past field (field_at plain.OfCountedInteger (bits_left reader.old)) ≡ Ok (bits_left reader.new)) }
+    ensures err { IfErr result
+        (λ e. past field (field_at plain.OfCountedInteger (bits_left reader.old)) ≡ Err e) }
+{
+    let octet = take_bits(reader, 8, field)?.first_u128(8) as u8;
+    if octet == 0 || octet > 127 {
+        return Err(ReadError::Length { field, octet });
+    }
+    examine_integer(reader, usize::from(octet), field)
+}
+
+/// Goes past an identifier, if the octets are its contents.
+#[tactic(auto, unfolding(crate::specs::Walk::field_at, crate::specs::Walk::cut_at))]
+fn examine_identifier(
+    reader: &mut BitReader<'_>,
+    octet_count: usize,
+    field: usize,
+) -> Result<(), ReadError>
+    ensures ok { OnOk result
+        (past field (field_at (plain.OfIdentifier octet_count) (bits_left reader.old)) ≡ Ok (bits_left reader.new)) }
+    ensures err { IfErr result
+        (λ e. past field (field_at (plain.OfIdentifier octet_count) (bits_left reader.old)) ≡ Err e) }
+{
+    if octet_count == 0 {
+        return Err(ReadError::Identifier { field });
+    }
+    let front = take_bits(reader, 8 * octet_count as u128, field)?;
+    match check_contents(&ViewOctets { bits: front.bits() }) {
+        Ok(()) => Ok(()),
+        Err(ContentsError::Malformed) => Err(ReadError::Identifier { field }),
+        Err(ContentsError::ArcTooLarge) => Err(ReadError::Arc { field }),
+        Err(ContentsError::Memory) => unreachable!(),
+    }
 }
 
 /// Goes past a character, if the alphabet has one for the code.
@@ -207,9 +263,11 @@ fn collect<'a, 's>(
         ((view_left reader.old).len - length front)) }
     ensures no_shapes { shapes.now ≡ [] → IsOk result }
 {
+    // All the room is asked for at once; for no shapes none is.
     let mut fields = Vec::new(alloc);
+    fields.reserve_exact(shapes.len())?;
     for shape in shapes {
-        fields.push(read_field(alloc, reader, *shape)?)?;
+        fields.push(read_field(alloc, reader, shape)?)?;
     }
     Ok(fields)
 }
@@ -219,10 +277,120 @@ fn collect<'a, 's>(
 fn read_field<'a, 's>(
     alloc: Global,
     reader: &mut BitReader<'a>,
-    shape: Shape<'s>,
+    shape: &Shape<'s>,
 ) -> Result<Field<'a, 's>, AllocError>
-    requires { IsOk (field_at (plain_shape shape) (bits_left reader.old)) }
-    ensures read { IfOk result (λ field. field_at (plain_shape shape.entry) (bits_left reader.old)
+    requires { IsOk (field_at (plain_shape shape.now) (bits_left reader.old)) }
+    ensures read { IfOk result (λ field. field_at (plain_shape shape.now) (bits_left reader.old)
+        ≡ Ok (plain_field field, bits_left reader.new)) }
+    ensures place { IfOk result (LiesAt (view_left reader.old) (view_left reader.old).first) }
+    ensures rest { IfOk result (λ field. (list : List Bool) → IsSpelledBy (plain_field field) list
+        → view_left reader.new ≡ part (view_left reader.old) (length list)
+        ((view_left reader.old).len - length list)) }
+{
+    match shape {
+        Shape::Number { width } => Ok(Field::Number {
+            value: take_number(reader, *width),
+            width: *width,
+        }),
+        Shape::Octets { count } => Ok(Field::Octets(read_octets(alloc, reader, *count)?)),
+        Shape::Bits { length } => Ok(Field::Bits(take_front(reader, *length).bits())),
+        Shape::Integer { octets } => Ok(Field::Integer(read_integer(alloc, reader, *octets)?)),
+        Shape::Character { alphabet } => Ok(Field::Character {
+            alphabet: *alphabet,
+            character: read_character(reader, alphabet),
+        }),
+        Shape::CountedInteger => Ok(read_counted(alloc, reader)?),
+        Shape::Oid { octets } => Ok(read_identifier(alloc, reader, *octets)?),
+    }
+}
+
+/// Takes so many bits that are there.
+fn take_front<'a>(reader: &mut BitReader<'a>, count: usize) -> BitReader<'a>
+    requires { count ≤ length (bits_left reader.old) }
+    ensures front { view_left result ≡ part (view_left reader.old) 0 count }
+    ensures front_list { bits_left result ≡ take count (bits_left reader.old) }
+    ensures rest { view_left reader.new ≡ part (view_left reader.old) count
+        ((view_left reader.old).len - count) }
+    ensures rest_list { bits_left reader.new ≡ drop count (bits_left reader.old) }
+{
+    match reader.split(count) {
+        Ok(front) => front,
+        Err(_) => unreachable!(),
+    }
+}
+
+/// Takes the number of so many bits that are there.
+fn take_number(reader: &mut BitReader<'_>, width: usize) -> u128
+    requires few { width ≤ 128 }
+    requires there { width ≤ length (bits_left reader.old) }
+    ensures number { result ≡ number (take width (bits_left reader.old)) }
+    ensures below { result < 2 ^ width }
+    ensures rest { view_left reader.new ≡ part (view_left reader.old) width
+        ((view_left reader.old).len - width) }
+    ensures rest_list { bits_left reader.new ≡ drop width (bits_left reader.old) }
+{
+    take_front(reader, width).first_u128(width)
+}
+
+/// Reads so many octets that are there.
+fn read_octets<'a>(
+    alloc: Global,
+    reader: &mut BitReader<'a>,
+    count: usize,
+) -> Result<Octets<'a>, AllocError>
+    requires { 8 * count ≤ length (bits_left reader.old) }
+    ensures bits { IfOk result (λ o. bits (octets_in o) ≡ take (8 * count) (bits_left reader.old)) }
+    ensures octets { IfOk result (λ o. All (λ octet. octet < 256) (octets_in o)) }
+    ensures place { IfOk result (λ o. IsBorrowed o ↔ ((view_left reader.old).first % 8 ≡ 0)) }
+    ensures rest { OnOk result (view_left reader.new ≡ part (view_left reader.old) (8 * count)
+        ((view_left reader.old).len - 8 * count)) }
+    ensures rest_list { OnOk result (bits_left reader.new ≡ drop (8 * count) (bits_left reader.old)) }
+{
+    // A length fits `usize`, and so do the bits of octets that are there.
+    let _len = reader.len();
+    take_front(reader, 8 * count).octets(alloc)
+}
+
+/// Reads a character that is there.
+#[tactic(auto, unfolding(crate::specs::Walk::field_at, crate::specs::Walk::cut_at))]
+fn read_character(reader: &mut BitReader<'_>, alphabet: &CharacterAlphabet<'_>) -> u32
+    requires { IsOk (field_at (plain.OfCharacter (alphabet_of alphabet.now)) (bits_left reader.old)) }
+    ensures read { field_at (plain.OfCharacter (alphabet_of alphabet.now)) (bits_left reader.old)
+        ≡ Ok (plain.Character (alphabet_of alphabet.now) result, bits_left reader.new) }
+    ensures rest { let width = (alphabet_of alphabet.now).width in
+        view_left reader.new ≡ part (view_left reader.old) width ((view_left reader.old).len - width) }
+{
+    let code = take_number(reader, alphabet.width());
+    character_of(alphabet, code as u32)
+}
+
+/// Reads a counted integer that is there.
+#[tactic(auto, unfolding(crate::specs::Walk::field_at, crate::specs::Walk::cut_at))]
+fn read_counted<'a, 's>(
+    alloc: Global,
+    reader: &mut BitReader<'a>,
+) -> Result<Field<'a, 's>, AllocError>
+    requires { IsOk (field_at plain.OfCountedInteger (bits_left reader.old)) }
+    ensures read { IfOk result (λ field. field_at plain.OfCountedInteger (bits_left reader.old)
+        ≡ Ok (plain_field field, bits_left reader.new)) }
+    ensures place { IfOk result (LiesAt (view_left reader.old) (view_left reader.old).first) }
+    ensures rest { IfOk result (λ field. (list : List Bool) → IsSpelledBy (plain_field field) list
+        → view_left reader.new ≡ part (view_left reader.old) (length list)
+        ((view_left reader.old).len - length list)) }
+{
+    let octets = take_number(reader, 8) as usize;
+    Ok(Field::CountedInteger(read_integer(alloc, reader, octets)?))
+}
+
+/// Reads an identifier that is there.
+#[tactic(auto, unfolding(crate::specs::Walk::field_at, crate::specs::Walk::cut_at))]
+fn read_identifier<'a, 's>(
+    alloc: Global,
+    reader: &mut BitReader<'a>,
+    octets: usize,
+) -> Result<Field<'a, 's>, AllocError>
+    requires { IsOk (field_at (plain.OfIdentifier octets) (bits_left reader.old)) }
+    ensures read { IfOk result (λ field. field_at (plain.OfIdentifier octets) (bits_left reader.old)
         ≡ Ok (plain_field field, bits_left reader.new)) }
     ensures place { IfOk result (LiesAt (view_left reader.old) (view_left reader.old).first) }
     ensures rest { IfOk result (λ field. (list : List Bool) → IsSpelledBy (plain_field field) list
@@ -231,47 +399,73 @@ fn read_field<'a, 's>(
 {
     // A length fits `usize`, and so do the bits of octets that are there.
     let _len = reader.len();
-    match shape {
-        Shape::Number { width } => match reader.split(width) {
-            Ok(front) => Ok(Field::Number {
-                value: front.first_u128(width),
-                width,
-            }),
-            Err(_) => unreachable!(),
-        },
-        Shape::Octets { count } => match reader.split(8 * count) {
-            Ok(front) => Ok(Field::Octets(front.octets(alloc)?)),
-            Err(_) => unreachable!(),
-        },
-        Shape::Bits { length } => match reader.split(length) {
-            Ok(front) => Ok(Field::Bits(front.bits())),
-            Err(_) => unreachable!(),
-        },
-        Shape::Integer { octets } => match reader.split(8 * octets) {
-            Ok(front) => Ok(Field::Integer(integer_of(alloc, &front)?)),
-            Err(_) => unreachable!(),
-        },
-        Shape::Character { alphabet } => match reader.split(alphabet.width()) {
-            Ok(front) => Ok(Field::Character {
-                alphabet,
-                character: character_of(&alphabet, front.first_bits(alphabet.width())),
-            }),
-            Err(_) => unreachable!(),
-        },
-    }
+    let front = take_front(reader, 8 * octets);
+    Ok(Field::Oid(identifier_of(alloc, &front)?))
 }
 
-/// The whole number of the octets that the reader has left.
+/// Reads an integer of so many octets that is there.
+#[tactic(auto, unfolding(crate::specs::Walk::integer_at, crate::specs::Walk::cut_at))]
+fn read_integer(
+    alloc: Global,
+    reader: &mut BitReader<'_>,
+    octets: usize,
+) -> Result<Integer, AllocError>
+    requires { IsOk (integer_at octets (bits_left reader.old)) }
+    ensures read { IfOk result (λ n. integer_at octets (bits_left reader.old)
+        ≡ Ok (plain.Integer n, bits_left reader.new)) }
+    ensures rest { OnOk result (view_left reader.new ≡ part (view_left reader.old) (8 * octets)
+        ((view_left reader.old).len - 8 * octets)) }
+{
+    // A length fits `usize`, and so do the bits of octets that are there.
+    let _len = reader.len();
+    integer_of(alloc, &take_front(reader, 8 * octets))
+}
+
+/// The whole number of the octets that the reader has left. Up to sixteen are read as a word, and take no memory.
 fn integer_of(alloc: Global, reader: &BitReader<'_>) -> Result<Integer, AllocError>
     requires whole { (view_left reader.now).len % 8 ≡ 0 }
     ensures { IfOk result (λ n. (octets : List ℕ) → bits octets ≡ bits_left reader.now
         → All (λ octet. octet < 256) octets → n ≡ signed octets) }
 {
+    let width = reader.len();
+    if width > 0 && width <= 128 {
+        return Ok(Integer::from(signed_word(reader.first_u128(width), width)));
+    }
     let octets = reader.octets(alloc)?;
     let Ok(number) = Integer::from_signed_octets(alloc, octets.as_ref()) else {
         return Err(AllocError);
     };
     Ok(number)
+}
+
+/// The two's complement value of a word's lowest `width` bits, where it has no others.
+fn signed_word(word: u128, width: usize) -> i128
+    requires some { 0 < width }
+    requires few { width ≤ 128 }
+    requires below { word < 2 ^ width }
+    ensures low { word < 2 ^ (width - 1) → result ≡ pos word }
+    ensures high { 2 ^ (width - 1) ≤ word → result ≡ pos word -ℤ pos (2 ^ width) }
+{
+    let half = 1u128 << (width - 1);
+    if word < half {
+        word as i128
+    } else {
+        -1 - (half - 1 - (word - half)) as i128
+    }
+}
+
+/// The identifier of which the octets that the reader has left are the contents.
+fn identifier_of(alloc: Global, reader: &BitReader<'_>) -> Result<ObjectIdentifier, AllocError>
+    ensures { IfOk result (λ arcs.
+        contents_reading (octets_of ((view_left reader.now).len / 8) (bits_left reader.now)) ≡ Ok arcs) }
+{
+    let octets = ViewOctets {
+        bits: reader.bits(),
+    };
+    let Ok(oid) = ObjectIdentifier::from_contents(alloc, &octets) else {
+        return Err(AllocError);
+    };
+    Ok(oid)
 }
 
 /// The character of a code that is one.

@@ -1,8 +1,8 @@
 //! Shapes of fields.
 
-ghost use Rattle.std.specs.Prelude.{◌≡◌, Bool, List, length};
+ghost use Rattle.std.specs.Prelude.{◌≡◌, Bool, List, length, IfSome};
 ghost use Rattle.asn1_values.specs.Fields as plain;
-ghost use Rattle.asn1_values.specs.Fields.{IsOfShape, IsSpelledBy, need};
+ghost use Rattle.asn1_values.specs.Fields.{IsOfShape, IsSpelledBy, HasShape, need};
 ghost use Rattle.asn1_values.specs.Plain.{plain_field, plain_shape};
 
 use super::field::Field;
@@ -21,14 +21,20 @@ pub enum Shape<'s> {
     Integer { octets: usize },
     /// A character of the alphabet.
     Character { alphabet: CharacterAlphabet<'s> },
+    /// An integer whose number of octets stands before them.
+    CountedInteger,
+    /// An identifier whose contents have so many octets.
+    Oid { octets: usize },
 }
 
 /// The shape of the field.
 pub fn shape_of<'s>(field: &Field<'_, 's>) -> Shape<'s>
+    // The octets of an identifier's contents are so few that their number fits `usize`.
+    requires { HasShape (plain_field field.now) }
     ensures shape { IsOfShape (plain_field field.now) (plain_shape result) }
-    // Every spelling of a field of the shape has the bits that the shape needs.
-    ensures need { (field : plain.Field) (list : List Bool) → IsOfShape field (plain_shape result)
-        → IsSpelledBy field list → length list ≡ need (plain_shape result) }
+    // Every spelling of a field of the shape has the bits that the shape needs, if it names their number.
+    ensures need { IfSome (need (plain_shape result)) (λ n. (field : plain.Field) (list : List Bool)
+        → IsOfShape field (plain_shape result) → IsSpelledBy field list → length list ≡ n) }
 {
     match field {
         Field::Number { width, .. } => Shape::Number { width: *width },
@@ -41,6 +47,10 @@ pub fn shape_of<'s>(field: &Field<'_, 's>) -> Shape<'s>
         },
         Field::Character { alphabet, .. } => Shape::Character {
             alphabet: *alphabet,
+        },
+        Field::CountedInteger(_) => Shape::CountedInteger,
+        Field::Oid(oid) => Shape::Oid {
+            octets: oid.as_oid().contents_len().unwrap_or(0) as usize,
         },
     }
 }

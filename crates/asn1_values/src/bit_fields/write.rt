@@ -1,9 +1,13 @@
 //! Writing fields.
 
-ghost use Rattle.std.specs.Prelude.{◌≡◌, ℕ, Bool, List, Err, ◌+◌, ◌*◌, ◌/◌, ◌^◌, ◌<◌, ◌≤◌, ◌++◌, length, OnOk, IfOk, IfErr, OnErr, IsOk, IsOkUnless};
+ghost use Rattle.std.specs.Prelude.{◌≡◌, ◌≢◌, ℕ, Bool, List, Err, ◌+◌, ◌*◌, ◌/◌, ◌^◌, ◌<◌, ◌≤◌, ◌++◌, length, OnOk, IfOk, IfErr, OnErr, IsOk, IsOkUnless};
 ghost use Rattle.std.specs.Int.{div_ceil};
-ghost use Rattle.asn1_bits.specs.Bits.{AddsNoOctet};
-ghost use Rattle.asn1_bits.specs.BitAppender.{room, lender_of};
+ghost use Rattle.asn1_bits.specs.Bits.{AddsNoOctet, bits};
+ghost use Rattle.asn1_bits.specs.Turns.{turns_for};
+ghost use Rattle.asn1_bits.specs.BitAppender.{room, lender_of, bits_written};
+ghost use Rattle.asn1_number.specs.Octets.{IsShortest};
+ghost use Rattle.asn1_oid.specs.Contents.{FitU32};
+ghost use Rattle.asn1_values.specs.Fields as plain;
 ghost use Rattle.asn1_values.specs.Fields.{IsSpelledBy, AreSpelledBy, AreInOneCode};
 ghost use Rattle.asn1_values.specs.Plain.{plain_field, plain_fields};
 ghost use Rattle.asn1_values.specs.Refusals.{IsWriteRefusal};
@@ -13,6 +17,8 @@ ghost use Rattle.asn1_values.specs.Wrong.{Fits};
 use super::error::WriteError;
 use super::field::Field;
 use asn1_bits::{BitAppender, BitBuffer, Turns};
+use asn1_integer::Integer;
+use asn1_oid::{ObjectIdentifier, OidContents};
 
 /// Appends the fields' bits to the buffer, one after another, by one growth. The whole list is examined first; where it
 /// is refused, the buffer stays.
@@ -35,8 +41,11 @@ pub fn write_fields(buffer: &mut BitBuffer, fields: &[Field<'_, '_>]) -> Result<
         → length buffer.old + length list < 2 ^ 64 → AddsNoOctet (length buffer.old) (length list)
         → IsOk result }
 
-    // A refusal names the first field that doesn't fit, with its reason; where all fit, the new length or memory.
+    // A refusal names the first field that doesn't fit, with its reason; where all fit, the new length or memory. A
+    // refusal for another cause than memory is the only one that can be, and is given whatever memory there is.
     ensures refused { IfErr result (IsWriteRefusal (length buffer.old) (plain_fields fields.now)) }
+    ensures named { (e : WriteError) → e ≢ WriteError.Memory
+        → IsWriteRefusal (length buffer.old) (plain_fields fields.now) e → result ≡ Err e }
     ensures unchanged { OnErr result (buffer.new ≡ buffer.old) }
 {
     write_fields_counted(buffer, fields, &mut Turns::new())
@@ -61,6 +70,8 @@ pub fn write_fields_counted(
         → length buffer.old + length list < 2 ^ 64 → AddsNoOctet (length buffer.old) (length list)
         → IsOk result }
     ensures refused { IfErr result (IsWriteRefusal (length buffer.old) (plain_fields fields.now)) }
+    ensures named { (e : WriteError) → e ≢ WriteError.Memory
+        → IsWriteRefusal (length buffer.old) (plain_fields fields.now) e → result ≡ Err e }
     ensures unchanged { OnErr result (buffer.new ≡ buffer.old) }
 
     // For b bits of F fields it takes at least b / 64 turns, rounded up, and at most b / 64 + 8 * F.
@@ -99,23 +110,10 @@ fn fitting_len(field: &Field<'_, '_>, place: usize) -> Result<u128, WriteError>
     ensures err { IfErr result (NamesMisfit place (plain_field field.now)) }
 {
     match field {
-        Field::Number { value, width } => {
-            let value = *value;
-            let width = *width;
-            if width > 128 {
-                return Err(WriteError::NumberWidth {
-                    field: place,
-                    width,
-                });
-            }
-            if width < 128 && value >> width != 0 {
-                return Err(WriteError::Number { field: place });
-            }
-            Ok(width as u128)
-        }
+        Field::Number { value, width } => fitting_width(*value, *width, place),
         Field::Octets(octets) => Ok(8 * octets.as_ref().len() as u128),
         Field::Bits(bits) => Ok(bits.len() as u128),
-        Field::Integer(number) => Ok(8 * number.signed_octets().len() as u128),
+        Field::Integer(number) => Ok(8 * number.signed_len() as u128),
         Field::Character {
             alphabet,
             character,
@@ -126,6 +124,46 @@ fn fitting_len(field: &Field<'_, '_>, place: usize) -> Result<u128, WriteError>
                 character: *character,
             }),
         },
+        Field::CountedInteger(number) => {
+            let octets = number.signed_len();
+            if octets > 127 {
+                return Err(WriteError::IntegerLength { field: place });
+            }
+            Ok(8 + 8 * octets as u128)
+        }
+        Field::Oid(oid) => fitting_contents(oid, place),
+    }
+}
+
+/// The width of a number, if it is at most 128 and the number is below 2 to its power.
+fn fitting_width(value: u128, width: usize, place: usize) -> Result<u128, WriteError>
+    ensures ok { IfOk result (FitsIn (plain.Number value width)) }
+    ensures err { IfErr result (NamesMisfit place (plain.Number value width)) }
+{
+    if width > 128 {
+        return Err(WriteError::NumberWidth {
+            field: place,
+            width,
+        });
+    }
+    if width < 128 && value >> width != 0 {
+        return Err(WriteError::Number { field: place });
+    }
+    Ok(width as u128)
+}
+
+/// How many bits the contents of an identifier have, if it has two arcs.
+fn fitting_contents(oid: &ObjectIdentifier, place: usize) -> Result<u128, WriteError>
+    ensures ok { IfOk result (FitsIn (plain.Identifier oid.now)) }
+    ensures err { IfErr result (NamesMisfit place (plain.Identifier oid.now)) }
+{
+    let arcs = oid.as_ref();
+    arcs_fit(arcs);
+    // The number of arcs fits `usize`, and so their octets are not too many.
+    let _len = arcs.len();
+    match oid.as_oid().contents_len() {
+        Some(octets) => Ok(8 * octets),
+        None => Err(WriteError::ArcCount { field: place }),
     }
 }
 
@@ -155,7 +193,7 @@ fn push(appender: &mut BitAppender<'_>, field: &Field<'_, '_>, turns: &mut Turns
         Field::Number { value, width } => appender.push_wide(*value, *width, turns),
         Field::Octets(octets) => appender.push_octets(octets.as_ref(), turns),
         Field::Bits(bits) => appender.push_bitslice(*bits, turns),
-        Field::Integer(number) => appender.push_octets(number.signed_octets().as_ref(), turns),
+        Field::Integer(number) => push_shortest(appender, number, turns),
         Field::Character {
             alphabet,
             character,
@@ -163,5 +201,73 @@ fn push(appender: &mut BitAppender<'_>, field: &Field<'_, '_>, turns: &mut Turns
             Ok(code) => appender.push_wide(u128::from(code), alphabet.width(), turns),
             Err(_) => unreachable!(),
         },
+        Field::CountedInteger(number) => push_counted(appender, number, turns),
+        Field::Oid(oid) => match oid.as_oid().contents() {
+            Some(octets) => push_each(appender, octets, turns),
+            None => unreachable!(),
+        },
     }
+}
+
+/// Pushes a counted integer that fits the room: the number of its octets, and these.
+fn push_counted(appender: &mut BitAppender<'_>, number: &Integer, turns: &mut Turns)
+    requires fits { Fits (plain.CountedInteger number.now) }
+    requires space { (list : List Bool) → IsSpelledBy (plain.CountedInteger number.now) list
+        → length list ≤ room appender.old }
+    ensures lender { lender_of appender.new ≡ lender_of appender.old }
+    ensures pushed { Pushes (plain.CountedInteger number.now) appender.old appender.new }
+    ensures counted { (list : List Bool) → IsSpelledBy (plain.CountedInteger number.now) list
+        → TakesTurns (length list) turns.old.count turns.new.count }
+{
+    appender.push_wide(number.signed_len() as u128, 8, turns);
+    push_shortest(appender, number, turns);
+}
+
+/// Pushes the shortest octets of a number that fit the room: up to sixteen of them as a word.
+fn push_shortest(appender: &mut BitAppender<'_>, number: &Integer, turns: &mut Turns)
+    requires { (octets : List ℕ) → IsShortest number.now octets → 8 * length octets ≤ room appender.old }
+    ensures lender { lender_of appender.new ≡ lender_of appender.old }
+    ensures written { (octets : List ℕ) → IsShortest number.now octets
+        → bits_written appender.new ≡ bits_written appender.old ++ bits octets }
+    ensures room { (octets : List ℕ) → IsShortest number.now octets
+        → room appender.new + 8 * length octets ≡ room appender.old }
+    ensures at_least { (octets : List ℕ) → IsShortest number.now octets
+        → turns.old.count + div_ceil (8 * length octets) 64 ≤ turns.new.count }
+    ensures at_most { (octets : List ℕ) → IsShortest number.now octets
+        → turns.new.count ≤ turns.old.count + turns_for (8 * length octets) }
+{
+    match number.to_i128() {
+        Some(value) => {
+            // The word holds sixteen octets, of which the lowest are the shortest.
+            appender.push_wide(value.cast_unsigned(), 8 * number.signed_len(), turns);
+        }
+        None => appender.push_octets(number.signed_octets().as_ref(), turns),
+    }
+}
+
+/// Arcs are below 2 to the power of 32. It does nothing.
+fn arcs_fit(arcs: &[u32])
+    ensures { FitU32 arcs.now }
+{}
+
+/// Pushes octets that fit the room, sixteen at a time.
+fn push_each(appender: &mut BitAppender<'_>, octets: OidContents<'_>, turns: &mut Turns)
+    requires { 8 * length octets ≤ room appender.old }
+    ensures lender { lender_of appender.new ≡ lender_of appender.old }
+    ensures written { bits_written appender.new ≡ bits_written appender.old ++ bits octets.entry }
+    ensures room { room appender.new + 8 * length octets.entry ≡ room appender.old }
+    ensures counted { TakesTurns (8 * length octets.entry) turns.old.count turns.new.count }
+{
+    let mut word = 0u128;
+    let mut width = 0usize;
+    for octet in octets {
+        if width == 128 {
+            appender.push_wide(word, width, turns);
+            word = 0;
+            width = 0;
+        }
+        word = 256 * word + u128::from(octet);
+        width += 8;
+    }
+    appender.push_wide(word, width, turns);
 }

@@ -5,6 +5,7 @@ use crate::{
     BitBuffer, BitReader, BitStr, CharacterAlphabet, Field, Ia5String, Integer, Octets, ReadError,
     Shape, Turns, WriteError, read_fields, shape_of, write_fields, write_fields_counted,
 };
+use std::mem::size_of;
 use std::test::Fail;
 
 #[test]
@@ -223,4 +224,10 @@ fn writing_names_the_first_wrong_field(rt: HostRuntime) -> Result<(), Fail> {
     write_fields(&mut buffer, &[Field::Number { value: 0, width: 0 }])?;
     assert_eq!(rt; buffer.len(), 0);
     Ok(())
+}
+
+#[test]
+fn fields_and_shapes_are_small(rt: HostRuntime) {
+    assert_eq!(rt; size_of::<Field<'_, '_>>(), 80);
+    assert_eq!(rt; size_of::<Shape<'_>>(), 64);
 }

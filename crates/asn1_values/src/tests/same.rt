@@ -11,6 +11,8 @@ pub fn same(a: &Field<'_, '_>, b: &Field<'_, '_>) -> bool {
         (Field::Octets(x), Field::Octets(y)) => x.as_ref() == y.as_ref(),
         (Field::Bits(x), Field::Bits(y)) => *x == *y,
         (Field::Integer(x), Field::Integer(y)) => *x == *y,
+        (Field::CountedInteger(x), Field::CountedInteger(y)) => *x == *y,
+        (Field::Oid(x), Field::Oid(y)) => *x == *y,
         (
             Field::Character {
                 alphabet,

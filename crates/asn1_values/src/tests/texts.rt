@@ -24,6 +24,14 @@ fn errors_are_printed_with_their_place(rt: HostRuntime) -> Result<(), Fail> {
             },
             "field 4: character 99 is not in the alphabet",
         ),
+        (
+            WriteError::IntegerLength { field: 5 },
+            "field 5: the integer is longer than 127 octets",
+        ),
+        (
+            WriteError::ArcCount { field: 1 },
+            "field 1: fewer than two arcs",
+        ),
         (WriteError::TooLong, "too many bits"),
         (WriteError::Memory, "out of memory"),
     ];
@@ -49,6 +57,21 @@ fn errors_are_printed_with_their_place(rt: HostRuntime) -> Result<(), Fail> {
         (
             ReadError::Short { field: 3, bits: 17 },
             "field 3: 17 bits short",
+        ),
+        (
+            ReadError::Length {
+                field: 6,
+                octet: 200,
+            },
+            "field 6: length octet 200 is not 1 to 127",
+        ),
+        (
+            ReadError::Identifier { field: 2 },
+            "field 2: not the contents of an identifier",
+        ),
+        (
+            ReadError::Arc { field: 3 },
+            "field 3: an arc is past 32 bits",
         ),
         (ReadError::Memory, "out of memory"),
     ];

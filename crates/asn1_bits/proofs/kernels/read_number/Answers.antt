@@ -1,39 +1,39 @@
-use Rattle.std.proofs.Common.{ℕ, ◌+◌, ◌-◌, ◌*◌, ◌/◌, ◌%◌, ◌^◌, ◌≡◌, take, drop, ap, ◌∙◌, arith}
+use Rattle.std.proofs.Common.{◌≡◌, ℕ, ◌+◌, ◌-◌, ◌*◌, ◌/◌, ◌%◌, ◌^◌, Bool, List, take, drop, ap, ◌∙◌, arith}
 use Rattle.std.specs.Prelude.{bit_or}
 use Rattle.asn1_bits.specs.Bits.{bits, number}
-use Rattle.asn1_bits.proofs.ReadWideLemmas.{read-word, read-front, read-two}
+use Rattle.asn1_bits.proofs.DigitLemmas.{drop_split}
+use Rattle.asn1_bits.proofs.ReadWideLemmas.{read-top, read-two}
 use Rattle.asn1_bits.proofs.kernels.read_number.Goals as goal
 
-pub returns-then-width-gt64 : goal.returns-then-width-gt64
-returns-then-width-gt64 c =
-    let position = c.args.position in
-    let list = bits c.args.bytes.now in
+pub returns-then-width-le64 : goal.returns-then-width-le64
+returns-then-width-le64 c =
+    let place = c.args.position in
+    c.from.ensures ∙ c.read_word.ensures
+    ∙ ap (λ (l : List ℕ). number (take c.args.width (drop (place % 8) (bits l)))) c.from_octet-octets.ensures
+    ∙ ap (λ (l : List Bool). number (take c.args.width l)) (drop_split c.args.bytes.now place)
+
+pub returns-then-octets-ge17 : goal.returns-then-octets-ge17
+returns-then-octets-ge17 c =
+    let place = c.args.position in
+    read-top (drop (place % 8) (bits c.from_octet-octets.result.now)) 128 c.args.width c.wide_of_seventeen.result c.requires.width (omega (arith, c.wide_of_seventeen.type_inv)) c.wide_of_seventeen.ensures
+    ∙ ap (λ (l : List ℕ). number (take c.args.width (drop (place % 8) (bits l)))) c.from_octet-octets.ensures
+    ∙ ap (λ (l : List Bool). number (take c.args.width l)) (drop_split c.args.bytes.now place)
+
+pub returns : goal.returns
+returns c =
+    let place = c.args.position in
+    let octets = c.from_octet-octets.result.now in
+    let list = bits octets in
     let width = c.args.width in
-    let low = position % 8 + (width - 64) in
-    let last = position + (width - 64) in
+    let shift = place % 8 in
+    let low = shift + (width - 64) in
     let high = c.whole_word-high.result in
     let rest = c.whole_word-rest.result in
-    let p : 8 * (position / 8) + position % 8 ≡ position = omega arith in
-    let q : 8 * (position / 8 + low / 8) + low % 8 ≡ last = omega arith in
-    ap (λ (m : ℕ). bit_or (m * 2 ^ 64 % 2 ^ 128) c.from-then-width-gt64.result) c.from.ensures
-    ∙ ap (λ (m : ℕ). bit_or (high / 2 ^ (128 - width) * 2 ^ 64 % 2 ^ 128) m) c.from-then-width-gt64.ensures
-    ∙ read-two list position last width high rest (omega (arith, c.if-width-gt64.true)) c.requires.width (omega arith) (omega arith) (omega arith)
+    let p : 8 * 0 + shift ≡ shift = omega arith in
+    let q : 8 * (low / 8) + low % 8 ≡ low = omega arith in
+    ap (λ (m : ℕ). bit_or (m * 2 ^ 64 % 2 ^ 128) c.from-3.result) c.from-2.ensures
+    ∙ ap (λ (m : ℕ). bit_or (high / 2 ^ (128 - width) * 2 ^ 64 % 2 ^ 128) m) c.from-3.ensures
+    ∙ read-two list shift low width high rest (omega (arith, c.if-width-le64.false)) c.requires.width (omega arith) (omega arith) (omega arith)
     (c.whole_word-high.ensures ∙ ap (λ (k : ℕ). take 64 (drop k list)) p) (c.whole_word-rest.ensures ∙ ap (λ (k : ℕ). take 64 (drop k list)) q)
-
-pub returns-then-shift-width-gt64 : goal.returns-then-shift-width-gt64
-returns-then-shift-width-gt64 c =
-    let position = c.args.position in
-    let list = bits c.args.bytes.now in
-    let p : 8 * (position / 8) + position % 8 ≡ position = omega arith in
-    c.from-then-shift-width-gt64.ensures
-    ∙ read-front list position c.args.width c.whole_word.result (omega (arith, c.if-width-gt64.false)) (omega (arith, c.whole_word.type_inv))
-    (c.whole_word.ensures ∙ ap (λ (k : ℕ). take 64 (drop k list)) p)
-
-pub returns-then-bytes-first-ge8 : goal.returns-then-bytes-first-ge8
-returns-then-bytes-first-ge8 c =
-    let position = c.args.position in
-    let list = bits c.args.bytes.now in
-    let p : 8 * (position / 8) + position % 8 ≡ position = omega arith in
-    c.from-then-bytes-first-ge8.ensures
-    ∙ read-word list (8 * (position / 8)) (position % 8) c.args.width c.load.result (omega (arith, c.if-shift-width-le64.true)) c.load.ensures
-    ∙ ap (λ (k : ℕ). number (take c.args.width (drop k list))) p
+    ∙ ap (λ (l : List ℕ). number (take width (drop shift (bits l)))) c.from_octet-octets.ensures
+    ∙ ap (λ (l : List Bool). number (take width l)) (drop_split c.args.bytes.now place)

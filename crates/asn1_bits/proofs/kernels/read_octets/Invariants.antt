@@ -3,4 +3,4 @@ use Rattle.asn1_bits.proofs.ReadWideLemmas.{gathered}
 use Rattle.asn1_bits.proofs.kernels.read_octets.Given as goal
 
 abbrev pub invariant-loop-k : goal.invariant-loop-k
-invariant-loop-k l = l.value ≡ gathered l.field l.shift l.k
+invariant-loop-k l = l.value ≡ gathered l.octets l.shift l.k

@@ -1,19 +1,12 @@
-use Rattle.std.proofs.Common.{◌≡◌, ℕ, ◌*◌, List, length, sym, ap, arith}
-use Rattle.asn1_bits.specs.Bits.{bits}
-use Rattle.asn1_bits.proofs.OredLemmas.{ored-none}
-use Rattle.asn1_bits.proofs.WindowLemmas.{or-more, or-all}
+use Rattle.std.proofs.Common.{◌≡◌, ℕ, ◌*◌, List, length, ap, ◌∙◌, arith}
+use Rattle.std.proofs.lemmas.List.{take_all}
+use Rattle.asn1_bits.specs.Bits.{bits, ored}
+use Rattle.asn1_bits.proofs.ByteLemmas.{bits-bytes}
 use Rattle.asn1_bits.proofs.window.or_octets.Goals as goal
-
-pub loop-k-init : goal.loop-k-init
-loop-k-init c = sym (ored-none (bits c.args.dst.now) (8 * c.args.first))
-
-pub loop-k-preserved : goal.loop-k-preserved
-loop-k-preserved c =
-    or-more (bits c.args.dst.now) c.loop-k.dst c.to_be_bytes-octets.result c.args.first c.loop-k.k c.loop-k.invariant
-    (omega (arith, c.loop-k.auto.dst))
-    (let n : length c.to_be_bytes-octets.result ≡ 8 = ap (λ (l : List ℕ). length l) c.to_be_bytes-octets.ensures in omega (arith, n))
 
 pub returns : goal.returns
 returns c =
-    or-all (bits c.args.dst.now) (bits c.loop-k.dst) c.to_be_bytes-octets.result c.args.first c.args.word c.loop-k.k
-    c.to_be_bytes-octets.ensures (omega arith) c.loop-k.invariant
+    let octets = c.to_be_bytes.result in
+    let n : length octets ≡ 8 = ap (λ (l : List ℕ). length l) c.to_be_bytes.ensures in
+    c.or_eight.ensures
+    ∙ ap (ored (bits c.args.dst.now) (8 * c.args.first)) (ap bits (take_all 8 octets (omega (arith, n)) ∙ c.to_be_bytes.ensures) ∙ bits-bytes 8 c.args.word)

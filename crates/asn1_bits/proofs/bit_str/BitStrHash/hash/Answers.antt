@@ -1,35 +1,60 @@
-use Rattle.std.proofs.Common.{◌≡◌, ℕ, ◌+◌, Bool, false, List, [], ◌∷◌, ◌++◌, cond, length, take, ap, ◌∙◌, sym, arith}
-use Rattle.std.specs.List.{fold, flat_map}
+use Rattle.std.proofs.Common.{◌≡◌, ℕ, ◌+◌, ◌-◌, ◌*◌, ◌/◌, List, [], ◌∷◌, length, drop, ap, ◌∙◌, sym, arith}
+use Rattle.std.specs.Int.{div_ceil}
+use Rattle.std.specs.List.{fold}
 use Rattle.std.specs.Hash as fed
-use Rattle.std.proofs.lemmas.List.{take_more, take_all}
-use Rattle.std.proofs.lemmas.List.Concat.{flat_map-append}
 use Rattle.std.proofs.lemmas.Grind.{fold-append}
-use Rattle.std.proofs.lemmas.Option.{get_or_from_slice_get, slice_get_within}
+use Rattle.asn1_bits.specs.BitLists.{words_fed}
 use Rattle.asn1_bits.specs.BitStr.{view_of, bits_of}
+use Rattle.asn1_bits.specs.View.{View}
+use Rattle.asn1_bits.proofs.HashLemmas.{fed-none, fed-more, number-word, number-last}
 use Rattle.asn1_bits.proofs.ViewLemmas.{length-list_of}
 use Rattle.asn1_bits.proofs.bit_str.BitStrHash.hash.Goals as goal
 
-pub loop-i-preserved : goal.loop-i-preserved
-loop-i-preserved g c =
-    let xs = bits_of c.args.self.now in
-    let i = c.loop-i.i in
+pub loop-k-init : goal.loop-k-init
+loop-k-init g c =
     let start = g.H.Hasher.write c.args.state.now (fed.le_bytes 8 c.args.self.now.len) in
-    let front = flat_map fed.bool (take i xs) in
-    let octet = cond c.get.result 1 0 ∷ [] in
-    let more : take (i + 1) xs ≡ take i xs ++ c.get.result ∷ [] =
-    take_more xs i false (slice_get_within xs i c.get.result c.get.ensures)
-    ∙ ap (λ (b : Bool). take i xs ++ b ∷ []) (get_or_from_slice_get xs i c.get.result false c.get.ensures) in
-    c.hash.ensures
-    ∙ ap (λ (s : g.row.H.Denot). g.H.Hasher.write s octet) c.loop-i.invariant
-    ∙ sym (ap (λ (l : List Bool). fold g.H.Hasher.write start (flat_map fed.bool l)) more
-    ∙ ap (λ (l : List (List ℕ)). fold g.H.Hasher.write start l) (flat_map-append fed.bool (take i xs) (c.get.result ∷ []))
-    ∙ fold-append g.H.Hasher.write start front (octet ∷ []))
+    c.write_usize.ensures ∙ sym (ap (λ (l : List (List ℕ)). fold g.H.Hasher.write start l) (fed-none (bits_of c.args.self.now)))
 
-pub returns : goal.returns
-returns g c =
+pub loop-k-preserved : goal.loop-k-preserved
+loop-k-preserved g c =
+    let list = bits_of c.args.self.now in
+    let k = c.loop-k.k in
+    let start = g.H.Hasher.write c.args.state.now (fed.le_bytes 8 c.args.self.now.len) in
+    let word = c.whole.result in
+    c.write_u64.ensures
+    ∙ ap (λ (s : g.row.H.Denot). g.H.Hasher.write s (fed.le_bytes 8 word)) c.loop-k.invariant
+    ∙ sym (ap (λ (l : List (List ℕ)). fold g.H.Hasher.write start l) (fed-more list k word (number-word _ word (omega (arith, c.whole.type_inv)) c.whole.ensures))
+    ∙ fold-append g.H.Hasher.write start (words_fed list k) (fed.le_bytes 8 word ∷ []))
+
+pub returns-then-tail-gt0 : goal.returns-then-tail-gt0
+returns-then-tail-gt0 g c =
     let a = c.args.self.now in
-    let xs = bits_of a in
-    let n : a.len ≡ length xs = sym (length-list_of (view_of a) a.within) in
-    c.loop-i.invariant
-    ∙ ap (λ (l : List Bool). fold g.H.Hasher.write (g.H.Hasher.write c.args.state.now (fed.le_bytes 8 a.len)) (flat_map fed.bool l)) (take_all c.loop-i.i xs (omega arith))
-    ∙ ap (λ (k : ℕ). fold g.H.Hasher.write (g.H.Hasher.write c.args.state.now (fed.le_bytes 8 k)) (flat_map fed.bool xs)) n
+    let list = bits_of a in
+    let k = c.loop-k.k in
+    let start = λ (n : ℕ). g.H.Hasher.write c.args.state.now (fed.le_bytes 8 n) in
+    let word = c.first_u128.result in
+    let tail = c.split_at.result.1 in
+    let len : a.len ≡ length list = sym (length-list_of (view_of a) a.within) in
+    let words : k ≡ a.len / 64 = omega arith in
+    let left : tail.len ≡ a.len - 64 * (a.len / 64) = ap (λ (v : View). v.len) c.split_at.ensures.back in
+    let all : k + 1 ≡ div_ceil (length list) 64 = omega (arith, c.if-tail-gt0.true, left, len) in
+    let last = number-last list (bits_of tail) k tail.len word c.first_u128.ensures.number
+    (c.split_at.ensures.back_list ∙ ap (λ (n : ℕ). drop (64 * n) list) (sym words)) (length-list_of (view_of tail) tail.within) (omega (arith, left)) in
+    c.write_u64-then-tail-gt0.ensures
+    ∙ ap (λ (s : g.row.H.Denot). g.H.Hasher.write s (fed.le_bytes 8 word)) c.loop-k.invariant
+    ∙ sym (ap (λ (l : List (List ℕ)). fold g.H.Hasher.write (start a.len) l) (fed-more list k word last)
+    ∙ fold-append g.H.Hasher.write (start a.len) (words_fed list k) (fed.le_bytes 8 word ∷ []))
+    ∙ ap (λ (n : ℕ). fold g.H.Hasher.write (start a.len) (words_fed list n)) all
+    ∙ ap (λ (n : ℕ). fold g.H.Hasher.write (start n) (words_fed list (div_ceil (length list) 64))) len
+
+pub returns-else-tail-gt0 : goal.returns-else-tail-gt0
+returns-else-tail-gt0 g c =
+    let a = c.args.self.now in
+    let list = bits_of a in
+    let start = λ (n : ℕ). g.H.Hasher.write c.args.state.now (fed.le_bytes 8 n) in
+    let len : a.len ≡ length list = sym (length-list_of (view_of a) a.within) in
+    let left : c.split_at.result.1.len ≡ a.len - 64 * (a.len / 64) = ap (λ (v : View). v.len) c.split_at.ensures.back in
+    let all : c.loop-k.k ≡ div_ceil (length list) 64 = omega (arith, c.if-tail-gt0.false, left, len) in
+    c.loop-k.invariant
+    ∙ ap (λ (n : ℕ). fold g.H.Hasher.write (start a.len) (words_fed list n)) all
+    ∙ ap (λ (n : ℕ). fold g.H.Hasher.write (start n) (words_fed list (div_ceil (length list) 64))) len

@@ -1,9 +1,9 @@
-use Rattle.std.proofs.Common.{◌≡◌, ℕ, true, false, not, length, ap, ◌∙◌, sym, arith}
+use Rattle.std.proofs.Common.{◌≡◌, ℕ, ◌*◌, true, false, not, length, ap, ◌∙◌, sym, arith}
 use Rattle.std.specs.Ordering.{nat_cmp}
 use Rattle.std.proofs.lemmas.Option.{get_or_from_slice_get, slice_get_within}
 use Rattle.asn1_bits.specs.BitStr.{view_of, bits_of}
 use Rattle.asn1_bits.proofs.ViewLemmas.{length-list_of}
-use Rattle.asn1_bits.proofs.OrderLemmas.{rest-more, rest-less, rest-greater, rest-end, same_from_test, other_from_test}
+use Rattle.asn1_bits.proofs.OrderLemmas.{rest-more, rest-less, rest-greater, rest-end, rest-from, same_from_test, other_from_test}
 use Rattle.asn1_bits.proofs.bit_str.BitStrOrd.cmp.Goals as goal
 
 pub returns-then-bit : goal.returns-then-bit
@@ -25,6 +25,9 @@ returns-else-bit c =
     (get_or_from_slice_get xs i false false c.if-bit.ensures)
     (get_or_from_slice_get ys i c.get.result false c.get.ensures ∙ other_from_test c.get-bit.result c.get.result c.if-bit-get.true ∙ ap not c.if-bit.false)
     c.loop-i.invariant
+
+pub loop-i-init : goal.loop-i-init
+loop-i-init c = rest-from (bits_of c.args.self.now) (bits_of c.args.other.now) (64 * c.same_words-i.result) c.same_words-i.ensures.same
 
 pub loop-i-preserved : goal.loop-i-preserved
 loop-i-preserved c =

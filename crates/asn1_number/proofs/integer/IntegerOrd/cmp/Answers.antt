@@ -1,12 +1,12 @@
-use Rattle.std.proofs.Common.{sym, ap, ◌∙◌}
-use Rattle.asn1_number.specs.Order.{octets_cmp}
+use Rattle.std.proofs.Common.{rules, ◌≡◌, sym, ◌∙◌}
+use Rattle.std.specs.Ordering.{int_cmp}
 use Rattle.asn1_number.proofs.OctetLemmas.{shortest_order}
 use Rattle.asn1_number.proofs.integer.IntegerOrd.cmp.Goals as goal
 
-pub returns-clause-value : goal.returns-clause-value
-returns-clause-value c =
-    c.compare_octets.ensures ∙ (ap (λ o. octets_cmp o c.as_ref-2.result.now) c.as_ref.ensures ∙ (ap (octets_cmp c.signed_octets-octets.result) c.as_ref-2.ensures
-    ∙ shortest_order c.args.self.now c.args.other.now _ _ c.signed_octets-octets.ensures c.signed_octets-others.ensures))
+pub returns-in-Inline-Inline-clause-octets : goal.returns-in-Inline-Inline-clause-octets
+returns-in-Inline-Inline-clause-octets c = λ a b s t.
+    let e : c.cmp.result ≡ int_cmp c.args.self.now c.args.other.now = search rules in
+    e ∙ sym (shortest_order c.args.self.now c.args.other.now a b s t)
 
 pub returns-clause-octets : goal.returns-clause-octets
-returns-clause-octets c = λ a b s t. returns-clause-value c ∙ sym (shortest_order c.args.self.now c.args.other.now a b s t)
+returns-clause-octets c = λ a b s t. c.compare_by_octets.ensures ∙ sym (shortest_order c.args.self.now c.args.other.now a b s t)

@@ -10,7 +10,7 @@ use Rattle.asn1_values.proofs.bit_fields.read.collect.Goals as goal
 pub loop-shape-init : goal.loop-shape-init
 loop-shape-init c =
     let v = view_left c.args.reader.now in
-    let none = c.new-fields.ensures.items in
+    let none = c.reserve_exact.ensures.items ∙ c.new-fields.ensures.items in
     record {
       walk = rw none (from_front (fields_at (plain_shapes c.args.shapes.now) (bits_left c.args.reader.now)));
       places = rw none (lie_none v);

@@ -1,7 +1,7 @@
 use Rattle.std.proofs.Common.{length, sym}
 use Rattle.asn1_number.proofs.LawLemmas.{one_shortest_list}
 use Rattle.asn1_strings.specs.AlphabetView.{alphabet_of}
-use Rattle.asn1_values.specs.Fields.{OfNumber, OfOctets, OfInteger, OfCharacter}
+use Rattle.asn1_values.specs.Fields.{OfNumber, OfOctets, OfInteger, OfCharacter, OfIdentifier}
 use Rattle.asn1_values.proofs.OneSpelling.{length-spelled}
 use Rattle.asn1_values.proofs.bit_fields.shape.shape_of.Goals as goal
 
@@ -21,3 +21,6 @@ returns-in-Integer-clause-need c = length-spelled (OfInteger c.signed_len.result
 
 pub returns-in-Character-clause-need : goal.returns-in-Character-clause-need
 returns-in-Character-clause-need c = length-spelled (OfCharacter (alphabet_of c.in-Character.alphabet))
+
+pub returns-in-Oid-clause-need : goal.returns-in-Oid-clause-need
+returns-in-Oid-clause-need c = length-spelled (OfIdentifier c.unwrap_or.result)

@@ -1,19 +1,10 @@
-use Rattle.std.proofs.Common.{◌<◌, ◌^◌, arith}
-use Rattle.asn1_values.proofs.SpellingLemmas.{number_fits, octets_fit, bits_fit, integer_fits, character_fits, below_width, at_128}
+use Rattle.std.proofs.Common.{refl, arith}
+use Rattle.asn1_number.proofs.LawLemmas.{one_shortest_list}
+use Rattle.asn1_values.proofs.SpellingLemmas.{octets_fit, bits_fit, integer_fits, character_fits, counted_fits}
 use Rattle.asn1_bits.specs.Octets.{octets_in}
 use Rattle.asn1_bits.specs.BitStr.{bits_of}
 use Rattle.asn1_strings.specs.AlphabetView.{alphabet_of}
 use Rattle.asn1_values.proofs.bit_fields.write.fitting_len.Goals as goal
-use Rattle.asn1_values.proofs.bit_fields.write.fitting_len.Goals.{else-width-lt128-via-then-width-lt128+else-value-width-ne0, else-width-lt128-via-else-width-lt128}
-
-pub returns-else-width-lt128-clause-ok : goal.returns-else-width-lt128-clause-ok
-returns-else-width-lt128-clause-ok c =
-    let le = c.if-width-gt128.false in
-    let lt : c.in-Number.value < 2 ^ c.in-Number.width = elim c.else-width-lt128.branch [
-      | else-width-lt128-via-then-width-lt128+else-value-width-ne0 w ↦ below_width c.in-Number.value c.in-Number.width w.if-value-width-ne0.false
-      | else-width-lt128-via-else-width-lt128 w ↦ at_128 c.in-Number.value c.in-Number.width le w.if-width-lt128.false (omega arith)
-    ] in
-    rw c.in-Number.is (number_fits c.in-Number.value c.in-Number.width le lt)
 
 pub returns-in-Octets-clause-ok : goal.returns-in-Octets-clause-ok
 returns-in-Octets-clause-ok c = rw (c.in-Octets.is, c.as_ref.ensures.list) (octets_fit (octets_in c.in-Octets.octets) c.as_ref.ensures.octets)
@@ -22,9 +13,23 @@ pub returns-in-Bits-clause-ok : goal.returns-in-Bits-clause-ok
 returns-in-Bits-clause-ok c = rw (c.in-Bits.is, c.len.ensures.list) (bits_fit (bits_of c.in-Bits.bits))
 
 pub returns-in-Integer-clause-ok : goal.returns-in-Integer-clause-ok
-returns-in-Integer-clause-ok c = rw (c.in-Integer.is, c.len-in-Integer.ensures) (integer_fits c.in-Integer.number c.signed_octets.result c.signed_octets.ensures)
+returns-in-Integer-clause-ok c =
+    let one = one_shortest_list c.in-Integer.number in
+    rw (c.in-Integer.is, c.signed_len.ensures one.0 one.1) (integer_fits c.in-Integer.number one.0 one.1)
 
 pub returns-in-Ok-clause-ok : goal.returns-in-Ok-clause-ok
 returns-in-Ok-clause-ok c =
     rw (c.in-Character.is, c.width.ensures.value)
     (character_fits (alphabet_of c.in-Character.alphabet) c.in-Character.character c.in-Ok.field-0 c.in-Ok.ensures.0)
+
+pub returns-then-octets-gt127-clause-err : goal.returns-then-octets-gt127-clause-err
+returns-then-octets-gt127-clause-err c =
+    let one = one_shortest_list c.in-CountedInteger.number in
+    rw c.in-CountedInteger.is (refl, (one.0, one.1, omega (arith, c.signed_len-octets.ensures one.0 one.1, c.if-octets-gt127.true)))
+
+pub returns-else-octets-gt127-clause-ok : goal.returns-else-octets-gt127-clause-ok
+returns-else-octets-gt127-clause-ok c =
+    let n = c.in-CountedInteger.number in
+    let one = one_shortest_list n in
+    let len = c.signed_len-octets.ensures one.0 one.1 in
+    rw (c.in-CountedInteger.is, len) (counted_fits n one.0 one.1 (omega (arith, len)))

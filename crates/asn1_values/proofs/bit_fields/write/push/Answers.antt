@@ -1,13 +1,15 @@
-use Rattle.std.proofs.Common.{◌*◌, length, refl}
+use Rattle.std.proofs.Common.{ℕ, ◌*◌, length, refl, sym, subst}
 use Rattle.asn1_bits.specs.Bits.{digits, bits}
 use Rattle.asn1_bits.specs.BitAppender.{room}
 use Rattle.asn1_bits.specs.BitStr.{view_of, bits_of}
 use Rattle.asn1_bits.specs.Octets.{octets_in}
 use Rattle.asn1_bits.proofs.DigitLaws.{length-digits, length-bits}
 use Rattle.asn1_bits.proofs.ViewLemmas.{length-list_of}
+use Rattle.asn1_number.proofs.LawLemmas.{one_shortest_list}
 use Rattle.asn1_strings.specs.AlphabetView.{alphabet_of}
-use Rattle.asn1_values.specs.Fields.{Number, Octets, Bits, Integer, Character}
-use Rattle.asn1_values.proofs.SpellingLemmas.{space_of, pushes, takes, number_fits, octets_fit, bits_fit, integer_fits, character_fits}
+use Rattle.asn1_values.specs.Fields.{Number, Octets, Bits, Integer, Character, Identifier}
+use Rattle.asn1_values.specs.Steps.{TakesTurns}
+use Rattle.asn1_values.proofs.SpellingLemmas.{space_of, pushes, takes, number_fits, octets_fit, bits_fit, integer_fits, character_fits, identifier_fits}
 use Rattle.asn1_values.proofs.bit_fields.write.push.Goals as goal
 
 -- ---- numbers
@@ -80,25 +82,25 @@ returns-in-Bits-clause-counted c =
 
 -- ---- integers
 
-pub push_octets-requires-in-Integer : goal.push_octets-requires-in-Integer
-push_octets-requires-in-Integer c =
-    let o = c.signed_octets.result in
-    rw c.as_ref-in-Integer.ensures
-    (space_of (Integer c.in-Integer.number) (bits o) (8 * length o) (room c.args.appender.now) (o, c.signed_octets.ensures, refl) (length-bits o) (rw c.in-Integer.is at c.requires.space))
+pub push_shortest-requires : goal.push_shortest-requires
+push_shortest-requires c = λ octets s.
+    space_of (Integer c.in-Integer.number) (bits octets) (8 * length octets) (room c.args.appender.now) (octets, s, refl) (length-bits octets) (rw c.in-Integer.is at c.requires.space)
 
 pub returns-in-Integer-clause-pushed : goal.returns-in-Integer-clause-pushed
 returns-in-Integer-clause-pushed c =
-    let o = c.signed_octets.result in
+    let n = c.in-Integer.number in
+    let one = one_shortest_list n in
     rw c.in-Integer.is
-    (pushes (Integer c.in-Integer.number) (bits o) (8 * length o) c.args.appender.now c.push_octets-in-Integer.new.self (o, c.signed_octets.ensures, refl) (length-bits o)
-    (rw c.as_ref-in-Integer.ensures at c.push_octets-in-Integer.ensures.written) (rw c.as_ref-in-Integer.ensures at c.push_octets-in-Integer.ensures.room))
+    (pushes (Integer n) (bits one.0) (8 * length one.0) c.args.appender.now c.push_shortest.new.appender (one.0, one.1, refl) (length-bits one.0)
+    (c.push_shortest.ensures.written one.0 one.1) (c.push_shortest.ensures.room one.0 one.1))
 
 pub returns-in-Integer-clause-counted : goal.returns-in-Integer-clause-counted
 returns-in-Integer-clause-counted c =
-    let o = c.signed_octets.result in
+    let n = c.in-Integer.number in
+    let one = one_shortest_list n in
     rw c.in-Integer.is
-    (takes (Integer c.in-Integer.number) (8 * length o) c.args.turns.now.count c.push_octets-in-Integer.new.turns.count (integer_fits c.in-Integer.number o c.signed_octets.ensures)
-    (rw c.as_ref-in-Integer.ensures at c.push_octets-in-Integer.ensures.at_least) (rw c.as_ref-in-Integer.ensures at c.push_octets-in-Integer.ensures.at_most))
+    (takes (Integer n) (8 * length one.0) c.args.turns.now.count c.push_shortest.new.turns.count (integer_fits n one.0 one.1)
+    (c.push_shortest.ensures.at_least one.0 one.1) (c.push_shortest.ensures.at_most one.0 one.1))
 
 -- ---- characters
 
@@ -129,3 +131,31 @@ returns-in-Ok-clause-counted c =
     rw c.in-Character.is
     (takes (Character a c.in-Character.character) a.width c.args.turns.now.count c.push_wide-in-Ok.new.turns.count (character_fits a c.in-Character.character k c.in-Ok.ensures.0)
     (rw c.width.ensures.value at c.push_wide-in-Ok.ensures.at_least) (rw c.width.ensures.value at c.push_wide-in-Ok.ensures.at_most))
+
+-- ---- identifiers
+
+pub push_each-requires : goal.push_each-requires
+push_each-requires c =
+    let arcs = c.in-Oid.oid in
+    let o = c.in-Some.octets in
+    let fits = rw c.in-Oid.is at c.requires.fits in
+    let contents = rw c.as_oid.ensures at c.in-Some.ensures in
+    space_of (Identifier arcs) (bits o) (8 * length o) (room c.args.appender.now) (o, contents, fits.1.2, refl) (length-bits o) (rw c.in-Oid.is at c.requires.space)
+
+pub returns-in-Some-clause-pushed : goal.returns-in-Some-clause-pushed
+returns-in-Some-clause-pushed c =
+    let arcs = c.in-Oid.oid in
+    let o = c.in-Some.octets in
+    let fits = rw c.in-Oid.is at c.requires.fits in
+    let contents = rw c.as_oid.ensures at c.in-Some.ensures in
+    rw c.in-Oid.is
+    (pushes (Identifier arcs) (bits o) (8 * length o) c.args.appender.now c.push_each.new.appender (o, contents, fits.1.2, refl) (length-bits o) c.push_each.ensures.written c.push_each.ensures.room)
+
+pub returns-in-Some-clause-counted : goal.returns-in-Some-clause-counted
+returns-in-Some-clause-counted c =
+    let arcs = c.in-Oid.oid in
+    let o = c.in-Some.octets in
+    let fits = rw c.in-Oid.is at c.requires.fits in
+    let contents = rw c.as_oid.ensures at c.in-Some.ensures in
+    let len = (identifier_fits arcs o contents fits.1.2).len in
+    rw c.in-Oid.is (λ list s. subst (λ (n : ℕ). TakesTurns n c.args.turns.now.count c.push_each.new.turns.count) (sym (len list s)) c.push_each.ensures.counted)

@@ -1,13 +1,11 @@
-use Rattle.std.proofs.Common.{◌≡◌, rules, length, ap, arith}
-use Rattle.asn1_bits.specs.View.{View}
+use Rattle.std.proofs.Common.{◌≡◌, rules, length, arith}
 use Rattle.asn1_bits.proofs.DigitLaws.{length-bits}
 use Rattle.asn1_bits.proofs.tests.kernel_rows.CountedPlaces.place.Goals as goal
 
-pub write_bitslice-requires-clause-room : goal.write_bitslice-requires-clause-room
-write_bitslice-requires-clause-room c =
-    omega (arith, length-bits c.args.self.now.octets, ap (λ (v : View). v.len) c.front_of-digits.ensures.view)
-
-pub write_bitslice-requires-clause-fits : goal.write_bitslice-requires-clause-fits
-write_bitslice-requires-clause-fits c =
+pub or_word-requires-clause-fits : goal.or_word-requires-clause-fits
+or_word-requires-clause-fits c =
     let n : length c.args.self.now.octets ≡ 128 = search rules in
-    omega (arith, length-bits c.args.self.now.octets, ap (λ (v : View). v.len) c.front_of-digits.ensures.view)
+    omega (arith, n, length-bits c.args.self.now.octets, c.requires.within)
+
+pub or_word-requires-clause-within : goal.or_word-requires-clause-within
+or_word-requires-clause-within c = omega (arith, length-bits c.args.self.now.octets, c.requires.within)

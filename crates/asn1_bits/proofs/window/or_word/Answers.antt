@@ -1,0 +1,14 @@
+use Rattle.std.proofs.Common.{◌+◌, ◌-◌, ◌%◌, arith}
+use Rattle.asn1_bits.specs.Bits.{bits}
+use Rattle.asn1_bits.proofs.DigitLemmas.{length-bits}
+use Rattle.asn1_bits.proofs.PutLemmas.{placed-two}
+use Rattle.asn1_bits.proofs.window.or_word.Goals as goal
+
+pub returns-else-position-width-le64 : goal.returns-else-position-width-le64
+returns-else-position-width-le64 c =
+    let place = c.args.position in
+    let past = place % 8 + c.args.width - 64 in
+    let front = c.args.width - past in
+    placed-two (bits c.args.dst.now) (bits c.or_near-else-position-width-le64.new.dst) (bits c.or_within.new.dst)
+    place (place + front) c.args.word front past c.args.width
+    c.or_near-else-position-width-le64.ensures c.or_within.ensures (omega arith) (omega arith) (omega (arith, length-bits c.args.dst.now))

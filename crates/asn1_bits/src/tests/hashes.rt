@@ -1,0 +1,37 @@
+//! Hashes of lists of bits: those of a list's length and words, wherever its bits lie.
+
+use super::plain::{pattern, plain_bits, plain_number};
+use crate::BitStr;
+use std::hash::{FoldHasher, Hash, Hasher};
+use std::test::Fail;
+
+/// The hash of the view.
+fn hash_of(view: BitStr<'_>) -> u64 {
+    let mut hasher = FoldHasher::default();
+    view.hash(&mut hasher);
+    hasher.finish()
+}
+
+/// The hash of how many bits there are, and of the numbers of each 64 of them and of the last ones.
+fn plain_hash(bits: &[bool]) -> u64 {
+    let mut hasher = FoldHasher::default();
+    hasher.write_usize(bits.len());
+    for word in bits.chunks(64) {
+        hasher.write_u64((plain_number(word) & 0xFFFF_FFFF_FFFF_FFFF) as u64);
+    }
+    hasher.finish()
+}
+
+#[test]
+fn equal_lists_hash_alike(rt: HostRuntime) -> Result<(), Fail> {
+    let octets = pattern(rt.alloc(), 40)?;
+    let bits = plain_bits(rt.alloc(), octets.as_slice())?;
+    assert!(rt; bits.len() == 320);
+    for first in [0, 3, 8, 13] {
+        for len in [0, 1, 7, 8, 63, 64, 65, 127, 128, 129, 300] {
+            let view = BitStr::new(octets.as_slice(), first, len).ok_or("within")?;
+            assert_eq!(rt; hash_of(view), plain_hash(&bits[first..first + len]));
+        }
+    }
+    Ok(())
+}

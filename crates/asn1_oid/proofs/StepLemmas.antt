@@ -1,0 +1,267 @@
+-- The steps of reading contents.
+use Rattle.std.proofs.Common.{◌≡◌, ◌≢◌, ℕ, ◌+◌, ◌*◌, ◌%◌, ◌<◌, ◌≤◌, Bool, true, false, cond, ltb, leb, List, [], ◌∷◌, ◌++◌, length, drop, get_or, min, Option, Some, None, Result, Ok, Err, refl, sym, ap, ◌∙◌, append_assoc, arith, inl, inr}
+use Rattle.std.specs.Prelude.{◌&&◌, is_ok}
+use Rattle.std.specs.List.{list_all}
+use Rattle.std.proofs.lemmas.Bool.{ltb-false, lt-ltb, le-ltb, leb-true, leb-false, cases_lt, and_parts}
+use Rattle.std.proofs.lemmas.List.{append-nil, nil_from_length, drop_more, drop_all}
+use Rattle.std.proofs.lemmas.List.Folds.{list_all-append}
+use Rattle.asn1_oid.specs.declared.contents.ContentsError.{ContentsError}
+use Rattle.asn1_oid.specs.declared.contents.ContentsError.TheVariants.{Malformed, ArcTooLarge}
+use Rattle.asn1_oid.specs.Reading.{behind, numbers_from, numbers_of, first_arc, second_arc, largest_first, other_fits, arcs_of_numbers, contents_reading, Stands}
+use Rattle.asn1_oid.specs.ReadingLaws.{ends, goes_on}
+
+-- ---- one octet
+
+-- the octets from a place on, and those from one place later on
+next_octet : (octets : List ℕ) (i octet : ℕ) → i < length octets → octet ≡ get_or octets i 0 → drop i octets ≡ octet ∷ drop (i + 1) octets
+next_octet octets i octet lt is = drop_more octets i 0 lt ∙ ap (λ (k : ℕ). k ∷ drop (i + 1) octets) (sym is)
+
+begins_with_80 : (n : ℕ) (rest : List ℕ) → numbers_from false n (128 ∷ rest) ≡ None
+unfolding numbers_from
+begins_with_80 n rest = refl
+
+unended : (n : ℕ) → numbers_from true n [] ≡ None
+unfolding numbers_from
+unended n = refl
+
+-- ---- one subidentifier
+
+-- from a place on, octets of a subidentifier were gathered up to another
+pub record Gathers (octets : List ℕ) (place i told cap : ℕ) : Type 0 where
+  pub number : ℕ
+  pub as_told : told ≡ min number cap
+  pub since : place ≤ i
+  pub read : numbers_of (drop place octets) ≡ numbers_from (ltb place i) number (drop i octets)
+
+pub gathers_none : (octets : List ℕ) (place cap : ℕ) → Gathers octets place place 0 cap
+gathers_none octets place cap =
+    let same : ltb place place ≡ false = le-ltb place place (omega arith) in
+    record { number = 0; as_told = omega arith; since = omega arith; read = rw same refl }
+
+pub gathers_more : (octets : List ℕ) (place i told octet cap : ℕ) → 1 ≤ cap → Gathers octets place i told cap → i < length octets → octet ≡ get_or octets i 0 → 128 ≤ octet
+    → (i ≡ place → octet ≢ 128) → Gathers octets place (i + 1) (min (128 * told + octet % 128) cap) cap
+gathers_more octets place i told octet cap some g lt is ge first = record {
+  number = 128 * g.number + octet % 128;
+  as_told = let t = g.as_told in omega arith;
+  since = let h = g.since in omega arith;
+  read =
+      let m : ℕ = 128 * g.number + octet % 128 in
+      let h = g.since in
+      let begun : ltb place (i + 1) ≡ true = lt-ltb place (i + 1) (omega arith) in
+      let here : ltb place i ≡ false → octet ≢ 128 = λ f. (let le = ltb-false place i f in first (omega arith)) in
+      g.read ∙ ap (numbers_from (ltb place i) g.number) (next_octet octets i octet lt is) ∙ goes_on (ltb place i) g.number octet (drop (i + 1) octets) ge here
+      ∙ ap (λ (b : Bool). numbers_from b m (drop (i + 1) octets)) (sym begun);
+}
+
+pub stands : (octets : List ℕ) (place i told octet cap : ℕ) → 1 ≤ cap → Gathers octets place i told cap → i < length octets → octet ≡ get_or octets i 0 → octet < 128
+    → Stands octets place (min (128 * told + octet % 128) cap) (i + 1) cap
+stands octets place i told octet cap some g lt is small = record {
+  number = 128 * g.number + octet % 128;
+  as_told = let t = g.as_told in omega arith;
+  later = let h = g.since in omega arith;
+  within = omega arith;
+  read = g.read ∙ ap (numbers_from (ltb place i) g.number) (next_octet octets i octet lt is) ∙ ends (ltb place i) g.number octet (drop (i + 1) octets) small;
+}
+
+-- nothing is read where the first octet is 80
+pub none_from_80 : (octets : List ℕ) (place octet : ℕ) → place < length octets → octet ≡ get_or octets place 0 → octet ≡ 128 → numbers_of (drop place octets) ≡ None
+none_from_80 octets place octet lt is e =
+    ap (numbers_from false 0) (next_octet octets place octet lt is ∙ ap (λ (k : ℕ). k ∷ drop (place + 1) octets) e) ∙ begins_with_80 0 (drop (place + 1) octets)
+
+-- nor where the octets end first
+pub none_from_end : (octets : List ℕ) (place i told cap : ℕ) → Gathers octets place i told cap → place < length octets → length octets ≤ i → numbers_of (drop place octets) ≡ None
+none_from_end octets place i told cap g lt le =
+    let begun : ltb place i ≡ true = lt-ltb place i (omega arith) in
+    g.read ∙ ap (λ (b : Bool). numbers_from b g.number (drop i octets)) begun ∙ ap (numbers_from true g.number) (drop_all i octets le) ∙ unended g.number
+
+-- ---- subidentifiers one after another
+
+behind_more : (front : List ℕ) (n : ℕ) (r : Option (List ℕ)) → behind front (behind (n ∷ []) r) ≡ behind (front ++ n ∷ []) r
+behind_more front n (Some ns) = ap (λ (l : List ℕ). Some l) (sym (append_assoc front (n ∷ []) ns))
+behind_more front n None = refl
+
+same_test : (a b m : ℕ) → (a ≤ m → b ≤ m) → (b ≤ m → a ≤ m) → leb a m ≡ leb b m
+same_test a b m to from = by_cases (leb a m) (leb b m) refl refl
+  where
+    by_cases : (x y : Bool) → leb a m ≡ x → leb b m ≡ y → leb a m ≡ leb b m
+    by_cases true true e f = e ∙ sym f
+    by_cases false false e f = e ∙ sym f
+    by_cases true false e f = absurd (let le = to (leb-true a m e) in let lt = leb-false b m f in omega arith)
+    by_cases false true e f = absurd (let le = from (leb-true b m f) in let lt = leb-false a m e in omega arith)
+
+and_true : (a : Bool) → a ≡ (a && true)
+and_true true = refl
+and_true false = refl
+
+three : (a b c : Bool) → ((a && b) && c) ≡ (a && (b && (c && true)))
+three true true true = refl
+three true true false = refl
+three true false c = refl
+three false b c = refl
+
+-- the numbers up to a place, and whether they all fit
+pub record Walks (octets : List ℕ) (place : ℕ) (fit : Bool) : Type 0 where
+  pub first : ℕ
+  pub others : List ℕ
+  pub tested : fit ≡ (leb first largest_first && list_all other_fits others)
+  pub within : place ≤ length octets
+  pub read : numbers_of octets ≡ behind (first ∷ others) (numbers_of (drop place octets))
+
+pub walks_first : (octets : List ℕ) (told next : ℕ) → Stands octets 0 told next 4294967376 → Walks octets next (leb told largest_first)
+walks_first octets told next s = record {
+  first = s.number;
+  others = [];
+  tested = same_test told s.number largest_first (let t = s.as_told in λ le. omega arith) (let t = s.as_told in λ le. omega arith) ∙ and_true (leb s.number largest_first);
+  within = s.within;
+  read = s.read;
+}
+
+pub walks_more : (octets : List ℕ) (place told next : ℕ) (fit : Bool) → Walks octets place fit → Stands octets place told next 4294967376 → Walks octets next (fit && leb told 4294967295)
+walks_more octets place told next fit w s = record {
+  first = w.first;
+  others = w.others ++ s.number ∷ [];
+  tested =
+      let last : leb told 4294967295 ≡ other_fits s.number = same_test told s.number 4294967295 (let t = s.as_told in λ le. omega arith) (let t = s.as_told in λ le. omega arith) in
+      ap (λ (b : Bool). b && leb told 4294967295) w.tested ∙ ap (λ (b : Bool). (leb w.first largest_first && list_all other_fits w.others) && b) last
+      ∙ three (leb w.first largest_first) (list_all other_fits w.others) (other_fits s.number)
+      ∙ ap (λ (b : Bool). leb w.first largest_first && b) (sym (list_all-append other_fits w.others (s.number ∷ [])));
+  within = s.within;
+  read = w.read ∙ ap (behind (w.first ∷ w.others)) s.read ∙ behind_more (w.first ∷ w.others) s.number (numbers_of (drop next octets));
+}
+
+numbers_at_end : (octets : List ℕ) (place : ℕ) (fit : Bool) (w : Walks octets place fit) → length octets ≤ place → numbers_of octets ≡ Some (w.first ∷ w.others)
+unfolding numbers_from
+numbers_at_end octets place fit w le =
+    w.read ∙ ap (λ (l : List ℕ). behind (w.first ∷ w.others) (numbers_of l)) (drop_all place octets le)
+    ∙ ap (λ (l : List ℕ). Some l) (append-nil (w.first ∷ w.others))
+
+pub reads_all : (octets : List ℕ) (place : ℕ) → Walks octets place true → length octets ≤ place → is_ok (contents_reading octets) ≡ true
+unfolding contents_reading
+reads_all octets place w le = rw (numbers_at_end octets place true w le, sym w.tested) refl
+
+pub reads_large : (octets : List ℕ) (place : ℕ) → Walks octets place false → length octets ≤ place → contents_reading octets ≡ Err ArcTooLarge
+unfolding contents_reading
+reads_large octets place w le = rw (numbers_at_end octets place false w le, sym w.tested) refl
+
+pub reads_none : (octets : List ℕ) → numbers_of octets ≡ None → contents_reading octets ≡ Err Malformed
+unfolding contents_reading
+reads_none octets e = rw e refl
+
+pub reads_empty : (octets : List ℕ) → octets ≡ [] → contents_reading octets ≡ Err Malformed
+unfolding contents_reading numbers_from
+reads_empty octets e = rw e refl
+
+pub stops : (octets : List ℕ) (place : ℕ) (fit : Bool) → Walks octets place fit → numbers_of (drop place octets) ≡ None → contents_reading octets ≡ Err Malformed
+stops octets place fit w e = reads_none octets (w.read ∙ ap (behind (w.first ∷ w.others)) e)
+
+-- ---- arcs that are gathered
+
+test_of : Option (List ℕ) → Bool
+test_of None = false
+test_of (Some []) = false
+test_of (Some (n ∷ numbers)) = leb n largest_first && list_all other_fits numbers
+
+tested : (r : Option (List ℕ)) → is_ok (arcs_of_numbers r) ≡ true → test_of r ≡ true
+unfolding test_of
+tested None e = absurd cc
+tested (Some []) e = absurd cc
+tested (Some (n ∷ numbers)) e = by_test (leb n largest_first && list_all other_fits numbers) e
+  where
+    arcs : List ℕ
+    arcs = first_arc n ∷ second_arc n ∷ numbers
+
+    by_test : (b : Bool) → is_ok (cond b (Ok arcs) (Err ArcTooLarge)) ≡ true → b ≡ true
+    by_test true h = refl
+    by_test false h = absurd cc
+
+-- the first number fits, and one behind others
+first_fits : (n : ℕ) (front : List ℕ) (r : Option (List ℕ)) → test_of (behind (n ∷ front) r) ≡ true → n ≤ largest_first
+unfolding test_of
+first_fits n front (Some ns) e = leb-true n largest_first (and_parts (leb n largest_first) (list_all other_fits (front ++ ns)) e).0
+first_fits n front None e = absurd cc
+
+next_fits : (first : ℕ) (others : List ℕ) (n : ℕ) (r : Option (List ℕ)) → test_of (behind (first ∷ others) (behind (n ∷ []) r)) ≡ true → n ≤ 4294967295
+unfolding test_of
+next_fits first others n (Some ns) e =
+    let p = and_parts (leb first largest_first) (list_all other_fits (others ++ n ∷ ns)) e in
+    let q = and_parts (list_all other_fits others) (list_all other_fits (n ∷ ns)) (sym (list_all-append other_fits others (n ∷ ns)) ∙ p.1) in
+    leb-true n 4294967295 (and_parts (other_fits n) (list_all other_fits ns) q.1).0
+next_fits first others n None e = absurd cc
+
+-- the arcs up to a place
+pub record Gathered (octets : List ℕ) (place : ℕ) (items : List ℕ) : Type 0 where
+  pub first : ℕ
+  pub others : List ℕ
+  pub arcs : items ≡ first_arc first ∷ second_arc first ∷ others
+  pub within : place ≤ length octets
+  pub read : numbers_of octets ≡ behind (first ∷ others) (numbers_of (drop place octets))
+
+pub first_told : (octets : List ℕ) (told next : ℕ) → is_ok (contents_reading octets) ≡ true → (s : Stands octets 0 told next 4294967376) → (told ≡ s.number) × (told ≤ largest_first)
+unfolding contents_reading
+first_told octets told next ok s =
+    let fits = first_fits s.number [] (numbers_of (drop next octets)) (sym (ap test_of s.read) ∙ tested (numbers_of octets) ok) in
+    let t = s.as_told in
+    (omega arith, omega arith)
+
+pub next_told : (octets : List ℕ) (place told next : ℕ) (items : List ℕ) → is_ok (contents_reading octets) ≡ true → (w : Gathered octets place items) (s : Stands octets place told next 4294967376) → (told ≡ s.number) × (told ≤ 4294967295)
+unfolding contents_reading
+next_told octets place told next items ok w s =
+    let read = w.read ∙ ap (behind (w.first ∷ w.others)) s.read in
+    let fits = next_fits w.first w.others s.number (numbers_of (drop next octets)) (sym (ap test_of read) ∙ tested (numbers_of octets) ok) in
+    let t = s.as_told in
+    (omega arith, omega arith)
+
+pub gathered_first : (octets : List ℕ) (told next : ℕ) (items : List ℕ) → is_ok (contents_reading octets) ≡ true → Stands octets 0 told next 4294967376
+    → items ≡ first_arc told ∷ second_arc told ∷ [] → Gathered octets next items
+gathered_first octets told next items ok s is =
+    let p = first_told octets told next ok s in
+    record {
+      first = s.number;
+      others = [];
+      arcs = is ∙ ap (λ (k : ℕ). first_arc k ∷ second_arc k ∷ []) p.0;
+      within = s.within;
+      read = s.read;
+    }
+
+pub gathered_more : (octets : List ℕ) (place told next : ℕ) (items more : List ℕ) → is_ok (contents_reading octets) ≡ true → Gathered octets place items → Stands octets place told next 4294967376
+    → more ≡ items ++ told ∷ [] → Gathered octets next more
+gathered_more octets place told next items more ok w s is =
+    let p = next_told octets place told next items ok w s in
+    record {
+      first = w.first;
+      others = w.others ++ s.number ∷ [];
+      arcs = is ∙ ap (λ (l : List ℕ). l ++ told ∷ []) w.arcs ∙ ap (λ (k : ℕ). first_arc w.first ∷ second_arc w.first ∷ (w.others ++ k ∷ [])) p.0;
+      within = s.within;
+      read = w.read ∙ ap (behind (w.first ∷ w.others)) s.read ∙ behind_more (w.first ∷ w.others) s.number (numbers_of (drop next octets));
+    }
+
+reads_arcs_of : (r : Option (List ℕ)) (first : ℕ) (others : List ℕ) → is_ok (arcs_of_numbers r) ≡ true → r ≡ Some (first ∷ others) → arcs_of_numbers r ≡ Ok (first_arc first ∷ second_arc first ∷ others)
+unfolding test_of
+reads_arcs_of r first others ok e =
+    let t : (leb first largest_first && list_all other_fits others) ≡ true = sym (ap test_of e) ∙ tested r ok in
+    rw (e, t) refl
+
+pub gathers_all : (octets : List ℕ) (place : ℕ) (items : List ℕ) → is_ok (contents_reading octets) ≡ true → Gathered octets place items → length octets ≤ place → contents_reading octets ≡ Ok items
+unfolding contents_reading numbers_from
+gathers_all octets place items ok w le =
+    let all : numbers_of octets ≡ Some (w.first ∷ w.others) =
+    w.read ∙ ap (λ (l : List ℕ). behind (w.first ∷ w.others) (numbers_of l)) (drop_all place octets le)
+    ∙ ap (λ (l : List ℕ). Some l) (append-nil (w.first ∷ w.others)) in
+    reads_arcs_of (numbers_of octets) w.first w.others ok all ∙ ap (λ (l : List ℕ). Ok l) (sym w.arcs)
+
+-- a subidentifier stands where one is expected
+no_reading : (octets : List ℕ) (x : ContentsError) → is_ok (contents_reading octets) ≡ true → contents_reading octets ≡ Err x → ⊥
+no_reading octets x ok e = err_is_not_ok (contents_reading octets) x ok e
+  where
+    err_is_not_ok : (r : Result (List ℕ) ContentsError) (x : ContentsError) → is_ok r ≡ true → r ≡ Err x → ⊥
+    err_is_not_ok (Ok arcs) x ok e = cc
+    err_is_not_ok (Err y) x ok e = absurd cc
+
+pub some_stands : (octets : List ℕ) → is_ok (contents_reading octets) ≡ true → (0 < length octets → numbers_of octets ≡ None) → ⊥
+some_stands octets ok none = elim (cases_lt 0 (length octets)) [
+  | inl lt ↦ no_reading octets Malformed ok (reads_none octets (none lt))
+  | inr le ↦ no_reading octets Malformed ok (reads_empty octets (nil_from_length octets (omega arith)))
+]
+
+pub next_stands : (octets : List ℕ) (place : ℕ) (items : List ℕ) → is_ok (contents_reading octets) ≡ true → Gathered octets place items → numbers_of (drop place octets) ≡ None → ⊥
+next_stands octets place items ok w none = no_reading octets Malformed ok (reads_none octets (w.read ∙ ap (behind (w.first ∷ w.others)) none))

@@ -1,0 +1,154 @@
+//! The contents of identifiers (X.690 8.19), read.
+
+ghost use Rattle.std.specs.Prelude.{◌≡◌, ◌≢◌, ◌↔◌, ◌<◌, ◌≤◌, ℕ, List, Ok, Err, None, length, drop, slice_index, All, IsOk, IfOk, IfSome, IfNone, MatchResult};
+ghost use Rattle.asn1_oid.specs.Contents.{IsContents, FitU32};
+ghost use Rattle.asn1_oid.specs.Reading.{Stands, contents_reading, numbers_of};
+
+use std::alloc::{AllocError, Global};
+
+/// A list of octets, wherever they lie.
+pub trait OctetSource {
+    /// The list.
+    ghost list: { Self → List ℕ };
+
+    /// How many octets there are.
+    fn count(&self) -> usize
+        ensures count { result ≡ length (list self.now) }
+        ensures octets { All (λ octet. octet < 256) (list self.now) };
+
+    /// The octet at a place.
+    fn octet(&self, i: usize) -> u8
+        requires { i < length (list self.now) }
+        ensures { result ≡ slice_index (list self.now) i };
+}
+
+impl OctetSource for &[u8] {
+    ghost list = { λ s. s.now };
+
+    fn count(&self) -> usize {
+        are_octets(*self);
+        self.len()
+    }
+
+    fn octet(&self, i: usize) -> u8 {
+        self[i]
+    }
+}
+
+/// Octets are below 256. It does nothing.
+fn are_octets(octets: &[u8])
+    ensures { All (λ octet. octet < 256) octets.now }
+{}
+
+/// Why octets are not the contents of an identifier, or could not be read as such.
+#[derive(Clone, Copy, Debug, PartialEq, Eq, PartialOrd, Ord, Hash)]
+pub enum ContentsError {
+    /// They are contents of no arcs of any size: there are none, a subidentifier begins with 80 (hexadecimal), or the
+    /// last one is not ended.
+    Malformed,
+    /// They are the contents of arcs, one of which passes `u32`.
+    ArcTooLarge,
+    /// They are the contents of an identifier, and memory is wanting.
+    Memory,
+}
+
+impl From<AllocError> for ContentsError {
+    ghost use Rattle.std.specs.Prelude.{◌≡◌};
+    ghost use Rattle.asn1_oid.specs.declared.contents.ContentsError.TheVariants.{Memory};
+
+    ghost from_gives = { λ _ e. e ≡ Memory };
+
+    fn from(_error: AllocError) -> ContentsError {
+        ContentsError::Memory
+    }
+}
+
+/// The largest number of a first subidentifier: 40 times 2, and the largest arc.
+const LARGEST_FIRST: u64 = 4_294_967_375;
+
+/// The largest number of another subidentifier.
+const LARGEST_OTHER: u64 = 4_294_967_295;
+
+/// Whether the octets are the contents of an identifier, whose arcs all fit `u32`.
+pub fn check_contents<S: OctetSource>(source: &S) -> Result<(), ContentsError>
+    ensures ok { IsOk result
+        ↔ ((arcs : List ℕ) × IsContents arcs (S.list source.now) × FitU32 arcs) }
+    ensures arc_too_large { (result ≡ Err ContentsError.ArcTooLarge)
+        ↔ ((arcs : List ℕ) × IsContents arcs (S.list source.now) × ¬ (FitU32 arcs)) }
+    ensures malformed { (result ≡ Err ContentsError.Malformed)
+        ↔ ((arcs : List ℕ) → ¬ (IsContents arcs (S.list source.now))) }
+    // No memory is asked for.
+    ensures memory { result ≢ Err ContentsError.Memory }
+{
+    examine(source)
+}
+
+/// Goes past all subidentifiers.
+pub(crate) fn examine<S: OctetSource>(source: &S) -> Result<(), ContentsError>
+    ensures reading { MatchResult result (λ _. IsOk (contents_reading (S.list source.now)))
+        (λ e. contents_reading (S.list source.now) ≡ Err e) }
+    ensures octets { All (λ octet. octet < 256) (S.list source.now) }
+{
+    let count = source.count();
+    let Some((first, mut at)) = subidentifier_at(source, 0) else {
+        return Err(ContentsError::Malformed);
+    };
+    let mut fit = first <= LARGEST_FIRST;
+    while at < count {
+        let Some((number, next)) = subidentifier_at(source, at) else {
+            return Err(ContentsError::Malformed);
+        };
+        fit = fit && number <= LARGEST_OTHER;
+        at = next;
+    }
+    if fit {
+        Ok(())
+    } else {
+        Err(ContentsError::ArcTooLarge)
+    }
+}
+
+/// The arcs of contents.
+pub(crate) fn arcs_in<S: OctetSource>(alloc: Global, source: &S) -> Result<Vec<u32>, AllocError>
+    requires { IsOk (contents_reading (S.list source.now)) }
+    ensures { IfOk result (λ arcs. contents_reading (S.list source.now) ≡ Ok arcs.items) }
+{
+    let count = source.count();
+    let mut arcs = Vec::new(alloc);
+    let Some((first, mut at)) = subidentifier_at(source, 0) else {
+        unreachable!()
+    };
+    let x = (first / 40).min(2);
+    arcs.push(x as u32)?;
+    arcs.push((first - 40 * x) as u32)?;
+    while at < count {
+        let Some((number, next)) = subidentifier_at(source, at) else {
+            unreachable!()
+        };
+        arcs.push(number as u32)?;
+        at = next;
+    }
+    Ok(arcs)
+}
+
+/// The number of the subidentifier at a place, which stops growing where no arc can be so large, and the place behind it;
+/// None where none stands there.
+fn subidentifier_at<S: OctetSource>(source: &S, at: usize) -> Option<(u64, usize)>
+    requires { at ≤ length (S.list source.now) }
+    ensures some { IfSome result (λ r. Stands (S.list source.now) at r.0 r.1 4294967376) }
+    ensures none { IfNone result (at < length (S.list source.now)
+        → numbers_of (drop at (S.list source.now)) ≡ None) }
+{
+    let mut number = 0u64;
+    for i in at..source.count() {
+        let octet = source.octet(i);
+        if i == at && octet == 0x80 {
+            return None;
+        }
+        number = (128 * number + u64::from(octet % 128)).min(LARGEST_FIRST + 1);
+        if octet < 128 {
+            return Some((number, i + 1));
+        }
+    }
+    None
+}

@@ -1,0 +1,106 @@
+//! The contents of identifiers (X.690 8.19), octet by octet.
+
+ghost use Rattle.std.specs.Prelude.{◌≡◌, ◌<◌, ◌≤◌, ◌*◌, ◌^◌, ℕ, List, length};
+ghost use Rattle.std.specs.List.{flat_map};
+ghost use Rattle.std.specs.Iterator.{YieldsFirst, item_count};
+ghost use Rattle.asn1_oid.specs.Writing.{HasDigits, octets_left, subidentifier_octets};
+
+use std::marker::Model;
+
+/// An iterator over the octets of an identifier's contents that are left, in their order.
+#[derive(Debug, Drop)]
+pub struct OidContents<'a> {
+    // The subidentifier that is being given, how many of its octets are left, and the arcs behind it.
+    number: u64,
+    left: u32,
+    arcs: &'a [u32],
+}
+
+impl<'a> Model for OidContents<'a> {
+    ghost Value = { List ℕ };
+
+    ghost view = { λ s. octets_left s.number s.left s.arcs.now };
+
+    ghost invariant = { λ s. s.left ≤ 5 };
+}
+
+/// How many octets the subidentifier of a number has: one for each begun seven binary digits, and at least one.
+pub(crate) fn octet_count(number: u64) -> u32
+    requires { number < 2 ^ 35 }
+    ensures digits { HasDigits number result }
+    ensures few { result ≤ 5 }
+{
+    if number < 1 << 7 {
+        1
+    } else if number < 1 << 14 {
+        2
+    } else if number < 1 << 21 {
+        3
+    } else if number < 1 << 28 {
+        4
+    } else {
+        5
+    }
+}
+
+/// How many octets the subidentifiers of further arcs have.
+pub(crate) fn octets_of_arcs(arcs: &[u32]) -> u128
+    ensures len { result ≡ length (flat_map subidentifier_octets arcs.now) }
+    ensures few { result ≤ 5 * length arcs.now }
+{
+    let mut len = 0u128;
+    for arc in arcs {
+        len += u128::from(octet_count(u64::from(*arc)));
+    }
+    len
+}
+
+impl<'a> OidContents<'a> {
+    /// The octets of a subidentifier, and of those of further arcs.
+    pub(crate) fn of(number: u64, arcs: &'a [u32]) -> OidContents<'a>
+        requires { number < 2 ^ 35 }
+        ensures { (k : ℕ) → HasDigits number k → result ≡ octets_left number k arcs.now }
+    {
+        OidContents {
+            number,
+            left: octet_count(number),
+            arcs,
+        }
+    }
+}
+
+impl<'a> Iterator for OidContents<'a> {
+    ghost use Rattle.std.specs.Prelude.{IfSome};
+    ghost use Rattle.std.specs.Iterator.{UpTo};
+    ghost use Rattle.std.specs.Iterator.SizeHint.{IsExactHint, IsWithinCount};
+
+    type Item = u8;
+
+    ghost next_gives = { YieldsFirst (λ s. s) };
+
+    ghost remaining = { item_count (λ s. s) };
+
+    fn next(&mut self) -> Option<u8> {
+        if self.left == 0 {
+            let (arc, others) = self.arcs.split_first()?;
+            self.number = u64::from(*arc);
+            self.left = octet_count(self.number);
+            self.arcs = others;
+        }
+        self.left -= 1;
+        let digit = ((self.number >> (7 * self.left)) % 128) as u8;
+        Some(if self.left == 0 { digit } else { 128 + digit })
+    }
+    /// How many octets are left: twice that number, unless it passes `usize::MAX`.
+    fn size_hint(&self) -> (usize, Option<usize>)
+        ensures lower { IsWithinCount result.0 (item_count (λ s. s) self.now) }
+        ensures upper { IfSome result.1 (UpTo (item_count (λ s. s) self.now)) }
+        ensures exact { IsExactHint result (length self.now) }
+    {
+        let left = u128::from(self.left) + octets_of_arcs(self.arcs);
+        match usize::try_from(left) {
+            Ok(left) => (left, Some(left)),
+            Err(_) => (usize::MAX, None),
+        }
+    }
+}

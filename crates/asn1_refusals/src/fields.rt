@@ -1,0 +1,251 @@
+//! Fields of all kinds.
+
+use crate::refusal::{met, met_before};
+use asn1_values::{
+    BitBuffer, BitReader, BitStr, CharacterAlphabet, Field, Ia5String, Integer, ObjectIdentifier,
+    Octets, ReadError, Shape, Turns, WriteError, read_fields, write_fields, write_fields_counted,
+};
+use std::alloc::Global;
+use std::borrow::CowSlice;
+use std::test::Fail;
+
+/// Forty octets, and so many zero octets that any buffer has to grow for them.
+const OCTETS: [u8; 40] = [0xA5; 40];
+
+const ZEROS: [u8; 4096] = [0; 4096];
+
+/// The integer 128, the same behind the number of its octets, and the contents of the arcs below.
+const MIDDLE: [u8; 14] = [
+    0x00, 0x80, 0x02, 0x00, 0x80, 0x60, 0x86, 0x48, 0x01, 0x65, 0x03, 0x04, 0x02, 0x03,
+];
+
+/// The shortest octets of 2 to the power of 199.
+const POWER: [u8; 26] = [
+    0x00, 0x80, 0, 0, 0, 0, 0, 0, 0, 0, 0, 0, 0, 0, 0, 0, 0, 0, 0, 0, 0, 0, 0, 0, 0, 0,
+];
+
+/// A field of each kind, without memory: five bits, octets, integers, an identifier, zero octets, three bits and a
+/// character of one bit.
+fn message() -> Result<[Field<'static, 'static>; 8], Fail> {
+    let arcs = CowSlice::Borrowed(&[2, 16, 840, 1, 101, 3, 4, 2, 3]);
+    let bits = BitStr::new(&[0xE0], 0, 3).ok_or("there")?;
+    Ok([
+        Field::Number {
+            value: 0b10110,
+            width: 5,
+        },
+        Field::Octets(Octets::Borrowed(&OCTETS)),
+        Field::Integer(Integer::from(128)),
+        Field::CountedInteger(Integer::from(128)),
+        Field::Oid(ObjectIdentifier::new(arcs).ok_or("valid")?),
+        Field::Octets(Octets::Borrowed(&ZEROS)),
+        Field::Bits(bits),
+        Field::Character {
+            alphabet: CharacterAlphabet::new::<Ia5String>(Some(&[97, 98]), false),
+            character: 98,
+        },
+    ])
+}
+
+/// Whether the buffer holds 111 and the message.
+fn holds_message(buffer: &BitBuffer) -> bool {
+    let octets = buffer.as_bytes();
+    buffer.len() == 33212
+        && octets.len() == 4152
+        && octets.first() == Some(&0xF6)
+        && octets.iter().skip(1).take(40).all(|octet| *octet == 0xA5)
+        && octets.iter().skip(41).take(14).eq(MIDDLE.iter())
+        && octets.iter().skip(55).take(4096).all(|octet| *octet == 0)
+        && octets.last() == Some(&0xF0)
+}
+
+/// The three bits 111; None where memory was refused.
+fn three_ones(alloc: Global) -> Option<BitBuffer> {
+    let mut buffer = BitBuffer::new(alloc);
+    buffer.push_bits(0b111, 3).ok()?;
+    Some(buffer)
+}
+
+/// Whether the buffer holds 111 and no other bit.
+fn is_three_ones(buffer: &BitBuffer) -> bool {
+    buffer.len() == 3 && buffer.as_bytes() == [0xE0].as_slice()
+}
+
+#[test]
+fn fields_are_written(rt: HostRuntime) -> Result<(), Fail> {
+    let fields = message()?;
+    let Some(mut buffer) = three_ones(rt.alloc()) else {
+        return met_before(&rt, "write_fields");
+    };
+    match write_fields(&mut buffer, &fields) {
+        Ok(()) => assert!(rt; holds_message(&buffer)),
+        Err(error) => {
+            met(&rt, "write_fields")?;
+            assert_eq!(rt; error, WriteError::Memory);
+            assert!(rt; is_three_ones(&buffer));
+        }
+    }
+    Ok(())
+}
+
+#[test]
+fn fields_are_written_and_counted(rt: HostRuntime) -> Result<(), Fail> {
+    let fields = message()?;
+    let Some(mut buffer) = three_ones(rt.alloc()) else {
+        return met_before(&rt, "write_fields_counted");
+    };
+    match write_fields_counted(&mut buffer, &fields, &mut Turns::new()) {
+        Ok(()) => assert!(rt; holds_message(&buffer)),
+        Err(error) => {
+            met(&rt, "write_fields_counted")?;
+            assert_eq!(rt; error, WriteError::Memory);
+            assert!(rt; is_three_ones(&buffer));
+        }
+    }
+    Ok(())
+}
+
+#[test]
+fn a_field_within_an_octet_asks_for_nothing(rt: HostRuntime) -> Result<(), Fail> {
+    let Some(mut buffer) = three_ones(rt.alloc()) else {
+        return met_before(&rt, "write_fields within an octet");
+    };
+    let five = Field::Number {
+        value: 31,
+        width: 5,
+    };
+    write_fields(&mut buffer, &[five])?;
+    assert!(rt; buffer.len() == 8 && buffer.as_bytes() == [0xFF].as_slice());
+    Ok(())
+}
+
+#[test]
+fn a_wrong_field_keeps_its_name_in_writing(rt: HostRuntime) -> Result<(), Fail> {
+    let Some(mut buffer) = three_ones(rt.alloc()) else {
+        return met_before(&rt, "write_fields of a wrong field");
+    };
+    let fields = [
+        Field::Octets(Octets::Borrowed(&ZEROS)),
+        Field::Number { value: 2, width: 1 },
+    ];
+    let refused = write_fields(&mut buffer, &fields).err();
+    assert_eq!(rt; refused, Some(WriteError::Number { field: 1 }));
+    assert!(rt; is_three_ones(&buffer));
+    Ok(())
+}
+
+/// Six bits, octets off the boundary, and an integer past `i128`, behind 111; None where memory was refused.
+fn bits_to_read(alloc: Global) -> Option<BitBuffer> {
+    let mut buffer = three_ones(alloc)?;
+    let fields = [
+        Field::Number {
+            value: 0b101101,
+            width: 6,
+        },
+        Field::Octets(Octets::Borrowed(&OCTETS)),
+        Field::Integer(Integer::from_signed_octets(alloc, &POWER).ok()?),
+        Field::Octets(Octets::Borrowed(&MIDDLE)),
+    ];
+    write_fields(&mut buffer, &fields).ok()?;
+    Some(buffer)
+}
+
+/// Whether these are the fields that were written, the last octets as an integer, a counted one and an identifier.
+fn are_those(fields: &[Field<'_, '_>]) -> bool {
+    let [number, octets, power, integer, counted, oid] = fields else {
+        return false;
+    };
+    matches!(
+        number,
+        Field::Number {
+            value: 45,
+            width: 6
+        }
+    ) && matches!(octets, Field::Octets(octets) if octets.as_ref() == OCTETS.as_slice())
+        && matches!(power, Field::Integer(n) if n.signed_octets().as_ref() == POWER.as_slice())
+        && matches!(integer, Field::Integer(n) if n.to_i128() == Some(128))
+        && matches!(counted, Field::CountedInteger(n) if n.to_i128() == Some(128))
+        && matches!(oid, Field::Oid(oid) if oid.eq_arcs(&[2, 16, 840, 1, 101, 3, 4, 2, 3]))
+}
+
+#[test]
+fn fields_are_read(rt: HostRuntime) -> Result<(), Fail> {
+    let Some(buffer) = bits_to_read(rt.alloc()) else {
+        return met_before(&rt, "read_fields");
+    };
+    let shapes = [
+        Shape::Number { width: 6 },
+        Shape::Octets { count: 40 },
+        Shape::Integer { octets: 26 },
+        Shape::Integer { octets: 2 },
+        Shape::CountedInteger,
+        Shape::Oid { octets: 9 },
+    ];
+    // 6 bits and 80 octets, from bit 3 on.
+    let view = BitStr::new(buffer.as_bytes(), 3, 646).ok_or("there")?;
+    let mut reader = BitReader::new(view);
+    match read_fields(rt.alloc(), &mut reader, &shapes) {
+        Ok(fields) => {
+            assert!(rt; are_those(fields.as_slice()));
+            assert_eq!(rt; reader.len(), 0);
+        }
+        Err(error) => {
+            met(&rt, "read_fields")?;
+            assert_eq!(rt; error, ReadError::Memory);
+            assert!(rt; reader.bits() == view && reader.bits().shift() == 3);
+        }
+    }
+    Ok(())
+}
+
+#[test]
+fn a_wrong_field_keeps_its_name_in_reading(rt: HostRuntime) -> Result<(), Fail> {
+    let rows: [(&[u8], [Shape<'static>; 2], ReadError); 5] = [
+        (
+            &[0xFF, 0xFF],
+            [Shape::Number { width: 3 }, Shape::Octets { count: 2 }],
+            ReadError::Short { field: 1, bits: 3 },
+        ),
+        (
+            &[0x01, 0x00, 0x05],
+            [Shape::Octets { count: 1 }, Shape::Integer { octets: 2 }],
+            ReadError::Integer { field: 1 },
+        ),
+        (
+            &[0x01, 0x80],
+            [Shape::Octets { count: 1 }, Shape::CountedInteger],
+            ReadError::Length {
+                field: 1,
+                octet: 0x80,
+            },
+        ),
+        (
+            &[0x01, 0x2A, 0x86],
+            [Shape::Octets { count: 1 }, Shape::Oid { octets: 2 }],
+            ReadError::Identifier { field: 1 },
+        ),
+        (
+            &[0x01, 0x90, 0x80, 0x80, 0x80, 0x50],
+            [Shape::Octets { count: 1 }, Shape::Oid { octets: 5 }],
+            ReadError::Arc { field: 1 },
+        ),
+    ];
+    for (octets, shapes, error) in rows {
+        let bits = octets.len().checked_mul(8).ok_or("fits")?;
+        let view = BitStr::new(octets, 0, bits).ok_or("there")?;
+        let mut reader = BitReader::new(view);
+        let refused = read_fields(rt.alloc(), &mut reader, &shapes).err();
+        assert_eq!(rt; refused, Some(error));
+        assert!(rt; reader.bits() == view);
+    }
+    Ok(())
+}
+
+#[test]
+fn no_shapes_ask_for_nothing(rt: HostRuntime) -> Result<(), Fail> {
+    let mut reader = BitReader::from_octets(&[0xFF]);
+    let fields = read_fields(rt.alloc(), &mut reader, &[])?;
+    assert!(rt; fields.is_empty());
+    assert_eq!(rt; reader.len(), 8);
+    Ok(())
+}

@@ -1,0 +1,291 @@
+//! The eight restricted strings.
+
+use crate::refusal::{met, met_before};
+use asn1_values::{
+    BitStr, BmpString, GeneralString, GraphicString, Ia5String, NumericString, OctetString,
+    PermittedAlphabetError, PrintableString, StaticPermittedAlphabet, TeletexString, VisibleString,
+    to_bitstring,
+};
+use std::alloc::Global;
+use std::collections::BTreeMap;
+use std::test::Fail;
+
+/// The digit 2, forty-eight times: a character of each of the eight sets.
+const TWOS: [u8; 48] = [0x32; 48];
+
+/// The same as a text.
+const TEXT: &str = "222222222222222222222222222222222222222222222222";
+
+/// Whether these are the characters: so many times one.
+fn has<S: StaticPermittedAlphabet>(string: &S, count: usize, character: u32) -> bool {
+    string.len() == count && string.chars().all(|c| c == character)
+}
+
+/// A call answered with so many times one character, or with want of memory; another answer fails the test.
+fn gives<S: StaticPermittedAlphabet>(
+    rt: &HostRuntime,
+    call: &str,
+    answer: &Result<S, PermittedAlphabetError>,
+    count: usize,
+    character: u32,
+) -> Result<(), Fail> {
+    match answer {
+        Ok(string) if has(string, count, character) => Ok(()),
+        Err(PermittedAlphabetError::Memory) => met(rt, call),
+        _ => Err("another answer".into()),
+    }
+}
+
+/// A string of forty-eight twos; None where memory was refused.
+fn twos<S: StaticPermittedAlphabet>(alloc: Global) -> Option<S> {
+    S::try_from_slice(alloc, &TWOS).ok()
+}
+
+#[test]
+fn bmp_string_try_from_slice(rt: HostRuntime) -> Result<(), Fail> {
+    let read = BmpString::try_from_slice(rt.alloc(), &TWOS);
+    gives(&rt, "BmpString::try_from_slice", &read, 24, 0x3232)
+}
+
+#[test]
+fn general_string_from_bytes(rt: HostRuntime) -> Result<(), Fail> {
+    let read = GeneralString::from_bytes(rt.alloc(), &TWOS);
+    gives(&rt, "GeneralString::from_bytes", &read, 48, 0x32)
+}
+
+#[test]
+fn graphic_string_try_from_slice(rt: HostRuntime) -> Result<(), Fail> {
+    let read = GraphicString::try_from_slice(rt.alloc(), &TWOS);
+    gives(&rt, "GraphicString::try_from_slice", &read, 48, 0x32)
+}
+
+#[test]
+fn ia5_string_from_iso646_bytes(rt: HostRuntime) -> Result<(), Fail> {
+    let read = Ia5String::from_iso646_bytes(rt.alloc(), &TWOS);
+    gives(&rt, "Ia5String::from_iso646_bytes", &read, 48, 0x32)
+}
+
+#[test]
+fn numeric_string_try_from_slice(rt: HostRuntime) -> Result<(), Fail> {
+    let read = NumericString::try_from_slice(rt.alloc(), &TWOS);
+    gives(&rt, "NumericString::try_from_slice", &read, 48, 0x32)
+}
+
+#[test]
+fn printable_string_try_from_str(rt: HostRuntime) -> Result<(), Fail> {
+    let read = PrintableString::try_from_str(rt.alloc(), TEXT);
+    gives(&rt, "PrintableString::try_from_str", &read, 48, 0x32)
+}
+
+#[test]
+fn teletex_string_try_from_slice(rt: HostRuntime) -> Result<(), Fail> {
+    let read = TeletexString::try_from_slice(rt.alloc(), &TWOS);
+    gives(&rt, "TeletexString::try_from_slice", &read, 48, 0x32)
+}
+
+#[test]
+fn visible_string_try_from_slice(rt: HostRuntime) -> Result<(), Fail> {
+    let read = VisibleString::try_from_slice(rt.alloc(), &TWOS);
+    gives(&rt, "VisibleString::try_from_slice", &read, 48, 0x32)
+}
+
+#[test]
+fn try_from_slice_with_width(rt: HostRuntime) -> Result<(), Fail> {
+    let pairs = [0x00, 0x32, 0x00, 0x32, 0x00, 0x32, 0x00, 0x32];
+    let read = VisibleString::try_from_slice_with_width(rt.alloc(), &pairs, 2);
+    gives(&rt, "try_from_slice_with_width 2", &read, 4, 0x32)?;
+    let fours = [0x00, 0x00, 0x00, 0x32, 0x00, 0x00, 0x00, 0x32];
+    let read = BmpString::try_from_slice_with_width(rt.alloc(), &fours, 4);
+    gives(&rt, "try_from_slice_with_width 4", &read, 2, 0x32)
+}
+
+#[test]
+fn try_from_vec(rt: HostRuntime) -> Result<(), Fail> {
+    let Ok(octets) = Vec::from_slice(rt.alloc(), &TWOS) else {
+        return met_before(&rt, "try_from_vec");
+    };
+    let read = Ia5String::try_from_vec(rt.alloc(), octets);
+    gives(&rt, "Ia5String::try_from_vec", &read, 48, 0x32)
+}
+
+#[test]
+fn try_from_string(rt: HostRuntime) -> Result<(), Fail> {
+    let Ok(text) = String::from_str(rt.alloc(), TEXT) else {
+        return met_before(&rt, "try_from_string");
+    };
+    let read = VisibleString::try_from_string(rt.alloc(), text);
+    gives(&rt, "VisibleString::try_from_string", &read, 48, 0x32)
+}
+
+#[test]
+fn try_from_octet_string(rt: HostRuntime) -> Result<(), Fail> {
+    let octets = OctetString::from_static(&TWOS);
+    let read = PrintableString::try_from_octet_string(rt.alloc(), octets);
+    gives(
+        &rt,
+        "PrintableString::try_from_octet_string",
+        &read,
+        48,
+        0x32,
+    )
+}
+
+#[test]
+fn try_from_bits(rt: HostRuntime) -> Result<(), Fail> {
+    let read = Ia5String::try_from_bits(rt.alloc(), BitStr::from_octets(&TWOS), 8);
+    gives(&rt, "Ia5String::try_from_bits", &read, 48, 0x32)
+}
+
+#[test]
+fn try_from_bit_string(rt: HostRuntime) -> Result<(), Fail> {
+    // Place 3 of the base set, which begins with a space, is the digit 2.
+    let Ok(bits) = to_bitstring(rt.alloc(), BitStr::from_octets(&[0x33; 24])) else {
+        return met_before(&rt, "try_from_bit_string");
+    };
+    let read = NumericString::try_from_bit_string(rt.alloc(), bits);
+    gives(&rt, "NumericString::try_from_bit_string", &read, 48, 0x32)
+}
+
+#[test]
+fn try_from_permitted_alphabet(rt: HostRuntime) -> Result<(), Fail> {
+    let mut map: BTreeMap<u32, u32> = BTreeMap::new(rt.alloc());
+    if map.insert(0, 0x31).is_err() || map.insert(1, 0x32).is_err() {
+        return met_before(&rt, "try_from_permitted_alphabet");
+    }
+    let ones = BitStr::from_octets(&[0xFF; 6]);
+    let read = NumericString::try_from_permitted_alphabet(rt.alloc(), ones, Some(&map));
+    gives(
+        &rt,
+        "NumericString::try_from_permitted_alphabet",
+        &read,
+        48,
+        0x32,
+    )
+}
+
+#[test]
+fn push_char(rt: HostRuntime) -> Result<(), Fail> {
+    let mut string = PrintableString::new(rt.alloc());
+    if !PrintableString::contains_char(0x32) {
+        return Err("a digit".into());
+    }
+    match string.push_char(0x32) {
+        Ok(()) => assert!(rt; has(&string, 1, 0x32)),
+        Err(_) => {
+            met(&rt, "PrintableString::push_char")?;
+            assert_eq!(rt; string.len(), 0);
+        }
+    }
+    Ok(())
+}
+
+#[test]
+fn reserve(rt: HostRuntime) -> Result<(), Fail> {
+    let Some(mut string) = twos::<VisibleString>(rt.alloc()) else {
+        return met_before(&rt, "reserve");
+    };
+    if string.reserve(1000).is_err() {
+        met(&rt, "VisibleString::reserve")?;
+    }
+    assert!(rt; has(&string, 48, 0x32));
+    Ok(())
+}
+
+#[test]
+fn clone(rt: HostRuntime) -> Result<(), Fail> {
+    let Some(string) = twos::<GraphicString>(rt.alloc()) else {
+        return met_before(&rt, "clone");
+    };
+    match string.clone() {
+        Ok(copy) => assert!(rt; copy == string),
+        Err(_) => met(&rt, "GraphicString::clone")?,
+    }
+    assert!(rt; has(&string, 48, 0x32));
+    Ok(())
+}
+
+#[test]
+fn bmp_string_to_bytes(rt: HostRuntime) -> Result<(), Fail> {
+    let Some(string) = twos::<BmpString>(rt.alloc()) else {
+        return met_before(&rt, "BmpString::to_bytes");
+    };
+    match string.to_bytes(rt.alloc()) {
+        Ok(octets) => assert_eq!(rt; octets.as_slice(), TWOS.as_slice()),
+        Err(_) => met(&rt, "BmpString::to_bytes")?,
+    }
+    assert!(rt; has(&string, 24, 0x3232));
+    Ok(())
+}
+
+#[test]
+fn teletex_string_to_bytes(rt: HostRuntime) -> Result<(), Fail> {
+    let Some(string) = twos::<TeletexString>(rt.alloc()) else {
+        return met_before(&rt, "TeletexString::to_bytes");
+    };
+    match string.to_bytes(rt.alloc()) {
+        Ok(octets) => assert_eq!(rt; octets.as_slice(), TWOS.as_slice()),
+        Err(_) => met(&rt, "TeletexString::to_bytes")?,
+    }
+    assert!(rt; has(&string, 48, 0x32));
+    Ok(())
+}
+
+#[test]
+fn into_octet_string(rt: HostRuntime) -> Result<(), Fail> {
+    let Some(string) = twos::<Ia5String>(rt.alloc()) else {
+        return met_before(&rt, "into_octet_string");
+    };
+    match string.into_octet_string() {
+        Ok(octets) => assert!(rt; octets.eq_bytes(&TWOS)),
+        Err(string) => {
+            met(&rt, "Ia5String::into_octet_string")?;
+            assert!(rt; has(&string, 48, 0x32));
+        }
+    }
+    Ok(())
+}
+
+#[test]
+fn into_string_asks_for_nothing(rt: HostRuntime) -> Result<(), Fail> {
+    let Some(string) = twos::<VisibleString>(rt.alloc()) else {
+        return met_before(&rt, "into_string");
+    };
+    assert_eq!(rt; string.into_string().as_str(), TEXT);
+    Ok(())
+}
+
+#[test]
+fn empty_strings_ask_for_nothing(rt: HostRuntime) -> Result<(), Fail> {
+    let empty = Ia5String::try_from_slice(rt.alloc(), &[])?;
+    assert_eq!(rt; empty.clone()?.len(), 0);
+    assert_eq!(rt;
+        BmpString::try_from_str(rt.alloc(), "")?
+            .to_bytes(rt.alloc())?
+            .len(),
+        0
+    );
+    let octets = OctetString::from_static(&[]);
+    assert_eq!(rt;
+        VisibleString::try_from_octet_string(rt.alloc(), octets)?.len(),
+        0
+    );
+    Ok(())
+}
+
+#[test]
+fn wrong_characters_keep_their_names(rt: HostRuntime) -> Result<(), Fail> {
+    let refused = PrintableString::try_from_str(rt.alloc(), "ab@c#").err();
+    let at = PermittedAlphabetError::InvalidRestrictedString {
+        source: PrintableString::invalid_restricted_string(64),
+    };
+    assert!(rt; refused == Some(at));
+    let refused = BmpString::try_from_slice(rt.alloc(), &[0xFF, 0xFE, 0x00]).err();
+    let data = PermittedAlphabetError::InvalidData {
+        length: 3,
+        width: 2,
+    };
+    assert!(rt; refused == Some(data));
+    let refused = Ia5String::try_from_slice_with_width(rt.alloc(), &TWOS, 0).err();
+    assert!(rt; matches!(refused, Some(PermittedAlphabetError::Other { .. })));
+    Ok(())
+}

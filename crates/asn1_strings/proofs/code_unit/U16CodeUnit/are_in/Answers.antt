@@ -1,0 +1,15 @@
+use Rattle.std.proofs.Common.{map, ap, ◌∙◌, arith}
+use Rattle.std.specs.List.{list_all}
+use Rattle.std.specs.Int.{w16, from_be_bytes}
+use Rattle.std.proofs.lemmas.List.{take_all}
+use Rattle.asn1_strings.specs.Sets.{base_set, has_character}
+use Rattle.asn1_strings.proofs.OctetLemmas.{pairs, all_in}
+use Rattle.asn1_strings.proofs.code_unit.U16CodeUnit.are_in.Goals as goal
+
+pub returns : goal.returns
+returns c =
+    let set = base_set c.args.name in
+    let chunks = c.as_chunks.result.0.now in
+    let all = take_all c.loop-pair.pair-index chunks (omega arith) in
+    let found = c.loop-pair.invariant ∙ ap (λ ps. list_all (has_character set) (map (from_be_bytes w16) ps)) (all ∙ c.as_chunks.ensures.front) in
+    rw (pairs c.args.octets.now) (all_in set _ c.loop-pair.right found)

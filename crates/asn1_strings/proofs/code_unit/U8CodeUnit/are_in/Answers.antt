@@ -1,0 +1,13 @@
+use Rattle.std.proofs.Common.{ap, ◌∙◌, arith}
+use Rattle.std.specs.List.{list_all}
+use Rattle.std.proofs.lemmas.List.{take_all}
+use Rattle.asn1_strings.specs.Sets.{base_set, has_character}
+use Rattle.asn1_strings.proofs.OctetLemmas.{ones, all_in}
+use Rattle.asn1_strings.proofs.code_unit.U8CodeUnit.are_in.Goals as goal
+
+pub returns : goal.returns
+returns c =
+    let set = base_set c.args.name in
+    let octets = c.args.octets.now in
+    let all = take_all c.loop-octet.octet-index octets (omega arith) in
+    rw (ones octets) (all_in set octets c.loop-octet.right (c.loop-octet.invariant ∙ ap (list_all (has_character set)) all))
