@@ -132,7 +132,9 @@ fn numbers_within_sixteen_octets_ask_for_nothing(rt: HostRuntime) -> Result<(), 
     assert_eq!(rt; minus_one.to_i128(), Some(-1));
     let large = Integer::from_u128(rt.alloc(), 5)?;
     assert_eq!(rt; large.clone()?.to_i128(), Some(5));
-    let within = ConstrainedInteger::<-8, 360>::try_from(360i64).ok().ok_or("within")?;
+    let within = ConstrainedInteger::<-8, 360>::try_from(360i64)
+        .ok()
+        .ok_or("within")?;
     assert_eq!(rt; within.clone()?.to_i128(), Some(360));
     assert_eq!(rt; i8::try_from_signed_bytes(rt.alloc(), &[0xFB])?, -5);
     Ok(())
