@@ -6,8 +6,8 @@ use Rattle.std.proofs.lemmas.Bool.{cases_lt}
 use Rattle.std.proofs.lemmas.List.{length-append, length-take, length-drop, ext_get_or, get_or_append_left, get_or-append_right}
 use Rattle.std.proofs.lemmas.Nat.{shr-shr, le_bytes_8}
 use Rattle.asn1_bits.specs.Bits.{is_odd, bits, ored}
-use Rattle.asn1_bits.proofs.DigitLemmas.{length-bits, get_or-digits, get_or-bits, bits-append}
-use Rattle.asn1_bits.proofs.ByteLemmas.{digits-mod, byte_at_is}
+use Rattle.asn1_bits.specs.DigitLaws.{length-bits, get_or-digits, get_or-bits, bits-append}
+use Rattle.asn1_bits.specs.ByteLaws.{digits-mod, byte_at_is}
 use Rattle.asn1_bits.proofs.OredLemmas.{length-ored, get_or-ored_inside, get_or-ored_outside, ored-append_left}
 use Rattle.asn1_bits.proofs.WindowLemmas.{is_odd-or, eight-small}
 

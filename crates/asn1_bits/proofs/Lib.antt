@@ -1,17 +1,12 @@
 pub mod BufferLemmas
-pub mod ByteLemmas
-pub mod DigitLaws
-pub mod DigitLemmas
 pub mod EightLemmas
 pub mod HashLemmas
-pub mod NumberLemmas
 pub mod OrderLemmas
 pub mod OredLemmas
 pub mod PutLemmas
 pub mod ReadWideLemmas
 pub mod RoomLemmas
 pub mod RunLemmas
-pub mod ViewLemmas
 pub mod WalkSteps
 pub mod WindowLemmas
 pub mod ZeroLemmas

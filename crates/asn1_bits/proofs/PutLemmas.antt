@@ -7,9 +7,9 @@ use Rattle.std.proofs.lemmas.Bool.{cases_lt}
 use Rattle.std.proofs.lemmas.Nat.{and_mask}
 use Rattle.std.proofs.lemmas.List.{length-append, length-take, length-drop, length-replicate, take_more, take_all, take_at, drop_at, replicate-append-replicate, drop_more, drop-drop, drop-replicate, take-replicate, set_at, ext_get_or, get_or-take, get_or-drop, get_or_append_left, get_or-append_right}
 use Rattle.asn1_bits.specs.Bits.{is_odd, digits, bits, octets_for, ored, IsZeroFrom}
-use Rattle.asn1_bits.proofs.DigitLemmas.{length-digits, length-bits, get_or-digits, bits-append, bits-drop, bits-take}
-use Rattle.asn1_bits.proofs.ByteLemmas.{digits-mod, bits-bytes}
-use Rattle.asn1_bits.proofs.NumberLemmas.{digits-append}
+use Rattle.asn1_bits.specs.DigitLaws.{length-digits, length-bits, get_or-digits, bits-append, bits-drop, bits-take}
+use Rattle.asn1_bits.specs.ByteLaws.{digits-mod, bits-bytes}
+use Rattle.asn1_bits.specs.NumberLaws.{digits-append}
 use Rattle.asn1_bits.proofs.OredLemmas.{length-ored, get_or-ored_inside, get_or-ored_outside, ored-append}
 use Rattle.asn1_bits.proofs.RoomLemmas.{room-step, ored-room}
 use Rattle.asn1_bits.specs.BitBuffer.{bits_shown, IsFilled}

@@ -7,9 +7,9 @@ use Rattle.std.proofs.lemmas.List.{take_at, drop-drop, length-take, length-drop,
 use Rattle.std.proofs.lemmas.Nat.{shr_high, and_mask, or_shifted, shl_whole, shr_below, field_of, shr-shr, shl-shr}
 use Rattle.std.proofs.lemmas.Nat.Bits.{ones_shr}
 use Rattle.asn1_bits.specs.Bits.{digits, number, bits}
-use Rattle.asn1_bits.proofs.DigitLemmas.{length-digits, length-bits, bits-take, bits-push}
+use Rattle.asn1_bits.specs.DigitLaws.{length-digits, length-bits, bits-take, bits-push}
 use Rattle.asn1_bits.proofs.WindowLemmas.{low-part}
-use Rattle.asn1_bits.proofs.NumberLemmas.{number-append, number-digits, number-lt, digits-append, digits-low}
+use Rattle.asn1_bits.specs.NumberLaws.{number-append, number-digits, number-lt, digits-append, digits-low}
 
 -- the number of the bits of the first k octets, but for the first shift bits
 abbrev pub gathered : List ℕ → ℕ → ℕ → ℕ

@@ -1,3 +1,4 @@
+-- The words of the contracts.
 pub mod BitAppender
 pub mod BitBuffer
 pub mod BitLists
@@ -8,3 +9,8 @@ pub mod FixedBitString
 pub mod Octets
 pub mod Turns
 pub mod View
+-- Laws of these words, for the proofs of this crate and of those above it; no contract cites them.
+pub mod DigitLaws
+pub mod NumberLaws
+pub mod ByteLaws
+pub mod ViewLaws

@@ -44,7 +44,7 @@ impl BitBuffer {
         }
     }
 
-    /// No bits, in the allocation of the vector, whose octets are dropped.
+    /// No bits, in the allocation of the vector, whose octets are dropped; `BitString::from_vec` keeps them.
     pub fn from_vec(mut bytes: Vec<u8>) -> BitBuffer
         ensures { result ≡ [] }
     {
@@ -68,10 +68,15 @@ impl BitBuffer {
         self.len = 0;
     }
 
-    /// A copy.
+    /// A copy. It is refused for want of memory alone.
     pub fn clone(&self) -> Result<BitBuffer, AllocError>
-        ensures { IfOk result (λ b. b ≡ self.now) }
+        ensures list { IfOk result (λ b. b ≡ self.now) }
+        // Of no bits it asks for no memory.
+        ensures free { self.now ≡ [] → IsOk result }
     {
+        if self.len() == 0 {
+            return Ok(BitBuffer::new(*self.bytes.allocator()));
+        }
         Ok(BitBuffer {
             bytes: self.bytes.clone()?,
             len: self.len,
@@ -103,10 +108,15 @@ impl BitBuffer {
         set_bit(self.bytes.as_mut_slice(), index, bit);
     }
 
-    /// Makes room for `additional` octets more. The bits stay.
+    /// Makes room for `additional` octets more, or is refused for want of memory. The bits stay.
     pub fn reserve_bytes(&mut self, additional: usize) -> Result<(), AllocError>
-        ensures { self.new ≡ self.old }
+        ensures same { self.new ≡ self.old }
+        // For no octet it asks for no memory.
+        ensures free { additional ≡ 0 → IsOk result }
     {
+        if additional == 0 {
+            return Ok(());
+        }
         self.bytes.reserve(additional)
     }
 
@@ -255,7 +265,7 @@ impl BitBuffer {
         BitStr::front_of(self.as_bytes(), len)
     }
 
-    /// All bits of the octets.
+    /// All bits of the octets. They stay, where `from_vec` drops them.
     pub(crate) fn of_octets(bytes: Vec<u8>) -> BitBuffer
         requires { 8 * vec_len bytes < 2 ^ 64 }
         ensures { result ≡ bits bytes.items }

@@ -94,9 +94,11 @@ impl BitString {
         buffer.into_vec()
     }
 
-    /// A copy.
+    /// A copy. It is refused for want of memory alone.
     pub fn clone(&self) -> Result<BitString, AllocError>
-        ensures { IfOk result (λ s. s ≡ self.now) }
+        ensures list { IfOk result (λ s. s ≡ self.now) }
+        // Of no bits it asks for no memory.
+        ensures free { self.now ≡ [] → IsOk result }
     {
         Ok(BitString {
             buffer: self.buffer.clone()?,

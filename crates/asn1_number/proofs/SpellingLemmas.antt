@@ -8,10 +8,10 @@ use lib.Signed.{mag}
 use mir.Val.{of_z}
 use Rattle.asn1_number.specs.Octets.{unsigned}
 use Rattle.asn1_number.specs.Shortest.{octets_past_first, residue_at, shortest_octets}
-use Rattle.asn1_number.proofs.OctetLemmas.{unsigned_below, unsigned_once, power_step}
-use Rattle.asn1_number.proofs.WidthLemmas.{byte_at_is, length-bytes, octets_of_bytes, unsigned-bytes, unsigned-bytes_and_rest}
-use Rattle.asn1_number.proofs.ReadingLemmas.{half_of_bits}
-use Rattle.asn1_number.proofs.ShortestLemmas.{past_first_only, past_first_enough}
+use Rattle.asn1_number.specs.OctetLaws.{unsigned_below, unsigned_once, power_step}
+use Rattle.asn1_number.specs.WidthLaws.{byte_at_is, length-bytes, octets_of_bytes, unsigned-bytes, unsigned-bytes_and_rest}
+use Rattle.asn1_number.specs.ReadingLaws.{half_of_bits}
+use Rattle.asn1_number.specs.ShortestLaws.{past_first_only, past_first_enough}
 
 -- ---- the bytes of a word
 

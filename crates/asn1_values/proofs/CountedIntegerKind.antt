@@ -5,7 +5,8 @@ use Rattle.std.proofs.lemmas.List.{length-append, take_at, drop_at, length-take,
 use Rattle.std.proofs.lemmas.Bool.{ltb-true, ltb-false, le-ltb, eqb-false, ne_eqb}
 use Rattle.asn1_bits.specs.Bits.{digits, number, bits}
 use Rattle.asn1_bits.specs.View.{View, part}
-use Rattle.asn1_bits.proofs.DigitLaws.{length-digits, length-bits, number_of-digits, digits_of-number}
+use Rattle.asn1_bits.specs.DigitLaws.{length-digits, length-bits}
+use Rattle.asn1_bits.specs.NumberLaws.{number_of-digits, digits_of-number}
 use Rattle.asn1_values.specs.Fields.{Field, IsSpelledBy, IsOfShape, Integer, CountedInteger, OfInteger, OfCountedInteger}
 use Rattle.asn1_values.specs.Wrong.{Fault, NumberWidth, NotInteger, Short, NoCharacter, NoLength, NotIdentifier, ArcOver, IsReason, IsCount, first_octet}
 use Rattle.asn1_values.specs.Walk.{as_counted, counted, integer_at, counted_at, field_at}

@@ -16,7 +16,7 @@ use Rattle.asn1_values.specs.Wrong.{Fault, NumberWidth, NotInteger, Short, NoCha
 use Rattle.asn1_values.specs.Walk.{field_at, fields_at}
 use Rattle.asn1_values.specs.Refusals.{IsReadRefusal}
 use Rattle.asn1_values.specs.Steps.{past_all, error_at}
-use Rattle.asn1_bits.proofs.DigitLaws.{length-bits}
+use Rattle.asn1_bits.specs.DigitLaws.{length-bits}
 use Rattle.asn1_strings.proofs.AlphabetLemmas.{codes_fit}
 use Rattle.asn1_strings.specs.AlphabetView.{alphabet_of}
 use Rattle.asn1_values.proofs.BitsKind.{bits_exact}

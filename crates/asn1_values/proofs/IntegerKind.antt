@@ -4,10 +4,11 @@ use Rattle.std.specs.Prelude.{◌||◌, ◌&&◌, nat_lt, is_ok, All}
 use Rattle.std.proofs.lemmas.List.{length-append, take_at, drop_at}
 use Rattle.std.proofs.lemmas.Bool.{false≢true, eqb-true, eqb-false, ne_eqb, lt-ltb, cases_eq}
 use Rattle.asn1_bits.specs.Bits.{digits, number, bits}
-use Rattle.asn1_bits.proofs.DigitLaws.{length-digits, length-bits, number-append, number_of-digits, digits-append}
+use Rattle.asn1_bits.specs.DigitLaws.{length-digits, length-bits}
+use Rattle.asn1_bits.specs.NumberLaws.{number-append, number_of-digits, digits-append}
 use Rattle.asn1_number.specs.Octets.{IsOctets, IsShortest, signed}
 use Rattle.asn1_number.specs.Order.{NineBitsDiffer}
-use Rattle.asn1_number.proofs.LawLemmas.{shortest_by_nine_bits}
+use Rattle.asn1_number.specs.LawsHold.{shortest_by_nine_bits}
 use Rattle.asn1_values.specs.Fields.{Field, IsSpelledBy, IsOfShape, Integer, OfInteger}
 use Rattle.asn1_values.specs.Wrong.{Fault, NotInteger, IsReason, IsNoInteger}
 use Rattle.asn1_values.specs.Walk.{octets_of, nine_alike, integer_content, cut_at, integer_at, field_at}

@@ -6,7 +6,8 @@ use Rattle.std.specs.Prelude.{All}
 use Rattle.asn1_bits.specs.Bits.{digits, number, bits}
 use Rattle.asn1_number.specs.Octets.{IsOctets}
 use Rattle.asn1_values.specs.Walk.{octets_of}
-use Rattle.asn1_bits.proofs.DigitLaws.{length-digits, length-bits, number_of-digits, digits_of-number, number-below}
+use Rattle.asn1_bits.specs.DigitLaws.{length-digits, length-bits}
+use Rattle.asn1_bits.specs.NumberLaws.{number_of-digits, digits_of-number, number-below}
 
 pub length-octets_of : (n : ℕ) (list : List Bool) → length (octets_of n list) ≡ n
 length-octets_of zero list = refl

@@ -4,14 +4,14 @@ use Rattle.std.specs.Prelude.{ℤ, IfSome}
 use Rattle.asn1_bits.specs.Bits.{digits, bits}
 use Rattle.asn1_strings.specs.Alphabet.{Alphabet}
 use Rattle.asn1_number.specs.Octets.{IsShortest}
-use Rattle.asn1_number.proofs.LawLemmas.{one_shortest_list}
+use Rattle.asn1_number.specs.LawsHold.{one_shortest_list}
 use Rattle.asn1_oid.specs.Contents.{IsContents}
 use Rattle.asn1_oid.specs.WritingLaws.{contents_only}
 use Rattle.asn1_values.specs.Fields as plain
 use Rattle.asn1_values.specs.Fields.{IsSpelledBy, IsOfShape, AreSpelledBy, HasOneCodeEach, IsInOneCode, AreInOneCode, IsReadInOneCode, AreReadInOneCode, Begins, need, needs, Number, Octets, Bits, Integer, Character, CountedInteger, Identifier, HasContentsLength, OfNumber, OfOctets, OfBits, OfInteger, OfCharacter, OfCountedInteger, OfIdentifier}
 use Rattle.std.specs.List.{AllZip}
 use Rattle.std.proofs.lemmas.List.{length-append}
-use Rattle.asn1_bits.proofs.DigitLaws.{length-digits, length-bits}
+use Rattle.asn1_bits.specs.DigitLaws.{length-digits, length-bits}
 
 -- a number has one shortest list of octets
 pub same_shortest : (n : ℤ) (o p : List ℕ) → IsShortest n o → IsShortest n p → o ≡ p

@@ -16,7 +16,7 @@ use Rattle.std.proofs.lemmas.Option.{same_Some, slice_get_read, slice_get-map}
 use Rattle.asn1_bits.specs.Bits.{digits, bits}
 use Rattle.asn1_bits.specs.declared.bit_appender.BitAppender.{BitAppender}
 use Rattle.asn1_bits.specs.BitAppender.{bits_written, room}
-use Rattle.asn1_bits.proofs.DigitLaws.{length-digits, length-bits}
+use Rattle.asn1_bits.specs.DigitLaws.{length-digits, length-bits}
 use Rattle.asn1_values.specs.declared.bit_fields.error.WriteError.{WriteError}
 use Rattle.asn1_values.specs.declared.bit_fields.error.WriteError.TheVariants as errors
 use Rattle.asn1_values.specs.declared.bit_fields.field.Field.{Field as Program}

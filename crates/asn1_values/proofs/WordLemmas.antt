@@ -10,11 +10,12 @@ use Rattle.std.proofs.lemmas.Bool.{cases_lt, cond-true, cond-false, lt-ltb, le-l
 use Rattle.std.proofs.lemmas.List.{take_all}
 use lib.Dec.{ltb}
 use Rattle.asn1_bits.specs.Bits.{digits, number, bits}
-use Rattle.asn1_bits.proofs.DigitLaws.{length-bits, number-nil, number-append, number_of-digits, digits_of-number, digits-low, number-below}
+use Rattle.asn1_bits.specs.DigitLaws.{length-bits}
+use Rattle.asn1_bits.specs.NumberLaws.{number-nil, number-append, number_of-digits, digits_of-number, digits-low, number-below}
 use Rattle.asn1_number.specs.Octets.{IsOctets, IsShortest, unsigned, signed}
 use Rattle.asn1_number.specs.Readings.{FitsI128}
-use Rattle.asn1_number.proofs.LawLemmas.{shortest_by_nine_bits}
-use Rattle.asn1_number.proofs.ReadingLemmas.{past_sixteen}
+use Rattle.asn1_number.specs.LawsHold.{shortest_by_nine_bits}
+use Rattle.asn1_number.specs.ReadingLaws.{past_sixteen}
 use Rattle.asn1_values.proofs.OctetLemmas.{IsOctets_from_All}
 
 power : (k : ℕ) → 256 ^ k ≡ 2 ^ (8 * k)

@@ -1,7 +1,7 @@
 use Rattle.std.proofs.Common.{◌≡◌, ℕ, ◌+◌, ◌-◌, ◌*◌, ◌/◌, ◌%◌, ◌^◌, Bool, List, take, drop, ap, ◌∙◌, arith}
 use Rattle.std.specs.Prelude.{bit_or}
 use Rattle.asn1_bits.specs.Bits.{bits, number}
-use Rattle.asn1_bits.proofs.DigitLemmas.{drop_split}
+use Rattle.asn1_bits.specs.DigitLaws.{drop_split}
 use Rattle.asn1_bits.proofs.ReadWideLemmas.{read-top, read-two}
 use Rattle.asn1_bits.proofs.kernels.read_number.Goals as goal
 

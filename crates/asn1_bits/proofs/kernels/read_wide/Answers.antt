@@ -1,8 +1,8 @@
 use Rattle.std.proofs.Common.{◌≡◌, ◌^◌, ◌<◌, take, drop, arith}
 use Rattle.std.proofs.lemmas.List.{length-take, length-drop}
 use Rattle.asn1_bits.specs.Bits.{bits, digits}
-use Rattle.asn1_bits.proofs.DigitLemmas.{length-bits}
-use Rattle.asn1_bits.proofs.NumberLemmas.{number_is}
+use Rattle.asn1_bits.specs.DigitLaws.{length-bits}
+use Rattle.asn1_bits.specs.NumberLaws.{number_is}
 use Rattle.asn1_bits.proofs.kernels.read_wide.Goals as goal
 
 field : (c : goal.After-read_number) → (c.read_number.result < 2 ^ c.args.width)

@@ -2,7 +2,7 @@ use Rattle.std.proofs.Common.{◌≡◌, [], ◌∙◌, sym, ap, arith}
 use Rattle.asn1_bits.specs.Bits.{bits, ored}
 use Rattle.asn1_bits.specs.BitStr.{view_of, bits_of}
 use Rattle.asn1_bits.proofs.OredLemmas.{ored-none}
-use Rattle.asn1_bits.proofs.ViewLemmas.{list_of-none}
+use Rattle.asn1_bits.specs.ViewLaws.{list_of-none}
 use Rattle.asn1_bits.proofs.kernels.write_bitslice.Goals as goal
 
 pub returns-else-len-gt0-clause-bits : goal.returns-else-len-gt0-clause-bits

@@ -1,6 +1,6 @@
 use Rattle.std.proofs.Common.{◌+◌, ◌-◌, ◌%◌, arith}
 use Rattle.asn1_bits.specs.Bits.{bits}
-use Rattle.asn1_bits.proofs.DigitLemmas.{length-bits}
+use Rattle.asn1_bits.specs.DigitLaws.{length-bits}
 use Rattle.asn1_bits.proofs.PutLemmas.{placed-two}
 use Rattle.asn1_bits.proofs.window.or_word.Goals as goal
 

@@ -1,6 +1,6 @@
 use Rattle.std.proofs.Common.{arith}
 use Rattle.asn1_bits.specs.Bits.{digits}
-use Rattle.asn1_bits.proofs.DigitLemmas.{length-digits}
+use Rattle.asn1_bits.specs.DigitLaws.{length-digits}
 use Rattle.asn1_bits.proofs.RoomLemmas.{room-step}
 use Rattle.asn1_bits.proofs.bit_appender.BitAppender.push_wide.Goals as goal
 

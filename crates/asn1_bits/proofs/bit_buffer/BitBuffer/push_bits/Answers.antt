@@ -2,7 +2,7 @@ use Rattle.std.proofs.Common.{Bool, List, ◌++◌, length, ap, ◌∙◌, arith
 use Rattle.std.proofs.lemmas.List.{length-append}
 use Rattle.std.proofs.lemmas.Result.{on_ok_weaker}
 use Rattle.asn1_bits.specs.Bits.{digits, ored}
-use Rattle.asn1_bits.proofs.DigitLemmas.{length-digits}
+use Rattle.asn1_bits.specs.DigitLaws.{length-digits}
 use Rattle.asn1_bits.proofs.OredLemmas.{ored-onto}
 use Rattle.asn1_bits.proofs.PutLemmas.{digits-lowest}
 use Rattle.asn1_bits.proofs.bit_buffer.BitBuffer.push_bits.Goals as goal

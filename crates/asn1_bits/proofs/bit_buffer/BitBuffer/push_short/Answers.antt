@@ -2,7 +2,7 @@ use Rattle.std.proofs.Common.{◌≡◌, ℕ, ◌+◌, ◌-◌, Bool, List, ◌+
 use Rattle.std.proofs.lemmas.List.{with_items_is, take_all, append-nil}
 use Rattle.asn1_bits.specs.Bits.{digits, octets_for}
 use Rattle.asn1_bits.specs.BitBuffer.{bits_shown, IsFilled}
-use Rattle.asn1_bits.proofs.DigitLemmas.{length-digits}
+use Rattle.asn1_bits.specs.DigitLaws.{length-digits}
 use Rattle.asn1_bits.proofs.BufferLemmas.{length-bits_shown}
 use Rattle.asn1_bits.proofs.PutLemmas.{zeros-grown, filled-pushed}
 use Rattle.asn1_bits.proofs.bit_buffer.BitBuffer.push_short.Goals as goal

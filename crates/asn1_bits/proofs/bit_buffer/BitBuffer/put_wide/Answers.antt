@@ -1,6 +1,6 @@
 use Rattle.std.proofs.Common.{◌≡◌, ◌+◌, ◌-◌, ◌/◌, ◌^◌, ap, ◌∙◌, arith}
 use Rattle.asn1_bits.specs.Bits.{digits, ored}
-use Rattle.asn1_bits.proofs.DigitLemmas.{length-digits}
+use Rattle.asn1_bits.specs.DigitLaws.{length-digits}
 use Rattle.asn1_bits.proofs.OredLemmas.{length-ored}
 use Rattle.asn1_bits.proofs.PutLemmas.{placed-two, put-left, digits-lowest}
 use Rattle.asn1_bits.proofs.WindowLemmas.{ored-no_digits}

@@ -1,7 +1,7 @@
 use Rattle.std.proofs.Common.{◌≡◌, ℕ, List, take, drop, refl, ap, ◌∙◌}
 use Rattle.asn1_bits.specs.Bits.{bits, number}
 use Rattle.asn1_bits.specs.BitStr.{view_of, bits_of}
-use Rattle.asn1_bits.proofs.ViewLemmas.{list_of-front}
+use Rattle.asn1_bits.specs.ViewLaws.{list_of-front}
 use Rattle.asn1_bits.proofs.bit_str.BitStr.first_u128.Goals as goal
 
 -- what is read is the view's front

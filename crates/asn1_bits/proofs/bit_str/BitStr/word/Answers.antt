@@ -2,8 +2,8 @@ use Rattle.std.proofs.Common.{ℕ, ◌+◌, ◌/◌, ◌%◌, take, drop, ap, �
 use Rattle.std.proofs.lemmas.List.{length-take, length-drop}
 use Rattle.asn1_bits.specs.Bits.{digits, number}
 use Rattle.asn1_bits.specs.BitStr.{view_of, bits_of}
-use Rattle.asn1_bits.proofs.NumberLemmas.{digits_of-number}
-use Rattle.asn1_bits.proofs.ViewLemmas.{length-list_of, list_of-run}
+use Rattle.asn1_bits.specs.NumberLaws.{digits_of-number}
+use Rattle.asn1_bits.specs.ViewLaws.{length-list_of, list_of-run}
 use Rattle.asn1_bits.proofs.bit_str.BitStr.word.Goals as goal
 
 pub returns : goal.returns

@@ -2,7 +2,7 @@ use Rattle.std.proofs.Common.{◌≡◌, ℕ, ◌*◌, true, false, not, length,
 use Rattle.std.specs.Ordering.{nat_cmp}
 use Rattle.std.proofs.lemmas.Option.{get_or_from_slice_get, slice_get_within}
 use Rattle.asn1_bits.specs.BitStr.{view_of, bits_of}
-use Rattle.asn1_bits.proofs.ViewLemmas.{length-list_of}
+use Rattle.asn1_bits.specs.ViewLaws.{length-list_of}
 use Rattle.asn1_bits.proofs.OrderLemmas.{rest-more, rest-less, rest-greater, rest-end, rest-from, same_from_test, other_from_test}
 use Rattle.asn1_bits.proofs.bit_str.BitStrOrd.cmp.Goals as goal
 

@@ -1,7 +1,7 @@
 use Rattle.std.proofs.Common.{rules, arith, ◌≡◌, ◌<◌, length, refl}
 use Rattle.asn1_number.specs.Octets.{signed}
-use Rattle.asn1_number.proofs.OctetLemmas.{nine_bits_from_shortest}
-use Rattle.asn1_number.proofs.ReadingLemmas.{past_sixteen}
+use Rattle.asn1_number.specs.OctetLaws.{nine_bits_from_shortest}
+use Rattle.asn1_number.specs.ReadingLaws.{past_sixteen}
 use Rattle.asn1_number.proofs.integer.Integer.from_many_octets.Goals as goal
 
 pub returns-in_default-clause-memory : goal.returns-in_default-clause-memory

@@ -3,8 +3,8 @@ use Rattle.std.specs.Int.{w128}
 use Rattle.asn1_number.specs.Octets.{signed, IsShortest}
 use Rattle.asn1_number.specs.Shortest.{shortest_octets}
 use Rattle.asn1_number.specs.Forms.{number_in, IsOneForm}
-use Rattle.asn1_number.proofs.OctetLemmas.{shortest_once}
-use Rattle.asn1_number.proofs.ShortestLemmas.{shortest_octets_only}
+use Rattle.asn1_number.specs.OctetLaws.{shortest_once}
+use Rattle.asn1_number.specs.ShortestLaws.{shortest_octets_only}
 use Rattle.asn1_number.proofs.integer.Integer.signed_len.Goals as goal
 
 pub returns-in-Inline : goal.returns-in-Inline

@@ -1,7 +1,7 @@
 use Rattle.std.proofs.Common.{◌/◌, ap, sym, ◌∙◌, arith}
 use Rattle.asn1_bits.specs.View.{View, list_of}
 use Rattle.asn1_bits.specs.BitStr.{view_of, bits_of}
-use Rattle.asn1_bits.proofs.ViewLemmas.{length-list_of}
+use Rattle.asn1_bits.specs.ViewLaws.{length-list_of}
 use Rattle.asn1_oid.specs.Reading.{contents_reading}
 use Rattle.asn1_oid.specs.ReadingLaws.{contents_read}
 use Rattle.asn1_values.specs.Walk.{octets_of}

@@ -1,7 +1,7 @@
 use Rattle.std.proofs.Common.{◌≡◌, ◌*◌, ◌/◌, length, ap, arith}
 use Rattle.asn1_bits.specs.BitReader.{view_left, bits_left}
 use Rattle.asn1_bits.specs.View.{View}
-use Rattle.asn1_bits.proofs.ViewLemmas.{length-list_of}
+use Rattle.asn1_bits.specs.ViewLaws.{length-list_of}
 use Rattle.asn1_values.proofs.IdentifierKind.{length-read_identifier}
 use Rattle.asn1_values.proofs.bit_fields.read.read_identifier.Goals as goal
 

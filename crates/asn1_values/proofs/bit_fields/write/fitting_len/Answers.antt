@@ -1,5 +1,5 @@
 use Rattle.std.proofs.Common.{refl, arith}
-use Rattle.asn1_number.proofs.LawLemmas.{one_shortest_list}
+use Rattle.asn1_number.specs.LawsHold.{one_shortest_list}
 use Rattle.asn1_values.proofs.SpellingLemmas.{octets_fit, bits_fit, integer_fits, character_fits, counted_fits}
 use Rattle.asn1_bits.specs.Octets.{octets_in}
 use Rattle.asn1_bits.specs.BitStr.{bits_of}

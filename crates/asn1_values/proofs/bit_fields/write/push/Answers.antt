@@ -3,9 +3,9 @@ use Rattle.asn1_bits.specs.Bits.{digits, bits}
 use Rattle.asn1_bits.specs.BitAppender.{room}
 use Rattle.asn1_bits.specs.BitStr.{view_of, bits_of}
 use Rattle.asn1_bits.specs.Octets.{octets_in}
-use Rattle.asn1_bits.proofs.DigitLaws.{length-digits, length-bits}
-use Rattle.asn1_bits.proofs.ViewLemmas.{length-list_of}
-use Rattle.asn1_number.proofs.LawLemmas.{one_shortest_list}
+use Rattle.asn1_bits.specs.DigitLaws.{length-digits, length-bits}
+use Rattle.asn1_bits.specs.ViewLaws.{length-list_of}
+use Rattle.asn1_number.specs.LawsHold.{one_shortest_list}
 use Rattle.asn1_strings.specs.AlphabetView.{alphabet_of}
 use Rattle.asn1_values.specs.Fields.{Number, Octets, Bits, Integer, Character, Identifier}
 use Rattle.asn1_values.specs.Steps.{TakesTurns}

@@ -1,6 +1,6 @@
 use Rattle.std.proofs.Common.{length, arith}
 use Rattle.asn1_bits.specs.BitAppender.{room}
-use Rattle.asn1_number.proofs.LawLemmas.{one_shortest_list}
+use Rattle.asn1_number.specs.LawsHold.{one_shortest_list}
 use Rattle.asn1_values.proofs.SpellingLemmas.{counted_space, counted_pushes, counted_turns, counted_fits}
 use Rattle.asn1_values.proofs.bit_fields.write.push_counted.Goals as goal
 

@@ -1,5 +1,5 @@
 use Rattle.std.proofs.Common.{◌≡◌, rules, length, arith}
-use Rattle.asn1_bits.proofs.DigitLaws.{length-bits}
+use Rattle.asn1_bits.specs.DigitLaws.{length-bits}
 use Rattle.asn1_bits.proofs.tests.kernel_rows.CountedPlaces.len.Goals as goal
 
 pub returns : goal.returns

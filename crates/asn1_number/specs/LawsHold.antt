@@ -3,9 +3,9 @@ use Rattle.asn1_number.specs.Octets.{signed}
 use Rattle.asn1_number.specs.Shortest.{shortest_octets}
 use Rattle.asn1_number.specs.Readings.{SignedOf, UnsignedOf, Unbounded}
 use Rattle.asn1_number.specs.Laws.{EachNumberHasOneShortestList, ComputedAreShortest, ShortestByNineBits, ShortestKeepOrder, ShortestAreReadBack}
-use Rattle.asn1_number.proofs.OctetLemmas.{nine_bits_from_shortest, shortest_from_nine_bits, shortest_order}
-use Rattle.asn1_number.proofs.ShortestLemmas.{shortest_octets_are, shortest_octets_only}
-use Rattle.asn1_number.proofs.ReadingLemmas.{signed_law, unsigned_law, unbounded_law}
+use Rattle.asn1_number.specs.OctetLaws.{nine_bits_from_shortest, shortest_from_nine_bits, shortest_order}
+use Rattle.asn1_number.specs.ShortestLaws.{shortest_octets_are, shortest_octets_only}
+use Rattle.asn1_number.specs.ReadingLaws.{signed_law, unsigned_law, unbounded_law}
 
 pub one_shortest_list : EachNumberHasOneShortestList
 one_shortest_list n = (shortest_octets n, shortest_octets_are n, λ other s. shortest_octets_only n other s)
