@@ -13,7 +13,7 @@ ghost use Rattle.asn1_values.specs.Fields as plain;
 ghost use Rattle.asn1_values.specs.Fields.{Begins, IsOfShape, IsSpelledBy, AreSpelledBy, NoSpellingBeginsAnother, NoneBeginsAnother, needs, AreInOneCode, AreReadInOneCode};
 ghost use Rattle.asn1_values.specs.Plain.{plain_field, plain_fields, plain_shape, plain_shapes, LiesAt, LieFrom};
 ghost use Rattle.asn1_values.specs.Refusals.{IsReadRefusal};
-ghost use Rattle.asn1_values.specs.Steps.{past, past_all};
+ghost use Rattle.asn1_values.specs.Steps.{past, past_all, IsGathered};
 ghost use Rattle.asn1_oid.specs.Reading.{contents_reading};
 ghost use Rattle.asn1_values.specs.Walk.{field_at, fields_at, integer_at, octets_of};
 ghost use Rattle.asn1_values.specs.Wrong.{CanBegin};
@@ -100,9 +100,47 @@ fn examine_all(reader: BitReader<'_>, shapes: &[Shape<'_>]) -> Result<(), ReadEr
 {
     let mut left = reader;
     for (i, shape) in shapes.iter().enumerate() {
-        examine(&mut left, shape, i)?;
+        left = after_field(left, shape, i)?;
     }
     Ok(())
+}
+
+/// What follows one field, if there is one of the shape. Numbers and characters are passed in line, and the reader goes
+/// by value, so that it stays in registers.
+#[inline(always)]
+#[tactic(auto, unfolding(crate::specs::Walk::field_at, crate::specs::Walk::cut_at))]
+fn after_field<'a>(
+    mut reader: BitReader<'a>,
+    shape: &Shape<'_>,
+    field: usize,
+) -> Result<BitReader<'a>, ReadError>
+    ensures ok { IfOk result (λ left.
+        past field (field_at (plain_shape shape.now) (bits_left reader.entry)) ≡ Ok (bits_left left)) }
+    ensures err { IfErr result
+        (λ e. past field (field_at (plain_shape shape.now) (bits_left reader.entry)) ≡ Err e) }
+{
+    match shape {
+        Shape::Number { width } => examine_number(&mut reader, *width, field)?,
+        Shape::Character { alphabet } => examine_character(&mut reader, alphabet, field)?,
+        _ => return after_other_field(reader, shape, field),
+    }
+    Ok(reader)
+}
+
+/// As `after_field`, by a call.
+#[inline(never)]
+fn after_other_field<'a>(
+    mut reader: BitReader<'a>,
+    shape: &Shape<'_>,
+    field: usize,
+) -> Result<BitReader<'a>, ReadError>
+    ensures ok { IfOk result (λ left.
+        past field (field_at (plain_shape shape.now) (bits_left reader.entry)) ≡ Ok (bits_left left)) }
+    ensures err { IfErr result
+        (λ e. past field (field_at (plain_shape shape.now) (bits_left reader.entry)) ≡ Err e) }
+{
+    examine(&mut reader, shape, field)?;
+    Ok(reader)
 }
 
 /// Goes past one field, if there is one of the shape.
@@ -114,13 +152,7 @@ fn examine(reader: &mut BitReader<'_>, shape: &Shape<'_>, field: usize) -> Resul
         (λ e. past field (field_at (plain_shape shape.now) (bits_left reader.old)) ≡ Err e) }
 {
     match shape {
-        Shape::Number { width } => {
-            let width = *width;
-            if width > 128 {
-                return Err(ReadError::NumberWidth { field, width });
-            }
-            take_bits(reader, width as u128, field)?;
-        }
+        Shape::Number { width } => examine_number(reader, *width, field)?,
         Shape::Octets { count } => {
             take_bits(reader, 8 * *count as u128, field)?;
         }
@@ -132,6 +164,22 @@ fn examine(reader: &mut BitReader<'_>, shape: &Shape<'_>, field: usize) -> Resul
         Shape::CountedInteger => examine_counted(reader, field)?,
         Shape::Oid { octets } => examine_identifier(reader, *octets, field)?,
     }
+    Ok(())
+}
+
+/// Goes past a number, if its width is at most 128 bits.
+#[inline(always)]
+#[tactic(auto, unfolding(crate::specs::Walk::field_at, crate::specs::Walk::cut_at))]
+fn examine_number(reader: &mut BitReader<'_>, width: usize, field: usize) -> Result<(), ReadError>
+    ensures ok { OnOk result
+        (past field (field_at (plain.OfNumber width) (bits_left reader.old)) ≡ Ok (bits_left reader.new)) }
+    ensures err { IfErr result
+        (λ e. past field (field_at (plain.OfNumber width) (bits_left reader.old)) ≡ Err e) }
+{
+    if width > 128 {
+        return Err(ReadError::NumberWidth { field, width });
+    }
+    take_bits(reader, width as u128, field)?;
     Ok(())
 }
 
@@ -197,6 +245,7 @@ fn examine_identifier(
 }
 
 /// Goes past a character, if the alphabet has one for the code.
+#[inline(always)]
 #[tactic(auto, unfolding(crate::specs::Walk::field_at, crate::specs::Walk::cut_at))]
 fn examine_character(
     reader: &mut BitReader<'_>,
@@ -220,6 +269,7 @@ fn examine_character(
 }
 
 /// Takes the bits of one field.
+#[inline(always)]
 fn take_bits<'a>(
     reader: &mut BitReader<'a>,
     need: u128,
@@ -266,10 +316,58 @@ fn collect<'a, 's>(
     // All the room is asked for at once; for no shapes none is.
     let mut fields = Vec::new(alloc);
     fields.reserve_exact(shapes.len())?;
+    let mut left = *reader;
     for shape in shapes {
-        fields.push(read_field(alloc, reader, shape)?)?;
+        left = gather(alloc, left, shape, &mut fields)?;
     }
+    *reader = left;
     Ok(fields)
+}
+
+/// Puts a field that is there behind the others, and gives what follows it. Numbers and characters are read in line,
+/// and the reader goes by value, so that it stays in registers.
+#[inline(always)]
+#[tactic(auto, unfolding(crate::specs::Walk::field_at, crate::specs::Walk::cut_at))]
+fn gather<'a, 's>(
+    alloc: Global,
+    mut reader: BitReader<'a>,
+    shape: &Shape<'s>,
+    fields: &mut Vec<Field<'a, 's>>,
+) -> Result<BitReader<'a>, AllocError>
+    requires { IsOk (field_at (plain_shape shape.now) (bits_left reader)) }
+    ensures { IfOk result (λ left. IsGathered fields.old.items fields.new.items (plain_shape shape.now)
+        (view_left reader.entry) (view_left left)) }
+{
+    let field = match shape {
+        Shape::Number { width } => Field::Number {
+            value: take_number(&mut reader, *width),
+            width: *width,
+        },
+        Shape::Character { alphabet } => Field::Character {
+            alphabet: *alphabet,
+            character: read_character(&mut reader, alphabet),
+        },
+        _ => return gather_other(alloc, reader, shape, fields),
+    };
+    fields.push(field)?;
+    Ok(reader)
+}
+
+/// As `gather`, by a call.
+#[inline(never)]
+fn gather_other<'a, 's>(
+    alloc: Global,
+    mut reader: BitReader<'a>,
+    shape: &Shape<'s>,
+    fields: &mut Vec<Field<'a, 's>>,
+) -> Result<BitReader<'a>, AllocError>
+    requires { IsOk (field_at (plain_shape shape.now) (bits_left reader)) }
+    ensures { IfOk result (λ left. IsGathered fields.old.items fields.new.items (plain_shape shape.now)
+        (view_left reader.entry) (view_left left)) }
+{
+    let field = read_field(alloc, &mut reader, shape)?;
+    fields.push(field)?;
+    Ok(reader)
 }
 
 /// Reads a field that is there.
@@ -305,6 +403,7 @@ fn read_field<'a, 's>(
 }
 
 /// Takes so many bits that are there.
+#[inline(always)]
 fn take_front<'a>(reader: &mut BitReader<'a>, count: usize) -> BitReader<'a>
     requires { count ≤ length (bits_left reader.old) }
     ensures front { view_left result ≡ part (view_left reader.old) 0 count }
@@ -320,6 +419,7 @@ fn take_front<'a>(reader: &mut BitReader<'a>, count: usize) -> BitReader<'a>
 }
 
 /// Takes the number of so many bits that are there.
+#[inline(always)]
 fn take_number(reader: &mut BitReader<'_>, width: usize) -> u128
     requires few { width ≤ 128 }
     requires there { width ≤ length (bits_left reader.old) }
@@ -352,6 +452,7 @@ fn read_octets<'a>(
 }
 
 /// Reads a character that is there.
+#[inline(always)]
 #[tactic(auto, unfolding(crate::specs::Walk::field_at, crate::specs::Walk::cut_at))]
 fn read_character(reader: &mut BitReader<'_>, alphabet: &CharacterAlphabet<'_>) -> u32
     requires { IsOk (field_at (plain.OfCharacter (alphabet_of alphabet.now)) (bits_left reader.old)) }
@@ -469,6 +570,7 @@ fn identifier_of(alloc: Global, reader: &BitReader<'_>) -> Result<ObjectIdentifi
 }
 
 /// The character of a code that is one.
+#[inline(always)]
 fn character_of(alphabet: &CharacterAlphabet<'_>, code: u32) -> u32
     requires { (c : ℕ) × IsCode (alphabet_of alphabet.now) c code }
     ensures { IsCode (alphabet_of alphabet.now) result code }

@@ -104,8 +104,21 @@ fn new_len(len: usize, fields: &[Field<'_, '_>]) -> Result<u128, WriteError>
     Ok(end)
 }
 
-/// How many bits a field has, if it fits.
+/// How many bits a field has, if it fits. A number is examined in line.
+#[inline(always)]
 fn fitting_len(field: &Field<'_, '_>, place: usize) -> Result<u128, WriteError>
+    ensures ok { IfOk result (FitsIn (plain_field field.now)) }
+    ensures err { IfErr result (NamesMisfit place (plain_field field.now)) }
+{
+    match field {
+        Field::Number { value, width } => fitting_width(*value, *width, place),
+        _ => fitting_other_len(field, place),
+    }
+}
+
+/// As `fitting_len`, by a call.
+#[inline(never)]
+fn fitting_other_len(field: &Field<'_, '_>, place: usize) -> Result<u128, WriteError>
     ensures ok { IfOk result (FitsIn (plain_field field.now)) }
     ensures err { IfErr result (NamesMisfit place (plain_field field.now)) }
 {
@@ -136,6 +149,7 @@ fn fitting_len(field: &Field<'_, '_>, place: usize) -> Result<u128, WriteError>
 }
 
 /// The width of a number, if it is at most 128 and the number is below 2 to its power.
+#[inline(always)]
 fn fitting_width(value: u128, width: usize, place: usize) -> Result<u128, WriteError>
     ensures ok { IfOk result (FitsIn (plain.Number value width)) }
     ensures err { IfErr result (NamesMisfit place (plain.Number value width)) }
@@ -179,8 +193,26 @@ fn push_all(appender: &mut BitAppender<'_>, fields: &[Field<'_, '_>], turns: &mu
     }
 }
 
-/// Pushes a field that fits the room.
+/// Pushes a field that fits the room. A number is pushed in line.
+#[inline(always)]
 fn push(appender: &mut BitAppender<'_>, field: &Field<'_, '_>, turns: &mut Turns)
+    requires fits { Fits (plain_field field.now) }
+    requires space { (list : List Bool) → IsSpelledBy (plain_field field.now) list
+        → length list ≤ room appender.old }
+    ensures lender { lender_of appender.new ≡ lender_of appender.old }
+    ensures pushed { Pushes (plain_field field.now) appender.old appender.new }
+    ensures counted { (list : List Bool) → IsSpelledBy (plain_field field.now) list
+        → TakesTurns (length list) turns.old.count turns.new.count }
+{
+    match field {
+        Field::Number { value, width } => appender.push_wide(*value, *width, turns),
+        _ => push_other(appender, field, turns),
+    }
+}
+
+/// As `push`, by a call.
+#[inline(never)]
+fn push_other(appender: &mut BitAppender<'_>, field: &Field<'_, '_>, turns: &mut Turns)
     requires fits { Fits (plain_field field.now) }
     requires space { (list : List Bool) → IsSpelledBy (plain_field field.now) list
         → length list ≤ room appender.old }
