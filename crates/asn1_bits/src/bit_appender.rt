@@ -78,7 +78,7 @@ impl<'a> BitAppender<'a> {
     }
 
     /// Writes the lowest `width` binary digits of `value`, most significant first, 64 bits a turn.
-    #[inline]
+    #[inline(always)]
     pub fn push_wide(&mut self, value: u128, width: usize, turns: &mut Turns)
         requires width { width ≤ 128 }
         requires room { width ≤ room self.old }

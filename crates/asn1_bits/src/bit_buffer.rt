@@ -303,7 +303,7 @@ impl BitBuffer {
     }
 
     /// Writes the lowest `width` binary digits of the word over the zeros from bit `position` on: one turn.
-    #[inline]
+    #[inline(always)]
     pub(crate) fn put_at(&mut self, position: usize, word: u64, width: usize, turns: &mut Turns)
         requires width { width ≤ 64 }
         requires within { position + width ≤ length self.old }
@@ -316,7 +316,7 @@ impl BitBuffer {
     }
 
     /// Writes the lowest `width` binary digits of the value over the zeros from bit `position` on, 64 bits a turn.
-    #[inline]
+    #[inline(always)]
     pub(crate) fn put_wide(&mut self, position: usize, value: u128, width: usize, turns: &mut Turns)
         requires width { width ≤ 128 }
         requires within { position + width ≤ length self.old }

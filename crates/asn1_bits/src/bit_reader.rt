@@ -82,7 +82,7 @@ impl<'a> BitReader<'a> {
     }
 
     /// The first `count` bits, past which the reader moves; or by how many bits it is short, and it stays.
-    #[inline]
+    #[inline(always)]
     pub fn split(&mut self, count: usize) -> Result<BitReader<'a>, usize>
         ensures short { IsErr result ↔ ((view_left self.old).len < count) }
         ensures enough { OnOk result (count ≤ (view_left self.old).len) }
@@ -114,7 +114,7 @@ impl<'a> BitReader<'a> {
     }
 
     /// The number of the first `width` bits, the first of them its highest digit.
-    #[inline]
+    #[inline(always)]
     pub fn first_bits(&self, width: usize) -> u32
         requires width { width ≤ 32 }
         requires len { width ≤ (view_left self.now).len }
@@ -127,7 +127,7 @@ impl<'a> BitReader<'a> {
     }
 
     /// The number of the first `width` bits, the first of them its highest digit.
-    #[inline]
+    #[inline(always)]
     pub fn first_u128(&self, width: usize) -> u128
         requires width { width ≤ 128 }
         requires len { width ≤ (view_left self.now).len }

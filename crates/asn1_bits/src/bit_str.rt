@@ -88,7 +88,7 @@ impl<'a> BitStr<'a> {
     }
 
     /// `len` bits of it, from bit `from` on.
-    #[inline]
+    #[inline(always)]
     pub fn slice(&self, from: usize, len: usize) -> BitStr<'a>
         requires { from + len ≤ (view_of self.now).len }
         ensures view { view_of result ≡ part (view_of self.now) from len }
@@ -104,7 +104,7 @@ impl<'a> BitStr<'a> {
     }
 
     /// The first `at` bits, and the others.
-    #[inline]
+    #[inline(always)]
     pub fn split_at(&self, at: usize) -> (BitStr<'a>, BitStr<'a>)
         requires { at ≤ (view_of self.now).len }
         ensures front { view_of result.0 ≡ part (view_of self.now) 0 at }
@@ -145,7 +145,7 @@ impl<'a> BitStr<'a> {
     }
 
     /// The number of the first `width` bits.
-    #[inline]
+    #[inline(always)]
     pub(crate) fn first_u128(&self, width: usize) -> u128
         requires width { width ≤ 128 }
         requires len { width ≤ (view_of self.now).len }

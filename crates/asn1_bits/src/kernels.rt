@@ -74,7 +74,7 @@ fn write_long(dst: &mut [u8], position: usize, src: BitStr<'_>, turns: &mut Turn
 }
 
 /// The number of the `width` bits from bit `position` on, the first of them its highest digit.
-#[inline]
+#[inline(always)]
 pub fn read_wide(bytes: &[u8], position: usize, width: usize) -> u128
     requires width { width ≤ 128 }
     requires within { position + width ≤ 8 * length bytes.now }
@@ -86,7 +86,7 @@ pub fn read_wide(bytes: &[u8], position: usize, width: usize) -> u128
 }
 
 /// The number of `width` bits: of one window, or of two words near the end of the octets.
-#[inline]
+#[inline(always)]
 fn read_number(bytes: &[u8], position: usize, width: usize) -> u128
     requires width { width ≤ 128 }
     requires within { position + width ≤ 8 * length bytes.now }
@@ -107,7 +107,7 @@ fn read_number(bytes: &[u8], position: usize, width: usize) -> u128
 }
 
 /// The number of `width` bits from bit `shift` of the first octet on.
-#[inline]
+#[inline(always)]
 pub(crate) fn read_word(octets: &[u8], shift: usize, width: usize) -> u64
     requires shift { shift < 8 }
     requires width { width ≤ 64 }

@@ -8,7 +8,7 @@ use crate::single_bits::from_octet;
 use crate::turns::Turns;
 
 /// Eight octets from one of them on.
-#[inline]
+#[inline(always)]
 fn eight(octets: &[u8], first: usize) -> [u8; 8]
     requires { first + 8 ≤ length octets.now }
     ensures { result ≡ take 8 (drop first octets.now) }
@@ -22,7 +22,7 @@ fn eight(octets: &[u8], first: usize) -> [u8; 8]
 }
 
 /// The word of the eight octets from one of them on.
-#[inline]
+#[inline(always)]
 pub(crate) fn load(octets: &[u8], first: usize) -> u64
     requires { first + 8 ≤ length octets.now }
     ensures { digits result 64 ≡ take 64 (drop (8 * first) (bits octets.now)) }
@@ -46,7 +46,7 @@ pub(crate) fn whole_word(octets: &[u8], first: usize, shift: usize) -> u64
 }
 
 /// The word of the 64 bits from bit `shift` of the first of nine octets on, with no branch on the shift.
-#[inline]
+#[inline(always)]
 pub(crate) fn word_of_nine(octets: &[u8], shift: usize) -> u64
     requires shift { shift < 8 }
     requires nine { 9 ≤ length octets.now }
@@ -69,7 +69,7 @@ pub(crate) fn wide_of_seventeen(octets: &[u8], shift: usize) -> u128
 }
 
 /// Eight octets from one of them on, as a word whose lowest octet is the first of them.
-#[inline]
+#[inline(always)]
 fn load_native(octets: &[u8], first: usize) -> u64
     requires { first + 8 ≤ length octets.now }
     ensures { to_le_bytes w64 result ≡ take 8 (drop first octets.now) }
@@ -169,7 +169,7 @@ fn set_octets(dst: &mut [u8], first: usize, word: u64)
 
 /// As `or_word`, where zeros stand from bit `position` on. So one octet is read, and the next call need not wait for
 /// what this one wrote.
-#[inline]
+#[inline(always)]
 pub(crate) fn put_word(dst: &mut [u8], position: usize, word: u64, width: usize)
     requires width { width ≤ 64 }
     requires fits { position + width < 2 ^ 64 }
@@ -188,7 +188,7 @@ pub(crate) fn put_word(dst: &mut [u8], position: usize, word: u64, width: usize)
 }
 
 /// As `put_word`, where the digits lie in eight octets.
-#[inline]
+#[inline(always)]
 fn put_near(dst: &mut [u8], position: usize, word: u64, width: usize)
     requires width { position % 8 + width ≤ 64 }
     requires within { position + width ≤ 8 * length dst.old }

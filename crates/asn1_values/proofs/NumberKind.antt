@@ -1,13 +1,12 @@
 -- The laws of numbers as fields.
-use Rattle.std.proofs.Common.{◌≡◌, ℕ, ◌≤◌, Bool, true, false, ltb, List, ◌++◌, length, take, drop, Ok, Err, refl, sym, ap, subst, ◌∙◌, arith, inl, inr}
-use Rattle.std.specs.Prelude.{is_ok, nat_lt, ◌-◌, Result, if◌then◌else◌}
+use Rattle.std.proofs.Common.{◌≡◌, ℕ, ◌≤◌, Bool, ltb, List, ◌++◌, length, Ok, Err, refl, sym, ap, subst, ◌∙◌, arith, inl, inr}
 use Rattle.std.proofs.lemmas.Bool.{ltb-true, ltb-false, le-ltb}
 use Rattle.asn1_bits.specs.Bits.{number}
 use Rattle.asn1_bits.specs.DigitLaws.{length-digits}
 use Rattle.asn1_bits.specs.NumberLaws.{number_of-digits, digits_of-number, number-below}
 use Rattle.asn1_values.specs.Fields.{Field, IsSpelledBy, IsOfShape, Number, OfNumber}
-use Rattle.asn1_values.specs.Wrong.{Fault, NumberWidth, Short, IsReason}
-use Rattle.asn1_values.specs.Walk.{with_rest, cut_at, number_content, field_at}
+use Rattle.asn1_values.specs.Wrong.{Fault, NumberWidth, IsReason}
+use Rattle.asn1_values.specs.Walk.{cut_at, number_content, field_at}
 use Rattle.asn1_values.proofs.ExactKinds.{IsExact, HoldsExactly, Takes, cut_exact, chosen, err_is, err_is_no_ok, held_is, no_fault}
 
 number_holds : (width : ℕ) → width ≤ 128 → HoldsExactly (OfNumber width) width (number_content width)
@@ -48,14 +47,3 @@ number_exact width = record { taken = taken; again = again; reason = reason }
       | inl h ↦ subst (λ (f : Fault). IsReason (OfNumber width) list f) (err_is _ _ h.1) (refl, ltb-true _ _ h.0)
       | inr h ↦ (cut_exact (OfNumber width) width (number_content width) (number_holds width (ltb-false _ _ h.0))).reason list fault h.1
     ]
-
--- a number that can be read is read as its bits' number
-pub number_read : (width value : ℕ) (list left : List Bool) → is_ok (field_at (OfNumber width) list) ≡ true → value ≡ number (take width list) → left ≡ drop width list → field_at (OfNumber width) list ≡ Ok (Number value width, left)
-unfolding field_at cut_at
-number_read width value list left ok n rest =
-    rw (n, rest) (both_pass (nat_lt 128 width) (nat_lt (length list) width) (NumberWidth width) (Short (width - length list)) (Number (number (take width list)) width, drop width list) ok)
-  where
-    both_pass : (a b : Bool) (f g : Fault) (found : Field × List Bool) → is_ok (if a then Err f else (if b then Err g else Ok found)) ≡ true → ◌≡◌ {A = Result (Field × List Bool) Fault} (if a then Err f else (if b then Err g else Ok found)) (Ok found)
-    both_pass true b f g found ok = absurd cc
-    both_pass false true f g found ok = absurd cc
-    both_pass false false f g found ok = refl

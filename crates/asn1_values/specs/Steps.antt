@@ -1,5 +1,5 @@
 -- How the steps of the two calls are stated. No public contract cites this.
-use Rattle.std.specs.Prelude.{◌≡◌, ℕ, ◌+◌, ◌-◌, ◌*◌, ◌/◌, ◌^◌, ◌≤◌, Bool, List, [], ◌∷◌, ◌++◌, length, min, Result, Ok, Err}
+use Rattle.std.specs.Prelude.{◌≡◌, ℕ, ◌+◌, ◌-◌, ◌*◌, ◌/◌, ◌^◌, ◌≤◌, Bool, List, ◌++◌, length, min, Result, Ok, Err}
 use Rattle.std.specs.Int.{div_ceil}
 use Rattle.asn1_bits.specs.declared.bit_appender.BitAppender.{BitAppender}
 use Rattle.asn1_bits.specs.BitAppender.{bits_written, room}
@@ -7,11 +7,7 @@ use Rattle.asn1_values.specs.declared.bit_fields.error.ReadError.{ReadError}
 use Rattle.asn1_values.specs.declared.bit_fields.error.ReadError.TheVariants as reading
 use Rattle.asn1_values.specs.declared.bit_fields.error.WriteError.{WriteError}
 use Rattle.asn1_values.specs.declared.bit_fields.error.WriteError.TheVariants as writing
-use Rattle.asn1_bits.specs.View.{View, list_of, part}
-use Rattle.asn1_values.specs.declared.bit_fields.field.Field as memory
-use Rattle.asn1_values.specs.Fields.{Field, Shape, IsSpelledBy, AreSpelledBy}
-use Rattle.asn1_values.specs.Plain.{plain_field, LiesAt}
-use Rattle.asn1_values.specs.Walk.{field_at}
+use Rattle.asn1_values.specs.Fields.{Field, IsSpelledBy, AreSpelledBy}
 use Rattle.asn1_values.specs.Wrong.{Fault, NumberWidth, NotInteger, Short, NoCharacter, NoLength, NotIdentifier, ArcOver, WidthOver, PastWidth, NotInAlphabet, PastLength, TooFewArcs, Fits, IsMisfit, IsFirstMisfit}
 
 -- ---- reading
@@ -35,15 +31,6 @@ past i (Err fault) = Err (error_at i fault)
 abbrev pub past_all : ℕ → Result (List Field × List Bool) (ℕ × Fault) → Result (List Bool) ReadError
 past_all i (Ok x) = Ok x.1
 past_all i (Err e) = Err (error_at (i + e.0) e.1)
-
--- a field of the shape was read from the front of a view and put behind the others, and what follows it is left
-pub record IsGathered (old new : List memory.Field) (shape : Shape) (before after : View) : Type 0 where
-  pub field : memory.Field
-  pub items : new ≡ old ++ field ∷ []
-  pub read : field_at shape (list_of before) ≡ Ok (plain_field field, list_of after)
-  pub place : LiesAt before before.first field
-  pub rest : (list : List Bool) → IsSpelledBy (plain_field field) list
-      → after ≡ part before (length list) (before.len - length list)
 
 -- ---- writing
 

@@ -13,7 +13,7 @@ ghost use Rattle.asn1_values.specs.Fields as plain;
 ghost use Rattle.asn1_values.specs.Fields.{Begins, IsOfShape, IsSpelledBy, AreSpelledBy, NoSpellingBeginsAnother, NoneBeginsAnother, needs, AreInOneCode, AreReadInOneCode};
 ghost use Rattle.asn1_values.specs.Plain.{plain_field, plain_fields, plain_shape, plain_shapes, LiesAt, LieFrom};
 ghost use Rattle.asn1_values.specs.Refusals.{IsReadRefusal};
-ghost use Rattle.asn1_values.specs.Steps.{past, past_all, IsGathered};
+ghost use Rattle.asn1_values.specs.Steps.{past, past_all};
 ghost use Rattle.asn1_oid.specs.Reading.{contents_reading};
 ghost use Rattle.asn1_values.specs.Walk.{field_at, fields_at, integer_at, octets_of};
 ghost use Rattle.asn1_values.specs.Wrong.{CanBegin};
@@ -93,6 +93,7 @@ pub fn read_fields<'a, 's>(
 }
 
 /// Goes past a field of each shape.
+#[inline(always)]
 fn examine_all(reader: BitReader<'_>, shapes: &[Shape<'_>]) -> Result<(), ReadError>
     ensures ok { OnOk result (IsOk (fields_at (plain_shapes shapes.now) (bits_left reader.entry))) }
     ensures err { IfErr result
@@ -100,50 +101,13 @@ fn examine_all(reader: BitReader<'_>, shapes: &[Shape<'_>]) -> Result<(), ReadEr
 {
     let mut left = reader;
     for (i, shape) in shapes.iter().enumerate() {
-        left = after_field(left, shape, i)?;
+        examine(&mut left, shape, i)?;
     }
     Ok(())
 }
 
-/// What follows one field, if there is one of the shape. Numbers and characters are passed in line, and the reader goes
-/// by value, so that it stays in registers.
-#[inline(always)]
-#[tactic(auto, unfolding(crate::specs::Walk::field_at, crate::specs::Walk::cut_at))]
-fn after_field<'a>(
-    mut reader: BitReader<'a>,
-    shape: &Shape<'_>,
-    field: usize,
-) -> Result<BitReader<'a>, ReadError>
-    ensures ok { IfOk result (λ left.
-        past field (field_at (plain_shape shape.now) (bits_left reader.entry)) ≡ Ok (bits_left left)) }
-    ensures err { IfErr result
-        (λ e. past field (field_at (plain_shape shape.now) (bits_left reader.entry)) ≡ Err e) }
-{
-    match shape {
-        Shape::Number { width } => examine_number(&mut reader, *width, field)?,
-        Shape::Character { alphabet } => examine_character(&mut reader, alphabet, field)?,
-        _ => return after_other_field(reader, shape, field),
-    }
-    Ok(reader)
-}
-
-/// As `after_field`, by a call.
-#[inline(never)]
-fn after_other_field<'a>(
-    mut reader: BitReader<'a>,
-    shape: &Shape<'_>,
-    field: usize,
-) -> Result<BitReader<'a>, ReadError>
-    ensures ok { IfOk result (λ left.
-        past field (field_at (plain_shape shape.now) (bits_left reader.entry)) ≡ Ok (bits_left left)) }
-    ensures err { IfErr result
-        (λ e. past field (field_at (plain_shape shape.now) (bits_left reader.entry)) ≡ Err e) }
-{
-    examine(&mut reader, shape, field)?;
-    Ok(reader)
-}
-
 /// Goes past one field, if there is one of the shape.
+#[inline(always)]
 #[tactic(auto, unfolding(crate::specs::Walk::field_at, crate::specs::Walk::cut_at))]
 fn examine(reader: &mut BitReader<'_>, shape: &Shape<'_>, field: usize) -> Result<(), ReadError>
     ensures ok { OnOk result
@@ -152,7 +116,13 @@ fn examine(reader: &mut BitReader<'_>, shape: &Shape<'_>, field: usize) -> Resul
         (λ e. past field (field_at (plain_shape shape.now) (bits_left reader.old)) ≡ Err e) }
 {
     match shape {
-        Shape::Number { width } => examine_number(reader, *width, field)?,
+        Shape::Number { width } => {
+            let width = *width;
+            if width > 128 {
+                return Err(ReadError::NumberWidth { field, width });
+            }
+            take_bits(reader, width as u128, field)?;
+        }
         Shape::Octets { count } => {
             take_bits(reader, 8 * *count as u128, field)?;
         }
@@ -167,24 +137,9 @@ fn examine(reader: &mut BitReader<'_>, shape: &Shape<'_>, field: usize) -> Resul
     Ok(())
 }
 
-/// Goes past a number, if its width is at most 128 bits.
-#[inline(always)]
-#[tactic(auto, unfolding(crate::specs::Walk::field_at, crate::specs::Walk::cut_at))]
-fn examine_number(reader: &mut BitReader<'_>, width: usize, field: usize) -> Result<(), ReadError>
-    ensures ok { OnOk result
-        (past field (field_at (plain.OfNumber width) (bits_left reader.old)) ≡ Ok (bits_left reader.new)) }
-    ensures err { IfErr result
-        (λ e. past field (field_at (plain.OfNumber width) (bits_left reader.old)) ≡ Err e) }
-{
-    if width > 128 {
-        return Err(ReadError::NumberWidth { field, width });
-    }
-    take_bits(reader, width as u128, field)?;
-    Ok(())
-}
-
 /// Goes past an integer, if its octets are the shortest of a number: if the first nine of their bits are not all alike
 /// (X.690 8.3.2), or there is one octet.
+#[inline(always)]
 #[tactic(auto, unfolding(crate::specs::Walk::integer_at, crate::specs::Walk::cut_at))]
 fn examine_integer(reader: &mut BitReader<'_>, octets: usize, field: usize) -> Result<(), ReadError>
     ensures ok { OnOk result
@@ -206,6 +161,7 @@ fn examine_integer(reader: &mut BitReader<'_>, octets: usize, field: usize) -> R
 }
 
 /// Goes past a counted integer, if its first octet is 1 to 127, and so many octets are the shortest of a number.
+#[inline(always)]
 #[tactic(auto, unfolding(crate::specs::Walk::field_at, crate::specs::Walk::counted_at))]
 fn examine_counted(reader: &mut BitReader<'_>, field: usize) -> Result<(), ReadError>
     ensures ok { OnOk result
@@ -221,6 +177,7 @@ fn examine_counted(reader: &mut BitReader<'_>, field: usize) -> Result<(), ReadE
 }
 
 /// Goes past an identifier, if the octets are its contents.
+#[inline(always)]
 #[tactic(auto, unfolding(crate::specs::Walk::field_at, crate::specs::Walk::cut_at))]
 fn examine_identifier(
     reader: &mut BitReader<'_>,
@@ -298,6 +255,7 @@ fn take_bits<'a>(
 }
 
 /// Reads fields that are there.
+#[inline(always)]
 fn collect<'a, 's>(
     alloc: Global,
     reader: &mut BitReader<'a>,
@@ -316,61 +274,14 @@ fn collect<'a, 's>(
     // All the room is asked for at once; for no shapes none is.
     let mut fields = Vec::new(alloc);
     fields.reserve_exact(shapes.len())?;
-    let mut left = *reader;
     for shape in shapes {
-        left = gather(alloc, left, shape, &mut fields)?;
+        fields.push(read_field(alloc, reader, shape)?)?;
     }
-    *reader = left;
     Ok(fields)
 }
 
-/// Puts a field that is there behind the others, and gives what follows it. Numbers and characters are read in line,
-/// and the reader goes by value, so that it stays in registers.
-#[inline(always)]
-#[tactic(auto, unfolding(crate::specs::Walk::field_at, crate::specs::Walk::cut_at))]
-fn gather<'a, 's>(
-    alloc: Global,
-    mut reader: BitReader<'a>,
-    shape: &Shape<'s>,
-    fields: &mut Vec<Field<'a, 's>>,
-) -> Result<BitReader<'a>, AllocError>
-    requires { IsOk (field_at (plain_shape shape.now) (bits_left reader)) }
-    ensures { IfOk result (λ left. IsGathered fields.old.items fields.new.items (plain_shape shape.now)
-        (view_left reader.entry) (view_left left)) }
-{
-    let field = match shape {
-        Shape::Number { width } => Field::Number {
-            value: take_number(&mut reader, *width),
-            width: *width,
-        },
-        Shape::Character { alphabet } => Field::Character {
-            alphabet: *alphabet,
-            character: read_character(&mut reader, alphabet),
-        },
-        _ => return gather_other(alloc, reader, shape, fields),
-    };
-    fields.push(field)?;
-    Ok(reader)
-}
-
-/// As `gather`, by a call.
-#[inline(never)]
-fn gather_other<'a, 's>(
-    alloc: Global,
-    mut reader: BitReader<'a>,
-    shape: &Shape<'s>,
-    fields: &mut Vec<Field<'a, 's>>,
-) -> Result<BitReader<'a>, AllocError>
-    requires { IsOk (field_at (plain_shape shape.now) (bits_left reader)) }
-    ensures { IfOk result (λ left. IsGathered fields.old.items fields.new.items (plain_shape shape.now)
-        (view_left reader.entry) (view_left left)) }
-{
-    let field = read_field(alloc, &mut reader, shape)?;
-    fields.push(field)?;
-    Ok(reader)
-}
-
 /// Reads a field that is there.
+#[inline(always)]
 #[tactic(auto, unfolding(crate::specs::Walk::field_at, crate::specs::Walk::cut_at))]
 fn read_field<'a, 's>(
     alloc: Global,
@@ -433,6 +344,7 @@ fn take_number(reader: &mut BitReader<'_>, width: usize) -> u128
 }
 
 /// Reads so many octets that are there.
+#[inline(always)]
 fn read_octets<'a>(
     alloc: Global,
     reader: &mut BitReader<'a>,
@@ -466,6 +378,7 @@ fn read_character(reader: &mut BitReader<'_>, alphabet: &CharacterAlphabet<'_>) 
 }
 
 /// Reads a counted integer that is there.
+#[inline(always)]
 #[tactic(auto, unfolding(crate::specs::Walk::field_at, crate::specs::Walk::cut_at))]
 fn read_counted<'a, 's>(
     alloc: Global,
@@ -484,6 +397,7 @@ fn read_counted<'a, 's>(
 }
 
 /// Reads an identifier that is there.
+#[inline(always)]
 #[tactic(auto, unfolding(crate::specs::Walk::field_at, crate::specs::Walk::cut_at))]
 fn read_identifier<'a, 's>(
     alloc: Global,
@@ -505,6 +419,7 @@ fn read_identifier<'a, 's>(
 }
 
 /// Reads an integer of so many octets that is there.
+#[inline(always)]
 #[tactic(auto, unfolding(crate::specs::Walk::integer_at, crate::specs::Walk::cut_at))]
 fn read_integer(
     alloc: Global,
@@ -523,6 +438,7 @@ fn read_integer(
 }
 
 /// The whole number of the octets that the reader has left. Up to sixteen are read as a word, and take no memory.
+#[inline(always)]
 fn integer_of(alloc: Global, reader: &BitReader<'_>) -> Result<Integer, AllocError>
     requires whole { (view_left reader.now).len % 8 ≡ 0 }
     ensures { IfOk result (λ n. (octets : List ℕ) → bits octets ≡ bits_left reader.now
@@ -532,6 +448,16 @@ fn integer_of(alloc: Global, reader: &BitReader<'_>) -> Result<Integer, AllocErr
     if width > 0 && width <= 128 {
         return Ok(Integer::from(signed_word(reader.first_u128(width), width)));
     }
+    long_integer_of(alloc, reader)
+}
+
+/// As `integer_of`, by octets.
+#[inline(never)]
+fn long_integer_of(alloc: Global, reader: &BitReader<'_>) -> Result<Integer, AllocError>
+    requires whole { (view_left reader.now).len % 8 ≡ 0 }
+    ensures { IfOk result (λ n. (octets : List ℕ) → bits octets ≡ bits_left reader.now
+        → All (λ octet. octet < 256) octets → n ≡ signed octets) }
+{
     let octets = reader.octets(alloc)?;
     let Ok(number) = Integer::from_signed_octets(alloc, octets.as_ref()) else {
         return Err(AllocError);
@@ -540,6 +466,7 @@ fn integer_of(alloc: Global, reader: &BitReader<'_>) -> Result<Integer, AllocErr
 }
 
 /// The two's complement value of a word's lowest `width` bits, where it has no others.
+#[inline(always)]
 fn signed_word(word: u128, width: usize) -> i128
     requires some { 0 < width }
     requires few { width ≤ 128 }
@@ -556,6 +483,7 @@ fn signed_word(word: u128, width: usize) -> i128
 }
 
 /// The identifier of which the octets that the reader has left are the contents.
+#[inline(never)]
 fn identifier_of(alloc: Global, reader: &BitReader<'_>) -> Result<ObjectIdentifier, AllocError>
     ensures { IfOk result (λ arcs.
         contents_reading (octets_of ((view_left reader.now).len / 8) (bits_left reader.now)) ≡ Ok arcs) }

@@ -93,6 +93,7 @@ pub fn write_fields_counted(
 
 /// The length that the fields lead to, if they all fit. The sum stops growing at `u128::MAX`, and later fields are still
 /// examined.
+#[inline(always)]
 fn new_len(len: usize, fields: &[Field<'_, '_>]) -> Result<u128, WriteError>
     ensures ok { IfOk result (EndsAt len (plain_fields fields.now)) }
     ensures err { IfErr result (NamesFirstMisfit (plain_fields fields.now)) }
@@ -104,21 +105,9 @@ fn new_len(len: usize, fields: &[Field<'_, '_>]) -> Result<u128, WriteError>
     Ok(end)
 }
 
-/// How many bits a field has, if it fits. A number is examined in line.
+/// How many bits a field has, if it fits.
 #[inline(always)]
 fn fitting_len(field: &Field<'_, '_>, place: usize) -> Result<u128, WriteError>
-    ensures ok { IfOk result (FitsIn (plain_field field.now)) }
-    ensures err { IfErr result (NamesMisfit place (plain_field field.now)) }
-{
-    match field {
-        Field::Number { value, width } => fitting_width(*value, *width, place),
-        _ => fitting_other_len(field, place),
-    }
-}
-
-/// As `fitting_len`, by a call.
-#[inline(never)]
-fn fitting_other_len(field: &Field<'_, '_>, place: usize) -> Result<u128, WriteError>
     ensures ok { IfOk result (FitsIn (plain_field field.now)) }
     ensures err { IfErr result (NamesMisfit place (plain_field field.now)) }
 {
@@ -167,6 +156,7 @@ fn fitting_width(value: u128, width: usize, place: usize) -> Result<u128, WriteE
 }
 
 /// How many bits the contents of an identifier have, if it has two arcs.
+#[inline(never)]
 fn fitting_contents(oid: &ObjectIdentifier, place: usize) -> Result<u128, WriteError>
     ensures ok { IfOk result (FitsIn (plain.Identifier oid.now)) }
     ensures err { IfErr result (NamesMisfit place (plain.Identifier oid.now)) }
@@ -182,6 +172,7 @@ fn fitting_contents(oid: &ObjectIdentifier, place: usize) -> Result<u128, WriteE
 }
 
 /// Pushes fields that fit the room.
+#[inline(always)]
 fn push_all(appender: &mut BitAppender<'_>, fields: &[Field<'_, '_>], turns: &mut Turns)
     requires { HasRoom (plain_fields fields.now) (room appender.old) }
     ensures lender { lender_of appender.new ≡ lender_of appender.old }
@@ -193,26 +184,9 @@ fn push_all(appender: &mut BitAppender<'_>, fields: &[Field<'_, '_>], turns: &mu
     }
 }
 
-/// Pushes a field that fits the room. A number is pushed in line.
+/// Pushes a field that fits the room.
 #[inline(always)]
 fn push(appender: &mut BitAppender<'_>, field: &Field<'_, '_>, turns: &mut Turns)
-    requires fits { Fits (plain_field field.now) }
-    requires space { (list : List Bool) → IsSpelledBy (plain_field field.now) list
-        → length list ≤ room appender.old }
-    ensures lender { lender_of appender.new ≡ lender_of appender.old }
-    ensures pushed { Pushes (plain_field field.now) appender.old appender.new }
-    ensures counted { (list : List Bool) → IsSpelledBy (plain_field field.now) list
-        → TakesTurns (length list) turns.old.count turns.new.count }
-{
-    match field {
-        Field::Number { value, width } => appender.push_wide(*value, *width, turns),
-        _ => push_other(appender, field, turns),
-    }
-}
-
-/// As `push`, by a call.
-#[inline(never)]
-fn push_other(appender: &mut BitAppender<'_>, field: &Field<'_, '_>, turns: &mut Turns)
     requires fits { Fits (plain_field field.now) }
     requires space { (list : List Bool) → IsSpelledBy (plain_field field.now) list
         → length list ≤ room appender.old }
@@ -242,6 +216,7 @@ fn push_other(appender: &mut BitAppender<'_>, field: &Field<'_, '_>, turns: &mut
 }
 
 /// Pushes a counted integer that fits the room: the number of its octets, and these.
+#[inline(always)]
 fn push_counted(appender: &mut BitAppender<'_>, number: &Integer, turns: &mut Turns)
     requires fits { Fits (plain.CountedInteger number.now) }
     requires space { (list : List Bool) → IsSpelledBy (plain.CountedInteger number.now) list
@@ -256,6 +231,7 @@ fn push_counted(appender: &mut BitAppender<'_>, number: &Integer, turns: &mut Tu
 }
 
 /// Pushes the shortest octets of a number that fit the room: up to sixteen of them as a word.
+#[inline(always)]
 fn push_shortest(appender: &mut BitAppender<'_>, number: &Integer, turns: &mut Turns)
     requires { (octets : List ℕ) → IsShortest number.now octets → 8 * length octets ≤ room appender.old }
     ensures lender { lender_of appender.new ≡ lender_of appender.old }
@@ -283,6 +259,7 @@ fn arcs_fit(arcs: &[u32])
 {}
 
 /// Pushes octets that fit the room, sixteen at a time.
+#[inline(never)]
 fn push_each(appender: &mut BitAppender<'_>, octets: OidContents<'_>, turns: &mut Turns)
     requires { 8 * length octets ≤ room appender.old }
     ensures lender { lender_of appender.new ≡ lender_of appender.old }

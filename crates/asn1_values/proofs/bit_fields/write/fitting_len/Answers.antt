@@ -4,7 +4,7 @@ use Rattle.asn1_values.proofs.SpellingLemmas.{octets_fit, bits_fit, integer_fits
 use Rattle.asn1_bits.specs.Octets.{octets_in}
 use Rattle.asn1_bits.specs.BitStr.{bits_of}
 use Rattle.asn1_strings.specs.AlphabetView.{alphabet_of}
-use Rattle.asn1_values.proofs.bit_fields.write.fitting_other_len.Goals as goal
+use Rattle.asn1_values.proofs.bit_fields.write.fitting_len.Goals as goal
 
 pub returns-in-Octets-clause-ok : goal.returns-in-Octets-clause-ok
 returns-in-Octets-clause-ok c = rw (c.in-Octets.is, c.as_ref.ensures.list) (octets_fit (octets_in c.in-Octets.octets) c.as_ref.ensures.octets)
