@@ -116,7 +116,7 @@ impl<'a> BitStr<'a> {
     }
 
     /// The first `len` bits of the octets.
-    #[inline]
+    #[inline(always)]
     pub(crate) fn front_of(octets: &'a [u8], len: usize) -> BitStr<'a>
         requires { len ≤ 8 * length octets.now }
         ensures view { view_of result ≡ record { storage = octets.now; first = 0; len = len } }
@@ -157,7 +157,7 @@ impl<'a> BitStr<'a> {
     }
 
     /// `width` bits from bit `at` on, as the lowest digits of a word.
-    #[inline]
+    #[inline(always)]
     pub(crate) fn word(&self, at: usize, width: usize) -> u64
         requires width { width ≤ 64 }
         requires within { at + width ≤ (view_of self.now).len }

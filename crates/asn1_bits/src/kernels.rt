@@ -26,7 +26,7 @@ pub fn or_bits(dst: &mut [u8], position: usize, src: &[u8], count: usize, turns:
 }
 
 /// ORs the view into `dst` from bit `position` on, and leaves every other bit.
-#[inline]
+#[inline(always)]
 pub fn write_bitslice(dst: &mut [u8], position: usize, src: BitStr<'_>, turns: &mut Turns)
     requires room { position + (view_of src).len ≤ 8 * length dst.old }
     requires fits { position + (view_of src).len < 2 ^ 64 }

@@ -103,7 +103,7 @@ fn or_octets(dst: &mut [u8], first: usize, word: u64)
 }
 
 /// ORs the lowest `width` digits of the word into the octets from bit `position` on.
-#[inline]
+#[inline(always)]
 pub(crate) fn or_word(dst: &mut [u8], position: usize, word: u64, width: usize)
     requires width { width ≤ 64 }
     requires fits { position + width < 2 ^ 64 }
@@ -121,7 +121,7 @@ pub(crate) fn or_word(dst: &mut [u8], position: usize, word: u64, width: usize)
 }
 
 /// As `or_word`, where the digits lie in eight octets.
-#[inline]
+#[inline(always)]
 fn or_near(dst: &mut [u8], position: usize, word: u64, width: usize)
     requires width { position % 8 + width ≤ 64 }
     requires within { position + width ≤ 8 * length dst.old }
