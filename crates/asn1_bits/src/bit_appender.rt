@@ -17,6 +17,7 @@ use std::alloc::AllocError;
 pub struct BitAppender<'a> {
     buffer: &'a mut BitBuffer,
     position: usize,
+    /// All bits from the position on are zeros.
     pub ghost zeros: { IsZeroFrom position buffer.now },
 }
 

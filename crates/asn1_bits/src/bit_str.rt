@@ -22,7 +22,9 @@ pub struct BitStr<'a> {
     shift: usize,
     len: usize,
     ghost below: { shift < 8 },
+    /// The view's bits lie in the storage.
     pub ghost within: { IsWithin (record { storage = storage.now; first = 8 * octet + shift; len = len }) },
+    /// The storage is one of octets.
     pub ghost octets: { All (λ o. o < 256) storage.now },
 }
 
@@ -183,7 +185,7 @@ impl<'a> BitStr<'a> {
 
     /// The 64 bits from bit `at` on, as the digits of a word.
     #[inline]
-    pub(crate) fn whole(&self, at: usize) -> u64
+    pub(crate) fn word_of_64(&self, at: usize) -> u64
         requires { at + 64 ≤ (view_of self.now).len }
         ensures { digits result 64 ≡ take 64 (drop at (bits_of self.now)) }
     {
@@ -199,7 +201,7 @@ impl<'a> BitStr<'a> {
     {
         let words = self.len.min(other.len) / 64;
         for k in 0..words {
-            if self.whole(64 * k) != other.whole(64 * k) {
+            if self.word_of_64(64 * k) != other.word_of_64(64 * k) {
                 return k;
             }
         }
@@ -362,7 +364,7 @@ impl Hash for BitStr<'_> {
         state.write_usize(self.len);
         let words = self.len / 64;
         for k in 0..words {
-            state.write_u64(self.whole(64 * k));
+            state.write_u64(self.word_of_64(64 * k));
         }
         let (_, tail) = self.split_at(64 * words);
         if tail.len > 0 {

@@ -49,7 +49,7 @@ pub fn place_bits<D: Places>(target: &mut D, position: usize, src: BitStr<'_>, t
 {
     let words = src.len() / 64;
     for k in 0..words {
-        target.place(position + 64 * k, src.whole(64 * k), 64, turns);
+        target.place(position + 64 * k, src.word_of_64(64 * k), 64, turns);
     }
     let (_, tail) = src.split_at(64 * words);
     place_tail(target, position + 64 * words, tail, turns);

@@ -10,6 +10,7 @@ use std::marker::Model;
 /// is wanted, pass `&mut Turns::new()`.
 #[derive(Drop)]
 pub struct Turns {
+    /// How many turns were counted.
     pub ghost count: { ℕ },
 }
 

@@ -1,3 +1,4 @@
+//! What every integer type answers, in the words of whole numbers and their octets (X.690 8.3).
 ghost use Rattle.std.specs.Prelude.{◌≡◌, ℕ, ◌+◌, ◌/◌, ◌↔◌, ℤ, pos, ◌+ℤ◌, ◌-ℤ◌, ◌<ℤ◌, List, Ok};
 ghost use Rattle.std.specs.Prelude.{IsTrue, IfOk, OnErr, SomeIff, MatchOption};
 ghost use Rattle.asn1_number.specs.Octets.{IsShortest};

@@ -1,3 +1,4 @@
+//! The laws of sums that wrap.
 ghost use Rattle.asn1_number.specs.Readings.{SignedOf, UnsignedOf};
 ghost use Rattle.asn1_integer.specs.Wrapping.{WrapsToOne, HasOneResidue};
 

@@ -1,3 +1,4 @@
+//! Numbers of native types read from octets, and octets written of them (X.690 8.3).
 ghost use Rattle.std.specs.Prelude.{◌≡◌, ℤ, pos, ◌*◌, ◌%◌, ◌^◌, ◌&&◌, nat_le, length};
 ghost use Rattle.std.specs.Prelude.{SomeIff};
 ghost use Rattle.asn1_number.specs.Octets.{IsShortest, IsShortestUnsigned, unsigned};

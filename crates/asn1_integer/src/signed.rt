@@ -1,3 +1,4 @@
+//! The six signed native types.
 ghost use Rattle.std.specs.Prelude.{pos, true};
 ghost use Rattle.std.proofs.Common.{rules};
 

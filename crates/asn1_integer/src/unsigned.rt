@@ -1,3 +1,4 @@
+//! The six native types without a sign.
 ghost use Rattle.std.specs.Prelude.{pos, false};
 ghost use Rattle.std.proofs.Common.{rules};
 

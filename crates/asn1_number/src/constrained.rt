@@ -1,3 +1,4 @@
+//! Whole numbers within bounds that a type names.
 ghost use Rattle.std.specs.Prelude.{◌≡◌, IfOk, OnErr};
 ghost use Rattle.asn1_number.specs.Readings.{FitsI128};
 

@@ -1,3 +1,4 @@
+//! Why octets are refused as an integer.
 use thiserror::Error;
 
 /// Why octets were not read as an integer. Both numbers are the bits of the type that was asked

@@ -1,3 +1,4 @@
+//! Whole numbers made of native ones. None of these takes memory.
 ghost use Rattle.std.specs.Prelude.{◌≡◌, pos};
 
 use crate::integer::Integer;

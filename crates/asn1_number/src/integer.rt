@@ -1,3 +1,4 @@
+//! Whole numbers of any size, and their octets (X.690 8.3).
 ghost use Rattle.std.specs.Prelude.{◌≡◌, ◌≢◌, ℕ, ◌<◌, ◌≤◌, ◌^◌, ◌↔◌, List, [], length, pos, Some};
 ghost use Rattle.std.specs.Prelude.{IsTrue, IfOk, IfErr, OnErr, IsErrOf, SomeIff, MatchOption};
 ghost use Rattle.std.specs.Int.{IsNonNegative};

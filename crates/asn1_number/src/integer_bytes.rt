@@ -1,3 +1,4 @@
+//! Octets of an integer, where they are made or where they lie.
 ghost use Rattle.std.specs.Prelude.{◌≡◌, ℕ, pos, ◌≤◌, ◌++◌, length, drop};
 ghost use Rattle.std.specs.Int.{to_be_bytes, w64};
 ghost use Rattle.asn1_number.specs.Octets.{IsShortest, IsShortestUnsigned};

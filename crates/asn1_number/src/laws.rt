@@ -1,3 +1,4 @@
+//! The laws of shortest octets.
 ghost use Rattle.asn1_number.specs.Laws.{EachNumberHasOneShortestList, ComputedAreShortest};
 ghost use Rattle.asn1_number.specs.Laws.{ShortestByNineBits, ShortestKeepOrder, ShortestAreReadBack};
 

@@ -1,3 +1,4 @@
+//! The octets before the shortest ones, which only repeat a sign or are zero.
 ghost use Rattle.std.specs.Prelude.{◌≡◌, ℕ, pos, ◌<◌, ◌≤◌, ◌↔◌, ◌⊎◌, length, drop, IsTrue};
 ghost use Rattle.asn1_number.specs.Octets.{IsShortest, IsShortestUnsigned, signed};
 

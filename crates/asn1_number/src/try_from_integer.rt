@@ -1,3 +1,4 @@
+//! Native numbers made of whole ones, where they hold them.
 ghost use Rattle.std.specs.Prelude.{◌≡◌, pos, Some, codes, IfOk, OnErr};
 ghost use Rattle.asn1_number.specs.Conversions.{Converts};
 ghost use Rattle.asn1_number.specs.Readings.{FitsI128};

@@ -1,3 +1,4 @@
+//! Values of at most sixteen octets, and the shortest octets of numbers within `i128` (X.690 8.3).
 ghost use Rattle.std.specs.Prelude.{◌≡◌, ◌+◌, ◌<◌, ◌≤◌, ◌++◌, length, drop};
 ghost use Rattle.std.specs.Int.{to_be_bytes, w64};
 ghost use Rattle.asn1_number.specs.Octets.{IsShortest, signed, unsigned};

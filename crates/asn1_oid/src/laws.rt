@@ -1,3 +1,4 @@
+//! The laws of contents.
 ghost use Rattle.asn1_oid.specs.Contents.{EachHasOneContents, ContentsAreOfOneList};
 
 /// What holds of contents (X.690 8.19), for callers that compare octets in place of arcs. It does nothing when it runs:

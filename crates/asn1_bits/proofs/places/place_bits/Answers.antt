@@ -35,7 +35,7 @@ loop-k-preserved g c =
     record {
       bits =
           c.place.ensures.list
-          ∙ ap (ored (g.D.Places.list c.loop-k.target) (c.args.position + at)) c.whole.ensures
+          ∙ ap (ored (g.D.Places.list c.loop-k.target) (c.args.position + at)) c.word_of_64.ensures
           ∙ ap (λ (l : List Bool). ored l (c.args.position + at) back) c.loop-k.invariant.bits
           ∙ ored-append old c.args.position (c.args.position + at) front back (omega (arith, n))
           (omega (arith, length-take 64 (drop at src), length-drop at src, c.len-words.ensures.len, c.len-words.ensures.list))

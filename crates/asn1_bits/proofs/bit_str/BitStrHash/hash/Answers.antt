@@ -20,10 +20,10 @@ loop-k-preserved g c =
     let list = bits_of c.args.self.now in
     let k = c.loop-k.k in
     let start = g.H.Hasher.write c.args.state.now (fed.le_bytes 8 c.args.self.now.len) in
-    let word = c.whole.result in
+    let word = c.word_of_64.result in
     c.write_u64.ensures
     ∙ ap (λ (s : g.row.H.Denot). g.H.Hasher.write s (fed.le_bytes 8 word)) c.loop-k.invariant
-    ∙ sym (ap (λ (l : List (List ℕ)). fold g.H.Hasher.write start l) (fed-more list k word (number-word _ word (omega (arith, c.whole.type_inv)) c.whole.ensures))
+    ∙ sym (ap (λ (l : List (List ℕ)). fold g.H.Hasher.write start l) (fed-more list k word (number-word _ word (omega (arith, c.word_of_64.type_inv)) c.word_of_64.ensures))
     ∙ fold-append g.H.Hasher.write start (words_fed list k) (fed.le_bytes 8 word ∷ []))
 
 pub returns-then-tail-gt0 : goal.returns-then-tail-gt0
