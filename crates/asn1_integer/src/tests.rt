@@ -7,6 +7,8 @@ use std::alloc::Global;
 use std::process::Abort;
 use std::test::Fail;
 
+mod callers;
+
 /// What a type reads from octets, as a number.
 fn read<T: IntegerType + Drop>(
     alloc: Global,

@@ -2,6 +2,8 @@ use super::*;
 use std::hash::{FoldHasher, Hash, Hasher};
 use std::test::Fail;
 
+mod callers;
+
 /// The numbers from -8 to 360.
 type Bounded = ConstrainedInteger<-8, 360>;
 

@@ -5,6 +5,7 @@ use std::borrow::CowSlice;
 use std::collections::HashSet;
 use std::test::Fail;
 
+mod callers;
 mod contents;
 
 #[test]
