@@ -3,21 +3,19 @@ use Rattle.std.proofs.Common.{◌≡◌, ℕ, ◌≤◌, ◌^◌, Bool, true, fa
 use Rattle.std.specs.Prelude.{◌≢◌}
 use Rattle.std.specs.List.{slice_get}
 use Rattle.std.specs.Option.{MatchOption}
-use Rattle.asn1_strings.specs.Words.{in_words}
-use Rattle.asn1_strings.specs.SetLaws.{not_above}
-use Rattle.asn1_strings.specs.AlphabetLaws.{stands_in, code_fits}
-use Rattle.asn1_strings.specs.AlphabetView.{alphabet_of}
-use Rattle.asn1_strings.specs.declared.alphabet.CharacterAlphabet.{CharacterAlphabet}
+use Rattle.asn1_characters.specs.Words.{in_words}
+use Rattle.asn1_characters.specs.SetLaws.{not_above}
+use Rattle.asn1_strings.specs.AlphabetLaws.{stands_in}
 use Rattle.std.specs.Borrow.{Bor}
 use Rattle.std.specs.Option.{is_some, ForSome, option_copied}
-use Rattle.asn1_strings.specs.Sets.{base_set, has_character, largest}
-use Rattle.asn1_strings.specs.Widths.{ceil_log2, least_from, width_for}
-use Rattle.asn1_strings.specs.Alphabet.{IsCode, is_indexed}
+use Rattle.asn1_characters.specs.Sets.{base_set, has_character, largest}
+use Rattle.asn1_characters.specs.Widths.{ceil_log2, least_from, width_for}
+use Rattle.asn1_strings.specs.Alphabet.{is_indexed}
 use Rattle.asn1_strings.specs.AlphabetInMemory.{set_of, HasWords}
-use Rattle.asn1_strings.proofs.SetLemmas.{length-base_set, largest-base_set, few_in_base, largest_small}
-use Rattle.asn1_strings.specs.declared.character_set.CharacterSetName.{CharacterSetName}
-use Rattle.asn1_strings.specs.declared.character_words.CharacterWords.{CharacterWords}
-use Rattle.asn1_strings.specs.declared.character_set.CharacterSetName.TheVariants.{Bmp, General, Graphic, IA5, Numeric, Printable, Teletex, Visible}
+use Rattle.asn1_characters.specs.TableLaws.{length-base_set, largest-base_set, few_in_base, largest_small}
+use Rattle.asn1_characters.specs.declared.character_set.CharacterSetName.{CharacterSetName}
+use Rattle.asn1_characters.specs.declared.character_words.CharacterWords.{CharacterWords}
+use Rattle.asn1_characters.specs.declared.character_set.CharacterSetName.TheVariants.{Bmp, General, Graphic, IA5, Numeric, Printable, Teletex, Visible}
 
 -- how many characters the sets have, and the largest of each
 abbrev count_in_table : CharacterSetName → ℕ
@@ -103,7 +101,3 @@ found_is set c (Some k) place = sym (stands_in set k c place)
 -- words that are there, and have the set's characters
 pub some_words : (set : List ℕ) (words : CharacterWords) → HasWords set words → ForSome (Some words) (HasWords set)
 some_words set words worded x e = let is : words ≡ x = cc in rw is at worded
-
--- every code of an alphabet fits its width
-pub codes_fit : (a : CharacterAlphabet) (c k : ℕ) → IsCode (alphabet_of a) c k → k < 2 ^ (alphabet_of a).width
-codes_fit a c k code = code_fits (alphabet_of a) c k a.known.room a.known.by_place code

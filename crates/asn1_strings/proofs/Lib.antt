@@ -1,6 +1,3 @@
-pub mod SetLemmas
-pub mod PlaceLemmas
-pub mod WordLemmas
 pub mod StringLemmas
 pub mod PieceLemmas
 pub mod TextLemmas

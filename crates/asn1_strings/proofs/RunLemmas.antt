@@ -5,8 +5,8 @@ use Rattle.std.specs.List.Sorted.{IsNonDecreasing}
 use Rattle.std.proofs.lemmas.List.{ext_get_or}
 use Rattle.std.proofs.lemmas.List.FromFn.{length-range_with_len, get_or-range_with_len}
 use Rattle.std.proofs.lemmas.Option.{slice_get-get_or}
-use Rattle.asn1_strings.specs.Sets.{has_character}
-use Rattle.asn1_strings.specs.SetLaws.{has_in_run}
+use Rattle.asn1_characters.specs.Sets.{has_character}
+use Rattle.asn1_characters.specs.SetLaws.{has_in_run}
 use Rattle.asn1_strings.specs.AlphabetInMemory.{IsRun}
 
 -- each character is as far from the first as its place

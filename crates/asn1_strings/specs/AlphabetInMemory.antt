@@ -4,11 +4,11 @@ use Rattle.std.specs.List.{range_with_len}
 use Rattle.std.specs.Option.{ForSome, option_copied}
 use Rattle.std.specs.Borrow.{Bor}
 use Rattle.std.specs.List.Sorted.{IsNonDecreasing}
-use Rattle.asn1_strings.specs.Sets.{has_character, largest}
-use Rattle.asn1_strings.specs.Words.{in_words}
+use Rattle.asn1_characters.specs.Sets.{has_character, largest}
+use Rattle.asn1_characters.specs.Words.{in_words}
 use Rattle.asn1_strings.specs.Alphabet.{counting_set, is_indexed}
-use Rattle.asn1_strings.specs.declared.character_set.CharacterSetName.{CharacterSetName}
-use Rattle.asn1_strings.specs.declared.character_words.CharacterWords.{CharacterWords}
+use Rattle.asn1_characters.specs.declared.character_set.CharacterSetName.{CharacterSetName}
+use Rattle.asn1_characters.specs.declared.character_words.CharacterWords.{CharacterWords}
 
 -- the value, where there is one
 abbrev pub some_if : {A : Type 0} → Bool → A → Option A

@@ -2,19 +2,19 @@
 ghost use Rattle.std.specs.Prelude.{◌≡◌, ◌≢◌, ◌≤◌, ◌+◌, ◌<◌, ◌^◌, ℕ, Bool, true, false, AllPairs, length, slice_get, is_some, Some, OnSome, OnOk, MatchBool, MatchOption};
 ghost use Rattle.std.specs.Option.{ForSome, option_copied};
 ghost use Rattle.std.specs.List.Sorted.{IsNonDecreasing};
-ghost use Rattle.asn1_strings.specs.Sets.{base_set, has_character, largest};
-ghost use Rattle.asn1_strings.specs.Widths.{ceil_log2};
+ghost use Rattle.asn1_characters.specs.Sets.{base_set, has_character, largest};
+ghost use Rattle.asn1_characters.specs.Widths.{ceil_log2};
 ghost use Rattle.asn1_strings.specs.Alphabet.{is_indexed, kept_set, effective, IsCode, missing_error, Encodes, Decodes, IsLongAscending};
 ghost use Rattle.asn1_strings.specs.AlphabetInMemory.{some_if, set_of, HasWords, IsKnown, IsRun};
 
-use crate::character_set::CharacterSetName;
-use crate::character_words::CharacterWords;
-use crate::error::{InvalidRestrictedString, PermittedAlphabetError};
 use crate::permitted_set::{is_ascending, is_run, largest_of, place_in, repeats_in};
 use crate::search::find_ascending;
 use crate::static_permitted_alphabet::StaticPermittedAlphabet;
 use crate::widths::{align, ceil_log2, codes_of, width_for};
 use asn1_bits::Turns;
+use asn1_characters::{
+    CharacterSetName, CharacterWords, InvalidRestrictedString, PermittedAlphabetError,
+};
 
 /// Whether characters of a set are written by their places in `width` bits, since its largest
 /// character does not fit them. The largest of no characters is 0.

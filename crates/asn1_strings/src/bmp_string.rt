@@ -3,12 +3,12 @@ ghost use Rattle.std.specs.Prelude.{◌≡◌, ◌≢◌, ◌*◌, [], length, O
 ghost use Rattle.std.specs.List.{flat_map};
 ghost use Rattle.std.specs.Int.{w16, to_be_bytes};
 ghost use Rattle.asn1_strings.specs.Strings.{character_octets, string_of_octets};
-ghost use Rattle.asn1_strings.specs.SetLaws.{below_limit};
-ghost use Rattle.asn1_strings.specs.declared.character_set.CharacterSetName.TheVariants.{Bmp as name};
+ghost use Rattle.asn1_characters.specs.SetLaws.{below_limit};
+ghost use Rattle.asn1_characters.specs.declared.character_set.CharacterSetName.TheVariants.{Bmp as name};
 
-use crate::character_set::CharacterSetName;
 use crate::restricted_string::RestrictedString;
 use crate::string_kind::StringKind;
+use asn1_characters::CharacterSetName;
 use std::alloc::{AllocError, Global};
 
 /// The kind of `BmpString`.

@@ -4,10 +4,10 @@ ghost use Rattle.std.specs.Ordering.{nat_cmp};
 ghost use Rattle.std.specs.Cmp.Lexicographic.{pointwise, slice_cmp};
 ghost use Rattle.std.specs.Int.{w16, from_be_bytes};
 ghost use Rattle.std.proofs.Common.{lit≤};
-ghost use Rattle.asn1_strings.specs.Sets.{base_set, has_character};
+ghost use Rattle.asn1_characters.specs.Sets.{base_set, has_character};
 ghost use Rattle.asn1_strings.specs.Pieces.{pieces, unsigned};
 
-use crate::character_set::CharacterSetName;
+use asn1_characters::CharacterSetName;
 use std::alloc::{AllocError, Global};
 use std::cmp::Ordering;
 use std::fmt;

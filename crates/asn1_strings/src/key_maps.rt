@@ -6,12 +6,11 @@ ghost use Rattle.asn1_strings.specs.Pieces.{pieces};
 ghost use Rattle.asn1_strings.specs.Strings.{Answers};
 ghost use Rattle.asn1_strings.specs.Maps.{KeyMap, base_map, map_of_entries, string_of_keys, string_of_map};
 
-use crate::character_set::CharacterSetName;
-use crate::error::PermittedAlphabetError;
 use crate::pieces::{BitPieces, Characters};
 use crate::static_permitted_alphabet::{StaticPermittedAlphabet, string_of};
 use crate::widths::{ceil_log2, codes_of};
 use asn1_bits::BitStr;
+use asn1_characters::{CharacterSetName, PermittedAlphabetError};
 use std::alloc::Global;
 use std::collections::BTreeMap;
 

@@ -1,7 +1,7 @@
 //! Permitted sets: lists of characters in the caller's order.
 ghost use Rattle.std.specs.Prelude.{◌≡◌, ◌≢◌, ◌≤◌, ◌^◌, ℕ, true, false, AllPairs, length, slice_get, Some, MatchBool, MatchOption};
 ghost use Rattle.std.specs.List.Sorted.{IsNonDecreasing};
-ghost use Rattle.asn1_strings.specs.Sets.{has_character, largest};
+ghost use Rattle.asn1_characters.specs.Sets.{has_character, largest};
 ghost use Rattle.asn1_strings.specs.AlphabetInMemory.{IsRun};
 
 // The largest character, or 0.

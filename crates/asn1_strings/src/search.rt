@@ -1,8 +1,8 @@
 //! Search by halves in lists that never fall.
 ghost use Rattle.std.specs.Prelude.{◌≡◌, ◌≤◌, ◌+◌, ◌<◌, ℕ, false, List, length, slice_get, slice_index, Some, OnSome, MatchOption};
 ghost use Rattle.std.specs.List.Sorted.{IsNonDecreasing};
-ghost use Rattle.asn1_strings.specs.Sets.{has_character};
-ghost use Rattle.asn1_strings.specs.Widths.{ceil_log2};
+ghost use Rattle.asn1_characters.specs.Sets.{has_character};
+ghost use Rattle.asn1_characters.specs.Widths.{ceil_log2};
 
 use asn1_bits::Turns;
 

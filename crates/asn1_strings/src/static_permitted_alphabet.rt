@@ -1,22 +1,22 @@
 //! What the eight strings have in common.
 ghost use Rattle.std.specs.Prelude.{◌≡◌, ◌≤◌, ◌^◌, ◌==◌, ◌⊎◌, ℕ, Bool, true, List, [], ◌∷◌, ◌++◌, length, map, All, Ok, None, OnOk, OnErr, string_bytes};
 ghost use Rattle.asn1_bits.specs.BitStr.{bits_of};
-ghost use Rattle.asn1_strings.specs.Sets.{base_set, base_count, base_largest, base_width, base_indexed, has_character};
+ghost use Rattle.asn1_characters.specs.Sets.{base_set, base_count, base_largest, base_width, base_indexed, has_character};
 ghost use Rattle.std.specs.Option.{ForSome, option_copied};
 ghost use Rattle.std.specs.BTreeMap.{btree_map_len};
 ghost use Rattle.asn1_strings.specs.Maps.{string_of_alphabet};
-ghost use Rattle.asn1_strings.specs.Errors.{own_error};
+ghost use Rattle.asn1_characters.specs.Errors.{own_error};
 ghost use Rattle.asn1_strings.specs.Pieces.{pieces, unsigned};
 ghost use Rattle.asn1_strings.specs.Strings.{Answers, character_octets, string_of_characters, string_of_octets, string_of_bits};
 
-use crate::character_set::CharacterSetName;
 use crate::chars::Chars;
 use crate::code_unit::CodeUnit;
-use crate::error::{InvalidRestrictedString, PermittedAlphabetError};
 use crate::key_maps::string_of_bits_in;
-use crate::octet_string::OctetString;
 use crate::pieces::{BitPieces, Characters, OctetPieces};
 use asn1_bits::{BitStr, BitString};
+use asn1_characters::{
+    CharacterSetName, InvalidRestrictedString, OctetString, PermittedAlphabetError,
+};
 use std::alloc::{AllocError, Global};
 use std::collections::BTreeMap;
 
@@ -26,7 +26,7 @@ use std::collections::BTreeMap;
 /// `Other`, `InvalidData` or the first wrong character, in this order, and by `Memory` only what would
 /// else be a string that is not empty.
 pub trait StaticPermittedAlphabet: Sized + Drop {
-    ghost use Rattle.asn1_strings.specs.declared.character_set.CharacterSetName.{CharacterSetName};
+    ghost use Rattle.asn1_characters.specs.declared.character_set.CharacterSetName.{CharacterSetName};
 
     /// In what a character is kept.
     type T: CodeUnit;

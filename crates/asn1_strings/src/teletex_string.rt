@@ -1,12 +1,12 @@
 //! `TeletexString`.
 ghost use Rattle.std.specs.Prelude.{◌≡◌, ◌≢◌, [], IfOk, OnErr, refl};
-ghost use Rattle.asn1_strings.specs.SetLaws.{below_limit};
-ghost use Rattle.asn1_strings.specs.declared.character_set.CharacterSetName.TheVariants.{Teletex as name};
+ghost use Rattle.asn1_characters.specs.SetLaws.{below_limit};
+ghost use Rattle.asn1_characters.specs.declared.character_set.CharacterSetName.TheVariants.{Teletex as name};
 
-use crate::character_set::CharacterSetName;
 use crate::octet_kinds::FromBytes;
 use crate::restricted_string::RestrictedString;
 use crate::string_kind::StringKind;
+use asn1_characters::CharacterSetName;
 use std::alloc::{AllocError, Global};
 
 /// The kind of `TeletexString`.

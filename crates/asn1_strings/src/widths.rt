@@ -1,6 +1,6 @@
 //! Widths of characters in bits.
 ghost use Rattle.std.specs.Prelude.{◌≡◌, ◌≤◌, ◌^◌};
-ghost use Rattle.asn1_strings.specs.Widths.{IsLeastWidth, ceil_log2, align, width_for};
+ghost use Rattle.asn1_characters.specs.Widths.{IsLeastWidth, ceil_log2, align, width_for};
 
 // The least width in which so many things have codes of their own.
 pub(crate) fn ceil_log2(count: u64) -> u32

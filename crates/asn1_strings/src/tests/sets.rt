@@ -1,9 +1,9 @@
 //! The table of base sets.
-use crate::character_set::CharacterSetName;
 use crate::{
     BmpString, GeneralString, GraphicString, Ia5String, NumericString, PrintableString,
     StaticPermittedAlphabet, TeletexString, VisibleString,
 };
+use asn1_characters::CharacterSetName;
 use std::process::Abort;
 
 const BMP: [(u32, u32); 1] = [(0, 0xFFFD)];

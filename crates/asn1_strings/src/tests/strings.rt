@@ -1,5 +1,4 @@
 //! Strings from octets, texts and values.
-use crate::character_set::CharacterSetName;
 use crate::{
     BmpString, GeneralString, GraphicString, Ia5String, InvalidBmpString, InvalidGeneralString,
     InvalidGraphicString, InvalidIA5String, InvalidPrintableString, InvalidRestrictedString,
@@ -7,6 +6,7 @@ use crate::{
     StaticPermittedAlphabet, TeletexString, Utf8String, VisibleString,
 };
 use asn1_bits::BitStr;
+use asn1_characters::CharacterSetName;
 use std::test::Fail;
 
 fn refusal(source: InvalidRestrictedString) -> PermittedAlphabetError {

@@ -1,5 +1,5 @@
 use Rattle.std.proofs.Common.{◌+◌, ◌-◌, length}
-use Rattle.asn1_strings.specs.Widths.{ceil_log2}
+use Rattle.asn1_characters.specs.Widths.{ceil_log2}
 use Rattle.asn1_strings.proofs.AscendingLemmas.{Searching}
 use Rattle.asn1_strings.proofs.search.find_ascending.Given as goal
 

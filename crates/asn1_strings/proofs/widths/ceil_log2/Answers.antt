@@ -1,5 +1,5 @@
 use Rattle.std.proofs.Common.{sym, arith}
-use Rattle.asn1_strings.specs.WidthLaws.{ceil_log2_is}
+use Rattle.asn1_characters.specs.WidthLaws.{ceil_log2_is}
 use Rattle.asn1_strings.proofs.widths.ceil_log2.Goals as goal
 
 pub returns-clause-value : goal.returns-clause-value

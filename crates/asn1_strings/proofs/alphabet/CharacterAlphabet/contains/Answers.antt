@@ -1,6 +1,6 @@
 use Rattle.std.proofs.Common.{◌≡◌, false, ltb, ap, sym, ◌∙◌, arith}
 use Rattle.std.proofs.lemmas.Bool.Decides.{nat_tests}
-use Rattle.asn1_strings.specs.Sets.{has_character}
+use Rattle.asn1_characters.specs.Sets.{has_character}
 use Rattle.asn1_strings.specs.AlphabetInMemory.{some_if, set_of}
 use Rattle.asn1_strings.proofs.AlphabetLemmas.{none_from, found_is}
 use Rattle.asn1_strings.proofs.alphabet.CharacterAlphabet.contains.Goals as goal
