@@ -216,6 +216,29 @@ impl CharacterSetName {
     }
 }
 
+/// The ranges of a base set, as a constant that says which set it is of.
+#[derive(Clone, Copy, Debug, PartialEq, Eq, PartialOrd, Ord, Hash)]
+pub struct CharacterRanges {
+    /// Whose ranges they are.
+    pub name: CharacterSetName,
+}
+
+impl CharacterRanges {
+    /// The ranges of the base set of this name.
+    pub const fn of(name: CharacterSetName) -> CharacterRanges
+        ensures { result.name ≡ name }
+    {
+        CharacterRanges { name }
+    }
+
+    /// First and last character of each range (X.680 41), in the set's order.
+    pub const fn as_slice(self) -> &'static [(u32, u32)]
+        ensures { result.now ≡ ranges_of self.name }
+    {
+        self.name.ranges()
+    }
+}
+
 impl fmt::Display for CharacterSetName {
     ghost output = { λ name. Some (set_name name) };
 

@@ -11,7 +11,7 @@ mod error;
 mod fixed_octet_string;
 mod octet_string;
 
-pub use character_set::CharacterSetName;
+pub use character_set::{CharacterRanges, CharacterSetName};
 pub use character_words::CharacterWords;
 pub use error::{
     InvalidBmpString, InvalidGeneralString, InvalidGraphicString, InvalidIA5String,

@@ -132,7 +132,10 @@ impl<'s> CharacterAlphabet<'s> {
     /// the set is refused as by `encode`.
     #[inline]
     pub fn decode(&self, code: u32) -> Result<u32, PermittedAlphabetError>
-        ensures { Decodes (alphabet_of self.now) code result }
+        ensures character { Decodes (alphabet_of self.now) code result }
+        // No code is of two characters.
+        ensures of_one { let alphabet = alphabet_of self.now in
+            (c d : ℕ) → IsCode alphabet c code → IsCode alphabet d code → c ≡ d }
     {
         if self.indexed {
             match self.character_at(code) {

@@ -30,7 +30,7 @@ mod widths;
 
 pub use alphabet::{CharacterAlphabet, should_be_indexed};
 pub use asn1_characters::{
-    CharacterSetName, FixedOctetString, InvalidBmpString, InvalidGeneralString,
+    CharacterRanges, CharacterSetName, FixedOctetString, InvalidBmpString, InvalidGeneralString,
     InvalidGraphicString, InvalidIA5String, InvalidNumericString, InvalidPrintableString,
     InvalidRestrictedString, InvalidTeletexString, InvalidVisibleString, OctetString,
     PermittedAlphabetError,

@@ -1,5 +1,5 @@
 //! What the eight strings have in common.
-ghost use Rattle.std.specs.Prelude.{◌≡◌, ◌≤◌, ◌^◌, ◌==◌, ◌⊎◌, ℕ, Bool, true, List, [], ◌∷◌, ◌++◌, length, map, All, Ok, None, OnOk, OnErr, string_bytes};
+ghost use Rattle.std.specs.Prelude.{◌≡◌, ◌≢◌, ◌≤◌, ◌^◌, ◌==◌, ◌⊎◌, ℕ, Bool, true, List, [], ◌∷◌, ◌++◌, length, map, All, Ok, None, OnOk, OnErr, string_bytes};
 ghost use Rattle.asn1_bits.specs.BitStr.{bits_of};
 ghost use Rattle.asn1_characters.specs.Sets.{base_set, base_count, base_largest, base_width, base_indexed, has_character};
 ghost use Rattle.std.specs.Option.{ForSome, option_copied};
@@ -15,7 +15,7 @@ use crate::key_maps::string_of_bits_in;
 use crate::pieces::{BitPieces, Characters, OctetPieces};
 use asn1_bits::{BitStr, BitString};
 use asn1_characters::{
-    CharacterSetName, InvalidRestrictedString, OctetString, PermittedAlphabetError,
+    CharacterRanges, CharacterSetName, InvalidRestrictedString, OctetString, PermittedAlphabetError,
 };
 use std::alloc::{AllocError, Global};
 use std::collections::BTreeMap;
@@ -27,12 +27,15 @@ use std::collections::BTreeMap;
 /// else be a string that is not empty.
 pub trait StaticPermittedAlphabet: Sized + Drop {
     ghost use Rattle.asn1_characters.specs.declared.character_set.CharacterSetName.{CharacterSetName};
+    ghost use Rattle.asn1_characters.specs.declared.character_set.CharacterRanges.{CharacterRanges};
 
     /// In what a character is kept.
     type T: CodeUnit;
 
-    /// First and last character of each range of the set, in the set's order.
-    const CHARACTER_SET_RANGES: &'static [(u32, u32)];
+    ghost CHARACTER_SET_RANGES: { CharacterRanges };
+
+    /// First and last character of each range of the set, in the set's order: `as_slice` has them.
+    const CHARACTER_SET_RANGES: CharacterRanges;
 
     ghost CHARACTER_SET_NAME: { CharacterSetName };
 
@@ -72,9 +75,11 @@ pub trait StaticPermittedAlphabet: Sized + Drop {
         ensures ok { OnOk result (characters self.new ≡ characters self.old ++ character ∷ []) }
         ensures err { OnErr result (characters self.new ≡ characters self.old) };
 
-    /// Asks for memory for so many more characters. The string is as before.
+    /// Asks for memory for so many more characters, and for none where they are 0. The string is as
+    /// before, also where memory is refused.
     fn reserve(&mut self, additional: usize) -> Result<(), AllocError>
-        ensures { characters self.new ≡ characters self.old };
+        ensures same { characters self.new ≡ characters self.old }
+        ensures memory { OnErr result (additional ≢ 0) };
 
     /// How many characters it has.
     fn len(&self) -> usize
@@ -235,6 +240,8 @@ pub trait StaticPermittedAlphabet: Sized + Drop {
     }
 
     // The constants are what the table of base sets gives.
+    ghost ranges: { CHARACTER_SET_RANGES.name ≡ CHARACTER_SET_NAME };
+
     ghost count: { CHARACTER_SET_COUNT ≡ base_count CHARACTER_SET_NAME };
 
     ghost width: { CHARACTER_SET_WIDTH ≡ base_width CHARACTER_SET_NAME };

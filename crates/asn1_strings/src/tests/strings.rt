@@ -44,7 +44,7 @@ fn bmp_strings_are_pairs_of_octets(rt: HostRuntime) -> Result<(), Fail> {
         .ok()
         .ok_or("euro")?;
     assert!(rt; euro.as_slice() == [0x0041u16, 0x20AC].as_slice());
-    assert!(rt; euro.to_bytes(alloc)?.as_slice() == [0x00u8, 0x41, 0x20, 0xAC].as_slice());
+    assert!(rt; euro.to_bytes()?.as_slice() == [0x00u8, 0x41, 0x20, 0xAC].as_slice());
     let last = BmpString::try_from_slice(alloc, &[0xFF, 0xFD])
         .ok()
         .ok_or("last")?;
@@ -94,7 +94,7 @@ fn strings_of_octets_show_their_octets(rt: HostRuntime) -> Result<(), Fail> {
     let teletex = TeletexString::from_bytes(alloc, &[0x41, 0xC2, 0x65])
         .ok()
         .ok_or("teletex")?;
-    assert!(rt; teletex.to_bytes(alloc)?.as_slice() == [0x41u8, 0xC2, 0x65].as_slice());
+    assert!(rt; teletex.to_bytes()?.as_slice() == [0x41u8, 0xC2, 0x65].as_slice());
     let general = GeneralString::from_bytes(alloc, b"1 2")
         .ok()
         .ok_or("general")?;
