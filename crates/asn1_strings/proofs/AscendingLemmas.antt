@@ -34,7 +34,7 @@ halved m half (suc b) some le lt =
     let grown : 2 ^ suc b ≡ 2 ^ b * 2 = ap (λ e. 2 ^ e) (let e : suc b ≡ b + 1 = omega arith in e) ∙ twice b in
     record { left = b; one_less = omega arith; narrow = omega arith }
 
-pub starts : (list : List ℕ) (character probes : ℕ) → Searching list 0 (length list) character probes probes (probes + ceil_log2 (length list) + 1)
+pub starts : (list : List ℕ) (character probes : ℕ) → Searching list 0 (length list) character probes probes (probes + (ceil_log2 (length list) + 1))
 starts list character probes =
     let w = ceil_log2 (length list) in
     let least = ceil_log2_is_least (length list) in

@@ -8,7 +8,7 @@ ghost use Rattle.asn1_strings.specs.Alphabet.{is_indexed, kept_set, effective, I
 ghost use Rattle.asn1_strings.specs.AlphabetInMemory.{some_if, set_of, HasWords, IsKnown, IsRun};
 
 use crate::permitted_set::{is_ascending, is_run, largest_of, place_in, repeats_in};
-use crate::search::find_ascending;
+use crate::search::{Looks, find_ascending};
 use crate::static_permitted_alphabet::StaticPermittedAlphabet;
 use crate::widths::{align, ceil_log2, codes_of, width_for};
 use asn1_bits::Turns;
@@ -284,7 +284,7 @@ fn place_among(
     if run {
         place_in_run(set, character, probes)
     } else if sorted && set.len() > 64 {
-        let place = find_ascending(&set, character, probes)?;
+        let place = find_ascending(&mut Looks::at(set), character, probes)?;
         Some(place as u32)
     } else {
         place_in(set, character)

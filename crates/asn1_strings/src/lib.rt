@@ -45,7 +45,7 @@ pub use numeric_string::{Numeric, NumericString};
 pub use octet_kinds::{AsBytes, FromBytes, Iso646};
 pub use printable_string::{Printable, PrintableString};
 pub use restricted_string::RestrictedString;
-pub use search::{Entries, find_ascending};
+pub use search::{Entries, Looks, find_ascending};
 pub use static_permitted_alphabet::StaticPermittedAlphabet;
 pub use string_kind::StringKind;
 pub use teletex_string::{Teletex, TeletexString};

@@ -9,7 +9,6 @@ use crate::{
     find_ascending, should_be_indexed,
 };
 use asn1_bits::Turns;
-use std::cell::Cell;
 use std::mem::size_of;
 use std::process::Abort;
 
@@ -169,23 +168,27 @@ fn sets_are_indexed_where_the_largest_does_not_fit(rt: HostRuntime) {
     assert!(rt; should_be_indexed(31, &[0x8000_0000]) && !should_be_indexed(31, &[0x7FFF_FFFF]));
 }
 
-// A list that counts the looks at it.
+// A list that counts the looks at it at run time too.
 #[derive(Drop)]
 struct Looked<'a> {
     list: &'a [u32],
-    looks: Cell<u32>,
+    taken: Turns,
+    looks: u32,
 }
 
 impl<'a> Entries for Looked<'a> {
     ghost list = { λ s. s.list.now };
 
+    ghost looks = { λ s. s.taken.count };
+
     fn count(&self) -> usize {
         self.list.len()
     }
 
-    fn entry(&self, i: usize, probes: &mut Turns) -> u32 {
+    fn entry(&mut self, i: usize, probes: &mut Turns) -> u32 {
         probes.tick();
-        self.looks.set(self.looks.get().saturating_add(1));
+        self.taken.tick();
+        self.looks = self.looks.saturating_add(1);
         self.list[i]
     }
 }
@@ -198,12 +201,13 @@ fn a_search_among_65_looks_at_most_8_times(rt: HostRuntime) {
     }
     assert!(rt; is_ascending(&list));
     for character in 0..132u32 {
-        let looked = Looked {
+        let mut looked = Looked {
             list: &list,
-            looks: Cell::new(0),
+            taken: Turns::new(),
+            looks: 0,
         };
-        let place = find_ascending(&looked, character, &mut Turns::new());
-        let looks = looked.looks.get();
+        let place = find_ascending(&mut looked, character, &mut Turns::new());
+        let looks = looked.looks;
         assert!(rt;
             place.is_some() == (character % 2 == 0 && character <= 128),
             "{character}"
