@@ -1,11 +1,14 @@
 -- Places in a base set.
-use Rattle.std.proofs.Common.{◌≡◌, ℕ, suc, zero, ◌+◌, ◌-◌, ◌<◌, ◌≤◌, List, [], ◌∷◌, ◌++◌, length, get_or, take, Some, refl, ap, ◌∙◌, arith}
+use Rattle.std.proofs.Common.{◌≡◌, ℕ, suc, zero, ◌+◌, ◌-◌, ◌<◌, ◌≤◌, false, List, [], ◌∷◌, ◌++◌, length, get_or, take, Some, None, refl, ap, sym, ◌∙◌, arith}
 use Rattle.std.specs.List.{flat_map, slice_get}
-use Rattle.std.proofs.lemmas.Option.{slice_get-get_or}
+use Rattle.std.proofs.lemmas.Bool.Decides.{nat_tests}
+use Rattle.std.proofs.lemmas.Option.{slice_get-get_or, slice_get_past}
 use Rattle.std.proofs.lemmas.List.FromFn.{length-range_with_len, get_or-range_with_len}
-use Rattle.asn1_characters.specs.Sets.{ranges_of, base_set, characters_between}
-use Rattle.asn1_characters.specs.TableLaws.{counted}
+use Rattle.asn1_characters.specs.Sets.{ranges_of, base_set, characters_between, has_character}
+use Rattle.asn1_characters.specs.SetLaws.{has_in_base}
+use Rattle.asn1_characters.specs.TableLaws.{counted, length-base_set}
 use Rattle.asn1_characters.specs.declared.character_set.CharacterSetName.{CharacterSetName}
+use Rattle.asn1_characters.specs.declared.character_set.CharacterSetName.TheVariants.{Numeric}
 
 get_left : (xs ys : List ℕ) (k : ℕ) → k < length xs → slice_get (xs ++ ys) k ≡ slice_get xs k
 get_left [] ys k lt = absurd (omega arith)
@@ -52,3 +55,22 @@ counted_front (r ∷ rs) (suc i) = omega (arith, counted_front rs i)
 pub base_is : (name : CharacterSetName) → base_set name ≡ flat_map characters_between (ranges_of name)
 unfolding base_set
 base_is name = refl
+
+-- the digits of `NumericString` stand at the places from 1 to 10, after the space
+pub digit_at : (place : ℕ) → 1 ≤ place → place ≤ 10 → slice_get (base_set Numeric) place ≡ Some (47 + place)
+digit_at place low high =
+    let j = place - 1 in
+    let at : slice_get (flat_map characters_between (ranges_of Numeric)) (1 + j) ≡ Some (48 + j) = at_range (ranges_of Numeric) 1 j (omega arith) (omega arith) in
+    let same : 1 + j ≡ place = omega arith in
+    let value : 48 + j ≡ 47 + place = omega arith in
+    rw (base_is Numeric) (ap (slice_get (flat_map characters_between (ranges_of Numeric))) (sym same) ∙ at ∙ ap Some value)
+
+pub space_at : slice_get (base_set Numeric) 0 ≡ Some 32
+space_at = rw (base_is Numeric) (at_range (ranges_of Numeric) 0 0 (omega arith) (omega arith))
+
+pub numeric_past : (place : ℕ) → 11 ≤ place → slice_get (base_set Numeric) place ≡ None
+numeric_past place past = slice_get_past (base_set Numeric) place (omega (arith, length-base_set Numeric))
+
+pub numeric_lacks : (c : ℕ) → (c ≡ 32 → ⊥) → (48 ≤ c → c ≤ 57 → ⊥) → has_character (base_set Numeric) c ≡ false
+numeric_lacks c other outside =
+    has_in_base Numeric c ∙ grind (arith, nat_tests, outside)

@@ -1,5 +1,5 @@
 -- The words have the bits of the sets.
-use Rattle.std.proofs.Common.{◌≡◌, ℕ, suc, zero, ◌+◌, ◌<◌, ◌≤◌, Bool, true, false, cond, not, ◌&&◌, leb, List, refl, sym, ◌∙◌, arith, inl, inr}
+use Rattle.std.proofs.Common.{◌≡◌, ℕ, suc, zero, ◌+◌, ◌<◌, ◌≤◌, Bool, true, false, cond, not, ◌&&◌, leb, ltb, List, refl, sym, ◌∙◌, arith, inl, inr}
 use Rattle.std.specs.Prelude.{◌⊎◌, ◌≢◌}
 use Rattle.std.proofs.lemmas.Bool.{cases_lt}
 use Rattle.std.proofs.lemmas.Bool.Decides.{nat_tests}
@@ -67,6 +67,13 @@ none_is false none = refl
 pub none_above : (name : CharacterSetName) (c : ℕ) → name ≢ Bmp → 256 ≤ c → has_character (base_set name) c ≡ false
 none_above name c other ge =
     none_is (has_character (base_set name) c) (λ h. let lt = below_limit name 256 (small_base name other) c h in omega arith)
+
+-- the words of a set tell what it has, below 256 and above
+pub has_by_words : (name : CharacterSetName) (words : List ℕ) (c : ℕ) → name ≢ Bmp → ((c : ℕ) → c < 256 → in_words words c ≡ has_character (base_set name) c) → (ltb c 256 && in_words words c) ≡ has_character (base_set name) c
+has_by_words name words c other same = elim (cases_lt c 256) [
+  | inl lt ↦ (let below : ltb c 256 ≡ true = grind (arith, nat_tests) in rw below (same c lt))
+  | inr ge ↦ (let above : ltb c 256 ≡ false = grind (arith, nat_tests) in rw above (sym (none_above name c other ge)))
+]
 
 bmp_lies : (c : ℕ) → leb c 65533 ≡ lies_in (ranges_of Bmp) c
 bmp_lies c = grind (arith, nat_tests)

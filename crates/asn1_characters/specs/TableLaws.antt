@@ -25,7 +25,8 @@ pub length-base_set : (name : CharacterSetName) → length (base_set name) ≡ c
 unfolding base_set
 length-base_set name = length_counted (ranges_of name)
 
-run_largest : (n m a : ℕ) → fold max m (range_with_len a (suc n)) ≡ max m (a + n)
+-- the largest character of a run is its last
+pub run_largest : (n m a : ℕ) → fold max m (range_with_len a (suc n)) ≡ max m (a + n)
 run_largest zero m a = omega arith
 run_largest (suc n) m a = run_largest n (max m a) (a + 1) ∙ omega arith
 

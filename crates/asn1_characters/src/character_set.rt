@@ -50,6 +50,7 @@ impl CharacterSetName {
     }
 
     /// How many characters the set has, at most 65,534.
+    #[inline]
     pub const fn count(self) -> u32
         ensures { result ≡ base_count self }
     {
@@ -66,6 +67,7 @@ impl CharacterSetName {
     }
 
     /// The least number of bits that gives each of its characters a code, at most 16.
+    #[inline]
     pub const fn width(self) -> usize
         ensures value { result ≡ base_width self }
         ensures bound { result ≤ 16 }
@@ -83,6 +85,7 @@ impl CharacterSetName {
     }
 
     /// Its largest character.
+    #[inline]
     pub const fn largest(self) -> u32
         ensures { result ≡ base_largest self }
     {
@@ -100,6 +103,7 @@ impl CharacterSetName {
 
     /// Whether its characters are written by their places, since the largest does not fit the width
     /// (X.691 30.5).
+    #[inline]
     pub const fn is_indexed(self) -> bool
         ensures { result ≡ base_indexed self }
     {
@@ -107,12 +111,13 @@ impl CharacterSetName {
     }
 
     /// Whether the set has the character: for `BmpString` by its range, else by one look at four words.
+    #[inline]
     pub fn contains(self, character: u32) -> bool
         ensures { result ≡ has_character (base_set self) character }
     {
         match self {
             CharacterSetName::Bmp => character <= 0xFFFD,
-            _ => character < 256 && self.words().contains(character),
+            _ => self.words().contains(character),
         }
     }
 
@@ -139,6 +144,7 @@ impl CharacterSetName {
     }
 
     /// The set as words. That of `BmpString` has characters from 256 on, so it has none.
+    #[inline]
     pub fn words(self) -> CharacterWords
         requires { self ≢ Bmp }
         ensures { (c : ℕ) → c < 256 → in_words result.words c ≡ has_character (base_set self) c }
@@ -186,7 +192,38 @@ impl CharacterSetName {
     }
 
     /// The character at a place, and None past the set. Places count from 0.
+    #[inline]
     pub fn character_at(self, place: u32) -> Option<u32>
+        ensures { result ≡ slice_get (base_set self) place }
+    {
+        match self {
+            CharacterSetName::Numeric => match place {
+                0 => Some(0x20),
+                1..=10 => Some(0x2F + place),
+                _ => None,
+            },
+            _ => self.character_in_ranges(place),
+        }
+    }
+
+    /// The place of a character, and None where the set lacks it. Places count from 0.
+    #[inline]
+    pub fn place_of(self, character: u32) -> Option<u32>
+        ensures { MatchOption result (has_character (base_set self) character ≡ false)
+            (λ k. slice_get (base_set self) k ≡ Some character) }
+    {
+        match self {
+            CharacterSetName::Numeric => match character {
+                0x20 => Some(0),
+                0x30..=0x39 => Some(character - 0x2F),
+                _ => None,
+            },
+            _ => self.place_in_ranges(character),
+        }
+    }
+
+    // The character at a place, by the ranges one after another.
+    fn character_in_ranges(self, place: u32) -> Option<u32>
         ensures { result ≡ slice_get (base_set self) place }
     {
         let mut left = place;
@@ -200,8 +237,8 @@ impl CharacterSetName {
         None
     }
 
-    /// The place of a character, and None where the set lacks it. Places count from 0.
-    pub fn place_of(self, character: u32) -> Option<u32>
+    // The place of a character, by the ranges one after another.
+    fn place_in_ranges(self, character: u32) -> Option<u32>
         ensures { MatchOption result (has_character (base_set self) character ≡ false)
             (λ k. slice_get (base_set self) k ≡ Some character) }
     {

@@ -1,5 +1,5 @@
 //! Sets of characters below 256, a bit for each character.
-ghost use Rattle.std.specs.Prelude.{◌≡◌, ◌<◌, ◌∷◌, [], ◌==◌, ◌||◌, ℕ, length};
+ghost use Rattle.std.specs.Prelude.{◌≡◌, ◌<◌, ◌∷◌, [], ◌==◌, ◌&&◌, ◌||◌, ℕ, nat_lt, length};
 ghost use Rattle.asn1_characters.specs.Sets.{has_character, largest};
 ghost use Rattle.asn1_characters.specs.Words.{in_words};
 
@@ -13,6 +13,7 @@ pub struct CharacterWords {
 
 impl CharacterWords {
     /// The set of these words, that of the least characters first.
+    #[inline]
     pub const fn new(first: u64, second: u64, third: u64, fourth: u64) -> CharacterWords
         ensures { result.words ≡ first ∷ second ∷ third ∷ fourth ∷ [] }
     {
@@ -21,11 +22,14 @@ impl CharacterWords {
         }
     }
 
-    /// Whether the bit of a character is set.
+    /// Whether the set has the character, which it has not from 256 on.
+    #[inline]
     pub fn contains(self, character: u32) -> bool
-        requires { character < 256 }
-        ensures { result ≡ in_words self.words character }
+        ensures { result ≡ (nat_lt character 256 && in_words self.words character) }
     {
+        if character >= 256 {
+            return false;
+        }
         let word = self.words[(character / 64) as usize];
         (word >> (character % 64)) % 2 == 1
     }

@@ -1,7 +1,9 @@
 -- What is known of alphabets in memory.
-use Rattle.std.proofs.Common.{◌≡◌, ℕ, ◌≤◌, ◌^◌, Bool, true, false, leb, List, length, Option, Some, None, lit≤, ◌<◌, refl, sym, arith}
+use Rattle.std.proofs.Common.{◌≡◌, ℕ, ◌≤◌, ◌^◌, Bool, true, false, ◌&&◌, leb, ltb, List, length, Option, Some, None, lit≤, ◌<◌, refl, sym, arith, inl, inr}
 use Rattle.std.specs.Prelude.{◌≢◌}
 use Rattle.std.specs.List.{slice_get}
+use Rattle.std.proofs.lemmas.Bool.{cases_lt}
+use Rattle.std.proofs.lemmas.Bool.Decides.{nat_tests}
 use Rattle.std.specs.Option.{MatchOption}
 use Rattle.asn1_characters.specs.Words.{in_words}
 use Rattle.asn1_characters.specs.SetLaws.{not_above}
@@ -92,6 +94,13 @@ none_is false none = refl
 -- a set whose characters are below 256 has none from 256 on
 pub none_from : (set : List ℕ) (c : ℕ) → largest set < 256 → 256 ≤ c → has_character set c ≡ false
 none_from set c below ge = none_is (has_character set c) (λ has. let most = not_above set c has in omega arith)
+
+-- words tell what their set has, below 256 and above
+pub has_by_words : (set : List ℕ) (words : CharacterWords) (c : ℕ) → HasWords set words → (ltb c 256 && in_words words.words c) ≡ has_character set c
+has_by_words set words c worded = elim (cases_lt c 256) [
+  | inl lt ↦ (let below : ltb c 256 ≡ true = grind (arith, nat_tests) in rw below (worded.same c lt))
+  | inr ge ↦ (let above : ltb c 256 ≡ false = grind (arith, nat_tests) in rw above (sym (none_from set c worded.below ge)))
+]
 
 -- a place was found exactly where the set has the character
 pub found_is : (set : List ℕ) (c : ℕ) (o : Option ℕ) → MatchOption o (has_character set c ≡ false) (λ k. slice_get set k ≡ Some c) → is_some o ≡ has_character set c

@@ -8,3 +8,4 @@ pub mod RepeatLemmas
 pub mod AlphabetLemmas
 pub mod RunLemmas
 pub mod OctetLemmas
+pub mod WidthLemmas

@@ -7,7 +7,9 @@ ghost use Rattle.asn1_characters.specs.Widths.{ceil_log2};
 ghost use Rattle.asn1_strings.specs.Alphabet.{is_indexed, kept_set, effective, IsCode, missing_error, Encodes, Decodes, IsLongAscending};
 ghost use Rattle.asn1_strings.specs.AlphabetInMemory.{some_if, set_of, HasWords, IsKnown, IsRun};
 
-use crate::permitted_set::{is_ascending, is_run, largest_of, place_in, repeats_in};
+use crate::permitted_set::{
+    is_ascending, is_run, largest_of, largest_of_run, place_in, repeats_in,
+};
 use crate::search::{Looks, find_ascending};
 use crate::static_permitted_alphabet::StaticPermittedAlphabet;
 use crate::widths::{align, ceil_log2, codes_of, width_for};
@@ -53,6 +55,7 @@ impl<'s> CharacterAlphabet<'s> {
     /// The alphabet of the string `S` with a permitted set, which is kept where the string is
     /// written by places or needs more bits than the set does. Else the base set alone counts. A
     /// kept set may hold characters that the base set lacks.
+    #[inline]
     pub fn new<S: StaticPermittedAlphabet>(
         permitted: Option<&'s [u32]>,
         aligned: bool,
@@ -64,9 +67,9 @@ impl<'s> CharacterAlphabet<'s> {
         let name = S::CHARACTER_SET_NAME;
         let permitted = kept_set(name, permitted, aligned);
         let width = width_for(aligned, count_of(name, permitted));
-        let largest = largest_in(name, permitted);
-        let indexed = codes_of(width) <= largest as u64;
         let run = is_run_in(name, permitted);
+        let largest = largest_in(name, permitted, run);
+        let indexed = codes_of(width) <= largest as u64;
         let sorted = is_sorted(name, permitted, run);
         let (kept, set) = parts_of_set(permitted);
         let (worded, words) = parts_of_words(words_of(name, permitted, run, largest));
@@ -84,6 +87,7 @@ impl<'s> CharacterAlphabet<'s> {
     }
 
     /// How many bits each character takes, at most 32.
+    #[inline]
     pub fn width(&self) -> usize
         ensures value { result ≡ (alphabet_of self.now).width }
         ensures bound { result ≤ 32 }
@@ -172,15 +176,9 @@ impl<'s> CharacterAlphabet<'s> {
         if self.kept { Some(self.set) } else { None }
     }
 
-    // The words of the set that counts, where it has any.
-    #[inline]
-    fn words(&self) -> Option<CharacterWords>
-        ensures { result ≡ some_if self.now.worded self.now.words }
-    {
-        if self.worded { Some(self.words) } else { None }
-    }
-
     // The error for a character that the set lacks.
+    #[cold]
+    #[inline(never)]
     fn missing(&self, character: u32) -> PermittedAlphabetError
         ensures { result ≡ missing_error (alphabet_of self.now) character }
     {
@@ -200,12 +198,12 @@ impl<'s> CharacterAlphabet<'s> {
         ensures cost { let set = (alphabet_of self.now).characters in
             IsLongAscending set → probes.new.count ≤ probes.old.count + ceil_log2 (length set) + 1 }
     {
-        match self.words() {
-            Some(words) => character < 256 && words.contains(character),
-            None => match self.permitted() {
-                Some(set) => place_among(set, self.run, self.sorted, character, probes).is_some(),
-                None => self.name.contains(character),
-            },
+        if self.worded {
+            return self.words.contains(character);
+        }
+        match self.permitted() {
+            Some(set) => place_among(set, self.run, self.sorted, character, probes).is_some(),
+            None => self.name.contains(character),
         }
     }
 
@@ -279,11 +277,30 @@ fn place_among(
     ensures counts { probes.old.count ≤ probes.new.count }
     ensures cost { IsLongAscending set.now →
         probes.new.count ≤ probes.old.count + ceil_log2 (length set.now) + 1 }
-    ensures looked { IsLongAscending set.now → OnSome result (probes.old.count + 1 ≤ probes.new.count) }
+    ensures looked { IsLongAscending set.now →
+        OnSome result (probes.old.count + 1 ≤ probes.new.count) }
 {
     if run {
         place_in_run(set, character, probes)
-    } else if sorted && set.len() > 64 {
+    } else {
+        place_by_looks(set, sorted, character, probes)
+    }
+}
+
+// A place of the character: by halves where the list is long and never falls, else one by one.
+fn place_by_looks(set: &[u32], sorted: bool, character: u32, probes: &mut Turns) -> Option<u32>
+    requires few { length set.now ≤ 2 ^ 32 }
+    requires rises { sorted ≡ true → IsNonDecreasing set.now }
+    requires falls { sorted ≡ false → ¬ (IsNonDecreasing set.now) }
+    ensures place { MatchOption result (has_character set.now character ≡ false)
+        (λ k. slice_get set.now k ≡ Some character) }
+    ensures counts { probes.old.count ≤ probes.new.count }
+    ensures cost { IsLongAscending set.now →
+        probes.new.count ≤ probes.old.count + (ceil_log2 (length set.now) + 1) }
+    ensures looked { IsLongAscending set.now →
+        OnSome result (probes.old.count + 1 ≤ probes.new.count) }
+{
+    if sorted && set.len() > 64 {
         let place = find_ascending(&mut Looks::at(set), character, probes)?;
         Some(place as u32)
     } else {
@@ -292,6 +309,7 @@ fn place_among(
 }
 
 // The permitted set, where it is kept.
+#[inline]
 fn kept_set<'s>(
     name: CharacterSetName,
     permitted: Option<&'s [u32]>,
@@ -311,6 +329,7 @@ fn kept_set<'s>(
 }
 
 // How many characters the set that counts has.
+#[inline]
 fn count_of(name: CharacterSetName, kept: Option<&[u32]>) -> u64
     ensures { result ≡ length (set_of name kept.entry) }
 {
@@ -321,16 +340,20 @@ fn count_of(name: CharacterSetName, kept: Option<&[u32]>) -> u64
 }
 
 // The largest character of the set that counts.
-fn largest_in(name: CharacterSetName, kept: Option<&[u32]>) -> u32
+#[inline]
+fn largest_in(name: CharacterSetName, kept: Option<&[u32]>, run: bool) -> u32
+    requires { run ≡ true → IsRun (set_of name kept) }
     ensures { result ≡ largest (set_of name kept.entry) }
 {
     match kept {
+        Some(set) if run => largest_of_run(set),
         Some(set) => largest_of(set),
         None => name.largest(),
     }
 }
 
 // Whether a permitted set that was kept never falls.
+#[inline]
 fn is_sorted(name: CharacterSetName, kept: Option<&[u32]>, run: bool) -> bool
     requires { run ≡ true → IsRun (set_of name kept) }
     ensures rises { result ≡ true → IsNonDecreasing (set_of name kept.entry) }
@@ -343,6 +366,7 @@ fn is_sorted(name: CharacterSetName, kept: Option<&[u32]>, run: bool) -> bool
 }
 
 // Whether a permitted set that was kept leaves no gap.
+#[inline]
 fn is_run_in(name: CharacterSetName, kept: Option<&[u32]>) -> bool
     ensures { result ≡ true → IsRun (set_of name kept.entry) }
 {
@@ -353,6 +377,7 @@ fn is_run_in(name: CharacterSetName, kept: Option<&[u32]>) -> bool
 }
 
 // The words of the set that counts, where its characters are below 256.
+#[inline]
 fn words_of(
     name: CharacterSetName,
     kept: Option<&[u32]>,
@@ -373,6 +398,7 @@ fn words_of(
 }
 
 // Whether a permitted set is kept, and the set, or none.
+#[inline]
 fn parts_of_set<'s>(kept: Option<&'s [u32]>) -> (bool, &'s [u32])
     ensures { some_if result.0 result.1 ≡ kept.entry }
 {
@@ -383,6 +409,7 @@ fn parts_of_set<'s>(kept: Option<&'s [u32]>) -> (bool, &'s [u32])
 }
 
 // Whether there are words, and the words, or those of no character.
+#[inline]
 fn parts_of_words(words: Option<CharacterWords>) -> (bool, CharacterWords)
     ensures { some_if result.0 result.1 ≡ words }
 {

@@ -15,6 +15,19 @@ pub(crate) fn largest_of(set: &[u32]) -> u32
     most
 }
 
+// The largest character of a list without a gap, or 0: its last.
+#[inline]
+pub(crate) fn largest_of_run(set: &[u32]) -> u32
+    requires { IsRun set.now }
+    ensures { result ≡ largest set.now }
+{
+    if set.is_empty() {
+        0
+    } else {
+        set[set.len() - 1]
+    }
+}
+
 // A place of the character.
 pub(crate) fn place_in(set: &[u32], character: u32) -> Option<u32>
     requires { length set.now ≤ 2 ^ 32 }

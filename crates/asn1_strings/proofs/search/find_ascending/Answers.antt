@@ -5,7 +5,7 @@ use Rattle.asn1_strings.proofs.search.find_ascending.Goals as goal
 
 pub loop-low-init : goal.loop-low-init
 loop-low-init g c =
-    record { search = rw c.count-high.ensures (starts (g.L.Entries.list c.args.entries.now) c.args.character c.args.probes.now.count); same = refl; tied = refl; }
+    record { search = rw c.count-high.ensures (starts (g.L.Entries.list c.args.entries.now) c.args.character c.args.probes.now.count); same = refl; tied = refl }
 
 pub entry-entry-requires : goal.entry-entry-requires
 entry-entry-requires g c = rw c.loop-low.invariant.same (omega (arith, c.loop-low.invariant.search.within))

@@ -1,15 +1,10 @@
-use Rattle.std.proofs.Common.{◌≡◌, false, ltb, sym, ◌∙◌, arith}
-use Rattle.std.proofs.lemmas.Bool.Decides.{nat_tests}
-use Rattle.asn1_characters.proofs.WordLemmas.{none_above, bmp_is}
+use Rattle.std.proofs.Common.{sym, ◌∙◌}
+use Rattle.asn1_characters.proofs.WordLemmas.{bmp_is, has_by_words}
 use Rattle.asn1_characters.proofs.character_set.CharacterSetName.contains.Goals as goal
 
 pub returns-in-Bmp : goal.returns-in-Bmp
 returns-in-Bmp c = rw c.in-Bmp.is (bmp_is c.args.character)
 
-pub returns-then-character-lt256 : goal.returns-then-character-lt256
-returns-then-character-lt256 c = c.contains.ensures ∙ c.words.ensures c.args.character c.if-character-lt256.true
-
-pub returns-else-character-lt256 : goal.returns-else-character-lt256
-returns-else-character-lt256 c =
-    let above : ltb c.args.character 256 ≡ false = grind (arith, nat_tests) in
-    above ∙ sym (none_above c.args.self c.args.character c.in_default.not-Bmp (omega arith))
+pub returns-in_default : goal.returns-in_default
+returns-in_default c =
+    c.contains.ensures ∙ has_by_words c.args.self c.words.result.words c.args.character c.in_default.not-Bmp c.words.ensures
