@@ -24,8 +24,8 @@ impl CharacterWords {
 
     /// Whether the set has the character, which it has not from 256 on.
     #[inline]
-    pub fn contains(self, character: u32) -> bool
-        ensures { result ≡ (nat_lt character 256 && in_words self.words character) }
+    pub fn contains(&self, character: u32) -> bool
+        ensures { result ≡ (nat_lt character 256 && in_words self.now.words character) }
     {
         if character >= 256 {
             return false;

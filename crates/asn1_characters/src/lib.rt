@@ -6,6 +6,7 @@
 #![tactic(auto)]
 
 mod character_set;
+mod character_table;
 mod character_words;
 mod error;
 mod fixed_octet_string;

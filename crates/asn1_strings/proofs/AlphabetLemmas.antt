@@ -13,7 +13,7 @@ use Rattle.std.specs.Option.{is_some, ForSome, option_copied}
 use Rattle.asn1_characters.specs.Sets.{base_set, has_character, largest}
 use Rattle.asn1_characters.specs.Widths.{ceil_log2, least_from, width_for}
 use Rattle.asn1_strings.specs.Alphabet.{is_indexed}
-use Rattle.asn1_strings.specs.AlphabetInMemory.{set_of, HasWords}
+use Rattle.asn1_strings.specs.AlphabetInMemory.{some_if, set_of, HasWords}
 use Rattle.asn1_characters.specs.TableLaws.{length-base_set, largest-base_set, few_in_base, largest_small}
 use Rattle.asn1_characters.specs.declared.character_set.CharacterSetName.{CharacterSetName}
 use Rattle.asn1_characters.specs.declared.character_words.CharacterWords.{CharacterWords}
@@ -106,6 +106,15 @@ has_by_words set words c worded = elim (cases_lt c 256) [
 pub found_is : (set : List ℕ) (c : ℕ) (o : Option ℕ) → MatchOption o (has_character set c ≡ false) (λ k. slice_get set k ≡ Some c) → is_some o ≡ has_character set c
 found_is set c None none = sym none
 found_is set c (Some k) place = sym (stands_in set k c place)
+
+-- what is kept is there, and else nothing is
+pub is_some_if : {A : Type 0} (kept : Bool) (value : A) (o : Option A) → some_if kept value ≡ o → kept ≡ true → is_some o ≡ true
+is_some_if true value o same told = rw (sym same) refl
+is_some_if false value o same told = cc
+
+pub none_if : {A : Type 0} (kept : Bool) (value : A) (o : Option A) → some_if kept value ≡ o → kept ≡ false → is_some o ≡ false
+none_if true value o same told = cc
+none_if false value o same told = rw (sym same) refl
 
 -- words that are there, and have the set's characters
 pub some_words : (set : List ℕ) (words : CharacterWords) → HasWords set words → ForSome (Some words) (HasWords set)

@@ -37,16 +37,18 @@ pub struct CharacterAlphabet<'s> {
     indexed: bool,
     // Whether a permitted set is kept. Else the base set of `name` counts.
     kept: bool,
+    // Whether `set` lists the set that counts. Else it is empty.
+    listed: bool,
     // Whether the permitted set never falls.
     sorted: bool,
-    // Whether the characters of the permitted set follow one another without a gap.
+    // Whether `set` lists the set that counts, and leaves no gap.
     run: bool,
     // Whether the words are those of the set that counts: where its characters are below 256, and
     // leave gaps.
     worded: bool,
     set: &'s [u32],
     words: CharacterWords,
-    ghost known: { IsKnown name (some_if kept set) width indexed sorted run (some_if worded words) },
+    ghost known: { IsKnown name kept set width indexed listed sorted run (some_if worded words) },
 }
 
 impl<'s> CharacterAlphabet<'s> {
@@ -67,21 +69,22 @@ impl<'s> CharacterAlphabet<'s> {
         let name = S::CHARACTER_SET_NAME;
         let permitted = kept_set(name, permitted, aligned);
         let width = width_for(aligned, count_of(name, permitted));
-        let run = is_run_in(name, permitted);
+        let listing = listing_of(name, permitted);
+        let run = listing.run;
         let largest = largest_in(name, permitted, run);
         let indexed = codes_of(width) <= largest as u64;
         let sorted = is_sorted(name, permitted, run);
-        let (kept, set) = parts_of_set(permitted);
         let (worded, words) = parts_of_words(words_of(name, permitted, run, largest));
         CharacterAlphabet {
             name,
             width: width as u8,
             indexed,
-            kept,
+            kept: listing.kept,
+            listed: listing.listed,
             sorted,
             run,
             worded,
-            set,
+            set: listing.set,
             words,
         }
     }
@@ -198,11 +201,14 @@ impl<'s> CharacterAlphabet<'s> {
         ensures cost { let set = (alphabet_of self.now).characters in
             IsLongAscending set → probes.new.count ≤ probes.old.count + ceil_log2 (length set) + 1 }
     {
+        if self.run {
+            return place_in_run(self.set, character, probes).is_some();
+        }
         if self.worded {
             return self.words.contains(character);
         }
         match self.permitted() {
-            Some(set) => place_among(set, self.run, self.sorted, character, probes).is_some(),
+            Some(set) => place_by_looks(set, self.sorted, character, probes).is_some(),
             None => self.name.contains(character),
         }
     }
@@ -231,9 +237,10 @@ impl<'s> CharacterAlphabet<'s> {
     fn character_at(&self, place: u32) -> Option<u32>
         ensures { result ≡ slice_get (alphabet_of self.now).characters place }
     {
-        match self.permitted() {
-            Some(set) => set.get(place as usize).copied(),
-            None => self.name.character_at(place),
+        if self.listed {
+            self.set.get(place as usize).copied()
+        } else {
+            self.name.character_at(place)
         }
     }
 }
@@ -365,17 +372,6 @@ fn is_sorted(name: CharacterSetName, kept: Option<&[u32]>, run: bool) -> bool
     }
 }
 
-// Whether a permitted set that was kept leaves no gap.
-#[inline]
-fn is_run_in(name: CharacterSetName, kept: Option<&[u32]>) -> bool
-    ensures { result ≡ true → IsRun (set_of name kept.entry) }
-{
-    match kept {
-        Some(set) => is_run(set),
-        None => false,
-    }
-}
-
 // The words of the set that counts, where its characters are below 256.
 #[inline]
 fn words_of(
@@ -397,14 +393,58 @@ fn words_of(
     }
 }
 
-// Whether a permitted set is kept, and the set, or none.
+// How the set that counts lies in memory: whether it is a permitted set, whether `set` lists it, and
+// whether that leaves no gap.
+#[derive(Clone, Copy)]
+struct Listing<'s> {
+    kept: bool,
+    listed: bool,
+    run: bool,
+    set: &'s [u32],
+}
+
+// How the set that counts lies in memory.
 #[inline]
-fn parts_of_set<'s>(kept: Option<&'s [u32]>) -> (bool, &'s [u32])
-    ensures { some_if result.0 result.1 ≡ kept.entry }
+fn listing_of<'s>(name: CharacterSetName, kept: Option<&'s [u32]>) -> Listing<'s>
+    ensures kept { some_if result.kept result.set ≡ kept.entry }
+    ensures listing { result.listed ≡ true → result.set.now ≡ set_of name kept.entry }
+    ensures unlisted { result.listed ≡ false → result.kept ≡ false }
+    ensures gapless { result.run ≡ true → IsRun (set_of name kept.entry) }
+    ensures runs_listed { result.run ≡ true → result.listed ≡ true }
 {
     match kept {
-        Some(set) => (true, set),
-        None => (false, &[]),
+        Some(set) => Listing {
+            kept: true,
+            listed: true,
+            run: is_run(set),
+            set,
+        },
+        None => match name.table() {
+            Some(set) => Listing {
+                kept: false,
+                listed: true,
+                run: leaves_no_gap(name),
+                set,
+            },
+            None => Listing {
+                kept: false,
+                listed: false,
+                run: false,
+                set: &[],
+            },
+        },
+    }
+}
+
+// Whether a base set with a table is known to leave no gap.
+#[inline]
+fn leaves_no_gap(name: CharacterSetName) -> bool
+    ensures { result ≡ true → IsRun (base_set name) }
+{
+    match name {
+        CharacterSetName::IA5 => true,
+        CharacterSetName::Visible => true,
+        _ => false,
     }
 }
 

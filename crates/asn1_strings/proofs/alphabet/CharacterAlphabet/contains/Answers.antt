@@ -6,12 +6,19 @@ use Rattle.asn1_strings.proofs.alphabet.CharacterAlphabet.contains.Goals as goal
 
 pub returns-then-self-clause-value : goal.returns-then-self-clause-value
 returns-then-self-clause-value c =
-    let worded = c.args.self.now.known.worded c.args.self.now.words (rw c.if-self.true refl) in
+    let known = c.args.self.now.known in
+    c.is_some.ensures
+    ∙ found_is c.args.self.now.set.now c.args.character c.place_in_run.result c.place_in_run.ensures.place
+    ∙ ap (λ set. has_character set c.args.character) (known.listing (known.runs_listed c.if-self.true))
+
+pub returns-then-self-2-clause-value : goal.returns-then-self-2-clause-value
+returns-then-self-2-clause-value c =
+    let worded = c.args.self.now.known.worded c.args.self.now.words (rw c.if-self-2.true refl) in
     c.contains.ensures ∙ has_by_words (set_of c.args.self.now.name (some_if c.args.self.now.kept c.args.self.now.set)) c.args.self.now.words c.args.character worded
 
 pub returns-in-Some-clause-value : goal.returns-in-Some-clause-value
 returns-in-Some-clause-value c =
     let set = c.in-Some.set.now in
-    c.is_some.ensures
-    ∙ found_is set c.args.character c.place_among.result c.place_among.ensures.place
+    c.is_some-in-Some.ensures
+    ∙ found_is set c.args.character c.place_by_looks.result c.place_by_looks.ensures.place
     ∙ ap (λ p. has_character (set_of c.args.self.now.name p) c.args.character) c.in-Some.ensures
