@@ -193,7 +193,8 @@ impl<'s> CharacterAlphabet<'s> {
         }
     }
 
-    // Whether the set has the character: by its words where it has any.
+    // Whether the set has the character: by its ends where it leaves no gap, by its words where it has
+    // any.
     #[inline]
     fn contains(&self, character: u32, probes: &mut Turns) -> bool
         ensures value { result ≡ has_character (alphabet_of self.now).characters character }
@@ -207,6 +208,18 @@ impl<'s> CharacterAlphabet<'s> {
         if self.worded {
             return self.words.contains(character);
         }
+        self.contains_by_looks(character, probes)
+    }
+
+    // Whether the set has the character: by looks at a permitted set, else by the base set's range.
+    #[inline(never)]
+    fn contains_by_looks(&self, character: u32, probes: &mut Turns) -> bool
+        ensures value { result ≡ has_character (alphabet_of self.now).characters character }
+        ensures counts { probes.old.count ≤ probes.new.count }
+        ensures cost { let set = (alphabet_of self.now).characters in
+            IsLongAscending set →
+            probes.new.count ≤ probes.old.count + (ceil_log2 (length set) + 1) }
+    {
         match self.permitted() {
             Some(set) => place_by_looks(set, self.sorted, character, probes).is_some(),
             None => self.name.contains(character),
@@ -295,6 +308,7 @@ fn place_among(
 }
 
 // A place of the character: by halves where the list is long and never falls, else one by one.
+#[inline(never)]
 fn place_by_looks(set: &[u32], sorted: bool, character: u32, probes: &mut Turns) -> Option<u32>
     requires few { length set.now ≤ 2 ^ 32 }
     requires rises { sorted ≡ true → IsNonDecreasing set.now }

@@ -15,10 +15,3 @@ pub returns-then-self-2-clause-value : goal.returns-then-self-2-clause-value
 returns-then-self-2-clause-value c =
     let worded = c.args.self.now.known.worded c.args.self.now.words (rw c.if-self-2.true refl) in
     c.contains.ensures ∙ has_by_words (set_of c.args.self.now.name (some_if c.args.self.now.kept c.args.self.now.set)) c.args.self.now.words c.args.character worded
-
-pub returns-in-Some-clause-value : goal.returns-in-Some-clause-value
-returns-in-Some-clause-value c =
-    let set = c.in-Some.set.now in
-    c.is_some-in-Some.ensures
-    ∙ found_is set c.args.character c.place_by_looks.result c.place_by_looks.ensures.place
-    ∙ ap (λ p. has_character (set_of c.args.self.now.name p) c.args.character) c.in-Some.ensures
