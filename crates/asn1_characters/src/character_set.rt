@@ -11,13 +11,21 @@ use std::fmt;
 /// Which of the eight strings. `Display` writes the string's name as X.680 spells it.
 #[derive(Clone, Copy, Debug, PartialEq, Eq, PartialOrd, Ord, Hash)]
 pub enum CharacterSetName {
+    /// `BmpString`.
     Bmp,
+    /// `GeneralString`.
     General,
+    /// `GraphicString`.
     Graphic,
+    /// `Ia5String`.
     IA5,
+    /// `NumericString`.
     Numeric,
+    /// `PrintableString`.
     Printable,
+    /// `TeletexString`.
     Teletex,
+    /// `VisibleString`.
     Visible,
 }
 
@@ -25,7 +33,8 @@ impl CharacterSetName {
     /// First and last character of each range (X.680 41), in the set's order.
     pub const fn ranges(self) -> &'static [(u32, u32)]
         ensures value { result.now ≡ ranges_of self }
-        ensures fine { (i : ℕ) → i < length result.now → IsRange (slice_index_or result.now i (0, 0)) }
+        ensures fine { (i : ℕ) → i < length result.now →
+            IsRange (slice_index_or result.now i (0, 0)) }
     {
         match self {
             CharacterSetName::Bmp => &[(0, 0xFFFD)],

@@ -11,6 +11,7 @@ use std::fmt;
 /// A character that `BmpString` may not hold (X.680 41).
 #[derive(Clone, Copy, Debug, PartialEq, Eq, PartialOrd, Ord, Hash)]
 pub struct InvalidBmpString {
+    /// The character.
     pub character: u32,
 }
 
@@ -37,6 +38,7 @@ impl fmt::Display for InvalidBmpString {
 /// A character that `GeneralString` may not hold (X.680 41).
 #[derive(Clone, Copy, Debug, PartialEq, Eq, PartialOrd, Ord, Hash)]
 pub struct InvalidGeneralString {
+    /// The character.
     pub character: u32,
 }
 
@@ -63,6 +65,7 @@ impl fmt::Display for InvalidGeneralString {
 /// A character that `GraphicString` may not hold (X.680 41).
 #[derive(Clone, Copy, Debug, PartialEq, Eq, PartialOrd, Ord, Hash)]
 pub struct InvalidGraphicString {
+    /// The character.
     pub character: u32,
 }
 
@@ -89,6 +92,7 @@ impl fmt::Display for InvalidGraphicString {
 /// A character that `Ia5String` may not hold (X.680 41).
 #[derive(Clone, Copy, Debug, PartialEq, Eq, PartialOrd, Ord, Hash)]
 pub struct InvalidIA5String {
+    /// The character.
     pub character: u32,
 }
 
@@ -115,6 +119,7 @@ impl fmt::Display for InvalidIA5String {
 /// A character that `NumericString` may not hold (X.680 41).
 #[derive(Clone, Copy, Debug, PartialEq, Eq, PartialOrd, Ord, Hash)]
 pub struct InvalidNumericString {
+    /// The character.
     pub character: u32,
 }
 
@@ -141,6 +146,7 @@ impl fmt::Display for InvalidNumericString {
 /// A character that `PrintableString` may not hold (X.680 41).
 #[derive(Clone, Copy, Debug, PartialEq, Eq, PartialOrd, Ord, Hash)]
 pub struct InvalidPrintableString {
+    /// The character.
     pub character: u32,
 }
 
@@ -167,6 +173,7 @@ impl fmt::Display for InvalidPrintableString {
 /// A character that `TeletexString` may not hold (X.680 41).
 #[derive(Clone, Copy, Debug, PartialEq, Eq, PartialOrd, Ord, Hash)]
 pub struct InvalidTeletexString {
+    /// The character.
     pub character: u32,
 }
 
@@ -193,6 +200,7 @@ impl fmt::Display for InvalidTeletexString {
 /// A character that `VisibleString` may not hold (X.680 41).
 #[derive(Clone, Copy, Debug, PartialEq, Eq, PartialOrd, Ord, Hash)]
 pub struct InvalidVisibleString {
+    /// The character.
     pub character: u32,
 }
 
@@ -219,13 +227,21 @@ impl fmt::Display for InvalidVisibleString {
 /// A character that one of the eight strings may not hold, by the string's own error.
 #[derive(Clone, Copy, Debug, PartialEq, Eq, PartialOrd, Ord, Hash)]
 pub enum InvalidRestrictedString {
+    /// Of `BmpString`.
     InvalidBmpString(InvalidBmpString),
+    /// Of `GeneralString`.
     InvalidGeneralString(InvalidGeneralString),
+    /// Of `GraphicString`.
     InvalidGraphicString(InvalidGraphicString),
+    /// Of `Ia5String`.
     InvalidIA5String(InvalidIA5String),
+    /// Of `NumericString`.
     InvalidNumericString(InvalidNumericString),
+    /// Of `PrintableString`.
     InvalidPrintableString(InvalidPrintableString),
+    /// Of `TeletexString`.
     InvalidTeletexString(InvalidTeletexString),
+    /// Of `VisibleString`.
     InvalidVisibleString(InvalidVisibleString),
 }
 

@@ -95,6 +95,6 @@ Decodes alphabet k result =
     MatchResult result (λ c. IsCode alphabet c k)
     (λ e. (e ≡ uncoded_error alphabet k) × ((c : ℕ) → ¬ (IsCode alphabet c k)))
 
--- the set never falls and is long enough for a search by halves
+-- the set is ascending, no character below the one before it, and long enough for a search by halves
 abbrev pub IsLongAscending : List ℕ → Type 0
 IsLongAscending set = IsNonDecreasing set × (64 < length set)

@@ -28,18 +28,18 @@ pub record HasWords (set : List ℕ) (words : CharacterWords) : Type 0 where
 abbrev pub IsRun : List ℕ → Type 0
 IsRun set = set ≡ range_with_len (slice_index set 0) (length set)
 
--- What the fields of an alphabet say of the set that counts. `sorted` is of permitted sets alone: a
+-- What the fields of an alphabet say of the set that counts. `ascending` is of permitted sets alone: a
 -- base set needs no search, since none that is written by places has more than 64 characters.
 pub record IsKnown (name : CharacterSetName) (kept : Bool) (set : Bor (List ℕ)) (width : ℕ)
-    (indexed listed sorted run : Bool) (words : Option CharacterWords) : Type 0 where
+    (indexed listed ascending run : Bool) (words : Option CharacterWords) : Type 0 where
   pub narrow : width ≤ 32
   pub few : length (set_of name (some_if kept set)) ≤ 2 ^ 32
   pub room : length (set_of name (some_if kept set)) ≤ 2 ^ width
   pub by_place : indexed ≡ is_indexed width (set_of name (some_if kept set))
   pub listing : listed ≡ true → set.now ≡ set_of name (some_if kept set)
   pub unlisted : listed ≡ false → kept ≡ false
-  pub rises : sorted ≡ true → IsNonDecreasing (set_of name (some_if kept set))
-  pub falls : sorted ≡ false → kept ≡ true → ¬ (IsNonDecreasing (set_of name (some_if kept set)))
+  pub ascends : ascending ≡ true → IsNonDecreasing (set_of name (some_if kept set))
+  pub not_ascending : ascending ≡ false → kept ≡ true → ¬ (IsNonDecreasing (set_of name (some_if kept set)))
   pub gapless : run ≡ true → IsRun (set_of name (some_if kept set))
   pub runs_listed : run ≡ true → listed ≡ true
   pub few_places : kept ≡ false → indexed ≡ true → length (set_of name (some_if kept set)) ≤ 64

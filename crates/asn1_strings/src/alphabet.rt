@@ -1,5 +1,5 @@
 //! The alphabets that characters are written in (X.691 30.5).
-ghost use Rattle.std.specs.Prelude.{◌≡◌, ◌≢◌, ◌≤◌, ◌+◌, ◌<◌, ◌^◌, ℕ, Bool, true, false, AllPairs, length, slice_get, is_some, Some, OnSome, OnOk, MatchBool, MatchOption};
+ghost use Rattle.std.specs.Prelude.{◌≡◌, ◌≢◌, ◌≤◌, ◌+◌, ◌<◌, ◌^◌, ℕ, true, false, AllPairs, length, slice_get, is_some, Some, OnSome, OnOk, MatchBool, MatchOption};
 ghost use Rattle.std.specs.Option.{ForSome, option_copied};
 ghost use Rattle.std.specs.List.Sorted.{IsNonDecreasing};
 ghost use Rattle.asn1_characters.specs.Sets.{base_set, has_character, largest};
@@ -39,8 +39,8 @@ pub struct CharacterAlphabet<'s> {
     kept: bool,
     // Whether `set` lists the set that counts. Else it is empty.
     listed: bool,
-    // Whether the permitted set never falls.
-    sorted: bool,
+    // Whether the permitted set is ascending: no character is below the one before it.
+    ascending: bool,
     // Whether `set` lists the set that counts, and leaves no gap.
     run: bool,
     // Whether the words are those of the set that counts: where its characters are below 256, and
@@ -48,7 +48,7 @@ pub struct CharacterAlphabet<'s> {
     worded: bool,
     set: &'s [u32],
     words: CharacterWords,
-    ghost known: { IsKnown name kept set width indexed listed sorted run (some_if worded words) },
+    ghost known: { IsKnown name kept set width indexed listed ascending run (some_if worded words) },
 }
 
 impl<'s> CharacterAlphabet<'s> {
@@ -73,7 +73,7 @@ impl<'s> CharacterAlphabet<'s> {
         let run = listing.run;
         let largest = largest_in(name, permitted, run);
         let indexed = codes_of(width) <= largest as u64;
-        let sorted = is_sorted(name, permitted, run);
+        let ascending = ascends_in(name, permitted, run);
         let (worded, words) = parts_of_words(words_of(name, permitted, run, largest));
         CharacterAlphabet {
             name,
@@ -81,7 +81,7 @@ impl<'s> CharacterAlphabet<'s> {
             indexed,
             kept: listing.kept,
             listed: listing.listed,
-            sorted,
+            ascending,
             run,
             worded,
             set: listing.set,
@@ -108,7 +108,8 @@ impl<'s> CharacterAlphabet<'s> {
         self.encode_counted(character, &mut Turns::new())
     }
 
-    /// As `encode`. In a set of more than 64 characters that never falls it makes few probes.
+    /// As `encode`. In an ascending set of more than 64 characters it makes at most
+    /// w + 1 probes, w being the least width in which its characters have codes.
     #[inline]
     pub fn encode_counted(
         &self,
@@ -166,7 +167,7 @@ impl<'s> CharacterAlphabet<'s> {
             IsCode (alphabet_of self.now) c k → j ≡ k }
     {
         match self.permitted() {
-            Some(set) => repeats_in(set, self.sorted),
+            Some(set) => repeats_in(set, self.ascending),
             None => false,
         }
     }
@@ -221,7 +222,7 @@ impl<'s> CharacterAlphabet<'s> {
             probes.new.count ≤ probes.old.count + (ceil_log2 (length set) + 1) }
     {
         match self.permitted() {
-            Some(set) => place_by_looks(set, self.sorted, character, probes).is_some(),
+            Some(set) => place_by_looks(set, self.ascending, character, probes).is_some(),
             None => self.name.contains(character),
         }
     }
@@ -240,7 +241,7 @@ impl<'s> CharacterAlphabet<'s> {
             OnSome result (probes.old.count + 1 ≤ probes.new.count) }
     {
         match self.permitted() {
-            Some(set) => place_among(set, self.run, self.sorted, character, probes),
+            Some(set) => place_among(set, self.run, self.ascending, character, probes),
             None => self.name.place_of(character),
         }
     }
@@ -279,19 +280,19 @@ fn place_in_run(set: &[u32], character: u32, probes: &mut Turns) -> Option<u32>
     }
 }
 
-// A place of the character, by halves where the set is long and never falls.
+// A place of the character, by halves where the set is long and ascending.
 #[inline]
 fn place_among(
     set: &[u32],
     run: bool,
-    sorted: bool,
+    ascending: bool,
     character: u32,
     probes: &mut Turns,
 ) -> Option<u32>
     requires few { length set.now ≤ 2 ^ 32 }
     requires gapless { run ≡ true → IsRun set.now }
-    requires rises { sorted ≡ true → IsNonDecreasing set.now }
-    requires falls { sorted ≡ false → ¬ (IsNonDecreasing set.now) }
+    requires ascends { ascending ≡ true → IsNonDecreasing set.now }
+    requires not_ascending { ascending ≡ false → ¬ (IsNonDecreasing set.now) }
     ensures place { MatchOption result (has_character set.now character ≡ false)
         (λ k. slice_get set.now k ≡ Some character) }
     ensures counts { probes.old.count ≤ probes.new.count }
@@ -303,16 +304,16 @@ fn place_among(
     if run {
         place_in_run(set, character, probes)
     } else {
-        place_by_looks(set, sorted, character, probes)
+        place_by_looks(set, ascending, character, probes)
     }
 }
 
-// A place of the character: by halves where the list is long and never falls, else one by one.
+// A place of the character: by halves where the list is long and ascending, else one by one.
 #[inline(never)]
-fn place_by_looks(set: &[u32], sorted: bool, character: u32, probes: &mut Turns) -> Option<u32>
+fn place_by_looks(set: &[u32], ascending: bool, character: u32, probes: &mut Turns) -> Option<u32>
     requires few { length set.now ≤ 2 ^ 32 }
-    requires rises { sorted ≡ true → IsNonDecreasing set.now }
-    requires falls { sorted ≡ false → ¬ (IsNonDecreasing set.now) }
+    requires ascends { ascending ≡ true → IsNonDecreasing set.now }
+    requires not_ascending { ascending ≡ false → ¬ (IsNonDecreasing set.now) }
     ensures place { MatchOption result (has_character set.now character ≡ false)
         (λ k. slice_get set.now k ≡ Some character) }
     ensures counts { probes.old.count ≤ probes.new.count }
@@ -321,7 +322,7 @@ fn place_by_looks(set: &[u32], sorted: bool, character: u32, probes: &mut Turns)
     ensures looked { IsLongAscending set.now →
         OnSome result (probes.old.count + 1 ≤ probes.new.count) }
 {
-    if sorted && set.len() > 64 {
+    if ascending && set.len() > 64 {
         let place = find_ascending(&mut Looks::at(set), character, probes)?;
         Some(place as u32)
     } else {
@@ -373,12 +374,13 @@ fn largest_in(name: CharacterSetName, kept: Option<&[u32]>, run: bool) -> u32
     }
 }
 
-// Whether a permitted set that was kept never falls.
+// Whether a permitted set that was kept is ascending.
 #[inline]
-fn is_sorted(name: CharacterSetName, kept: Option<&[u32]>, run: bool) -> bool
+fn ascends_in(name: CharacterSetName, kept: Option<&[u32]>, run: bool) -> bool
     requires { run ≡ true → IsRun (set_of name kept) }
-    ensures rises { result ≡ true → IsNonDecreasing (set_of name kept.entry) }
-    ensures falls { result ≡ false → is_some kept.entry ≡ true → ¬ (IsNonDecreasing (set_of name kept.entry)) }
+    ensures ascends { result ≡ true → IsNonDecreasing (set_of name kept.entry) }
+    ensures not_ascending { result ≡ false → is_some kept.entry ≡ true →
+        ¬ (IsNonDecreasing (set_of name kept.entry)) }
 {
     match kept {
         Some(set) => run || is_ascending(set),

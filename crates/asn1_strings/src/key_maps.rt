@@ -1,5 +1,5 @@
 //! Maps from keys to characters, by which strings are read.
-ghost use Rattle.std.specs.Prelude.{◌≡◌, ◌≤◌, ◌^◌, ℕ, List, length, map as map_of, slice_index, unwrap_or};
+ghost use Rattle.std.specs.Prelude.{◌≡◌, ◌≤◌, ◌^◌, length, map as map_of, unwrap_or};
 ghost use Rattle.asn1_bits.specs.BitStr.{bits_of};
 ghost use Rattle.asn1_bits.specs.Bits.{number};
 ghost use Rattle.asn1_strings.specs.Pieces.{pieces};

@@ -30,7 +30,8 @@ impl<K: StringKind> Model for RestrictedString<K> {
 
     ghost view = { λ s. map K.T.value s.units.items };
 
-    ghost invariant = { λ s. All (λ c. has_character (base_set K.NAME) c ≡ true) (map K.T.value s.units.items) };
+    ghost invariant = { λ s. All (λ c. has_character (base_set K.NAME) c ≡ true)
+        (map K.T.value s.units.items) };
 }
 
 impl<K: StringKind> StaticPermittedAlphabet for RestrictedString<K> {

@@ -1,4 +1,4 @@
-//! Search by halves in lists that never fall.
+//! Search by halves in ascending lists, in which no entry is below the one before it.
 ghost use Rattle.std.specs.Prelude.{◌≡◌, ◌≤◌, ◌+◌, ◌<◌, ℕ, false, List, length, slice_get, slice_index, Some, OnSome, MatchOption};
 ghost use Rattle.std.specs.List.Sorted.{IsNonDecreasing};
 ghost use Rattle.asn1_characters.specs.Sets.{has_character};
@@ -65,7 +65,7 @@ impl<'a> Entries for Looks<'a> {
     }
 }
 
-/// A place of the character in a list that never falls, and None where the list lacks it. Among N
+/// A place of the character in an ascending list, and None where the list lacks it. Among N
 /// entries it makes at most w + 1 probes, w being the least width in which N things have codes, and
 /// at least one where it answers a place. Each probe is a look at the list.
 pub fn find_ascending<L: Entries>(

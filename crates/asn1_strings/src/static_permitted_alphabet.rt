@@ -1,5 +1,5 @@
 //! What the eight strings have in common.
-ghost use Rattle.std.specs.Prelude.{◌≡◌, ◌≢◌, ◌≤◌, ◌^◌, ◌==◌, ◌⊎◌, ℕ, Bool, true, List, [], ◌∷◌, ◌++◌, length, map, All, Ok, None, OnOk, OnErr, string_bytes};
+ghost use Rattle.std.specs.Prelude.{◌≡◌, ◌≢◌, ◌≤◌, ◌^◌, ◌⊎◌, ℕ, Bool, true, List, [], ◌∷◌, ◌++◌, length, map, All, Ok, None, OnOk, OnErr, string_bytes};
 ghost use Rattle.asn1_bits.specs.BitStr.{bits_of};
 ghost use Rattle.asn1_characters.specs.Sets.{base_set, base_count, base_largest, base_width, base_indexed, has_character};
 ghost use Rattle.std.specs.Option.{ForSome, option_copied};
@@ -87,13 +87,15 @@ pub trait StaticPermittedAlphabet: Sized + Drop {
 
     /// The string of these units, each of which the caller knows to be in the set.
     fn from_units(units: Vec<Self::T>) -> Self
-        requires { All (λ c. has_character (base_set CHARACTER_SET_NAME) c ≡ true) (map Self.T.value units.items) }
+        requires { All (λ c. has_character (base_set CHARACTER_SET_NAME) c ≡ true)
+            (map Self.T.value units.items) }
         ensures { characters result ≡ map Self.T.value units.items };
 
     /// Its characters, in their order.
     fn chars(&self) -> Chars<'_, Self::T>
         ensures list { result ≡ characters self.now }
-        ensures in_set { All (λ c. has_character (base_set CHARACTER_SET_NAME) c ≡ true) (characters self.now) };
+        ensures in_set { All (λ c. has_character (base_set CHARACTER_SET_NAME) c ≡ true)
+            (characters self.now) };
 
     /// Whether the set has the character: by one look, and for `BmpString` by its range.
     fn contains_char(character: u32) -> bool
@@ -279,7 +281,8 @@ fn copied<S: StaticPermittedAlphabet, C: Characters>(
     alloc: Global,
     source: &C,
 ) -> Result<S, PermittedAlphabetError>
-    requires { All (λ c. has_character (base_set S.CHARACTER_SET_NAME) c ≡ true) (C.list source.now) }
+    requires { All (λ c. has_character (base_set S.CHARACTER_SET_NAME) c ≡ true)
+        (C.list source.now) }
     ensures { Answers S.characters result (Ok (C.list source.now)) }
 {
     let count = source.count();

@@ -1,5 +1,5 @@
 //! Permitted alphabets: widths, codes and refusals.
-ghost use Rattle.std.specs.Prelude.{◌≡◌, ◌≤◌, ◌^◌, ◌<◌, ℕ, length};
+ghost use Rattle.std.specs.Prelude.{◌≤◌, ◌^◌, length};
 ghost use Rattle.std.specs.Option.{ForSome, option_copied};
 
 use crate::permitted_set::is_ascending;
