@@ -1,4 +1,6 @@
 //! Octet strings.
+ghost use Rattle.std.specs.Prelude.{◌≡◌, ◌∷◌, []};
+
 use crate::{FixedOctetString, OctetString};
 use bytes::Bytes;
 use std::collections::HashSet;
@@ -64,10 +66,17 @@ fn fixed_octet_strings_have_their_length(rt: HostRuntime) -> Result<(), Fail> {
     Ok(())
 }
 
+// Writes through the array that the string lends; the clause says that the string ends with it.
+fn overwrite(string: &mut FixedOctetString<2>)
+    ensures { string.new.octets ≡ 7 ∷ 8 ∷ [] }
+{
+    **string = [7, 8];
+}
+
 #[test]
 fn fixed_octet_strings_lend_their_array(rt: HostRuntime) {
     let mut string: FixedOctetString<2> = FixedOctetString::new([1, 2]);
-    *string = [7, 8];
+    overwrite(&mut string);
     assert!(rt; *string == [7u8, 8]);
     assert!(rt; string == FixedOctetString::new([7, 8]));
 }

@@ -5,8 +5,8 @@ ghost use Rattle.std.specs.Option.{ForSome, option_copied};
 use crate::permitted_set::is_ascending;
 use crate::{
     BmpString, CharacterAlphabet, Entries, Ia5String, InvalidIA5String, InvalidNumericString,
-    InvalidRestrictedString, NumericString, PermittedAlphabetError, StaticPermittedAlphabet,
-    find_ascending, should_be_indexed,
+    InvalidRestrictedString, NumericString, PermittedAlphabetError, PrintableString,
+    StaticPermittedAlphabet, VisibleString, find_ascending, should_be_indexed,
 };
 use asn1_bits::Turns;
 use std::mem::size_of;
@@ -47,7 +47,23 @@ fn answers<S: StaticPermittedAlphabet>(
 )
     requires { ForSome (option_copied permitted) (λ set. length set ≤ 2 ^ 32) }
 {
-    let alphabet = CharacterAlphabet::new::<S>(permitted, false);
+    answers_as::<S>(permitted, false, character, code)
+}
+
+// The same in either variant.
+fn answers_as<S: StaticPermittedAlphabet>(
+    permitted: Option<&[u32]>,
+    aligned: bool,
+    character: u32,
+    code: u32,
+) -> (
+    Result<u32, PermittedAlphabetError>,
+    Result<u32, PermittedAlphabetError>,
+    bool,
+)
+    requires { ForSome (option_copied permitted) (λ set. length set ≤ 2 ^ 32) }
+{
+    let alphabet = CharacterAlphabet::new::<S>(permitted, aligned);
     (
         alphabet.encode(character),
         alphabet.decode(code),
@@ -79,6 +95,9 @@ fn base_sets_have_codes(rt: HostRuntime) {
     let source = InvalidRestrictedString::InvalidNumericString(InvalidNumericString {
         character: 120,
     });
+    assert!(rt; refused == Err(PermittedAlphabetError::InvalidRestrictedString { source }));
+    assert!(rt; uncoded == no_place(11) && !repeats);
+    let (refused, uncoded, repeats) = answers_as::<NumericString>(None, true, 120, 11);
     assert!(rt; refused == Err(PermittedAlphabetError::InvalidRestrictedString { source }));
     assert!(rt; uncoded == no_place(11) && !repeats);
     let (refused, uncoded, repeats) = answers::<Ia5String>(None, 200, 200);
@@ -127,12 +146,26 @@ fn a_set_is_kept_where_it_saves_bits(rt: HostRuntime) {
 
 #[test]
 fn characters_and_codes_that_are_not_there_are_named(rt: HostRuntime) {
+    writes::<Ia5String>(&rt, Some(&[]), false, 0, &[]);
     let (refused, uncoded, repeats) = answers::<Ia5String>(Some(&[]), 99, 0);
     assert!(rt; refused == missing(99) && uncoded == missing(0) && !repeats);
+    let (refused, _, _) = answers::<Ia5String>(Some(&[]), 0, 0);
+    assert!(rt; refused == missing(0));
     let (refused, uncoded, _) = answers::<Ia5String>(Some(&[0, 1, 2, 3]), 4, 5);
     assert!(rt; refused == missing(4) && uncoded == missing(5));
     let (refused, uncoded, _) = answers::<Ia5String>(Some(&[122, 97, 109]), 98, 3);
     assert!(rt; refused == missing(98) && uncoded == no_place(3));
+}
+
+#[test]
+fn sets_with_gaps_have_codes(rt: HostRuntime) {
+    writes::<Ia5String>(&rt, Some(&[33, 35, 38]), false, 2, &[(33, 0), (38, 2)]);
+    writes::<Ia5String>(&rt, Some(&[0, 1, 3]), false, 2, &[(0, 0), (3, 3)]);
+    let (refused, uncoded, _) = answers::<Ia5String>(Some(&[0, 1, 3]), 2, 2);
+    assert!(rt; refused == missing(2) && uncoded == missing(2));
+    writes::<VisibleString>(&rt, None, false, 7, &[(0x20, 0x20), (0x7E, 0x7E)]);
+    writes::<PrintableString>(&rt, None, true, 8, &[(0x3F, 0x3F), (0x7A, 0x7A)]);
+    writes::<BmpString>(&rt, None, false, 16, &[(0, 0), (0xFFFD, 0xFFFD)]);
 }
 
 #[test]

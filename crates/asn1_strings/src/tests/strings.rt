@@ -166,3 +166,32 @@ fn a_wrong_character_in_bits_is_named(rt: HostRuntime) -> Result<(), Fail> {
     assert!(rt; VisibleString::try_from_bits(rt.alloc(), bits, 7).err() == Some(refusal(visible)));
     Ok(())
 }
+
+#[test]
+fn refusals_of_calls_are_printed(rt: HostRuntime) -> Result<(), Fail> {
+    let alloc = rt.alloc();
+    let at = PrintableString::try_from_slice(alloc, b"ab@c#")
+        .err()
+        .ok_or("at")?;
+    let text = format!(in alloc; "{at}")?;
+    assert!(rt;
+        text.as_str()
+            == "Invalid alphabet constrained string: Invalid printable string, character decimal value: 64"
+    );
+    let odd = BmpString::try_from_slice(alloc, &[0x00, 0x41, 0x20])
+        .err()
+        .ok_or("odd")?;
+    let text = format!(in alloc; "{odd}")?;
+    assert!(rt;
+        text.as_str() == "length of bits (3) provided not divisible by character width (2)"
+    );
+    let none = Ia5String::try_from_slice_with_width(alloc, &[], 0)
+        .err()
+        .ok_or("none")?;
+    let text = format!(in alloc; "{none}")?;
+    assert!(rt;
+        text.as_str()
+            == "error converting to string: Character set width set to zero when parsing string IA5String"
+    );
+    Ok(())
+}
