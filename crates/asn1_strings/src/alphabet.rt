@@ -43,8 +43,7 @@ pub struct CharacterAlphabet<'s> {
     ascending: bool,
     // Whether `set` lists the set that counts, and leaves no gap.
     run: bool,
-    // Whether the words are those of the set that counts: where its characters are below 256, and
-    // leave gaps.
+    // Whether the words are those of the set that counts. Then its characters are below 256.
     worded: bool,
     set: &'s [u32],
     words: CharacterWords,
