@@ -209,7 +209,7 @@ fn bmp_string_to_bytes(rt: HostRuntime) -> Result<(), Fail> {
     let Some(string) = twos::<BmpString>(rt.alloc()) else {
         return met_before(&rt, "BmpString::to_bytes");
     };
-    match string.to_bytes(rt.alloc()) {
+    match string.to_bytes() {
         Ok(octets) => assert_eq!(rt; octets.as_slice(), TWOS.as_slice()),
         Err(_) => met(&rt, "BmpString::to_bytes")?,
     }
@@ -222,7 +222,7 @@ fn teletex_string_to_bytes(rt: HostRuntime) -> Result<(), Fail> {
     let Some(string) = twos::<TeletexString>(rt.alloc()) else {
         return met_before(&rt, "TeletexString::to_bytes");
     };
-    match string.to_bytes(rt.alloc()) {
+    match string.to_bytes() {
         Ok(octets) => assert_eq!(rt; octets.as_slice(), TWOS.as_slice()),
         Err(_) => met(&rt, "TeletexString::to_bytes")?,
     }
@@ -260,7 +260,7 @@ fn empty_strings_ask_for_nothing(rt: HostRuntime) -> Result<(), Fail> {
     assert_eq!(rt; empty.clone()?.len(), 0);
     assert_eq!(rt;
         BmpString::try_from_str(rt.alloc(), "")?
-            .to_bytes(rt.alloc())?
+            .to_bytes()?
             .len(),
         0
     );

@@ -1,23 +1,23 @@
 -- What is known of alphabets in memory.
-use Rattle.std.proofs.Common.{◌≡◌, ℕ, ◌≤◌, ◌^◌, Bool, true, false, leb, List, length, Option, Some, None, lit≤, ◌<◌, refl, sym, arith}
+use Rattle.std.proofs.Common.{◌≡◌, ℕ, ◌≤◌, ◌^◌, Bool, true, false, ◌&&◌, leb, ltb, List, length, Option, Some, None, lit≤, ◌<◌, refl, sym, arith, inl, inr}
 use Rattle.std.specs.Prelude.{◌≢◌}
 use Rattle.std.specs.List.{slice_get}
+use Rattle.std.proofs.lemmas.Bool.{cases_lt}
+use Rattle.std.proofs.lemmas.Bool.Decides.{nat_tests}
 use Rattle.std.specs.Option.{MatchOption}
-use Rattle.asn1_strings.specs.Words.{in_words}
-use Rattle.asn1_strings.specs.SetLaws.{not_above}
-use Rattle.asn1_strings.specs.AlphabetLaws.{stands_in, code_fits}
-use Rattle.asn1_strings.specs.AlphabetView.{alphabet_of}
-use Rattle.asn1_strings.specs.declared.alphabet.CharacterAlphabet.{CharacterAlphabet}
+use Rattle.asn1_characters.specs.Words.{in_words}
+use Rattle.asn1_characters.specs.SetLaws.{not_above}
+use Rattle.asn1_strings.specs.AlphabetLaws.{stands_in}
 use Rattle.std.specs.Borrow.{Bor}
 use Rattle.std.specs.Option.{is_some, ForSome, option_copied}
-use Rattle.asn1_strings.specs.Sets.{base_set, has_character, largest}
-use Rattle.asn1_strings.specs.Widths.{ceil_log2, least_from, width_for}
-use Rattle.asn1_strings.specs.Alphabet.{IsCode, is_indexed}
-use Rattle.asn1_strings.specs.AlphabetInMemory.{set_of, HasWords}
-use Rattle.asn1_strings.proofs.SetLemmas.{length-base_set, largest-base_set, few_in_base, largest_small}
-use Rattle.asn1_strings.specs.declared.character_set.CharacterSetName.{CharacterSetName}
-use Rattle.asn1_strings.specs.declared.character_words.CharacterWords.{CharacterWords}
-use Rattle.asn1_strings.specs.declared.character_set.CharacterSetName.TheVariants.{Bmp, General, Graphic, IA5, Numeric, Printable, Teletex, Visible}
+use Rattle.asn1_characters.specs.Sets.{base_set, has_character, largest}
+use Rattle.asn1_characters.specs.Widths.{ceil_log2, least_from, width_for}
+use Rattle.asn1_strings.specs.Alphabet.{is_indexed}
+use Rattle.asn1_strings.specs.AlphabetInMemory.{some_if, set_of, HasWords}
+use Rattle.asn1_characters.specs.TableLaws.{length-base_set, largest-base_set, few_in_base, largest_small}
+use Rattle.asn1_characters.specs.declared.character_set.CharacterSetName.{CharacterSetName}
+use Rattle.asn1_characters.specs.declared.character_words.CharacterWords.{CharacterWords}
+use Rattle.asn1_characters.specs.declared.character_set.CharacterSetName.TheVariants.{Bmp, General, Graphic, IA5, Numeric, Printable, Teletex, Visible}
 
 -- how many characters the sets have, and the largest of each
 abbrev count_in_table : CharacterSetName → ℕ
@@ -95,15 +95,27 @@ none_is false none = refl
 pub none_from : (set : List ℕ) (c : ℕ) → largest set < 256 → 256 ≤ c → has_character set c ≡ false
 none_from set c below ge = none_is (has_character set c) (λ has. let most = not_above set c has in omega arith)
 
+-- words tell what their set has, below 256 and above
+pub has_by_words : (set : List ℕ) (words : CharacterWords) (c : ℕ) → HasWords set words → (ltb c 256 && in_words words.words c) ≡ has_character set c
+has_by_words set words c worded = elim (cases_lt c 256) [
+  | inl lt ↦ (let below : ltb c 256 ≡ true = grind (arith, nat_tests) in rw below (worded.same c lt))
+  | inr ge ↦ (let above : ltb c 256 ≡ false = grind (arith, nat_tests) in rw above (sym (none_from set c worded.below ge)))
+]
+
 -- a place was found exactly where the set has the character
 pub found_is : (set : List ℕ) (c : ℕ) (o : Option ℕ) → MatchOption o (has_character set c ≡ false) (λ k. slice_get set k ≡ Some c) → is_some o ≡ has_character set c
 found_is set c None none = sym none
 found_is set c (Some k) place = sym (stands_in set k c place)
 
+-- what is kept is there, and else nothing is
+pub is_some_if : {A : Type 0} (kept : Bool) (value : A) (o : Option A) → some_if kept value ≡ o → kept ≡ true → is_some o ≡ true
+is_some_if true value o same told = rw (sym same) refl
+is_some_if false value o same told = cc
+
+pub none_if : {A : Type 0} (kept : Bool) (value : A) (o : Option A) → some_if kept value ≡ o → kept ≡ false → is_some o ≡ false
+none_if true value o same told = cc
+none_if false value o same told = rw (sym same) refl
+
 -- words that are there, and have the set's characters
 pub some_words : (set : List ℕ) (words : CharacterWords) → HasWords set words → ForSome (Some words) (HasWords set)
 some_words set words worded x e = let is : words ≡ x = cc in rw is at worded
-
--- every code of an alphabet fits its width
-pub codes_fit : (a : CharacterAlphabet) (c k : ℕ) → IsCode (alphabet_of a) c k → k < 2 ^ (alphabet_of a).width
-codes_fit a c k code = code_fits (alphabet_of a) c k a.known.room a.known.by_place code

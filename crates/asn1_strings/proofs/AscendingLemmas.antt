@@ -3,13 +3,13 @@ use Rattle.std.proofs.Common.{◌≡◌, ℕ, suc, zero, ◌+◌, ◌-◌, ◌*�
 use Rattle.std.proofs.Math.Pow.{pow_pos}
 use Rattle.std.proofs.lemmas.Bool.{cases_lt}
 use Rattle.std.proofs.lemmas.Bool.Decides.{nat_tests}
-use Rattle.asn1_strings.specs.Sets.{has_character}
-use Rattle.asn1_strings.specs.Widths.{ceil_log2}
+use Rattle.asn1_characters.specs.Sets.{has_character}
+use Rattle.asn1_characters.specs.Widths.{ceil_log2}
 use Rattle.std.specs.Prelude.{◌≢◌}
 use Rattle.std.specs.List.{AllPairs}
 use Rattle.std.specs.List.Sorted.{IsNonDecreasing}
 use Rattle.std.proofs.lemmas.List.{get_or_default}
-use Rattle.asn1_strings.specs.WidthLaws.{twice, ceil_log2_is_least}
+use Rattle.asn1_characters.specs.WidthLaws.{twice, ceil_log2_is_least}
 
 -- where a character is sought, and how many probes are left
 pub record Searching (list : List ℕ) (low high character start probes limit : ℕ) : Type 0 where
@@ -34,7 +34,7 @@ halved m half (suc b) some le lt =
     let grown : 2 ^ suc b ≡ 2 ^ b * 2 = ap (λ e. 2 ^ e) (let e : suc b ≡ b + 1 = omega arith in e) ∙ twice b in
     record { left = b; one_less = omega arith; narrow = omega arith }
 
-pub starts : (list : List ℕ) (character probes : ℕ) → Searching list 0 (length list) character probes probes (probes + ceil_log2 (length list) + 1)
+pub starts : (list : List ℕ) (character probes : ℕ) → Searching list 0 (length list) character probes probes (probes + (ceil_log2 (length list) + 1))
 starts list character probes =
     let w = ceil_log2 (length list) in
     let least = ceil_log2_is_least (length list) in

@@ -3,13 +3,13 @@ use Rattle.std.proofs.Common.{◌≡◌, ℕ, suc, ◌*◌, ◌%◌, ◌<◌, tr
 use Rattle.std.specs.List.{All, flat_map}
 use Rattle.std.specs.Int.{w16, to_be_bytes}
 use Rattle.std.proofs.lemmas.List.{length-append}
-use Rattle.asn1_strings.specs.Sets.{base_set, has_character}
-use Rattle.asn1_strings.specs.SetLaws.{below_limit}
+use Rattle.asn1_characters.specs.Sets.{base_set, has_character}
+use Rattle.asn1_characters.specs.SetLaws.{below_limit}
 use Rattle.asn1_strings.specs.Pieces.{pieces, unsigned}
 use Rattle.asn1_strings.specs.PieceLaws.{pieces_cons}
 use Rattle.asn1_strings.specs.Strings.{string_of_octets}
 use Rattle.asn1_strings.proofs.StringLemmas.{string_of_right}
-use Rattle.asn1_strings.specs.declared.character_set.CharacterSetName.TheVariants.{Bmp}
+use Rattle.asn1_characters.specs.declared.character_set.CharacterSetName.TheVariants.{Bmp}
 
 -- the number of a character's two octets
 pair_number : (c : ℕ) → c < 65536 → unsigned (to_be_bytes w16 c) ≡ c

@@ -3,14 +3,14 @@ use Rattle.std.proofs.Common.{◌≡◌, ℕ, suc, ◌<◌, Bool, true, false, n
 use Rattle.std.specs.Option.{option_map_or, unwrap_or}
 use Rattle.std.specs.List.{filter_map}
 use Rattle.std.proofs.lemmas.List.{length-map, get_or-map}
-use Rattle.asn1_strings.specs.Sets.{base_set, has_character}
-use Rattle.asn1_strings.specs.Errors.{own_error}
+use Rattle.asn1_characters.specs.Sets.{base_set, has_character}
+use Rattle.asn1_characters.specs.Errors.{own_error}
 use Rattle.asn1_strings.specs.Strings.{string_of_characters}
 use Rattle.asn1_strings.specs.Maps.{is_wrong_key, key_error, string_of_keys}
 use Rattle.asn1_strings.proofs.StringLemmas.{find_first, find_nothing, string_of_right}
-use Rattle.asn1_strings.specs.declared.character_set.CharacterSetName.{CharacterSetName}
-use Rattle.asn1_strings.specs.declared.error.PermittedAlphabetError.{PermittedAlphabetError}
-use Rattle.asn1_strings.specs.declared.error.PermittedAlphabetError.TheVariants.{IndexNotFound, InvalidRestrictedString}
+use Rattle.asn1_characters.specs.declared.character_set.CharacterSetName.{CharacterSetName}
+use Rattle.asn1_characters.specs.declared.error.PermittedAlphabetError.{PermittedAlphabetError}
+use Rattle.asn1_characters.specs.declared.error.PermittedAlphabetError.TheVariants.{IndexNotFound, InvalidRestrictedString}
 
 -- what is read where the search for a wrong key ends so
 abbrev after_search : CharacterSetName → (ℕ → Option ℕ) → List ℕ → Option ℕ → Result (List ℕ) PermittedAlphabetError

@@ -1,6 +1,3 @@
-pub mod SetLemmas
-pub mod PlaceLemmas
-pub mod WordLemmas
 pub mod StringLemmas
 pub mod PieceLemmas
 pub mod TextLemmas
@@ -11,3 +8,4 @@ pub mod RepeatLemmas
 pub mod AlphabetLemmas
 pub mod RunLemmas
 pub mod OctetLemmas
+pub mod WidthLemmas

@@ -10,10 +10,10 @@ use Rattle.std.specs.Int.{w16, from_be_bytes}
 use Rattle.std.specs.Simd.{first_chunks}
 use Rattle.std.proofs.lemmas.Bool.Decides.{nat_tests}
 use Rattle.std.proofs.lemmas.List.Sums.{AllPass-from_list_all}
-use Rattle.asn1_strings.specs.Sets.{base_set, has_character}
+use Rattle.asn1_characters.specs.Sets.{base_set, has_character}
 use Rattle.asn1_strings.specs.Pieces.{pieces, unsigned}
 use Rattle.asn1_strings.specs.PieceLaws.{pieces_cons}
-use Rattle.asn1_strings.specs.declared.character_set.CharacterSetName.{CharacterSetName}
+use Rattle.asn1_characters.specs.declared.character_set.CharacterSetName.{CharacterSetName}
 
 one : (x : ℕ) → unsigned (x ∷ []) ≡ x
 unfolding unsigned
@@ -50,8 +50,3 @@ pub string_of_whole : (name : CharacterSetName) (w : ℕ) (octets : List ℕ) �
 string_of_whole name w octets some even right =
     let width : eqb w 0 ≡ false = grind (arith, nat_tests) in
     rw (width, even) (string_of_right name (map unsigned (pieces w octets)) (λ k h. right k 0 h))
-
--- the test of an octet by ranges of `PrintableString`
-abbrev pub is_printable : ℕ → Bool
-is_printable c =
-    leb 97 (bit_or c 32) && leb (bit_or c 32) 122 || leb 39 c && leb c 58 && not (eqb c 42) || eqb c 32 || eqb c 61 || eqb c 63

@@ -5,8 +5,9 @@ use Rattle.std.specs.List.Sorted.{IsNonDecreasing}
 use Rattle.std.proofs.lemmas.List.{ext_get_or}
 use Rattle.std.proofs.lemmas.List.FromFn.{length-range_with_len, get_or-range_with_len}
 use Rattle.std.proofs.lemmas.Option.{slice_get-get_or}
-use Rattle.asn1_strings.specs.Sets.{has_character}
-use Rattle.asn1_strings.specs.SetLaws.{has_in_run}
+use Rattle.asn1_characters.specs.Sets.{has_character, largest}
+use Rattle.asn1_characters.specs.SetLaws.{has_in_run}
+use Rattle.asn1_characters.specs.TableLaws.{run_largest}
 use Rattle.asn1_strings.specs.AlphabetInMemory.{IsRun}
 
 -- each character is as far from the first as its place
@@ -37,3 +38,13 @@ run_rises set run i j d le lt =
     let low : get_or set i d ≡ first + i = ap (λ s. get_or s i d) run ∙ get_or-range_with_len first (length set) i d (omega arith) in
     let high : get_or set j d ≡ first + j = ap (λ s. get_or s j d) run ∙ get_or-range_with_len first (length set) j d lt in
     omega arith
+
+-- the last character of a run is its largest
+pub run_ends : (set : List ℕ) → IsRun set → get_or set (length set - 1) 0 ≡ largest set
+run_ends [] run = refl
+run_ends (x ∷ xs) run =
+    let n = length xs in
+    let at : length (x ∷ xs) - 1 ≡ n = omega arith in
+    let place : get_or (x ∷ xs) n 0 ≡ x + n = ap (λ s. get_or s n 0) run ∙ get_or-range_with_len x (length (x ∷ xs)) n 0 (omega arith) in
+    let most : largest (x ∷ xs) ≡ x + n = ap largest run ∙ run_largest n 0 x ∙ omega arith in
+    rw at (place ∙ sym most)

@@ -3,11 +3,11 @@ use Rattle.std.proofs.Common.{◌≡◌, ℕ, suc, zero, ◌<◌, Bool, true, fa
 use Rattle.std.specs.List.{All, find}
 use Rattle.std.specs.Option.{option_map_or}
 use Rattle.std.proofs.lemmas.List.{get_or_default}
-use Rattle.asn1_strings.specs.Sets.{base_set, has_character}
-use Rattle.asn1_strings.specs.Errors.{own_error}
+use Rattle.asn1_characters.specs.Sets.{base_set, has_character}
+use Rattle.asn1_characters.specs.Errors.{own_error}
 use Rattle.asn1_strings.specs.Strings.{string_of_characters}
-use Rattle.asn1_strings.specs.declared.character_set.CharacterSetName.{CharacterSetName}
-use Rattle.asn1_strings.specs.declared.error.PermittedAlphabetError.TheVariants.{InvalidRestrictedString}
+use Rattle.asn1_characters.specs.declared.character_set.CharacterSetName.{CharacterSetName}
+use Rattle.asn1_characters.specs.declared.error.PermittedAlphabetError.TheVariants.{InvalidRestrictedString}
 
 pub find_first : (p : ℕ → Bool) (xs : List ℕ) (i : ℕ) → i < length xs → ((k : ℕ) → k < i → p (get_or xs k 0) ≡ false) → p (get_or xs i 0) ≡ true → find p xs ≡ Some (get_or xs i 0)
 find_first p [] i lt before here = absurd (omega arith)

@@ -1,12 +1,12 @@
 -- The alphabets that characters are written in (X.691 30.5).
 use Rattle.std.specs.Prelude.{◌≡◌, ◌^◌, ◌<◌, ◌||◌, ℕ, Bool, true, List, length, max, Option, Some, None, Result, nat_le, nat_lt, slice_get, MatchBool, MatchResult, if◌then◌else◌}
 use Rattle.std.specs.List.Sorted.{IsNonDecreasing}
-use Rattle.asn1_strings.specs.Widths.{ceil_log2, align, width_for}
-use Rattle.asn1_strings.specs.Sets.{base_set, base_width, base_indexed, has_character, largest}
-use Rattle.asn1_strings.specs.Errors.{own_error}
-use Rattle.asn1_strings.specs.declared.character_set.CharacterSetName.{CharacterSetName}
-use Rattle.asn1_strings.specs.declared.error.PermittedAlphabetError.{PermittedAlphabetError}
-use Rattle.asn1_strings.specs.declared.error.PermittedAlphabetError.TheVariants.{CharacterNotFound, IndexNotFound, InvalidRestrictedString}
+use Rattle.asn1_characters.specs.Widths.{ceil_log2, align, width_for}
+use Rattle.asn1_characters.specs.Sets.{base_set, base_width, base_indexed, has_character, largest}
+use Rattle.asn1_characters.specs.Errors.{own_error}
+use Rattle.asn1_characters.specs.declared.character_set.CharacterSetName.{CharacterSetName}
+use Rattle.asn1_characters.specs.declared.error.PermittedAlphabetError.{PermittedAlphabetError}
+use Rattle.asn1_characters.specs.declared.error.PermittedAlphabetError.TheVariants.{CharacterNotFound, IndexNotFound, InvalidRestrictedString}
 
 -- where an alphabet's set comes from, which says how it refuses: it is a permitted set, or the base
 -- set of a string
@@ -95,6 +95,6 @@ Decodes alphabet k result =
     MatchResult result (λ c. IsCode alphabet c k)
     (λ e. (e ≡ uncoded_error alphabet k) × ((c : ℕ) → ¬ (IsCode alphabet c k)))
 
--- the set never falls and is long enough for a search by halves
+-- the set is ascending, no character below the one before it, and long enough for a search by halves
 abbrev pub IsLongAscending : List ℕ → Type 0
 IsLongAscending set = IsNonDecreasing set × (64 < length set)

@@ -1,14 +1,14 @@
 -- What is known of an alphabet in memory.
-use Rattle.std.specs.Prelude.{◌≡◌, ◌^◌, ◌<◌, ◌≤◌, ℕ, Bool, true, false, List, length, slice_index, Option, Some, None, is_some}
+use Rattle.std.specs.Prelude.{◌≡◌, ◌^◌, ◌<◌, ◌≤◌, ℕ, Bool, true, false, List, length, slice_index, Option, Some, None}
 use Rattle.std.specs.List.{range_with_len}
 use Rattle.std.specs.Option.{ForSome, option_copied}
 use Rattle.std.specs.Borrow.{Bor}
 use Rattle.std.specs.List.Sorted.{IsNonDecreasing}
-use Rattle.asn1_strings.specs.Sets.{has_character, largest}
-use Rattle.asn1_strings.specs.Words.{in_words}
+use Rattle.asn1_characters.specs.Sets.{has_character, largest}
+use Rattle.asn1_characters.specs.Words.{in_words}
 use Rattle.asn1_strings.specs.Alphabet.{counting_set, is_indexed}
-use Rattle.asn1_strings.specs.declared.character_set.CharacterSetName.{CharacterSetName}
-use Rattle.asn1_strings.specs.declared.character_words.CharacterWords.{CharacterWords}
+use Rattle.asn1_characters.specs.declared.character_set.CharacterSetName.{CharacterSetName}
+use Rattle.asn1_characters.specs.declared.character_words.CharacterWords.{CharacterWords}
 
 -- the value, where there is one
 abbrev pub some_if : {A : Type 0} → Bool → A → Option A
@@ -28,17 +28,19 @@ pub record HasWords (set : List ℕ) (words : CharacterWords) : Type 0 where
 abbrev pub IsRun : List ℕ → Type 0
 IsRun set = set ≡ range_with_len (slice_index set 0) (length set)
 
--- What the fields of an alphabet say of its set. `sorted` is of permitted sets alone: a base set
--- needs no search, since
--- none that is written by places has more than 64 characters.
-pub record IsKnown (name : CharacterSetName) (kept : Option (Bor (List ℕ))) (width : ℕ)
-    (indexed sorted run : Bool) (words : Option CharacterWords) : Type 0 where
+-- What the fields of an alphabet say of the set that counts. `ascending` is of permitted sets alone: a
+-- base set needs no search, since none that is written by places has more than 64 characters.
+pub record IsKnown (name : CharacterSetName) (kept : Bool) (set : Bor (List ℕ)) (width : ℕ)
+    (indexed listed ascending run : Bool) (words : Option CharacterWords) : Type 0 where
   pub narrow : width ≤ 32
-  pub few : length (set_of name kept) ≤ 2 ^ 32
-  pub room : length (set_of name kept) ≤ 2 ^ width
-  pub by_place : indexed ≡ is_indexed width (set_of name kept)
-  pub rises : sorted ≡ true → IsNonDecreasing (set_of name kept)
-  pub falls : sorted ≡ false → is_some kept ≡ true → ¬ (IsNonDecreasing (set_of name kept))
-  pub gapless : run ≡ true → IsRun (set_of name kept)
-  pub few_places : is_some kept ≡ false → indexed ≡ true → length (set_of name kept) ≤ 64
-  pub worded : ForSome words (HasWords (set_of name kept))
+  pub few : length (set_of name (some_if kept set)) ≤ 2 ^ 32
+  pub room : length (set_of name (some_if kept set)) ≤ 2 ^ width
+  pub by_place : indexed ≡ is_indexed width (set_of name (some_if kept set))
+  pub listing : listed ≡ true → set.now ≡ set_of name (some_if kept set)
+  pub unlisted : listed ≡ false → kept ≡ false
+  pub ascends : ascending ≡ true → IsNonDecreasing (set_of name (some_if kept set))
+  pub not_ascending : ascending ≡ false → kept ≡ true → ¬ (IsNonDecreasing (set_of name (some_if kept set)))
+  pub gapless : run ≡ true → IsRun (set_of name (some_if kept set))
+  pub runs_listed : run ≡ true → listed ≡ true
+  pub few_places : kept ≡ false → indexed ≡ true → length (set_of name (some_if kept set)) ≤ 64
+  pub worded : ForSome words (HasWords (set_of name (some_if kept set)))

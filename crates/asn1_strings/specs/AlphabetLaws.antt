@@ -6,8 +6,8 @@ use Rattle.std.proofs.lemmas.Bool.{cases_lt, false≢true}
 use Rattle.std.proofs.lemmas.Bool.Decides.{nat_tests}
 use Rattle.std.proofs.lemmas.Option.{slice_get_within, slice_get-get_or}
 use Rattle.std.proofs.lemmas.Map.Keys.{any_passes_from_place}
-use Rattle.asn1_strings.specs.Sets.{has_character}
-use Rattle.asn1_strings.specs.SetLaws.{not_above}
+use Rattle.asn1_characters.specs.Sets.{has_character}
+use Rattle.asn1_characters.specs.SetLaws.{not_above}
 use Rattle.asn1_strings.specs.Alphabet.{Alphabet, IsCode, is_indexed}
 
 -- what stands at a place is in the set

@@ -1,10 +1,11 @@
-pub mod Widths
-pub mod WidthLaws
-pub mod Sets
-pub mod Texts
-pub mod Errors
-pub mod Words
-pub mod SetLaws
+pub use Rattle.asn1_characters.specs.Widths
+pub use Rattle.asn1_characters.specs.WidthLaws
+pub use Rattle.asn1_characters.specs.Sets
+pub use Rattle.asn1_characters.specs.Texts
+pub use Rattle.asn1_characters.specs.Errors
+pub use Rattle.asn1_characters.specs.Words
+pub use Rattle.asn1_characters.specs.SetLaws
+pub use Rattle.asn1_characters.specs.TableLaws
 pub mod Pieces
 pub mod PieceLaws
 pub mod Strings
@@ -14,3 +15,4 @@ pub mod Alphabet
 pub mod AlphabetInMemory
 pub mod AlphabetView
 pub mod AlphabetLaws
+pub mod AlphabetViewLaws

@@ -4,14 +4,14 @@ use Rattle.std.specs.Option.{option_map_or}
 use Rattle.std.specs.Ordering.{nat_cmp}
 use Rattle.std.specs.BTreeMap.{BTreeMap, btree_map_len, get, values}
 use Rattle.asn1_bits.specs.Bits.{number}
-use Rattle.asn1_strings.specs.Widths.{ceil_log2}
-use Rattle.asn1_strings.specs.Sets.{base_set, base_count, base_largest, has_character, largest}
+use Rattle.asn1_characters.specs.Widths.{ceil_log2}
+use Rattle.asn1_characters.specs.Sets.{base_set, base_count, base_largest, has_character, largest}
 use Rattle.asn1_strings.specs.Pieces.{pieces}
-use Rattle.asn1_strings.specs.Errors.{own_error}
+use Rattle.asn1_characters.specs.Errors.{own_error}
 use Rattle.asn1_strings.specs.Strings.{Reading, string_of_characters}
-use Rattle.asn1_strings.specs.declared.character_set.CharacterSetName.{CharacterSetName}
-use Rattle.asn1_strings.specs.declared.error.PermittedAlphabetError.{PermittedAlphabetError}
-use Rattle.asn1_strings.specs.declared.error.PermittedAlphabetError.TheVariants.{InvalidData, IndexNotFound, InvalidRestrictedString}
+use Rattle.asn1_characters.specs.declared.character_set.CharacterSetName.{CharacterSetName}
+use Rattle.asn1_characters.specs.declared.error.PermittedAlphabetError.{PermittedAlphabetError}
+use Rattle.asn1_characters.specs.declared.error.PermittedAlphabetError.TheVariants.{InvalidData, IndexNotFound, InvalidRestrictedString}
 
 -- what strings read of a map: how many entries it has, its largest character, or 0, and the
 -- character of each key

@@ -1,7 +1,7 @@
 -- Laws of the first character that a set lacks.
 use Rattle.std.proofs.Common.{◌≡◌, ℕ, suc, zero, ◌<◌, Bool, true, false, List, [], ◌∷◌, length, get_or, Option, Some, None, refl, sym, arith}
 use Rattle.std.specs.List.{slice_get}
-use Rattle.asn1_strings.specs.Sets.{has_character}
+use Rattle.asn1_characters.specs.Sets.{has_character}
 use Rattle.asn1_strings.specs.Strings.{first_outside}
 
 -- c stands at a place, the set lacks it, and has every character before that place

@@ -2,13 +2,13 @@
 use Rattle.std.specs.Prelude.{◌≡◌, ◌≢◌, ◌%◌, ◌==◌, ℕ, Bool, not, List, [], length, map, find, Option, Result, Ok, Err, if◌then◌else◌}
 use Rattle.std.specs.Option.{option_map_or}
 use Rattle.asn1_bits.specs.Bits.{number}
-use Rattle.asn1_strings.specs.Sets.{base_set, has_character}
+use Rattle.asn1_characters.specs.Sets.{base_set, has_character}
 use Rattle.asn1_strings.specs.Pieces.{pieces, unsigned}
-use Rattle.asn1_strings.specs.Errors.{own_error}
-use Rattle.asn1_strings.specs.declared.character_set.CharacterSetName.{CharacterSetName}
-use Rattle.asn1_strings.specs.declared.character_set.CharacterSetName.TheVariants.{Bmp, General, Graphic, IA5, Numeric, Printable, Teletex, Visible}
-use Rattle.asn1_strings.specs.declared.error.PermittedAlphabetError.{PermittedAlphabetError}
-use Rattle.asn1_strings.specs.declared.error.PermittedAlphabetError.TheVariants.{Other, InvalidData, IndexNotFound, CharacterNotFound, InvalidRestrictedString, Memory}
+use Rattle.asn1_characters.specs.Errors.{own_error}
+use Rattle.asn1_characters.specs.declared.character_set.CharacterSetName.{CharacterSetName}
+use Rattle.asn1_characters.specs.declared.character_set.CharacterSetName.TheVariants.{Bmp, General, Graphic, IA5, Numeric, Printable, Teletex, Visible}
+use Rattle.asn1_characters.specs.declared.error.PermittedAlphabetError.{PermittedAlphabetError}
+use Rattle.asn1_characters.specs.declared.error.PermittedAlphabetError.TheVariants.{Other, InvalidData, IndexNotFound, CharacterNotFound, InvalidRestrictedString, Memory}
 
 -- what is read: the characters of a string, or its refusal
 abbrev pub Reading : Type 0

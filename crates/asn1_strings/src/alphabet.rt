@@ -1,20 +1,22 @@
 //! The alphabets that characters are written in (X.691 30.5).
-ghost use Rattle.std.specs.Prelude.{◌≡◌, ◌≢◌, ◌≤◌, ◌+◌, ◌<◌, ◌^◌, ℕ, Bool, true, false, AllPairs, length, slice_get, is_some, Some, OnSome, OnOk, MatchBool, MatchOption};
+ghost use Rattle.std.specs.Prelude.{◌≡◌, ◌≢◌, ◌≤◌, ◌+◌, ◌<◌, ◌^◌, ℕ, true, false, AllPairs, length, slice_get, is_some, Some, OnSome, OnOk, MatchBool, MatchOption};
 ghost use Rattle.std.specs.Option.{ForSome, option_copied};
 ghost use Rattle.std.specs.List.Sorted.{IsNonDecreasing};
-ghost use Rattle.asn1_strings.specs.Sets.{base_set, has_character, largest};
-ghost use Rattle.asn1_strings.specs.Widths.{ceil_log2};
+ghost use Rattle.asn1_characters.specs.Sets.{base_set, has_character, largest};
+ghost use Rattle.asn1_characters.specs.Widths.{ceil_log2};
 ghost use Rattle.asn1_strings.specs.Alphabet.{is_indexed, kept_set, effective, IsCode, missing_error, Encodes, Decodes, IsLongAscending};
 ghost use Rattle.asn1_strings.specs.AlphabetInMemory.{some_if, set_of, HasWords, IsKnown, IsRun};
 
-use crate::character_set::CharacterSetName;
-use crate::character_words::CharacterWords;
-use crate::error::{InvalidRestrictedString, PermittedAlphabetError};
-use crate::permitted_set::{is_ascending, is_run, largest_of, place_in, repeats_in};
-use crate::search::find_ascending;
+use crate::permitted_set::{
+    is_ascending, is_run, largest_of, largest_of_run, place_in, repeats_in,
+};
+use crate::search::{Looks, find_ascending};
 use crate::static_permitted_alphabet::StaticPermittedAlphabet;
 use crate::widths::{align, ceil_log2, codes_of, width_for};
 use asn1_bits::Turns;
+use asn1_characters::{
+    CharacterSetName, CharacterWords, InvalidRestrictedString, PermittedAlphabetError,
+};
 
 /// Whether characters of a set are written by their places in `width` bits, since its largest
 /// character does not fit them. The largest of no characters is 0.
@@ -35,16 +37,17 @@ pub struct CharacterAlphabet<'s> {
     indexed: bool,
     // Whether a permitted set is kept. Else the base set of `name` counts.
     kept: bool,
-    // Whether the permitted set never falls.
-    sorted: bool,
-    // Whether the characters of the permitted set follow one another without a gap.
+    // Whether `set` lists the set that counts. Else it is empty.
+    listed: bool,
+    // Whether the permitted set is ascending: no character is below the one before it.
+    ascending: bool,
+    // Whether `set` lists the set that counts, and leaves no gap.
     run: bool,
-    // Whether the words are those of the set that counts: where its characters are below 256, and
-    // leave gaps.
+    // Whether the words are those of the set that counts. Then its characters are below 256.
     worded: bool,
     set: &'s [u32],
     words: CharacterWords,
-    ghost known: { IsKnown name (some_if kept set) width indexed sorted run (some_if worded words) },
+    ghost known: { IsKnown name kept set width indexed listed ascending run (some_if worded words) },
 }
 
 impl<'s> CharacterAlphabet<'s> {
@@ -53,6 +56,7 @@ impl<'s> CharacterAlphabet<'s> {
     /// The alphabet of the string `S` with a permitted set, which is kept where the string is
     /// written by places or needs more bits than the set does. Else the base set alone counts. A
     /// kept set may hold characters that the base set lacks.
+    #[inline]
     pub fn new<S: StaticPermittedAlphabet>(
         permitted: Option<&'s [u32]>,
         aligned: bool,
@@ -64,26 +68,28 @@ impl<'s> CharacterAlphabet<'s> {
         let name = S::CHARACTER_SET_NAME;
         let permitted = kept_set(name, permitted, aligned);
         let width = width_for(aligned, count_of(name, permitted));
-        let largest = largest_in(name, permitted);
+        let listing = listing_of(name, permitted);
+        let run = listing.run;
+        let largest = largest_in(name, permitted, run);
         let indexed = codes_of(width) <= largest as u64;
-        let run = is_run_in(name, permitted);
-        let sorted = is_sorted(name, permitted, run);
-        let (kept, set) = parts_of_set(permitted);
+        let ascending = ascends_in(name, permitted, run);
         let (worded, words) = parts_of_words(words_of(name, permitted, run, largest));
         CharacterAlphabet {
             name,
             width: width as u8,
             indexed,
-            kept,
-            sorted,
+            kept: listing.kept,
+            listed: listing.listed,
+            ascending,
             run,
             worded,
-            set,
+            set: listing.set,
             words,
         }
     }
 
     /// How many bits each character takes, at most 32.
+    #[inline]
     pub fn width(&self) -> usize
         ensures value { result ≡ (alphabet_of self.now).width }
         ensures bound { result ≤ 32 }
@@ -101,7 +107,8 @@ impl<'s> CharacterAlphabet<'s> {
         self.encode_counted(character, &mut Turns::new())
     }
 
-    /// As `encode`. In a set of more than 64 characters that never falls it makes few probes.
+    /// As `encode`. In an ascending set of more than 64 characters it makes at most
+    /// w + 1 probes, w being the least width in which its characters have codes.
     #[inline]
     pub fn encode_counted(
         &self,
@@ -132,7 +139,10 @@ impl<'s> CharacterAlphabet<'s> {
     /// the set is refused as by `encode`.
     #[inline]
     pub fn decode(&self, code: u32) -> Result<u32, PermittedAlphabetError>
-        ensures { Decodes (alphabet_of self.now) code result }
+        ensures character { Decodes (alphabet_of self.now) code result }
+        // No code is of two characters.
+        ensures of_one { let alphabet = alphabet_of self.now in
+            (c d : ℕ) → IsCode alphabet c code → IsCode alphabet d code → c ≡ d }
     {
         if self.indexed {
             match self.character_at(code) {
@@ -156,7 +166,7 @@ impl<'s> CharacterAlphabet<'s> {
             IsCode (alphabet_of self.now) c k → j ≡ k }
     {
         match self.permitted() {
-            Some(set) => repeats_in(set, self.sorted),
+            Some(set) => repeats_in(set, self.ascending),
             None => false,
         }
     }
@@ -169,15 +179,9 @@ impl<'s> CharacterAlphabet<'s> {
         if self.kept { Some(self.set) } else { None }
     }
 
-    // The words of the set that counts, where it has any.
-    #[inline]
-    fn words(&self) -> Option<CharacterWords>
-        ensures { result ≡ some_if self.now.worded self.now.words }
-    {
-        if self.worded { Some(self.words) } else { None }
-    }
-
     // The error for a character that the set lacks.
+    #[cold]
+    #[inline(never)]
     fn missing(&self, character: u32) -> PermittedAlphabetError
         ensures { result ≡ missing_error (alphabet_of self.now) character }
     {
@@ -189,7 +193,8 @@ impl<'s> CharacterAlphabet<'s> {
         }
     }
 
-    // Whether the set has the character: by its words where it has any.
+    // Whether the set has the character: by its ends where it leaves no gap, by its words where it has
+    // any.
     #[inline]
     fn contains(&self, character: u32, probes: &mut Turns) -> bool
         ensures value { result ≡ has_character (alphabet_of self.now).characters character }
@@ -197,12 +202,27 @@ impl<'s> CharacterAlphabet<'s> {
         ensures cost { let set = (alphabet_of self.now).characters in
             IsLongAscending set → probes.new.count ≤ probes.old.count + ceil_log2 (length set) + 1 }
     {
-        match self.words() {
-            Some(words) => character < 256 && words.contains(character),
-            None => match self.permitted() {
-                Some(set) => place_among(set, self.run, self.sorted, character, probes).is_some(),
-                None => self.name.contains(character),
-            },
+        if self.run {
+            return place_in_run(self.set, character, probes).is_some();
+        }
+        if self.worded {
+            return self.words.contains(character);
+        }
+        self.contains_by_looks(character, probes)
+    }
+
+    // Whether the set has the character: by looks at a permitted set, else by the base set's range.
+    #[inline(never)]
+    fn contains_by_looks(&self, character: u32, probes: &mut Turns) -> bool
+        ensures value { result ≡ has_character (alphabet_of self.now).characters character }
+        ensures counts { probes.old.count ≤ probes.new.count }
+        ensures cost { let set = (alphabet_of self.now).characters in
+            IsLongAscending set →
+            probes.new.count ≤ probes.old.count + (ceil_log2 (length set) + 1) }
+    {
+        match self.permitted() {
+            Some(set) => place_by_looks(set, self.ascending, character, probes).is_some(),
+            None => self.name.contains(character),
         }
     }
 
@@ -220,7 +240,7 @@ impl<'s> CharacterAlphabet<'s> {
             OnSome result (probes.old.count + 1 ≤ probes.new.count) }
     {
         match self.permitted() {
-            Some(set) => place_among(set, self.run, self.sorted, character, probes),
+            Some(set) => place_among(set, self.run, self.ascending, character, probes),
             None => self.name.place_of(character),
         }
     }
@@ -230,9 +250,10 @@ impl<'s> CharacterAlphabet<'s> {
     fn character_at(&self, place: u32) -> Option<u32>
         ensures { result ≡ slice_get (alphabet_of self.now).characters place }
     {
-        match self.permitted() {
-            Some(set) => set.get(place as usize).copied(),
-            None => self.name.character_at(place),
+        if self.listed {
+            self.set.get(place as usize).copied()
+        } else {
+            self.name.character_at(place)
         }
     }
 }
@@ -258,30 +279,50 @@ fn place_in_run(set: &[u32], character: u32, probes: &mut Turns) -> Option<u32>
     }
 }
 
-// A place of the character, by halves where the set is long and never falls.
+// A place of the character, by halves where the set is long and ascending.
 #[inline]
 fn place_among(
     set: &[u32],
     run: bool,
-    sorted: bool,
+    ascending: bool,
     character: u32,
     probes: &mut Turns,
 ) -> Option<u32>
     requires few { length set.now ≤ 2 ^ 32 }
     requires gapless { run ≡ true → IsRun set.now }
-    requires rises { sorted ≡ true → IsNonDecreasing set.now }
-    requires falls { sorted ≡ false → ¬ (IsNonDecreasing set.now) }
+    requires ascends { ascending ≡ true → IsNonDecreasing set.now }
+    requires not_ascending { ascending ≡ false → ¬ (IsNonDecreasing set.now) }
     ensures place { MatchOption result (has_character set.now character ≡ false)
         (λ k. slice_get set.now k ≡ Some character) }
     ensures counts { probes.old.count ≤ probes.new.count }
     ensures cost { IsLongAscending set.now →
         probes.new.count ≤ probes.old.count + ceil_log2 (length set.now) + 1 }
-    ensures looked { IsLongAscending set.now → OnSome result (probes.old.count + 1 ≤ probes.new.count) }
+    ensures looked { IsLongAscending set.now →
+        OnSome result (probes.old.count + 1 ≤ probes.new.count) }
 {
     if run {
         place_in_run(set, character, probes)
-    } else if sorted && set.len() > 64 {
-        let place = find_ascending(&set, character, probes)?;
+    } else {
+        place_by_looks(set, ascending, character, probes)
+    }
+}
+
+// A place of the character: by halves where the list is long and ascending, else one by one.
+#[inline(never)]
+fn place_by_looks(set: &[u32], ascending: bool, character: u32, probes: &mut Turns) -> Option<u32>
+    requires few { length set.now ≤ 2 ^ 32 }
+    requires ascends { ascending ≡ true → IsNonDecreasing set.now }
+    requires not_ascending { ascending ≡ false → ¬ (IsNonDecreasing set.now) }
+    ensures place { MatchOption result (has_character set.now character ≡ false)
+        (λ k. slice_get set.now k ≡ Some character) }
+    ensures counts { probes.old.count ≤ probes.new.count }
+    ensures cost { IsLongAscending set.now →
+        probes.new.count ≤ probes.old.count + (ceil_log2 (length set.now) + 1) }
+    ensures looked { IsLongAscending set.now →
+        OnSome result (probes.old.count + 1 ≤ probes.new.count) }
+{
+    if ascending && set.len() > 64 {
+        let place = find_ascending(&mut Looks::at(set), character, probes)?;
         Some(place as u32)
     } else {
         place_in(set, character)
@@ -289,6 +330,7 @@ fn place_among(
 }
 
 // The permitted set, where it is kept.
+#[inline]
 fn kept_set<'s>(
     name: CharacterSetName,
     permitted: Option<&'s [u32]>,
@@ -308,6 +350,7 @@ fn kept_set<'s>(
 }
 
 // How many characters the set that counts has.
+#[inline]
 fn count_of(name: CharacterSetName, kept: Option<&[u32]>) -> u64
     ensures { result ≡ length (set_of name kept.entry) }
 {
@@ -318,20 +361,25 @@ fn count_of(name: CharacterSetName, kept: Option<&[u32]>) -> u64
 }
 
 // The largest character of the set that counts.
-fn largest_in(name: CharacterSetName, kept: Option<&[u32]>) -> u32
+#[inline]
+fn largest_in(name: CharacterSetName, kept: Option<&[u32]>, run: bool) -> u32
+    requires { run ≡ true → IsRun (set_of name kept) }
     ensures { result ≡ largest (set_of name kept.entry) }
 {
     match kept {
+        Some(set) if run => largest_of_run(set),
         Some(set) => largest_of(set),
         None => name.largest(),
     }
 }
 
-// Whether a permitted set that was kept never falls.
-fn is_sorted(name: CharacterSetName, kept: Option<&[u32]>, run: bool) -> bool
+// Whether a permitted set that was kept is ascending.
+#[inline]
+fn ascends_in(name: CharacterSetName, kept: Option<&[u32]>, run: bool) -> bool
     requires { run ≡ true → IsRun (set_of name kept) }
-    ensures rises { result ≡ true → IsNonDecreasing (set_of name kept.entry) }
-    ensures falls { result ≡ false → is_some kept.entry ≡ true → ¬ (IsNonDecreasing (set_of name kept.entry)) }
+    ensures ascends { result ≡ true → IsNonDecreasing (set_of name kept.entry) }
+    ensures not_ascending { result ≡ false → is_some kept.entry ≡ true →
+        ¬ (IsNonDecreasing (set_of name kept.entry)) }
 {
     match kept {
         Some(set) => run || is_ascending(set),
@@ -339,17 +387,8 @@ fn is_sorted(name: CharacterSetName, kept: Option<&[u32]>, run: bool) -> bool
     }
 }
 
-// Whether a permitted set that was kept leaves no gap.
-fn is_run_in(name: CharacterSetName, kept: Option<&[u32]>) -> bool
-    ensures { result ≡ true → IsRun (set_of name kept.entry) }
-{
-    match kept {
-        Some(set) => is_run(set),
-        None => false,
-    }
-}
-
 // The words of the set that counts, where its characters are below 256.
+#[inline]
 fn words_of(
     name: CharacterSetName,
     kept: Option<&[u32]>,
@@ -369,17 +408,63 @@ fn words_of(
     }
 }
 
-// Whether a permitted set is kept, and the set, or none.
-fn parts_of_set<'s>(kept: Option<&'s [u32]>) -> (bool, &'s [u32])
-    ensures { some_if result.0 result.1 ≡ kept.entry }
+// How the set that counts lies in memory: whether it is a permitted set, whether `set` lists it, and
+// whether that leaves no gap.
+#[derive(Clone, Copy)]
+struct Listing<'s> {
+    kept: bool,
+    listed: bool,
+    run: bool,
+    set: &'s [u32],
+}
+
+// How the set that counts lies in memory.
+#[inline]
+fn listing_of<'s>(name: CharacterSetName, kept: Option<&'s [u32]>) -> Listing<'s>
+    ensures kept { some_if result.kept result.set ≡ kept.entry }
+    ensures listing { result.listed ≡ true → result.set.now ≡ set_of name kept.entry }
+    ensures unlisted { result.listed ≡ false → result.kept ≡ false }
+    ensures gapless { result.run ≡ true → IsRun (set_of name kept.entry) }
+    ensures runs_listed { result.run ≡ true → result.listed ≡ true }
 {
     match kept {
-        Some(set) => (true, set),
-        None => (false, &[]),
+        Some(set) => Listing {
+            kept: true,
+            listed: true,
+            run: is_run(set),
+            set,
+        },
+        None => match name.table() {
+            Some(set) => Listing {
+                kept: false,
+                listed: true,
+                run: leaves_no_gap(name),
+                set,
+            },
+            None => Listing {
+                kept: false,
+                listed: false,
+                run: false,
+                set: &[],
+            },
+        },
+    }
+}
+
+// Whether a base set with a table is known to leave no gap.
+#[inline]
+fn leaves_no_gap(name: CharacterSetName) -> bool
+    ensures { result ≡ true → IsRun (base_set name) }
+{
+    match name {
+        CharacterSetName::IA5 => true,
+        CharacterSetName::Visible => true,
+        _ => false,
     }
 }
 
 // Whether there are words, and the words, or those of no character.
+#[inline]
 fn parts_of_words(words: Option<CharacterWords>) -> (bool, CharacterWords)
     ensures { some_if result.0 result.1 ≡ words }
 {

@@ -3,13 +3,13 @@ ghost use Rattle.std.specs.Prelude.{◌≡◌, ◌≢◌, ◌*◌, [], length, O
 ghost use Rattle.std.specs.List.{flat_map};
 ghost use Rattle.std.specs.Int.{w16, to_be_bytes};
 ghost use Rattle.asn1_strings.specs.Strings.{character_octets, string_of_octets};
-ghost use Rattle.asn1_strings.specs.SetLaws.{below_limit};
-ghost use Rattle.asn1_strings.specs.declared.character_set.CharacterSetName.TheVariants.{Bmp as name};
+ghost use Rattle.asn1_characters.specs.SetLaws.{below_limit};
+ghost use Rattle.asn1_characters.specs.declared.character_set.CharacterSetName.TheVariants.{Bmp as name};
 
-use crate::character_set::CharacterSetName;
 use crate::restricted_string::RestrictedString;
 use crate::string_kind::StringKind;
-use std::alloc::{AllocError, Global};
+use asn1_characters::CharacterSetName;
+use std::alloc::AllocError;
 
 /// The kind of `BmpString`.
 #[derive(Clone, Copy, Debug)]
@@ -32,7 +32,7 @@ pub type BmpString = RestrictedString<Bmp>;
 
 impl RestrictedString<Bmp> {
     /// Two octets for each character, the higher first. Memory is asked for where there are any.
-    pub fn to_bytes(&self, alloc: Global) -> Result<Vec<u8>, AllocError>
+    pub fn to_bytes(&self) -> Result<Vec<u8>, AllocError>
         ensures octets { IfOk result (λ v. v.items ≡ flat_map (to_be_bytes w16) self.now) }
         // `try_from_slice` of them is the same string.
         ensures read_back { let width = character_octets name in
@@ -40,7 +40,7 @@ impl RestrictedString<Bmp> {
         ensures memory { OnErr result (self.now ≢ []) }
     {
         let units = self.as_slice();
-        let mut bytes = Vec::new(alloc);
+        let mut bytes = Vec::new(self.allocator());
         bytes.resize(2 * units.len(), 0)?;
         put_octets(bytes.as_mut_slice(), units);
         Ok(bytes)

@@ -4,10 +4,10 @@ ghost use Rattle.std.specs.Ordering.{nat_cmp};
 ghost use Rattle.std.specs.Cmp.Lexicographic.{pointwise, slice_cmp};
 ghost use Rattle.std.specs.Int.{w16, from_be_bytes};
 ghost use Rattle.std.proofs.Common.{lit≤};
-ghost use Rattle.asn1_strings.specs.Sets.{base_set, has_character};
+ghost use Rattle.asn1_characters.specs.Sets.{base_set, has_character};
 ghost use Rattle.asn1_strings.specs.Pieces.{pieces, unsigned};
 
-use crate::character_set::CharacterSetName;
+use asn1_characters::CharacterSetName;
 use std::alloc::{AllocError, Global};
 use std::cmp::Ordering;
 use std::fmt;
@@ -23,6 +23,7 @@ pub trait CodeUnit: Copy + Drop + fmt::Debug {
     /// The octets of a character in the contents of the string (X.690 8.21).
     ghost OCTETS: { ℕ };
 
+    /// How many octets a character has in the contents of the string (X.690 8.21).
     const OCTETS: usize;
 
     /// The character.
@@ -42,7 +43,8 @@ pub trait CodeUnit: Copy + Drop + fmt::Debug {
 
     /// The units of these octets. Memory is asked for where there are any.
     fn of_octets(alloc: Global, octets: &[u8]) -> Result<Vec<Self>, AllocError>
-        ensures units { IfOk result (λ v. map value v.items ≡ map unsigned (pieces OCTETS octets.now)) }
+        ensures units { IfOk result
+            (λ v. map value v.items ≡ map unsigned (pieces OCTETS octets.now)) }
         ensures memory { OnErr result (map unsigned (pieces OCTETS octets.now) ≢ []) };
 
     /// Whether two runs of units have the same characters.

@@ -1,12 +1,12 @@
 //! `GraphicString`.
 ghost use Rattle.std.specs.Prelude.{refl};
-ghost use Rattle.asn1_strings.specs.SetLaws.{below_limit};
-ghost use Rattle.asn1_strings.specs.declared.character_set.CharacterSetName.TheVariants.{Graphic as name};
+ghost use Rattle.asn1_characters.specs.SetLaws.{below_limit};
+ghost use Rattle.asn1_characters.specs.declared.character_set.CharacterSetName.TheVariants.{Graphic as name};
 
-use crate::character_set::CharacterSetName;
 use crate::octet_kinds::{AsBytes, FromBytes};
 use crate::restricted_string::RestrictedString;
 use crate::string_kind::StringKind;
+use asn1_characters::CharacterSetName;
 
 /// The kind of `GraphicString`.
 #[derive(Clone, Copy, Debug)]

@@ -1,17 +1,16 @@
 //! Maps from keys to characters, by which strings are read.
-ghost use Rattle.std.specs.Prelude.{◌≡◌, ◌≤◌, ◌^◌, ℕ, List, length, map as map_of, slice_index, unwrap_or};
+ghost use Rattle.std.specs.Prelude.{◌≡◌, ◌≤◌, ◌^◌, length, map as map_of, unwrap_or};
 ghost use Rattle.asn1_bits.specs.BitStr.{bits_of};
 ghost use Rattle.asn1_bits.specs.Bits.{number};
 ghost use Rattle.asn1_strings.specs.Pieces.{pieces};
 ghost use Rattle.asn1_strings.specs.Strings.{Answers};
 ghost use Rattle.asn1_strings.specs.Maps.{KeyMap, base_map, map_of_entries, string_of_keys, string_of_map};
 
-use crate::character_set::CharacterSetName;
-use crate::error::PermittedAlphabetError;
 use crate::pieces::{BitPieces, Characters};
 use crate::static_permitted_alphabet::{StaticPermittedAlphabet, string_of};
 use crate::widths::{ceil_log2, codes_of};
 use asn1_bits::BitStr;
+use asn1_characters::{CharacterSetName, PermittedAlphabetError};
 use std::alloc::Global;
 use std::collections::BTreeMap;
 

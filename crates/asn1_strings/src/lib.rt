@@ -1,4 +1,5 @@
-//! Octet strings, the eight restricted character strings and permitted alphabets of ASN.1.
+//! The eight restricted character strings and permitted alphabets of ASN.1, over the base sets and octet strings of
+//! `asn1_characters`, which are passed on.
 //!
 //! A string is a list of characters, each in the base set of its kind (X.680 41). It is read from its contents
 //! (X.690 8.21), a text, bits or an alphabet, whole and in order, or refused by its first wrong piece. An alphabet
@@ -7,19 +8,14 @@
 
 mod alphabet;
 mod bmp_string;
-mod character_set;
-mod character_words;
 mod chars;
 mod code_unit;
-mod error;
-mod fixed_octet_string;
 mod general_string;
 mod graphic_string;
 mod ia5_string;
 mod key_maps;
 mod numeric_string;
 mod octet_kinds;
-mod octet_string;
 mod permitted_set;
 mod pieces;
 mod printable_string;
@@ -33,25 +29,23 @@ mod visible_string;
 mod widths;
 
 pub use alphabet::{CharacterAlphabet, should_be_indexed};
+pub use asn1_characters::{
+    CharacterRanges, CharacterSetName, FixedOctetString, InvalidBmpString, InvalidGeneralString,
+    InvalidGraphicString, InvalidIA5String, InvalidNumericString, InvalidPrintableString,
+    InvalidRestrictedString, InvalidTeletexString, InvalidVisibleString, OctetString,
+    PermittedAlphabetError,
+};
 pub use bmp_string::{Bmp, BmpString};
-pub use character_set::CharacterSetName;
 pub use chars::Chars;
 pub use code_unit::CodeUnit;
-pub use error::{
-    InvalidBmpString, InvalidGeneralString, InvalidGraphicString, InvalidIA5String,
-    InvalidNumericString, InvalidPrintableString, InvalidRestrictedString, InvalidTeletexString,
-    InvalidVisibleString, PermittedAlphabetError,
-};
-pub use fixed_octet_string::FixedOctetString;
 pub use general_string::{General, GeneralString};
 pub use graphic_string::{Graphic, GraphicString};
 pub use ia5_string::{Ia5, Ia5String};
 pub use numeric_string::{Numeric, NumericString};
 pub use octet_kinds::{AsBytes, FromBytes, Iso646};
-pub use octet_string::OctetString;
 pub use printable_string::{Printable, PrintableString};
 pub use restricted_string::RestrictedString;
-pub use search::{Entries, find_ascending};
+pub use search::{Entries, Looks, find_ascending};
 pub use static_permitted_alphabet::StaticPermittedAlphabet;
 pub use string_kind::StringKind;
 pub use teletex_string::{Teletex, TeletexString};

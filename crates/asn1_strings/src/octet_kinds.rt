@@ -1,13 +1,12 @@
 //! What strings have whose characters are octets.
 ghost use Rattle.std.specs.Prelude.{◌≡◌, ◌≢◌, ◌<◌, ℕ, true, [], Some, OnErr, IfOk, IfErr, string_bytes};
-ghost use Rattle.asn1_strings.specs.Sets.{base_set, has_character};
+ghost use Rattle.asn1_characters.specs.Sets.{base_set, has_character};
 ghost use Rattle.asn1_strings.specs.Strings.{Answers, string_of_octets};
 
-use crate::error::PermittedAlphabetError;
-use crate::octet_string::OctetString;
 use crate::restricted_string::RestrictedString;
 use crate::static_permitted_alphabet::StaticPermittedAlphabet;
 use crate::string_kind::StringKind;
+use asn1_characters::{OctetString, PermittedAlphabetError};
 use std::alloc::Global;
 use std::fmt;
 

@@ -1,7 +1,7 @@
 //! Permitted sets: lists of characters in the caller's order.
-ghost use Rattle.std.specs.Prelude.{◌≡◌, ◌≢◌, ◌≤◌, ◌^◌, ℕ, true, false, AllPairs, length, slice_get, Some, MatchBool, MatchOption};
+ghost use Rattle.std.specs.Prelude.{◌≡◌, ◌≢◌, ◌≤◌, ◌^◌, true, false, AllPairs, length, slice_get, Some, MatchBool, MatchOption};
 ghost use Rattle.std.specs.List.Sorted.{IsNonDecreasing};
-ghost use Rattle.asn1_strings.specs.Sets.{has_character, largest};
+ghost use Rattle.asn1_characters.specs.Sets.{has_character, largest};
 ghost use Rattle.asn1_strings.specs.AlphabetInMemory.{IsRun};
 
 // The largest character, or 0.
@@ -13,6 +13,19 @@ pub(crate) fn largest_of(set: &[u32]) -> u32
         most = most.max(*character);
     }
     most
+}
+
+// The largest character of a list without a gap, or 0: its last.
+#[inline]
+pub(crate) fn largest_of_run(set: &[u32]) -> u32
+    requires { IsRun set.now }
+    ensures { result ≡ largest set.now }
+{
+    if set.is_empty() {
+        0
+    } else {
+        set[set.len() - 1]
+    }
 }
 
 // A place of the character.
@@ -29,12 +42,13 @@ pub(crate) fn place_in(set: &[u32], character: u32) -> Option<u32>
     None
 }
 
-// Whether the list has a character twice. One that never falls is walked once.
-pub(crate) fn repeats_in(set: &[u32], sorted: bool) -> bool
-    requires { sorted ≡ true → IsNonDecreasing set.now }
-    ensures { MatchBool result (¬ (AllPairs (λ a b. a ≢ b) set.now)) (AllPairs (λ a b. a ≢ b) set.now) }
+// Whether the list has a character twice. An ascending one is walked once.
+pub(crate) fn repeats_in(set: &[u32], ascending: bool) -> bool
+    requires { ascending ≡ true → IsNonDecreasing set.now }
+    ensures { MatchBool result (¬ (AllPairs (λ a b. a ≢ b) set.now))
+        (AllPairs (λ a b. a ≢ b) set.now) }
 {
-    if sorted {
+    if ascending {
         return repeats_in_ascending(set);
     }
     for i in 0..set.len() {
@@ -46,10 +60,11 @@ pub(crate) fn repeats_in(set: &[u32], sorted: bool) -> bool
     false
 }
 
-// Whether a list that never falls has a character twice: then two neighbours are equal.
+// Whether an ascending list has a character twice: then two neighbours are equal.
 fn repeats_in_ascending(set: &[u32]) -> bool
     requires { IsNonDecreasing set.now }
-    ensures { MatchBool result (¬ (AllPairs (λ a b. a ≢ b) set.now)) (AllPairs (λ a b. a ≢ b) set.now) }
+    ensures { MatchBool result (¬ (AllPairs (λ a b. a ≢ b) set.now))
+        (AllPairs (λ a b. a ≢ b) set.now) }
 {
     for i in 1..set.len() {
         if set[i] == set[i - 1] {
@@ -59,10 +74,10 @@ fn repeats_in_ascending(set: &[u32]) -> bool
     false
 }
 
-// Whether no entry is below the one before it.
+// Whether the list is ascending: no entry is below the one before it.
 pub(crate) fn is_ascending(set: &[u32]) -> bool
-    ensures rises { result ≡ true → IsNonDecreasing set.now }
-    ensures falls { result ≡ false → ¬ (IsNonDecreasing set.now) }
+    ensures ascends { result ≡ true → IsNonDecreasing set.now }
+    ensures not_ascending { result ≡ false → ¬ (IsNonDecreasing set.now) }
 {
     for i in 1..set.len() {
         if set[i] < set[i - 1] {

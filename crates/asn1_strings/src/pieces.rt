@@ -1,5 +1,5 @@
 //! Lists of characters that are read by their places in octets and bits.
-ghost use Rattle.std.specs.Prelude.{◌≡◌, ◌≤◌, ◌+◌, ◌*◌, ◌/◌, ◌%◌, ◌^◌, ◌<◌, ℕ, List, length, map, slice_index};
+ghost use Rattle.std.specs.Prelude.{◌≡◌, ◌≤◌, ◌/◌, ◌<◌, ℕ, List, length, map, slice_index};
 ghost use Rattle.asn1_bits.specs.BitStr.{bits_of};
 ghost use Rattle.asn1_bits.specs.Bits.{number};
 ghost use Rattle.asn1_strings.specs.Pieces.{piece, pieces, unsigned};

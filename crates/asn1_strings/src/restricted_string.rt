@@ -6,13 +6,13 @@ ghost use Rattle.std.specs.Cmp.Lexicographic.{pointwise, slice_cmp, nat_list_eq_
 ghost use Rattle.std.specs.Cmp.{partial_equiv_from_equiv};
 ghost use Rattle.std.specs.Cmp.Rules.{hashing};
 ghost use Rattle.std.proofs.Common.{rules};
-ghost use Rattle.asn1_strings.specs.Sets.{base_set, base_count, base_largest, base_width, base_indexed, has_character};
+ghost use Rattle.asn1_characters.specs.Sets.{base_set, base_count, base_largest, base_width, base_indexed, has_character};
 
-use crate::character_set::CharacterSetName;
 use crate::chars::Chars;
 use crate::code_unit::CodeUnit;
 use crate::static_permitted_alphabet::StaticPermittedAlphabet;
 use crate::string_kind::StringKind;
+use asn1_characters::{CharacterRanges, CharacterSetName};
 use std::alloc::{AllocError, Global};
 use std::cmp::Ordering;
 use std::hash::{Hash, Hasher};
@@ -30,13 +30,16 @@ impl<K: StringKind> Model for RestrictedString<K> {
 
     ghost view = { λ s. map K.T.value s.units.items };
 
-    ghost invariant = { λ s. All (λ c. has_character (base_set K.NAME) c ≡ true) (map K.T.value s.units.items) };
+    ghost invariant = { λ s. All (λ c. has_character (base_set K.NAME) c ≡ true)
+        (map K.T.value s.units.items) };
 }
 
 impl<K: StringKind> StaticPermittedAlphabet for RestrictedString<K> {
     type T = K::T;
 
-    const CHARACTER_SET_RANGES: &'static [(u32, u32)] = CharacterSetName::ranges(K::NAME);
+    ghost CHARACTER_SET_RANGES = { record { name = K.NAME } };
+
+    const CHARACTER_SET_RANGES: CharacterRanges = CharacterRanges::of(K::NAME);
 
     ghost CHARACTER_SET_NAME = { K.NAME };
 
@@ -73,6 +76,9 @@ impl<K: StringKind> StaticPermittedAlphabet for RestrictedString<K> {
     }
 
     fn reserve(&mut self, additional: usize) -> Result<(), AllocError> {
+        if additional == 0 {
+            return Ok(());
+        }
         self.units.reserve(additional)
     }
 
@@ -93,6 +99,8 @@ impl<K: StringKind> StaticPermittedAlphabet for RestrictedString<K> {
     fn chars(&self) -> Chars<'_, K::T> {
         Chars::of(self.units.as_slice())
     }
+
+    ghost ranges = { refl };
 
     ghost count = { refl };
 
@@ -122,12 +130,17 @@ impl<K: StringKind> RestrictedString<K> {
         self.units
     }
 
+    // Where its memory comes from.
+    pub(crate) fn allocator(&self) -> Global {
+        *self.units.allocator()
+    }
+
     /// A copy. Memory is asked for where the string is not empty.
     pub fn clone(&self) -> Result<Self, AllocError>
         ensures same { IfOk result (λ s. s ≡ self.now) }
         ensures memory { OnErr result (self.now ≢ []) }
     {
-        let alloc = *self.units.allocator();
+        let alloc = self.allocator();
         if self.units.is_empty() {
             return Ok(RestrictedString::new(alloc));
         }

@@ -1,8 +1,8 @@
-//! Search by halves in lists that never fall.
+//! Search by halves in ascending lists, in which no entry is below the one before it.
 ghost use Rattle.std.specs.Prelude.{◌≡◌, ◌≤◌, ◌+◌, ◌<◌, ℕ, false, List, length, slice_get, slice_index, Some, OnSome, MatchOption};
 ghost use Rattle.std.specs.List.Sorted.{IsNonDecreasing};
-ghost use Rattle.asn1_strings.specs.Sets.{has_character};
-ghost use Rattle.asn1_strings.specs.Widths.{ceil_log2};
+ghost use Rattle.asn1_characters.specs.Sets.{has_character};
+ghost use Rattle.asn1_characters.specs.Widths.{ceil_log2};
 
 use asn1_bits::Turns;
 
@@ -11,40 +11,79 @@ pub trait Entries {
     /// The list.
     ghost list: { Self → List ℕ };
 
+    /// How many looks at it there were: mostly the `count` of a `Turns` of its own, which each `entry` ticks too.
+    ghost looks: { Self → ℕ };
+
     /// How many entries it has.
     fn count(&self) -> usize
         ensures { result ≡ length (list self.now) };
 
-    /// The entry at a place, with one probe more.
-    fn entry(&self, i: usize, probes: &mut Turns) -> u32
-        requires { i < length (list self.now) }
-        ensures value { result ≡ slice_index (list self.now) i }
+    /// The entry at a place: one look, and one probe.
+    fn entry(&mut self, i: usize, probes: &mut Turns) -> u32
+        requires { i < length (list self.old) }
+        ensures value { result ≡ slice_index (list self.old) i }
+        ensures same { list self.new ≡ list self.old }
+        ensures counted { looks self.new ≡ looks self.old + 1 }
         ensures probe { probes.new.count ≡ probes.old.count + 1 };
 }
 
-impl Entries for &[u32] {
-    ghost list = { λ s. s.now };
+/// A list in memory and how often it was looked at, a number that takes no bytes.
+#[derive(Drop)]
+pub struct Looks<'a> {
+    /// The list.
+    pub entries: &'a [u32],
+    /// The looks at it.
+    pub taken: Turns,
+}
 
-    fn count(&self) -> usize {
-        self.len()
-    }
-
-    fn entry(&self, i: usize, probes: &mut Turns) -> u32 {
-        probes.tick();
-        self[i]
+impl<'a> Looks<'a> {
+    /// The list, with no look at it yet.
+    pub fn at(entries: &'a [u32]) -> Looks<'a>
+        ensures list { result.entries.now ≡ entries.now }
+        ensures none { result.taken.count ≡ 0 }
+    {
+        Looks {
+            entries,
+            taken: Turns::new(),
+        }
     }
 }
 
-/// A place of the character in a list that never falls, and None where the list lacks it. Among N
+impl<'a> Entries for Looks<'a> {
+    ghost list = { λ s. s.entries.now };
+
+    ghost looks = { λ s. s.taken.count };
+
+    fn count(&self) -> usize {
+        self.entries.len()
+    }
+
+    fn entry(&mut self, i: usize, probes: &mut Turns) -> u32 {
+        probes.tick();
+        self.taken.tick();
+        self.entries[i]
+    }
+}
+
+/// A place of the character in an ascending list, and None where the list lacks it. Among N
 /// entries it makes at most w + 1 probes, w being the least width in which N things have codes, and
-/// at least one where it answers a place.
-pub fn find_ascending<L: Entries>(entries: &L, character: u32, probes: &mut Turns) -> Option<usize>
-    requires { IsNonDecreasing (L.list entries.now) }
-    ensures place { MatchOption result (has_character (L.list entries.now) character ≡ false)
-        (λ k. slice_get (L.list entries.now) k ≡ Some character) }
+/// at least one where it answers a place. Each probe is a look at the list.
+pub fn find_ascending<L: Entries>(
+    entries: &mut L,
+    character: u32,
+    probes: &mut Turns,
+) -> Option<usize>
+    requires { IsNonDecreasing (L.list entries.old) }
+    ensures place { MatchOption result (has_character (L.list entries.old) character ≡ false)
+        (λ k. slice_get (L.list entries.old) k ≡ Some character) }
+    ensures same { L.list entries.new ≡ L.list entries.old }
+    // Each probe is a look that the list counts.
+    ensures each_look_counts { probes.new.count + L.looks entries.old
+        ≡ probes.old.count + L.looks entries.new }
     ensures looked { OnSome result (probes.old.count + 1 ≤ probes.new.count) }
     ensures counts { probes.old.count ≤ probes.new.count }
-    ensures cost { probes.new.count ≤ probes.old.count + ceil_log2 (length (L.list entries.now)) + 1 }
+    ensures cost { let most = ceil_log2 (length (L.list entries.old)) + 1 in
+        probes.new.count ≤ probes.old.count + most }
 {
     let mut low = 0;
     let mut high = entries.count();

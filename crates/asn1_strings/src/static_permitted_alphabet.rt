@@ -1,22 +1,22 @@
 //! What the eight strings have in common.
-ghost use Rattle.std.specs.Prelude.{◌≡◌, ◌≤◌, ◌^◌, ◌==◌, ◌⊎◌, ℕ, Bool, true, List, [], ◌∷◌, ◌++◌, length, map, All, Ok, None, OnOk, OnErr, string_bytes};
+ghost use Rattle.std.specs.Prelude.{◌≡◌, ◌≢◌, ◌≤◌, ◌^◌, ◌⊎◌, ℕ, Bool, true, List, [], ◌∷◌, ◌++◌, length, map, All, Ok, None, OnOk, OnErr, string_bytes};
 ghost use Rattle.asn1_bits.specs.BitStr.{bits_of};
-ghost use Rattle.asn1_strings.specs.Sets.{base_set, base_count, base_largest, base_width, base_indexed, has_character};
+ghost use Rattle.asn1_characters.specs.Sets.{base_set, base_count, base_largest, base_width, base_indexed, has_character};
 ghost use Rattle.std.specs.Option.{ForSome, option_copied};
 ghost use Rattle.std.specs.BTreeMap.{btree_map_len};
 ghost use Rattle.asn1_strings.specs.Maps.{string_of_alphabet};
-ghost use Rattle.asn1_strings.specs.Errors.{own_error};
+ghost use Rattle.asn1_characters.specs.Errors.{own_error};
 ghost use Rattle.asn1_strings.specs.Pieces.{pieces, unsigned};
 ghost use Rattle.asn1_strings.specs.Strings.{Answers, character_octets, string_of_characters, string_of_octets, string_of_bits};
 
-use crate::character_set::CharacterSetName;
 use crate::chars::Chars;
 use crate::code_unit::CodeUnit;
-use crate::error::{InvalidRestrictedString, PermittedAlphabetError};
 use crate::key_maps::string_of_bits_in;
-use crate::octet_string::OctetString;
 use crate::pieces::{BitPieces, Characters, OctetPieces};
 use asn1_bits::{BitStr, BitString};
+use asn1_characters::{
+    CharacterRanges, CharacterSetName, InvalidRestrictedString, OctetString, PermittedAlphabetError,
+};
 use std::alloc::{AllocError, Global};
 use std::collections::BTreeMap;
 
@@ -26,13 +26,16 @@ use std::collections::BTreeMap;
 /// `Other`, `InvalidData` or the first wrong character, in this order, and by `Memory` only what would
 /// else be a string that is not empty.
 pub trait StaticPermittedAlphabet: Sized + Drop {
-    ghost use Rattle.asn1_strings.specs.declared.character_set.CharacterSetName.{CharacterSetName};
+    ghost use Rattle.asn1_characters.specs.declared.character_set.CharacterSetName.{CharacterSetName};
+    ghost use Rattle.asn1_characters.specs.declared.character_set.CharacterRanges.{CharacterRanges};
 
     /// In what a character is kept.
     type T: CodeUnit;
 
-    /// First and last character of each range of the set, in the set's order.
-    const CHARACTER_SET_RANGES: &'static [(u32, u32)];
+    ghost CHARACTER_SET_RANGES: { CharacterRanges };
+
+    /// First and last character of each range of the set, in the set's order: `as_slice` has them.
+    const CHARACTER_SET_RANGES: CharacterRanges;
 
     ghost CHARACTER_SET_NAME: { CharacterSetName };
 
@@ -72,9 +75,11 @@ pub trait StaticPermittedAlphabet: Sized + Drop {
         ensures ok { OnOk result (characters self.new ≡ characters self.old ++ character ∷ []) }
         ensures err { OnErr result (characters self.new ≡ characters self.old) };
 
-    /// Asks for memory for so many more characters. The string is as before.
+    /// Asks for memory for so many more characters, and for none where they are 0. The string is as
+    /// before, also where memory is refused.
     fn reserve(&mut self, additional: usize) -> Result<(), AllocError>
-        ensures { characters self.new ≡ characters self.old };
+        ensures same { characters self.new ≡ characters self.old }
+        ensures memory { OnErr result (additional ≢ 0) };
 
     /// How many characters it has.
     fn len(&self) -> usize
@@ -82,13 +87,15 @@ pub trait StaticPermittedAlphabet: Sized + Drop {
 
     /// The string of these units, each of which the caller knows to be in the set.
     fn from_units(units: Vec<Self::T>) -> Self
-        requires { All (λ c. has_character (base_set CHARACTER_SET_NAME) c ≡ true) (map Self.T.value units.items) }
+        requires { All (λ c. has_character (base_set CHARACTER_SET_NAME) c ≡ true)
+            (map Self.T.value units.items) }
         ensures { characters result ≡ map Self.T.value units.items };
 
     /// Its characters, in their order.
     fn chars(&self) -> Chars<'_, Self::T>
         ensures list { result ≡ characters self.now }
-        ensures in_set { All (λ c. has_character (base_set CHARACTER_SET_NAME) c ≡ true) (characters self.now) };
+        ensures in_set { All (λ c. has_character (base_set CHARACTER_SET_NAME) c ≡ true)
+            (characters self.now) };
 
     /// Whether the set has the character: by one look, and for `BmpString` by its range.
     fn contains_char(character: u32) -> bool
@@ -235,6 +242,8 @@ pub trait StaticPermittedAlphabet: Sized + Drop {
     }
 
     // The constants are what the table of base sets gives.
+    ghost ranges: { CHARACTER_SET_RANGES.name ≡ CHARACTER_SET_NAME };
+
     ghost count: { CHARACTER_SET_COUNT ≡ base_count CHARACTER_SET_NAME };
 
     ghost width: { CHARACTER_SET_WIDTH ≡ base_width CHARACTER_SET_NAME };
@@ -272,7 +281,8 @@ fn copied<S: StaticPermittedAlphabet, C: Characters>(
     alloc: Global,
     source: &C,
 ) -> Result<S, PermittedAlphabetError>
-    requires { All (λ c. has_character (base_set S.CHARACTER_SET_NAME) c ≡ true) (C.list source.now) }
+    requires { All (λ c. has_character (base_set S.CHARACTER_SET_NAME) c ≡ true)
+        (C.list source.now) }
     ensures { Answers S.characters result (Ok (C.list source.now)) }
 {
     let count = source.count();

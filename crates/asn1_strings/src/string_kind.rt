@@ -1,15 +1,15 @@
 //! What tells the eight strings apart.
 ghost use Rattle.std.specs.Prelude.{◌≡◌, ◌<◌, ℕ, true};
-ghost use Rattle.asn1_strings.specs.Sets.{base_set, has_character};
+ghost use Rattle.asn1_characters.specs.Sets.{base_set, has_character};
 ghost use Rattle.asn1_strings.specs.Strings.{character_octets};
 
-use crate::character_set::CharacterSetName;
 use crate::code_unit::CodeUnit;
+use asn1_characters::CharacterSetName;
 use std::fmt;
 
 /// One of the eight kinds of string: a marker, of which no value is needed.
 pub trait StringKind: fmt::Debug {
-    ghost use Rattle.asn1_strings.specs.declared.character_set.CharacterSetName.{CharacterSetName};
+    ghost use Rattle.asn1_characters.specs.declared.character_set.CharacterSetName.{CharacterSetName};
 
     /// In what a character is kept.
     type T: CodeUnit;

@@ -1,13 +1,13 @@
 //! `TeletexString`.
 ghost use Rattle.std.specs.Prelude.{◌≡◌, ◌≢◌, [], IfOk, OnErr, refl};
-ghost use Rattle.asn1_strings.specs.SetLaws.{below_limit};
-ghost use Rattle.asn1_strings.specs.declared.character_set.CharacterSetName.TheVariants.{Teletex as name};
+ghost use Rattle.asn1_characters.specs.SetLaws.{below_limit};
+ghost use Rattle.asn1_characters.specs.declared.character_set.CharacterSetName.TheVariants.{Teletex as name};
 
-use crate::character_set::CharacterSetName;
 use crate::octet_kinds::FromBytes;
 use crate::restricted_string::RestrictedString;
 use crate::string_kind::StringKind;
-use std::alloc::{AllocError, Global};
+use asn1_characters::CharacterSetName;
+use std::alloc::AllocError;
 
 /// The kind of `TeletexString`.
 #[derive(Clone, Copy, Debug)]
@@ -32,13 +32,13 @@ pub type TeletexString = RestrictedString<Teletex>;
 
 impl RestrictedString<Teletex> {
     /// A copy of the characters, one octet each. Memory is asked for where there are any.
-    pub fn to_bytes(&self, alloc: Global) -> Result<Vec<u8>, AllocError>
+    pub fn to_bytes(&self) -> Result<Vec<u8>, AllocError>
         ensures octets { IfOk result (λ v. v.items ≡ self.now) }
         ensures memory { OnErr result (self.now ≢ []) }
     {
         if self.as_slice().is_empty() {
-            return Ok(Vec::new(alloc));
+            return Ok(Vec::new(self.allocator()));
         }
-        Vec::from_slice(alloc, self.as_slice())
+        Vec::from_slice(self.allocator(), self.as_slice())
     }
 }

@@ -2,7 +2,5 @@
 mod alphabets;
 mod every_call;
 mod maps;
-mod octet_strings;
 mod sets;
 mod strings;
-mod texts;

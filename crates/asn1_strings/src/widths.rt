@@ -1,24 +1,23 @@
 //! Widths of characters in bits.
 ghost use Rattle.std.specs.Prelude.{◌≡◌, ◌≤◌, ◌^◌};
-ghost use Rattle.asn1_strings.specs.Widths.{IsLeastWidth, ceil_log2, align, width_for};
+ghost use Rattle.asn1_characters.specs.Widths.{IsLeastWidth, ceil_log2, align, width_for};
 
 // The least width in which so many things have codes of their own.
+#[inline]
 pub(crate) fn ceil_log2(count: u64) -> u32
     requires { count ≤ 2 ^ 32 }
     ensures value { result ≡ ceil_log2 count }
     ensures least { IsLeastWidth count result }
     ensures bound { result ≤ 32 }
 {
-    let mut width: u32 = 0;
-    let mut codes: u64 = 1;
-    while codes < count {
-        width += 1;
-        codes *= 2;
+    if count <= 1 {
+        return 0;
     }
-    width
+    64 - (count - 1).leading_zeros()
 }
 
 // How many codes a width has.
+#[inline]
 pub(crate) fn codes_of(width: u32) -> u64
     requires { width ≤ 32 }
     ensures { result ≡ 2 ^ width }
@@ -27,6 +26,7 @@ pub(crate) fn codes_of(width: u32) -> u64
 }
 
 // A width, in the aligned variant the least power of two that is not below it.
+#[inline]
 pub(crate) fn align(aligned: bool, width: u32) -> u32
     requires { width ≤ 32 }
     ensures value { result ≡ align aligned width }
@@ -41,6 +41,7 @@ pub(crate) fn align(aligned: bool, width: u32) -> u32
 }
 
 // The width of so many characters.
+#[inline]
 pub(crate) fn width_for(aligned: bool, count: u64) -> u32
     requires { count ≤ 2 ^ 32 }
     ensures value { result ≡ width_for aligned count }

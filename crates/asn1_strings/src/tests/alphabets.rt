@@ -1,15 +1,14 @@
 //! Permitted alphabets: widths, codes and refusals.
-ghost use Rattle.std.specs.Prelude.{◌≡◌, ◌≤◌, ◌^◌, ◌<◌, ℕ, length};
+ghost use Rattle.std.specs.Prelude.{◌≤◌, ◌^◌, length};
 ghost use Rattle.std.specs.Option.{ForSome, option_copied};
 
 use crate::permitted_set::is_ascending;
 use crate::{
     BmpString, CharacterAlphabet, Entries, Ia5String, InvalidIA5String, InvalidNumericString,
-    InvalidRestrictedString, NumericString, PermittedAlphabetError, StaticPermittedAlphabet,
-    find_ascending, should_be_indexed,
+    InvalidRestrictedString, NumericString, PermittedAlphabetError, PrintableString,
+    StaticPermittedAlphabet, VisibleString, find_ascending, should_be_indexed,
 };
 use asn1_bits::Turns;
-use std::cell::Cell;
 use std::mem::size_of;
 use std::process::Abort;
 
@@ -48,7 +47,23 @@ fn answers<S: StaticPermittedAlphabet>(
 )
     requires { ForSome (option_copied permitted) (λ set. length set ≤ 2 ^ 32) }
 {
-    let alphabet = CharacterAlphabet::new::<S>(permitted, false);
+    answers_as::<S>(permitted, false, character, code)
+}
+
+// The same in either variant.
+fn answers_as<S: StaticPermittedAlphabet>(
+    permitted: Option<&[u32]>,
+    aligned: bool,
+    character: u32,
+    code: u32,
+) -> (
+    Result<u32, PermittedAlphabetError>,
+    Result<u32, PermittedAlphabetError>,
+    bool,
+)
+    requires { ForSome (option_copied permitted) (λ set. length set ≤ 2 ^ 32) }
+{
+    let alphabet = CharacterAlphabet::new::<S>(permitted, aligned);
     (
         alphabet.encode(character),
         alphabet.decode(code),
@@ -80,6 +95,9 @@ fn base_sets_have_codes(rt: HostRuntime) {
     let source = InvalidRestrictedString::InvalidNumericString(InvalidNumericString {
         character: 120,
     });
+    assert!(rt; refused == Err(PermittedAlphabetError::InvalidRestrictedString { source }));
+    assert!(rt; uncoded == no_place(11) && !repeats);
+    let (refused, uncoded, repeats) = answers_as::<NumericString>(None, true, 120, 11);
     assert!(rt; refused == Err(PermittedAlphabetError::InvalidRestrictedString { source }));
     assert!(rt; uncoded == no_place(11) && !repeats);
     let (refused, uncoded, repeats) = answers::<Ia5String>(None, 200, 200);
@@ -128,12 +146,26 @@ fn a_set_is_kept_where_it_saves_bits(rt: HostRuntime) {
 
 #[test]
 fn characters_and_codes_that_are_not_there_are_named(rt: HostRuntime) {
+    writes::<Ia5String>(&rt, Some(&[]), false, 0, &[]);
     let (refused, uncoded, repeats) = answers::<Ia5String>(Some(&[]), 99, 0);
     assert!(rt; refused == missing(99) && uncoded == missing(0) && !repeats);
+    let (refused, _, _) = answers::<Ia5String>(Some(&[]), 0, 0);
+    assert!(rt; refused == missing(0));
     let (refused, uncoded, _) = answers::<Ia5String>(Some(&[0, 1, 2, 3]), 4, 5);
     assert!(rt; refused == missing(4) && uncoded == missing(5));
     let (refused, uncoded, _) = answers::<Ia5String>(Some(&[122, 97, 109]), 98, 3);
     assert!(rt; refused == missing(98) && uncoded == no_place(3));
+}
+
+#[test]
+fn sets_with_gaps_have_codes(rt: HostRuntime) {
+    writes::<Ia5String>(&rt, Some(&[33, 35, 38]), false, 2, &[(33, 0), (38, 2)]);
+    writes::<Ia5String>(&rt, Some(&[0, 1, 3]), false, 2, &[(0, 0), (3, 3)]);
+    let (refused, uncoded, _) = answers::<Ia5String>(Some(&[0, 1, 3]), 2, 2);
+    assert!(rt; refused == missing(2) && uncoded == missing(2));
+    writes::<VisibleString>(&rt, None, false, 7, &[(0x20, 0x20), (0x7E, 0x7E)]);
+    writes::<PrintableString>(&rt, None, true, 8, &[(0x3F, 0x3F), (0x7A, 0x7A)]);
+    writes::<BmpString>(&rt, None, false, 16, &[(0, 0), (0xFFFD, 0xFFFD)]);
 }
 
 #[test]
@@ -169,23 +201,27 @@ fn sets_are_indexed_where_the_largest_does_not_fit(rt: HostRuntime) {
     assert!(rt; should_be_indexed(31, &[0x8000_0000]) && !should_be_indexed(31, &[0x7FFF_FFFF]));
 }
 
-// A list that counts the looks at it.
+// A list that counts the looks at it at run time too.
 #[derive(Drop)]
 struct Looked<'a> {
     list: &'a [u32],
-    looks: Cell<u32>,
+    taken: Turns,
+    looks: u32,
 }
 
 impl<'a> Entries for Looked<'a> {
     ghost list = { λ s. s.list.now };
 
+    ghost looks = { λ s. s.taken.count };
+
     fn count(&self) -> usize {
         self.list.len()
     }
 
-    fn entry(&self, i: usize, probes: &mut Turns) -> u32 {
+    fn entry(&mut self, i: usize, probes: &mut Turns) -> u32 {
         probes.tick();
-        self.looks.set(self.looks.get().saturating_add(1));
+        self.taken.tick();
+        self.looks = self.looks.saturating_add(1);
         self.list[i]
     }
 }
@@ -198,12 +234,13 @@ fn a_search_among_65_looks_at_most_8_times(rt: HostRuntime) {
     }
     assert!(rt; is_ascending(&list));
     for character in 0..132u32 {
-        let looked = Looked {
+        let mut looked = Looked {
             list: &list,
-            looks: Cell::new(0),
+            taken: Turns::new(),
+            looks: 0,
         };
-        let place = find_ascending(&looked, character, &mut Turns::new());
-        let looks = looked.looks.get();
+        let place = find_ascending(&mut looked, character, &mut Turns::new());
+        let looks = looked.looks;
         assert!(rt;
             place.is_some() == (character % 2 == 0 && character <= 128),
             "{character}"

@@ -1,9 +1,9 @@
 //! The table of base sets.
-use crate::character_set::CharacterSetName;
 use crate::{
     BmpString, GeneralString, GraphicString, Ia5String, NumericString, PrintableString,
     StaticPermittedAlphabet, TeletexString, VisibleString,
 };
+use asn1_characters::CharacterSetName;
 use std::process::Abort;
 
 const BMP: [(u32, u32); 1] = [(0, 0xFFFD)];
@@ -33,7 +33,7 @@ const TELETEX: [(u32, u32); 1] = [(0, 0xFF)];
 const VISIBLE: [(u32, u32); 1] = [(0x20, 0x7E)];
 
 fn has_its_ranges<S: StaticPermittedAlphabet>(rt: &impl Abort, ranges: &[(u32, u32)]) {
-    assert!(rt; S::CHARACTER_SET_RANGES == ranges);
+    assert!(rt; S::CHARACTER_SET_RANGES.as_slice() == ranges);
     for character in 0..65_601u32 {
         let within = ranges
             .iter()

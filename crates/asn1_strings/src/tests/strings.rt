@@ -1,5 +1,4 @@
 //! Strings from octets, texts and values.
-use crate::character_set::CharacterSetName;
 use crate::{
     BmpString, GeneralString, GraphicString, Ia5String, InvalidBmpString, InvalidGeneralString,
     InvalidGraphicString, InvalidIA5String, InvalidPrintableString, InvalidRestrictedString,
@@ -7,6 +6,7 @@ use crate::{
     StaticPermittedAlphabet, TeletexString, Utf8String, VisibleString,
 };
 use asn1_bits::BitStr;
+use asn1_characters::CharacterSetName;
 use std::test::Fail;
 
 fn refusal(source: InvalidRestrictedString) -> PermittedAlphabetError {
@@ -44,7 +44,7 @@ fn bmp_strings_are_pairs_of_octets(rt: HostRuntime) -> Result<(), Fail> {
         .ok()
         .ok_or("euro")?;
     assert!(rt; euro.as_slice() == [0x0041u16, 0x20AC].as_slice());
-    assert!(rt; euro.to_bytes(alloc)?.as_slice() == [0x00u8, 0x41, 0x20, 0xAC].as_slice());
+    assert!(rt; euro.to_bytes()?.as_slice() == [0x00u8, 0x41, 0x20, 0xAC].as_slice());
     let last = BmpString::try_from_slice(alloc, &[0xFF, 0xFD])
         .ok()
         .ok_or("last")?;
@@ -94,7 +94,7 @@ fn strings_of_octets_show_their_octets(rt: HostRuntime) -> Result<(), Fail> {
     let teletex = TeletexString::from_bytes(alloc, &[0x41, 0xC2, 0x65])
         .ok()
         .ok_or("teletex")?;
-    assert!(rt; teletex.to_bytes(alloc)?.as_slice() == [0x41u8, 0xC2, 0x65].as_slice());
+    assert!(rt; teletex.to_bytes()?.as_slice() == [0x41u8, 0xC2, 0x65].as_slice());
     let general = GeneralString::from_bytes(alloc, b"1 2")
         .ok()
         .ok_or("general")?;
@@ -164,5 +164,34 @@ fn a_wrong_character_in_bits_is_named(rt: HostRuntime) -> Result<(), Fail> {
         character: 31,
     });
     assert!(rt; VisibleString::try_from_bits(rt.alloc(), bits, 7).err() == Some(refusal(visible)));
+    Ok(())
+}
+
+#[test]
+fn refusals_of_calls_are_printed(rt: HostRuntime) -> Result<(), Fail> {
+    let alloc = rt.alloc();
+    let at = PrintableString::try_from_slice(alloc, b"ab@c#")
+        .err()
+        .ok_or("at")?;
+    let text = format!(in alloc; "{at}")?;
+    assert!(rt;
+        text.as_str()
+            == "Invalid alphabet constrained string: Invalid printable string, character decimal value: 64"
+    );
+    let odd = BmpString::try_from_slice(alloc, &[0x00, 0x41, 0x20])
+        .err()
+        .ok_or("odd")?;
+    let text = format!(in alloc; "{odd}")?;
+    assert!(rt;
+        text.as_str() == "length of bits (3) provided not divisible by character width (2)"
+    );
+    let none = Ia5String::try_from_slice_with_width(alloc, &[], 0)
+        .err()
+        .ok_or("none")?;
+    let text = format!(in alloc; "{none}")?;
+    assert!(rt;
+        text.as_str()
+            == "error converting to string: Character set width set to zero when parsing string IA5String"
+    );
     Ok(())
 }

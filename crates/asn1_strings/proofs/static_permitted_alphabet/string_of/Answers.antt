@@ -1,5 +1,5 @@
 use Rattle.std.proofs.Common.{sym, ◌∙◌, arith}
-use Rattle.asn1_strings.specs.Sets.{base_set}
+use Rattle.asn1_characters.specs.Sets.{base_set}
 use Rattle.asn1_strings.proofs.StringLemmas.{string_of_wrong, string_of_right, all_right}
 use Rattle.asn1_strings.proofs.static_permitted_alphabet.string_of.Goals as goal
 

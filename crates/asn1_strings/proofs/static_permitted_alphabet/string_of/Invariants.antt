@@ -1,5 +1,5 @@
 use Rattle.std.proofs.Common.{◌≡◌, true, ℕ, ◌<◌, get_or}
-use Rattle.asn1_strings.specs.Sets.{base_set, has_character}
+use Rattle.asn1_characters.specs.Sets.{base_set, has_character}
 use Rattle.asn1_strings.proofs.static_permitted_alphabet.string_of.Given as goal
 
 abbrev pub invariant-loop-i : goal.invariant-loop-i

@@ -1,4 +1,4 @@
-use Rattle.asn1_strings.specs.WidthLaws.{codes_small}
+use Rattle.asn1_characters.specs.WidthLaws.{codes_small}
 use Rattle.asn1_strings.proofs.widths.codes_of.Goals as goal
 
 pub returns : goal.returns

@@ -1,19 +1,17 @@
-use Rattle.std.proofs.Common.{◌≡◌, false, ltb, ap, sym, ◌∙◌, arith}
-use Rattle.std.proofs.lemmas.Bool.Decides.{nat_tests}
-use Rattle.asn1_strings.specs.Sets.{has_character}
+use Rattle.std.proofs.Common.{refl, ap, ◌∙◌}
+use Rattle.asn1_characters.specs.Sets.{has_character}
 use Rattle.asn1_strings.specs.AlphabetInMemory.{some_if, set_of}
-use Rattle.asn1_strings.proofs.AlphabetLemmas.{none_from, found_is}
+use Rattle.asn1_strings.proofs.AlphabetLemmas.{has_by_words, found_is}
 use Rattle.asn1_strings.proofs.alphabet.CharacterAlphabet.contains.Goals as goal
 
-pub returns-else-character-lt256-clause-value : goal.returns-else-character-lt256-clause-value
-returns-else-character-lt256-clause-value c =
-    let worded = c.args.self.now.known.worded c.in-Some.words (sym c.in-Some.ensures) in
-    let above : ltb c.args.character 256 ≡ false = grind (arith, nat_tests) in
-    above ∙ sym (none_from (set_of c.args.self.now.name (some_if c.args.self.now.kept c.args.self.now.set)) c.args.character worded.below c.if-character-lt256.false)
-
-pub returns-in-Some-permitted-clause-value : goal.returns-in-Some-permitted-clause-value
-returns-in-Some-permitted-clause-value c =
-    let set = c.in-Some-permitted.set.now in
+pub returns-then-self-clause-value : goal.returns-then-self-clause-value
+returns-then-self-clause-value c =
+    let known = c.args.self.now.known in
     c.is_some.ensures
-    ∙ found_is set c.args.character c.place_among.result c.place_among.ensures.place
-    ∙ ap (λ p. has_character (set_of c.args.self.now.name p) c.args.character) c.in-Some-permitted.ensures
+    ∙ found_is c.args.self.now.set.now c.args.character c.place_in_run.result c.place_in_run.ensures.place
+    ∙ ap (λ set. has_character set c.args.character) (known.listing (known.runs_listed c.if-self.true))
+
+pub returns-then-self-2-clause-value : goal.returns-then-self-2-clause-value
+returns-then-self-2-clause-value c =
+    let worded = c.args.self.now.known.worded c.args.self.now.words (rw c.if-self-2.true refl) in
+    c.contains.ensures ∙ has_by_words (set_of c.args.self.now.name (some_if c.args.self.now.kept c.args.self.now.set)) c.args.self.now.words c.args.character worded

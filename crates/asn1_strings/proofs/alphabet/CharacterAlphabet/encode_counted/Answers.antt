@@ -1,5 +1,5 @@
 use Rattle.std.proofs.Common.{◌≡◌, true, refl, sym, ◌∙◌}
-use Rattle.asn1_strings.specs.Sets.{has_character}
+use Rattle.asn1_characters.specs.Sets.{has_character}
 use Rattle.asn1_strings.specs.AlphabetInMemory.{some_if, set_of}
 use Rattle.asn1_strings.specs.AlphabetView.{alphabet_of}
 use Rattle.asn1_strings.specs.AlphabetLaws.{missing_has_none, value_fits}

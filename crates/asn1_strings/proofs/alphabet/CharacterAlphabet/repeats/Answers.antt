@@ -2,7 +2,7 @@ use Rattle.std.proofs.Common.{ℕ, List, Option, sym, subst}
 use Rattle.std.specs.Borrow.{Bor}
 use Rattle.std.specs.Prelude.{◌≢◌}
 use Rattle.std.specs.List.{AllPairs}
-use Rattle.asn1_strings.specs.Sets.{base_set}
+use Rattle.asn1_characters.specs.Sets.{base_set}
 use Rattle.asn1_strings.specs.AlphabetInMemory.{some_if, set_of}
 use Rattle.asn1_strings.specs.AlphabetView.{alphabet_of}
 use Rattle.asn1_strings.specs.AlphabetLaws.{code_is_one}

@@ -1,4 +1,4 @@
-use Rattle.asn1_strings.proofs.AlphabetLemmas.{codes_fit}
+use Rattle.asn1_strings.specs.AlphabetViewLaws.{codes_fit}
 use Rattle.asn1_strings.proofs.alphabet.CharacterAlphabet.width.Goals as goal
 
 pub returns-clause-codes : goal.returns-clause-codes

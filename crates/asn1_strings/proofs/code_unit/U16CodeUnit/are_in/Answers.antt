@@ -2,7 +2,7 @@ use Rattle.std.proofs.Common.{map, ap, ◌∙◌, arith}
 use Rattle.std.specs.List.{list_all}
 use Rattle.std.specs.Int.{w16, from_be_bytes}
 use Rattle.std.proofs.lemmas.List.{take_all}
-use Rattle.asn1_strings.specs.Sets.{base_set, has_character}
+use Rattle.asn1_characters.specs.Sets.{base_set, has_character}
 use Rattle.asn1_strings.proofs.OctetLemmas.{pairs, all_in}
 use Rattle.asn1_strings.proofs.code_unit.U16CodeUnit.are_in.Goals as goal
 

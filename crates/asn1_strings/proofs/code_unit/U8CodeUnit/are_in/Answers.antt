@@ -1,7 +1,7 @@
 use Rattle.std.proofs.Common.{ap, ◌∙◌, arith}
 use Rattle.std.specs.List.{list_all}
 use Rattle.std.proofs.lemmas.List.{take_all}
-use Rattle.asn1_strings.specs.Sets.{base_set, has_character}
+use Rattle.asn1_characters.specs.Sets.{base_set, has_character}
 use Rattle.asn1_strings.proofs.OctetLemmas.{ones, all_in}
 use Rattle.asn1_strings.proofs.code_unit.U8CodeUnit.are_in.Goals as goal
 

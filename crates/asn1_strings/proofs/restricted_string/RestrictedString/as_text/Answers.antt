@@ -1,4 +1,4 @@
-use Rattle.asn1_strings.specs.Sets.{base_set}
+use Rattle.asn1_characters.specs.Sets.{base_set}
 use Rattle.asn1_strings.proofs.TextLemmas.{set_text, ok_from_no_err}
 use Rattle.asn1_strings.proofs.restricted_string.RestrictedString.as_text.Goals as goal
 

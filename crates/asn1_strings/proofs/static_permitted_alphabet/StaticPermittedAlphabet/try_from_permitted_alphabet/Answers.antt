@@ -1,4 +1,4 @@
-use Rattle.asn1_strings.proofs.SetLemmas.{few_in_base}
+use Rattle.asn1_characters.specs.TableLaws.{few_in_base}
 use Rattle.asn1_strings.proofs.static_permitted_alphabet.StaticPermittedAlphabet.try_from_permitted_alphabet.Goals as goal
 
 pub string_of_bits_in-requires-in-None : goal.string_of_bits_in-requires-in-None

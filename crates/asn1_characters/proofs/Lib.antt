@@ -1,0 +1,4 @@
+pub mod SetLemmas
+pub mod PlaceLemmas
+pub mod WordLemmas
+pub mod TableLemmas

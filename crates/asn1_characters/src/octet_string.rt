@@ -1,0 +1,138 @@
+//! Octet strings.
+ghost use Rattle.std.specs.Prelude.{◌≡◌, ◌≢◌, ◌↔◌, ℕ, List, [], IsTrue, IsOkAnd, OnErr, IfOk, IfErr};
+
+use bytes::Bytes;
+use std::alloc::{AllocError, Global};
+use std::marker::Model;
+
+/// An OCTET STRING (X.680 23): a list of octets, which its clones share.
+#[derive(Debug, PartialEq, Eq, PartialOrd, Ord, Hash, Drop)]
+pub struct OctetString {
+    bytes: Bytes,
+}
+
+impl Model for OctetString {
+    ghost Value = { List ℕ };
+
+    ghost view = { λ s. s.bytes };
+
+    ghost inverse = { λ octets. record { bytes = octets } };
+}
+
+impl OctetString {
+    /// A string of octets that live as long as the program. No memory is asked for.
+    pub fn from_static(octets: &'static [u8]) -> OctetString
+        ensures { result ≡ octets.now }
+    {
+        OctetString {
+            bytes: Bytes::from_static(octets),
+        }
+    }
+
+    /// A copy of the octets. Memory is asked for where there are any.
+    pub fn from_slice(alloc: Global, octets: &[u8]) -> Result<OctetString, AllocError>
+        ensures octets { IfOk result (λ s. s ≡ octets.now) }
+        ensures memory { OnErr result (octets.now ≢ []) }
+    {
+        if octets.is_empty() {
+            return Ok(OctetString::default());
+        }
+        Ok(OctetString {
+            bytes: Bytes::copy_from_slice(alloc, octets)?,
+        })
+    }
+
+    /// A copy of the array's octets. Memory is asked for where there are any.
+    pub fn from_array<const N: usize>(
+        alloc: Global,
+        octets: [u8; N],
+    ) -> Result<OctetString, AllocError>
+        ensures octets { IfOk result (λ s. s ≡ octets.entry) }
+        ensures memory { OnErr result (N ≢ 0) }
+    {
+        OctetString::from_slice(alloc, &octets)
+    }
+
+    /// The vector's octets, without a copy. Where memory for their count of owners is refused, which
+    /// an empty vector does not need, the vector comes back.
+    pub fn from_vec(octets: Vec<u8>) -> Result<OctetString, Vec<u8>>
+        ensures octets { IfOk result (λ s. s ≡ octets.items) }
+        ensures back { IfErr result (λ v. v.items ≡ octets.items) }
+        ensures memory { OnErr result (octets.items ≢ []) }
+    {
+        match Bytes::from_vec(octets) {
+            Ok(bytes) => Ok(OctetString { bytes }),
+            Err(refused) => Err(refused.value),
+        }
+    }
+
+    /// The shared octets as they are. No memory is asked for.
+    pub fn from_bytes(bytes: Bytes) -> OctetString
+        ensures { result ≡ bytes }
+    {
+        OctetString { bytes }
+    }
+
+    /// A share of the octets. Memory may be asked for where there are any.
+    pub fn from_bytes_ref(bytes: &Bytes) -> Result<OctetString, AllocError>
+        ensures octets { IfOk result (λ s. s ≡ bytes.now) }
+        ensures memory { OnErr result (bytes.now ≢ []) }
+    {
+        if bytes.is_empty() {
+            return Ok(OctetString::default());
+        }
+        Ok(OctetString {
+            bytes: bytes.clone()?,
+        })
+    }
+
+    /// The octets as `Bytes`. They stand in one already, so the string never comes back as an `Err`.
+    pub fn into_bytes(self, _alloc: Global) -> Result<Bytes, OctetString>
+        ensures { IsOkAnd result (λ b. b ≡ self) }
+    {
+        Ok(self.bytes)
+    }
+
+    /// A share of the octets. Memory may be asked for where there are any.
+    pub fn to_bytes(&self, _alloc: Global) -> Result<Bytes, AllocError>
+        ensures octets { IfOk result (λ b. b ≡ self.now) }
+        ensures memory { OnErr result (self.now ≢ []) }
+    {
+        if self.bytes.is_empty() {
+            return Ok(Bytes::new());
+        }
+        self.bytes.clone()
+    }
+
+    /// The octets.
+    pub fn as_ref(&self) -> &[u8]
+        ensures { result.now ≡ self.now }
+    {
+        self.bytes.as_slice()
+    }
+
+    /// Whether the octets are these.
+    pub fn eq_bytes(&self, octets: &[u8]) -> bool
+        ensures { IsTrue result ↔ (self.now ≡ octets.now) }
+    {
+        self.as_ref() == octets
+    }
+
+    /// A share of the octets. Memory may be asked for where there are any.
+    pub fn clone(&self) -> Result<OctetString, AllocError>
+        ensures octets { IfOk result (λ s. s ≡ self.now) }
+        ensures memory { OnErr result (self.now ≢ []) }
+    {
+        OctetString::from_bytes_ref(&self.bytes)
+    }
+}
+
+impl Default for OctetString {
+    ghost is_default = { λ s. s ≡ [] };
+
+    fn default() -> OctetString {
+        OctetString {
+            bytes: Bytes::new(),
+        }
+    }
+}

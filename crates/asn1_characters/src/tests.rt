@@ -1,0 +1,3 @@
+//! Rows with answers from outside, and each public call once.
+mod octet_strings;
+mod texts;

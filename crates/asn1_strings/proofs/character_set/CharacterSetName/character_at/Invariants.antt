@@ -1,6 +1,0 @@
-use Rattle.std.proofs.Common.{◌≡◌, ◌+◌, take}
-use Rattle.asn1_strings.proofs.SetLemmas.{counted}
-use Rattle.asn1_strings.proofs.character_set.CharacterSetName.character_at.Given as goal
-
-abbrev pub invariant-loop-range : goal.invariant-loop-range
-invariant-loop-range l = l.place ≡ counted (take l.range-index l.range-items) + l.left

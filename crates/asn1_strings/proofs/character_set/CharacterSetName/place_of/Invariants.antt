@@ -1,7 +1,0 @@
-use Rattle.std.proofs.Common.{◌≡◌, false, take}
-use Rattle.asn1_strings.specs.SetLaws.{lies_in}
-use Rattle.asn1_strings.proofs.SetLemmas.{counted}
-use Rattle.asn1_strings.proofs.character_set.CharacterSetName.place_of.Given as goal
-
-abbrev pub invariant-loop-range : goal.invariant-loop-range
-invariant-loop-range l = (lies_in (take l.range-index l.range-items) l.character ≡ false) × (l.before ≡ counted (take l.range-index l.range-items))
