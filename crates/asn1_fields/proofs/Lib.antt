@@ -1,2 +1,5 @@
 pub mod InputLemmas
 pub mod LineLemmas
+pub mod NumberLemmas
+pub mod PartLemmas
+pub mod WordLemmas

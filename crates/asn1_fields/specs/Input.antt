@@ -15,11 +15,14 @@ pub record Lines : Type 0 where
 abbrev pub parts : List ℕ → List (List ℕ)
 parts text = slice_split (λ c. c == 10) text
 
--- the text is these three lines, each ended by LF; or the last, which is not empty then, is not ended
+-- these parts end a text by a line with its LF, or by one without it, which is not empty then
+abbrev pub IsLastLine : List (List ℕ) → List ℕ → Type 0
+IsLastLine ends line = (ends ≡ line ∷ [] ∷ []) ⊎ ((ends ≡ line ∷ []) × (line ≢ []))
+
+-- the text is the line of shapes, that of octets and that of the first bit; the LF of the last may be missing
 abbrev pub AreLines : List ℕ → Lines → Type 0
 AreLines text lines =
-    (parts text ≡ lines.shapes ∷ lines.octets ∷ lines.start ∷ [] ∷ [])
-    ⊎ ((parts text ≡ lines.shapes ∷ lines.octets ∷ lines.start ∷ []) × (lines.start ≢ []))
+    (ends : List (List ℕ)) × (parts text ≡ lines.shapes ∷ lines.octets ∷ ends) × IsLastLine ends lines.start
 
 -- the text is the decimal of the number, which is below a thousand million: one to nine digits, without a leading zero
 -- unless the number is 0

@@ -3,7 +3,7 @@
 ghost use Rattle.std.specs.Prelude.{◌≡◌, ◌≢◌, ◌≤◌, ◌<◌, ℕ, List, [], ◌∷◌, ◌++◌, length, IfOk, OnOk, IfErr, string_bytes};
 ghost use Rattle.std.specs.Io.KnownBytes.{Appends, Consumes, IsAtEnd};
 
-use crate::parse::{Lines, first_bit, octets, shapes};
+use crate::parse::{Lines, number, octets, shapes};
 use crate::print::print_fields;
 use asn1_values::{BitBuffer, BitReader, BitStr, ReadError, Shape, read_fields, write_fields};
 use std::alloc::{AllocError, Global};
@@ -122,7 +122,7 @@ fn answer_to(alloc: Global, text: &[u8]) -> Result<Answer, AllocError> {
 
 /// The bits of the octets from the first bit on that the line names.
 fn view_from<'a>(octets: &'a [u8], line: &[u8]) -> Option<BitStr<'a>> {
-    let first = first_bit(line)?;
+    let first = number(line)?;
     let bits = octets.len().checked_mul(8)?;
     BitStr::new(octets, first, bits.checked_sub(first)?)
 }
