@@ -32,16 +32,15 @@ IsRefusalAnswer list shapes answer =
     (e : ReadError) × (e ≢ Memory) × IsReadRefusal list shapes e
     × (answer ≡ record { text = line (codes "refused: " ++ error_text e); status = 1 })
 
+-- the answer to bits and shapes
+abbrev pub IsBitsAnswer : List Bool → List Shape → Answer → Type 0
+IsBitsAnswer list shapes answer = IsFieldsAnswer list shapes answer ⊎ IsRefusalAnswer list shapes answer
+
 -- there is one that is right, and the answer goes on from it; or there is none, and the answer is this line
 abbrev pub OrElse : {X : Type 0} → (X → Type 0) → List ℕ → (X → Answer → Type 0) → Answer → Type 0
 OrElse {X} IsRight text Next answer =
     ((x : X) × IsRight x × Next x answer)
     ⊎ (((x : X) → ¬ (IsRight x)) × (answer ≡ record { text = line text; status = 1 }))
-
--- the answer to a first bit, the octets and the shapes
-abbrev pub IsAnswerFrom : List Shape → List ℕ → ℕ → Answer → Type 0
-IsAnswerFrom shapes octets first answer =
-    let list = drop first (bits octets) in IsFieldsAnswer list shapes answer ⊎ IsRefusalAnswer list shapes answer
 
 -- the line names one of the bits of the octets, or the end of them
 abbrev pub IsStart : List ℕ → List ℕ → ℕ → Type 0
@@ -54,4 +53,4 @@ IsAnswer text =
     (λ (lines : Lines). OrElse (AreWords lines.shapes) (codes "bad shapes")
     (λ (shapes : List Shape). OrElse (λ octets. decode_of lines.octets ≡ Ok octets) (codes "bad octets")
     (λ (octets : List ℕ). OrElse (IsStart lines.start octets) (codes "bad start")
-    (λ (first : ℕ). IsAnswerFrom shapes octets first))))
+    (λ (first : ℕ). IsBitsAnswer (drop first (bits octets)) shapes))))

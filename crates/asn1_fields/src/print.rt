@@ -1,11 +1,11 @@
 //! The lines of an answer.
 
-ghost use Rattle.std.specs.Prelude.{◌≡◌, ◌++◌, OnOk, IfOk, if◌then◌else◌, string_bytes, codes};
+ghost use Rattle.std.specs.Prelude.{◌≡◌, ◌<◌, ◌++◌, All, OnOk, IfOk, if◌then◌else◌, string_bytes, codes};
 ghost use Rattle.asn1_values.specs.Plain.{plain_field, plain_fields};
 ghost use Rattle.asn1_values.specs.Words.{bits_of, shortest_octets};
-ghost use Rattle.asn1_fields.specs.Output.{line, field_text, field_lines, or_dash, digits_of_bits, octets_text, printed};
+ghost use Rattle.asn1_fields.specs.Output.{line, field_text, field_lines, or_dash, digits_of_bits, octets_text, printed, error_text};
 
-use asn1_values::{BitStr, Field, Integer, laws_of_shortest_octets};
+use asn1_values::{BitStr, Field, Integer, ReadError, laws_of_shortest_octets};
 use std::alloc::{AllocError, Global};
 use std::fmt::Write;
 
@@ -16,8 +16,9 @@ pub fn print_fields(
     left: usize,
     again: &[u8],
 ) -> Result<String, AllocError>
-    ensures { IfOk result
+    ensures text { IfOk result
         (λ text. string_bytes text ≡ printed (plain_fields fields.now) left again.now) }
+    ensures octets { All (λ octet. octet < 256) again.now }
 {
     let mut text = print_all(alloc, fields)?;
     writeln!(text, "rest {left}")?;
@@ -113,4 +114,35 @@ fn print_octets(
     }
     let digits = hex::encode(alloc, octets)?;
     writeln!(text, "{label} {digits}")
+}
+
+/// The line for an input that does not begin with fields of the shapes.
+pub fn print_refusal(alloc: Global, error: ReadError) -> Result<String, AllocError>
+    ensures { IfOk result
+        (λ text. string_bytes text ≡ line (codes "refused: " ++ error_text error)) }
+{
+    match error {
+        ReadError::NumberWidth { field, width } => {
+            format!(in alloc; "refused: field {field}: width {width} is over 128\n")
+        }
+        ReadError::Integer { field } => {
+            format!(in alloc; "refused: field {field}: not a shortest integer\n")
+        }
+        ReadError::Short { field, bits } => {
+            format!(in alloc; "refused: field {field}: {bits} bits short\n")
+        }
+        ReadError::Character { field, code } => {
+            format!(in alloc; "refused: field {field}: code {code} is no character\n")
+        }
+        ReadError::Memory => format!(in alloc; "refused: out of memory\n"),
+        ReadError::Length { field, octet } => {
+            format!(in alloc; "refused: field {field}: length octet {octet} is not 1 to 127\n")
+        }
+        ReadError::Identifier { field } => {
+            format!(in alloc; "refused: field {field}: not the contents of an identifier\n")
+        }
+        ReadError::Arc { field } => {
+            format!(in alloc; "refused: field {field}: an arc is past 32 bits\n")
+        }
+    }
 }

@@ -1,11 +1,20 @@
 //! The program over any reader and writer.
 
-ghost use Rattle.std.specs.Prelude.{◌≡◌, ◌≢◌, ◌≤◌, ◌<◌, ℕ, List, [], ◌∷◌, ◌++◌, length, IfOk, OnOk, IfErr, string_bytes};
+ghost use Rattle.std.specs.Prelude.{◌≡◌, ◌≢◌, ◌≤◌, ◌<◌, ◌⊎◌, ℕ, Bool, List, [], ◌∷◌, ◌++◌, length, drop, IfOk, OnOk, IfErr, MatchOption, string_bytes, codes};
 ghost use Rattle.std.specs.Io.KnownBytes.{Appends, Consumes, IsAtEnd};
+ghost use Rattle.asn1_values.specs.Fields.{AreSpelledBy};
+ghost use Rattle.asn1_values.specs.Plain.{plain_fields, plain_shapes};
+ghost use Rattle.asn1_values.specs.Words.{bits, bits_of};
+ghost use Rattle.asn1_fields.specs.Output.{line, printed, error_text};
+ghost use Rattle.asn1_fields.specs.Program as program;
+ghost use Rattle.asn1_fields.specs.Program.{Hold, IsAnswer, IsBitsAnswer, IsStart};
+ghost use Rattle.asn1_fields.specs.Run.{answer_in};
 
 use crate::parse::{Lines, number, octets, shapes};
-use crate::print::print_fields;
-use asn1_values::{BitBuffer, BitReader, BitStr, ReadError, Shape, read_fields, write_fields};
+use crate::print::{print_fields, print_refusal};
+use asn1_values::{
+    BitBuffer, BitReader, BitStr, Field, ReadError, Shape, read_fields, write_fields,
+};
 use std::alloc::{AllocError, Global};
 use std::io::{Read, Write};
 
@@ -39,20 +48,19 @@ impl From<AllocError> for RunError {
 struct Answer {
     text: String,
     status: u8,
-    ghost bit: { status ≤ 1 },
-    ghost some: { 0 < length (string_bytes text) },
 }
 
 /// Reads the input to its end, writes the whole answer at once, and answers the status: 0 for fields, 1 for a refusal.
 pub fn run<R: Read, W: Write>(alloc: Global, input: &mut R, output: &mut W) -> Result<u8, RunError>
-    ensures status { IfOk result (λ status. status ≤ 1) }
-    // Where it answers, it has read to the end, and has written something. Both speak of inputs and outputs whose
-    // octets are known, as those over memory.
+    // It has read to the end, and what it has written is the answer to what it read. Both speak of inputs and outputs
+    // whose octets are known, as those over memory.
     ensures end { OnOk result (IsAtEnd (R.remaining input.new)) }
-    ensures written { OnOk result ((answer : List ℕ) × (0 < length answer)
-        × Appends (W.contents output.old) (W.contents output.new) answer) }
+    ensures answer { IfOk result (λ status. (text : List ℕ) × (answer : program.Answer)
+        × Consumes (R.remaining input.old) (R.remaining input.new) text × IsAnswer text answer
+        × Appends (W.contents output.old) (W.contents output.new) answer.text
+        × (status ≡ answer.status)) }
     // Only where writing fails has anything been written.
-    ensures nothing { IfErr result (λ e. e ≢ RunError.Write → W.contents output.new ≡ W.contents output.old) }
+    ensures nothing { IfErr result (λ e. e ≢ RunError.Write → output.new ≡ output.old) }
 {
     let text = read_all(alloc, input)?;
     let answer = answer_to(alloc, text.as_slice())?;
@@ -95,7 +103,8 @@ fn write_answer<W: Write>(output: &mut W, answer: &Answer) -> Result<(), RunErro
 
 /// The one line that refuses an input.
 fn refusal(alloc: Global, text: &str) -> Result<Answer, AllocError>
-    ensures { IfOk result (λ answer. (string_bytes answer.text ≡ text.now ++ 10 ∷ []) × (answer.status ≡ 1)) }
+    ensures { IfOk result
+        (λ answer. answer_in answer ≡ record { text = line text.now; status = 1 }) }
 {
     Ok(Answer {
         text: format!(in alloc; "{text}\n")?,
@@ -104,7 +113,9 @@ fn refusal(alloc: Global, text: &str) -> Result<Answer, AllocError>
 }
 
 /// The answer to the lines: the first of them that is wrong decides.
-fn answer_to(alloc: Global, text: &[u8]) -> Result<Answer, AllocError> {
+fn answer_to(alloc: Global, text: &[u8]) -> Result<Answer, AllocError>
+    ensures { IfOk result (λ answer. IsAnswer text.now (answer_in answer)) }
+{
     let Some(lines) = Lines::of(text) else {
         return refusal(alloc, "bad input");
     };
@@ -114,40 +125,70 @@ fn answer_to(alloc: Global, text: &[u8]) -> Result<Answer, AllocError> {
     let Some(octets) = octets(alloc, lines.octets)? else {
         return refusal(alloc, "bad octets");
     };
-    let Some(view) = view_from(octets.as_slice(), lines.start) else {
+    let Some(view) = view_from(octets.as_slice(), lines.start)? else {
         return refusal(alloc, "bad start");
     };
     fields_of(alloc, view, shapes.as_slice())
 }
 
-/// The bits of the octets from the first bit on that the line names.
-fn view_from<'a>(octets: &'a [u8], line: &[u8]) -> Option<BitStr<'a>> {
-    let first = number(line)?;
-    let bits = octets.len().checked_mul(8)?;
-    BitStr::new(octets, first, bits.checked_sub(first)?)
+/// The bits of the octets from the first bit on that the line names; None for another line. Octets whose bits are more
+/// than `usize::MAX` are want of memory.
+fn view_from<'a>(octets: &'a [u8], line: &[u8]) -> Result<Option<BitStr<'a>>, AllocError>
+    ensures { IfOk result (λ found. MatchOption found
+        ((first : ℕ) → ¬ (IsStart line.now octets.now first))
+        (λ view. (first : ℕ) × IsStart line.now octets.now first
+        × (bits_of view ≡ drop first (bits octets.now)))) }
+{
+    let Some(len) = octets.len().checked_mul(8) else {
+        return Err(AllocError);
+    };
+    let Some(first) = number(line) else {
+        return Ok(None);
+    };
+    if first > len {
+        return Ok(None);
+    }
+    let (_, view) = BitStr::from_octets(octets).split_at(first);
+    Ok(Some(view))
 }
 
-/// The fields of the shapes, what is left, and the fields written again.
-fn fields_of(alloc: Global, view: BitStr<'_>, shapes: &[Shape<'_>]) -> Result<Answer, AllocError> {
+/// The fields of the shapes, what is left, and the fields written again; or the line that names the first wrong field.
+fn fields_of(alloc: Global, view: BitStr<'_>, shapes: &[Shape<'_>]) -> Result<Answer, AllocError>
+    ensures { IfOk result
+        (λ answer. IsBitsAnswer (bits_of view.entry) (plain_shapes shapes.now) (answer_in answer)) }
+{
     let mut reader = BitReader::new(view);
-    let fields = match read_fields(alloc, &mut reader, shapes) {
-        Ok(fields) => fields,
-        Err(ReadError::Memory) => return Err(AllocError),
-        Err(error) => return refused(alloc, error),
-    };
+    match read_fields(alloc, &mut reader, shapes) {
+        Ok(fields) => found(alloc, fields.as_slice(), reader.len()),
+        Err(ReadError::Memory) => Err(AllocError),
+        Err(error) => refused(alloc, error),
+    }
+}
+
+/// The answer of fields that were found.
+fn found(alloc: Global, fields: &[Field<'_, '_>], left: usize) -> Result<Answer, AllocError>
+    ensures { IfOk result (λ answer. (again : List Bool) × (octets : List ℕ)
+        × AreSpelledBy (plain_fields fields.now) again × Hold octets again
+        × (answer_in answer ≡ record { text = printed (plain_fields fields.now) left octets; status = 0 })) }
+{
     let mut again = BitBuffer::new(alloc);
     // The fields that were read are no longer than their input, so only memory can be wanting.
-    if write_fields(&mut again, fields.as_slice()).is_err() {
+    let Ok(()) = write_fields(&mut again, fields) else {
         return Err(AllocError);
-    }
+    };
     Ok(Answer {
-        text: print_fields(alloc, fields.as_slice(), reader.len(), again.as_bytes())?,
+        text: print_fields(alloc, fields, left, again.as_bytes())?,
         status: 0,
     })
 }
 
-/// The line for an input that does not begin with fields of the shapes.
-fn refused(alloc: Global, error: ReadError) -> Result<Answer, AllocError> {
-    let text = format!(in alloc; "refused: {error}")?;
-    refusal(alloc, text.as_str())
+/// The answer of an input that does not begin with fields of the shapes.
+fn refused(alloc: Global, error: ReadError) -> Result<Answer, AllocError>
+    ensures { IfOk result (λ answer. answer_in answer
+        ≡ record { text = line (codes "refused: " ++ error_text error); status = 1 }) }
+{
+    Ok(Answer {
+        text: print_refusal(alloc, error)?,
+        status: 1,
+    })
 }
