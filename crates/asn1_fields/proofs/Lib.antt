@@ -2,5 +2,6 @@ pub mod AnswerLemmas
 pub mod InputLemmas
 pub mod LineLemmas
 pub mod NumberLemmas
+pub mod OutputLemmas
 pub mod PartLemmas
 pub mod WordLemmas

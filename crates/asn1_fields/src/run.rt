@@ -1,6 +1,6 @@
 //! The program over any reader and writer.
 
-ghost use Rattle.std.specs.Prelude.{◌≡◌, ◌≢◌, ◌≤◌, ◌<◌, ◌⊎◌, ℕ, Bool, List, [], ◌∷◌, ◌++◌, length, drop, IfOk, OnOk, IfErr, MatchOption, string_bytes, codes};
+ghost use Rattle.std.specs.Prelude.{◌≡◌, ◌≢◌, ◌≤◌, ◌<◌, ◌⊎◌, ℕ, Bool, List, [], ◌∷◌, ◌++◌, length, take, drop, IfOk, OnOk, OnErr, IfErr, MatchOption, string_bytes, codes};
 ghost use Rattle.std.specs.Io.KnownBytes.{Appends, Consumes, IsAtEnd};
 ghost use Rattle.asn1_values.specs.Fields.{AreSpelledBy};
 ghost use Rattle.asn1_values.specs.Plain.{plain_fields, plain_shapes};
@@ -16,7 +16,7 @@ use asn1_values::{
     BitBuffer, BitReader, BitStr, Field, ReadError, Shape, read_fields, write_fields,
 };
 use std::alloc::{AllocError, Global};
-use std::io::{Read, Write};
+use std::io::{ErrorKind, Read, Write};
 
 /// How often the input is read at most.
 const READS: u32 = 1_048_576;
@@ -59,12 +59,16 @@ pub fn run<R: Read, W: Write>(alloc: Global, input: &mut R, output: &mut W) -> R
         × Consumes (R.remaining input.old) (R.remaining input.new) text × IsAnswer text answer
         × Appends (W.contents output.old) (W.contents output.new) answer.text
         × (status ≡ answer.status)) }
-    // Only where writing fails has anything been written.
+    // Only where writing fails has anything been written, and then no more than a front of the answer.
     ensures nothing { IfErr result (λ e. e ≢ RunError.Write → output.new ≡ output.old) }
+    ensures front { IfErr result (λ e. e ≡ RunError.Write → (text : List ℕ)
+        × (answer : program.Answer) × Consumes (R.remaining input.old) (R.remaining input.new) text
+        × IsAnswer text answer × (front : List ℕ) × (rest : List ℕ) × (answer.text ≡ front ++ rest)
+        × Appends (W.contents output.old) (W.contents output.new) front) }
 {
     let text = read_all(alloc, input)?;
     let answer = answer_to(alloc, text.as_slice())?;
-    write_answer(output, &answer)?;
+    write_answer(output, answer.text.as_bytes())?;
     Ok(answer.status)
 }
 
@@ -89,16 +93,38 @@ fn read_all<R: Read>(alloc: Global, input: &mut R) -> Result<Vec<u8>, RunError>
     Err(RunError::Read)
 }
 
-/// Writes the answer, and sends it off.
-fn write_answer<W: Write>(output: &mut W, answer: &Answer) -> Result<(), RunError>
-    ensures written { OnOk result
-        (Appends (W.contents output.old) (W.contents output.new) (string_bytes answer.now.text)) }
+/// Writes the whole text, and sends it off. Where that fails, a front of it may have gone out.
+fn write_answer<W: Write>(output: &mut W, text: &[u8]) -> Result<(), RunError>
+    ensures written { OnOk result (Appends (W.contents output.old) (W.contents output.new) text.now) }
+    ensures front { OnErr result ((front : List ℕ) × (rest : List ℕ) × (text.now ≡ front ++ rest)
+        × Appends (W.contents output.old) (W.contents output.new) front) }
     ensures err { IfErr result (λ e. e ≡ RunError.Write) }
 {
-    output
-        .write_all(answer.text.as_bytes())
-        .map_err(|_| RunError::Write)?;
-    output.flush().map_err(|_| RunError::Write)
+    let mut rest = text;
+    for _ in 0..u64::MAX {
+        if rest.is_empty() {
+            return output.flush().map_err(|_| RunError::Write);
+        }
+        let count = write_some(output, rest)?;
+        rest = &rest[count..];
+    }
+    Err(RunError::Write)
+}
+
+/// Writes a front of the octets, and answers of how many; of none where the call was interrupted.
+fn write_some<W: Write>(output: &mut W, octets: &[u8]) -> Result<usize, RunError>
+    ensures few { IfOk result (λ count. count ≤ length octets.now) }
+    ensures written { IfOk result (λ count.
+        Appends (W.contents output.old) (W.contents output.new) (take count octets.now)) }
+    ensures none { OnErr result (Appends (W.contents output.old) (W.contents output.new) []) }
+    ensures err { IfErr result (λ e. e ≡ RunError.Write) }
+{
+    match output.write(octets) {
+        Ok(0) => Err(RunError::Write),
+        Ok(count) => Ok(count),
+        Err(error) if error.kind() == ErrorKind::Interrupted => Ok(0),
+        Err(_) => Err(RunError::Write),
+    }
 }
 
 /// The one line that refuses an input.
