@@ -18,13 +18,16 @@ pub record Answer : Type 0 where
 abbrev pub Hold : List ℕ → List Bool → Type 0
 Hold octets list = All (λ octet. octet < 256) octets × (bits octets ≡ padded list)
 
--- fields of the shapes begin the bits; they are printed, with the number of bits that are left and the octets that hold
--- the fields' own bits
+-- the fields are printed, with the number of bits that are left and the octets that hold the fields' own bits
+abbrev pub IsPrinted : List Field → ℕ → Answer → Type 0
+IsPrinted fields left answer =
+    (again : List Bool) × (octets : List ℕ) × AreSpelledBy fields again × Hold octets again
+    × (answer ≡ record { text = printed fields left octets; status = 0 })
+
+-- fields of the shapes begin the bits, and are printed
 abbrev pub IsFieldsAnswer : List Bool → List Shape → Answer → Type 0
 IsFieldsAnswer list shapes answer =
-    (fields : List Field) × (rest : List Bool) × (again : List Bool) × (octets : List ℕ)
-    × Begins list shapes fields rest × AreSpelledBy fields again × Hold octets again
-    × (answer ≡ record { text = printed fields (length rest) octets; status = 0 })
+    (fields : List Field) × (rest : List Bool) × Begins list shapes fields rest × IsPrinted fields (length rest) answer
 
 -- no fields of the shapes begin the bits; the first that is wrong is named
 abbrev pub IsRefusalAnswer : List Bool → List Shape → Answer → Type 0
@@ -46,11 +49,24 @@ OrElse {X} IsRight text Next answer =
 abbrev pub IsStart : List ℕ → List ℕ → ℕ → Type 0
 IsStart line octets first = IsNumber line first × (first ≤ 8 * length octets)
 
+-- the answer to shapes and octets, by the line of the first bit
+abbrev pub IsStartAnswer : Lines → List Shape → List ℕ → Answer → Type 0
+IsStartAnswer lines shapes octets =
+    OrElse (IsStart lines.start octets) (codes "bad start") (λ first. IsBitsAnswer (drop first (bits octets)) shapes)
+
+-- the answer to shapes, by the line of octets
+abbrev pub IsOctetsAnswer : Lines → List Shape → Answer → Type 0
+IsOctetsAnswer lines shapes =
+    OrElse (λ octets. decode_of lines.octets ≡ Ok octets) (codes "bad octets") (IsStartAnswer lines shapes)
+
+-- the answer to three lines, by that of shapes
+abbrev pub IsShapesAnswer : Lines → Answer → Type 0
+IsShapesAnswer lines = OrElse (AreWords lines.shapes) (codes "bad shapes") (IsOctetsAnswer lines)
+
 -- the answer to the input: the first line that is wrong decides
 abbrev pub IsAnswer : List ℕ → Answer → Type 0
-IsAnswer text =
-    OrElse (AreLines text) (codes "bad input")
-    (λ (lines : Lines). OrElse (AreWords lines.shapes) (codes "bad shapes")
-    (λ (shapes : List Shape). OrElse (λ octets. decode_of lines.octets ≡ Ok octets) (codes "bad octets")
-    (λ (octets : List ℕ). OrElse (IsStart lines.start octets) (codes "bad start")
-    (λ (first : ℕ). IsBitsAnswer (drop first (bits octets)) shapes))))
+IsAnswer text = OrElse (AreLines text) (codes "bad input") IsShapesAnswer
+
+-- P holds of the answer, and of no other
+abbrev pub IsOnly : (Answer → Type 0) → Answer → Type 0
+IsOnly P answer = P answer × ((other : Answer) → P other → other ≡ answer)

@@ -2,12 +2,12 @@
 
 ghost use Rattle.std.specs.Prelude.{◌≡◌, ◌≢◌, ◌≤◌, ◌<◌, ◌⊎◌, ℕ, Bool, List, [], ◌∷◌, ◌++◌, length, take, drop, IfOk, OnOk, OnErr, IfErr, MatchOption, string_bytes, codes};
 ghost use Rattle.std.specs.Io.KnownBytes.{Appends, Consumes, IsAtEnd};
-ghost use Rattle.asn1_values.specs.Fields.{AreSpelledBy};
+ghost use Rattle.asn1_values.specs.Fields.{AreInOneCode, AreReadInOneCode};
 ghost use Rattle.asn1_values.specs.Plain.{plain_fields, plain_shapes};
 ghost use Rattle.asn1_values.specs.Words.{bits, bits_of};
-ghost use Rattle.asn1_fields.specs.Output.{line, printed, error_text};
+ghost use Rattle.asn1_fields.specs.Output.{line, error_text};
 ghost use Rattle.asn1_fields.specs.Program as program;
-ghost use Rattle.asn1_fields.specs.Program.{Hold, IsAnswer, IsBitsAnswer, IsStart};
+ghost use Rattle.asn1_fields.specs.Program.{IsAnswer, IsBitsAnswer, IsOnly, IsPrinted, IsStart};
 ghost use Rattle.asn1_fields.specs.Run.{answer_in};
 
 use crate::parse::{Lines, number, octets, shapes};
@@ -56,7 +56,7 @@ pub fn run<R: Read, W: Write>(alloc: Global, input: &mut R, output: &mut W) -> R
     // whose octets are known, as those over memory.
     ensures end { OnOk result (IsAtEnd (R.remaining input.new)) }
     ensures answer { IfOk result (λ status. (text : List ℕ) × (answer : program.Answer)
-        × Consumes (R.remaining input.old) (R.remaining input.new) text × IsAnswer text answer
+        × Consumes (R.remaining input.old) (R.remaining input.new) text × IsOnly (IsAnswer text) answer
         × Appends (W.contents output.old) (W.contents output.new) answer.text
         × (status ≡ answer.status)) }
     // Only where writing fails has anything been written, and then no more than a front of the answer.
@@ -140,7 +140,7 @@ fn refusal(alloc: Global, text: &str) -> Result<Answer, AllocError>
 
 /// The answer to the lines: the first of them that is wrong decides.
 fn answer_to(alloc: Global, text: &[u8]) -> Result<Answer, AllocError>
-    ensures { IfOk result (λ answer. IsAnswer text.now (answer_in answer)) }
+    ensures { IfOk result (λ answer. IsOnly (IsAnswer text.now) (answer_in answer)) }
 {
     let Some(lines) = Lines::of(text) else {
         return refusal(alloc, "bad input");
@@ -180,8 +180,9 @@ fn view_from<'a>(octets: &'a [u8], line: &[u8]) -> Result<Option<BitStr<'a>>, Al
 
 /// The fields of the shapes, what is left, and the fields written again; or the line that names the first wrong field.
 fn fields_of(alloc: Global, view: BitStr<'_>, shapes: &[Shape<'_>]) -> Result<Answer, AllocError>
-    ensures { IfOk result
-        (λ answer. IsBitsAnswer (bits_of view.entry) (plain_shapes shapes.now) (answer_in answer)) }
+    requires { AreReadInOneCode (plain_shapes shapes.now) }
+    ensures { IfOk result (λ answer.
+        IsOnly (IsBitsAnswer (bits_of view.entry) (plain_shapes shapes.now)) (answer_in answer)) }
 {
     let mut reader = BitReader::new(view);
     match read_fields(alloc, &mut reader, shapes) {
@@ -193,9 +194,9 @@ fn fields_of(alloc: Global, view: BitStr<'_>, shapes: &[Shape<'_>]) -> Result<An
 
 /// The answer of fields that were found.
 fn found(alloc: Global, fields: &[Field<'_, '_>], left: usize) -> Result<Answer, AllocError>
-    ensures { IfOk result (λ answer. (again : List Bool) × (octets : List ℕ)
-        × AreSpelledBy (plain_fields fields.now) again × Hold octets again
-        × (answer_in answer ≡ record { text = printed (plain_fields fields.now) left octets; status = 0 })) }
+    requires { AreInOneCode (plain_fields fields.now) }
+    ensures { IfOk result
+        (λ answer. IsOnly (IsPrinted (plain_fields fields.now) left) (answer_in answer)) }
 {
     let mut again = BitBuffer::new(alloc);
     // The fields that were read are no longer than their input, so only memory can be wanting.
