@@ -1,13 +1,22 @@
 //! The program over any reader and writer.
 
-ghost use Rattle.std.specs.Prelude.{◌≡◌, ◌≢◌, ◌≤◌, ◌<◌, ℕ, List, [], ◌∷◌, ◌++◌, length, IfOk, OnOk, IfErr, string_bytes};
+ghost use Rattle.std.specs.Prelude.{◌≡◌, ◌≢◌, ◌≤◌, ◌<◌, ◌⊎◌, ℕ, Bool, List, [], ◌∷◌, ◌++◌, length, take, drop, IfOk, OnOk, OnErr, IfErr, MatchOption, string_bytes, codes};
 ghost use Rattle.std.specs.Io.KnownBytes.{Appends, Consumes, IsAtEnd};
+ghost use Rattle.asn1_values.specs.Fields.{AreInOneCode, AreReadInOneCode};
+ghost use Rattle.asn1_values.specs.Plain.{plain_fields, plain_shapes};
+ghost use Rattle.asn1_values.specs.Words.{bits, bits_of};
+ghost use Rattle.asn1_fields.specs.Output.{line, error_text};
+ghost use Rattle.asn1_fields.specs.Program as program;
+ghost use Rattle.asn1_fields.specs.Program.{IsAnswer, IsBitsAnswer, IsOnly, IsPrinted, IsStart};
+ghost use Rattle.asn1_fields.specs.Run.{answer_in};
 
-use crate::parse::{Lines, first_bit, octets, shapes};
-use crate::print::print_fields;
-use asn1_values::{BitBuffer, BitReader, BitStr, ReadError, Shape, read_fields, write_fields};
+use crate::parse::{Lines, number, octets, shapes};
+use crate::print::{print_fields, print_refusal};
+use asn1_values::{
+    BitBuffer, BitReader, BitStr, Field, ReadError, Shape, read_fields, write_fields,
+};
 use std::alloc::{AllocError, Global};
-use std::io::{Read, Write};
+use std::io::{ErrorKind, Read, Write};
 
 /// How often the input is read at most.
 const READS: u32 = 1_048_576;
@@ -39,24 +48,27 @@ impl From<AllocError> for RunError {
 struct Answer {
     text: String,
     status: u8,
-    ghost bit: { status ≤ 1 },
-    ghost some: { 0 < length (string_bytes text) },
 }
 
 /// Reads the input to its end, writes the whole answer at once, and answers the status: 0 for fields, 1 for a refusal.
 pub fn run<R: Read, W: Write>(alloc: Global, input: &mut R, output: &mut W) -> Result<u8, RunError>
-    ensures status { IfOk result (λ status. status ≤ 1) }
-    // Where it answers, it has read to the end, and has written something. Both speak of inputs and outputs whose
-    // octets are known, as those over memory.
+    // It has read to the end, and what it has written is the answer to what it read. Both speak of inputs and outputs
+    // whose octets are known, as those over memory.
     ensures end { OnOk result (IsAtEnd (R.remaining input.new)) }
-    ensures written { OnOk result ((answer : List ℕ) × (0 < length answer)
-        × Appends (W.contents output.old) (W.contents output.new) answer) }
-    // Only where writing fails has anything been written.
-    ensures nothing { IfErr result (λ e. e ≢ RunError.Write → W.contents output.new ≡ W.contents output.old) }
+    ensures answer { IfOk result (λ status. (text : List ℕ) × (answer : program.Answer)
+        × Consumes (R.remaining input.old) (R.remaining input.new) text × IsOnly (IsAnswer text) answer
+        × Appends (W.contents output.old) (W.contents output.new) answer.text
+        × (status ≡ answer.status)) }
+    // Only where writing fails has anything been written, and then no more than a front of the answer.
+    ensures nothing { IfErr result (λ e. e ≢ RunError.Write → output.new ≡ output.old) }
+    ensures front { IfErr result (λ e. e ≡ RunError.Write → (text : List ℕ)
+        × (answer : program.Answer) × Consumes (R.remaining input.old) (R.remaining input.new) text
+        × IsAnswer text answer × (front : List ℕ) × (rest : List ℕ) × (answer.text ≡ front ++ rest)
+        × Appends (W.contents output.old) (W.contents output.new) front) }
 {
     let text = read_all(alloc, input)?;
     let answer = answer_to(alloc, text.as_slice())?;
-    write_answer(output, &answer)?;
+    write_answer(output, answer.text.as_bytes())?;
     Ok(answer.status)
 }
 
@@ -81,21 +93,44 @@ fn read_all<R: Read>(alloc: Global, input: &mut R) -> Result<Vec<u8>, RunError>
     Err(RunError::Read)
 }
 
-/// Writes the answer, and sends it off.
-fn write_answer<W: Write>(output: &mut W, answer: &Answer) -> Result<(), RunError>
-    ensures written { OnOk result
-        (Appends (W.contents output.old) (W.contents output.new) (string_bytes answer.now.text)) }
+/// Writes the whole text, and sends it off. Where that fails, a front of it may have gone out.
+fn write_answer<W: Write>(output: &mut W, text: &[u8]) -> Result<(), RunError>
+    ensures written { OnOk result (Appends (W.contents output.old) (W.contents output.new) text.now) }
+    ensures front { OnErr result ((front : List ℕ) × (rest : List ℕ) × (text.now ≡ front ++ rest)
+        × Appends (W.contents output.old) (W.contents output.new) front) }
     ensures err { IfErr result (λ e. e ≡ RunError.Write) }
 {
-    output
-        .write_all(answer.text.as_bytes())
-        .map_err(|_| RunError::Write)?;
-    output.flush().map_err(|_| RunError::Write)
+    let mut rest = text;
+    for _ in 0..u64::MAX {
+        if rest.is_empty() {
+            return output.flush().map_err(|_| RunError::Write);
+        }
+        let count = write_some(output, rest)?;
+        rest = &rest[count..];
+    }
+    Err(RunError::Write)
+}
+
+/// Writes a front of the octets, and answers of how many; of none where the call was interrupted.
+fn write_some<W: Write>(output: &mut W, octets: &[u8]) -> Result<usize, RunError>
+    ensures few { IfOk result (λ count. count ≤ length octets.now) }
+    ensures written { IfOk result (λ count.
+        Appends (W.contents output.old) (W.contents output.new) (take count octets.now)) }
+    ensures none { OnErr result (Appends (W.contents output.old) (W.contents output.new) []) }
+    ensures err { IfErr result (λ e. e ≡ RunError.Write) }
+{
+    match output.write(octets) {
+        Ok(0) => Err(RunError::Write),
+        Ok(count) => Ok(count),
+        Err(error) if error.kind() == ErrorKind::Interrupted => Ok(0),
+        Err(_) => Err(RunError::Write),
+    }
 }
 
 /// The one line that refuses an input.
 fn refusal(alloc: Global, text: &str) -> Result<Answer, AllocError>
-    ensures { IfOk result (λ answer. (string_bytes answer.text ≡ text.now ++ 10 ∷ []) × (answer.status ≡ 1)) }
+    ensures { IfOk result
+        (λ answer. answer_in answer ≡ record { text = line text.now; status = 1 }) }
 {
     Ok(Answer {
         text: format!(in alloc; "{text}\n")?,
@@ -104,7 +139,9 @@ fn refusal(alloc: Global, text: &str) -> Result<Answer, AllocError>
 }
 
 /// The answer to the lines: the first of them that is wrong decides.
-fn answer_to(alloc: Global, text: &[u8]) -> Result<Answer, AllocError> {
+fn answer_to(alloc: Global, text: &[u8]) -> Result<Answer, AllocError>
+    ensures { IfOk result (λ answer. IsOnly (IsAnswer text.now) (answer_in answer)) }
+{
     let Some(lines) = Lines::of(text) else {
         return refusal(alloc, "bad input");
     };
@@ -114,40 +151,71 @@ fn answer_to(alloc: Global, text: &[u8]) -> Result<Answer, AllocError> {
     let Some(octets) = octets(alloc, lines.octets)? else {
         return refusal(alloc, "bad octets");
     };
-    let Some(view) = view_from(octets.as_slice(), lines.start) else {
+    let Some(view) = view_from(octets.as_slice(), lines.start)? else {
         return refusal(alloc, "bad start");
     };
     fields_of(alloc, view, shapes.as_slice())
 }
 
-/// The bits of the octets from the first bit on that the line names.
-fn view_from<'a>(octets: &'a [u8], line: &[u8]) -> Option<BitStr<'a>> {
-    let first = first_bit(line)?;
-    let bits = octets.len().checked_mul(8)?;
-    BitStr::new(octets, first, bits.checked_sub(first)?)
+/// The bits of the octets from the first bit on that the line names; None for another line. Octets whose bits are more
+/// than `usize::MAX` are want of memory.
+fn view_from<'a>(octets: &'a [u8], line: &[u8]) -> Result<Option<BitStr<'a>>, AllocError>
+    ensures { IfOk result (λ found. MatchOption found
+        ((first : ℕ) → ¬ (IsStart line.now octets.now first))
+        (λ view. (first : ℕ) × IsStart line.now octets.now first
+        × (bits_of view ≡ drop first (bits octets.now)))) }
+{
+    let Some(len) = octets.len().checked_mul(8) else {
+        return Err(AllocError);
+    };
+    let Some(first) = number(line) else {
+        return Ok(None);
+    };
+    if first > len {
+        return Ok(None);
+    }
+    let (_, view) = BitStr::from_octets(octets).split_at(first);
+    Ok(Some(view))
 }
 
-/// The fields of the shapes, what is left, and the fields written again.
-fn fields_of(alloc: Global, view: BitStr<'_>, shapes: &[Shape<'_>]) -> Result<Answer, AllocError> {
+/// The fields of the shapes, what is left, and the fields written again; or the line that names the first wrong field.
+fn fields_of(alloc: Global, view: BitStr<'_>, shapes: &[Shape<'_>]) -> Result<Answer, AllocError>
+    requires { AreReadInOneCode (plain_shapes shapes.now) }
+    ensures { IfOk result (λ answer.
+        IsOnly (IsBitsAnswer (bits_of view.entry) (plain_shapes shapes.now)) (answer_in answer)) }
+{
     let mut reader = BitReader::new(view);
-    let fields = match read_fields(alloc, &mut reader, shapes) {
-        Ok(fields) => fields,
-        Err(ReadError::Memory) => return Err(AllocError),
-        Err(error) => return refused(alloc, error),
-    };
+    match read_fields(alloc, &mut reader, shapes) {
+        Ok(fields) => found(alloc, fields.as_slice(), reader.len()),
+        Err(ReadError::Memory) => Err(AllocError),
+        Err(error) => refused(alloc, error),
+    }
+}
+
+/// The answer of fields that were found.
+fn found(alloc: Global, fields: &[Field<'_, '_>], left: usize) -> Result<Answer, AllocError>
+    requires { AreInOneCode (plain_fields fields.now) }
+    ensures { IfOk result
+        (λ answer. IsOnly (IsPrinted (plain_fields fields.now) left) (answer_in answer)) }
+{
     let mut again = BitBuffer::new(alloc);
     // The fields that were read are no longer than their input, so only memory can be wanting.
-    if write_fields(&mut again, fields.as_slice()).is_err() {
+    let Ok(()) = write_fields(&mut again, fields) else {
         return Err(AllocError);
-    }
+    };
     Ok(Answer {
-        text: print_fields(alloc, fields.as_slice(), reader.len(), again.as_bytes())?,
+        text: print_fields(alloc, fields, left, again.as_bytes())?,
         status: 0,
     })
 }
 
-/// The line for an input that does not begin with fields of the shapes.
-fn refused(alloc: Global, error: ReadError) -> Result<Answer, AllocError> {
-    let text = format!(in alloc; "refused: {error}")?;
-    refusal(alloc, text.as_str())
+/// The answer of an input that does not begin with fields of the shapes.
+fn refused(alloc: Global, error: ReadError) -> Result<Answer, AllocError>
+    ensures { IfOk result (λ answer. answer_in answer
+        ≡ record { text = line (codes "refused: " ++ error_text error); status = 1 }) }
+{
+    Ok(Answer {
+        text: print_refusal(alloc, error)?,
+        status: 1,
+    })
 }

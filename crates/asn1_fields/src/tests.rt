@@ -1,4 +1,6 @@
 //! Worked rows on the program.
 
+mod memory;
 mod program;
 mod refusals;
+mod texts;

@@ -4,4 +4,5 @@ pub mod Plain
 pub mod Refusals
 pub mod Steps
 pub mod Walk
+pub mod Words
 pub mod Wrong

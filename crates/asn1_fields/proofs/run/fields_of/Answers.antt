@@ -1,0 +1,26 @@
+use Rattle.std.proofs.Common.{◌≡◌, Bool, List, ap, subst}
+use Rattle.asn1_values.specs.Plain.{plain_fields, plain_shapes}
+use Rattle.asn1_values.specs.Words.{list_of, bits_of, bits_left}
+use Rattle.asn1_fields.specs.Program.{IsBitsAnswer, IsOnly, IsPrinted}
+use Rattle.asn1_fields.proofs.AnswerLemmas.{goes_on, fields_only}
+use Rattle.asn1_fields.proofs.run.fields_of.Goals as goal
+
+pub found-requires : goal.found-requires
+found-requires c = rw c.as_slice.ensures.value (c.in-Ok.ensures.one_code c.requires)
+
+pub returns-in-Ok : goal.returns-in-Ok
+returns-in-Ok c =
+    let old = bits_left c.new-reader.result in
+    let list = bits_of c.args.view in
+    let shapes = plain_shapes c.args.shapes.now in
+    let fields = plain_fields c.as_slice.result.now in
+    let rest = bits_left c.read_fields.new.reader in
+    let whole : old ≡ list = ap list_of c.new-reader.ensures in
+    goes_on c.found.result (IsOnly (IsPrinted fields c.len.result)) (IsOnly (IsBitsAnswer list shapes)) c.found.ensures
+    (λ answer p. subst (λ (l : List Bool). IsOnly (IsBitsAnswer l shapes) answer) whole
+    (fields_only old shapes fields rest
+    (rw c.as_slice.ensures.value c.in-Ok.ensures.only)
+    (λ e ne h. let named = c.in-Ok.ensures.named e ne h in cc)
+    c.len.result answer
+    (rw c.as_slice.ensures.value c.in-Ok.ensures.found)
+    c.len.ensures.list p))

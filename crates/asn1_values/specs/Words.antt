@@ -1,0 +1,16 @@
+-- Words of the crates below, passed on for definitions and contracts that stand on this crate. Declares nothing.
+unfoldable pub use Rattle.asn1_bits.specs.Bits.{bits, digits}
+pub use Rattle.asn1_bits.specs.Bits.{is_odd, octets_for, padded}
+unfoldable pub use Rattle.asn1_bits.specs.View.{list_of}
+pub use Rattle.asn1_bits.specs.BitStr.{view_of, bits_of}
+pub use Rattle.asn1_bits.specs.BitReader.{view_left, bits_left}
+pub use Rattle.asn1_bits.specs.Octets.{octets_in}
+pub use Rattle.asn1_number.specs.Octets.{IsShortest}
+unfoldable pub use Rattle.asn1_number.specs.Shortest.{shortest_octets}
+pub use Rattle.asn1_oid.specs.Arcs.{dotted}
+unfoldable pub use Rattle.asn1_strings.specs.Sets.{base_set}
+pub use Rattle.asn1_strings.specs.Alphabet.{Alphabet, effective}
+pub use Rattle.asn1_strings.specs.AlphabetView.{alphabet_of}
+pub use Rattle.asn1_strings.specs.AlphabetLaws.{code_is_one}
+pub use Rattle.asn1_strings.specs.declared.character_set.CharacterSetName.{CharacterSetName}
+pub use Rattle.asn1_strings.specs.declared.character_set.CharacterSetName.TheVariants.{Numeric}
