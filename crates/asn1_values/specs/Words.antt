@@ -12,5 +12,5 @@ unfoldable pub use Rattle.asn1_strings.specs.Sets.{base_set}
 pub use Rattle.asn1_strings.specs.Alphabet.{Alphabet, effective}
 pub use Rattle.asn1_strings.specs.AlphabetView.{alphabet_of}
 pub use Rattle.asn1_strings.specs.AlphabetLaws.{code_is_one}
-pub use Rattle.asn1_strings.specs.declared.character_set.CharacterSetName.{CharacterSetName}
-pub use Rattle.asn1_strings.specs.declared.character_set.CharacterSetName.TheVariants.{Numeric}
+pub use Rattle.asn1_characters.specs.declared.character_set.CharacterSetName.{CharacterSetName}
+pub use Rattle.asn1_characters.specs.declared.character_set.CharacterSetName.TheVariants.{Numeric}
