@@ -1,5 +1,5 @@
 -- Answers that are made: what they show, and that there is no other.
-use Rattle.std.proofs.Common.{◌≡◌, ◌≢◌, inl, inr, ℕ, Bool, List, length, drop, codes, Result, Ok, Err, IfOk, String, Global, string_bytes, refl, sym, subst, ◌∙◌}
+use Rattle.std.proofs.Common.{◌≡◌, ◌≢◌, inl, inr, ℕ, Bool, List, length, drop, codes, Result, Ok, Err, IfOk, String, Global, string_bytes, refl, sym, subst, ◌∙◌, ◌≤◌, arith, ap}
 use Rattle.std.specs.declared.alloc.AllocError.{AllocError}
 use Rattle.asn1_values.specs.declared.bit_fields.error.ReadError.{ReadError}
 use Rattle.asn1_values.specs.declared.bit_fields.error.ReadError.TheVariants.{Memory}
@@ -10,7 +10,7 @@ use Rattle.hex.specs.Hex.{decode_of}
 use Rattle.asn1_fields.specs.declared.run.Answer as made
 use Rattle.asn1_fields.specs.Input.{Lines, AreLines, AreWords}
 use Rattle.asn1_fields.specs.Output.{line}
-use Rattle.asn1_fields.specs.Program.{Answer, IsPrinted, IsBitsAnswer, IsStart, IsStartAnswer, IsOctetsAnswer, IsShapesAnswer, IsAnswer, IsOnly}
+use Rattle.asn1_fields.specs.Program.{Answer, IsPrinted, IsBitsAnswer, IsStart, IsStartAnswer, IsOctetsAnswer, IsShapesAnswer, IsAnswer, IsOnly, OrElse}
 use Rattle.asn1_fields.specs.Run.{answer_in}
 use Rattle.asn1_fields.proofs.OneLemmas.{one_input, one_words, one_decoded, one_start, only_next, only_none}
 
@@ -88,3 +88,21 @@ module _ (text : List ℕ) (lines : Lines) (are : AreLines text lines) (shapes :
     inl (lines, are, inl (shapes, words, inl (octets, decoded, inl (first, start, is.0)))),
     λ other h. is.1 other (only_next (IsStart lines.start octets) (codes "bad start") (λ x. IsBitsAnswer (drop x (bits octets)) shapes) first other (λ y k. one_start lines.start octets first y start k) start (by_octets other h)),
   )
+
+-- ---- the status
+
+step_bit : {X : Type 0} (IsRight : X → Type 0) (text : List ℕ) (Next : X → Answer → Type 0) (answer : Answer) → ((x : X) → Next x answer → answer.status ≤ 1) → OrElse IsRight text Next answer → answer.status ≤ 1
+step_bit IsRight text Next answer more (inl h) = more h.0 h.2
+step_bit IsRight text Next answer more (inr h) = omega (arith, ap (λ (a : Answer). a.status) h.1)
+
+bits_bit : (list : List Bool) (shapes : List Shape) (answer : Answer) → IsBitsAnswer list shapes answer → answer.status ≤ 1
+bits_bit list shapes answer (inl h) = let p = h.3 in omega (arith, ap (λ (a : Answer). a.status) p.4)
+bits_bit list shapes answer (inr h) = omega (arith, ap (λ (a : Answer). a.status) h.3)
+
+pub answer_bit : (text : List ℕ) (answer : Answer) → IsAnswer text answer → answer.status ≤ 1
+answer_bit text answer =
+    step_bit (AreLines text) (codes "bad input") IsShapesAnswer answer
+    (λ lines. step_bit (AreWords lines.shapes) (codes "bad shapes") (IsOctetsAnswer lines) answer
+    (λ shapes. step_bit (λ octets. decode_of lines.octets ≡ Ok octets) (codes "bad octets") (IsStartAnswer lines shapes) answer
+    (λ octets. step_bit (IsStart lines.start octets) (codes "bad start") (λ first. IsBitsAnswer (drop first (bits octets)) shapes) answer
+    (λ first. bits_bit (drop first (bits octets)) shapes answer))))

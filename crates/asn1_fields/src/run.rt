@@ -52,6 +52,7 @@ struct Answer {
 
 /// Reads the input to its end, writes the whole answer at once, and answers the status: 0 for fields, 1 for a refusal.
 pub fn run<R: Read, W: Write>(alloc: Global, input: &mut R, output: &mut W) -> Result<u8, RunError>
+    ensures status { IfOk result (λ status. status ≤ 1) }
     // It has read to the end, and what it has written is the answer to what it read. Both speak of inputs and outputs
     // whose octets are known, as those over memory.
     ensures end { OnOk result (IsAtEnd (R.remaining input.new)) }
