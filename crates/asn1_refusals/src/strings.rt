@@ -259,9 +259,7 @@ fn empty_strings_ask_for_nothing(rt: HostRuntime) -> Result<(), Fail> {
     let empty = Ia5String::try_from_slice(rt.alloc(), &[])?;
     assert_eq!(rt; empty.clone()?.len(), 0);
     assert_eq!(rt;
-        BmpString::try_from_str(rt.alloc(), "")?
-            .to_bytes()?
-            .len(),
+        BmpString::try_from_str(rt.alloc(), "")?.to_bytes()?.len(),
         0
     );
     let octets = OctetString::from_static(&[]);
