@@ -125,7 +125,8 @@ fn lone_shape(letter: u8, numeric: &CharacterAlphabet<'static>) -> Option<Shape<
 }
 
 /// The shape of a letter and a number: `n` and the width of a number in bits, `o` and a number of octets, `b` and a
-/// number of bits, `i` and the number of an integer's octets, or `d` and that of the octets of an identifier's contents.
+/// number of bits, `i` and the number of an integer's octets, or `d` and the number of octets of an identifier's
+/// contents.
 fn counted_shape(letter: u8, count: usize) -> Option<Shape<'static>>
     requires { count < 10 ^ 9 }
     ensures { MatchOption result ((shape : plain.Shape) → ¬ (IsWord (letter ∷ decimal count) shape))

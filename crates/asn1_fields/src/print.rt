@@ -41,7 +41,8 @@ fn print_all(alloc: Global, fields: &[Field<'_, '_>]) -> Result<String, AllocErr
 /// character in decimal, or `d` and the arcs with full stops.
 fn print_field(alloc: Global, text: &mut String, field: &Field<'_, '_>) -> Result<(), AllocError>
     ensures { OnOk result
-        (string_bytes text.new ≡ string_bytes text.old ++ line (field_text (plain_field field.now))) }
+        (string_bytes text.new
+        ≡ string_bytes text.old ++ line (field_text (plain_field field.now))) }
 {
     match field {
         Field::Number { value, .. } => writeln!(text, "n {value}"),
@@ -57,7 +58,8 @@ fn print_field(alloc: Global, text: &mut String, field: &Field<'_, '_>) -> Resul
 /// `b`, and the digits of the bits, or `-` where there are none.
 fn print_bits(text: &mut String, bits: BitStr<'_>) -> Result<(), AllocError>
     ensures { OnOk result (string_bytes text.new
-        ≡ string_bytes text.old ++ line (codes "b " ++ or_dash (digits_of_bits (bits_of bits.entry)))) }
+        ≡ string_bytes text.old
+        ++ line (codes "b " ++ or_dash (digits_of_bits (bits_of bits.entry)))) }
 {
     if bits.len() == 0 {
         return text.push_str("b -\n");
@@ -93,7 +95,8 @@ fn print_integer(
     number: &Integer,
 ) -> Result<(), AllocError>
     ensures { OnOk result (string_bytes text.new
-        ≡ string_bytes text.old ++ line (label.now ++ codes " " ++ octets_text (shortest_octets number.now))) }
+        ≡ string_bytes text.old
+        ++ line (label.now ++ codes " " ++ octets_text (shortest_octets number.now))) }
 {
     laws_of_shortest_octets();
     print_octets(alloc, text, label, number.signed_octets().as_ref())

@@ -1,6 +1,6 @@
 //! The program over any reader and writer.
 
-ghost use Rattle.std.specs.Prelude.{◌≡◌, ◌≢◌, ◌≤◌, ◌<◌, ◌⊎◌, ℕ, Bool, List, [], ◌∷◌, ◌++◌, length, take, drop, IfOk, OnOk, OnErr, IfErr, MatchOption, string_bytes, codes};
+ghost use Rattle.std.specs.Prelude.{◌≡◌, ◌≢◌, ◌≤◌, ℕ, List, [], ◌++◌, length, take, drop, IfOk, OnOk, OnErr, IfErr, MatchOption, codes};
 ghost use Rattle.std.specs.Io.KnownBytes.{Appends, Consumes, IsAtEnd};
 ghost use Rattle.asn1_values.specs.Fields.{AreInOneCode, AreReadInOneCode};
 ghost use Rattle.asn1_values.specs.Plain.{plain_fields, plain_shapes};
@@ -57,7 +57,8 @@ pub fn run<R: Read, W: Write>(alloc: Global, input: &mut R, output: &mut W) -> R
     // whose octets are known, as those over memory.
     ensures end { OnOk result (IsAtEnd (R.remaining input.new)) }
     ensures answer { IfOk result (λ status. (text : List ℕ) × (answer : program.Answer)
-        × Consumes (R.remaining input.old) (R.remaining input.new) text × IsOnly (IsAnswer text) answer
+        × Consumes (R.remaining input.old) (R.remaining input.new) text
+        × IsOnly (IsAnswer text) answer
         × Appends (W.contents output.old) (W.contents output.new) answer.text
         × (status ≡ answer.status)) }
     // Only where writing fails has anything been written, and then no more than a front of the answer.
@@ -96,7 +97,8 @@ fn read_all<R: Read>(alloc: Global, input: &mut R) -> Result<Vec<u8>, RunError>
 
 /// Writes the whole text, and sends it off. Where that fails, a front of it may have gone out.
 fn write_answer<W: Write>(output: &mut W, text: &[u8]) -> Result<(), RunError>
-    ensures written { OnOk result (Appends (W.contents output.old) (W.contents output.new) text.now) }
+    ensures written { OnOk result
+        (Appends (W.contents output.old) (W.contents output.new) text.now) }
     ensures front { OnErr result ((front : List ℕ) × (rest : List ℕ) × (text.now ≡ front ++ rest)
         × Appends (W.contents output.old) (W.contents output.new) front) }
     ensures err { IfErr result (λ e. e ≡ RunError.Write) }
