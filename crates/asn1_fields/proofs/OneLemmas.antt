@@ -7,8 +7,8 @@ use Rattle.std.proofs.lemmas.List.{length-append}
 use Rattle.std.proofs.lemmas.List.Elements.{All-head, All-tail}
 use Rattle.std.proofs.lemmas.List.FromFn.{get_or-range_with_len}
 use Rattle.std.proofs.lemmas.List.Kept.{AllPairs-cons}
-use Rattle.asn1_values.specs.Fields.{Shape, OfNumber, OfOctets, OfBits, OfInteger, OfCharacter, OfCountedInteger, OfIdentifier, HasOneCodeEach, IsReadInOneCode, AreReadInOneCode}
-use Rattle.asn1_values.specs.Words.{Alphabet, Numeric, base_set, bits, code_is_one, digits, effective, is_odd}
+use Rattle.asn1_values.specs.Fields.{Shape, OfNumber, OfOctets, OfBits, OfInteger, OfCharacter, OfCountedInteger, OfIdentifier, GivesOneCodeEach, GivesOneSpelling, GiveOneSpelling}
+use Rattle.asn1_values.specs.Words.{Alphabet, Numeric, base_set, bits, code_is_one, digits, effective, length-digits, number, number_of-digits}
 use Rattle.hex.specs.Hex.{decode_of}
 use Rattle.asn1_fields.specs.Input.{Lines, AreLines, AreWords, IsLastLine, IsWord}
 use Rattle.asn1_fields.specs.Program.{Answer, Hold, IsStart, OrElse}
@@ -92,60 +92,24 @@ unfolding base_set
 numerals_differ = AllPairs-cons (λ a b. a ≢ b) 32 (range_with_len 48 10)
     (λ k d within e. omega (arith, get_or-range_with_len 48 10 k d within)) digits_differ
 
-numeric_in_one_code : HasOneCodeEach (effective Numeric None false)
+numeric_in_one_code : GivesOneCodeEach (effective Numeric None false)
 numeric_in_one_code c j k p q = code_is_one (effective Numeric None false) c j k numerals_differ p q
 
-in_one_code : (word : List ℕ) (shape : Shape) → IsWord word shape → IsReadInOneCode shape
-in_one_code word (OfCharacter alphabet) h = subst (λ (a : Alphabet). HasOneCodeEach a) (sym h.1) numeric_in_one_code
+in_one_code : (word : List ℕ) (shape : Shape) → IsWord word shape → GivesOneSpelling shape
+in_one_code word (OfCharacter alphabet) h = subst (λ (a : Alphabet). GivesOneCodeEach a) (sym h.1) numeric_in_one_code
 in_one_code word shape h = tt
 
-each_in_one_code : (words : List (List ℕ)) (shapes : List Shape) → AllZip IsWord words shapes → AreReadInOneCode shapes
+each_in_one_code : (words : List (List ℕ)) (shapes : List Shape) → AllZip IsWord words shapes → GiveOneSpelling shapes
 each_in_one_code [] [] h = tt
 each_in_one_code [] (s ∷ shapes) h = absurd h
 each_in_one_code (w ∷ words) [] h = absurd h
 each_in_one_code (w ∷ words) (s ∷ shapes) h = (in_one_code w s h.0, each_in_one_code words shapes h.1)
 
-pub words_in_one_code : (line : List ℕ) (shapes : List Shape) → AreWords line shapes → AreReadInOneCode shapes
-words_in_one_code [] shapes h = subst (λ (s : List Shape). AreReadInOneCode s) (sym h) tt
+pub words_in_one_code : (line : List ℕ) (shapes : List Shape) → AreWords line shapes → GiveOneSpelling shapes
+words_in_one_code [] shapes h = subst (λ (s : List Shape). GiveOneSpelling s) (sym h) tt
 words_in_one_code (c ∷ cs) shapes h = each_in_one_code (slice_split (λ x. x == 32) (c ∷ cs)) shapes h
 
 -- ---- octets that hold the same bits
-
-same_ends : (xs ys : List Bool) (x y : Bool) → xs ++ x ∷ [] ≡ ys ++ y ∷ [] → (xs ≡ ys) × (x ≡ y)
-same_ends [] [] x y e = (refl, cc)
-same_ends [] (b ∷ ys) x y e =
-    let long : 1 ≡ suc (length (ys ++ y ∷ [])) = ap length e in absurd (omega (arith, length-append ys (y ∷ [])))
-same_ends (a ∷ xs) [] x y e =
-    let long : suc (length (xs ++ x ∷ [])) ≡ 1 = ap length e in absurd (omega (arith, length-append xs (x ∷ [])))
-same_ends (a ∷ xs) (b ∷ ys) x y e =
-    let head : a ≡ b = cc in
-    let tail : xs ++ x ∷ [] ≡ ys ++ y ∷ [] = cc in
-    let same = same_ends xs ys x y tail in
-    let front = same.0 in
-    (λ i. head i ∷ front i, same.1)
-
-parity : (n : ℕ) (b : Bool) → is_odd n ≡ b → n % 2 ≡ (if b then 1 else 0)
-parity n true e = grind (arith, nat_tests)
-parity n false e = let most : n % 2 < 2 = omega arith in grind (arith, nat_tests)
-
-same_parity : (m n : ℕ) → is_odd m ≡ is_odd n → m % 2 ≡ n % 2
-same_parity m n e = parity m (is_odd n) e ∙ sym (parity n (is_odd n) refl)
-
-same_digits : (w m n : ℕ) → m < 2 ^ w → n < 2 ^ w → digits m w ≡ digits n w → m ≡ n
-unfolding digits
-same_digits zero m n small few e = omega arith
-same_digits (suc w) m n small few e =
-    let parts = same_ends (digits (m / 2) w) (digits (n / 2) w) (is_odd m) (is_odd n) e in
-    let low : m < 2 ^ w * 2 = rw pow-suc at small in
-    let high : n < 2 ^ w * 2 = rw pow-suc at few in
-    let half = same_digits w (m / 2) (n / 2) (omega arith) (omega arith) parts.0 in
-    let odd = same_parity m n parts.1 in
-    omega arith
-
-length_digits : (n w : ℕ) → length (digits n w) ≡ w
-unfolding digits
-length_digits n zero = refl
-length_digits n (suc w) = omega (arith, length-append (digits (n / 2) w) (is_odd n ∷ []), length_digits (n / 2) w)
 
 same_fronts : (xs ys us vs : List Bool) → length xs ≡ length ys → xs ++ us ≡ ys ++ vs → (xs ≡ ys) × (us ≡ vs)
 same_fronts [] [] us vs n e = (refl, e)
@@ -162,7 +126,7 @@ none_or_some : (o : ℕ) (os : List ℕ) → [] ≡ bits (o ∷ os) → ⊥
 unfolding bits
 none_or_some o os e =
     let none : 0 ≡ length (digits o 8 ++ bits os) = ap length e in
-    omega (arith, length-append (digits o 8) (bits os), length_digits o 8)
+    omega (arith, length-append (digits o 8) (bits os), length-digits o 8)
 
 same_bits : (os ps : List ℕ) → All (λ o. o < 256) os → All (λ o. o < 256) ps → bits os ≡ bits ps → os ≡ ps
 unfolding bits
@@ -170,8 +134,10 @@ same_bits [] [] small few e = refl
 same_bits [] (p ∷ ps) small few e = absurd (none_or_some p ps e)
 same_bits (o ∷ os) [] small few e = absurd (none_or_some o os (sym e))
 same_bits (o ∷ os) (p ∷ ps) small few e =
-    let parts = same_fronts (digits o 8) (digits p 8) (bits os) (bits ps) (length_digits o 8 ∙ sym (length_digits p 8)) e in
-    let head = same_digits 8 o p (All-head (λ x. x < 256) o os small) (All-head (λ x. x < 256) p ps few) parts.0 in
+    let parts = same_fronts (digits o 8) (digits p 8) (bits os) (bits ps) (length-digits o 8 ∙ sym (length-digits p 8)) e in
+    let first = number_of-digits o 8 (All-head (λ x. x < 256) o os small) in
+    let second = number_of-digits p 8 (All-head (λ x. x < 256) p ps few) in
+    let head : o ≡ p = sym first ∙ ap number parts.0 ∙ second in
     let tail = same_bits os ps (All-tail (λ x. x < 256) o os small) (All-tail (λ x. x < 256) p ps few) parts.1 in
     λ i. head i ∷ tail i
 

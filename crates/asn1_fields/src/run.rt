@@ -2,7 +2,7 @@
 
 ghost use Rattle.std.specs.Prelude.{◌≡◌, ◌≢◌, ◌≤◌, ℕ, List, [], ◌++◌, length, take, drop, IfOk, OnOk, OnErr, IfErr, MatchOption, codes};
 ghost use Rattle.std.specs.Io.KnownBytes.{Appends, Consumes, IsAtEnd};
-ghost use Rattle.asn1_values.specs.Fields.{AreInOneCode, AreReadInOneCode};
+ghost use Rattle.asn1_values.specs.Fields.{HaveOneSpelling, GiveOneSpelling};
 ghost use Rattle.asn1_values.specs.Plain.{plain_fields, plain_shapes};
 ghost use Rattle.asn1_values.specs.Words.{bits, bits_of};
 ghost use Rattle.asn1_fields.specs.Output.{line, error_text};
@@ -183,7 +183,7 @@ fn view_from<'a>(octets: &'a [u8], line: &[u8]) -> Result<Option<BitStr<'a>>, Al
 
 /// The fields of the shapes, what is left, and the fields written again; or the line that names the first wrong field.
 fn fields_of(alloc: Global, view: BitStr<'_>, shapes: &[Shape<'_>]) -> Result<Answer, AllocError>
-    requires { AreReadInOneCode (plain_shapes shapes.now) }
+    requires { GiveOneSpelling (plain_shapes shapes.now) }
     ensures { IfOk result (λ answer.
         IsOnly (IsBitsAnswer (bits_of view.entry) (plain_shapes shapes.now)) (answer_in answer)) }
 {
@@ -197,7 +197,7 @@ fn fields_of(alloc: Global, view: BitStr<'_>, shapes: &[Shape<'_>]) -> Result<An
 
 /// The answer of fields that were found.
 fn found(alloc: Global, fields: &[Field<'_, '_>], left: usize) -> Result<Answer, AllocError>
-    requires { AreInOneCode (plain_fields fields.now) }
+    requires { HaveOneSpelling (plain_fields fields.now) }
     ensures { IfOk result
         (λ answer. IsOnly (IsPrinted (plain_fields fields.now) left) (answer_in answer)) }
 {

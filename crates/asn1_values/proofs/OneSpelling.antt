@@ -8,7 +8,7 @@ use Rattle.asn1_number.specs.LawsHold.{one_shortest_list}
 use Rattle.asn1_oid.specs.Contents.{IsContents}
 use Rattle.asn1_oid.specs.WritingLaws.{contents_only}
 use Rattle.asn1_values.specs.Fields as plain
-use Rattle.asn1_values.specs.Fields.{IsSpelledBy, IsOfShape, AreSpelledBy, HasOneCodeEach, IsInOneCode, AreInOneCode, IsReadInOneCode, AreReadInOneCode, Begins, need, needs, Number, Octets, Bits, Integer, Character, CountedInteger, Identifier, HasContentsLength, OfNumber, OfOctets, OfBits, OfInteger, OfCharacter, OfCountedInteger, OfIdentifier}
+use Rattle.asn1_values.specs.Fields.{IsSpelledBy, IsOfShape, AreSpelledBy, GivesOneCodeEach, HasOneSpelling, HaveOneSpelling, GivesOneSpelling, GiveOneSpelling, Begins, need, needs, Number, Octets, Bits, Integer, Character, CountedInteger, Identifier, HasContentsLength, OfNumber, OfOctets, OfBits, OfInteger, OfCharacter, OfCountedInteger, OfIdentifier}
 use Rattle.std.specs.List.{AllZip}
 use Rattle.std.proofs.lemmas.List.{length-append}
 use Rattle.asn1_bits.specs.DigitLaws.{length-digits, length-bits}
@@ -17,7 +17,7 @@ use Rattle.asn1_bits.specs.DigitLaws.{length-digits, length-bits}
 pub same_shortest : (n : ℤ) (o p : List ℕ) → IsShortest n o → IsShortest n p → o ≡ p
 same_shortest n o p s t = let one = one_shortest_list n in one.2 o s ∙ sym (one.2 p t)
 
-one_spelling : (f : plain.Field) (a b : List Bool) → IsInOneCode f → IsSpelledBy f a → IsSpelledBy f b → a ≡ b
+one_spelling : (f : plain.Field) (a b : List Bool) → HasOneSpelling f → IsSpelledBy f a → IsSpelledBy f b → a ≡ b
 one_spelling (Number value width) a b one p q = p.2 ∙ sym q.2
 one_spelling (Octets octets) a b one p q = p.1 ∙ sym q.1
 one_spelling (Bits view) a b one p q = p ∙ sym q
@@ -26,7 +26,7 @@ one_spelling (Character alphabet c) a b one p q = p.2 ∙ ap (λ (k : ℕ). digi
 one_spelling (CountedInteger n) a b one p q = p.3 ∙ ap (λ (o : List ℕ). bits (length o ∷ o)) (same_shortest n p.0 q.0 p.1 q.1) ∙ sym q.3
 one_spelling (Identifier arcs) a b one p q = p.3 ∙ ap bits (contents_only arcs p.0 q.0 p.1 q.1) ∙ sym q.3
 
-pub all_one : (fs : List plain.Field) (a b : List Bool) → AreInOneCode fs → AreSpelledBy fs a → AreSpelledBy fs b → a ≡ b
+pub all_one : (fs : List plain.Field) (a b : List Bool) → HaveOneSpelling fs → AreSpelledBy fs a → AreSpelledBy fs b → a ≡ b
 all_one [] a b one p q = p ∙ sym q
 all_one (f ∷ fs) a b one p q =
     let first : p.0 ≡ q.0 = one_spelling f p.0 q.0 one.0 p.2 q.2 in
@@ -34,23 +34,23 @@ all_one (f ∷ fs) a b one p q =
     p.4 ∙ ap (λ (l : List Bool). l ++ p.1) first ∙ ap (λ (l : List Bool). q.0 ++ l) others ∙ sym q.4
 
 -- fields use the alphabets of their shapes
-pub in_one_code : (fs : List plain.Field) (ss : List plain.Shape) → AllZip IsOfShape fs ss → AreReadInOneCode ss → AreInOneCode fs
+pub in_one_code : (fs : List plain.Field) (ss : List plain.Shape) → AllZip IsOfShape fs ss → GiveOneSpelling ss → HaveOneSpelling fs
 in_one_code [] [] z r = tt
 in_one_code [] (s ∷ ss) z r = absurd z
 in_one_code (f ∷ fs) [] z r = absurd z
 in_one_code (f ∷ fs) (s ∷ ss) z r = (one f s z.0 r.0, in_one_code fs ss z.1 r.1)
   where
-    one : (f : plain.Field) (s : plain.Shape) → IsOfShape f s → IsReadInOneCode s → IsInOneCode f
+    one : (f : plain.Field) (s : plain.Shape) → IsOfShape f s → GivesOneSpelling s → HasOneSpelling f
     one (Number value width) s shape codes = tt
     one (Octets octets) s shape codes = tt
     one (Bits view) s shape codes = tt
     one (Integer n) s shape codes = tt
-    one (Character a c) (OfCharacter b) shape codes = subst (λ (x : Alphabet). HasOneCodeEach x) (sym shape) codes
+    one (Character a c) (OfCharacter b) shape codes = subst (λ (x : Alphabet). GivesOneCodeEach x) (sym shape) codes
     one (Character a c) s shape codes = absurd shape
     one (CountedInteger n) s shape codes = tt
     one (Identifier arcs) s shape codes = tt
 
-pub written_again : (fs : List plain.Field) (old left : List Bool) (shapes : List plain.Shape) → Begins old shapes fs left → AreReadInOneCode shapes → (list : List Bool) → AreSpelledBy fs list → old ≡ list ++ left
+pub written_again : (fs : List plain.Field) (old left : List Bool) (shapes : List plain.Shape) → Begins old shapes fs left → GiveOneSpelling shapes → (list : List Bool) → AreSpelledBy fs list → old ≡ list ++ left
 written_again fs old left shapes b one list s = b.parts ∙ ap (λ (l : List Bool). l ++ left) (all_one fs b.front list (in_one_code fs shapes b.of_shapes one) b.spelled s)
 
 -- the contents have so many octets

@@ -108,21 +108,21 @@ pub record Begins (list : List Bool) (shapes : List Shape) (fields : List Field)
 -- ---- alphabets that repeat a character
 
 -- no character has two codes, as where the alphabet is not written by places, or repeats no character
-abbrev pub HasOneCodeEach : Alphabet → Type 0
-HasOneCodeEach alphabet = (c j k : ℕ) → IsCode alphabet c j → IsCode alphabet c k → j ≡ k
+abbrev pub GivesOneCodeEach : Alphabet → Type 0
+GivesOneCodeEach alphabet = (c j k : ℕ) → IsCode alphabet c j → IsCode alphabet c k → j ≡ k
 
-abbrev pub IsInOneCode : Field → Type 0
-IsInOneCode (Character alphabet c) = HasOneCodeEach alphabet
-IsInOneCode field = ⊤
+abbrev pub HasOneSpelling : Field → Type 0
+HasOneSpelling (Character alphabet c) = GivesOneCodeEach alphabet
+HasOneSpelling field = ⊤
 
 -- no alphabet that the fields use gives a character two codes
-abbrev pub AreInOneCode : List Field → Type 0
-AreInOneCode fields = AllByRecursion IsInOneCode fields
+abbrev pub HaveOneSpelling : List Field → Type 0
+HaveOneSpelling fields = AllByRecursion HasOneSpelling fields
 
-abbrev pub IsReadInOneCode : Shape → Type 0
-IsReadInOneCode (OfCharacter alphabet) = HasOneCodeEach alphabet
-IsReadInOneCode shape = ⊤
+abbrev pub GivesOneSpelling : Shape → Type 0
+GivesOneSpelling (OfCharacter alphabet) = GivesOneCodeEach alphabet
+GivesOneSpelling shape = ⊤
 
 -- no alphabet that the shapes name gives a character two codes
-abbrev pub AreReadInOneCode : List Shape → Type 0
-AreReadInOneCode shapes = AllByRecursion IsReadInOneCode shapes
+abbrev pub GiveOneSpelling : List Shape → Type 0
+GiveOneSpelling shapes = AllByRecursion GivesOneSpelling shapes

@@ -1,6 +1,8 @@
 -- Words of the crates below, passed on for definitions and contracts that stand on this crate. Declares nothing.
 unfoldable pub use Rattle.asn1_bits.specs.Bits.{bits, digits}
-pub use Rattle.asn1_bits.specs.Bits.{is_odd, octets_for, padded}
+pub use Rattle.asn1_bits.specs.Bits.{number, octets_for, padded}
+pub use Rattle.asn1_bits.specs.DigitLaws.{length-digits}
+pub use Rattle.asn1_bits.specs.NumberLaws.{number_of-digits}
 unfoldable pub use Rattle.asn1_bits.specs.View.{list_of}
 pub use Rattle.asn1_bits.specs.BitStr.{view_of, bits_of}
 pub use Rattle.asn1_bits.specs.BitReader.{view_left, bits_left}

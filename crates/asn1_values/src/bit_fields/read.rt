@@ -10,7 +10,7 @@ ghost use Rattle.asn1_number.specs.Octets.{signed};
 ghost use Rattle.asn1_strings.specs.Alphabet.{IsCode};
 ghost use Rattle.asn1_strings.specs.AlphabetView.{alphabet_of};
 ghost use Rattle.asn1_values.specs.Fields as plain;
-ghost use Rattle.asn1_values.specs.Fields.{Begins, IsOfShape, IsSpelledBy, AreSpelledBy, NoSpellingBeginsAnother, NoneBeginsAnother, needs, AreInOneCode, AreReadInOneCode};
+ghost use Rattle.asn1_values.specs.Fields.{Begins, IsOfShape, IsSpelledBy, AreSpelledBy, NoSpellingBeginsAnother, NoneBeginsAnother, needs, HaveOneSpelling, GiveOneSpelling};
 ghost use Rattle.asn1_values.specs.Plain.{plain_field, plain_fields, plain_shape, plain_shapes, LiesAt, LieFrom};
 ghost use Rattle.asn1_values.specs.Refusals.{IsReadRefusal};
 ghost use Rattle.asn1_values.specs.Steps.{past, past_all};
@@ -47,11 +47,11 @@ pub fn read_fields<'a, 's>(
         → IsOkUnless result ReadError.Memory }
     // The fields' concatenation, which is one list where no alphabet gives a character two codes, is the front that
     // was read.
-    ensures again { AreReadInOneCode (plain_shapes shapes.now) → IfOk result (λ fields. (front : List Bool)
+    ensures front_read { GiveOneSpelling (plain_shapes shapes.now) → IfOk result (λ fields. (front : List Bool)
         → AreSpelledBy (plain_fields fields.items) front
         → bits_left reader.old ≡ front ++ bits_left reader.new) }
-    ensures one_code { AreReadInOneCode (plain_shapes shapes.now)
-        → IfOk result (λ fields. AreInOneCode (plain_fields fields.items)) }
+    ensures one_spelling { GiveOneSpelling (plain_shapes shapes.now)
+        → IfOk result (λ fields. HaveOneSpelling (plain_fields fields.items)) }
 
     // The reader keeps its storage, from the first bit after the fields on.
     ensures rest { IfOk result (λ fields. (front : List Bool)

@@ -8,7 +8,7 @@ ghost use Rattle.asn1_bits.specs.BitAppender.{room, lender_of, bits_written};
 ghost use Rattle.asn1_number.specs.Octets.{IsShortest};
 ghost use Rattle.asn1_oid.specs.Contents.{FitU32};
 ghost use Rattle.asn1_values.specs.Fields as plain;
-ghost use Rattle.asn1_values.specs.Fields.{IsSpelledBy, AreSpelledBy, AreInOneCode};
+ghost use Rattle.asn1_values.specs.Fields.{IsSpelledBy, AreSpelledBy, HaveOneSpelling};
 ghost use Rattle.asn1_values.specs.Plain.{plain_field, plain_fields};
 ghost use Rattle.asn1_values.specs.Refusals.{IsWriteRefusal};
 ghost use Rattle.asn1_values.specs.Steps.{NamesMisfit, NamesFirstMisfit, FitsIn, EndsAt, HasRoom, Pushes, PushesAll, TakesTurns, TakeTurns};
@@ -27,7 +27,7 @@ pub fn write_fields(buffer: &mut BitBuffer, fields: &[Field<'_, '_>]) -> Result<
     ensures written { OnOk result ((list : List Bool) × AreSpelledBy (plain_fields fields.now) list
         × (buffer.new ≡ buffer.old ++ list)) }
     // It is the one concatenation, where no alphabet gives a character two codes.
-    ensures one { AreInOneCode (plain_fields fields.now)
+    ensures one { HaveOneSpelling (plain_fields fields.now)
         → (list : List Bool) → AreSpelledBy (plain_fields fields.now) list
         → OnOk result (buffer.new ≡ buffer.old ++ list) }
 
@@ -59,7 +59,7 @@ pub fn write_fields_counted(
 ) -> Result<(), WriteError>
     ensures written { OnOk result ((list : List Bool) × AreSpelledBy (plain_fields fields.now) list
         × (buffer.new ≡ buffer.old ++ list)) }
-    ensures one { AreInOneCode (plain_fields fields.now)
+    ensures one { HaveOneSpelling (plain_fields fields.now)
         → (list : List Bool) → AreSpelledBy (plain_fields fields.now) list
         → OnOk result (buffer.new ≡ buffer.old ++ list) }
     ensures too_long { (list : List Bool) → AreSpelledBy (plain_fields fields.now) list

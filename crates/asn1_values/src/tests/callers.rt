@@ -2,7 +2,7 @@
 
 ghost use Rattle.std.specs.Prelude.{◌≡◌, ◌++◌, IfSome, IsOk};
 ghost use Rattle.asn1_bits.specs.BitReader.{bits_left};
-ghost use Rattle.asn1_values.specs.Fields.{AreReadInOneCode};
+ghost use Rattle.asn1_values.specs.Fields.{GiveOneSpelling};
 ghost use Rattle.asn1_values.specs.Plain.{plain_shapes};
 
 use crate::{BitBuffer, BitReader, Shape, WriteError, read_fields, write_fields};
@@ -15,7 +15,7 @@ fn copies_the_front(
     reader: &mut BitReader<'_>,
     shapes: &[Shape<'_>],
 ) -> Option<BitBuffer>
-    requires { AreReadInOneCode (plain_shapes shapes.now) }
+    requires { GiveOneSpelling (plain_shapes shapes.now) }
     ensures { IfSome result (λ front. bits_left reader.old ≡ front ++ bits_left reader.new) }
 {
     let fields = read_fields(alloc, reader, shapes).ok()?;

@@ -6,7 +6,7 @@ use Rattle.asn1_fields.proofs.AnswerLemmas.{goes_on, fields_only}
 use Rattle.asn1_fields.proofs.run.fields_of.Goals as goal
 
 pub found-requires : goal.found-requires
-found-requires c = rw c.as_slice.ensures.value (c.in-Ok.ensures.one_code c.requires)
+found-requires c = rw c.as_slice.ensures.value (c.in-Ok.ensures.one_spelling c.requires)
 
 pub returns-in-Ok : goal.returns-in-Ok
 returns-in-Ok c =

@@ -42,11 +42,11 @@ returns-clause-found c = found (bits_left c.args.reader.now) c.args.shapes.now (
 pub returns-clause-only : goal.returns-clause-only
 returns-clause-only c = only (bits_left c.args.reader.now) c.args.shapes.now (plain_fields c.in_ok-fields.fields.items) (bits_left c.collect.new.reader) c.in_ok-fields.ensures.fields
 
-pub returns-clause-again : goal.returns-clause-again
-returns-clause-again c = written_again (plain_fields c.in_ok-fields.fields.items) (bits_left c.args.reader.now) (bits_left c.collect.new.reader) (plain_shapes c.args.shapes.now) (found (bits_left c.args.reader.now) c.args.shapes.now (plain_fields c.in_ok-fields.fields.items) (bits_left c.collect.new.reader) c.in_ok-fields.ensures.fields)
+pub returns-clause-front_read : goal.returns-clause-front_read
+returns-clause-front_read c = written_again (plain_fields c.in_ok-fields.fields.items) (bits_left c.args.reader.now) (bits_left c.collect.new.reader) (plain_shapes c.args.shapes.now) (found (bits_left c.args.reader.now) c.args.shapes.now (plain_fields c.in_ok-fields.fields.items) (bits_left c.collect.new.reader) c.in_ok-fields.ensures.fields)
 
-pub returns-clause-one_code : goal.returns-clause-one_code
-returns-clause-one_code c =
+pub returns-clause-one_spelling : goal.returns-clause-one_spelling
+returns-clause-one_spelling c =
     let b = found (bits_left c.args.reader.now) c.args.shapes.now (plain_fields c.in_ok-fields.fields.items) (bits_left c.collect.new.reader) c.in_ok-fields.ensures.fields in
     in_one_code (plain_fields c.in_ok-fields.fields.items) (plain_shapes c.args.shapes.now) b.of_shapes
 
