@@ -22,7 +22,7 @@ pub data Fault : Type 0 where
 abbrev pub IsShortBy : ℕ → List Bool → ℕ → Type 0
 IsShortBy asked left n = (0 < n) × (length left + n ≡ asked)
 
--- the bits are octets that are shortest for no number
+-- no octets with these bits are shortest for a number
 abbrev pub IsNoInteger : List Bool → Type 0
 IsNoInteger list = (octets : List ℕ) (n : ℤ) → list ≡ bits octets → ¬ (IsShortest n octets)
 
