@@ -94,13 +94,6 @@ octet_taken old now all rest more word width octet count_old count_now p le lt i
       turns = p.turns;
     }
 
--- the last word fits
-pub room_left : (old now : BitAppender) (all rest : List ℕ) (word width count_old count_now : ℕ) → Pushing old now all rest word width count_old count_now → 8 * length all ≤ room old → width ≤ room now
-room_left old now all rest word width count_old count_now p enough =
-    let l = p.left in
-    let sum = ap length p.parts in
-    omega (arith, length-append p.front rest)
-
 -- a word is full, or has room for an octet
 pub full_or_not : (old now : BitAppender) (all rest : List ℕ) (word width count_old count_now : ℕ) → Pushing old now all rest word width count_old count_now → (width ≡ 128 → ⊥) → width ≤ 120
 full_or_not old now all rest word width count_old count_now p ne =
