@@ -1,7 +1,6 @@
 -- Laws of the base sets: what they have, by their ranges.
 use Rattle.std.proofs.Common.{◌≡◌, ℕ, suc, zero, ◌+◌, ◌-◌, ◌<◌, Bool, true, ◌&&◌, ◌||◌, eqb, leb, ltb, List, [], ◌∷◌, length, get_or, max, ◌≤◌, refl, sym, ◌∙◌, arith, inl, inr}
-use Rattle.std.specs.Prelude.{◌⊎◌}
-use Rattle.std.proofs.lemmas.Bool.{cases_lt, or_cases}
+use Rattle.std.proofs.lemmas.Bool.{or_cases}
 use Rattle.std.specs.List.{All, list_any, flat_map, fold, range_with_len}
 use Rattle.std.proofs.lemmas.Bool.Decides.{nat_tests}
 use Rattle.std.proofs.lemmas.List.Folds.{list_any-append}
@@ -78,21 +77,3 @@ has_below (x ∷ set) m c has =
 
 pub not_above : (set : List ℕ) (c : ℕ) → has_character set c ≡ true → c ≤ largest set
 not_above set c has = has_below set 0 c has
-
-from_start : (set : List ℕ) (m : ℕ) →
-    (fold max m set ≡ m) ⊎ (has_character set (fold max m set) ≡ true)
-from_start [] m = inl refl
-from_start (x ∷ set) m = elim (from_start set (max m x)) [
-  | inl start ↦ elim (cases_lt m x) [
-    | inl lt ↦ (let e : fold max (max m x) set ≡ x = omega arith in inr (rw e (grind (arith, nat_tests))))
-    | inr ge ↦ (let e : fold max (max m x) set ≡ m = omega arith in inl e)
-  ]
-  | inr has ↦ inr (rw has (grind (arith, nat_tests)))
-]
-
--- the largest character of a set that has any is one of them
-pub largest_stands : (x : ℕ) (set : List ℕ) → has_character (x ∷ set) (largest (x ∷ set)) ≡ true
-largest_stands x set = elim (from_start (x ∷ set) 0) [
-  | inl none ↦ (let low = fold_above set (max 0 x) in let e : x ≡ 0 = omega arith in rw none (rw e refl))
-  | inr has ↦ has
-]

@@ -30,7 +30,7 @@ SpellsUnsigned (SignedOf size) n o =
     (r : ℕ) × IsResidue (SignedOf size) n r × IsShortestUnsigned r o
 SpellsUnsigned (UnsignedOf size) n o =
     (r : ℕ) × IsResidue (UnsignedOf size) n r × IsShortestUnsigned r o
-SpellsUnsigned Unbounded n o = (r : ℕ) → n ≡ pos r → IsShortestUnsigned r o
+SpellsUnsigned Unbounded n o = (r : ℕ) × (n ≡ pos r) × IsShortestUnsigned r o
 
 -- the type gives n out: a native type all its numbers, `Integer` those within `i128`
 abbrev pub IsInReach : IntegerKind → ℤ → Type 0

@@ -5,9 +5,9 @@ use Rattle.std.specs.Int.{bytes_high_first}
 use Rattle.std.specs.List.{prefix_len, range_with_len}
 use lib.Signed.{mag}
 
--- How many octets z needs behind the first: k of them are too few while 128 * 256 ^ k is at most
--- `mag z`. `mag` is n for n and for -n - 1, which have the same number of octets: -128 has one, as
--- 127 has.
+-- how many octets z needs behind the first: the least k with -128 * 256 ^ k ≤ z < 128 * 256 ^ k.
+-- It is counted by `mag`, which is n for n and for -n - 1, since these need as many: -128 has one
+-- octet, as 127 has
 abbrev pub octets_past_first : ℤ → ℕ
 octets_past_first z =
     prefix_len (λ k. nat_le (128 * 256 ^ k) (mag z)) (range_with_len 0 (suc (mag z)))

@@ -2,7 +2,7 @@
 use Rattle.std.proofs.Common.{◌≡◌, ◌≢◌, ℕ, ◌+◌, ◌*◌, ◌%◌, ◌<◌, ◌≤◌, Bool, true, false, cond, ltb, leb, List, [], ◌∷◌, ◌++◌, length, drop, get_or, min, Option, Some, None, Result, Ok, Err, refl, sym, ap, ◌∙◌, append_assoc, arith, inl, inr}
 use Rattle.std.specs.Prelude.{◌&&◌, is_ok}
 use Rattle.std.specs.List.{list_all}
-use Rattle.std.proofs.lemmas.Bool.{ltb-false, lt-ltb, le-ltb, leb-true, leb-false, cases_lt, and_parts}
+use Rattle.std.proofs.lemmas.Bool.{ltb-false, lt-ltb, leb-true, leb-false, cases_lt, and_parts}
 use Rattle.std.proofs.lemmas.List.{append-nil, nil_from_length, drop_more, drop_all}
 use Rattle.std.proofs.lemmas.List.Folds.{list_all-append}
 use Rattle.asn1_oid.specs.declared.contents.ContentsError.{ContentsError}
@@ -32,11 +32,6 @@ pub record Gathers (octets : List ℕ) (place i told cap : ℕ) : Type 0 where
   pub as_told : told ≡ min number cap
   pub since : place ≤ i
   pub read : numbers_of (drop place octets) ≡ numbers_from (ltb place i) number (drop i octets)
-
-pub gathers_none : (octets : List ℕ) (place cap : ℕ) → Gathers octets place place 0 cap
-gathers_none octets place cap =
-    let same : ltb place place ≡ false = le-ltb place place (omega arith) in
-    record { number = 0; as_told = omega arith; since = omega arith; read = rw same refl }
 
 pub gathers_more : (octets : List ℕ) (place i told octet cap : ℕ) → 1 ≤ cap → Gathers octets place i told cap → i < length octets → octet ≡ get_or octets i 0 → 128 ≤ octet
     → (i ≡ place → octet ≢ 128) → Gathers octets place (i + 1) (min (128 * told + octet % 128) cap) cap
@@ -89,10 +84,6 @@ same_test a b m to from = by_cases (leb a m) (leb b m) refl refl
     by_cases true false e f = absurd (let le = to (leb-true a m e) in let lt = leb-false b m f in omega arith)
     by_cases false true e f = absurd (let le = from (leb-true b m f) in let lt = leb-false a m e in omega arith)
 
-and_true : (a : Bool) → a ≡ (a && true)
-and_true true = refl
-and_true false = refl
-
 three : (a b c : Bool) → ((a && b) && c) ≡ (a && (b && (c && true)))
 three true true true = refl
 three true true false = refl
@@ -106,15 +97,6 @@ pub record Walks (octets : List ℕ) (place : ℕ) (fit : Bool) : Type 0 where
   pub tested : fit ≡ (leb first largest_first && list_all other_fits others)
   pub within : place ≤ length octets
   pub read : numbers_of octets ≡ behind (first ∷ others) (numbers_of (drop place octets))
-
-pub walks_first : (octets : List ℕ) (told next : ℕ) → Stands octets 0 told next 4294967376 → Walks octets next (leb told largest_first)
-walks_first octets told next s = record {
-  first = s.number;
-  others = [];
-  tested = same_test told s.number largest_first (let t = s.as_told in λ le. omega arith) (let t = s.as_told in λ le. omega arith) ∙ and_true (leb s.number largest_first);
-  within = s.within;
-  read = s.read;
-}
 
 pub walks_more : (octets : List ℕ) (place told next : ℕ) (fit : Bool) → Walks octets place fit → Stands octets place told next 4294967376 → Walks octets next (fit && leb told 4294967295)
 walks_more octets place told next fit w s = record {

@@ -1,8 +1,8 @@
 -- The octets that are given one after another, and their number.
-use Rattle.std.proofs.Common.{◌≡◌, ℕ, zero, suc, ◌+◌, ◌-◌, ◌*◌, ◌/◌, ◌%◌, ◌^◌, ◌<◌, ◌≤◌, List, [], ◌∷◌, ◌++◌, length, take, get_or, refl, sym, ap, subst, ◌∙◌, arith}
+use Rattle.std.proofs.Common.{◌≡◌, ℕ, zero, suc, ◌+◌, ◌-◌, ◌*◌, ◌/◌, ◌%◌, ◌^◌, ◌<◌, List, [], ◌∷◌, ◌++◌, length, take, get_or, refl, sym, ap, subst, ◌∙◌, arith}
 use Rattle.std.specs.List.{flat_map}
 use Rattle.std.proofs.lemmas.Nat.{pow-add}
-use Rattle.std.proofs.lemmas.List.{length-append, append-nil, take_all, take_more, flat_map_more}
+use Rattle.std.proofs.lemmas.List.{length-append, take_more, flat_map_more}
 use Rattle.asn1_oid.specs.Arcs.{IsValidArcs}
 use Rattle.asn1_oid.specs.Contents.{AreSubidentifiers, subidentifiers, IsContents}
 use Rattle.asn1_oid.specs.Writing.{last_octets, HasDigits, digit_count, subidentifier_octets, octets_left}

@@ -9,12 +9,12 @@ use Rattle.asn1_characters.specs.Words.{in_words}
 use Rattle.asn1_characters.specs.SetLaws.{not_above}
 use Rattle.asn1_strings.specs.AlphabetLaws.{stands_in}
 use Rattle.std.specs.Borrow.{Bor}
-use Rattle.std.specs.Option.{is_some, ForSome, option_copied}
+use Rattle.std.specs.Option.{is_some, ForSome}
 use Rattle.asn1_characters.specs.Sets.{base_set, has_character, largest}
 use Rattle.asn1_characters.specs.Widths.{ceil_log2, least_from, width_for}
 use Rattle.asn1_strings.specs.Alphabet.{is_indexed}
 use Rattle.asn1_strings.specs.AlphabetInMemory.{some_if, set_of, HasWords}
-use Rattle.asn1_characters.specs.TableLaws.{length-base_set, largest-base_set, few_in_base, largest_small}
+use Rattle.asn1_characters.specs.TableLaws.{length-base_set, largest-base_set, largest_small}
 use Rattle.asn1_characters.specs.declared.character_set.CharacterSetName.{CharacterSetName}
 use Rattle.asn1_characters.specs.declared.character_words.CharacterWords.{CharacterWords}
 use Rattle.asn1_characters.specs.declared.character_set.CharacterSetName.TheVariants.{Bmp, General, Graphic, IA5, Numeric, Printable, Teletex, Visible}
@@ -76,11 +76,6 @@ base_by_places name aligned e =
 pub few_places : (name : CharacterSetName) (kept : Option (Bor (List ℕ))) (aligned : Bool) → is_some kept ≡ false → is_indexed (width_for aligned (length (set_of name kept))) (set_of name kept) ≡ true → length (set_of name kept) ≤ 64
 few_places name None aligned none by = base_by_places name aligned by
 few_places name (Some set) aligned none by = cc
-
--- no set that counts is large, where no permitted set is
-pub few_counting : (name : CharacterSetName) (permitted : Option (Bor (List ℕ))) → ForSome (option_copied permitted) (λ set. length set ≤ 2 ^ 32) → length (set_of name permitted) ≤ 2 ^ 32
-few_counting name None few = few_in_base name
-few_counting name (Some set) few = few set.now refl
 
 -- the words of a base set
 pub worded_base : (name : CharacterSetName) (kept : Option (Bor (List ℕ))) (words : CharacterWords) → kept ≡ None → name ≢ Bmp → ((c : ℕ) → c < 256 → in_words words.words c ≡ has_character (base_set name) c) → HasWords (set_of name kept) words

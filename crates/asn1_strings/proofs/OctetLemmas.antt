@@ -1,5 +1,5 @@
 -- The characters of one octet or two, and the tests of octets.
-use Rattle.std.proofs.Common.{◌≡◌, ℕ, suc, ◌/◌, ◌%◌, ◌++◌, Bool, true, false, not, take, Ok, ◌&&◌, ◌||◌, eqb, leb, List, [], ◌∷◌, length, map, bit_or, refl, ap, sym, ◌∙◌, arith}
+use Rattle.std.proofs.Common.{◌≡◌, ℕ, suc, ◌/◌, ◌%◌, ◌++◌, Bool, true, false, take, Ok, eqb, List, [], ◌∷◌, length, map, refl, ap, sym, ◌∙◌, arith}
 use Rattle.std.specs.Prelude.{◌≢◌}
 use Rattle.std.specs.List.{All, list_all}
 use Rattle.std.proofs.Math.Seq.{take-append_seam}

@@ -14,15 +14,6 @@ use Rattle.asn1_strings.specs.Alphabet.{Alphabet, IsCode, is_indexed}
 pub stands_in : (set : List ℕ) (k c : ℕ) → slice_get set k ≡ Some c → has_character set c ≡ true
 stands_in set k c place = any_passes_from_place (λ x. eqb x c) set k c place (grind (arith, nat_tests))
 
--- a code is of one character
-pub code_is_of_one : (alphabet : Alphabet) (c d k : ℕ) → IsCode alphabet c k →
-    IsCode alphabet d k → c ≡ d
-code_is_of_one alphabet c d k first second = by_case alphabet.indexed refl
-  where
-    by_case : (b : Bool) → alphabet.indexed ≡ b → c ≡ d
-    by_case true e = let p = rw e at first in let q = rw e at second in cc
-    by_case false e = let p = rw e at first in let q = rw e at second in sym p.1 ∙ q.1
-
 -- what the set lacks has no code
 pub missing_has_none : (alphabet : Alphabet) (c k : ℕ) →
     has_character alphabet.characters c ≡ false → ¬ (IsCode alphabet c k)

@@ -9,7 +9,6 @@ pub use Rattle.asn1_characters.specs.TableLaws
 pub mod Pieces
 pub mod PieceLaws
 pub mod Strings
-pub mod StringLaws
 pub mod Maps
 pub mod Alphabet
 pub mod AlphabetInMemory

@@ -1,11 +1,11 @@
 -- Laws of pieces: each has its length, and one after another they are the list again.
 use Rattle.std.proofs.Common.{◌≡◌, ℕ, suc, zero, ◌+◌, ◌*◌, ◌/◌, ◌%◌, ◌<◌, ◌≤◌, List, [], ◌∷◌, ◌++◌, length, take, drop, map, refl, ap, sym, ◌∙◌, arith}
-use Rattle.std.specs.List.{All, flat_map, range_with_len}
+use Rattle.std.specs.List.{flat_map, range_with_len}
 use Rattle.std.proofs.Math.Seq.{drop-append-add, take-append_seam}
 use Rattle.std.proofs.Math.Nat.{zero-div, add-div_left, div-mul-le_self, mul-le-mul_right}
 use Rattle.std.proofs.lemmas.Nat.{div-add-mod'}
 use Rattle.std.proofs.lemmas.List.{length-append, length-take, length-drop, take-append-drop}
-use Rattle.std.proofs.lemmas.List.FromFn.{length-map-range_with_len, get_or-map-range_with_len}
+use Rattle.std.proofs.lemmas.List.FromFn.{length-map-range_with_len}
 use Rattle.asn1_strings.specs.Pieces.{piece, pieces}
 
 -- past a first piece, the pieces are those of the rest
@@ -54,10 +54,3 @@ pub joined : {X : Type 0} (w : ℕ) (xs : List X) → 0 < w → length xs % w �
 joined w xs some even =
     let count : length xs ≡ length xs / w * w = omega (arith, div-add-mod' (length xs) w) in joined_count w (length xs / w) xs some count
 
--- each piece has w elements
-pub length-piece : {X : Type 0} (w : ℕ) (xs : List X) → All (λ p. length p ≡ w) (pieces w xs)
-length-piece w xs i d lt =
-    let within : i < length xs / w = rw (length-pieces w xs) at lt in
-    let room = piece_within w (length xs) i within in
-    rw (get_or-map-range_with_len (piece w xs) 0 (length xs / w) i i d within (omega arith))
-    (length-take w (drop (i * w) xs) ∙ let rest = length-drop (i * w) xs in omega arith)

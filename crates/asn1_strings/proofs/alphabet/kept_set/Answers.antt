@@ -1,4 +1,3 @@
-use Rattle.std.proofs.Common.{arith}
 use Rattle.asn1_characters.specs.TableLaws.{few_in_base}
 use Rattle.asn1_strings.proofs.alphabet.kept_set.Goals as goal
 

@@ -1,4 +1,4 @@
-use Rattle.std.proofs.Common.{◌+◌, ◌-◌, ◌/◌, length, refl, Some, ap, sym, ◌∙◌, arith}
+use Rattle.std.proofs.Common.{◌+◌, ◌-◌, ◌/◌, refl, Some, ap, sym, ◌∙◌, arith}
 use Rattle.std.proofs.lemmas.Option.{slice_get-get_or}
 use Rattle.asn1_strings.proofs.AscendingLemmas.{starts, goes_up, goes_down, nowhere, one_more}
 use Rattle.asn1_strings.proofs.search.find_ascending.Goals as goal

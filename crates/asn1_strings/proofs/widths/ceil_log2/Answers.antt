@@ -1,4 +1,4 @@
-use Rattle.std.proofs.Common.{◌-◌, sym, arith}
+use Rattle.std.proofs.Common.{sym, arith}
 use Rattle.asn1_characters.specs.WidthLaws.{ceil_log2_is}
 use Rattle.asn1_strings.proofs.WidthLemmas.{digits_are_least, none_is_least}
 use Rattle.asn1_strings.proofs.widths.ceil_log2.Goals as goal

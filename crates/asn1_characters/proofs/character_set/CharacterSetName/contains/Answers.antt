@@ -1,4 +1,4 @@
-use Rattle.std.proofs.Common.{sym, ◌∙◌}
+use Rattle.std.proofs.Common.{◌∙◌}
 use Rattle.asn1_characters.proofs.WordLemmas.{bmp_is, has_by_words}
 use Rattle.asn1_characters.proofs.character_set.CharacterSetName.contains.Goals as goal
 

@@ -1,4 +1,4 @@
-use Rattle.std.proofs.Common.{◌+◌, length, ap, arith}
+use Rattle.std.proofs.Common.{length, ap, arith}
 use Rattle.asn1_oid.proofs.WritingLemmas.{length-octets_left}
 use Rattle.asn1_oid.proofs.oid_contents.OidContentsIterator.size_hint.Goals as goal
 

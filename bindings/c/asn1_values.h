@@ -1,0 +1,201 @@
+/* The proved value layer of ASN.1 for C, from the static library libasn1_c.a.
+ *
+ * Each function has a contract that is proved for every input; below it stands in words. What a caller must keep, and
+ * nothing checks:
+ *   - each pointer is not null, also where its length is 0, is aligned for its type, and has at least the length that
+ *     is given behind it;
+ *   - what a function writes (a pointer without const) overlaps nothing else that is passed to the same call;
+ *   - a bool is true or false.
+ * All else is tested, and answered by a code. Functions keep nothing, ask for no memory, and may be called from any
+ * thread.
+ *
+ * Units: a position, a width and a count of bits are in bits, and the first bit of an octet is its most significant
+ * one. Bits count from 0, through the octets in their order. A length of octets, arcs or characters is in those.
+ *
+ * Where a code is not ASN1_DONE, what the function would have written is as before, unless its text says else.
+ */
+#ifndef ASN1_VALUES_H
+#define ASN1_VALUES_H
+
+#include <stdbool.h>
+#include <stddef.h>
+#include <stdint.h>
+
+#ifdef __cplusplus
+extern "C" {
+#endif
+
+/* What a function answers. */
+typedef uint32_t asn1_code;
+
+#define ASN1_DONE UINT32_C(0)          /* it is done */
+#define ASN1_OUTSIDE UINT32_C(1)       /* bits do not all lie in their octets */
+#define ASN1_WIDTH UINT32_C(2)         /* a width is over what the function reads */
+#define ASN1_ROOM UINT32_C(3)          /* the caller's room is too small */
+#define ASN1_EMPTY UINT32_C(4)         /* there are no octets */
+#define ASN1_OVERFLOW UINT32_C(5)      /* the number does not fit */
+#define ASN1_MALFORMED UINT32_C(6)     /* not the contents of an identifier, however large its arcs */
+#define ASN1_ARC_TOO_LARGE UINT32_C(7) /* contents of an identifier, one of whose arcs passes 32 bits */
+#define ASN1_ARCS UINT32_C(8)          /* not the arcs of an identifier (X.660) */
+#define ASN1_ARC_COUNT UINT32_C(9)     /* one arc, which has no contents */
+#define ASN1_KIND UINT32_C(10)         /* none of the eight strings */
+#define ASN1_ODD UINT32_C(11)          /* the octets are not whole characters */
+#define ASN1_CHARACTER UINT32_C(12)    /* a character is not in the set */
+#define ASN1_SET UINT32_C(13)          /* a permitted set of more than 2 to the power of 32 characters */
+#define ASN1_CODE UINT32_C(14)         /* a number is the code of no character */
+
+#define ASN1_SHORT UINT32_C(15)        /* the octets end before a field does */
+
+/* The eight restricted character strings (X.680 41). */
+typedef uint32_t asn1_kind;
+
+#define ASN1_BMP_STRING UINT32_C(0)
+#define ASN1_GENERAL_STRING UINT32_C(1)
+#define ASN1_GRAPHIC_STRING UINT32_C(2)
+#define ASN1_IA5_STRING UINT32_C(3)
+#define ASN1_NUMERIC_STRING UINT32_C(4)
+#define ASN1_PRINTABLE_STRING UINT32_C(5)
+#define ASN1_TELETEX_STRING UINT32_C(6)
+#define ASN1_VISIBLE_STRING UINT32_C(7)
+
+/* A number of 128 bits: high times 2 to the power of 64, and low. */
+typedef struct asn1_words {
+    uint64_t high;
+    uint64_t low;
+} asn1_words;
+
+/* ---- bits */
+
+/* The number of the width bits from bit position on, the first of them its highest digit. ASN1_WIDTH where width is
+ * over 64; else ASN1_OUTSIDE where the octets end before. */
+asn1_code asn1_read_u64(const uint8_t *octets, size_t octet_count, size_t position, size_t width, uint64_t *value);
+
+/* As asn1_read_u64, with widths up to 128. */
+asn1_code asn1_read_u128(const uint8_t *octets, size_t octet_count, size_t position, size_t width,
+                         asn1_words *value);
+
+/* ORs count bits of the source, from its bit first on, into the target from its bit position on; every other bit of
+ * the target stays. Into zeros it copies. ASN1_OUTSIDE where either list of octets ends before, or position + count
+ * passes SIZE_MAX. */
+asn1_code asn1_or_bits(uint8_t *target, size_t target_count, size_t position, const uint8_t *source,
+                       size_t source_count, size_t first, size_t count);
+
+/* ORs the width lowest binary digits of the number, at most 128, into the target from its bit position on; every other
+ * bit of the target stays. ASN1_WIDTH where width is over 128; else ASN1_OVERFLOW where the number is not below 2 to
+ * the power of width; else ASN1_OUTSIDE where the target ends before, or position + width passes SIZE_MAX. */
+asn1_code asn1_or_number(uint8_t *target, size_t target_count, size_t position, const asn1_words *value,
+                         size_t width);
+
+/* Compares a_bits bits of a from bit a_first on with those of b. The order is -1, 0 or 1: by the first bit that
+ * differs, zero below one, and else by length. ASN1_OUTSIDE where either list of octets ends before. */
+asn1_code asn1_compare_bits(const uint8_t *a, size_t a_count, size_t a_first, size_t a_bits, const uint8_t *b,
+                            size_t b_count, size_t b_first, size_t b_bits, int32_t *order);
+
+/* ---- fields
+ *
+ * A shape is what is known of a field before it is read: a number of count bits, at most 128; count octets; or count
+ * bits. A field is told by its first bit and how many bits it has, so nothing is copied, and a number by value too. */
+
+#define ASN1_NUMBER UINT32_C(0)
+#define ASN1_OCTETS UINT32_C(1)
+#define ASN1_BITS UINT32_C(2)
+
+typedef struct asn1_shape {
+    uint32_t kind;
+    size_t count;
+} asn1_shape;
+
+typedef struct asn1_field {
+    size_t first;  /* its first bit */
+    size_t length; /* how many bits */
+    uint64_t high; /* the upper 64 bits of a number, else 0 */
+    uint64_t low;  /* the lower 64 bits of a number, else 0 */
+} asn1_field;
+
+/* The first wrong field, counted from 0, and its reason: ASN1_WIDTH, and the width; ASN1_SHORT, and how many bits are
+ * missing; or ASN1_KIND. */
+typedef struct asn1_refusal {
+    asn1_code code;
+    size_t field;
+    uint64_t high; /* the upper 64 bits of the number that the reason has, else 0 */
+    uint64_t low;  /* the lower 64 bits */
+} asn1_refusal;
+
+/* Reads fields of the shapes one after another, from bit position on, into the first shape_count of the fields, and
+ * tells the first bit behind them. ASN1_OVERFLOW where 8 * octet_count passes SIZE_MAX, else ASN1_OUTSIDE where the
+ * position is past the last bit, else ASN1_ROOM where there are fewer fields than shapes. Any other code is that of the
+ * refusal, which names the first wrong field; then the fields before it were read. */
+asn1_code asn1_read_fields(const uint8_t *octets, size_t octet_count, size_t position, const asn1_shape *shapes,
+                           size_t shape_count, asn1_field *fields, size_t field_count, size_t *end,
+                           asn1_refusal *refusal);
+
+/* ---- whole numbers, as two's complement octets, most significant first (X.690 8.3) */
+
+/* Writes the shortest octets of the number to the front of the room, and leaves the octets behind them. Their count,
+ * at most 8, is told also where the answer is ASN1_ROOM. */
+asn1_code asn1_integer_from_i64(int64_t number, uint8_t *room, size_t room_count, size_t *count);
+
+/* The number of the octets, which need not be the shortest. ASN1_EMPTY for none, ASN1_OVERFLOW where it does not fit 64
+ * bits. */
+asn1_code asn1_integer_to_i64(const uint8_t *octets, size_t octet_count, int64_t *number);
+
+/* Compares the numbers of two lists of octets of any length, by value: -1, 0 or 1. ASN1_EMPTY where either has none. */
+asn1_code asn1_integer_compare(const uint8_t *a, size_t a_count, const uint8_t *b, size_t b_count, int32_t *order);
+
+/* Whether the octets are the shortest of a number (X.690 8.3.2): not for no octets. */
+bool asn1_integer_is_shortest(const uint8_t *octets, size_t octet_count);
+
+/* How many of the first octets only repeat the sign: behind them are the shortest octets of the same number. 0 for no
+ * octets. */
+size_t asn1_integer_redundant(const uint8_t *octets, size_t octet_count);
+
+/* ---- object identifiers (X.660), and their contents (X.690 8.19) */
+
+/* Whether the octets are the contents of an identifier whose arcs all fit 32 bits. Else ASN1_ARC_TOO_LARGE where they
+ * are contents with a larger arc, and ASN1_MALFORMED where they are the contents of no arcs at all. */
+asn1_code asn1_oid_check(const uint8_t *octets, size_t octet_count);
+
+/* Whether the arcs are those of an identifier. Else ASN1_ARCS. */
+asn1_code asn1_oid_check_arcs(const uint32_t *arcs, size_t arc_count);
+
+/* Writes the contents of the arcs to the front of the room, and leaves the octets behind them; five octets for each arc
+ * are always enough. ASN1_ARCS where they are no identifier's, ASN1_ARC_COUNT for one arc, else ASN1_ROOM where the
+ * contents are longer than the room. */
+asn1_code asn1_oid_contents(const uint32_t *arcs, size_t arc_count, uint8_t *room, size_t room_count, size_t *count);
+
+/* Writes the arcs of which the octets are the contents to the front of the room, and tells how many; one arc more than
+ * there are octets is always enough. ASN1_MALFORMED and ASN1_ARC_TOO_LARGE as asn1_oid_check says; else ASN1_ROOM where
+ * there are more arcs than the room holds, and then the room may have been written to. */
+asn1_code asn1_oid_arcs(const uint8_t *octets, size_t octet_count, uint32_t *room, size_t room_count, size_t *count);
+
+/* ---- restricted character strings (X.680 41, X.690 8.21) */
+
+/* Looks for the first octets that are no character of the string: one octet a character, two in BMPString, most
+ * significant first. Where there is one, the answer is ASN1_CHARACTER, and its place, counted in characters from 0, and
+ * the character are told. ASN1_KIND for an unknown kind; ASN1_ODD for an odd number of octets of a BMPString. */
+asn1_code asn1_string_check(asn1_kind kind, const uint8_t *octets, size_t octet_count, size_t *place,
+                            uint32_t *character);
+
+/* ---- permitted alphabets (X.691 30.5)
+ *
+ * An alphabet is that of a string with a permitted set, which is looked at only where permitted is true; aligned says
+ * that the width is rounded up to a power of two. ASN1_KIND for an unknown kind; ASN1_SET for a permitted set of more
+ * than 2 to the power of 32 characters. */
+
+/* The code of the character, which fits the alphabet's width. ASN1_CHARACTER where it has none. */
+asn1_code asn1_alphabet_encode(asn1_kind kind, bool permitted, const uint32_t *set, size_t set_count, bool aligned,
+                               uint32_t character, uint32_t *code);
+
+/* The character of the code. ASN1_CODE where it is the code of none. */
+asn1_code asn1_alphabet_decode(asn1_kind kind, bool permitted, const uint32_t *set, size_t set_count, bool aligned,
+                               uint32_t code, uint32_t *character);
+
+/* How many bits each code takes, at most 32. */
+asn1_code asn1_alphabet_width(asn1_kind kind, bool permitted, const uint32_t *set, size_t set_count, bool aligned,
+                              size_t *width);
+
+#ifdef __cplusplus
+}
+#endif
+
+#endif

@@ -1,0 +1,167 @@
+/* A few values written, read and refused through the C functions. Each line that is printed is compared with what is
+ * known of the value; the program ends with 0 where all are right. */
+#include <inttypes.h>
+#include <stdio.h>
+#include <string.h>
+
+#include "asn1_values.h"
+
+static int wrong;
+
+static void expect(const char *what, bool right)
+{
+    printf("%s: %s\n", what, right ? "right" : "WRONG");
+    if (!right) {
+        wrong = 1;
+    }
+}
+
+static void bits(void)
+{
+    /* 101, then the octet A5, then 0s. */
+    uint8_t message[2] = {0, 0};
+    const uint8_t three[1] = {0xA0};
+    const uint8_t octet[1] = {0xA5};
+    asn1_code first = asn1_or_bits(message, sizeof message, 0, three, 1, 0, 3);
+    asn1_code second = asn1_or_bits(message, sizeof message, 3, octet, 1, 0, 8);
+    expect("two fields are placed one after another", first == ASN1_DONE && second == ASN1_DONE
+           && message[0] == 0xB4 && message[1] == 0xA0);
+
+    uint8_t numbers[2] = {0x80, 0};
+    const asn1_words five = {0, 5};
+    expect("a number is placed behind a bit", asn1_or_number(numbers, 2, 1, &five, 3) == ASN1_DONE
+           && numbers[0] == 0xD0 && numbers[1] == 0);
+    expect("in two bits it does not fit", asn1_or_number(numbers, 2, 4, &five, 2) == ASN1_OVERFLOW
+           && numbers[0] == 0xD0);
+    expect("nor past the end", asn1_or_number(numbers, 2, 14, &five, 3) == ASN1_OUTSIDE && numbers[1] == 0);
+
+    uint64_t value = 7;
+    expect("a number at bit 3", asn1_read_u64(message, 2, 3, 8, &value) == ASN1_DONE && value == 0xA5);
+    expect("a number past the end is refused, and the value stays",
+           asn1_read_u64(message, 2, 12, 8, &value) == ASN1_OUTSIDE && value == 0xA5);
+    expect("a width over 64 is refused", asn1_read_u64(message, 2, 0, 65, &value) == ASN1_WIDTH);
+
+    const uint8_t wide[17] = {0x0F, 0xFF, 0, 0, 0, 0, 0, 0, 0, 0, 0, 0, 0, 0, 0, 0, 0x10};
+    asn1_words words = {0, 0};
+    expect("a number of 128 bits at bit 4", asn1_read_u128(wide, sizeof wide, 4, 128, &words) == ASN1_DONE
+           && words.high == UINT64_C(0xFFF0000000000000) && words.low == 1);
+
+    int32_t order = 0;
+    expect("lists of bits are compared wherever they lie",
+           asn1_compare_bits(message, 2, 3, 8, octet, 1, 0, 8, &order) == ASN1_DONE && order == 0);
+    expect("a front is below what it begins",
+           asn1_compare_bits(message, 2, 3, 7, octet, 1, 0, 8, &order) == ASN1_DONE && order == -1);
+}
+
+static void fields(void)
+{
+    /* At bit 1: 101, two octets, and five bits; then 7 bits are left. */
+    const uint8_t message[4] = {0x5A, 0x5B, 0xCF, 0x80};
+    const asn1_shape shapes[3] = {{ASN1_NUMBER, 3}, {ASN1_OCTETS, 2}, {ASN1_BITS, 5}};
+    asn1_field read[3];
+    asn1_refusal refusal = {0, 0, 0, 0};
+    size_t end = 0;
+    asn1_code code = asn1_read_fields(message, sizeof message, 1, shapes, 3, read, 3, &end, &refusal);
+    expect("three fields are read at bit 1", code == ASN1_DONE && end == 25);
+    expect("the number is told", read[0].low == 5 && read[0].high == 0 && read[0].first == 1 && read[0].length == 3);
+    expect("and where the octets lie", read[1].first == 4 && read[1].length == 16);
+    uint64_t octets = 0;
+    expect("which are A5BC", asn1_read_u64(message, sizeof message, read[1].first, read[1].length, &octets) == ASN1_DONE
+           && octets == 0xA5BC);
+    expect("and the bits", read[2].first == 20 && read[2].length == 5);
+
+    code = asn1_read_fields(message, sizeof message, 17, shapes, 3, read, 3, &end, &refusal);
+    expect("at bit 17 the octets are four bits short", code == ASN1_SHORT && refusal.code == ASN1_SHORT
+           && refusal.field == 1 && refusal.low == 4 && refusal.high == 0);
+    const asn1_shape wide[1] = {{ASN1_NUMBER, 129}};
+    code = asn1_read_fields(message, sizeof message, 0, wide, 1, read, 3, &end, &refusal);
+    expect("129 bits are too wide", code == ASN1_WIDTH && refusal.field == 0 && refusal.low == 129);
+    expect("the position is past the end",
+           asn1_read_fields(message, sizeof message, 33, shapes, 3, read, 3, &end, &refusal) == ASN1_OUTSIDE);
+    expect("two fields are no room for three",
+           asn1_read_fields(message, sizeof message, 1, shapes, 3, read, 2, &end, &refusal) == ASN1_ROOM);
+}
+
+static void integers(void)
+{
+    uint8_t room[8];
+    size_t count = 0;
+    expect("128 has two octets", asn1_integer_from_i64(128, room, sizeof room, &count) == ASN1_DONE && count == 2
+           && room[0] == 0x00 && room[1] == 0x80);
+    expect("they do not fit one, and the count is told",
+           asn1_integer_from_i64(128, room, 1, &count) == ASN1_ROOM && count == 2);
+
+    int64_t number = 0;
+    const uint8_t padded[10] = {0xFF, 0xFF, 0xFF, 0xFF, 0xFF, 0xFF, 0xFF, 0xFF, 0xFF, 0x80};
+    expect("ten octets of -128", asn1_integer_to_i64(padded, sizeof padded, &number) == ASN1_DONE && number == -128);
+    expect("are not the shortest", !asn1_integer_is_shortest(padded, sizeof padded));
+    expect("nine of them repeat the sign", asn1_integer_redundant(padded, sizeof padded) == 9);
+
+    const uint8_t large[9] = {0x00, 0x80, 0, 0, 0, 0, 0, 0, 0};
+    expect("2 to the power of 63 does not fit",
+           asn1_integer_to_i64(large, sizeof large, &number) == ASN1_OVERFLOW && number == -128);
+    int32_t order = 0;
+    expect("it is above -128",
+           asn1_integer_compare(padded, sizeof padded, large, sizeof large, &order) == ASN1_DONE && order == -1);
+    expect("no octets are no number", asn1_integer_to_i64(padded, 0, &number) == ASN1_EMPTY);
+}
+
+static void identifiers(void)
+{
+    /* The example of X.690 8.19.5: 2.100.3. */
+    const uint32_t arcs[3] = {2, 100, 3};
+    uint8_t room[15];
+    size_t count = 0;
+    expect("2.100.3 has the contents 813403", asn1_oid_contents(arcs, 3, room, sizeof room, &count) == ASN1_DONE
+           && count == 3 && memcmp(room, "\x81\x34\x03", 3) == 0);
+    expect("which are contents", asn1_oid_check(room, count) == ASN1_DONE);
+    expect("but not without their end", asn1_oid_check(room, 1) == ASN1_MALFORMED);
+    uint32_t read[4];
+    size_t arc_count = 0;
+    expect("they are the contents of 2.100.3", asn1_oid_arcs(room, count, read, 4, &arc_count) == ASN1_DONE
+           && arc_count == 3 && memcmp(read, arcs, sizeof arcs) == 0);
+    expect("for which two arcs are no room", asn1_oid_arcs(room, count, read, 2, &arc_count) == ASN1_ROOM
+           && arc_count == 3);
+    const uint32_t none[2] = {1, 40};
+    expect("1.40 is no identifier", asn1_oid_contents(none, 2, room, sizeof room, &count) == ASN1_ARCS);
+    expect("one arc has no contents", asn1_oid_contents(arcs, 1, room, sizeof room, &count) == ASN1_ARC_COUNT);
+}
+
+static void strings(void)
+{
+    size_t place = 0;
+    uint32_t character = 0;
+    const uint8_t digits[4] = {'1', ' ', '2', 'x'};
+    expect("the first three are a NumericString",
+           asn1_string_check(ASN1_NUMERIC_STRING, digits, 3, &place, &character) == ASN1_DONE);
+    expect("the fourth is not", asn1_string_check(ASN1_NUMERIC_STRING, digits, 4, &place, &character) == ASN1_CHARACTER
+           && place == 3 && character == 'x');
+    expect("three octets are no BMPString",
+           asn1_string_check(ASN1_BMP_STRING, digits, 3, &place, &character) == ASN1_ODD);
+    expect("there is no ninth string", asn1_string_check(8, digits, 3, &place, &character) == ASN1_KIND);
+
+    uint32_t code = 0;
+    size_t width = 0;
+    const uint32_t letters[2] = {'a', 'b'};
+    expect("two letters take one bit",
+           asn1_alphabet_width(ASN1_IA5_STRING, true, letters, 2, false, &width) == ASN1_DONE && width == 1);
+    expect("b has the code 1", asn1_alphabet_encode(ASN1_IA5_STRING, true, letters, 2, false, 'b', &code) == ASN1_DONE
+           && code == 1);
+    expect("c has none",
+           asn1_alphabet_encode(ASN1_IA5_STRING, true, letters, 2, false, 'c', &code) == ASN1_CHARACTER);
+    expect("10 is the code of 9 in NumericString",
+           asn1_alphabet_decode(ASN1_NUMERIC_STRING, false, letters, 0, false, 10, &character) == ASN1_DONE
+           && character == '9');
+    expect("11 is the code of none",
+           asn1_alphabet_decode(ASN1_NUMERIC_STRING, false, letters, 0, false, 11, &character) == ASN1_CODE);
+}
+
+int main(void)
+{
+    bits();
+    fields();
+    integers();
+    identifiers();
+    strings();
+    return wrong;
+}

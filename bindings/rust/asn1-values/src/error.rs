@@ -1,0 +1,207 @@
+//! Why a call gave no answer.
+
+use core::fmt;
+
+/// Bits do not all lie in their octets, or a number or its width is too large.
+#[derive(Clone, Copy, Debug, PartialEq, Eq)]
+pub enum BitsError {
+    /// The octets end before the bits do.
+    Outside,
+    /// A width over 128 bits.
+    Width,
+    /// A number that is not below 2 to the power of its width.
+    Overflow,
+}
+
+/// Why octets were no number, or did not hold one.
+#[derive(Clone, Copy, Debug, PartialEq, Eq)]
+pub enum IntegerError {
+    /// There are no octets.
+    Empty,
+    /// The number does not fit 64 bits.
+    Overflow,
+}
+
+/// Why there is no identifier.
+#[derive(Clone, Copy, Debug, PartialEq, Eq)]
+pub enum IdentifierError {
+    /// The octets are the contents of no identifier, however large its arcs.
+    Malformed,
+    /// The octets are the contents of an identifier, one of whose arcs passes 32 bits.
+    ArcTooLarge,
+    /// The arcs are not those of an identifier (X.660).
+    Arcs,
+    /// There is one arc, which has no contents.
+    ArcCount,
+    /// The room is shorter than the contents.
+    Room,
+}
+
+/// Why octets are not the contents of a string.
+#[derive(Clone, Copy, Debug, PartialEq, Eq)]
+pub enum StringError {
+    /// An odd number of octets in a `BMPString`.
+    Odd,
+    /// The first character that is not in the set. Its place is counted in characters, from 0.
+    Character {
+        /// Its place.
+        place: usize,
+        /// The character.
+        character: u32,
+    },
+}
+
+/// Why there is no code or no character.
+#[derive(Clone, Copy, Debug, PartialEq, Eq)]
+pub enum AlphabetError {
+    /// The character is not in the alphabet.
+    Character(u32),
+    /// The number is the code of no character.
+    Code(u32),
+    /// The permitted set has more than 2 to the power of 32 characters.
+    Set,
+}
+
+/// Why fields were not read. Fields are counted from 0, and the first wrong one is named.
+#[derive(Clone, Copy, Debug, PartialEq, Eq)]
+pub enum ReadError {
+    /// The position is past the octets' bits.
+    Outside,
+    /// The octets have more bits than a position can count.
+    TooManyOctets,
+    /// A number of more than 128 bits.
+    NumberWidth {
+        /// Which field.
+        field: usize,
+        /// How many bits were asked for.
+        width: usize,
+    },
+    /// By how many bits the octets are short of the field.
+    Short {
+        /// Which field.
+        field: usize,
+        /// How many bits are missing.
+        bits: u128,
+    },
+}
+
+/// Why fields were not written. Fields are counted from 0, and the first wrong one is named.
+#[derive(Clone, Copy, Debug, PartialEq, Eq)]
+pub enum WriteError {
+    /// A number of more than 128 bits.
+    NumberWidth {
+        /// Which field.
+        field: usize,
+        /// How many bits were asked for.
+        width: usize,
+    },
+    /// A number that is not below 2 to the power of its width.
+    Number {
+        /// Which field.
+        field: usize,
+    },
+    /// The bits of a field do not all lie in their octets.
+    Outside {
+        /// Which field.
+        field: usize,
+    },
+    /// Every field fits, and the room does not have so many bits from the position on.
+    Room,
+}
+
+impl fmt::Display for ReadError {
+    fn fmt(&self, f: &mut fmt::Formatter<'_>) -> fmt::Result {
+        match self {
+            ReadError::Outside => f.write_str("the position is past the octets"),
+            ReadError::TooManyOctets => f.write_str("too many octets"),
+            ReadError::NumberWidth { field, width } => {
+                write!(f, "field {field}: width {width} is over 128")
+            }
+            ReadError::Short { field, bits } => write!(f, "field {field}: {bits} bits short"),
+        }
+    }
+}
+
+impl fmt::Display for WriteError {
+    fn fmt(&self, f: &mut fmt::Formatter<'_>) -> fmt::Result {
+        match self {
+            WriteError::NumberWidth { field, width } => {
+                write!(f, "field {field}: width {width} is over 128")
+            }
+            WriteError::Number { field } => {
+                write!(f, "field {field}: the number does not fit its width")
+            }
+            WriteError::Outside { field } => write!(f, "field {field}: past the end of its octets"),
+            WriteError::Room => f.write_str("the room is too small"),
+        }
+    }
+}
+
+impl fmt::Display for BitsError {
+    fn fmt(&self, f: &mut fmt::Formatter<'_>) -> fmt::Result {
+        match self {
+            BitsError::Outside => f.write_str("the octets end before the bits do"),
+            BitsError::Width => f.write_str("a width over 128 bits"),
+            BitsError::Overflow => f.write_str("the number does not fit its width"),
+        }
+    }
+}
+
+impl fmt::Display for IntegerError {
+    fn fmt(&self, f: &mut fmt::Formatter<'_>) -> fmt::Result {
+        match self {
+            IntegerError::Empty => f.write_str("no octets"),
+            IntegerError::Overflow => f.write_str("the number does not fit 64 bits"),
+        }
+    }
+}
+
+impl fmt::Display for IdentifierError {
+    fn fmt(&self, f: &mut fmt::Formatter<'_>) -> fmt::Result {
+        match self {
+            IdentifierError::Malformed => f.write_str("not the contents of an identifier"),
+            IdentifierError::ArcTooLarge => f.write_str("an arc is past 32 bits"),
+            IdentifierError::Arcs => f.write_str("not the arcs of an identifier"),
+            IdentifierError::ArcCount => f.write_str("fewer than two arcs"),
+            IdentifierError::Room => f.write_str("the room is shorter than the contents"),
+        }
+    }
+}
+
+impl fmt::Display for StringError {
+    fn fmt(&self, f: &mut fmt::Formatter<'_>) -> fmt::Result {
+        match self {
+            StringError::Odd => f.write_str("an odd number of octets"),
+            StringError::Character { place, character } => {
+                write!(f, "character {place}: {character} is not in the set")
+            }
+        }
+    }
+}
+
+impl fmt::Display for AlphabetError {
+    fn fmt(&self, f: &mut fmt::Formatter<'_>) -> fmt::Result {
+        match self {
+            AlphabetError::Character(character) => {
+                write!(f, "character {character} is not in the alphabet")
+            }
+            AlphabetError::Code(code) => write!(f, "code {code} is no character"),
+            AlphabetError::Set => f.write_str("the permitted set is too long"),
+        }
+    }
+}
+
+#[cfg(feature = "std")]
+mod with_std {
+    use super::{
+        AlphabetError, BitsError, IdentifierError, IntegerError, ReadError, StringError, WriteError,
+    };
+
+    impl std::error::Error for ReadError {}
+    impl std::error::Error for WriteError {}
+    impl std::error::Error for BitsError {}
+    impl std::error::Error for IntegerError {}
+    impl std::error::Error for IdentifierError {}
+    impl std::error::Error for StringError {}
+    impl std::error::Error for AlphabetError {}
+}

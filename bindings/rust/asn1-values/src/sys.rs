@@ -1,0 +1,173 @@
+//! The functions of `asn1_values.h`, as they stand there.
+
+#[repr(C)]
+#[derive(Clone, Copy)]
+pub struct Words {
+    pub high: u64,
+    pub low: u64,
+}
+
+impl Words {
+    pub const ZERO: Words = Words { high: 0, low: 0 };
+
+    pub fn of(number: u128) -> Words {
+        Words {
+            high: (number >> 64) as u64,
+            low: number as u64,
+        }
+    }
+
+    pub fn number(self) -> u128 {
+        u128::from(self.high) << 64 | u128::from(self.low)
+    }
+}
+
+#[repr(C)]
+#[derive(Clone, Copy)]
+pub struct Shape {
+    pub kind: u32,
+    pub count: usize,
+}
+
+#[repr(C)]
+#[derive(Clone, Copy)]
+pub struct Field {
+    pub first: usize,
+    pub length: usize,
+    pub high: u64,
+    pub low: u64,
+}
+
+#[repr(C)]
+#[derive(Clone, Copy)]
+pub struct Refusal {
+    pub code: u32,
+    pub field: usize,
+    pub high: u64,
+    pub low: u64,
+}
+
+pub const DONE: u32 = 0;
+pub const WIDTH: u32 = 2;
+pub const ROOM: u32 = 3;
+pub const EMPTY: u32 = 4;
+pub const OVERFLOW: u32 = 5;
+pub const ARC_TOO_LARGE: u32 = 7;
+pub const ARCS: u32 = 8;
+pub const ARC_COUNT: u32 = 9;
+pub const CHARACTER: u32 = 12;
+pub const SET: u32 = 13;
+pub const SHORT: u32 = 15;
+
+extern "C" {
+    pub fn asn1_read_u128(
+        octets: *const u8,
+        octet_count: usize,
+        position: usize,
+        width: usize,
+        value: *mut Words,
+    ) -> u32;
+    pub fn asn1_or_bits(
+        target: *mut u8,
+        target_count: usize,
+        position: usize,
+        source: *const u8,
+        source_count: usize,
+        first: usize,
+        count: usize,
+    ) -> u32;
+    pub fn asn1_or_number(
+        target: *mut u8,
+        target_count: usize,
+        position: usize,
+        value: *const Words,
+        width: usize,
+    ) -> u32;
+    pub fn asn1_compare_bits(
+        a: *const u8,
+        a_count: usize,
+        a_first: usize,
+        a_bits: usize,
+        b: *const u8,
+        b_count: usize,
+        b_first: usize,
+        b_bits: usize,
+        order: *mut i32,
+    ) -> u32;
+    pub fn asn1_integer_from_i64(
+        number: i64,
+        room: *mut u8,
+        room_count: usize,
+        count: *mut usize,
+    ) -> u32;
+    pub fn asn1_integer_to_i64(octets: *const u8, octet_count: usize, number: *mut i64) -> u32;
+    pub fn asn1_integer_compare(
+        a: *const u8,
+        a_count: usize,
+        b: *const u8,
+        b_count: usize,
+        order: *mut i32,
+    ) -> u32;
+    pub fn asn1_integer_is_shortest(octets: *const u8, octet_count: usize) -> bool;
+    pub fn asn1_integer_redundant(octets: *const u8, octet_count: usize) -> usize;
+    pub fn asn1_oid_check(octets: *const u8, octet_count: usize) -> u32;
+    pub fn asn1_oid_check_arcs(arcs: *const u32, arc_count: usize) -> u32;
+    pub fn asn1_oid_arcs(
+        octets: *const u8,
+        octet_count: usize,
+        room: *mut u32,
+        room_count: usize,
+        count: *mut usize,
+    ) -> u32;
+    pub fn asn1_oid_contents(
+        arcs: *const u32,
+        arc_count: usize,
+        room: *mut u8,
+        room_count: usize,
+        count: *mut usize,
+    ) -> u32;
+    pub fn asn1_string_check(
+        kind: u32,
+        octets: *const u8,
+        octet_count: usize,
+        place: *mut usize,
+        character: *mut u32,
+    ) -> u32;
+    pub fn asn1_alphabet_encode(
+        kind: u32,
+        permitted: bool,
+        set: *const u32,
+        set_count: usize,
+        aligned: bool,
+        character: u32,
+        code: *mut u32,
+    ) -> u32;
+    pub fn asn1_alphabet_decode(
+        kind: u32,
+        permitted: bool,
+        set: *const u32,
+        set_count: usize,
+        aligned: bool,
+        code: u32,
+        character: *mut u32,
+    ) -> u32;
+    pub fn asn1_alphabet_width(
+        kind: u32,
+        permitted: bool,
+        set: *const u32,
+        set_count: usize,
+        aligned: bool,
+        width: *mut usize,
+    ) -> u32;
+    pub fn asn1_read_fields(
+        octets: *const u8,
+        octet_count: usize,
+        position: usize,
+        shapes: *const Shape,
+        shape_count: usize,
+        fields: *mut Field,
+        field_count: usize,
+        end: *mut usize,
+        refusal: *mut Refusal,
+    ) -> u32;
+}

@@ -1,0 +1,40 @@
+//! How long pieces of work take: `asn1_bench` lists them, `asn1_bench ROUNDS` times each, best of so many rounds.
+#![tactic(auto)]
+
+mod bits;
+mod fields;
+mod numbers;
+mod row;
+mod strings;
+
+use crate::bits::{Appended, Copied, Numbers};
+use crate::fields::{Characters, Integers, Message, Widths};
+use crate::numbers::{Arcs, Octets};
+use crate::row::{Row, machine, show};
+use crate::strings::{Codes, Text};
+use std::env;
+
+fn main(rt: HostRuntime) -> anyhow::Result<()> {
+    let mut rounds = 0;
+    if let Some(text) = env::args(&rt)?.nth(1) {
+        rounds = text.parse::<u32>().unwrap_or(0);
+    }
+    if rounds > 0 {
+        println!(rt; "{}", machine(&rt)?)?;
+    }
+    let alloc = rt.alloc();
+    show(&rt, &mut Copied::new(alloc, 0, 0)?, rounds)?;
+    show(&rt, &mut Copied::new(alloc, 5, 3)?, rounds)?;
+    show(&rt, &mut Numbers::new(alloc)?, rounds)?;
+    show(&rt, &mut Appended::new(), rounds)?;
+    show(&rt, &mut Octets::new(), rounds)?;
+    show(&rt, &mut Arcs::new(), rounds)?;
+    show(&rt, &mut Codes::new(), rounds)?;
+    show(&rt, &mut Text::new(alloc)?, rounds)?;
+    show(&rt, &mut Widths::new(alloc, 7)?, rounds)?;
+    show(&rt, &mut Widths::new(alloc, 64)?, rounds)?;
+    show(&rt, &mut Integers::new(alloc)?, rounds)?;
+    show(&rt, &mut Characters::new(alloc)?, rounds)?;
+    show(&rt, &mut Message::new(alloc)?, rounds)?;
+    Ok(())
+}

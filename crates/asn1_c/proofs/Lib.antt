@@ -1,0 +1,4 @@
+pub mod ArcLemmas
+pub mod BitLemmas
+pub mod FieldLemmas
+pub mod IntegerLemmas

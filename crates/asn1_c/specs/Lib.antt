@@ -1,0 +1,4 @@
+pub mod Arcs
+pub mod Codes
+pub mod Fields
+pub mod Sets

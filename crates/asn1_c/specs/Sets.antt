@@ -1,0 +1,30 @@
+-- The sets that C names by numbers, and the characters of a string's octets.
+use Rattle.std.specs.Prelude.{◌+◌, ◌*◌, ◌/◌, ℕ, Bool, List, [], ◌∷◌, Option, Some, None, length, slice_get, slice_index, if◌then◌else◌}
+use Rattle.std.specs.Option.{option_map}
+use Rattle.asn1_characters.specs.declared.character_set.CharacterSetName.{CharacterSetName}
+use Rattle.asn1_characters.specs.declared.character_set.CharacterSetName.TheVariants.{Bmp, General, Graphic, IA5, Numeric, Printable, Teletex, Visible}
+use Rattle.asn1_strings.specs.Alphabet.{Alphabet, effective}
+use Rattle.asn1_strings.specs.Strings.{character_octets}
+
+-- the set of a number
+abbrev pub set_named : ℕ → Option CharacterSetName
+set_named kind =
+    slice_get (Bmp ∷ General ∷ Graphic ∷ IA5 ∷ Numeric ∷ Printable ∷ Teletex ∷ Visible ∷ []) kind
+
+-- how many whole characters the octets have
+abbrev pub character_count : CharacterSetName → List ℕ → ℕ
+character_count name octets = length octets / character_octets name
+
+-- the character at a place: one octet, or two, most significant first
+abbrev pub character_at : CharacterSetName → List ℕ → ℕ → ℕ
+character_at Bmp octets i = 256 * slice_index octets (2 * i) + slice_index octets (2 * i + 1)
+character_at name octets i = slice_index octets i
+
+-- the permitted set, if one is given
+abbrev pub permitted_set : Bool → List ℕ → Option (List ℕ)
+permitted_set permitted set = if permitted then Some set else None
+
+-- the alphabet of a string with a permitted set, if there is one
+abbrev pub alphabet_named : ℕ → Bool → List ℕ → Bool → Option Alphabet
+alphabet_named kind permitted set aligned =
+    option_map (λ name. effective name (permitted_set permitted set) aligned) (set_named kind)

@@ -1,0 +1,65 @@
+//! What exports answer.
+
+ghost use Rattle.std.specs.Prelude.{◌≡◌};
+ghost use Rattle.asn1_c.specs.Codes.{order_number};
+
+use std::cmp::Ordering;
+
+/// It is done.
+pub const DONE: u32 = 0;
+
+/// Bits do not all lie in their octets.
+pub const OUTSIDE: u32 = 1;
+
+/// A width is over what the call reads.
+pub const WIDTH: u32 = 2;
+
+/// The caller's room is too small.
+pub const ROOM: u32 = 3;
+
+/// There are no octets.
+pub const EMPTY: u32 = 4;
+
+/// The number does not fit.
+pub const OVERFLOW: u32 = 5;
+
+/// The octets are the contents of no identifier, however large its arcs.
+pub const MALFORMED: u32 = 6;
+
+/// The octets are the contents of an identifier, one of whose arcs passes 32 bits.
+pub const ARC_TOO_LARGE: u32 = 7;
+
+/// The arcs are not those of an identifier (X.660).
+pub const ARCS: u32 = 8;
+
+/// There is one arc, which has no contents.
+pub const ARC_COUNT: u32 = 9;
+
+/// The number names none of the eight strings.
+pub const KIND: u32 = 10;
+
+/// The octets are not whole characters.
+pub const ODD: u32 = 11;
+
+/// A character is not in the set.
+pub const CHARACTER: u32 = 12;
+
+/// The permitted set has more than 2 to the power of 32 characters.
+pub const SET: u32 = 13;
+
+/// The number is the code of no character.
+pub const CODE: u32 = 14;
+
+/// The octets end before a field does.
+pub const SHORT: u32 = 15;
+
+/// Below, equal and above, as -1, 0 and 1.
+pub(crate) fn number_of_order(order: Ordering) -> i32
+    ensures { result ≡ order_number order }
+{
+    match order {
+        Ordering::Less => -1,
+        Ordering::Equal => 0,
+        Ordering::Greater => 1,
+    }
+}

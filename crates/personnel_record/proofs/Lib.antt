@@ -1,0 +1,7 @@
+pub mod ChildrenLemmas
+pub mod EncodingLemmas
+pub mod FieldLemmas
+pub mod NameLemmas
+pub mod PartLemmas
+pub mod RecordLemmas
+pub mod StringLemmas

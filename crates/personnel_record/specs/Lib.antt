@@ -1,0 +1,4 @@
+pub mod Parts
+pub mod Record
+pub mod StringType
+pub mod Types

@@ -1,0 +1,62 @@
+//! Why a record could not be written or read.
+
+use std::alloc::AllocError;
+
+/// A part of a record.
+#[derive(Clone, Copy, Debug, PartialEq, Eq)]
+pub enum Part {
+    /// The bit that says whether there are children.
+    Presence,
+    Name,
+    Number,
+    Title,
+    DateOfHire,
+    NameOfSpouse,
+    /// How many children there are: 1 to 127, where the record says that there are any.
+    ChildCount,
+    /// A child, counted from 0.
+    Child { index: usize },
+    /// What follows the record: less than eight bits, each 0.
+    Padding,
+}
+
+/// Why a record was not written.
+#[derive(Clone, Copy, Debug, PartialEq, Eq)]
+pub enum EncodeError {
+    /// The first part that has no encoding: a string has a character too many or too few, or one that its type doesn't
+    /// permit; the number has more than 127 octets; the children are more than 127.
+    Wrong { part: Part },
+    /// No part is wrong, and memory is wanting.
+    Memory,
+}
+
+/// Why a record was not read.
+#[derive(Clone, Copy, Debug, PartialEq, Eq)]
+pub enum DecodeError {
+    /// The first part that no bits which are left begin with.
+    Wrong { part: Part },
+    /// Memory is wanting.
+    Memory,
+}
+
+impl From<AllocError> for EncodeError {
+    ghost use Rattle.std.specs.Prelude.{◌≡◌};
+    ghost use Rattle.personnel_record.specs.declared.error.EncodeError.TheVariants.{Memory};
+
+    ghost from_gives = { λ _ e. e ≡ Memory };
+
+    fn from(_error: AllocError) -> EncodeError {
+        EncodeError::Memory
+    }
+}
+
+impl From<AllocError> for DecodeError {
+    ghost use Rattle.std.specs.Prelude.{◌≡◌};
+    ghost use Rattle.personnel_record.specs.declared.error.DecodeError.TheVariants.{Memory};
+
+    ghost from_gives = { λ _ e. e ≡ Memory };
+
+    fn from(_error: AllocError) -> DecodeError {
+        DecodeError::Memory
+    }
+}
