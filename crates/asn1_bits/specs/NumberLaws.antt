@@ -1,12 +1,14 @@
 -- A number and its binary digits.
-use Rattle.std.proofs.Common.{◌≡◌, ℕ, zero, suc, ◌+◌, ◌-◌, ◌*◌, ◌/◌, ◌%◌, ◌^◌, ◌<◌, ◌≤◌, Bool, true, false, cond, eqb, List, [], ◌∷◌, ◌++◌, length, refl, sym, ap, ◌∙◌, append_assoc, arith}
+use Rattle.std.proofs.Common.{◌≡◌, ℕ, zero, suc, ◌+◌, ◌-◌, ◌*◌, ◌/◌, ◌%◌, ◌^◌, ◌<◌, ◌≤◌, Bool, true, false, cond, eqb, List, [], ◌∷◌, ◌++◌, length, take, drop, refl, sym, ap, ◌∙◌, append_assoc, arith}
+use Rattle.std.specs.Prelude.{All}
 use Rattle.std.proofs.Math.Nat.{mod-eq_of_lt, div-one, pow-suc, add-zero, add-suc, mul-le-mul_right, pow-le-pow_right}
 use Rattle.std.proofs.lemmas.Bool.{eqb-true, eqb-false}
-use Rattle.std.proofs.lemmas.List.{append-nil, ext_get_or}
+use Rattle.std.proofs.lemmas.List.{append-nil, ext_get_or, length-append, take_at, drop_at}
+use Rattle.std.proofs.lemmas.List.Elements.{All-head, All-tail}
 use Rattle.std.proofs.lemmas.Nat.{shr-shr, shr_high, mod-pow-add}
 use Rattle.std.proofs.lemmas.Nat.Bits.{bit_at_cat_low}
 use Rattle.std.proofs.lemmas.Grind.{fold-append}
-use Rattle.asn1_bits.specs.Bits.{is_odd, digits, number}
+use Rattle.asn1_bits.specs.Bits.{is_odd, digits, number, bits}
 use Rattle.asn1_bits.specs.DigitLaws.{length-digits, get_or-digits}
 
 pub number-push : (list : List Bool) (bit : Bool) → number (list ++ bit ∷ []) ≡ 2 * number list + cond bit 1 0
@@ -114,3 +116,22 @@ number_of-digits n width h = number-digits n width ∙ mod-eq_of_lt h
 -- the digits of a list's number
 pub digits_of-number : (list : List Bool) (width : ℕ) → length list ≡ width → digits (number list) width ≡ list
 digits_of-number list width e = (number_is list (number list) width e refl).1
+
+-- octets that have the same bits are the same
+pub same_octets : (o p : List ℕ) → All (λ octet. octet < 256) o → All (λ octet. octet < 256) p → bits o ≡ bits p → o ≡ p
+unfolding bits
+same_octets [] [] of_o of_p e = refl
+same_octets [] (y ∷ ys) of_o of_p e = absurd (omega (arith, ap length e, length-append (digits y 8) (bits ys), length-digits y 8))
+same_octets (x ∷ xs) [] of_o of_p e = absurd (omega (arith, ap length e, length-append (digits x 8) (bits xs), length-digits x 8))
+same_octets (x ∷ xs) (y ∷ ys) of_o of_p e =
+    let l = length-digits x 8 in
+    let m = length-digits y 8 in
+    let first : digits x 8 ≡ digits y 8 =
+        sym (take_at (digits x 8) (bits xs) 8 l) ∙ ap (take 8) e ∙ take_at (digits y 8) (bits ys) 8 m in
+    let others : bits xs ≡ bits ys =
+        sym (drop_at (digits x 8) (bits xs) 8 l) ∙ ap (drop 8) e ∙ drop_at (digits y 8) (bits ys) 8 m in
+    let head : x ≡ y =
+        sym (number_of-digits x 8 (All-head (λ octet. octet < 256) x xs of_o)) ∙ ap number first
+        ∙ number_of-digits y 8 (All-head (λ octet. octet < 256) y ys of_p) in
+    let tail = same_octets xs ys (All-tail (λ octet. octet < 256) x xs of_o) (All-tail (λ octet. octet < 256) y ys of_p) others in
+    λ i. head i ∷ tail i

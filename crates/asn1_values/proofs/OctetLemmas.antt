@@ -6,7 +6,7 @@ use Rattle.std.specs.Prelude.{All}
 use Rattle.asn1_bits.specs.Bits.{digits, number, bits}
 use Rattle.asn1_number.specs.Octets.{IsOctets}
 use Rattle.asn1_values.specs.Walk.{octets_of}
-use Rattle.asn1_bits.specs.DigitLaws.{length-digits, length-bits}
+use Rattle.asn1_bits.specs.DigitLaws.{length-digits}
 use Rattle.asn1_bits.specs.NumberLaws.{number_of-digits, digits_of-number, number-below}
 
 pub length-octets_of : (n : ℕ) (list : List Bool) → length (octets_of n list) ≡ n
@@ -50,9 +50,3 @@ IsOctets_from_All (x ∷ xs) h = (All-head (λ octet. octet < 256) x xs h, IsOct
 pub All_from_IsOctets : (octets : List ℕ) → IsOctets octets → All (λ octet. octet < 256) octets
 All_from_IsOctets [] h = All-nil (λ octet. octet < 256)
 All_from_IsOctets (x ∷ xs) h = All-cons (λ octet. octet < 256) x xs h.0 (All_from_IsOctets xs h.1)
-
--- octets are those of their bits
-pub same_octets : (o p : List ℕ) → All (λ octet. octet < 256) o → All (λ octet. octet < 256) p → bits o ≡ bits p → o ≡ p
-same_octets o p of_o of_p same =
-    let n : length o ≡ length p = omega (arith, ap length same, length-bits o, length-bits p) in
-    sym (octets_of-bits o of_o) ∙ ap (octets_of (length o)) same ∙ ap (λ (k : ℕ). octets_of k (bits p)) n ∙ octets_of-bits p of_p
