@@ -7,7 +7,7 @@ use Rattle.std.proofs.lemmas.List.Elements.{All-head, All-tail}
 use Rattle.std.proofs.lemmas.List.FromFn.{get_or-range_with_len}
 use Rattle.std.proofs.lemmas.List.Kept.{AllPairs-cons}
 use Rattle.asn1_values.specs.Fields.{Shape, OfNumber, OfOctets, OfBits, OfInteger, OfCharacter, OfCountedInteger, OfIdentifier, GivesOneCodeEach, GivesOneSpelling, GiveOneSpelling}
-use Rattle.asn1_values.specs.Words.{Alphabet, Numeric, base_set, bits, code_is_one, digits, effective, length-digits, number, number_of-digits}
+use Rattle.asn1_values.specs.Words.{Alphabet, Numeric, base_set, code_is_one, effective, same_octets}
 use Rattle.hex.specs.Hex.{decode_of}
 use Rattle.asn1_fields.specs.Input.{Lines, AreLines, AreWords, IsLastLine, IsWord}
 use Rattle.asn1_fields.specs.Program.{Answer, Hold, IsStart, OrElse}
@@ -110,38 +110,8 @@ words_in_one_code (c ∷ cs) shapes h = each_in_one_code (slice_split (λ x. x =
 
 -- ---- octets that hold the same bits
 
-same_fronts : (xs ys us vs : List Bool) → length xs ≡ length ys → xs ++ us ≡ ys ++ vs → (xs ≡ ys) × (us ≡ vs)
-same_fronts [] [] us vs n e = (refl, e)
-same_fronts [] (y ∷ ys) us vs n e = absurd (omega arith)
-same_fronts (x ∷ xs) [] us vs n e = absurd (omega arith)
-same_fronts (x ∷ xs) (y ∷ ys) us vs n e =
-    let head : x ≡ y = cc in
-    let tail : xs ++ us ≡ ys ++ vs = cc in
-    let same = same_fronts xs ys us vs (omega arith) tail in
-    let front = same.0 in
-    (λ i. head i ∷ front i, same.1)
-
-none_or_some : (o : ℕ) (os : List ℕ) → [] ≡ bits (o ∷ os) → ⊥
-unfolding bits
-none_or_some o os e =
-    let none : 0 ≡ length (digits o 8 ++ bits os) = ap length e in
-    omega (arith, length-append (digits o 8) (bits os), length-digits o 8)
-
-same_bits : (os ps : List ℕ) → All (λ o. o < 256) os → All (λ o. o < 256) ps → bits os ≡ bits ps → os ≡ ps
-unfolding bits
-same_bits [] [] small few e = refl
-same_bits [] (p ∷ ps) small few e = absurd (none_or_some p ps e)
-same_bits (o ∷ os) [] small few e = absurd (none_or_some o os (sym e))
-same_bits (o ∷ os) (p ∷ ps) small few e =
-    let parts = same_fronts (digits o 8) (digits p 8) (bits os) (bits ps) (length-digits o 8 ∙ sym (length-digits p 8)) e in
-    let first = number_of-digits o 8 (All-head (λ x. x < 256) o os small) in
-    let second = number_of-digits p 8 (All-head (λ x. x < 256) p ps few) in
-    let head : o ≡ p = sym first ∙ ap number parts.0 ∙ second in
-    let tail = same_bits os ps (All-tail (λ x. x < 256) o os small) (All-tail (λ x. x < 256) p ps few) parts.1 in
-    λ i. head i ∷ tail i
-
 pub one_holding : (list : List Bool) (os ps : List ℕ) → Hold os list → Hold ps list → os ≡ ps
-one_holding list os ps p q = same_bits os ps p.0 q.0 (p.1 ∙ sym q.1)
+one_holding list os ps p q = same_octets os ps p.0 q.0 (p.1 ∙ sym q.1)
 
 -- ---- one step of the answer
 

@@ -12,7 +12,7 @@ use Rattle.asn1_values.specs.Wrong.{Fault, NumberWidth, NotInteger, Short, NoCha
 use Rattle.asn1_values.specs.Walk.{as_counted, counted, integer_at, counted_at, field_at}
 use Rattle.asn1_values.proofs.ExactKinds.{IsExact, Takes, Read, chosen, err_is, ok_is, err_is_no_ok, ok_is_no_err}
 use Rattle.asn1_values.proofs.IntegerKind.{integer_exact}
-use Rattle.asn1_values.proofs.OneSpelling.{same_shortest}
+use Rattle.asn1_values.specs.SpellingLaws.{same_shortest}
 
 -- ---- the octet that counts
 

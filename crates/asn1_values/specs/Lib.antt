@@ -2,6 +2,7 @@ pub mod Fields
 pub mod Joined
 pub mod Plain
 pub mod Refusals
+pub mod SpellingLaws
 pub mod Steps
 pub mod Walk
 pub mod Words

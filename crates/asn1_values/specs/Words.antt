@@ -1,8 +1,8 @@
 -- Words of the crates below, passed on for definitions and contracts that stand on this crate. Declares nothing.
 unfoldable pub use Rattle.asn1_bits.specs.Bits.{bits, digits}
 pub use Rattle.asn1_bits.specs.Bits.{number, octets_for, padded}
-pub use Rattle.asn1_bits.specs.DigitLaws.{length-digits}
-pub use Rattle.asn1_bits.specs.NumberLaws.{number_of-digits}
+pub use Rattle.asn1_bits.specs.NumberLaws.{number-digits, same_octets}
+pub use Rattle.asn1_bits.specs.DigitLaws.{length-bits}
 unfoldable pub use Rattle.asn1_bits.specs.View.{list_of}
 pub use Rattle.asn1_bits.specs.BitStr.{view_of, bits_of}
 pub use Rattle.asn1_bits.specs.BitReader.{view_left, bits_left}
@@ -15,4 +15,4 @@ pub use Rattle.asn1_strings.specs.Alphabet.{Alphabet, effective}
 pub use Rattle.asn1_strings.specs.AlphabetView.{alphabet_of}
 pub use Rattle.asn1_strings.specs.AlphabetLaws.{code_is_one}
 pub use Rattle.asn1_characters.specs.declared.character_set.CharacterSetName.{CharacterSetName}
-pub use Rattle.asn1_characters.specs.declared.character_set.CharacterSetName.TheVariants.{Numeric}
+pub use Rattle.asn1_characters.specs.declared.character_set.CharacterSetName.TheVariants.{Bmp, General, Graphic, IA5, Numeric, Printable, Teletex, Visible}

@@ -1,7 +1,7 @@
 -- Encodings: a record, and zeros up to the octet's end.
 use Rattle.std.proofs.Common.{◌≡◌, ℕ, ◌-◌, ◌*◌, ◌<◌, Bool, false, List, [], ◌++◌, length, replicate, sym, ap, subst, ◌∙◌, arith}
 use Rattle.std.proofs.lemmas.List.{length-replicate}
-use Rattle.asn1_bits.specs.Bits.{bits, padded, octets_for}
+use Rattle.asn1_values.specs.Words.{bits, padded, octets_for}
 use Rattle.personnel_record.specs.Parts.{IsRead, CanRead, IsWritten}
 use Rattle.personnel_record.specs.Record.{Record, IsRecord, IsPadding, IsEncoding}
 

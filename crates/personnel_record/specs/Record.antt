@@ -2,8 +2,7 @@
 use Rattle.std.specs.Prelude.{◌≡◌, ℕ, ℤ, ◌-◌, ◌<◌, ◌≤◌, Bool, false, List, [], ◌∷◌, length, map, replicate, Some, None}
 use Rattle.asn1_values.specs.Fields.{Field, Shape, IsOfShape, Number, Character, CountedInteger, AreSpelledBy}
 use Rattle.asn1_values.specs.Joined.{AreJoined}
-use Rattle.asn1_values.specs.Words.{Alphabet, effective, bits}
-use Rattle.asn1_characters.specs.declared.character_set.CharacterSetName.TheVariants.{Visible}
+use Rattle.asn1_values.specs.Words.{Alphabet, Visible, effective, bits}
 use Rattle.personnel_record.specs.Parts.{Then}
 
 pub record Name : Type 0 where

@@ -2,8 +2,7 @@ use Rattle.std.proofs.Common.{◌≡◌, ℕ, zero, suc, ◌%◌, ◌^◌, ◌�
 use Rattle.std.proofs.lemmas.Bool.Decides.{nat_tests}
 use Rattle.std.proofs.lemmas.Grind.{replicate_next}
 use Rattle.std.proofs.lemmas.List.{take_all}
-use Rattle.asn1_bits.specs.Bits.{digits, number}
-use Rattle.asn1_bits.specs.NumberLaws.{number-digits}
+use Rattle.asn1_values.specs.Words.{digits, number, number-digits}
 use Rattle.asn1_values.specs.Words.{bits_left}
 use Rattle.personnel_record.proofs.read.is_padding.Goals as goal
 

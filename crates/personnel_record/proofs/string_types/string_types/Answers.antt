@@ -1,6 +1,5 @@
 use Rattle.std.proofs.Common.{◌≡◌, ap, ◌∙◌, List, Some, false, ℕ}
-use Rattle.asn1_values.specs.Words.{Alphabet, effective}
-use Rattle.asn1_characters.specs.declared.character_set.CharacterSetName.TheVariants.{Visible}
+use Rattle.asn1_values.specs.Words.{Alphabet, Visible, effective}
 use Rattle.personnel_record.specs.Record.{StringType, name_string, initial_string, title_string, date_string}
 use Rattle.personnel_record.proofs.string_types.string_types.Goals as goal
 

@@ -5,7 +5,7 @@ use Rattle.asn1_bits.specs.Bits.{digits, bits}
 use Rattle.asn1_bits.specs.BitAppender.{bits_written}
 use Rattle.asn1_number.specs.LawsHold.{one_shortest_list}
 use Rattle.asn1_number.specs.WidthLaws.{sixteen_fit}
-use Rattle.asn1_values.proofs.OneSpelling.{same_shortest}
+use Rattle.asn1_values.specs.SpellingLaws.{same_shortest}
 use Rattle.asn1_values.proofs.WordLemmas.{sixteen_at_most, lowest_octets}
 use Rattle.asn1_values.proofs.bit_fields.write.push_shortest.Goals as goal
 

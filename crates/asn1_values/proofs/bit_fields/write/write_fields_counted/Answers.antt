@@ -5,7 +5,7 @@ use Rattle.asn1_values.specs.Plain.{plain_fields}
 use Rattle.asn1_values.specs.declared.bit_fields.error.WriteError.{WriteError}
 use Rattle.asn1_values.proofs.OneRefusal.{one_write_refusal, only_too_long}
 use Rattle.asn1_values.proofs.SpellingLemmas.{names_none}
-use Rattle.asn1_values.proofs.OneSpelling.{all_one}
+use Rattle.asn1_values.specs.SpellingLaws.{all_one}
 use Rattle.asn1_values.proofs.bit_fields.write.write_fields_counted.Goals as goal
 
 pub returns-in_err-end-clause-too_long : goal.returns-in_err-end-clause-too_long
