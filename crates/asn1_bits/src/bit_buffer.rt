@@ -1,6 +1,6 @@
 //! A list of bits that grows.
 
-ghost use Rattle.std.specs.Prelude.{◌≡◌, ℕ, ◌+◌, ◌-◌, ◌*◌, ◌%◌, ◌^◌, ◌<◌, ◌≤◌, [], ◌∷◌, ◌++◌, length, take, replicate, slice_set, IfOk, OnOk, OnErr, IsOk, false, vec_len};
+ghost use Rattle.std.specs.Prelude.{◌≡◌, ℕ, ◌+◌, ◌-◌, ◌*◌, ◌%◌, ◌^◌, ◌<◌, ◌≤◌, [], ◌∷◌, ◌++◌, All, length, take, replicate, slice_set, IfOk, OnOk, OnErr, IsOk, false, vec_len};
 ghost use Rattle.std.specs.Int.{div_ceil};
 ghost use Rattle.asn1_bits.specs.Bits.{bits, digits, octets_for, ored, padded, AddsNoOctet, IsZeroFrom};
 ghost use Rattle.asn1_bits.specs.BitStr.{view_of, bits_of};
@@ -8,6 +8,7 @@ ghost use Rattle.asn1_bits.specs.Turns.{turns_for};
 
 use crate::bit_str::BitStr;
 use crate::kernels::write_bitslice;
+use crate::octets::known_octets;
 use crate::single_bits::{clear_from, set_bit};
 use crate::turns::Turns;
 use crate::window::{or_within, put_word};
@@ -87,16 +88,19 @@ impl BitBuffer {
     pub fn as_bytes(&self) -> &[u8]
         ensures spelled { bits result.now ≡ padded self.now }
         ensures count { length result.now ≡ octets_for (length self.now) }
+        ensures octets { All (λ octet. octet < 256) result.now }
     {
-        self.bytes.as_slice()
+        known_octets(self.bytes.as_slice())
     }
 
     /// The octets of the list: its bits, then zeros to the octet's end.
     pub fn into_vec(self) -> Vec<u8>
         ensures spelled { bits result.items ≡ padded self }
         ensures count { vec_len result ≡ octets_for (length self) }
+        ensures octets { All (λ octet. octet < 256) result.items }
     {
         let BitBuffer { bytes, len: _ } = self;
+        known_octets(&bytes);
         bytes
     }
 

@@ -26,7 +26,7 @@ impl<'a> Octets<'a> {
 }
 
 /// The slice, of which callers learn here that its items are octets.
-fn known_octets(octets: &[u8]) -> &[u8]
+pub(crate) fn known_octets(octets: &[u8]) -> &[u8]
     ensures list { result.now ≡ octets.now }
     ensures octets { All (λ octet. octet < 256) octets.now }
 {

@@ -1,6 +1,6 @@
 //! Writing a record.
 
-ghost use Rattle.std.specs.Prelude.{◌≡◌, ℕ, Bool, List, map, OnOk, IfOk, IsOkUnless};
+ghost use Rattle.std.specs.Prelude.{◌≡◌, ◌<◌, ℕ, Bool, List, All, map, OnOk, IfOk, IsOkUnless};
 ghost use Rattle.asn1_values.specs.Fields.{AreSpelledBy, Character};
 ghost use Rattle.asn1_values.specs.Plain.{plain_fields};
 ghost use Rattle.asn1_values.specs.Words.{alphabet_of};
@@ -20,6 +20,9 @@ use std::alloc::{AllocError, Global};
 pub fn encode(alloc: Global, personnel: &PersonnelRecord) -> Result<Vec<u8>, EncodeError>
     // The octets are the record's encoding.
     ensures written { IfOk result (λ octets. IsEncoding (plain_record personnel.now) octets.items) }
+    // It has no other.
+    ensures one { (octets : List ℕ) → All (λ octet. octet < 256) octets
+        → IsEncoding (plain_record personnel.now) octets → IfOk result (λ written. written.items ≡ octets) }
     // Where there is one, only memory can be wanting.
     ensures accepted { (octets : List ℕ) → IsEncoding (plain_record personnel.now) octets
         → IsOkUnless result EncodeError.Memory }
