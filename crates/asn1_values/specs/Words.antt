@@ -11,7 +11,7 @@ pub use Rattle.asn1_number.specs.Octets.{IsShortest}
 unfoldable pub use Rattle.asn1_number.specs.Shortest.{shortest_octets}
 pub use Rattle.asn1_oid.specs.Arcs.{dotted}
 unfoldable pub use Rattle.asn1_strings.specs.Sets.{base_set}
-pub use Rattle.asn1_strings.specs.Alphabet.{Alphabet, effective}
+pub use Rattle.asn1_strings.specs.Alphabet.{Alphabet, counting_set, effective, keeps}
 pub use Rattle.asn1_strings.specs.AlphabetView.{alphabet_of}
 pub use Rattle.asn1_strings.specs.AlphabetLaws.{code_is_one}
 pub use Rattle.asn1_characters.specs.declared.character_set.CharacterSetName.{CharacterSetName}

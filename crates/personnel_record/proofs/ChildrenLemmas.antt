@@ -1,93 +1,130 @@
 -- Lists of children.
-use Rattle.std.proofs.Common.{◌≡◌, ℕ, suc, zero, ◌<◌, ◌≤◌, Bool, List, [], ◌∷◌, ◌++◌, length, map, get_or, refl, sym, ap, subst, ◌∙◌, append_assoc, length-append, arith}
+use Rattle.std.proofs.Common.{◌≡◌, ℕ, suc, zero, ◌+◌, ◌<◌, ◌≤◌, Bool, List, [], ◌∷◌, ◌++◌, length, map, get_or, refl, sym, ap, subst, ◌∙◌, append_assoc, length-append, arith}
 use Rattle.std.proofs.lemmas.List.{append-nil}
 use Rattle.asn1_values.specs.Joined.{AreJoined}
 use Rattle.personnel_record.specs.Parts.{Then, Starts, IsRead, CanRead, IsWritten}
 use Rattle.personnel_record.specs.Record.{Child, IsNumber, IsChild, AreChildren, presence}
-use Rattle.personnel_record.proofs.PartLemmas.{Both, split_starts, read_pair, can_first, can_second, read_along, can_along, read_same, can_same}
+use Rattle.personnel_record.specs.Refusals.{AreSoMany, IsChildCount}
+use Rattle.personnel_record.proofs.PartLemmas.{Both, read_pair, read_along, read_same}
 
 abbrev pub Joined : List Child → List Bool → Type 0
 Joined cs l = AreJoined IsChild cs l
-
--- so many children
-abbrev pub AreSoMany : ℕ → List Child → List Bool → Type 0
-AreSoMany n cs l = (length cs ≡ n) × Joined cs l
 
 pub joined_push : (cs : List Child) (c : Child) (a b : List Bool) → Joined cs a → IsChild c b → Joined (cs ++ c ∷ []) (a ++ b)
 joined_push [] c a b e h = (b, [], h, refl, ap (λ (l : List Bool). l ++ b) e ∙ sym (append-nil b))
 joined_push (d ∷ ds) c a b j h =
     (j.0, j.1 ++ b, j.2, joined_push ds c j.1 b j.3 h, ap (λ (l : List Bool). l ++ b) j.4 ∙ append_assoc j.0 j.1 b)
 
--- what was read before the rest: these children, and of any list of so many that begins the bits these are the first
-pub record SoFar (n : ℕ) (list now : List Bool) (done : List Child) : Type 0 where
-  pub found : Starts (λ l. Joined done l) list now
-  pub only : (cs : List Child) (other : List Bool) → Starts (λ l. AreSoMany n cs l) list other
-      → (more : List Child) × (cs ≡ done ++ more) × Starts (λ l. Joined more l) now other
-
-pub none_so_far : (n : ℕ) (list : List Bool) → SoFar n list list []
-none_so_far n list = record {
-  found = record { front = []; holds = refl; parts = refl };
-  only = λ cs other s. (cs, refl, record { front = s.front; holds = s.holds.1; parts = s.parts });
-}
-
--- one of the children is left
-record Next (n : ℕ) (now other : List Bool) (cs done : List Child) : Type 0 where
+-- a child of a list, and those before and behind it
+record SplitAt (i : ℕ) (cs : List Child) (l : List Bool) : Type 0 where
+  pub front : List Child
   pub child : Child
   pub more : List Child
-  pub is : cs ≡ done ++ child ∷ more
-  pub mid : List Bool
-  pub first : Starts (λ l. IsChild child l) now mid
-  pub rest : Starts (λ l. Joined more l) mid other
+  pub is : cs ≡ front ++ child ∷ more
+  pub many : length front ≡ i
+  pub before : List Bool
+  pub here : List Bool
+  pub behind : List Bool
+  pub of_front : Joined front before
+  pub of_child : IsChild child here
+  pub of_more : Joined more behind
+  pub parts : l ≡ before ++ (here ++ behind)
 
-next : (n : ℕ) (list now : List Bool) (done : List Child) → SoFar n list now done → length done < n
-    → (cs : List Child) (other : List Bool) → Starts (λ l. AreSoMany n cs l) list other → Next n now other cs done
-next n list now done far lt cs other s = by_more (far.only cs other s).0 (far.only cs other s).1 (far.only cs other s).2
+split_at : (i : ℕ) (cs : List Child) (l : List Bool) → Joined cs l → i < length cs → SplitAt i cs l
+split_at i [] l j lt = absurd (omega arith)
+split_at zero (c ∷ cs) l j lt = record {
+  front = [];
+  child = c;
+  more = cs;
+  is = refl;
+  many = refl;
+  before = [];
+  here = j.0;
+  behind = j.1;
+  of_front = refl;
+  of_child = j.2;
+  of_more = j.3;
+  parts = j.4;
+}
+split_at (suc i) (c ∷ cs) l j lt =
+    let k = split_at i cs j.1 j.3 (omega arith) in
+    record {
+      front = c ∷ k.front;
+      child = k.child;
+      more = k.more;
+      is = ap (λ (x : List Child). c ∷ x) k.is;
+      many = ap suc k.many;
+      before = j.0 ++ k.before;
+      here = k.here;
+      behind = k.behind;
+      of_front = (j.0, k.before, j.2, k.of_front, refl);
+      of_child = k.of_child;
+      of_more = k.of_more;
+      parts = j.4 ∙ ap (λ (x : List Bool). j.0 ++ x) k.parts ∙ sym (append_assoc j.0 k.before (k.here ++ k.behind));
+    }
+
+pub none_read : (list : List Bool) → IsRead (AreSoMany 0) list [] list
+none_read list = record {
+  found = record { front = []; holds = (refl, refl); parts = refl };
+  only = λ cs other s. none cs other s;
+}
   where
-    by_more : (more : List Child) → cs ≡ done ++ more → Starts (λ l. Joined more l) now other → Next n now other cs done
-    by_more [] e t = absurd (omega (arith, s.holds.0, ap length (e ∙ append-nil done)))
-    by_more (c ∷ more) e t =
-        let k = split_starts (λ l. IsChild c l) (λ l. Joined more l) now other t in
-        record { child = c; more = more; is = e; mid = k.mid; first = k.first; rest = k.second }
+    none : (cs : List Child) (other : List Bool) → Starts (AreSoMany 0 cs) list other → ([] ≡ cs) × (list ≡ other)
+    none [] other s = (refl, s.parts ∙ ap (λ (l : List Bool). l ++ other) s.holds.1)
+    none (c ∷ cs) other s = absurd (omega (arith, s.holds.0))
 
-pub can_next : (n : ℕ) (list now : List Bool) (done : List Child) → SoFar n list now done → length done < n
-    → CanRead (λ cs l. AreSoMany n cs l) list → CanRead IsChild now
-can_next n list now done far lt can =
-    let k = next n list now done far lt can.value can.rest can.starts in
-    record { value = k.child; rest = k.mid; starts = k.first }
+-- of the children that begin a list, those before a place are the ones that were read, and the next follows
+next : (i : ℕ) (list now other : List Bool) (done : List Child) → IsRead (AreSoMany i) list done now
+    → (cs : List Child) → Starts (λ l. Joined cs l) list other → i < length cs
+    → (child : Child) × (more : List Child) × (rest : List Bool) × (cs ≡ done ++ child ∷ more)
+      × Starts (IsChild child) now rest × Starts (λ l. Joined more l) rest other
+next i list now other done r cs s lt =
+    let k = split_at i cs s.front s.holds lt in
+    let follows : list ≡ k.before ++ (k.here ++ (k.behind ++ other)) =
+        s.parts ∙ ap (λ (l : List Bool). l ++ other) k.parts ∙ append_assoc k.before (k.here ++ k.behind) other
+        ∙ ap (λ (l : List Bool). k.before ++ l) (append_assoc k.here k.behind other) in
+    let o = r.only k.front (k.here ++ (k.behind ++ other))
+        (record { front = k.before; holds = (k.many, k.of_front); parts = follows }) in (
+      k.child,
+      k.more,
+      k.behind ++ other,
+      k.is ∙ ap (λ (x : List Child). x ++ k.child ∷ k.more) (sym o.0),
+      record { front = k.here; holds = k.of_child; parts = o.1 },
+      record { front = k.behind; holds = k.of_more; parts = refl },
+    )
 
-pub one_more : (n : ℕ) (list now new : List Bool) (done : List Child) (c : Child) → SoFar n list now done
-    → length done < n → IsRead IsChild now c new → SoFar n list new (done ++ c ∷ [])
-one_more n list now new done c far lt r = record {
+pub can_next : (i : ℕ) (list now other : List Bool) (done : List Child) → IsRead (AreSoMany i) list done now
+    → (cs : List Child) → Starts (λ l. Joined cs l) list other → i < length cs → CanRead IsChild now
+can_next i list now other done r cs s lt =
+    let k = next i list now other done r cs s lt in
+    record { value = k.0; rest = k.2; starts = k.4 }
+
+pub one_more : (i : ℕ) (list now new : List Bool) (done : List Child) (c : Child) → IsRead (AreSoMany i) list done now
+    → IsRead IsChild now c new → IsRead (AreSoMany (i + 1)) list (done ++ c ∷ []) new
+one_more i list now new done c r q = record {
   found = record {
-    front = far.found.front ++ r.found.front;
-    holds = joined_push done c far.found.front r.found.front far.found.holds r.found.holds;
-    parts = far.found.parts ∙ ap (λ (l : List Bool). far.found.front ++ l) r.found.parts
-        ∙ sym (append_assoc far.found.front r.found.front new);
+    front = r.found.front ++ q.found.front;
+    holds = (
+      length-append done (c ∷ []) ∙ ap (λ (n : ℕ). n + 1) r.found.holds.0,
+      joined_push done c r.found.front q.found.front r.found.holds.1 q.found.holds,
+    );
+    parts = r.found.parts ∙ ap (λ (l : List Bool). r.found.front ++ l) q.found.parts
+        ∙ sym (append_assoc r.found.front q.found.front new);
   };
   only = λ cs other s.
-      let k = next n list now done far lt cs other s in
-      let o = r.only k.child k.mid k.first in (
-        k.more,
-        k.is ∙ ap (λ (x : Child). done ++ x ∷ k.more) (sym o.0) ∙ sym (append_assoc done (c ∷ []) k.more),
-        subst (λ (l : List Bool). Starts (λ m. Joined k.more m) l other) (sym o.1) k.rest,
-      );
-}
-
-pub all_read : (n : ℕ) (list now : List Bool) (done : List Child) → SoFar n list now done → length done ≡ n
-    → IsRead (λ cs l. AreSoMany n cs l) list done now
-all_read n list now done far e = record {
-  found = record { front = far.found.front; holds = (e, far.found.holds); parts = far.found.parts };
-  only = λ cs other s.
-      let o = far.only cs other s in
-      (by_more cs other o.0 o.1 o.2 s.holds.0);
+      let lt : i < length cs = omega (arith, s.holds.0) in
+      let k = next i list now other done r cs (record { front = s.front; holds = s.holds.1; parts = s.parts }) lt in
+      last cs other s.holds.0 k.0 k.1 k.2 k.3 k.4 k.5;
 }
   where
-    by_more : (cs : List Child) (other : List Bool) (more : List Child) → cs ≡ done ++ more
-        → Starts (λ l. Joined more l) now other → length cs ≡ n → (done ≡ cs) × (now ≡ other)
-    by_more cs other [] f s k =
-        (sym (f ∙ append-nil done), s.parts ∙ ap (λ (l : List Bool). l ++ other) s.holds)
-    by_more cs other (c ∷ more) f s k =
-        absurd (omega (arith, k, e, ap length f, length-append done (c ∷ more)))
+    last : (cs : List Child) (other : List Bool) → length cs ≡ i + 1 → (d : Child) (more : List Child)
+        (rest : List Bool) → cs ≡ done ++ d ∷ more → Starts (IsChild d) now rest → Starts (λ l. Joined more l) rest other
+        → (done ++ c ∷ [] ≡ cs) × (new ≡ other)
+    last cs other n d [] rest is s t =
+        let o = q.only d rest s in
+        (ap (λ (x : Child). done ++ x ∷ []) o.0 ∙ sym is, o.1 ∙ t.parts ∙ ap (λ (l : List Bool). l ++ other) t.holds)
+    last cs other n d (e ∷ more) rest is s t =
+        absurd (omega (arith, n, ap length is, length-append done (d ∷ e ∷ more), r.found.holds.0))
 
 -- ---- their number, and they
 
@@ -123,22 +160,45 @@ children_read n cs list mid rest p some few q =
       only = λ ds other s. q.only ds other (record { front = s.front; holds = s.holds.2; parts = s.parts });
     }))))
 
-can_parts : (list : List Bool) → CanRead (AreChildren 1) list → CanRead Parts list
-can_parts list can =
-    can_along Parts counted list (can_same (AreChildren 1) (λ cs m. Parts (counted cs) m) to_parts list can)
+-- ---- children that can be read
 
-pub can_count : (list : List Bool) → CanRead (AreChildren 1) list → CanRead (λ v m. IsNumber 8 v m) list
-can_count list can = can_first (λ v m. IsNumber 8 v m) (λ v cs m. AreCounted v cs m) list (can_parts list can)
+-- their number can be read, and behind it stand so many
+pub can_count : (list : List Bool) → CanRead (AreChildren 1) list → CanRead IsChildCount list
+can_count list can = count can.value can.starts.holds
+  where
+    count : (cs : List Child) → AreChildren 1 cs can.starts.front → CanRead IsChildCount list
+    count [] h = absurd (omega (arith, h.0))
+    count (c ∷ cs) h = record {
+      value = length (c ∷ cs);
+      rest = h.2.1 ++ can.rest;
+      starts = record {
+        front = h.2.0;
+        holds = (h.2.2, omega arith, h.1);
+        parts = can.starts.parts ∙ ap (λ (l : List Bool). l ++ can.rest) h.2.4 ∙ append_assoc h.2.0 h.2.1 can.rest;
+      };
+    }
 
-pub can_counted : (n : ℕ) (list mid : List Bool) → CanRead (AreChildren 1) list
-    → IsRead (λ v m. IsNumber 8 v m) list n mid → CanRead (λ cs m. AreCounted n cs m) mid
-can_counted n list mid can p =
-    can_second (λ v m. IsNumber 8 v m) (λ v cs m. AreCounted v cs m) n list mid (can_parts list can) p
+pub can_counted : (n : ℕ) (list mid : List Bool) → CanRead (AreChildren 1) list → IsRead IsChildCount list n mid
+    → (cs : List Child) × (other : List Bool) × (length cs ≡ n) × Starts (λ l. Joined cs l) mid other
+can_counted n list mid can r = counted_by can.value can.starts.holds
+  where
+    counted_by : (cs : List Child) → AreChildren 1 cs can.starts.front
+        → (ds : List Child) × (other : List Bool) × (length ds ≡ n) × Starts (λ l. Joined ds l) mid other
+    counted_by [] h = absurd (omega (arith, h.0))
+    counted_by (c ∷ cs) h =
+        let parts : list ≡ h.2.0 ++ (h.2.1 ++ can.rest) =
+            can.starts.parts ∙ ap (λ (l : List Bool). l ++ can.rest) h.2.4 ∙ append_assoc h.2.0 h.2.1 can.rest in
+        let o = r.only (length (c ∷ cs)) (h.2.1 ++ can.rest)
+            (record { front = h.2.0; holds = (h.2.2, omega arith, h.1); parts = parts }) in
+        (c ∷ cs, can.rest, sym o.0, record { front = h.2.1; holds = h.2.3; parts = o.1 })
 
-pub can_so_many : (n : ℕ) (list mid : List Bool) → CanRead (AreChildren 1) list
-    → IsRead (λ v m. IsNumber 8 v m) list n mid → CanRead (λ cs m. AreSoMany n cs m) mid
-can_so_many n list mid can p =
-    can_same (λ cs m. AreCounted n cs m) (λ cs m. AreSoMany n cs m) (λ cs m h. h.2) mid (can_counted n list mid can p)
+-- a number that is a number of children
+pub count_read : (n : ℕ) (list mid : List Bool) → IsRead (IsNumber 8) list n mid → 1 ≤ n → n ≤ 127
+    → IsRead IsChildCount list n mid
+count_read n list mid r some few = record {
+  found = record { front = r.found.front; holds = (r.found.holds, some, few); parts = r.found.parts };
+  only = λ k other s. r.only k other (record { front = s.front; holds = s.holds.0; parts = s.parts });
+}
 
 -- ---- writing
 

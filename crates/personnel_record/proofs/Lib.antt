@@ -5,4 +5,5 @@ pub mod NameLemmas
 pub mod OneLemmas
 pub mod PartLemmas
 pub mod RecordLemmas
+pub mod RefusalLemmas
 pub mod StringLemmas

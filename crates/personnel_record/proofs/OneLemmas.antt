@@ -1,6 +1,6 @@
 -- A record has one encoding.
 use Rattle.std.proofs.Common.{◌≡◌, ◌≢◌, ℕ, ◌+◌, ◌-◌, ◌*◌, ◌<◌, Bool, true, false, ◌&&◌, ltb, List, [], ◌∷◌, ◌++◌, length, map, replicate, All, AllPairs, None, Some, refl, sym, ap, ◌∙◌, arith}
-use Rattle.std.specs.Prelude.{ℤ}
+use Rattle.std.specs.Prelude.{ℤ, if◌then◌else◌}
 use Rattle.std.specs.List.{range_with_len}
 use Rattle.std.proofs.lemmas.Bool.{false≢true, ltb-true}
 use Rattle.std.proofs.lemmas.List.{length-append, length-replicate}
@@ -10,7 +10,7 @@ use Rattle.std.proofs.lemmas.List.Kept.{AllPairs-cons}
 use Rattle.asn1_values.specs.Fields.{Number, Character, CountedInteger, GivesOneCodeEach, HaveOneSpelling}
 use Rattle.asn1_values.specs.Joined.{AreJoined}
 use Rattle.asn1_values.specs.SpellingLaws.{all_one}
-use Rattle.asn1_values.specs.Words.{Alphabet, Visible, base_set, bits, code_is_one, effective, length-bits, same_octets}
+use Rattle.asn1_values.specs.Words.{Alphabet, Visible, base_set, bits, code_is_one, counting_set, effective, keeps, length-bits, same_octets}
 use Rattle.personnel_record.specs.Parts.{Then}
 use Rattle.personnel_record.specs.Record.{Name, Child, Record, StringType, name_characters, date_characters, name_string, initial_string, title_string, date_string, IsNumber, IsInteger, AreCharacters, IsString, IsName, IsChild, AreChildren, IsRecord, IsPadding, IsEncoding, presence}
 
@@ -38,16 +38,25 @@ differ low (x ∷ xs) e =
     let p = both (ltb low x) (rises x xs) e in
     AllPairs-cons (λ a b. a ≢ b) x xs (λ k d within f. omega (arith, above x xs p.1 k d within)) (differ x xs p.1)
 
-names_in_one : GivesOneCodeEach (effective Visible (Some name_characters) false)
-names_in_one c j k p q = code_is_one (effective Visible (Some name_characters) false) c j k (differ 0 name_characters refl) p q
-
-dates_in_one : GivesOneCodeEach (effective Visible (Some date_characters) false)
-dates_in_one c j k p q = code_is_one (effective Visible (Some date_characters) false) c j k (differ 0 date_characters refl) p q
-
 visible_differ : AllPairs (λ a b. a ≢ b) (base_set Visible)
 unfolding base_set
 visible_differ = λ i j d lt within e.
     omega (arith, get_or-range_with_len 32 95 i d (omega arith), get_or-range_with_len 32 95 j d within)
+
+-- with a set of different characters, whether it is kept or not
+permitted_in_one : (set : List ℕ) → AllPairs (λ a b. a ≢ b) set → GivesOneCodeEach (effective Visible (Some set) false)
+permitted_in_one set differ c j k p q =
+    code_is_one (effective Visible (Some set) false) c j k (counts (keeps Visible false (length set))) p q
+  where
+    counts : (kept : Bool) → AllPairs (λ a b. a ≢ b) (counting_set Visible (if kept then Some set else None))
+    counts true = differ
+    counts false = visible_differ
+
+names_in_one : GivesOneCodeEach (effective Visible (Some name_characters) false)
+names_in_one = permitted_in_one name_characters (differ 0 name_characters refl)
+
+dates_in_one : GivesOneCodeEach (effective Visible (Some date_characters) false)
+dates_in_one = permitted_in_one date_characters (differ 0 date_characters refl)
 
 titles_in_one : GivesOneCodeEach (effective Visible None false)
 titles_in_one c j k p q = code_is_one (effective Visible None false) c j k visible_differ p q

@@ -1,14 +1,15 @@
 //! Reading a record.
 
-ghost use Rattle.std.specs.Prelude.{◌≡◌, ℕ, ◌+◌, ◌*◌, ◌^◌, ◌<◌, ◌≤◌, ◌↔◌, Bool, List, length, replicate, IfOk, IsOkUnless, IsTrue};
+ghost use Rattle.std.specs.Prelude.{◌≡◌, ℕ, ◌+◌, ◌*◌, ◌^◌, ◌<◌, ◌≤◌, ◌↔◌, Bool, List, length, replicate, IfOk, IfErr, IsOkUnless, IsTrue};
 ghost use Rattle.asn1_values.specs.Fields as bit_fields;
 ghost use Rattle.asn1_values.specs.Fields.{Begins, OfCharacter};
 ghost use Rattle.asn1_values.specs.Plain.{plain_field, plain_fields, plain_shape, plain_shapes};
-ghost use Rattle.asn1_values.specs.Words.{alphabet_of, bits_left};
+ghost use Rattle.asn1_values.specs.Words.{alphabet_of, bits, bits_left};
 ghost use Rattle.asn1_values.specs.Wrong.{CanBegin};
 ghost use Rattle.personnel_record.specs.Parts.{IsRead, CanRead};
 ghost use Rattle.personnel_record.specs.Record as plain;
 ghost use Rattle.personnel_record.specs.Record.{IsNumber, IsInteger, IsText, IsString, IsName, IsChild, AreChildren, IsRecord, IsPadding, IsEncoding, characters_in, IsField};
+ghost use Rattle.personnel_record.specs.Refusals.{IsRefusalFor, IsChildrenRefusal, IsRefusal};
 ghost use Rattle.personnel_record.specs.Types.{plain_name, plain_child, plain_children, plain_record};
 ghost use Rattle.personnel_record.specs.StringType.{plain_type};
 
@@ -29,6 +30,8 @@ pub fn decode(alloc: Global, octets: &[u8]) -> Result<PersonnelRecord, DecodeErr
     // Where they are the encoding of any record, only memory can be wanting.
     ensures accepted { (other : plain.Record) → IsEncoding other octets.now
         → IsOkUnless result DecodeError.Memory }
+    // What is refused is refused by its first wrong part.
+    ensures refused { IfErr result (IsRefusal (bits octets.now)) }
 {
     let types = string_types(&NAME_CHARACTERS, &DATE_CHARACTERS);
     let mut reader = BitReader::from_octets(octets);
@@ -56,8 +59,8 @@ fn read_record(
 ) -> Result<PersonnelRecord, DecodeError>
     ensures read { IfOk result (λ x.
         IsRead (IsRecord) (bits_left reader.old) (plain_record x) (bits_left reader.new)) }
-    ensures accepted { CanRead (IsRecord) (bits_left reader.old)
-        → IsOkUnless result DecodeError.Memory }
+    ensures refused { IfErr result
+        (IsRefusal (bits_left reader.old)) }
 {
     let present = read_number(alloc, reader, 1, Part::Presence)?;
     let name = read_name(alloc, reader, types, Part::Name)?;
@@ -87,8 +90,8 @@ fn read_children(
     ensures read { IfOk result (λ x.
         IsRead (AreChildren present)
         (bits_left reader.old) (plain_children x.items) (bits_left reader.new)) }
-    ensures accepted { CanRead (AreChildren present) (bits_left reader.old)
-        → IsOkUnless result DecodeError.Memory }
+    ensures refused { IfErr result
+        (IsChildrenRefusal present (bits_left reader.old)) }
 {
     let mut children = Vec::new(alloc);
     if present == 0 {
@@ -118,8 +121,8 @@ fn read_child(
 ) -> Result<ChildInformation, DecodeError>
     ensures read { IfOk result (λ x.
         IsRead (IsChild) (bits_left reader.old) (plain_child x) (bits_left reader.new)) }
-    ensures accepted { CanRead (IsChild) (bits_left reader.old)
-        → IsOkUnless result DecodeError.Memory }
+    ensures refused { IfErr result
+        (IsRefusalFor part (CanRead IsChild (bits_left reader.old))) }
 {
     let name = read_name(alloc, reader, types, part)?;
     let date_of_birth = read_string(alloc, reader, &types.date, part)?;
@@ -138,8 +141,8 @@ fn read_name(
 ) -> Result<Name, DecodeError>
     ensures read { IfOk result (λ x.
         IsRead (IsName) (bits_left reader.old) (plain_name x) (bits_left reader.new)) }
-    ensures accepted { CanRead (IsName) (bits_left reader.old)
-        → IsOkUnless result DecodeError.Memory }
+    ensures refused { IfErr result
+        (IsRefusalFor part (CanRead IsName (bits_left reader.old))) }
 {
     let given_name = read_string(alloc, reader, &types.name_string, part)?;
     let initial = read_string(alloc, reader, &types.initial, part)?;
@@ -161,8 +164,8 @@ fn read_string(
     ensures read { IfOk result (λ x.
         IsRead (IsString (plain_type string.now))
         (bits_left reader.old) (x.items) (bits_left reader.new)) }
-    ensures accepted { CanRead (IsString (plain_type string.now)) (bits_left reader.old)
-        → IsOkUnless result DecodeError.Memory }
+    ensures refused { IfErr result
+        (IsRefusalFor part (CanRead (IsString (plain_type string.now)) (bits_left reader.old))) }
 {
     let more = read_number(alloc, reader, string.width, part)?;
     if more > (string.most - string.least) as u128 {
@@ -188,9 +191,8 @@ fn read_characters(
     ensures read { IfOk result (λ x.
         IsRead (IsText (alphabet_of alphabet.entry) count)
         (bits_left reader.old) (x.items) (bits_left reader.new)) }
-    ensures accepted { CanRead (IsText (alphabet_of alphabet.entry) count)
-        (bits_left reader.old)
-        → IsOkUnless result DecodeError.Memory }
+    ensures refused { IfErr result
+        (IsRefusalFor part (CanRead (IsText (alphabet_of alphabet.entry) count) (bits_left reader.old))) }
 {
     let shapes = character_shapes(alloc, alphabet, count)?;
     let fields = read_part(alloc, reader, shapes.as_slice(), part)?;
@@ -235,8 +237,8 @@ fn read_number(
 ) -> Result<u128, DecodeError>
     ensures read { IfOk result (λ x.
         IsRead (IsNumber width) (bits_left reader.old) x (bits_left reader.new)) }
-    ensures accepted { CanRead (IsNumber width) (bits_left reader.old)
-        → IsOkUnless result DecodeError.Memory }
+    ensures refused { IfErr result
+        (IsRefusalFor part (CanRead (IsNumber width) (bits_left reader.old))) }
 {
     match read_field(alloc, reader, Shape::Number { width }, part)? {
         Field::Number { value, .. } => Ok(value),
@@ -252,8 +254,8 @@ fn read_integer(
 ) -> Result<Integer, DecodeError>
     ensures read { IfOk result (λ x.
         IsRead IsInteger (bits_left reader.old) x (bits_left reader.new)) }
-    ensures accepted { CanRead IsInteger (bits_left reader.old)
-        → IsOkUnless result DecodeError.Memory }
+    ensures refused { IfErr result
+        (IsRefusalFor part (CanRead IsInteger (bits_left reader.old))) }
 {
     match read_field(alloc, reader, Shape::CountedInteger, part)? {
         Field::CountedInteger(number) => Ok(number),
@@ -271,8 +273,8 @@ fn read_field<'a, 's>(
     ensures read { IfOk result (λ x.
         IsRead (IsField (plain_shape shape.entry)) (bits_left reader.old)
         (plain_field x) (bits_left reader.new)) }
-    ensures accepted { CanRead (IsField (plain_shape shape.entry)) (bits_left reader.old)
-        → IsOkUnless result DecodeError.Memory }
+    ensures refused { IfErr result
+        (IsRefusalFor part (CanRead (IsField (plain_shape shape.entry)) (bits_left reader.old))) }
 {
     let mut fields = read_part(alloc, reader, &[shape], part)?;
     match fields.pop() {
@@ -293,8 +295,8 @@ fn read_part<'a, 's>(
     ensures only { IfOk result (λ fields. (others : List bit_fields.Field) (rest : List Bool)
         → Begins (bits_left reader.old) (plain_shapes shapes.now) others rest
         → (plain_fields fields.items ≡ others) × (bits_left reader.new ≡ rest)) }
-    ensures accepted { CanBegin (bits_left reader.old) (plain_shapes shapes.now)
-        → IsOkUnless result DecodeError.Memory }
+    ensures refused { IfErr result
+        (IsRefusalFor part (CanBegin (bits_left reader.old) (plain_shapes shapes.now))) }
 {
     match read_fields(alloc, reader, shapes) {
         Ok(fields) => Ok(fields),

@@ -7,13 +7,14 @@ use Rattle.asn1_values.specs.declared.bit_fields.field.Field.{Field}
 use Rattle.personnel_record.specs.Parts.{IsRead}
 use Rattle.personnel_record.specs.Record.{IsField}
 use Rattle.personnel_record.proofs.FieldLemmas.{can_as_number, read_as_number}
+use Rattle.personnel_record.proofs.RefusalLemmas.{refused_along}
 use Rattle.personnel_record.proofs.read.read_number.Goals as goal
 use Rattle.personnel_record.proofs.read.read_number.Goals.{in-Number, in_default}
 
-pub returns-in_err-value-clause-accepted : goal.returns-in_err-value-clause-accepted
-returns-in_err-value-clause-accepted c = λ can.
+pub returns-in_err-value-clause-refused : goal.returns-in_err-value-clause-refused
+returns-in_err-value-clause-refused c =
     let p = err_from_is_err_and c.from_residual.result c.from_residual.ensures.1 in
-    rw (p.1, p.2) (c.in_err-value.ensures.accepted (can_as_number (bits_left c.args.reader.now) c.args.width can))
+    rw (p.1, p.2) (refused_along _ _ _ _ (λ can. can_as_number (bits_left c.args.reader.now) c.args.width can) c.in_err-value.ensures.refused)
 
 pub returns-clause-read : goal.returns-clause-read
 returns-clause-read c =
