@@ -3,7 +3,7 @@ use Rattle.std.proofs.Common.{◌≡◌, ℕ, suc, zero, ◌+◌, ◌<◌, ◌�
 use Rattle.std.proofs.lemmas.List.{append-nil}
 use Rattle.asn1_values.specs.Joined.{AreJoined}
 use Rattle.personnel_record.specs.Parts.{Then, Starts, IsRead, CanRead, IsWritten}
-use Rattle.personnel_record.specs.Record.{Child, IsNumber, IsChild, AreChildren, presence}
+use Rattle.personnel_record.specs.Record.{Child, IsNumber, IsChild, AreChildren}
 use Rattle.personnel_record.specs.Refusals.{AreSoMany, IsChildCount}
 use Rattle.personnel_record.proofs.PartLemmas.{Both, read_pair, read_along, read_same}
 
@@ -63,28 +63,18 @@ split_at (suc i) (c ∷ cs) l j lt =
       parts = j.4 ∙ ap (λ (x : List Bool). j.0 ++ x) k.parts ∙ sym (append_assoc j.0 k.before (k.here ++ k.behind));
     }
 
-pub none_read : (list : List Bool) → IsRead (AreSoMany 0) list [] list
-none_read list = record {
-  found = record { front = []; holds = (refl, refl); parts = refl };
-  only = λ cs other s. none cs other s;
-}
-  where
-    none : (cs : List Child) (other : List Bool) → Starts (AreSoMany 0 cs) list other → ([] ≡ cs) × (list ≡ other)
-    none [] other s = (refl, s.parts ∙ ap (λ (l : List Bool). l ++ other) s.holds.1)
-    none (c ∷ cs) other s = absurd (omega (arith, s.holds.0))
-
 -- of the children that begin a list, those before a place are the ones that were read, and the next follows
 next : (i : ℕ) (list now other : List Bool) (done : List Child) → IsRead (AreSoMany i) list done now
     → (cs : List Child) → Starts (λ l. Joined cs l) list other → i < length cs
     → (child : Child) × (more : List Child) × (rest : List Bool) × (cs ≡ done ++ child ∷ more)
-      × Starts (IsChild child) now rest × Starts (λ l. Joined more l) rest other
+    × Starts (IsChild child) now rest × Starts (λ l. Joined more l) rest other
 next i list now other done r cs s lt =
     let k = split_at i cs s.front s.holds lt in
     let follows : list ≡ k.before ++ (k.here ++ (k.behind ++ other)) =
-        s.parts ∙ ap (λ (l : List Bool). l ++ other) k.parts ∙ append_assoc k.before (k.here ++ k.behind) other
-        ∙ ap (λ (l : List Bool). k.before ++ l) (append_assoc k.here k.behind other) in
+    s.parts ∙ ap (λ (l : List Bool). l ++ other) k.parts ∙ append_assoc k.before (k.here ++ k.behind) other
+    ∙ ap (λ (l : List Bool). k.before ++ l) (append_assoc k.here k.behind other) in
     let o = r.only k.front (k.here ++ (k.behind ++ other))
-        (record { front = k.before; holds = (k.many, k.of_front); parts = follows }) in (
+    (record { front = k.before; holds = (k.many, k.of_front); parts = follows }) in (
       k.child,
       k.more,
       k.behind ++ other,
@@ -187,9 +177,9 @@ can_counted n list mid can r = counted_by can.value can.starts.holds
     counted_by [] h = absurd (omega (arith, h.0))
     counted_by (c ∷ cs) h =
         let parts : list ≡ h.2.0 ++ (h.2.1 ++ can.rest) =
-            can.starts.parts ∙ ap (λ (l : List Bool). l ++ can.rest) h.2.4 ∙ append_assoc h.2.0 h.2.1 can.rest in
+        can.starts.parts ∙ ap (λ (l : List Bool). l ++ can.rest) h.2.4 ∙ append_assoc h.2.0 h.2.1 can.rest in
         let o = r.only (length (c ∷ cs)) (h.2.1 ++ can.rest)
-            (record { front = h.2.0; holds = (h.2.2, omega arith, h.1); parts = parts }) in
+        (record { front = h.2.0; holds = (h.2.2, omega arith, h.1); parts = parts }) in
         (c ∷ cs, can.rest, sym o.0, record { front = h.2.1; holds = h.2.3; parts = o.1 })
 
 -- a number that is a number of children
@@ -207,14 +197,6 @@ pub children_parts : (cs : List Child) (p n : ℕ) (list : List Bool) → 0 < n 
 children_parts [] p n list some e h = absurd (omega (arith, e))
 children_parts (c ∷ cs) p n list some e h =
     subst (λ (k : ℕ). (k ≤ 127) × Then (IsNumber 8 k) (λ l. Joined (c ∷ cs) l) list) e (h.1, h.2)
-
-pub children_from : (cs : List Child) (n : ℕ) (old new : List Bool) → 0 < n → length cs ≡ n → n ≤ 127
-    → IsWritten (λ m. Then (IsNumber 8 n) (λ l. Joined cs l) m) old new
-    → IsWritten (λ m. AreChildren (presence cs) cs m) old new
-children_from [] n old new some e few w = absurd (omega (arith, e))
-children_from (c ∷ cs) n old new some e few w =
-    let p = subst (λ (k : ℕ). (k ≤ 127) × Then (IsNumber 8 k) (λ l. Joined (c ∷ cs) l) w.part) (sym e) (few, w.holds) in
-    record { part = w.part; holds = (refl, p.0, p.1); parts = w.parts }
 
 pub joined_more : (cs : List Child) (c : Child) (old mid new : List Bool) → IsWritten (λ l. Joined cs l) old mid
     → IsWritten (λ l. IsChild c l) mid new → IsWritten (λ l. Joined (cs ++ c ∷ []) l) old new

@@ -42,10 +42,6 @@ only_last {A = A} g fs front f shape e zip = by_front front e
     by_front (x ∷ y ∷ xs) e =
         let z = subst (λ (l : List A). AllZip IsOfShape (map g l) (shape ∷ [])) e zip in absurd z.1
 
-pub none_is_no_one : {A : Type 0} (g : A → Field) (fs : List A) (shape : Shape) → fs ≡ []
-    → AllZip IsOfShape (map g fs) (shape ∷ []) → ⊥
-none_is_no_one {A = A} g fs shape e zip = subst (λ (l : List A). AllZip IsOfShape (map g l) (shape ∷ [])) e zip
-
 -- ---- numbers and integers
 
 pub read_as_number : (list rest : List Bool) (value width w : ℕ)

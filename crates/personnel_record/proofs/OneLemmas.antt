@@ -1,16 +1,15 @@
 -- A record has one encoding.
 use Rattle.std.proofs.Common.{◌≡◌, ◌≢◌, ℕ, ◌+◌, ◌-◌, ◌*◌, ◌<◌, Bool, true, false, ◌&&◌, ltb, List, [], ◌∷◌, ◌++◌, length, map, replicate, All, AllPairs, None, Some, refl, sym, ap, ◌∙◌, arith}
 use Rattle.std.specs.Prelude.{ℤ, if◌then◌else◌}
-use Rattle.std.specs.List.{range_with_len}
 use Rattle.std.proofs.lemmas.Bool.{false≢true, ltb-true}
-use Rattle.std.proofs.lemmas.List.{length-append, length-replicate}
+use Rattle.std.proofs.lemmas.List.{length-append}
 use Rattle.std.proofs.lemmas.List.Elements.{All-nil, All-cons}
 use Rattle.std.proofs.lemmas.List.FromFn.{get_or-range_with_len}
 use Rattle.std.proofs.lemmas.List.Kept.{AllPairs-cons}
 use Rattle.asn1_values.specs.Fields.{Number, Character, CountedInteger, GivesOneCodeEach, HaveOneSpelling}
 use Rattle.asn1_values.specs.Joined.{AreJoined}
 use Rattle.asn1_values.specs.SpellingLaws.{all_one}
-use Rattle.asn1_values.specs.Words.{Alphabet, Visible, base_set, bits, code_is_one, counting_set, effective, keeps, length-bits, same_octets}
+use Rattle.asn1_values.specs.Words.{Alphabet, Visible, base_set, code_is_one, counting_set, effective, keeps, length-bits, same_octets}
 use Rattle.personnel_record.specs.Parts.{Then}
 use Rattle.personnel_record.specs.Record.{Name, Child, Record, StringType, name_characters, date_characters, name_string, initial_string, title_string, date_string, IsNumber, IsInteger, AreCharacters, IsString, IsName, IsChild, AreChildren, IsRecord, IsPadding, IsEncoding, presence}
 
@@ -173,7 +172,7 @@ pub one_encoding : (r : Record) (o p : List ℕ) → All (λ octet. octet < 256)
 one_encoding r o p of_o of_p e f =
     let same = one_record r e.0 f.0 e.2 f.2 in
     let rest = one_padding e.0 f.0 e.1 f.1 (length o) (length p) e.3 f.3 same
-        (omega (arith, ap length e.4, length-append e.0 e.1, length-bits o))
-        (omega (arith, ap length f.4, length-append f.0 f.1, length-bits p)) in
+    (omega (arith, ap length e.4, length-append e.0 e.1, length-bits o))
+    (omega (arith, ap length f.4, length-append f.0 f.1, length-bits p)) in
     same_octets o p of_o of_p
     (e.4 ∙ ap (λ (l : List Bool). l ++ e.1) same ∙ ap (λ (l : List Bool). f.0 ++ l) rest ∙ sym f.4)

@@ -1,14 +1,14 @@
 -- Refusals: by the first part that is wrong.
-use Rattle.std.proofs.Common.{◌≡◌, ℕ, ◌<◌, Bool, List, length, refl, sym, subst, arith}
+use Rattle.std.proofs.Common.{◌≡◌, ℕ, Bool, List, refl, sym, subst, arith}
 use Rattle.asn1_values.specs.Words.{bits}
 use Rattle.personnel_record.specs.declared.error.DecodeError.{DecodeError}
 use Rattle.personnel_record.specs.declared.error.DecodeError.TheVariants as decoding
 use Rattle.personnel_record.specs.declared.error.Part.{Part}
 use Rattle.personnel_record.specs.declared.error.Part.TheVariants.{Presence, Name, Number, Title, DateOfHire, NameOfSpouse, ChildCount, Child, Padding}
-use Rattle.personnel_record.specs.Parts.{IsRead, CanRead}
+use Rattle.personnel_record.specs.Parts.{CanRead}
 use Rattle.personnel_record.specs.Record as plain
 use Rattle.personnel_record.specs.Record.{IsNumber, IsRecord, AreChildren, IsEncoding}
-use Rattle.personnel_record.specs.Refusals.{AfterSpouse, IsChildCount, IsFirstWrong, IsFirstWrongOf, IsRefusalFor, IsRefusal, IsChildrenRefusal}
+use Rattle.personnel_record.specs.Refusals.{AfterSpouse, IsFirstWrong, IsFirstWrongOf, IsRefusalFor, IsRefusal, IsChildrenRefusal}
 use Rattle.personnel_record.proofs.ChildrenLemmas.{can_count, can_counted, can_next}
 use Rattle.personnel_record.proofs.EncodingLemmas.{can_record, record_of}
 use Rattle.personnel_record.proofs.RecordLemmas.{can_presence, after_presence, can_name, after_name, can_number, after_number, can_title, after_title, can_hire, after_hire, can_spouse, after_spouse}
@@ -40,11 +40,14 @@ first_of_children present list rest (decoding.Wrong part) f r = absurd r.1
 pub count_wrong : (list : List Bool) (e : DecodeError) → IsRefusalFor ChildCount (CanRead (IsNumber 8) list) e
     → IsChildrenRefusal 1 list e
 count_wrong list (decoding.Wrong p) r =
-    subst (λ (q : Part). IsChildrenRefusal 1 list (decoding.Wrong q)) (sym r.0) (refl, λ can. r.1 (record {
-      value = can.value;
-      rest = can.rest;
-      starts = record { front = can.starts.front; holds = can.starts.holds.0; parts = can.starts.parts };
-    }))
+    subst (λ (q : Part). IsChildrenRefusal 1 list (decoding.Wrong q)) (sym r.0) (
+      refl,
+      λ can. r.1 (record {
+        value = can.value;
+        rest = can.rest;
+        starts = record { front = can.starts.front; holds = can.starts.holds.0; parts = can.starts.parts };
+      }),
+    )
 count_wrong list decoding.Memory r = tt
 
 pub child_wrong : (index : ℕ) (list : List Bool) (Can : Type 0) (e : DecodeError)

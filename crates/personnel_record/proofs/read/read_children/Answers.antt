@@ -2,7 +2,6 @@ use Rattle.std.proofs.Common.{◌≡◌, ◌∷◌, [], ◌++◌, ◌+◌, ℕ, 
 use Rattle.std.proofs.lemmas.Result.{err_from_is_err_and}
 use Rattle.std.proofs.lemmas.List.{map-append}
 use Rattle.asn1_values.specs.Words.{bits_left}
-use Rattle.personnel_record.specs.declared.error.DecodeError.{DecodeError}
 use Rattle.personnel_record.specs.declared.record.ChildInformation.{ChildInformation}
 use Rattle.personnel_record.specs.Parts.{IsRead}
 use Rattle.personnel_record.specs.Record.{Child, AreChildren}
@@ -23,19 +22,21 @@ returns-in_err-count-clause-refused c =
 
 pub returns-then-count-eq0-clause-refused : goal.returns-then-count-eq0-clause-refused
 returns-then-count-eq0-clause-refused c =
-    let old = bits_left c.args.reader.now in
-    (omega (arith, c.requires, c.if-present-eq0.false), λ can.
-    let o = c.in_ok-count.ensures.read.only can.value can.rest (record {
-      front = can.starts.front;
-      holds = can.starts.holds.0;
-      parts = can.starts.parts;
-    }) in
-    let some = can.starts.holds.1 in
-    let few = can.starts.holds.2 in
-    elim c.then-count-eq0.branch [
-      | then-count-eq0-via-then-count-eq0 w ↦ omega (arith, o.0, some, w.if-count-eq0.true)
-      | then-count-eq0-via-else-count-eq0+then-count-gt127 w ↦ omega (arith, o.0, few, w.if-count-gt127.true)
-    ])
+    let old = bits_left c.args.reader.now in (
+      omega (arith, c.requires, c.if-present-eq0.false),
+      λ can.
+          let o = c.in_ok-count.ensures.read.only can.value can.rest (record {
+            front = can.starts.front;
+            holds = can.starts.holds.0;
+            parts = can.starts.parts;
+          }) in
+          let some = can.starts.holds.1 in
+          let few = can.starts.holds.2 in
+          elim c.then-count-eq0.branch [
+            | then-count-eq0-via-then-count-eq0 w ↦ omega (arith, o.0, some, w.if-count-eq0.true)
+            | then-count-eq0-via-else-count-eq0+then-count-gt127 w ↦ omega (arith, o.0, few, w.if-count-gt127.true)
+          ],
+    )
 
 pub returns-in_err-child-clause-refused : goal.returns-in_err-child-clause-refused
 returns-in_err-child-clause-refused c =
@@ -44,18 +45,29 @@ returns-in_err-child-clause-refused c =
     let old = bits_left c.args.reader.now in
     let index = c.loop-index.index in
     let count = count_read c.in_ok-count.count old (bits_left c.read_number.new.reader) c.in_ok-count.ensures.read
-        (omega (arith, c.if-count-eq0.false)) c.if-count-gt127.false in
+    (omega (arith, c.if-count-eq0.false)) c.if-count-gt127.false in
     rw (p.1, p.2) (subst (λ (v : ℕ). IsChildrenRefusal v old c.in_err-child.field-0.0) one
-    (child_wrong index old _ _ (λ not. (c.in_ok-count.count, bits_left c.read_number.new.reader, count,
-    (c.loop-index-test.true, (plain_children c.loop-index.children.items, bits_left c.loop-index.reader,
-    c.loop-index.invariant.so_far, not)))) c.in_err-child.ensures.refused))
+    (child_wrong index old _ _ (λ not. (
+      c.in_ok-count.count,
+      bits_left c.read_number.new.reader,
+      count,
+      (
+        c.loop-index-test.true,
+        (
+          plain_children c.loop-index.children.items,
+          bits_left c.loop-index.reader,
+          c.loop-index.invariant.so_far,
+          not,
+        ),
+      ),
+    )) c.in_err-child.ensures.refused))
 
 pub loop-index-preserved : goal.loop-index-preserved
 loop-index-preserved c =
     let pushed : plain_children c.push.new.self.items
-        ≡ plain_children c.loop-index.children.items ++ plain_child c.in_ok-child.child ∷ [] =
-        ap (λ (l : List ChildInformation). plain_children l) c.in_default.ensures.items
-        ∙ map-append plain_child c.loop-index.children.items (c.in_ok-child.child ∷ []) in
+    ≡ plain_children c.loop-index.children.items ++ plain_child c.in_ok-child.child ∷ [] =
+    ap (λ (l : List ChildInformation). plain_children l) c.in_default.ensures.items
+    ∙ map-append plain_child c.loop-index.children.items (c.in_ok-child.child ∷ []) in
     record {
       so_far = subst (λ (l : List Child). IsRead (AreSoMany (c.loop-index.index + 1)) (bits_left c.read_number.new.reader)
           l (bits_left c.read_child.new.reader)) (sym pushed)
@@ -68,7 +80,7 @@ pub returns-clause-read : goal.returns-clause-read
 returns-clause-read c =
     let one : 1 ≡ c.args.present = omega (arith, c.requires, c.if-present-eq0.false) in
     let all : c.loop-index.index ≡ c.in_ok-count.count =
-        omega (arith, c.loop-index-test.false, c.loop-index.auto.index-end) in
+    omega (arith, c.loop-index-test.false, c.loop-index.auto.index-end) in
     let old = bits_left c.args.reader.now in
     let children = plain_children c.loop-index.children.items in
     subst (λ (v : ℕ). IsRead (AreChildren v) old children (bits_left c.loop-index.reader)) one

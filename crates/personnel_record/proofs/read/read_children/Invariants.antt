@@ -1,4 +1,3 @@
-use Rattle.std.proofs.Common.{◌≡◌, length}
 use Rattle.asn1_values.specs.Words.{bits_left}
 use Rattle.personnel_record.specs.Parts.{IsRead}
 use Rattle.personnel_record.specs.Refusals.{AreSoMany}

@@ -13,10 +13,13 @@ returns-in_err-more-clause-refused c =
     rw (p.1, p.2) (refused_along _ _ _ _ (λ can. can_length (plain_type c.args.string.now) c.args.string.now.ordered (bits_left c.args.reader.now) can) c.in_err-more.ensures.refused)
 
 pub returns-then-more-string-clause-refused : goal.returns-then-more-string-clause-refused
-returns-then-more-string-clause-refused c = (refl, λ can.
-    let few = can_few (plain_type c.args.string.now) c.args.string.now.ordered c.in_ok-more.more
-        (bits_left c.args.reader.now) (bits_left c.read_number.new.reader) can c.in_ok-more.ensures.read in
-    omega (arith, few, c.if-more-string.true))
+returns-then-more-string-clause-refused c = (
+  refl,
+  λ can.
+      let few = can_few (plain_type c.args.string.now) c.args.string.now.ordered c.in_ok-more.more
+      (bits_left c.args.reader.now) (bits_left c.read_number.new.reader) can c.in_ok-more.ensures.read in
+      omega (arith, few, c.if-more-string.true),
+)
 
 pub returns-clause-read : goal.returns-clause-read
 returns-clause-read c =
