@@ -2,6 +2,7 @@
 use Rattle.std.specs.Prelude.{◌≡◌, ℕ, ◌+◌, ◌-◌, ◌*◌, ◌/◌, ◌^◌, ◌≤◌, Bool, List, ◌++◌, length, min, Result, Ok, Err}
 use Rattle.std.specs.Int.{div_ceil}
 use Rattle.asn1_bits.specs.declared.bit_appender.BitAppender.{BitAppender}
+use Rattle.asn1_bits.specs.Bits.{overwritten}
 use Rattle.asn1_bits.specs.BitAppender.{bits_written, room}
 use Rattle.asn1_values.specs.declared.bit_fields.error.ReadError.{ReadError}
 use Rattle.asn1_values.specs.declared.bit_fields.error.ReadError.TheVariants as reading
@@ -96,3 +97,25 @@ pub record TakesTurns (n old new : ℕ) : Type 0 where
 pub record TakeTurns (fields : List Field) (old new : ℕ) : Type 0 where
   pub at_least : (list : List Bool) → AreSpelledBy fields list → old + div_ceil (length list) 64 ≤ new
   pub at_most : (list : List Bool) → AreSpelledBy fields list → new ≤ old + length list / 64 + 8 * length fields
+
+-- ---- writing over what is there
+
+-- each spelling of the fields, from a place on, ends at the limit or before
+pub record EndsWithin (limit place : ℕ) (fields : List Field) : Type 0 where
+  pub list : List Bool
+  pub spelled : AreSpelledBy fields list
+  pub within : (others : List Bool) → AreSpelledBy fields others → place + length others ≤ limit
+
+-- the spelling of the field was written over the bits from a place on, and ends at the next place
+pub record Overwrites (field : Field) (place : ℕ) (old new : List Bool) (next : ℕ) : Type 0 where
+  pub list : List Bool
+  pub spelled : IsSpelledBy field list
+  pub written : new ≡ overwritten old place list
+  pub end : next ≡ place + length list
+
+-- the spellings of the fields were written over the bits from a place on, one after another, and end at the next place
+pub record OverwritesAll (fields : List Field) (place : ℕ) (old new : List Bool) (next : ℕ) : Type 0 where
+  pub list : List Bool
+  pub spelled : AreSpelledBy fields list
+  pub written : new ≡ overwritten old place list
+  pub end : next ≡ place + length list
