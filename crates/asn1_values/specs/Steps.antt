@@ -1,5 +1,5 @@
 -- How the steps of the two calls are stated. No public contract cites this.
-use Rattle.std.specs.Prelude.{◌≡◌, ℕ, ◌+◌, ◌-◌, ◌*◌, ◌/◌, ◌^◌, ◌≤◌, Bool, List, ◌++◌, length, min, Result, Ok, Err}
+use Rattle.std.specs.Prelude.{◌≡◌, ℕ, ◌+◌, ◌-◌, ◌*◌, ◌/◌, ◌^◌, ◌<◌, ◌≤◌, Bool, List, ◌++◌, length, min, Result, Ok, Err}
 use Rattle.std.specs.Int.{div_ceil}
 use Rattle.asn1_bits.specs.declared.bit_appender.BitAppender.{BitAppender}
 use Rattle.asn1_bits.specs.Bits.{overwritten}
@@ -100,22 +100,25 @@ pub record TakeTurns (fields : List Field) (old new : ℕ) : Type 0 where
 
 -- ---- writing over what is there
 
--- each spelling of the fields, from a place on, ends at the limit or before
-pub record EndsWithin (limit place : ℕ) (fields : List Field) : Type 0 where
+-- bits that end at the place end within n bits, and usize counts it
+abbrev pub IsReached : ℕ → ℕ → Type 0
+IsReached n place = (place ≤ n) × (place < 2 ^ 64)
+
+-- the fields all fit, and with them from a place on n bits are reached
+pub record EndWithin (n place : ℕ) (fields : List Field) : Type 0 where
   pub list : List Bool
   pub spelled : AreSpelledBy fields list
-  pub within : (others : List Bool) → AreSpelledBy fields others → place + length others ≤ limit
+  pub within : (others : List Bool) → AreSpelledBy fields others → IsReached n (place + length others)
 
--- the spelling of the field was written over the bits from a place on, and ends at the next place
-pub record Overwrites (field : Field) (place : ℕ) (old new : List Bool) (next : ℕ) : Type 0 where
-  pub list : List Bool
-  pub spelled : IsSpelledBy field list
+-- the list was written over the bits from a place on, up to the next place
+pub record WritesOver (list : List Bool) (place : ℕ) (old new : List Bool) (next : ℕ) : Type 0 where
   pub written : new ≡ overwritten old place list
   pub end : next ≡ place + length list
 
--- the spellings of the fields were written over the bits from a place on, one after another, and end at the next place
-pub record OverwritesAll (fields : List Field) (place : ℕ) (old new : List Bool) (next : ℕ) : Type 0 where
-  pub list : List Bool
-  pub spelled : AreSpelledBy fields list
-  pub written : new ≡ overwritten old place list
-  pub end : next ≡ place + length list
+-- the spelling of the field was
+abbrev pub Overwrites : Field → ℕ → List Bool → List Bool → ℕ → Type 0
+Overwrites field place old new next = (list : List Bool) × IsSpelledBy field list × WritesOver list place old new next
+
+-- the spellings of the fields were, one after another
+abbrev pub OverwritesAll : List Field → ℕ → List Bool → List Bool → ℕ → Type 0
+OverwritesAll fields place old new next = (list : List Bool) × AreSpelledBy fields list × WritesOver list place old new next
