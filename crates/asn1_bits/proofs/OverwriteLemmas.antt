@@ -80,8 +80,7 @@ octet-cleared o s c small h =
     ap (take s) (ap (digits o) whole ∙ digits-append o s k) ∙ take_at (digits a s) (digits o k) s (length-digits a s) in
     let at : s + length zeros ≡ s + c = omega (arith, length-replicate c false) in
     let back : drop (s + length zeros) (digits o 8) ≡ digits o j =
-    ap (λ (m : ℕ). drop m (digits o 8)) at ∙ ap (λ (m : ℕ). drop (s + c) (digits o m)) tail ∙ low-part o (s + c) j in
-    (
+    ap (λ (m : ℕ). drop m (digits o 8)) at ∙ ap (λ (m : ℕ). drop (s + c) (digits o m)) tail ∙ low-part o (s + c) j in (
       rw is fits,
       ap (λ (m : ℕ). digits m 8) is ∙ new ∙ sym (ap (λ (l : List Bool). l ++ (zeros ++ drop (s + length zeros) (digits o 8))) front ∙ ap (λ (l : List Bool). digits a s ++ (zeros ++ l)) back),
     )
