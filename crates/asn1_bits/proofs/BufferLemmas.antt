@@ -7,12 +7,15 @@ use Rattle.asn1_bits.specs.DigitLaws.{length-bits, bits-append, bits-take}
 use Rattle.asn1_bits.proofs.OredLemmas.{length-ored, ored-append_left, ored-onto}
 use Rattle.asn1_bits.proofs.ZeroLemmas.{zeros_behind, zero_from}
 
+-- the digits of 0 are zeros
 pub digits-zero : (width : ℕ) → digits 0 width ≡ replicate width false
 unfolding digits
 digits-zero zero = refl
 digits-zero (suc width) =
-    ap (λ (l : List Bool). l ++ false ∷ []) (digits-zero width) ∙ replicate_more width false ∙ (let e : width + 1 ≡ suc width = omega arith in ap (λ (n : ℕ). replicate n false) e)
+    ap (λ (l : List Bool). l ++ false ∷ []) (digits-zero width) ∙ replicate_more width false
+        ∙ (let e : width + 1 ≡ suc width = omega arith in ap (λ (n : ℕ). replicate n false) e)
 
+-- and so are the bits of octets that are 0
 pub bits-zeros : (k : ℕ) → bits (replicate k 0) ≡ replicate (8 * k) false
 unfolding bits
 bits-zeros zero = refl
@@ -22,43 +25,54 @@ bits-zeros (suc k) =
     ∙ replicate-append-replicate 8 (8 * k) false
     ∙ (let e : 8 + 8 * k ≡ 8 * suc k = omega arith in ap (λ (n : ℕ). replicate n false) e)
 
+-- so many bits are shown as the buffer counts
 pub length-bits_shown : (octets : List ℕ) (len : ℕ) → IsFilled octets len → length (bits_shown octets len) ≡ len
 unfolding bits_shown
 length-bits_shown octets len f = length-take len (bits octets) ∙ omega (arith, length-bits octets, f.count)
 
+-- they lie in the octets
 pub len_fits : (octets : List ℕ) (len : ℕ) → IsFilled octets len → len ≤ 8 * length octets
 len_fits octets len f = omega (arith, f.count)
 
 -- octets whose bits are a list and then zeros
-pub filled_by : (octets : List ℕ) (len : ℕ) (list : List Bool) (z : ℕ) → bits octets ≡ list ++ replicate z false → length list ≡ len → length octets ≡ octets_for len
+pub filled_by : (octets : List ℕ) (len : ℕ) (list : List Bool) (z : ℕ) → bits octets ≡ list ++ replicate z false
+    → length list ≡ len → length octets ≡ octets_for len
     → IsFilled octets len × (bits_shown octets len ≡ list)
 unfolding bits_shown
 filled_by octets len list z e l n =
     let front : take len (bits octets) ≡ list = ap (take len) e ∙ take_at list (replicate z false) len l in
-    let total : length (bits octets) ≡ len + z = ap (λ (l : List Bool). length l) e ∙ omega (arith, length-append list (replicate z false), length-replicate z false) in
+    let total : length (bits octets) ≡ len + z = ap (λ (l : List Bool). length l) e
+        ∙ omega (arith, length-append list (replicate z false), length-replicate z false) in
     let rest : z ≡ length (bits octets) - len = omega arith in
     let zeros : IsZeroFrom len (bits octets) =
     zero_from len (bits octets) (omega arith)
-    (e ∙ ap (λ (k : ℕ). list ++ replicate k false) rest ∙ ap (λ (l : List Bool). l ++ replicate (length (bits octets) - len) false) (sym front)) in
+    (e ∙ ap (λ (k : ℕ). list ++ replicate k false) rest
+        ∙ ap (λ (l : List Bool). l ++ replicate (length (bits octets) - len) false) (sym front)) in
     (record { count = n; rest = zeros }, front)
 
 -- the octets' bits are those that they show, and zeros
-pub spelled : (octets : List ℕ) (len : ℕ) → IsFilled octets len → bits octets ≡ bits_shown octets len ++ replicate (8 * octets_for len - len) false
+pub spelled : (octets : List ℕ) (len : ℕ) → IsFilled octets len
+    → bits octets ≡ bits_shown octets len ++ replicate (8 * octets_for len - len) false
 unfolding bits_shown
 spelled octets len f =
     let n : length (bits octets) - len ≡ 8 * octets_for len - len = omega (arith, length-bits octets, f.count) in
     zeros_behind len (bits octets) f.rest ∙ ap (λ (k : ℕ). take len (bits octets) ++ replicate k false) n
 
+-- no octets are filled by no bits
 pub filled-none : IsFilled [] 0 × (bits_shown [] 0 ≡ [])
 unfolding bits
 filled-none = filled_by [] 0 [] 0 refl refl refl
 
+-- the octets are the bits that are shown, and zeros to the octet's end
 pub padded-bits_shown : (octets : List ℕ) (len : ℕ) → IsFilled octets len → bits octets ≡ padded (bits_shown octets len)
 padded-bits_shown octets len f =
-    (spelled octets len f) ∙ ap (λ (n : ℕ). bits_shown octets len ++ replicate (8 * octets_for n - n) false) (sym (length-bits_shown octets len f))
+    (spelled octets len f) ∙ ap (λ (n : ℕ). bits_shown octets len ++ replicate (8 * octets_for n - n) false)
+        (sym (length-bits_shown octets len f))
 
+-- octets of zeros behind them show that many zeros more
 pub filled-grow : (octets : List ℕ) (len d k : ℕ) → IsFilled octets len → length octets + k ≡ octets_for (len + d)
-    → IsFilled (octets ++ replicate k 0) (len + d) × (bits_shown (octets ++ replicate k 0) (len + d) ≡ bits_shown octets len ++ replicate d false)
+    → IsFilled (octets ++ replicate k 0) (len + d)
+        × (bits_shown (octets ++ replicate k 0) (len + d) ≡ bits_shown octets len ++ replicate d false)
 filled-grow octets len d k f e =
     let z = 8 * octets_for len - len in
     let z' = 8 * octets_for (len + d) - (len + d) in
@@ -67,28 +81,40 @@ filled-grow octets len d k f e =
     ∙ ap (λ (l : List Bool). l ++ bits (replicate k 0)) (spelled octets len f)
     ∙ ap (λ (l : List Bool). (bits_shown octets len ++ replicate z false) ++ l) (bits-zeros k)
     ∙ append_assoc (bits_shown octets len) (replicate z false) (replicate (8 * k) false)
-    ∙ ap (λ (l : List Bool). bits_shown octets len ++ l) (replicate-append-replicate z (8 * k) false ∙ (let e : z + 8 * k ≡ d + z' = omega (arith, f.count) in ap (λ (n : ℕ). replicate n false) e) ∙ sym (replicate-append-replicate d z' false))
+    ∙ ap (λ (l : List Bool). bits_shown octets len ++ l)
+        (replicate-append-replicate z (8 * k) false
+        ∙ (let e : z + 8 * k ≡ d + z' = omega (arith, f.count) in ap (λ (n : ℕ). replicate n false) e)
+        ∙ sym (replicate-append-replicate d z' false))
     ∙ sym (append_assoc (bits_shown octets len) (replicate d false) (replicate z' false)) in
     filled_by (octets ++ replicate k 0) (len + d) (bits_shown octets len ++ replicate d false) z' shape
-    (omega (arith, length-append (bits_shown octets len) (replicate d false), length-bits_shown octets len f, length-replicate d false))
+    (omega (arith, length-append (bits_shown octets len) (replicate d false), length-bits_shown octets len f,
+        length-replicate d false))
     (omega (arith, length-append octets (replicate k 0), length-replicate {A = ℕ} k 0))
 
-pub filled-set : (octets after : List ℕ) (len i : ℕ) (bit : Bool) → IsFilled octets len → bits after ≡ set (bits octets) i bit → length after ≡ length octets → i < len
+-- a bit that is set in the octets is set among those that are shown
+pub filled-set : (octets after : List ℕ) (len i : ℕ) (bit : Bool) → IsFilled octets len
+    → bits after ≡ set (bits octets) i bit → length after ≡ length octets → i < len
     → IsFilled after len × (bits_shown after len ≡ set (bits_shown octets len) i bit)
 filled-set octets after len i bit f e n h =
     let z = 8 * octets_for len - len in
     filled_by after len (set (bits_shown octets len) i bit) z
-    (e ∙ ap (λ (l : List Bool). set l i bit) (spelled octets len f) ∙ set-append_left (bits_shown octets len) (replicate z false) i bit (omega (arith, length-bits_shown octets len f)))
+    (e ∙ ap (λ (l : List Bool). set l i bit) (spelled octets len f)
+        ∙ set-append_left (bits_shown octets len) (replicate z false) i bit
+        (omega (arith, length-bits_shown octets len f)))
     (length-set (bits_shown octets len) i bit ∙ length-bits_shown octets len f)
     (n ∙ f.count)
 
-pub filled-ored : (octets after : List ℕ) (len place : ℕ) (src : List Bool) → IsFilled octets len → bits after ≡ ored (bits octets) place src → length after ≡ length octets
+-- bits that are ORed into the octets are ORed into those that are shown
+pub filled-ored : (octets after : List ℕ) (len place : ℕ) (src : List Bool) → IsFilled octets len
+    → bits after ≡ ored (bits octets) place src → length after ≡ length octets
     → place + length src ≤ len
     → IsFilled after len × (bits_shown after len ≡ ored (bits_shown octets len) place src)
 filled-ored octets after len place src f e n h =
     let z = 8 * octets_for len - len in
     filled_by after len (ored (bits_shown octets len) place src) z
-    (e ∙ ap (λ (l : List Bool). ored l place src) (spelled octets len f) ∙ ored-append_left (bits_shown octets len) (replicate z false) place src (omega (arith, length-bits_shown octets len f)))
+    (e ∙ ap (λ (l : List Bool). ored l place src) (spelled octets len f)
+        ∙ ored-append_left (bits_shown octets len) (replicate z false) place src
+        (omega (arith, length-bits_shown octets len f)))
     (length-ored (bits_shown octets len) place src ∙ length-bits_shown octets len f)
     (n ∙ f.count)
 
@@ -101,7 +127,8 @@ filled-grow_to octets after len d needed f n e =
 
 -- one zero more becomes a one
 pub set-zeros : (list : List Bool) (place i n : ℕ) → length list ≡ place → place ≤ i → i < n
-    → set ((list ++ replicate (i - place) true) ++ replicate (n - i) false) i true ≡ (list ++ replicate ((i + 1) - place) true) ++ replicate (n - (i + 1)) false
+    → set ((list ++ replicate (i - place) true) ++ replicate (n - i) false) i
+        true ≡ (list ++ replicate ((i + 1) - place) true) ++ replicate (n - (i + 1)) false
 set-zeros list place i n e p h =
     let ones = replicate (i - place) true in
     let more : n - i ≡ suc (n - (i + 1)) = omega arith in
@@ -110,16 +137,21 @@ set-zeros list place i n e p h =
     ∙ set_at (list ++ ones) false (replicate (n - (i + 1)) false) true i here
     ∙ sym (append_assoc (list ++ ones) (true ∷ []) (replicate (n - (i + 1)) false))
     ∙ ap (λ (l : List Bool). l ++ replicate (n - (i + 1)) false)
-    (append_assoc list ones (true ∷ []) ∙ ap (λ (l : List Bool). list ++ l) (replicate_more (i - place) true ∙ (let k : (i - place) + 1 ≡ (i + 1) - place = omega arith in ap (λ (m : ℕ). replicate m true) k)))
+    (append_assoc list ones (true ∷ [])
+        ∙ ap (λ (l : List Bool). list ++ l)
+        (replicate_more (i - place) true
+        ∙ (let k : (i - place) + 1 ≡ (i + 1) - place = omega arith in ap (λ (m : ℕ). replicate m true) k)))
 
 -- one bit more is cleared
 pub cleared-more : (list : List Bool) (from k : ℕ) → from + k < length list
-    → set ((take from list ++ replicate k false) ++ drop (from + k) list) (from + k) false ≡ (take from list ++ replicate (k + 1) false) ++ drop (from + (k + 1)) list
+    → set ((take from list ++ replicate k false) ++ drop (from + k) list) (from + k)
+        false ≡ (take from list ++ replicate (k + 1) false) ++ drop (from + (k + 1)) list
 cleared-more list from k lt =
     let front = take from list in
     let zeros = replicate k false in
     let i = from + k in
-    let here : length (front ++ zeros) ≡ i = omega (arith, length-append front zeros, length-replicate k false, length-take from list) in
+    let here : length (front ++ zeros) ≡ i =
+        omega (arith, length-append front zeros, length-replicate k false, length-take from list) in
     let next : i + 1 ≡ from + (k + 1) = omega arith in
     ap (λ (l : List Bool). set ((front ++ zeros) ++ l) i false) (drop_more list i false lt)
     ∙ set_at (front ++ zeros) (get_or list i false) (drop (i + 1) list) false i here
@@ -129,17 +161,20 @@ cleared-more list from k lt =
     (append_assoc front zeros (false ∷ []) ∙ ap (λ (l : List Bool). front ++ l) (replicate_more k false))
 
 -- octets that were cut, and cleared behind the length
-pub filled-cut : (octets cut after : List ℕ) (old len : ℕ) → IsFilled octets old → len ≤ old → cut ≡ take (octets_for len) octets
+pub filled-cut : (octets cut after : List ℕ) (old len : ℕ) → IsFilled octets old → len ≤ old
+    → cut ≡ take (octets_for len) octets
     → bits after ≡ take len (bits cut) ++ replicate (8 * length cut - len) false → length after ≡ length cut
     → IsFilled after len × (bits_shown after len ≡ take len (bits_shown octets old))
 filled-cut octets cut after old len f h c e n =
-    let count : length cut ≡ octets_for len = ap (λ (l : List ℕ). length l) c ∙ omega (arith, length-take (octets_for len) octets, f.count) in
+    let count : length cut ≡ octets_for len = ap (λ (l : List ℕ). length l) c
+        ∙ omega (arith, length-take (octets_for len) octets, f.count) in
     let front : take len (bits cut) ≡ take len (bits_shown octets old) =
     ap (λ (l : List ℕ). take len (bits l)) c
     ∙ ap (take len) (bits-take (octets_for len) octets)
     ∙ take-take len (8 * octets_for len) (bits octets) (omega arith)
     ∙ ap (take len) (spelled octets old f)
-    ∙ take-append-le len (bits_shown octets old) (replicate (8 * octets_for old - old) false) (omega (arith, length-bits_shown octets old f)) in
+    ∙ take-append-le len (bits_shown octets old) (replicate (8 * octets_for old - old) false)
+        (omega (arith, length-bits_shown octets old f)) in
     filled_by after len (take len (bits_shown octets old)) (8 * length cut - len)
     (e ∙ ap (λ (l : List Bool). l ++ replicate (8 * length cut - len) false) front)
     (omega (arith, length-take len (bits_shown octets old), length-bits_shown octets old f))
@@ -164,25 +199,31 @@ bits-lengthened octets grown front room dst list n needed count g l e f r d len 
     (ored-onto [] (bits dst) list 0 (8 * count) (d ∙ ap (λ (m : List Bool). ored m 0 list) fresh) refl len)
 
 -- zeros at the end of what a buffer shows are zeros of its octets
-pub zeros-shown : (octets : List ℕ) (len place : ℕ) (list : List Bool) → IsFilled octets len → bits_shown octets len ≡ list → IsZeroFrom place list
+pub zeros-shown : (octets : List ℕ) (len place : ℕ) (list : List Bool) → IsFilled octets len
+    → bits_shown octets len ≡ list → IsZeroFrom place list
     → IsZeroFrom place (bits octets)
 zeros-shown octets len place list f e z =
     let rest = 8 * octets_for len - len in
     let front = take place list in
-    let shape : bits octets ≡ list ++ replicate rest false = spelled octets len f ∙ ap (λ (l : List Bool). l ++ replicate rest false) e in
-    let total : length (bits octets) ≡ length list + rest = ap (λ (l : List Bool). length l) shape ∙ omega (arith, length-append list (replicate rest false), length-replicate rest false) in
-    let same : take place (bits octets) ≡ front = ap (take place) shape ∙ take-append-le place list (replicate rest false) z.within in
+    let shape : bits octets ≡ list ++ replicate rest false = spelled octets len f
+        ∙ ap (λ (l : List Bool). l ++ replicate rest false) e in
+    let total : length (bits octets) ≡ length list + rest = ap (λ (l : List Bool). length l) shape
+        ∙ omega (arith, length-append list (replicate rest false), length-replicate rest false) in
+    let same : take place (bits octets) ≡ front = ap (take place) shape
+        ∙ take-append-le place list (replicate rest false) z.within in
     let n : length list - place + rest ≡ length (bits octets) - place = omega (arith, total, z.within) in
     zero_from place (bits octets) (omega (arith, total, z.within))
     (shape
     ∙ ap (λ (l : List Bool). l ++ replicate rest false) (zeros_behind place list z)
     ∙ append_assoc front (replicate (length list - place) false) (replicate rest false)
-    ∙ ap (λ (l : List Bool). front ++ l) (replicate-append-replicate (length list - place) rest false ∙ ap (λ (k : ℕ). replicate k false) n)
+    ∙ ap (λ (l : List Bool). front ++ l)
+        (replicate-append-replicate (length list - place) rest false ∙ ap (λ (k : ℕ). replicate k false) n)
     ∙ ap (λ (l : List Bool). l ++ replicate (length (bits octets) - place) false) (sym same))
 
 -- octets behind whole octets
 pub whole-filled : (items src : List ℕ) (len : ℕ) → IsFilled items len → len % 8 ≡ 0
-    → IsFilled (items ++ src) (len + 8 * length src) × (bits_shown (items ++ src) (len + 8 * length src) ≡ bits_shown items len ++ bits src)
+    → IsFilled (items ++ src) (len + 8 * length src)
+        × (bits_shown (items ++ src) (len + 8 * length src) ≡ bits_shown items len ++ bits src)
 unfolding bits_shown
 whole-filled items src len f whole =
     let end = len + 8 * length src in
@@ -191,7 +232,11 @@ whole-filled items src len f whole =
     let none : 0 ≡ length all - end = omega (arith, n) in (
       record {
         count = omega (arith, f.count, length-append items src);
-        rest = record { within = omega (arith, n); zero = drop_all end all (omega (arith, n)) ∙ ap (λ (k : ℕ). replicate k false) none };
+        rest =
+            record { within = omega (arith, n); zero = drop_all end all (omega (arith, n))
+            ∙ ap (λ (k : ℕ). replicate k false) none };
       },
-      take_all end all (omega (arith, n)) ∙ bits-append items src ∙ ap (λ (l : List Bool). l ++ bits src) (sym (take_all len (bits items) (omega (arith, f.count, length-bits items)))),
+      take_all end all (omega (arith, n)) ∙ bits-append items src
+          ∙ ap (λ (l : List Bool). l ++ bits src)
+          (sym (take_all len (bits items) (omega (arith, f.count, length-bits items)))),
     )

@@ -8,11 +8,14 @@ use Rattle.asn1_bits.specs.Bits.{digits, number}
 use Rattle.asn1_bits.specs.BitLists.{words_fed}
 use Rattle.asn1_bits.specs.NumberLaws.{number-digits}
 
+-- before the first word nothing is fed
 pub fed-none : (list : List Bool) → words_fed list 0 ≡ []
 unfolding words_fed
 fed-none list = refl
 
-pub fed-more : (list : List Bool) (n word : ℕ) → word ≡ number (take 64 (drop (64 * n) list)) → words_fed list (n + 1) ≡ words_fed list n ++ fed.le_bytes 8 word ∷ []
+-- the next word of 64 bits, fed behind those before it
+pub fed-more : (list : List Bool) (n word : ℕ) → word ≡ number (take 64 (drop (64 * n) list))
+    → words_fed list (n + 1) ≡ words_fed list n ++ fed.le_bytes 8 word ∷ []
 unfolding words_fed
 fed-more list n word e =
     map-range_with_len_more (λ k. fed.le_bytes 8 (number (take 64 (drop (64 * k) list)))) 0 n n (omega arith)
@@ -23,7 +26,9 @@ pub number-word : (list : List Bool) (word : ℕ) → word < 2 ^ 64 → digits w
 number-word list word h e = sym (mod-eq_of_lt h) ∙ sym (number-digits word 64) ∙ ap number e
 
 -- the last bits, fewer than a word
-pub number-last : (list last : List Bool) (n width word : ℕ) → word ≡ number (take width last) → last ≡ drop (64 * n) list → length last ≡ width → width ≤ 64
+pub number-last : (list last : List Bool) (n width word : ℕ) → word ≡ number (take width last)
+    → last ≡ drop (64 * n) list → length last ≡ width → width ≤ 64
     → word ≡ number (take 64 (drop (64 * n) list))
 number-last list last n width word e is len h =
-    e ∙ ap number (take_all width last (omega (arith, len)) ∙ sym (take_all 64 last (omega (arith, len)))) ∙ ap (λ (l : List Bool). number (take 64 l)) is
+    e ∙ ap number (take_all width last (omega (arith, len)) ∙ sym (take_all 64 last (omega (arith, len))))
+        ∙ ap (λ (l : List Bool). number (take 64 l)) is

@@ -12,8 +12,10 @@ use Rattle.std.proofs.lemmas.Bool.{le-ltb, lt-ltb, eq-eqb, ne_eqb}
 abbrev pub Rest : List Bool → List Bool → ℕ → Type 0
 Rest xs ys i = slice_cmp bool_cmp (drop i xs) (drop i ys) ≡ slice_cmp bool_cmp xs ys
 
+-- lists from a place on are ordered by their bits there, and then by what follows
 pub heads : (xs ys : List Bool) (i : ℕ) → i < length xs → i < length ys
-    → slice_cmp bool_cmp (drop i xs) (drop i ys) ≡ ordering_then (bool_cmp (get_or xs i false) (get_or ys i false)) (slice_cmp bool_cmp (drop (i + 1) xs) (drop (i + 1) ys))
+    → slice_cmp bool_cmp (drop i xs) (drop i ys) ≡ ordering_then (bool_cmp (get_or xs i false) (get_or ys i false))
+        (slice_cmp bool_cmp (drop (i + 1) xs) (drop (i + 1) ys))
 heads xs ys i h k = rw (drop_more xs i false h, drop_more ys i false k) refl
 
 same_bit : (b : Bool) (o : Ordering) → ordering_then (bool_cmp b b) o ≡ o
@@ -32,28 +34,39 @@ rest-from xs ys n e =
     ∙ ap (λ (l : List Bool). slice_cmp bool_cmp (take n xs ++ drop n xs) (l ++ drop n ys)) (sym e)
     ∙ same_front (take n xs) (drop n xs) (drop n ys))
 
-pub rest-more : (xs ys : List Bool) (i : ℕ) → i < length xs → i < length ys → get_or xs i false ≡ get_or ys i false → Rest xs ys i → Rest xs ys (i + 1)
+-- where the bits at a place are equal, the order is that of the rest
+pub rest-more : (xs ys : List Bool) (i : ℕ) → i < length xs → i < length ys → get_or xs i false ≡ get_or ys i false
+    → Rest xs ys i → Rest xs ys (i + 1)
 rest-more xs ys i h k e r =
     sym (heads xs ys i h k
-    ∙ ap (λ (b : Bool). ordering_then (bool_cmp (get_or xs i false) b) (slice_cmp bool_cmp (drop (i + 1) xs) (drop (i + 1) ys))) (sym e)
+    ∙ ap (λ (b : Bool). ordering_then (bool_cmp (get_or xs i false) b)
+        (slice_cmp bool_cmp (drop (i + 1) xs) (drop (i + 1) ys))) (sym e)
     ∙ same_bit (get_or xs i false) (slice_cmp bool_cmp (drop (i + 1) xs) (drop (i + 1) ys)))
     ∙ r
 
-pub rest-less : (xs ys : List Bool) (i : ℕ) → i < length xs → i < length ys → get_or xs i false ≡ false → get_or ys i false ≡ true → Rest xs ys i → Less ≡ slice_cmp bool_cmp xs ys
+-- where the first has a zero and the second a one, it is less
+pub rest-less : (xs ys : List Bool) (i : ℕ) → i < length xs → i < length ys → get_or xs i false ≡ false
+    → get_or ys i false ≡ true → Rest xs ys i → Less ≡ slice_cmp bool_cmp xs ys
 rest-less xs ys i h k a b r = sym (heads xs ys i h k ∙ rw (a, b) refl) ∙ r
 
-pub rest-greater : (xs ys : List Bool) (i : ℕ) → i < length xs → i < length ys → get_or xs i false ≡ true → get_or ys i false ≡ false → Rest xs ys i → Greater ≡ slice_cmp bool_cmp xs ys
+-- where the first has a one and the second a zero, it is greater
+pub rest-greater : (xs ys : List Bool) (i : ℕ) → i < length xs → i < length ys → get_or xs i false ≡ true
+    → get_or ys i false ≡ false → Rest xs ys i → Greater ≡ slice_cmp bool_cmp xs ys
 rest-greater xs ys i h k a b r = sym (heads xs ys i h k ∙ rw (a, b) refl) ∙ r
 
-ended : (us vs : List Bool) (m n i : ℕ) → min (length us) (length vs) ≡ 0 → m ≡ i + length us → n ≡ i + length vs → nat_cmp m n ≡ slice_cmp bool_cmp us vs
+ended : (us vs : List Bool) (m n i : ℕ) → min (length us) (length vs) ≡ 0 → m ≡ i + length us → n ≡ i + length vs
+    → nat_cmp m n ≡ slice_cmp bool_cmp us vs
 ended [] [] m n i h p q = rw (le-ltb m n (omega arith), eq-eqb m n (omega arith)) refl
 ended [] (v ∷ vs) m n i h p q = rw (lt-ltb m n (omega arith)) refl
 ended (u ∷ us) [] m n i h p q = rw (le-ltb m n (omega arith), ne_eqb m n (λ e. omega arith)) refl
 ended (u ∷ us) (v ∷ vs) m n i h p q = absurd (omega arith)
 
-pub rest-end : (xs ys : List Bool) (i : ℕ) → i ≡ min (length xs) (length ys) → Rest xs ys i → nat_cmp (length xs) (length ys) ≡ slice_cmp bool_cmp xs ys
+-- where one list ends, the shorter is less
+pub rest-end : (xs ys : List Bool) (i : ℕ) → i ≡ min (length xs) (length ys) → Rest xs ys i
+    → nat_cmp (length xs) (length ys) ≡ slice_cmp bool_cmp xs ys
 rest-end xs ys i e r =
-    ended (drop i xs) (drop i ys) (length xs) (length ys) i (omega (arith, length-drop i xs, length-drop i ys)) (omega (arith, length-drop i xs)) (omega (arith, length-drop i ys)) ∙ r
+    ended (drop i xs) (drop i ys) (length xs) (length ys) i (omega (arith, length-drop i xs, length-drop i ys))
+        (omega (arith, length-drop i xs)) (omega (arith, length-drop i ys)) ∙ r
 
 -- a comparison of two bits that says that they are the same, or not
 pub same_from_test : (a b : Bool) → not (beq a b) ≡ false → a ≡ b
@@ -62,12 +75,14 @@ same_from_test true false e = cc
 same_from_test false true e = cc
 same_from_test false false e = refl
 
+-- a bit that is not equal to another is its opposite
 pub other_from_test : (a b : Bool) → not (beq a b) ≡ true → b ≡ not a
 other_from_test true true e = cc
 other_from_test true false e = refl
 other_from_test false true e = refl
 other_from_test false false e = cc
 
+-- an order counted as 1 is equality
 pub equal_index : (o : Ordering) → (ordering_index o == 1) ≡ is_eq o
 equal_index Less = refl
 equal_index Equal = refl

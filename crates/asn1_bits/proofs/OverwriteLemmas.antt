@@ -28,16 +28,19 @@ overwritten-ored old src place n e h =
     ap (λ (j : ℕ). ored (front ++ (zeros ++ drop j old)) place src) k
     ∙ ap (λ (l : List Bool). ored l place src) (sym (append_assoc front zeros back))
     ∙ ored-append_left (front ++ zeros) back place src (omega (arith, at, z, length-append front zeros))
-    ∙ ap (λ (l : List Bool). l ++ back) (ap (λ (j : ℕ). ored (front ++ zeros) j src) (sym at) ∙ ored-zeros front src n e)
+    ∙ ap (λ (l : List Bool). l ++ back)
+        (ap (λ (j : ℕ). ored (front ++ zeros) j src) (sym at) ∙ ored-zeros front src n e)
     ∙ append_assoc front src back
 
 -- zeros behind zeros
-pub zeros-more : (old now new : List Bool) (place next m n all : ℕ) → now ≡ overwritten old place (replicate m false) → new ≡ overwritten now next (replicate n false)
+pub zeros-more : (old now new : List Bool) (place next m n all : ℕ) → now ≡ overwritten old place (replicate m false)
+    → new ≡ overwritten now next (replicate n false)
     → next ≡ place + m → all ≡ m + n → place ≤ length old → new ≡ overwritten old place (replicate all false)
 zeros-more old now new place next m n all e f at sum h =
     f
     ∙ ap (λ (l : List Bool). overwritten l next (replicate n false)) e
-    ∙ overwritten-append old place next (replicate m false) (replicate n false) (omega (arith, at, length-replicate m false)) h
+    ∙ overwritten-append old place next (replicate m false) (replicate n false)
+        (omega (arith, at, length-replicate m false)) h
     ∙ ap (overwritten old place) (replicate-append-replicate m n false ∙ ap (λ (k : ℕ). replicate k false) (sym sum))
 
 -- ---- in an octet
@@ -45,7 +48,8 @@ zeros-more old now new place next m n all e f at sum h =
 -- an octet without some of its digits
 pub octet-cleared : (o s c : ℕ) → o < 256 → s + c ≤ 8
     → (o / 2 ^ (8 - s) * 2 ^ (8 - s) % 65536 + o % (1 * 2 ^ (8 - s - c) % 65536) < 256)
-    × (digits (o / 2 ^ (8 - s) * 2 ^ (8 - s) % 65536 + o % (1 * 2 ^ (8 - s - c) % 65536)) 8 ≡ overwritten (digits o 8) s (replicate c false))
+    × (digits (o / 2 ^ (8 - s) * 2 ^ (8 - s) % 65536 + o % (1 * 2 ^ (8 - s - c) % 65536)) 8 ≡ overwritten (digits o 8) s
+        (replicate c false))
 unfolding overwritten
 octet-cleared o s c small h =
     let k = 8 - s in
@@ -65,7 +69,8 @@ octet-cleared o s c small h =
     let first : a * 2 ^ k % 65536 ≡ a * 2 ^ k = mod-eq_of_lt (omega (arith, sum, small)) in
     let second : 1 * 2 ^ j % 65536 ≡ 2 ^ j = mod-eq_of_lt (omega (arith, p8, pk)) ∙ omega arith in
     let n = a * 2 ^ k + low in
-    let is : a * 2 ^ k % 65536 + o % (1 * 2 ^ j % 65536) ≡ n = ap (λ (m : ℕ). m + o % (1 * 2 ^ j % 65536)) first ∙ ap (λ (m : ℕ). a * 2 ^ k + o % m) second in
+    let is : a * 2 ^ k % 65536 + o % (1 * 2 ^ j % 65536) ≡ n = ap (λ (m : ℕ). m + o % (1 * 2 ^ j % 65536)) first
+        ∙ ap (λ (m : ℕ). a * 2 ^ k + o % m) second in
     let power : 2 ^ s * 2 ^ k ≡ 2 ^ 8 = sym (pow-add 2 s k) ∙ ap (λ (m : ℕ). 2 ^ m) (sym whole) in
     let fits : n < 256 = omega (arith, power, mul-add-lt a (2 ^ k) low (2 ^ s) high (omega (arith, below, pk))) in
     let new : digits n 8 ≡ digits a s ++ (zeros ++ digits o j) =
@@ -82,11 +87,14 @@ octet-cleared o s c small h =
     let back : drop (s + length zeros) (digits o 8) ≡ digits o j =
     ap (λ (m : ℕ). drop m (digits o 8)) at ∙ ap (λ (m : ℕ). drop (s + c) (digits o m)) tail ∙ low-part o (s + c) j in (
       rw is fits,
-      ap (λ (m : ℕ). digits m 8) is ∙ new ∙ sym (ap (λ (l : List Bool). l ++ (zeros ++ drop (s + length zeros) (digits o 8))) front ∙ ap (λ (l : List Bool). digits a s ++ (zeros ++ l)) back),
+      ap (λ (m : ℕ). digits m 8) is ∙ new
+          ∙ sym (ap (λ (l : List Bool). l ++ (zeros ++ drop (s + length zeros) (digits o 8))) front
+          ∙ ap (λ (l : List Bool). digits a s ++ (zeros ++ l)) back),
     )
 
 -- what is written inside a part stays between the others
-overwritten-inside : (front mid back list : List Bool) (place s : ℕ) → place ≡ length front + s → s + length list ≤ length mid
+overwritten-inside : (front mid back list : List Bool) (place s : ℕ) → place ≡ length front + s
+    → s + length list ≤ length mid
     → overwritten (front ++ (mid ++ back)) place list ≡ front ++ (overwritten mid s list ++ back)
 unfolding overwritten
 overwritten-inside front mid back list place s e h =
@@ -94,33 +102,43 @@ overwritten-inside front mid back list place s e h =
     let all = front ++ (mid ++ back) in
     let end : place + n ≡ length front + (s + n) = omega (arith, e) in
     let head : take place all ≡ front ++ take s mid =
-    ap (λ (k : ℕ). take k all) e ∙ take-append-add front (mid ++ back) s ∙ ap (λ (l : List Bool). front ++ l) (take-append-le s mid back (omega arith)) in
+    ap (λ (k : ℕ). take k all) e ∙ take-append-add front (mid ++ back) s
+        ∙ ap (λ (l : List Bool). front ++ l) (take-append-le s mid back (omega arith)) in
     let rest : drop (place + n) all ≡ drop (s + n) mid ++ back =
     ap (λ (k : ℕ). drop k all) end ∙ drop-append-add front (mid ++ back) (s + n) ∙ drop-append-le (s + n) mid back h in
     ap (λ (l : List Bool). l ++ (list ++ drop (place + n) all)) head
     ∙ ap (λ (l : List Bool). (front ++ take s mid) ++ (list ++ l)) rest
     ∙ append_assoc front (take s mid) (list ++ (drop (s + n) mid ++ back))
-    ∙ ap (λ (l : List Bool). front ++ l) (ap (λ (l : List Bool). take s mid ++ l) (sym (append_assoc list (drop (s + n) mid) back)) ∙ sym (append_assoc (take s mid) (list ++ drop (s + n) mid) back))
+    ∙ ap (λ (l : List Bool). front ++ l)
+        (ap (λ (l : List Bool). take s mid ++ l) (sym (append_assoc list (drop (s + n) mid) back))
+        ∙ sym (append_assoc (take s mid) (list ++ drop (s + n) mid) back))
 
 -- an octet, some of whose digits were written over, among the others
-pub octet-put : (octets : List ℕ) (q new s place : ℕ) (list : List Bool) → q < length octets → s + length list ≤ 8 → place ≡ 8 * q + s
-    → digits new 8 ≡ overwritten (digits (get_or octets q 0) 8) s list → bits (set octets q new) ≡ overwritten (bits octets) place list
+pub octet-put : (octets : List ℕ) (q new s place : ℕ) (list : List Bool) → q < length octets → s + length list ≤ 8
+    → place ≡ 8 * q + s
+    → digits new 8 ≡ overwritten (digits (get_or octets q 0) 8) s list
+        → bits (set octets q new) ≡ overwritten (bits octets) place list
 unfolding bits
 octet-put octets q new s place list h fits at e =
     let o = get_or octets q 0 in
     let front = take q octets in
     let rest = drop (q + 1) octets in
     let len : length front ≡ q = omega (arith, length-take q octets) in
-    let split : octets ≡ front ++ (o ∷ rest) = sym (take-append-drop q octets) ∙ ap (λ (l : List ℕ). front ++ l) (drop_more octets q 0 h) in
+    let split : octets ≡ front ++ (o ∷ rest) = sym (take-append-drop q octets)
+        ∙ ap (λ (l : List ℕ). front ++ l) (drop_more octets q 0 h) in
     ap bits (ap (λ (l : List ℕ). set l q new) split ∙ set_at front o rest new q len)
     ∙ bits-append front (new ∷ rest)
     ∙ ap (λ (l : List Bool). bits front ++ (l ++ bits rest)) e
     ∙ sym (ap (λ (l : List Bool). overwritten l place list) (ap bits split ∙ bits-append front (o ∷ rest))
-    ∙ overwritten-inside (bits front) (digits o 8) (bits rest) list place s (omega (arith, at, len, length-bits front)) (omega (arith, fits, length-digits o 8)))
+    ∙ overwritten-inside (bits front) (digits o 8) (bits rest) list place s (omega (arith, at, len, length-bits front))
+        (omega (arith, fits, length-digits o 8)))
 
 -- ---- whole octets
 
-pub octets-cleared : (octets : List ℕ) (q n : ℕ) → bits (take q octets ++ (replicate n 0 ++ drop (q + n) octets)) ≡ overwritten (bits octets) (8 * q) (replicate (8 * n) false)
+-- octets of 0 are bits that are zeros
+pub octets-cleared : (octets : List ℕ) (q n : ℕ)
+    → bits (take q octets ++ (replicate n 0 ++ drop (q + n) octets)) ≡ overwritten (bits octets) (8 * q)
+    (replicate (8 * n) false)
 unfolding overwritten
 octets-cleared octets q n =
     let all = bits octets in
@@ -133,11 +151,14 @@ octets-cleared octets q n =
 
 -- ---- a number's lowest digits
 
-pub lowest-digits : (octets : List ℕ) (front list : List Bool) (n width : ℕ) → width ≤ 128 → octets ≡ to_be_bytes w128 n → front ≡ take 128 (bits octets)
+-- the last bits of the sixteen octets of a number are its lowest digits
+pub lowest-digits : (octets : List ℕ) (front list : List Bool) (n width : ℕ) → width ≤ 128 → octets ≡ to_be_bytes w128 n
+    → front ≡ take 128 (bits octets)
     → list ≡ take width (drop (128 - width) front) → list ≡ digits n width
 lowest-digits octets front list n width le o f e =
     let sum : 128 ≡ 128 - width + width = omega arith in
-    let whole : front ≡ digits n 128 = f ∙ ap (take 128) (ap bits o ∙ bits-bytes 16 n) ∙ take_all 128 (digits n 128) (omega (arith, length-digits n 128)) in
+    let whole : front ≡ digits n 128 = f ∙ ap (take 128) (ap bits o ∙ bits-bytes 16 n)
+        ∙ take_all 128 (digits n 128) (omega (arith, length-digits n 128)) in
     e
     ∙ ap (λ (l : List Bool). take width (drop (128 - width) l)) (whole ∙ ap (digits n) sum)
     ∙ ap (take width) (low-part n (128 - width) width)

@@ -18,6 +18,7 @@ gathered field shift k = number (drop shift (bits (take k field)))
 octet_number : (o : ℕ) → o < 256 → number (digits o 8) ≡ o
 octet_number o h = number-digits o 8 ∙ omega arith
 
+-- one octet more of the field
 pub gathered-more : (field : List ℕ) (shift k : ℕ) → shift ≤ 8 * k → k < length field → get_or field k 0 < 256
     → gathered field shift (k + 1) ≡ gathered field shift k * 256 + get_or field k 0
 gathered-more field shift k h lt small =
@@ -25,7 +26,8 @@ gathered-more field shift k h lt small =
     let front = bits (take k field) in
     ap (λ (l : List ℕ). number (drop shift (bits l))) (take_more field k 0 lt)
     ∙ ap (λ (l : List Bool). number (drop shift l)) (bits-push (take k field) o)
-    ∙ ap number (drop-append-le shift front (digits o 8) (omega (arith, length-bits (take k field), length-take k field)))
+    ∙ ap number (drop-append-le shift front (digits o 8)
+        (omega (arith, length-bits (take k field), length-take k field)))
     ∙ number-append (drop shift front) (digits o 8)
     ∙ ap (λ (n : ℕ). number (drop shift front) * 2 ^ n + number (digits o 8)) (length-digits o 8)
     ∙ ap (λ (n : ℕ). number (drop shift front) * 256 + n) (octet_number o small)
@@ -34,9 +36,12 @@ low-digits : (o shift : ℕ) → shift ≤ 8 → drop shift (digits o 8) ≡ dig
 low-digits o shift h =
     let e : 8 ≡ shift + (8 - shift) = omega arith in
     ap (drop shift) (ap (digits o) e ∙ digits-append o shift (8 - shift))
-    ∙ drop_at (digits (o / 2 ^ (8 - shift)) shift) (digits o (8 - shift)) shift (length-digits (o / 2 ^ (8 - shift)) shift)
+    ∙ drop_at (digits (o / 2 ^ (8 - shift)) shift) (digits o (8 - shift)) shift
+        (length-digits (o / 2 ^ (8 - shift)) shift)
 
-pub gathered-first : (field : List ℕ) (shift : ℕ) → shift ≤ 8 → 0 < length field → bit_and (get_or field 0 0) (255 / 2 ^ shift) ≡ gathered field shift 1
+-- the first octet, without the bits before the shift
+pub gathered-first : (field : List ℕ) (shift : ℕ) → shift ≤ 8 → 0 < length field
+    → bit_and (get_or field 0 0) (255 / 2 ^ shift) ≡ gathered field shift 1
 unfolding bits
 gathered-first field shift h lt =
     let o = get_or field 0 0 in
@@ -46,10 +51,12 @@ gathered-first field shift h lt =
     ∙ ap number (low-digits o shift h)
     ∙ number-digits o (8 - shift))
 
+-- what is gathered is below the power of its bits
 pub gathered-lt : (field : List ℕ) (shift k : ℕ) → k ≤ length field → gathered field shift k < 2 ^ (8 * k - shift)
 gathered-lt field shift k h =
     let l = drop shift (bits (take k field)) in
-    let n : length l ≡ 8 * k - shift = omega (arith, length-drop shift (bits (take k field)), length-bits (take k field), length-take k field) in
+    let n : length l ≡ 8 * k - shift =
+        omega (arith, length-drop shift (bits (take k field)), length-bits (take k field), length-take k field) in
     rw n at (number-lt l)
 
 -- the bits past the width go
@@ -60,10 +67,14 @@ gathered-end field shift width excess m e h =
     let part = drop shift (bits (take m field)) in
     let sum : 8 * m ≡ shift + (width + excess) = omega arith in
     let is : part ≡ take (width + excess) all =
-    ap (drop shift) (bits-take m field ∙ ap (λ (n : ℕ). take n (bits field)) sum) ∙ drop-take shift (width + excess) (bits field) in
-    let front : take width part ≡ take width all = ap (take width) is ∙ take-take width (width + excess) all (omega arith) in
+    ap (drop shift) (bits-take m field ∙ ap (λ (n : ℕ). take n (bits field)) sum)
+        ∙ drop-take shift (width + excess) (bits field) in
+    let front : take width part ≡ take width all = ap (take width) is
+        ∙ take-take width (width + excess) all (omega arith) in
     let rest = drop width part in
-    let n : length rest ≡ excess = omega (arith, length-drop width part, length-drop shift (bits (take m field)), length-bits (take m field), length-take m field) in
+    let n : length rest ≡ excess =
+        omega (arith, length-drop width part, length-drop shift (bits (take m field)), length-bits (take m field),
+        length-take m field) in
     let small : number rest < 2 ^ excess = rw n at (number-lt rest) in
     let whole : number part ≡ number (take width all) * 2 ^ excess + number rest =
     ap number (sym (take-append-drop width part)) ∙ number-append (take width part) rest
@@ -75,16 +86,21 @@ gathered-end field shift width excess m e h =
 pub joined : (g o k w top : ℕ) → g < 2 ^ top → top + k ≤ w → o < 2 ^ k → bit_or (g * 2 ^ k % 2 ^ w) o ≡ g * 2 ^ k + o
 joined g o k w top h fits small = rw (shl_whole g top k w h fits) (or_shifted g k o small)
 
-pub gathered-fits : (field : List ℕ) (shift k : ℕ) → k ≤ length field → k < 8 → gathered field shift k * 256 + 255 < 2 ^ 64
+-- and fits a word, as long as fewer than eight octets are
+pub gathered-fits : (field : List ℕ) (shift k : ℕ) → k ≤ length field → k < 8
+    → gathered field shift k * 256 + 255 < 2 ^ 64
 gathered-fits field shift k h lt =
-    let top : 2 ^ (8 * k - shift) ≤ 2 ^ 56 = pow-le-pow_right {n = 2} (omega arith) {i = 8 * k - shift} {j = 56} (omega arith) in
+    let top : 2 ^ (8 * k - shift) ≤ 2 ^ 56 =
+        pow-le-pow_right {n = 2} (omega arith) {i = 8 * k - shift} {j = 56} (omega arith) in
     omega (arith, gathered-lt field shift k h, top)
 
 -- what is read octet by octet
-pub read-short : (field : List ℕ) (shift width excess needed value k : ℕ) → shift + width + excess ≡ 8 * needed → needed ≤ length field → k ≡ needed → value ≡ gathered field shift k
+pub read-short : (field : List ℕ) (shift width excess needed value k : ℕ) → shift + width + excess ≡ 8 * needed
+    → needed ≤ length field → k ≡ needed → value ≡ gathered field shift k
     → value / 2 ^ excess ≡ number (take width (drop shift (bits field)))
 read-short field shift width excess needed value k e h n v =
-    ap (λ (m : ℕ). m / 2 ^ excess) (v ∙ ap (gathered field shift) n) ∙ sym (gathered-end field shift width excess needed e h)
+    ap (λ (m : ℕ). m / 2 ^ excess) (v ∙ ap (gathered field shift) n)
+        ∙ sym (gathered-end field shift width excess needed e h)
 
 -- ---- words that are read
 
@@ -102,9 +118,12 @@ read-word list place shift width word h e =
     ap (λ (k : ℕ). word * 2 ^ shift % 2 ^ k / 2 ^ (64 - width)) a
     ∙ field_of (word * 2 ^ shift) width (64 - width)
     ∙ ap (λ (k : ℕ). word * 2 ^ shift / 2 ^ k % 2 ^ width) b
-    ∙ ap (λ (m : ℕ). m % 2 ^ width) (sym (shr-shr (word * 2 ^ shift) shift end) ∙ ap (λ (m : ℕ). m / 2 ^ end) (shl-shr word shift)) in
+    ∙ ap (λ (m : ℕ). m % 2 ^ width)
+        (sym (shr-shr (word * 2 ^ shift) shift end) ∙ ap (λ (m : ℕ). m / 2 ^ end) (shl-shr word shift)) in
     let part : digits (word / 2 ^ end) width ≡ take width (drop (place + shift) list) =
-    sym (ap (take width) (ap (λ (k : ℕ). drop shift (digits word k)) c ∙ low-part word shift (width + end) ∙ digits-append word width end)
+    sym
+        (ap (take width) (ap (λ (k : ℕ). drop shift (digits word k)) c ∙ low-part word shift (width + end)
+        ∙ digits-append word width end)
     ∙ take_at (digits (word / 2 ^ end) width) (digits word end) width (length-digits (word / 2 ^ end) width))
     ∙ ap (λ (l : List Bool). take width (drop shift l)) (e ∙ ap (λ (k : ℕ). take k all) c)
     ∙ ap (take width) (drop-take shift (width + end) all)
@@ -113,7 +132,8 @@ read-word list place shift width word h e =
     value ∙ sym (number-digits (word / 2 ^ end) width) ∙ ap number part
 
 -- the first bits of a word that begins with them
-pub read-top : (list : List Bool) (size width word : ℕ) → width ≤ size → word < 2 ^ size → digits word size ≡ take size list
+pub read-top : (list : List Bool) (size width word : ℕ) → width ≤ size → word < 2 ^ size
+    → digits word size ≡ take size list
     → word / 2 ^ (size - width) ≡ number (take width list)
 read-top list size width word h small e =
     let end = size - width in
@@ -121,12 +141,14 @@ read-top list size width word h small e =
     let s : size ≡ width + end = omega arith in
     let less : n < 2 ^ width = shr_below word width end (rw (ap (λ (k : ℕ). 2 ^ k) (sym s)) small) in
     let front : digits n width ≡ take width list =
-    sym (ap (take width) (ap (digits word) s ∙ digits-append word width end) ∙ take_at (digits n width) (digits word end) width (length-digits n width))
+    sym (ap (take width) (ap (digits word) s ∙ digits-append word width end)
+        ∙ take_at (digits n width) (digits word end) width (length-digits n width))
     ∙ ap (take width) e ∙ take-take width size list h in
     sym (mod-eq_of_lt less) ∙ sym (number-digits n width) ∙ ap number front
 
 -- two words, one behind the other
-pub pair-digits : (list : List Bool) (a b : ℕ) → a < 2 ^ 64 → b < 2 ^ 64 → digits a 64 ≡ take 64 list → digits b 64 ≡ take 64 (drop 64 list)
+pub pair-digits : (list : List Bool) (a b : ℕ) → a < 2 ^ 64 → b < 2 ^ 64 → digits a 64 ≡ take 64 list
+    → digits b 64 ≡ take 64 (drop 64 list)
     → digits (bit_or (a * 2 ^ 64 % 2 ^ 128) b) 128 ≡ take 128 list
 pair-digits list a b h k e f =
     ap (λ (m : ℕ). digits m 128) (joined a b 64 128 64 h (omega arith) k)
@@ -137,7 +159,8 @@ pair-digits list a b h k e f =
     ∙ sym (take-add 64 64 list)
 
 -- more than 64 bits, of the word of the first and of the last 64
-pub read-two : (list : List Bool) (place last width high low : ℕ) → 64 < width → width ≤ 128 → last ≡ place + (width - 64)
+pub read-two : (list : List Bool) (place last width high low : ℕ) → 64 < width → width ≤ 128
+    → last ≡ place + (width - 64)
     → high < 2 ^ 64 → low < 2 ^ 64
     → digits high 64 ≡ take 64 (drop place list) → digits low 64 ≡ take 64 (drop last list)
     → bit_or (high / 2 ^ (128 - width) * 2 ^ 64 % 2 ^ 128) low ≡ number (take width (drop place list))

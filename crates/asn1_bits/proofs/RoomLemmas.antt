@@ -6,6 +6,7 @@ use Rattle.asn1_bits.specs.Bits.{ored, IsZeroFrom}
 use Rattle.asn1_bits.proofs.OredLemmas.{length-ored, ored-append_left, ored-zeros}
 use Rattle.asn1_bits.proofs.ZeroLemmas.{zeros_behind, zero_from}
 
+-- bits ORed into room stand behind those before them, and zeros are left
 pub ored-room : (list src : List Bool) (place : ℕ) → IsZeroFrom place list → place + length src ≤ length list
     → ored list place src ≡ (take place list ++ src) ++ replicate (length list - (place + length src)) false
 ored-room list src place z h =
@@ -17,12 +18,16 @@ ored-room list src place z h =
     let at : place ≡ length front = omega (arith, length-take place list, z.within) in
     let split : list ≡ (front ++ zeros) ++ tail =
     zeros_behind place list z
-    ∙ ap (λ (l : List Bool). front ++ l) ((let e : length list - place ≡ n + rest = omega arith in ap (λ (k : ℕ). replicate k false) e) ∙ sym (replicate-append-replicate n rest false))
+    ∙ ap (λ (l : List Bool). front ++ l)
+        ((let e : length list - place ≡ n + rest = omega arith in ap (λ (k : ℕ). replicate k false) e)
+        ∙ sym (replicate-append-replicate n rest false))
     ∙ sym (append_assoc front zeros tail) in
     ap (λ (l : List Bool). ored l place src) split
-    ∙ ored-append_left (front ++ zeros) tail place src (omega (arith, length-append front zeros, length-replicate n false))
+    ∙ ored-append_left (front ++ zeros) tail place src
+        (omega (arith, length-append front zeros, length-replicate n false))
     ∙ ap (λ (l : List Bool). l ++ tail) (ap (λ (k : ℕ). ored (front ++ zeros) k src) at ∙ ored-zeros front src n refl)
 
+-- so the front is the old front and they
 pub room-taken : (list src : List Bool) (place : ℕ) → IsZeroFrom place list → place + length src ≤ length list
     → take (place + length src) (ored list place src) ≡ take place list ++ src
 room-taken list src place z h =
@@ -31,6 +36,7 @@ room-taken list src place z h =
     ∙ take_at (front ++ src) (replicate (length list - (place + length src)) false) (place + length src)
     (omega (arith, length-append front src, length-take place list, z.within))
 
+-- and what is left is zeros
 pub room-left : (list src : List Bool) (place : ℕ) → IsZeroFrom place list → place + length src ≤ length list
     → IsZeroFrom (place + length src) (ored list place src)
 room-left list src place z h =
@@ -38,7 +44,8 @@ room-left list src place z h =
     let n = length-ored list place src in
     zero_from (place + length src) after (omega arith)
     (ored-room list src place z h
-    ∙ ap (λ (l : List Bool). l ++ replicate (length list - (place + length src)) false) (sym (room-taken list src place z h))
+    ∙ ap (λ (l : List Bool). l ++ replicate (length list - (place + length src)) false)
+        (sym (room-taken list src place z h))
     ∙ ap (λ (k : ℕ). take (place + length src) after ++ replicate (k - (place + length src)) false) (sym n))
 
 -- what is known after width bits were written into the room
@@ -47,7 +54,9 @@ pub record Filled (list after src : List Bool) (place width : ℕ) : Type 0 wher
   pub taken : take (place + width) after ≡ take place list ++ src
   pub len : length after ≡ length list
 
-pub room-step : (list after src : List Bool) (place width : ℕ) → IsZeroFrom place list → after ≡ ored list place src → length src ≡ width → place + width ≤ length list
+-- both, of the list that a write leaves
+pub room-step : (list after src : List Bool) (place width : ℕ) → IsZeroFrom place list → after ≡ ored list place src
+    → length src ≡ width → place + width ≤ length list
     → Filled list after src place width
 room-step list after src place width z e n h =
     rw (e, ← n) record {
@@ -56,17 +65,21 @@ room-step list after src place width z e n h =
       len = length-ored list place src;
     }
 
-pub room-zeros : (place n : ℕ) → place ≤ n → IsZeroFrom place (replicate n false) × (take place (replicate n false) ≡ replicate place false)
+-- a list of zeros is room from any place on
+pub room-zeros : (place n : ℕ) → place ≤ n → IsZeroFrom place (replicate n false)
+    × (take place (replicate n false) ≡ replicate place false)
 room-zeros place n h =
     let front : take place (replicate n false) ≡ replicate place false = take-replicate place n false h in
     let len = length-replicate n false in
     let sum : place + (length (replicate n false) - place) ≡ n = omega arith in (
       zero_from place (replicate n false) (omega arith)
           (sym (ap (λ (l : List Bool). l ++ replicate (length (replicate n false) - place) false) front
-          ∙ replicate-append-replicate place (length (replicate n false) - place) false ∙ ap (λ (k : ℕ). replicate k false) sum)),
+          ∙ replicate-append-replicate place (length (replicate n false) - place) false
+              ∙ ap (λ (k : ℕ). replicate k false) sum)),
       front,
     )
 
+-- a bit that is set before the room leaves it
 pub room-set : (list : List Bool) (place i : ℕ) (bit : Bool) → IsZeroFrom place list → i < place
     → IsZeroFrom place (set list i bit) × (take place (set list i bit) ≡ set (take place list) i bit)
 room-set list place i bit z h =
@@ -74,14 +87,16 @@ room-set list place i bit z h =
     let n = length-set list i bit in (
       zero_from place (set list i bit) (omega (arith, z.within))
           (ap (λ (l : List Bool). set l i bit) (zeros_behind place list z)
-          ∙ set-append_left (take place list) (replicate (length list - place) false) i bit (omega (arith, length-take place list, z.within))
+          ∙ set-append_left (take place list) (replicate (length list - place) false) i bit
+              (omega (arith, length-take place list, z.within))
           ∙ ap (λ (l : List Bool). l ++ replicate (length list - place) false) (sym front)
           ∙ ap (λ (k : ℕ). take place (set list i bit) ++ replicate (k - place) false) (sym n)),
       front,
     )
 
 -- bits that were ORed into the front of zeros
-pub zeros-filled : (after src : List Bool) (n total : ℕ) → after ≡ ored (replicate total false) 0 src → length src ≡ n → n ≤ total
+pub zeros-filled : (after src : List Bool) (n total : ℕ) → after ≡ ored (replicate total false) 0 src → length src ≡ n
+    → n ≤ total
     → IsZeroFrom n after × (take n after ≡ src)
 zeros-filled after src n total e len h =
     let all = length-replicate total false in

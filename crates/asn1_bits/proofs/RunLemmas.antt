@@ -9,21 +9,24 @@ use Rattle.asn1_bits.proofs.OredLemmas.{ored-append}
 use Rattle.asn1_bits.proofs.WindowLemmas.{joined}
 
 -- the next bits of a list that is ORed in
-pub more-placed : (old one new src : List Bool) (place n m next end : ℕ) → one ≡ ored old place (take n src) → new ≡ ored one next (take m (drop n src))
+pub more-placed : (old one new src : List Bool) (place n m next end : ℕ) → one ≡ ored old place (take n src)
+    → new ≡ ored one next (take m (drop n src))
     → next ≡ place + n → end ≡ n + m → end ≤ length src → place + end ≤ length old → new ≡ ored old place (take end src)
 more-placed old one new src place n m next end e f p q h room =
     let front = take n src in
     let piece = take m (drop n src) in
     f
     ∙ ap (λ (l : List Bool). ored l next piece) e
-    ∙ ored-append old place next front piece (omega (arith, p, q, length-take n src)) (omega (arith, p, q, length-take m (drop n src), length-drop n src))
+    ∙ ored-append old place next front piece (omega (arith, p, q, length-take n src))
+        (omega (arith, p, q, length-take m (drop n src), length-drop n src))
     ∙ ap (ored old place) (sym (take-add n m src) ∙ ap (λ (k : ℕ). take k src) (sym q))
 
 -- the bits of eight octets
 pub bits-eight : (octets : List ℕ) (k : ℕ) → bits (take 8 (drop (8 * k) octets)) ≡ take 64 (drop (64 * k) (bits octets))
 bits-eight octets k =
     let place : 8 * (8 * k) ≡ 64 * k = omega arith in
-    bits-take 8 (drop (8 * k) octets) ∙ ap (take 64) (bits-drop (8 * k) octets ∙ ap (λ (n : ℕ). drop n (bits octets)) place)
+    bits-take 8 (drop (8 * k) octets)
+        ∙ ap (take 64) (bits-drop (8 * k) octets ∙ ap (λ (n : ℕ). drop n (bits octets)) place)
 
 -- a word of the end of one and the front of the next
 pub word-of_two : (list : List Bool) (k shift a b : ℕ) → shift < 64 → b < 2 ^ 64
@@ -38,12 +41,14 @@ word-of_two list k shift a b h small e f =
     ∙ ap (take 64) (sym (drop-drop (64 * k) shift list ∙ ap (λ (n : ℕ). drop n list) (sym place)))
 
 -- whole words: all but the last bits of the first one, words on octet boundaries, and the last bits of the last one
-pub words-placed : (old one two three src : List Bool) (place count spill next last : ℕ) → 1 ≤ count → spill < 64 → 64 * count ≤ length src → place + 64 * count ≤ length old
+pub words-placed : (old one two three src : List Bool) (place count spill next last : ℕ) → 1 ≤ count → spill < 64
+    → 64 * count ≤ length src → place + 64 * count ≤ length old
     → one ≡ ored old place (take (64 - spill) src)
     → two ≡ ored one next (take (64 * (count - 1)) (drop (64 - spill) src)) → next ≡ place + (64 - spill)
     → three ≡ ored two last (take spill (drop (64 * count - spill) src)) → last ≡ place + (64 * count - spill)
     → three ≡ ored old place (take (64 * count) src)
 words-placed old one two three src place count spill next last some small h room e f p g q =
     more-placed old two three src place (64 * count - spill) spill last (64 * count)
-    (more-placed old one two src place (64 - spill) (64 * (count - 1)) next (64 * count - spill) e f p (omega arith) (omega arith) (omega arith))
+    (more-placed old one two src place (64 - spill) (64 * (count - 1)) next (64 * count - spill) e f p (omega arith)
+        (omega arith) (omega arith))
     g q (omega arith) h room

@@ -4,11 +4,16 @@ use Rattle.std.proofs.lemmas.List.{length-take, take-append-drop, drop_at}
 use Rattle.asn1_bits.specs.Bits.{IsZeroFrom}
 
 -- what comes before the place, and the zeros
-pub zeros_behind : (place : ℕ) (list : List Bool) → IsZeroFrom place list → list ≡ take place list ++ replicate (length list - place) false
+pub zeros_behind : (place : ℕ) (list : List Bool) → IsZeroFrom place list
+    → list ≡ take place list ++ replicate (length list - place) false
 zeros_behind place list z = sym (take-append-drop place list) ∙ ap (λ (l : List Bool). take place list ++ l) z.zero
 
-pub zero_from : (place : ℕ) (list : List Bool) → place ≤ length list → list ≡ take place list ++ replicate (length list - place) false → IsZeroFrom place list
+-- what stands behind a place is zeros
+pub zero_from : (place : ℕ) (list : List Bool) → place ≤ length list
+    → list ≡ take place list ++ replicate (length list - place) false → IsZeroFrom place list
 zero_from place list h e = record {
   within = h;
-  zero = ap (drop place) e ∙ drop_at (take place list) (replicate (length list - place) false) place (omega (arith, length-take place list));
+  zero =
+      ap (drop place) e ∙ drop_at (take place list) (replicate (length list - place) false) place
+      (omega (arith, length-take place list));
 }

@@ -5,16 +5,22 @@ use Rattle.asn1_bits.specs.Bits.{bits, digits}
 use Rattle.asn1_bits.specs.View.{View, list_of, IsWithin, part}
 use Rattle.asn1_bits.specs.DigitLaws.{length-drop_bits, bits-drop, bits-take}
 
+-- a view within its storage has as many bits as it says
 pub length-list_of : (v : View) → IsWithin v → length (list_of v) ≡ v.len
 unfolding list_of
-length-list_of v h = length-take v.len (drop v.first (bits v.storage)) ∙ omega (arith, length-drop_bits v.storage v.first)
+length-list_of v h = length-take v.len (drop v.first (bits v.storage))
+    ∙ omega (arith, length-drop_bits v.storage v.first)
 
-pub get_or-list_of : (v : View) (i : ℕ) → i < v.len → get_or (list_of v) i false ≡ get_or (bits v.storage) (v.first + i) false
+-- a bit of a view is one of its storage
+pub get_or-list_of : (v : View) (i : ℕ) → i < v.len
+    → get_or (list_of v) i false ≡ get_or (bits v.storage) (v.first + i) false
 unfolding list_of
-get_or-list_of v i h = get_or-take v.len (drop v.first (bits v.storage)) i false h ∙ get_or-drop v.first (bits v.storage) i false
+get_or-list_of v i h = get_or-take v.len (drop v.first (bits v.storage)) i false h
+    ∙ get_or-drop v.first (bits v.storage) i false
 
 -- the bits of a part
-pub list_of-part : (v : View) (from len : ℕ) → from + len ≤ v.len → list_of (part v from len) ≡ take len (drop from (list_of v))
+pub list_of-part : (v : View) (from len : ℕ) → from + len ≤ v.len
+    → list_of (part v from len) ≡ take len (drop from (list_of v))
 unfolding list_of
 list_of-part v from len h =
     let all = drop v.first (bits v.storage) in
@@ -49,7 +55,8 @@ whole_read v at first shift n e h r =
     r ∙ ap (λ (k : ℕ). take 64 (drop k (bits v.storage))) (sym e) ∙ list_of-part v at 64 h
 
 -- bits of the view from one of them on, read from the octet that it lies in
-pub list_of-run : (v : View) (at octet shift n : ℕ) (octets : List ℕ) → octets ≡ drop octet v.storage → v.first + at ≡ 8 * octet + shift → at + n ≤ v.len
+pub list_of-run : (v : View) (at octet shift n : ℕ) (octets : List ℕ) → octets ≡ drop octet v.storage
+    → v.first + at ≡ 8 * octet + shift → at + n ≤ v.len
     → take n (drop shift (bits octets)) ≡ take n (drop at (list_of v))
 list_of-run v at octet shift n octets o e h =
     ap (λ (l : List ℕ). take n (drop shift (bits l))) o
@@ -57,6 +64,7 @@ list_of-run v at octet shift n octets o e h =
     ∙ ap (take n) (list_of-part v at n h)
     ∙ take-take n n (drop at (list_of v)) (omega arith)
 
+-- no octets have no bits
 pub bits-none : (octets : List ℕ) → octets ≡ [] → bits octets ≡ []
 unfolding bits
 bits-none octets e = ap bits e

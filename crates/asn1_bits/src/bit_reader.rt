@@ -70,8 +70,8 @@ impl<'a> BitReader<'a> {
         ensures octets { IfOk result (λ o. All (λ octet. octet < 256) (octets_in o)) }
         ensures borrowed { IfOk result (λ o. IsBorrowed o ↔ IsAligned (view_left self.now)) }
         // Where they are borrowed, or there are none, no memory is asked for.
-        ensures aligned { IsAligned (view_left self.now) → IsOk result }
-        ensures empty { (view_left self.now).len ≡ 0 → IsOk result }
+        ensures free_aligned { IsAligned (view_left self.now) → IsOk result }
+        ensures free { (view_left self.now).len ≡ 0 → IsOk result }
     {
         if let Some(octets) = self.view.aligned() {
             return Ok(Octets::Borrowed(octets));

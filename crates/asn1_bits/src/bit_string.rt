@@ -123,7 +123,7 @@ pub fn to_bitstring(alloc: Global, src: BitStr<'_>) -> Result<BitString, AllocEr
     ensures list { IfOk result (λ s. s ≡ bits_of src.entry) }
     ensures len { IfOk result (λ s. length s ≡ (view_of src.entry).len) }
     // Of no bits it asks for no memory.
-    ensures empty { (view_of src.entry).len ≡ 0 → IsOk result }
+    ensures free { (view_of src.entry).len ≡ 0 → IsOk result }
 {
     let mut bits = BitString::new(alloc);
     extend_bitstring(&mut bits, src)?;

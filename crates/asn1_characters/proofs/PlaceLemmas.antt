@@ -22,7 +22,8 @@ get_right (x ∷ xs) ys (suc n) k e =
     let up : suc n + k ≡ suc (n + k) = omega arith in rw up (get_right xs ys n k (omega arith))
 
 -- a place in the range at i
-pub at_range : (rs : List (ℕ × ℕ)) (i j : ℕ) → i < length rs → j < (get_or rs i (0, 0)).1 + 1 - (get_or rs i (0, 0)).0 → slice_get (flat_map characters_between rs) (counted (take i rs) + j) ≡ Some ((get_or rs i (0, 0)).0 + j)
+pub at_range : (rs : List (ℕ × ℕ)) (i j : ℕ) → i < length rs → j < (get_or rs i (0, 0)).1 + 1 - (get_or rs i (0, 0)).0
+    → slice_get (flat_map characters_between rs) (counted (take i rs) + j) ≡ Some ((get_or rs i (0, 0)).0 + j)
 at_range [] i j lt small = absurd (omega arith)
 at_range (r ∷ rs) zero j lt small =
     let long = length-range_with_len r.0 (r.1 + 1 - r.0) in
@@ -30,15 +31,18 @@ at_range (r ∷ rs) zero j lt small =
     get_left (characters_between r) (flat_map characters_between rs) j (omega arith)
     ∙ slice_get-get_or (characters_between r) j 0 (omega arith)
     ∙ ap Some (get_or-range_with_len r.0 (r.1 + 1 - r.0) j 0 small)
-    in ap (slice_get (characters_between r ++ flat_map characters_between rs)) (let e : 0 + j ≡ j = omega arith in e) ∙ here
+    in ap (slice_get (characters_between r ++ flat_map characters_between rs)) (let e : 0 + j ≡ j = omega arith in e)
+        ∙ here
 at_range (r ∷ rs) (suc i) j lt small =
     let regrouped : r.1 + 1 - r.0 + counted (take i rs) + j ≡ r.1 + 1 - r.0 + (counted (take i rs) + j) = omega arith in
     ap (slice_get (characters_between r ++ flat_map characters_between rs)) regrouped
-    ∙ get_right (characters_between r) (flat_map characters_between rs) (r.1 + 1 - r.0) (counted (take i rs) + j) (length-range_with_len r.0 (r.1 + 1 - r.0))
+    ∙ get_right (characters_between r) (flat_map characters_between rs) (r.1 + 1 - r.0) (counted (take i rs) + j)
+        (length-range_with_len r.0 (r.1 + 1 - r.0))
     ∙ at_range rs i j (omega arith) small
 
 -- one more range
-pub counted_more : (rs : List (ℕ × ℕ)) (i : ℕ) → i < length rs → counted (take (i + 1) rs) ≡ counted (take i rs) + ((get_or rs i (0, 0)).1 + 1 - (get_or rs i (0, 0)).0)
+pub counted_more : (rs : List (ℕ × ℕ)) (i : ℕ) → i < length rs
+    → counted (take (i + 1) rs) ≡ counted (take i rs) + ((get_or rs i (0, 0)).1 + 1 - (get_or rs i (0, 0)).0)
 counted_more [] i lt = absurd (omega arith)
 counted_more (r ∷ rs) zero lt = omega arith
 counted_more (r ∷ rs) (suc i) lt =
@@ -60,10 +64,12 @@ base_is name = refl
 pub digit_at : (place : ℕ) → 1 ≤ place → place ≤ 10 → slice_get (base_set Numeric) place ≡ Some (47 + place)
 digit_at place low high =
     let j = place - 1 in
-    let at : slice_get (flat_map characters_between (ranges_of Numeric)) (1 + j) ≡ Some (48 + j) = at_range (ranges_of Numeric) 1 j (omega arith) (omega arith) in
+    let at : slice_get (flat_map characters_between (ranges_of Numeric)) (1 + j) ≡ Some (48 + j) =
+        at_range (ranges_of Numeric) 1 j (omega arith) (omega arith) in
     let same : 1 + j ≡ place = omega arith in
     let value : 48 + j ≡ 47 + place = omega arith in
-    rw (base_is Numeric) (ap (slice_get (flat_map characters_between (ranges_of Numeric))) (sym same) ∙ at ∙ ap Some value)
+    rw (base_is Numeric) (ap (slice_get (flat_map characters_between (ranges_of Numeric))) (sym same) ∙ at
+        ∙ ap Some value)
 
 pub space_at : slice_get (base_set Numeric) 0 ≡ Some 32
 space_at = rw (base_is Numeric) (at_range (ranges_of Numeric) 0 0 (omega arith) (omega arith))

@@ -37,7 +37,8 @@ pub width-base_set : (name : CharacterSetName) → base_width name ≡ width_in_
 width-base_set name = width_counted name ∙ width_computed name
 
 -- whether the largest end of the ranges fits the width
-pub indexed-base_set : (name : CharacterSetName) → base_indexed name ≡ leb (2 ^ width_in_table name) (topmost 0 (ranges_of name))
+pub indexed-base_set : (name : CharacterSetName)
+    → base_indexed name ≡ leb (2 ^ width_in_table name) (topmost 0 (ranges_of name))
 indexed-base_set name = rw (width-base_set name, largest-base_set name) refl
 
 -- only `NumericString` is written by places

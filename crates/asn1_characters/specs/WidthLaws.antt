@@ -19,7 +19,8 @@ below_pow (suc n) =
 
 -- what is too few codes is a smaller width
 pub too_few : (n w v : ℕ) → 2 ^ w < n → n ≤ 2 ^ v → w + 1 ≤ v
-too_few n w v few enough = elim (cases_lt w v) [ inl lt ↦ omega arith | inr le ↦ absurd (let up = pow_mono le in omega arith) ]
+too_few n w v few enough =
+    elim (cases_lt w v) [ inl lt ↦ omega arith | inr le ↦ absurd (let up = pow_mono le in omega arith) ]
 
 pick : (b : Bool) (w r goal : ℕ) → (b ≡ true → w ≡ goal) → (b ≡ false → r ≡ goal) →
     ◌≡◌ {A = ℕ} (elim b as (λ x. ℕ) [ true ↦ w | false ↦ r ]) goal
@@ -45,7 +46,8 @@ found (suc more) w n goal is low high =
 -- a least width is the one that is defined
 pub ceil_log2_is : (n w : ℕ) → IsLeastWidth n w → ceil_log2 n ≡ w
 unfolding ceil_log2
-ceil_log2_is n w is = found n 0 n w is (omega arith) (let below = below_pow n in omega (arith, is.least n (omega arith)))
+ceil_log2_is n w is =
+    found n 0 n w is (omega arith) (let below = below_pow n in omega (arith, is.least n (omega arith)))
 
 -- so many codes of a width
 pub codes_small : (w : ℕ) → w ≤ 32 → 1 * 2 ^ w % 18446744073709551616 ≡ 2 ^ w
@@ -67,7 +69,8 @@ least_above : (more w n : ℕ) → n ≤ 2 ^ (w + more) → ((v : ℕ) → n ≤
 unfolding least_from
 least_above zero w n enough least = record { enough = let e : w + 0 ≡ w = omega arith in rw e at enough; least = least }
 least_above (suc more) w n enough least =
-    choose (leb n (2 ^ w)) w (least_from more (w + 1) n) n (λ e. record { enough = grind (arith, nat_tests); least = least })
+    choose (leb n (2 ^ w)) w (least_from more (w + 1) n) n
+        (λ e. record { enough = grind (arith, nat_tests); least = least })
     (λ e.
     let few : 2 ^ w < n = grind (arith, nat_tests) in
     let up : w + suc more ≡ w + 1 + more = omega arith in

@@ -10,12 +10,14 @@ use Rattle.asn1_fields.specs.Output.{line, digits_of_bits, octets_text, field_te
 
 -- ---- octets
 
-pub no_octets_line : (label octets : List ℕ) → length octets ≡ 0 → label ++ 32 ∷ 45 ∷ 10 ∷ [] ≡ line (label ++ codes " " ++ octets_text octets)
+pub no_octets_line : (label octets : List ℕ) → length octets ≡ 0
+    → label ++ 32 ∷ 45 ∷ 10 ∷ [] ≡ line (label ++ codes " " ++ octets_text octets)
 unfolding encode_with
 no_octets_line label [] none = simp append_assoc
 no_octets_line label (octet ∷ octets) none = absurd (omega arith)
 
-pub octets_line : (label octets digits : List ℕ) → length octets ≢ 0 → digits ≡ encode_lower octets → label ++ 32 ∷ (digits ++ 10 ∷ []) ≡ line (label ++ codes " " ++ octets_text octets)
+pub octets_line : (label octets digits : List ℕ) → length octets ≢ 0 → digits ≡ encode_lower octets
+    → label ++ 32 ∷ (digits ++ 10 ∷ []) ≡ line (label ++ codes " " ++ octets_text octets)
 unfolding encode_with
 octets_line label [] digits some e = absurd (some refl)
 octets_line label (octet ∷ octets) digits some e = rw e (simp append_assoc)
@@ -26,7 +28,8 @@ pub below_128 : (bit : Bool) (n : ℕ) → n ≡ (if bit then 49 else 48) → n 
 below_128 true n e = omega arith
 below_128 false n e = omega arith
 
-pub digits_of_more : (list : List Bool) (i : ℕ) (bit : Bool) (n : ℕ) → slice_get list i ≡ Some bit → n ≡ (if bit then 49 else 48) → digits_of_bits (take (i + 1) list) ≡ digits_of_bits (take i list) ++ n ∷ []
+pub digits_of_more : (list : List Bool) (i : ℕ) (bit : Bool) (n : ℕ) → slice_get list i ≡ Some bit
+    → n ≡ (if bit then 49 else 48) → digits_of_bits (take (i + 1) list) ≡ digits_of_bits (take i list) ++ n ∷ []
 digits_of_more list i bit n at e =
     let digit : Bool → ℕ = λ b. if b then 49 else 48 in
     let here = slice_get_within list i bit at in
@@ -36,9 +39,13 @@ digits_of_more list i bit n at e =
 
 -- ---- fields
 
-pub field_lines_more : (fields : List Field) (i : ℕ) (field : Field) → i < length fields → field ≡ get_or fields i field → field_lines (plain_fields (take (i + 1) fields)) ≡ field_lines (plain_fields (take i fields)) ++ line (field_text (plain_field field))
+pub field_lines_more : (fields : List Field) (i : ℕ) (field : Field) → i < length fields → field ≡ get_or fields i field
+    → field_lines (plain_fields (take (i + 1) fields)) ≡ field_lines (plain_fields (take i fields)) ++ line
+    (field_text (plain_field field))
 field_lines_more fields i field here is =
     ap field_lines (map_more plain_field fields i field here)
-    ∙ flat_map-append (λ f. line (field_text f)) (plain_fields (take i fields)) (plain_field (get_or fields i field) ∷ [])
-    ∙ ap (λ (l : List ℕ). field_lines (plain_fields (take i fields)) ++ l) (append-nil (line (field_text (plain_field (get_or fields i field)))))
+    ∙ flat_map-append (λ f. line (field_text f)) (plain_fields (take i fields))
+        (plain_field (get_or fields i field) ∷ [])
+    ∙ ap (λ (l : List ℕ). field_lines (plain_fields (take i fields)) ++ l)
+        (append-nil (line (field_text (plain_field (get_or fields i field)))))
     ∙ ap (λ (f : Field). field_lines (plain_fields (take i fields)) ++ line (field_text (plain_field f))) (sym is)

@@ -60,7 +60,8 @@ one_shape word (OfNumber m) (OfNumber n) p q = ap (λ (k : ℕ). OfNumber k) (sa
 one_shape word (OfOctets m) (OfOctets n) p q = ap (λ (k : ℕ). OfOctets k) (same_count word 111 m n p.0 q.0 p.1 q.1)
 one_shape word (OfBits m) (OfBits n) p q = ap (λ (k : ℕ). OfBits k) (same_count word 98 m n p.0 q.0 p.1 q.1)
 one_shape word (OfInteger m) (OfInteger n) p q = ap (λ (k : ℕ). OfInteger k) (same_count word 105 m n p.0 q.0 p.1 q.1)
-one_shape word (OfIdentifier m) (OfIdentifier n) p q = ap (λ (k : ℕ). OfIdentifier k) (same_count word 100 m n p.0 q.0 p.1 q.1)
+one_shape word (OfIdentifier m) (OfIdentifier n) p q =
+    ap (λ (k : ℕ). OfIdentifier k) (same_count word 100 m n p.0 q.0 p.1 q.1)
 one_shape word (OfCharacter a) (OfCharacter b) p q = ap (λ (x : Alphabet). OfCharacter x) (p.1 ∙ sym q.1)
 one_shape word OfCountedInteger OfCountedInteger p q = refl
 one_shape word s t p q = absurd (omega (arith, letter_of word s p, letter_of word t q))
@@ -115,11 +116,14 @@ one_holding list os ps p q = same_octets os ps p.0 q.0 (p.1 ∙ sym q.1)
 
 -- ---- one step of the answer
 
-pub only_next : {X : Type 0} (IsRight : X → Type 0) (text : List ℕ) (Next : X → Answer → Type 0) (x : X) (answer : Answer) → ((y : X) → IsRight y → y ≡ x) → IsRight x → OrElse IsRight text Next answer → Next x answer
+pub only_next : {X : Type 0} (IsRight : X → Type 0) (text : List ℕ) (Next : X → Answer → Type 0) (x : X)
+    (answer : Answer) → ((y : X) → IsRight y → y ≡ x) → IsRight x → OrElse IsRight text Next answer → Next x answer
 only_next IsRight text Next x answer one right (inl h) = subst (λ y. Next y answer) (one h.0 h.1) h.2
 only_next IsRight text Next x answer one right (inr h) = absurd (h.0 x right)
 
-pub only_none : {X : Type 0} (IsRight : X → Type 0) (text : List ℕ) (Next : X → Answer → Type 0) (answer : Answer) → ((x : X) → ¬ (IsRight x)) → OrElse IsRight text Next answer → answer ≡ record { text = text ++ 10 ∷ []; status = 1 }
+pub only_none : {X : Type 0} (IsRight : X → Type 0) (text : List ℕ) (Next : X → Answer → Type 0) (answer : Answer)
+    → ((x : X) → ¬ (IsRight x)) → OrElse IsRight text Next answer
+    → answer ≡ record { text = text ++ 10 ∷ []; status = 1 }
 only_none IsRight text Next answer none (inl h) = absurd (none h.0 h.1)
 only_none IsRight text Next answer none (inr h) = h.1
 

@@ -2,7 +2,8 @@
 use Rattle.std.proofs.Common.{ℕ, List, ◌++◌, Option, Some, None, ap, ◌∙◌, append_assoc}
 use Rattle.std.specs.Io.KnownBytes.{Appends}
 
-pub appends_more : (old now new : Option (List ℕ)) (xs ys : List ℕ) → Appends old now xs → Appends now new ys → Appends old new (xs ++ ys)
+pub appends_more : (old now new : Option (List ℕ)) (xs ys : List ℕ) → Appends old now xs → Appends now new ys
+    → Appends old new (xs ++ ys)
 appends_more None now new xs ys a b = tt
 appends_more (Some os) None new xs ys a b = absurd a
 appends_more (Some os) (Some ns) None xs ys a b = absurd b

@@ -23,7 +23,8 @@ other_letter_alone letter a c (OfIdentifier n) h = alone letter 100 n h.1 h.0
 other_letter_alone letter a c (OfCharacter alphabet) h = a (let e = h.0 in cc)
 other_letter_alone letter a c OfCountedInteger h = c cc
 
-pub other_counted_letter : (letter count : ℕ) → count < 10 ^ 9 → letter ≢ 110 → letter ≢ 111 → letter ≢ 98 → letter ≢ 105 → letter ≢ 100 → (shape : Shape) → IsWord (letter ∷ decimal count) shape → ⊥
+pub other_counted_letter : (letter count : ℕ) → count < 10 ^ 9 → letter ≢ 110 → letter ≢ 111 → letter ≢ 98
+    → letter ≢ 105 → letter ≢ 100 → (shape : Shape) → IsWord (letter ∷ decimal count) shape → ⊥
 other_counted_letter letter count small n o b i d (OfNumber k) h = n (let e = h.0 in cc)
 other_counted_letter letter count small n o b i d (OfOctets k) h = o (let e = h.0 in cc)
 other_counted_letter letter count small n o b i d (OfBits k) h = b (let e = h.0 in cc)
@@ -34,22 +35,30 @@ other_counted_letter letter count small n o b i d OfCountedInteger h = alone 99 
 
 -- ---- the words of a line
 
-pub words_more : (words : List (Bor (List ℕ))) (shapes : List program.Shape) (word : Bor (List ℕ)) (shape : program.Shape) → AllZip IsWord (map (λ w. w.now) words) (plain_shapes shapes) → IsWord word.now (plain_shape shape) → AllZip IsWord (map (λ w. w.now) (words ++ word ∷ [])) (plain_shapes (shapes ++ shape ∷ []))
+pub words_more : (words : List (Bor (List ℕ))) (shapes : List program.Shape) (word : Bor (List ℕ))
+    (shape : program.Shape) → AllZip IsWord (map (λ w. w.now) words) (plain_shapes shapes)
+    → IsWord word.now (plain_shape shape)
+    → AllZip IsWord (map (λ w. w.now) (words ++ word ∷ [])) (plain_shapes (shapes ++ shape ∷ []))
 words_more [] [] word shape each one = (one, tt)
 words_more [] (s ∷ shapes) word shape each one = absurd each
 words_more (w ∷ words) [] word shape each one = absurd each
 words_more (w ∷ words) (s ∷ shapes) word shape each one = (each.0, words_more words shapes word shape each.1 one)
 
-pub no_shape_for : (words : List (List ℕ)) (shapes : List Shape) (i : ℕ) (word : List ℕ) → i < length words → word ≡ get_or words i word → ((shape : Shape) → IsWord word shape → ⊥) → AllZip IsWord words shapes → ⊥
+pub no_shape_for : (words : List (List ℕ)) (shapes : List Shape) (i : ℕ) (word : List ℕ) → i < length words
+    → word ≡ get_or words i word → ((shape : Shape) → IsWord word shape → ⊥) → AllZip IsWord words shapes → ⊥
 no_shape_for [] shapes i word here is none each = omega arith
 no_shape_for (w ∷ words) [] i word here is none each = each
-no_shape_for (w ∷ words) (s ∷ shapes) zero word here is none each = none s (subst (λ (x : List ℕ). IsWord x s) (sym is) each.0)
-no_shape_for (w ∷ words) (s ∷ shapes) (suc i) word here is none each = no_shape_for words shapes i word (omega arith) is none each.1
+no_shape_for (w ∷ words) (s ∷ shapes) zero word here is none each =
+    none s (subst (λ (x : List ℕ). IsWord x s) (sym is) each.0)
+no_shape_for (w ∷ words) (s ∷ shapes) (suc i) word here is none each =
+    no_shape_for words shapes i word (omega arith) is none each.1
 
-pub words_of_line : (line : List ℕ) (shapes : List Shape) → length line ≢ 0 → AreWords line shapes → AllZip IsWord (slice_split (λ c. c == 32) line) shapes
+pub words_of_line : (line : List ℕ) (shapes : List Shape) → length line ≢ 0 → AreWords line shapes
+    → AllZip IsWord (slice_split (λ c. c == 32) line) shapes
 words_of_line [] shapes some h = absurd (some refl)
 words_of_line (c ∷ cs) shapes some h = h
 
-pub line_of_words : (line : List ℕ) (shapes : List Shape) → length line ≢ 0 → AllZip IsWord (slice_split (λ c. c == 32) line) shapes → AreWords line shapes
+pub line_of_words : (line : List ℕ) (shapes : List Shape) → length line ≢ 0
+    → AllZip IsWord (slice_split (λ c. c == 32) line) shapes → AreWords line shapes
 line_of_words [] shapes some h = absurd (some refl)
 line_of_words (c ∷ cs) shapes some h = h

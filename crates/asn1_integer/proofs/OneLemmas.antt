@@ -18,7 +18,8 @@ same_place m x y i j e l k =
     (cases_lt j i))
     (cases_lt i j)
 
-one_apart : (m : ℕ) (n a b k j : ℤ) → n ≡ a +ℤ k *ℤ pos m → n ≡ b +ℤ j *ℤ pos m → up a + down b < up b + down a + m → up b + down a < up a + down b + m → a ≡ b
+one_apart : (m : ℕ) (n a b k j : ℤ) → n ≡ a +ℤ k *ℤ pos m → n ≡ b +ℤ j *ℤ pos m → up a + down b < up b + down a + m
+    → up b + down a < up a + down b + m → a ≡ b
 one_apart m n a b k j e f l h =
     let s = sum_is_lem a (k *ℤ pos m) in
     let t = sum_is_lem b (j *ℤ pos m) in
@@ -49,7 +50,11 @@ unsigned_wraps_to_one size n a b p v w =
     one_apart (2 ^ (8 * size)) n a b v.1.0 w.1.0 v.1.1 w.1.1 (omega arith) (omega arith)
 
 pub signed_has_one_residue : HasOneResidue SignedOf
-signed_has_one_residue size n r s v w = ap up (one_apart (2 ^ (8 * size)) n (pos r) (pos s) v.1.0 w.1.0 v.1.1 w.1.1 (omega (arith, v.0)) (omega (arith, w.0)))
+signed_has_one_residue size n r s v w =
+    ap up (one_apart (2 ^ (8 * size)) n (pos r) (pos s) v.1.0 w.1.0 v.1.1 w.1.1 (omega (arith, v.0))
+    (omega (arith, w.0)))
 
 pub unsigned_has_one_residue : HasOneResidue UnsignedOf
-unsigned_has_one_residue size n r s v w = ap up (one_apart (2 ^ (8 * size)) n (pos r) (pos s) v.1.0 w.1.0 v.1.1 w.1.1 (omega (arith, v.0)) (omega (arith, w.0)))
+unsigned_has_one_residue size n r s v w =
+    ap up (one_apart (2 ^ (8 * size)) n (pos r) (pos s) v.1.0 w.1.0 v.1.1 w.1.1 (omega (arith, v.0))
+    (omega (arith, w.0)))

@@ -20,14 +20,16 @@ drop-bytes zero m size n e = ap (λ (k : ℕ). bytes_high_first k n) (let f : si
 drop-bytes (suc s) m zero n e = absurd (omega arith)
 drop-bytes (suc s) m (suc size) n e = drop-bytes s m size n (omega arith)
 
-bytes-cat : (m k size n : ℕ) → m + k ≡ size → bytes_high_first size n ≡ bytes_high_first m (n / 256 ^ k) ++ bytes_high_first k n
+bytes-cat : (m k size n : ℕ) → m + k ≡ size
+    → bytes_high_first size n ≡ bytes_high_first m (n / 256 ^ k) ++ bytes_high_first k n
 bytes-cat zero k size n e = ap (λ (j : ℕ). bytes_high_first j n) (let f : size ≡ k = omega arith in f)
 bytes-cat (suc m) k zero n e = absurd (omega arith)
 bytes-cat (suc m) k (suc size) n e =
     let l : size ≡ k + m = omega arith in
     let p : 256 ^ size ≡ 256 ^ k * 256 ^ m = ap (λ (j : ℕ). 256 ^ j) l ∙ pow-add 256 k m in
     let first : byte_at size n ≡ byte_at m (n / 256 ^ k) =
-    byte_at_is size n ∙ (ap (λ x. n / x % 256) p ∙ (ap (λ x. x % 256) (sym (div-div-eq-div-mul n (256 ^ k) (256 ^ m))) ∙ sym (byte_at_is m (n / 256 ^ k)))) in
+    byte_at_is size n ∙ (ap (λ x. n / x % 256) p
+        ∙ (ap (λ x. x % 256) (sym (div-div-eq-div-mul n (256 ^ k) (256 ^ m))) ∙ sym (byte_at_is m (n / 256 ^ k)))) in
     let rest = bytes-cat m k size n (omega arith) in
     cc (first, rest)
 
@@ -35,33 +37,44 @@ bytes-cat (suc m) k (suc size) n e =
 bytes_by_residue : (k n r a : ℕ) → n ≡ a * 256 ^ k + r → r < 256 ^ k → bytes_high_first k n ≡ bytes_high_first k r
 bytes_by_residue k n r a e l =
     let small : unsigned (bytes_high_first k n) < 256 ^ k =
-    subst (λ (j : ℕ). unsigned (bytes_high_first k n) < 256 ^ j) (length-bytes k n) (unsigned_below (bytes_high_first k n) (octets_of_bytes k n)) in
-    let both = same_from_place (n / 256 ^ k) (unsigned (bytes_high_first k n)) a r (256 ^ k) small l (omega (arith, unsigned-bytes_and_rest k n)) in
+    subst (λ (j : ℕ). unsigned (bytes_high_first k n) < 256 ^ j) (length-bytes k n)
+        (unsigned_below (bytes_high_first k n) (octets_of_bytes k n)) in
+    let both =
+        same_from_place (n / 256 ^ k) (unsigned (bytes_high_first k n)) a r (256 ^ k) small l
+        (omega (arith, unsigned-bytes_and_rest k n)) in
     unsigned_once (bytes_high_first k n) (bytes_high_first k r) (octets_of_bytes k n) (octets_of_bytes k r)
     (length-bytes k n ∙ sym (length-bytes k r)) (both.1 ∙ sym (unsigned-bytes k r l))
 
 pub two_words : (n : ℕ) → to_be_bytes w64 (n / 2 ^ 64) ++ to_be_bytes w64 (n % 2 ^ 64) ≡ to_be_bytes w128 n
 two_words n =
-    let low : bytes_high_first 8 n ≡ bytes_high_first 8 (n % 2 ^ 64) = bytes_by_residue 8 n (n % 2 ^ 64) (n / 2 ^ 64) (sym (div-add-mod' n (2 ^ 64))) (mod_below n (2 ^ 64) (omega arith)) in
+    let low : bytes_high_first 8 n ≡ bytes_high_first 8 (n % 2 ^ 64) =
+        bytes_by_residue 8 n (n % 2 ^ 64) (n / 2 ^ 64) (sym (div-add-mod' n (2 ^ 64)))
+        (mod_below n (2 ^ 64) (omega arith)) in
     ap (λ o. bytes_high_first 8 (n / 2 ^ 64) ++ o) (sym low) ∙ sym (bytes-cat 8 8 16 n refl)
 
 -- ---- the shortest octets of a number at the end of a word
 
-bytes-residue : (m size : ℕ) (z : ℤ) → m ≤ size → mag z < 256 ^ m → bytes_high_first m (residue_at size z) ≡ bytes_high_first m (residue_at m z)
+bytes-residue : (m size : ℕ) (z : ℤ) → m ≤ size → mag z < 256 ^ m
+    → bytes_high_first m (residue_at size z) ≡ bytes_high_first m (residue_at m z)
 bytes-residue m size (pos n) l h = refl
 bytes-residue m size (negsuc n) l h =
-    let p : 256 ^ size ≡ 256 ^ (size - m) * 256 ^ m = ap (λ (j : ℕ). 256 ^ j) (let e : size ≡ size - m + m = omega arith in e) ∙ pow-add 256 (size - m) m in
+    let p : 256 ^ size ≡ 256 ^ (size - m) * 256 ^ m =
+        ap (λ (j : ℕ). 256 ^ j) (let e : size ≡ size - m + m = omega arith in e) ∙ pow-add 256 (size - m) m in
     let one : 1 ≤ 256 ^ (size - m) = one-le-pow (size - m) 256 (omega arith) in
-    let q : 256 ^ (size - m) * 256 ^ m ≡ suc (256 ^ (size - m) - 1) * 256 ^ m = ap (λ x. x * 256 ^ m) (let e : 256 ^ (size - m) ≡ suc (256 ^ (size - m) - 1) = omega arith in e) in
-    bytes_by_residue m (256 ^ size - suc n) (256 ^ m - suc n) (256 ^ (size - m) - 1) (omega (arith, p, q, suc-mul (256 ^ (size - m) - 1) (256 ^ m))) (omega arith)
+    let q : 256 ^ (size - m) * 256 ^ m ≡ suc (256 ^ (size - m) - 1) * 256 ^ m =
+        ap (λ x. x * 256 ^ m) (let e : 256 ^ (size - m) ≡ suc (256 ^ (size - m) - 1) = omega arith in e) in
+    bytes_by_residue m (256 ^ size - suc n) (256 ^ m - suc n) (256 ^ (size - m) - 1)
+        (omega (arith, p, q, suc-mul (256 ^ (size - m) - 1) (256 ^ m))) (omega arith)
 
-pub end_of_word : (size s n : ℕ) (z : ℤ) → s + length (shortest_octets z) ≡ size → n ≡ residue_at size z → drop s (bytes_high_first size n) ≡ shortest_octets z
+pub end_of_word : (size s n : ℕ) (z : ℤ) → s + length (shortest_octets z) ≡ size → n ≡ residue_at size z
+    → drop s (bytes_high_first size n) ≡ shortest_octets z
 unfolding shortest_octets
 end_of_word size s n z e r =
     let k : ℕ = octets_past_first z in
     let l : s + suc k ≡ size = ap (λ x. s + x) (sym (length-bytes (suc k) (residue_at (suc k) z))) ∙ e in
     let enough : mag z < 256 ^ suc k = omega (arith, past_first_enough z, power_step k) in
-    drop-bytes s (suc k) size n l ∙ (ap (bytes_high_first (suc k)) r ∙ bytes-residue (suc k) size z (omega arith) enough)
+    drop-bytes s (suc k) size n l ∙ (ap (bytes_high_first (suc k)) r
+        ∙ bytes-residue (suc k) size z (omega arith) enough)
 
 -- a number's bits are its residue
 pub residue_64 : (z : ℤ) → of_z w64 z ≡ residue_at 8 z
@@ -75,7 +88,8 @@ residue_128 (negsuc n) = refl
 -- ---- how many there are
 
 -- the leading zeros of twice the distance and 1 count the octets, by eight
-pub spare_octets : (size : ℕ) (z : ℤ) → 2 * mag z + 1 < 2 ^ (8 * size) → count_leading_zeros (8 * size) (2 * mag z + 1) / 8 + length (shortest_octets z) ≡ size
+pub spare_octets : (size : ℕ) (z : ℤ) → 2 * mag z + 1 < 2 ^ (8 * size)
+    → count_leading_zeros (8 * size) (2 * mag z + 1) / 8 + length (shortest_octets z) ≡ size
 unfolding shortest_octets
 spare_octets size z h =
     let t = leading_top (8 * size) (2 * mag z + 1) (omega arith) h in
@@ -86,11 +100,13 @@ spare_octets size z h =
     let top : t.0 ≤ 8 * k + 7 = omega (arith, t.1) in
     let low : 8 * k ≤ t.0 = omega (arith, t.1) in
     let enough : mag z < 128 * 256 ^ k =
-    let p : 2 ^ t.0 ≤ 2 ^ (8 * suc k - 1) = pow-le-pow_right (omega arith) {i = t.0} {j = 8 * suc k - 1} (omega arith) in
+    let p : 2 ^ t.0 ≤ 2 ^ (8 * suc k - 1) =
+        pow-le-pow_right (omega arith) {i = t.0} {j = 8 * suc k - 1} (omega arith) in
     omega (arith, p, half_of_bits k, t.2, t.3, pow-suc 2 t.0) in
     let few : (i : ℕ) → i < k → 128 * 256 ^ i ≤ mag z = λ i l.
     let p : 2 ^ (8 * suc i) ≤ 2 ^ t.0 = pow-le-pow_right (omega arith) {i = 8 * suc i} {j = t.0} (omega arith) in
-    let e : 2 ^ (8 * suc i) ≡ 2 ^ suc (8 * suc i - 1) = ap (λ (j : ℕ). 2 ^ j) (let f : 8 * suc i ≡ suc (8 * suc i - 1) = omega arith in f) in
+    let e : 2 ^ (8 * suc i) ≡ 2 ^ suc (8 * suc i - 1) =
+        ap (λ (j : ℕ). 2 ^ j) (let f : 8 * suc i ≡ suc (8 * suc i - 1) = omega arith in f) in
     omega (arith, p, e, pow-suc 2 (8 * suc i - 1), half_of_bits i, t.2, t.3) in
     let same : k ≡ octets_past_first z = past_first_only k z enough few in
     omega (arith, t.1, length-bytes (suc (octets_past_first z)) (residue_at (suc (octets_past_first z)) z))

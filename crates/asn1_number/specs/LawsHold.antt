@@ -14,7 +14,8 @@ pub computed_are_shortest : ComputedAreShortest
 computed_are_shortest n = shortest_octets_are n
 
 pub shortest_by_nine_bits : ShortestByNineBits
-shortest_by_nine_bits o octets some = (λ s. nine_bits_from_shortest (signed o) o s, λ d. shortest_from_nine_bits o octets d)
+shortest_by_nine_bits o octets some =
+    (λ s. nine_bits_from_shortest (signed o) o s, λ d. shortest_from_nine_bits o octets d)
 
 pub shortest_keep_order : ShortestKeepOrder
 shortest_keep_order m n a b s t = shortest_order m n a b s t

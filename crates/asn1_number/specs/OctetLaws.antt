@@ -35,7 +35,8 @@ pub signed_low : (b : ℕ) (bs : List ℕ) → b < 128 → signed (b ∷ bs) ≡
 unfolding signed
 signed_low b bs h = cond-true (ltb b 128) _ _ (lt-ltb b 128 h)
 
-pub signed_high : (b : ℕ) (bs : List ℕ) → 128 ≤ b → signed (b ∷ bs) ≡ pos (unsigned (b ∷ bs)) -ℤ pos (256 ^ length (b ∷ bs))
+pub signed_high : (b : ℕ) (bs : List ℕ) → 128 ≤ b
+    → signed (b ∷ bs) ≡ pos (unsigned (b ∷ bs)) -ℤ pos (256 ^ length (b ∷ bs))
 unfolding signed
 signed_high b bs h = cond-false (ltb b 128) _ _ (le-ltb b 128 h)
 
@@ -51,10 +52,12 @@ below_zero u n h =
     ⊎_elim (λ e. (e, omega arith)) (λ e. absurd (omega arith)) (one_part (pos u -ℤ pos n))
 
 -- what the positive and the negative part of the value are
-pub low_parts : (b : ℕ) (bs : List ℕ) → b < 128 → (up (signed (b ∷ bs)) ≡ unsigned (b ∷ bs)) × (down (signed (b ∷ bs)) ≡ 0)
+pub low_parts : (b : ℕ) (bs : List ℕ) → b < 128 → (up (signed (b ∷ bs)) ≡ unsigned (b ∷ bs))
+    × (down (signed (b ∷ bs)) ≡ 0)
 low_parts b bs h = (ap up (signed_low b bs h), ap down (signed_low b bs h))
 
-pub high_parts : (b : ℕ) (bs : List ℕ) → IsOctets (b ∷ bs) → 128 ≤ b → (up (signed (b ∷ bs)) ≡ 0) × (down (signed (b ∷ bs)) + unsigned (b ∷ bs) ≡ 256 ^ length (b ∷ bs))
+pub high_parts : (b : ℕ) (bs : List ℕ) → IsOctets (b ∷ bs) → 128 ≤ b → (up (signed (b ∷ bs)) ≡ 0)
+    × (down (signed (b ∷ bs)) + unsigned (b ∷ bs) ≡ 256 ^ length (b ∷ bs))
 high_parts b bs o h =
     let e = below_zero (unsigned (b ∷ bs)) (256 ^ length (b ∷ bs)) (unsigned_below (b ∷ bs) o) in
     (ap up (signed_high b bs h) ∙ e.0, ap (λ z. down z + unsigned (b ∷ bs)) (signed_high b bs h) ∙ e.1)
@@ -63,7 +66,8 @@ pub power_step : (n : ℕ) → 256 ^ suc n ≡ 256 * 256 ^ n
 power_step n = omega (arith, pow-suc 256 n)
 
 -- a value of n octets lies from -128 * 256 ^ (n - 1) on, below 128 * 256 ^ (n - 1)
-pub signed_range : (b : ℕ) (bs : List ℕ) → IsOctets (b ∷ bs) → (up (signed (b ∷ bs)) < 128 * 256 ^ length bs) × (down (signed (b ∷ bs)) ≤ 128 * 256 ^ length bs)
+pub signed_range : (b : ℕ) (bs : List ℕ) → IsOctets (b ∷ bs) → (up (signed (b ∷ bs)) < 128 * 256 ^ length bs)
+    × (down (signed (b ∷ bs)) ≤ 128 * 256 ^ length bs)
 signed_range b bs o = ⊎_elim low high (cases_lt b 128)
   where
     p : ℕ
@@ -105,7 +109,8 @@ signed_outside b c bs o d = ⊎_elim low high (cases_lt b 128)
     small : unsigned (c ∷ bs) < 256 ^ length (c ∷ bs)
     small = unsigned_below (c ∷ bs) o.1
 
-    low : b < 128 → (128 * 256 ^ length bs ≤ up (signed (b ∷ c ∷ bs))) ⊎ (128 * 256 ^ length bs < down (signed (b ∷ c ∷ bs)))
+    low : b < 128 → (128 * 256 ^ length bs ≤ up (signed (b ∷ c ∷ bs))) ⊎
+        (128 * 256 ^ length bs < down (signed (b ∷ c ∷ bs)))
     low h = inl (⊎_elim zero_first some_first (cases_lt b 1))
       where
         e : (up (signed (b ∷ c ∷ bs)) ≡ unsigned (b ∷ c ∷ bs)) × (down (signed (b ∷ c ∷ bs)) ≡ 0)
@@ -113,30 +118,36 @@ signed_outside b c bs o d = ⊎_elim low high (cases_lt b 128)
 
         zero_first : b < 1 → 128 * 256 ^ length bs ≤ up (signed (b ∷ c ∷ bs))
         zero_first z =
-            let big : 128 * 256 ^ length bs ≤ c * 256 ^ length bs = mul-le-mul_right (256 ^ length bs) (d.0 (omega arith)) in
+            let big : 128 * 256 ^ length bs ≤ c * 256 ^ length bs =
+                mul-le-mul_right (256 ^ length bs) (d.0 (omega arith)) in
             omega (arith, e, u1, u2, big)
 
         some_first : 1 ≤ b → 128 * 256 ^ length bs ≤ up (signed (b ∷ c ∷ bs))
         some_first z =
-            let big : 1 * 256 ^ length (c ∷ bs) ≤ b * 256 ^ length (c ∷ bs) = mul-le-mul_right (256 ^ length (c ∷ bs)) z in
+            let big : 1 * 256 ^ length (c ∷ bs) ≤ b * 256 ^ length (c ∷ bs) =
+                mul-le-mul_right (256 ^ length (c ∷ bs)) z in
             omega (arith, e, u1, s1, big)
 
-    high : 128 ≤ b → (128 * 256 ^ length bs ≤ up (signed (b ∷ c ∷ bs))) ⊎ (128 * 256 ^ length bs < down (signed (b ∷ c ∷ bs)))
+    high : 128 ≤ b → (128 * 256 ^ length bs ≤ up (signed (b ∷ c ∷ bs))) ⊎
+        (128 * 256 ^ length bs < down (signed (b ∷ c ∷ bs)))
     high h = inr (⊎_elim some_first last_first (cases_lt b 255))
       where
-        e : (up (signed (b ∷ c ∷ bs)) ≡ 0) × (down (signed (b ∷ c ∷ bs)) + unsigned (b ∷ c ∷ bs) ≡ 256 ^ length (b ∷ c ∷ bs))
+        e : (up (signed (b ∷ c ∷ bs)) ≡ 0)
+            × (down (signed (b ∷ c ∷ bs)) + unsigned (b ∷ c ∷ bs) ≡ 256 ^ length (b ∷ c ∷ bs))
         e = high_parts b (c ∷ bs) o h
 
         some_first : b < 255 → 128 * 256 ^ length bs < down (signed (b ∷ c ∷ bs))
         some_first z =
-            let big : b * 256 ^ length (c ∷ bs) ≤ 254 * 256 ^ length (c ∷ bs) = mul-le-mul_right (256 ^ length (c ∷ bs)) (omega arith) in
+            let big : b * 256 ^ length (c ∷ bs) ≤ 254 * 256 ^ length (c ∷ bs) =
+                mul-le-mul_right (256 ^ length (c ∷ bs)) (omega arith) in
             let one : 1 ≤ 256 ^ length bs = one-le-pow (length bs) 256 (omega arith) in
             omega (arith, e, u1, s1, s2, big, small, one)
 
         last_first : 255 ≤ b → 128 * 256 ^ length bs < down (signed (b ∷ c ∷ bs))
         last_first z =
             let is : b ≡ 255 = omega (arith, o.0) in
-            let big : b * 256 ^ length (c ∷ bs) ≡ 255 * 256 ^ length (c ∷ bs) = ap (λ x. x * 256 ^ length (c ∷ bs)) is in
+            let big : b * 256 ^ length (c ∷ bs) ≡ 255 * 256 ^ length (c ∷ bs) =
+                ap (λ x. x * 256 ^ length (c ∷ bs)) is in
             let few = mul-add-lt c (256 ^ length bs) (unsigned bs) 128 (d.1 is) (unsigned_below bs o.1.1) in
             omega (arith, e, u1, u2, s1, s2, big, few)
 
@@ -155,12 +166,15 @@ signed-ones_first c bs h =
 
 pub shortest_from_nine_bits : (o : List ℕ) → IsOctets o → NineBitsDiffer o → IsShortest (signed o) o
 shortest_from_nine_bits [] h d = absurd d
-shortest_from_nine_bits (b ∷ []) h d = record { octets = h; some = omega arith; value = refl; least = λ other _ some _. omega arith }
+shortest_from_nine_bits (b ∷ []) h d =
+    record { octets = h; some = omega arith; value = refl; least = λ other _ some _. omega arith }
 shortest_from_nine_bits (b ∷ c ∷ bs) h d = record { octets = h; some = omega arith; value = refl; least = least }
   where
-    least : (other : List ℕ) → IsOctets other → 0 < length other → signed other ≡ signed (b ∷ c ∷ bs) → length (b ∷ c ∷ bs) ≤ length other
+    least : (other : List ℕ) → IsOctets other → 0 < length other → signed other ≡ signed (b ∷ c ∷ bs)
+        → length (b ∷ c ∷ bs) ≤ length other
     least [] oh some e = absurd (omega arith)
-    least (x ∷ xs) oh some e = ⊎_elim (λ l. absurd (clash l)) (λ l. l) (cases_lt (length (x ∷ xs)) (length (b ∷ c ∷ bs)))
+    least (x ∷ xs) oh some e =
+        ⊎_elim (λ l. absurd (clash l)) (λ l. l) (cases_lt (length (x ∷ xs)) (length (b ∷ c ∷ bs)))
       where
         clash : length (x ∷ xs) < length (b ∷ c ∷ bs) → ⊥
         clash l =
@@ -180,7 +194,8 @@ nine_bits_from_shortest n (b ∷ c ∷ bs) s = (zeros, ones)
       where
         clash : c < 128 → ⊥
         clash l =
-            let v : signed (c ∷ bs) ≡ n = sym (signed-zero_first c bs l) ∙ (ap (λ x. signed (x ∷ c ∷ bs)) (sym e) ∙ s.value) in
+            let v : signed (c ∷ bs) ≡ n = sym (signed-zero_first c bs l)
+                ∙ (ap (λ x. signed (x ∷ c ∷ bs)) (sym e) ∙ s.value) in
             let short : length (b ∷ c ∷ bs) ≤ length (c ∷ bs) = s.least (c ∷ bs) s.octets.1 (omega arith) v in
             omega arith
 
@@ -189,7 +204,8 @@ nine_bits_from_shortest n (b ∷ c ∷ bs) s = (zeros, ones)
       where
         clash : 128 ≤ c → ⊥
         clash l =
-            let v : signed (c ∷ bs) ≡ n = sym (signed-ones_first c bs l) ∙ (ap (λ x. signed (x ∷ c ∷ bs)) (sym e) ∙ s.value) in
+            let v : signed (c ∷ bs) ≡ n = sym (signed-ones_first c bs l)
+                ∙ (ap (λ x. signed (x ∷ c ∷ bs)) (sym e) ∙ s.value) in
             let short : length (b ∷ c ∷ bs) ≤ length (c ∷ bs) = s.least (c ∷ bs) s.octets.1 (omega arith) v in
             omega arith
 
@@ -210,7 +226,8 @@ unsigned_once (x ∷ xs) (y ∷ ys) h k l e =
 
 -- a number has one shortest list
 pub shortest_once : (n : ℤ) (a b : List ℕ) → IsShortest n a → IsShortest n b → a ≡ b
-shortest_once n a b s t = unsigned_once a b s.octets t.octets same (of_signs a b s.octets t.octets s.some t.some same (s.value ∙ sym t.value))
+shortest_once n a b s t =
+    unsigned_once a b s.octets t.octets same (of_signs a b s.octets t.octets s.some t.some same (s.value ∙ sym t.value))
   where
     same : length a ≡ length b
     same =
@@ -218,7 +235,8 @@ shortest_once n a b s t = unsigned_once a b s.octets t.octets same (of_signs a b
         let r : length b ≤ length a = t.least a s.octets s.some s.value in
         omega arith
 
-    of_signs : (a b : List ℕ) → IsOctets a → IsOctets b → 0 < length a → 0 < length b → length a ≡ length b → signed a ≡ signed b → unsigned a ≡ unsigned b
+    of_signs : (a b : List ℕ) → IsOctets a → IsOctets b → 0 < length a → 0 < length b → length a ≡ length b
+        → signed a ≡ signed b → unsigned a ≡ unsigned b
     of_signs [] b h k p q l e = absurd (omega arith)
     of_signs (x ∷ xs) [] h k p q l e = absurd (omega arith)
     of_signs (x ∷ xs) (y ∷ ys) h k p q l e =
@@ -228,13 +246,16 @@ shortest_once n a b s t = unsigned_once a b s.octets t.octets same (of_signs a b
         let bx : unsigned (x ∷ xs) < 256 ^ length (x ∷ xs) = unsigned_below (x ∷ xs) h in
         let by : unsigned (y ∷ ys) < 256 ^ length (y ∷ ys) = unsigned_below (y ∷ ys) k in
         ⊎_elim
-        (λ i. ⊎_elim (λ j. omega (arith, low_parts x xs i, low_parts y ys j)) (λ j. absurd (omega (arith, low_parts x xs i, high_parts y ys k j))) (cases_lt y 128))
-        (λ i. ⊎_elim (λ j. absurd (omega (arith, high_parts x xs h i, low_parts y ys j))) (λ j. omega (arith, high_parts x xs h i, high_parts y ys k j)) (cases_lt y 128))
+        (λ i. ⊎_elim (λ j. omega (arith, low_parts x xs i, low_parts y ys j))
+            (λ j. absurd (omega (arith, low_parts x xs i, high_parts y ys k j))) (cases_lt y 128))
+        (λ i. ⊎_elim (λ j. absurd (omega (arith, high_parts x xs h i, low_parts y ys j)))
+            (λ j. omega (arith, high_parts x xs h i, high_parts y ys k j)) (cases_lt y 128))
         (cases_lt x 128)
 
 -- ---- the order
 
-map_match : (P Q R P' Q' R' : Type 0) (o : Ordering) → (P → P') → (Q → Q') → (R → R') → MatchOrdering o P Q R → MatchOrdering o P' Q' R'
+map_match : (P Q R P' Q' R' : Type 0) (o : Ordering) → (P → P') → (Q → Q') → (R → R') → MatchOrdering o P Q R
+    → MatchOrdering o P' Q' R'
 map_match P Q R P' Q' R' Less f g h m = f m
 map_match P Q R P' Q' R' Equal f g h m = g m
 map_match P Q R P' Q' R' Greater f g h m = h m
@@ -264,16 +285,19 @@ texts_ranked (x ∷ xs) (y ∷ ys) h k l =
     let p : 256 ^ length ys ≡ 256 ^ length xs = ap (λ (n : ℕ). 256 ^ n) (sym same) in
     let small : unsigned ys < 256 ^ length xs = omega (arith, unsigned_below ys k.1, p) in
     let ex : unsigned (x ∷ xs) ≡ x * 256 ^ length xs + unsigned xs = unsigned-cons x xs in
-    let ey : unsigned (y ∷ ys) ≡ y * 256 ^ length xs + unsigned ys = unsigned-cons y ys ∙ ap (λ w. y * w + unsigned ys) p in
+    let ey : unsigned (y ∷ ys) ≡ y * 256 ^ length xs + unsigned ys = unsigned-cons y ys
+        ∙ ap (λ w. y * w + unsigned ys) p in
     map_match _ _ _ _ _ _ (slice_cmp nat_cmp (x ∷ xs) (y ∷ ys))
     (λ (r : x * 256 ^ length xs + unsigned xs < y * 256 ^ length xs + unsigned ys). omega arith)
     (λ (r : x * 256 ^ length xs + unsigned xs ≡ y * 256 ^ length xs + unsigned ys). omega arith)
     (λ (r : y * 256 ^ length xs + unsigned ys < x * 256 ^ length xs + unsigned xs). omega arith)
-    (first_then x y (unsigned xs) (unsigned ys) (256 ^ length xs) (nat_cmp x y) (slice_cmp nat_cmp xs ys) (unsigned_below xs h.1) small
+    (first_then x y (unsigned xs) (unsigned ys) (256 ^ length xs) (nat_cmp x y) (slice_cmp nat_cmp xs ys)
+        (unsigned_below xs h.1) small
     (ranked x y (nat_cmp x y) refl) (texts_ranked xs ys h.1 k.1 same))
 
 -- more octets, a greater distance from 0
-pub farther : (x : ℕ) (xs : List ℕ) (y : ℕ) (ys : List ℕ) → IsOctets (x ∷ xs) → IsOctets (y ∷ ys) → NineBitsDiffer (y ∷ ys) → length xs < length ys →
+pub farther : (x : ℕ) (xs : List ℕ) (y : ℕ) (ys : List ℕ) → IsOctets (x ∷ xs) → IsOctets (y ∷ ys)
+    → NineBitsDiffer (y ∷ ys) → length xs < length ys →
     (up (signed (x ∷ xs)) < up (signed (y ∷ ys))) ⊎ (down (signed (x ∷ xs)) < down (signed (y ∷ ys)))
 farther x xs y [] h k d l = absurd (omega arith)
 farther x xs y (c ∷ cs) h k d l =
@@ -296,7 +320,8 @@ pub octets_ranked : (a b : List ℕ) → IsOctets a → IsOctets b → NineBitsD
 octets_ranked [] b h k d e = absurd d
 octets_ranked (x ∷ xs) [] h k d e = absurd e
 octets_ranked (x ∷ xs) (y ∷ ys) h k d e =
-    ⊎_elim (λ i. ⊎_elim (low_low i) (low_high i) (cases_lt y 128)) (λ i. ⊎_elim (high_low i) (high_high i) (cases_lt y 128)) (cases_lt x 128)
+    ⊎_elim (λ i. ⊎_elim (low_low i) (low_high i) (cases_lt y 128))
+        (λ i. ⊎_elim (high_low i) (high_high i) (cases_lt y 128)) (cases_lt x 128)
   where
     low_high : x < 128 → 128 ≤ y → Ranked (x ∷ xs) (y ∷ ys) (octets_cmp (x ∷ xs) (y ∷ ys))
     low_high i j =
@@ -313,7 +338,12 @@ octets_ranked (x ∷ xs) (y ∷ ys) h k d e =
         rw (le-leb 128 x i, lt-leb 128 y j) (below_in _ _ (omega arith))
 
     low_low : x < 128 → y < 128 → Ranked (x ∷ xs) (y ∷ ys) (octets_cmp (x ∷ xs) (y ∷ ys))
-    low_low i j = rw (lt-leb 128 x i, lt-leb 128 y j) (then_match (length (x ∷ xs)) (length (y ∷ ys)) (signed (x ∷ xs) <ℤ signed (y ∷ ys)) (signed (x ∷ xs) ≡ signed (y ∷ ys)) (signed (y ∷ ys) <ℤ signed (x ∷ xs)) (nat_cmp (length (x ∷ xs)) (length (y ∷ ys))) (slice_cmp nat_cmp (x ∷ xs) (y ∷ ys)) (ranked (length (x ∷ xs)) (length (y ∷ ys)) (nat_cmp (length (x ∷ xs)) (length (y ∷ ys))) refl) less same more)
+    low_low i j =
+        rw (lt-leb 128 x i, lt-leb 128 y j)
+        (then_match (length (x ∷ xs)) (length (y ∷ ys)) (signed (x ∷ xs) <ℤ signed (y ∷ ys))
+        (signed (x ∷ xs) ≡ signed (y ∷ ys)) (signed (y ∷ ys) <ℤ signed (x ∷ xs))
+        (nat_cmp (length (x ∷ xs)) (length (y ∷ ys))) (slice_cmp nat_cmp (x ∷ xs) (y ∷ ys))
+        (ranked (length (x ∷ xs)) (length (y ∷ ys)) (nat_cmp (length (x ∷ xs)) (length (y ∷ ys))) refl) less same more)
       where
         p : (up (signed (x ∷ xs)) ≡ unsigned (x ∷ xs)) × (down (signed (x ∷ xs)) ≡ 0)
         p = low_parts x xs i
@@ -322,10 +352,14 @@ octets_ranked (x ∷ xs) (y ∷ ys) h k d e =
         q = low_parts y ys j
 
         less : length (x ∷ xs) < length (y ∷ ys) → signed (x ∷ xs) <ℤ signed (y ∷ ys)
-        less l = ⊎_elim (λ f. below_in _ _ (omega (arith, p, q))) (λ f. absurd (omega (arith, p, q))) (farther x xs y ys h k e (omega arith))
+        less l =
+            ⊎_elim (λ f. below_in _ _ (omega (arith, p, q))) (λ f. absurd (omega (arith, p, q)))
+            (farther x xs y ys h k e (omega arith))
 
         more : length (y ∷ ys) < length (x ∷ xs) → signed (y ∷ ys) <ℤ signed (x ∷ xs)
-        more l = ⊎_elim (λ f. below_in _ _ (omega (arith, p, q))) (λ f. absurd (omega (arith, p, q))) (farther y ys x xs k h d (omega arith))
+        more l =
+            ⊎_elim (λ f. below_in _ _ (omega (arith, p, q))) (λ f. absurd (omega (arith, p, q)))
+            (farther y ys x xs k h d (omega arith))
 
         same : length (x ∷ xs) ≡ length (y ∷ ys) → Ranked (x ∷ xs) (y ∷ ys) (slice_cmp nat_cmp (x ∷ xs) (y ∷ ys))
         same l = map_match _ _ _ _ _ _ (slice_cmp nat_cmp (x ∷ xs) (y ∷ ys))
@@ -335,7 +369,12 @@ octets_ranked (x ∷ xs) (y ∷ ys) h k d e =
             (texts_ranked (x ∷ xs) (y ∷ ys) h k l)
 
     high_high : 128 ≤ x → 128 ≤ y → Ranked (x ∷ xs) (y ∷ ys) (octets_cmp (x ∷ xs) (y ∷ ys))
-    high_high i j = rw (le-leb 128 x i, le-leb 128 y j) (then_match (length (y ∷ ys)) (length (x ∷ xs)) (signed (x ∷ xs) <ℤ signed (y ∷ ys)) (signed (x ∷ xs) ≡ signed (y ∷ ys)) (signed (y ∷ ys) <ℤ signed (x ∷ xs)) (nat_cmp (length (y ∷ ys)) (length (x ∷ xs))) (slice_cmp nat_cmp (x ∷ xs) (y ∷ ys)) (ranked (length (y ∷ ys)) (length (x ∷ xs)) (nat_cmp (length (y ∷ ys)) (length (x ∷ xs))) refl) less same more)
+    high_high i j =
+        rw (le-leb 128 x i, le-leb 128 y j)
+        (then_match (length (y ∷ ys)) (length (x ∷ xs)) (signed (x ∷ xs) <ℤ signed (y ∷ ys))
+        (signed (x ∷ xs) ≡ signed (y ∷ ys)) (signed (y ∷ ys) <ℤ signed (x ∷ xs))
+        (nat_cmp (length (y ∷ ys)) (length (x ∷ xs))) (slice_cmp nat_cmp (x ∷ xs) (y ∷ ys))
+        (ranked (length (y ∷ ys)) (length (x ∷ xs)) (nat_cmp (length (y ∷ ys)) (length (x ∷ xs))) refl) less same more)
       where
         p : (up (signed (x ∷ xs)) ≡ 0) × (down (signed (x ∷ xs)) + unsigned (x ∷ xs) ≡ 256 ^ length (x ∷ xs))
         p = high_parts x xs h i
@@ -344,10 +383,14 @@ octets_ranked (x ∷ xs) (y ∷ ys) h k d e =
         q = high_parts y ys k j
 
         less : length (y ∷ ys) < length (x ∷ xs) → signed (x ∷ xs) <ℤ signed (y ∷ ys)
-        less l = ⊎_elim (λ f. absurd (omega (arith, p, q))) (λ f. below_in _ _ (omega (arith, p, q))) (farther y ys x xs k h d (omega arith))
+        less l =
+            ⊎_elim (λ f. absurd (omega (arith, p, q))) (λ f. below_in _ _ (omega (arith, p, q)))
+            (farther y ys x xs k h d (omega arith))
 
         more : length (x ∷ xs) < length (y ∷ ys) → signed (y ∷ ys) <ℤ signed (x ∷ xs)
-        more l = ⊎_elim (λ f. absurd (omega (arith, p, q))) (λ f. below_in _ _ (omega (arith, p, q))) (farther x xs y ys h k e (omega arith))
+        more l =
+            ⊎_elim (λ f. absurd (omega (arith, p, q))) (λ f. below_in _ _ (omega (arith, p, q)))
+            (farther x xs y ys h k e (omega arith))
 
         same : length (y ∷ ys) ≡ length (x ∷ xs) → Ranked (x ∷ xs) (y ∷ ys) (slice_cmp nat_cmp (x ∷ xs) (y ∷ ys))
         same l =
@@ -358,13 +401,15 @@ octets_ranked (x ∷ xs) (y ∷ ys) h k d e =
             (λ (r : unsigned (y ∷ ys) < unsigned (x ∷ xs)). below_in _ _ (omega (arith, p, q, w)))
             (texts_ranked (x ∷ xs) (y ∷ ys) h k (sym l))
 
-pub octets_order : (a b : List ℕ) → IsOctets a → IsOctets b → NineBitsDiffer a → NineBitsDiffer b → octets_cmp a b ≡ int_cmp (signed a) (signed b)
+pub octets_order : (a b : List ℕ) → IsOctets a → IsOctets b → NineBitsDiffer a → NineBitsDiffer b
+    → octets_cmp a b ≡ int_cmp (signed a) (signed b)
 octets_order a b h k d e = int_cmp_is (signed a) (signed b) (octets_cmp a b) (octets_ranked a b h k d e)
 
 -- an order and an equality of numbers by their shortest octets
 pub shortest_order : (m n : ℤ) (a b : List ℕ) → IsShortest m a → IsShortest n b → octets_cmp a b ≡ int_cmp m n
 shortest_order m n a b s t =
-    octets_order a b s.octets t.octets (nine_bits_from_shortest m a s) (nine_bits_from_shortest n b t) ∙ (ap (λ x. int_cmp x (signed b)) s.value ∙ ap (int_cmp m) t.value)
+    octets_order a b s.octets t.octets (nine_bits_from_shortest m a s) (nine_bits_from_shortest n b t)
+        ∙ (ap (λ x. int_cmp x (signed b)) s.value ∙ ap (int_cmp m) t.value)
 
 -- ---- places
 
@@ -376,13 +421,16 @@ octets_from_places (b ∷ bs) h = (h 0, octets_from_places bs (λ i. h (suc i)))
 abbrev pub RepeatsSign : ℕ → ℕ → Type 0
 RepeatsSign b c = ((b ≡ 0) × (c < 128)) ⊎ ((b ≡ 255) × (128 ≤ c))
 
-pub without_first : (o : List ℕ) → 2 ≤ length o → RepeatsSign (get_or o 0 0) (get_or o 1 0) → (0 < length (drop 1 o)) × (signed (drop 1 o) ≡ signed o)
+pub without_first : (o : List ℕ) → 2 ≤ length o → RepeatsSign (get_or o 0 0) (get_or o 1 0) → (0 < length (drop 1 o))
+    × (signed (drop 1 o) ≡ signed o)
 without_first [] l r = absurd (omega arith)
 without_first (b ∷ []) l r = absurd (omega arith)
 without_first (b ∷ c ∷ bs) l r =
-    (omega arith, ⊎_elim (λ z. sym (signed-zero_first c bs z.1) ∙ ap (λ x. signed (x ∷ c ∷ bs)) (sym z.0)) (λ z. sym (signed-ones_first c bs z.1) ∙ ap (λ x. signed (x ∷ c ∷ bs)) (sym z.0)) r)
+    (omega arith, ⊎_elim (λ z. sym (signed-zero_first c bs z.1) ∙ ap (λ x. signed (x ∷ c ∷ bs)) (sym z.0))
+        (λ z. sym (signed-ones_first c bs z.1) ∙ ap (λ x. signed (x ∷ c ∷ bs)) (sym z.0)) r)
 
-pub nine_bits_by_places : (o : List ℕ) → 0 < length o → (2 ≤ length o → RepeatsSign (get_or o 0 0) (get_or o 1 0) → ⊥) → NineBitsDiffer o
+pub nine_bits_by_places : (o : List ℕ) → 0 < length o → (2 ≤ length o → RepeatsSign (get_or o 0 0) (get_or o 1 0) → ⊥)
+    → NineBitsDiffer o
 nine_bits_by_places [] l r = absurd (omega arith)
 nine_bits_by_places (b ∷ []) l r = tt
 nine_bits_by_places (b ∷ c ∷ bs) l r = (
@@ -396,14 +444,17 @@ octets-drop (suc k) [] h = h
 octets-drop (suc k) (b ∷ bs) h = octets-drop k bs h.1
 
 -- what is left of the octets is shortest, where its first octet is needed
-pub end_is_shortest : (o rest : List ℕ) (k : ℕ) → ((i : ℕ) → get_or o i 0 < 256) → rest ≡ drop k o → (0 < length rest) × (signed rest ≡ signed o) →
+pub end_is_shortest : (o rest : List ℕ) (k : ℕ) → ((i : ℕ) → get_or o i 0 < 256) → rest ≡ drop k o → (0 < length rest)
+    × (signed rest ≡ signed o) →
     (2 ≤ length rest → RepeatsSign (get_or rest 0 0) (get_or rest 1 0) → ⊥) → IsShortest (signed o) rest
 end_is_shortest o rest k h e s r =
     subst (λ z. IsShortest z rest) s.1
-    (shortest_from_nine_bits rest (subst IsOctets (sym e) (octets-drop k o (octets_from_places o h))) (nine_bits_by_places rest s.0 r))
+    (shortest_from_nine_bits rest (subst IsOctets (sym e) (octets-drop k o (octets_from_places o h)))
+        (nine_bits_by_places rest s.0 r))
 
 -- a turn that leaves out the first octet
-pub next_keeps : (o rest next : List ℕ) (k : ℕ) → next ≡ drop 1 rest → rest ≡ drop k o → 2 ≤ length rest → RepeatsSign (get_or rest 0 0) (get_or rest 1 0) →
+pub next_keeps : (o rest next : List ℕ) (k : ℕ) → next ≡ drop 1 rest → rest ≡ drop k o → 2 ≤ length rest
+    → RepeatsSign (get_or rest 0 0) (get_or rest 1 0) →
     (0 < length o → (0 < length rest) × (signed rest ≡ signed o)) →
     ((x : ℕ) × (x ≤ length o) × (next ≡ drop x o)) × (0 < length o → (0 < length next) × (signed next ≡ signed o))
 next_keeps o rest next k n e l r s =
@@ -415,7 +466,8 @@ next_keeps o rest next k n e l r s =
 
 -- a copy of the shortest octets of a number
 pub copy_is_shortest : (n : ℤ) (o copy : List ℕ) → IsShortest n o → copy ≡ o → IsShortest (signed copy) copy
-copy_is_shortest n o copy s e = subst (λ x. IsShortest (signed x) x) (sym e) (subst (λ z. IsShortest z o) (sym s.value) s)
+copy_is_shortest n o copy s e =
+    subst (λ x. IsShortest (signed x) x) (sym e) (subst (λ z. IsShortest z o) (sym s.value) s)
 
 -- two numbers are equal exactly where their shortest octets are
 pub equal_from_octets : (m n : ℤ) (a b : List ℕ) → IsShortest m a → IsShortest n b → a ≡ b → m ≡ n
@@ -429,36 +481,45 @@ equal_octets m n a b s t e = shortest_once n a b (subst (λ z. IsShortest z a) e
 pub unsigned-zero_first : (bs : List ℕ) → unsigned (0 ∷ bs) ≡ unsigned bs
 unsigned-zero_first bs = unsigned-cons 0 bs ∙ omega arith
 
-pub shortest_unsigned_from_first : (o : List ℕ) → IsOctets o → 0 < length o → (2 ≤ length o → get_or o 0 0 ≡ 0 → ⊥) → IsShortestUnsigned (unsigned o) o
+pub shortest_unsigned_from_first : (o : List ℕ) → IsOctets o → 0 < length o → (2 ≤ length o → get_or o 0 0 ≡ 0 → ⊥)
+    → IsShortestUnsigned (unsigned o) o
 shortest_unsigned_from_first [] h some d = absurd (omega arith)
-shortest_unsigned_from_first (b ∷ []) h some d = record { octets = h; some = some; value = refl; least = λ other _ some' _. omega arith }
+shortest_unsigned_from_first (b ∷ []) h some d =
+    record { octets = h; some = some; value = refl; least = λ other _ some' _. omega arith }
 shortest_unsigned_from_first (b ∷ c ∷ bs) h some d = record { octets = h; some = some; value = refl; least = least }
   where
-    least : (other : List ℕ) → IsOctets other → 0 < length other → unsigned other ≡ unsigned (b ∷ c ∷ bs) → length (b ∷ c ∷ bs) ≤ length other
+    least : (other : List ℕ) → IsOctets other → 0 < length other → unsigned other ≡ unsigned (b ∷ c ∷ bs)
+        → length (b ∷ c ∷ bs) ≤ length other
     least other oh some' e = ⊎_elim (λ l. absurd (clash l)) (λ l. l) (cases_lt (length other) (length (b ∷ c ∷ bs)))
       where
         clash : length other < length (b ∷ c ∷ bs) → ⊥
         clash l =
             let one : 1 ≤ b = ⊎_elim (λ z. absurd (d (omega arith) (omega arith))) (λ z. z) (cases_lt b 1) in
-            let big : 1 * 256 ^ length (c ∷ bs) ≤ b * 256 ^ length (c ∷ bs) = mul-le-mul_right (256 ^ length (c ∷ bs)) one in
+            let big : 1 * 256 ^ length (c ∷ bs) ≤ b * 256 ^ length (c ∷ bs) =
+                mul-le-mul_right (256 ^ length (c ∷ bs)) one in
             let w = unsigned_below other oh in
-            let p : 256 ^ length other ≤ 256 ^ length (c ∷ bs) = pow-le-pow_right (omega arith) {i = length other} {j = length (c ∷ bs)} (omega arith) in
+            let p : 256 ^ length other ≤ 256 ^ length (c ∷ bs) =
+                pow-le-pow_right (omega arith) {i = length other} {j = length (c ∷ bs)} (omega arith) in
             omega (arith, unsigned-cons b (c ∷ bs))
 
 -- the shortest octets of a number that is not negative, without a first zero octet that stands before others
-pub unsigned_after_zero : (n : ℕ) (o rest : List ℕ) → IsShortest (pos n) o → 2 ≤ length o → get_or o 0 0 ≡ 0 → rest ≡ drop 1 o → IsShortestUnsigned n rest
+pub unsigned_after_zero : (n : ℕ) (o rest : List ℕ) → IsShortest (pos n) o → 2 ≤ length o → get_or o 0 0 ≡ 0
+    → rest ≡ drop 1 o → IsShortestUnsigned n rest
 unsigned_after_zero n [] rest s l z e = absurd (omega arith)
 unsigned_after_zero n (b ∷ []) rest s l z e = absurd (omega arith)
 unsigned_after_zero n (b ∷ c ∷ bs) rest s l z e =
     let first : c ≡ 0 → ⊥ = λ w. let k = (nine_bits_from_shortest (pos n) (b ∷ c ∷ bs) s).0 z in omega arith in
     let value : pos (unsigned (b ∷ c ∷ bs)) ≡ pos n = sym (signed_low b (c ∷ bs) (omega arith)) ∙ s.value in
     let number : unsigned (b ∷ c ∷ bs) ≡ n = ap up value in
-    let same : unsigned (c ∷ bs) ≡ n = sym (unsigned-zero_first (c ∷ bs)) ∙ (ap (λ x. unsigned (x ∷ c ∷ bs)) (sym z) ∙ number) in
+    let same : unsigned (c ∷ bs) ≡ n = sym (unsigned-zero_first (c ∷ bs))
+        ∙ (ap (λ x. unsigned (x ∷ c ∷ bs)) (sym z) ∙ number) in
     subst (λ t. IsShortestUnsigned n t) (sym e)
-    (subst (λ m. IsShortestUnsigned m (c ∷ bs)) same (shortest_unsigned_from_first (c ∷ bs) s.octets.1 (omega arith) (λ _ w. first w)))
+    (subst (λ m. IsShortestUnsigned m (c ∷ bs)) same
+        (shortest_unsigned_from_first (c ∷ bs) s.octets.1 (omega arith) (λ _ w. first w)))
 
 -- with no such octet they are shortest without a sign too
-pub unsigned_as_it_is : (n : ℕ) (o : List ℕ) → IsShortest (pos n) o → (2 ≤ length o → get_or o 0 0 ≡ 0 → ⊥) → IsShortestUnsigned n o
+pub unsigned_as_it_is : (n : ℕ) (o : List ℕ) → IsShortest (pos n) o → (2 ≤ length o → get_or o 0 0 ≡ 0 → ⊥)
+    → IsShortestUnsigned n o
 unsigned_as_it_is n [] s d = let some = s.some in absurd (omega arith)
 unsigned_as_it_is n (b ∷ bs) s d = ⊎_elim low high (cases_lt b 128)
   where

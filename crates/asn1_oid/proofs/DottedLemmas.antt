@@ -5,7 +5,8 @@ use Rattle.std.specs.List.{flat_map, join_with_byte}
 use Rattle.std.specs.Fmt.{decimal}
 use Rattle.asn1_oid.specs.Arcs.{full_stop, dotted}
 
-joined : (x : ℕ) (xs : List ℕ) → decimal x ++ flat_map (λ b. full_stop ∷ decimal b) xs ≡ join_with_byte full_stop (map decimal (x ∷ xs))
+joined : (x : ℕ) (xs : List ℕ)
+    → decimal x ++ flat_map (λ b. full_stop ∷ decimal b) xs ≡ join_with_byte full_stop (map decimal (x ∷ xs))
 joined x [] = append-nil (decimal x)
 joined x (y ∷ ys) = ap (λ t. decimal x ++ (full_stop ∷ t)) (joined y ys)
 

@@ -37,50 +37,61 @@ module _ {A : Type 0} where
       let p = read_arcs (contents_reading octets) a in
       let t = arcs_from_reading p.0 octets are p.1 in
       (λ ok. (p.0, t.0, t.1), λ some. refl)
-  ok_iff octets (Err e) are a = (λ ok. absurd cc, λ some. absurd (reading_is_err e some.0 (sym a ∙ contents_read some.0 octets are some.1 some.2)))
+  ok_iff octets (Err e) are a =
+      (λ ok. absurd cc, λ some. absurd (reading_is_err e some.0
+      (sym a ∙ contents_read some.0 octets are some.1 some.2)))
 
   pub large_iff : (octets : List ℕ) (r : Result A ContentsError) → All (λ octet. octet < 256) octets → Agrees octets r
       → (r ≡ Err ArcTooLarge) ↔ ((arcs : List ℕ) × IsContents arcs octets × ¬ (FitU32 arcs))
   large_iff octets (Ok x) are a =
       let p = read_arcs (contents_reading octets) a in
-      (λ e. absurd (no_refusal x ArcTooLarge e), λ some. absurd (reading_is_err ArcTooLarge p.0 (sym (large_read some.0 octets are some.1 some.2) ∙ p.1)))
+      (λ e. absurd (no_refusal x ArcTooLarge e),
+          λ some. absurd (reading_is_err ArcTooLarge p.0 (sym (large_read some.0 octets are some.1 some.2) ∙ p.1)))
   large_iff octets (Err e) are a = (
     λ is. large_from_reading octets are (a ∙ ap (λ (x : ContentsError). Err x) (refusal_is e ArcTooLarge is)),
-    λ some. ap (λ (x : ContentsError). Err x) (same_refusal e ArcTooLarge (sym a ∙ large_read some.0 octets are some.1 some.2)),
+    λ some. ap (λ (x : ContentsError). Err x)
+        (same_refusal e ArcTooLarge (sym a ∙ large_read some.0 octets are some.1 some.2)),
   )
 
   pub none_iff : (octets : List ℕ) (r : Result A ContentsError) → All (λ octet. octet < 256) octets → Agrees octets r
       → (r ≡ Err Malformed) ↔ ((arcs : List ℕ) → ¬ (IsContents arcs octets))
   none_iff octets (Ok x) are a =
       let p = read_arcs (contents_reading octets) a in
-      (λ e. absurd (no_refusal x Malformed e), λ none. absurd (reading_is_err Malformed p.0 (sym (none_read octets are none) ∙ p.1)))
+      (λ e. absurd (no_refusal x Malformed e),
+          λ none. absurd (reading_is_err Malformed p.0 (sym (none_read octets are none) ∙ p.1)))
   none_iff octets (Err e) are a = (
     λ is. none_from_reading octets are (a ∙ ap (λ (x : ContentsError). Err x) (refusal_is e Malformed is)),
     λ none. ap (λ (x : ContentsError). Err x) (same_refusal e Malformed (sym a ∙ none_read octets are none)),
   )
 
-  pub no_memory : (octets : List ℕ) (r : Result A ContentsError) → All (λ octet. octet < 256) octets → Agrees octets r → r ≢ Err Memory
+  pub no_memory : (octets : List ℕ) (r : Result A ContentsError) → All (λ octet. octet < 256) octets → Agrees octets r
+      → r ≢ Err Memory
   no_memory octets (Ok x) are a = λ e. no_refusal x Memory e
-  no_memory octets (Err e) are a = λ is. no_want_of_memory octets are (a ∙ ap (λ (x : ContentsError). Err x) (refusal_is e Memory is))
+  no_memory octets (Err e) are a =
+      λ is. no_want_of_memory octets are (a ∙ ap (λ (x : ContentsError). Err x) (refusal_is e Memory is))
 
 -- ---- where the octets are contents
 
-pub some_arcs : (octets : List ℕ) → All (λ octet. octet < 256) octets → is_ok (contents_reading octets) ≡ true → (arcs : List ℕ) × IsContents arcs octets × FitU32 arcs
+pub some_arcs : (octets : List ℕ) → All (λ octet. octet < 256) octets → is_ok (contents_reading octets) ≡ true
+    → (arcs : List ℕ) × IsContents arcs octets × FitU32 arcs
 some_arcs octets are ok =
     let p = read_arcs (contents_reading octets) ok in
     let t = arcs_from_reading p.0 octets are p.1 in
     (p.0, t.0, t.1)
 
 -- an arc is not too large, and the octets are not malformed
-pub none_large : (octets : List ℕ) → All (λ octet. octet < 256) octets → is_ok (contents_reading octets) ≡ true → ((arcs : List ℕ) × IsContents arcs octets × ¬ (FitU32 arcs)) → ⊥
+pub none_large : (octets : List ℕ) → All (λ octet. octet < 256) octets → is_ok (contents_reading octets) ≡ true
+    → ((arcs : List ℕ) × IsContents arcs octets × ¬ (FitU32 arcs)) → ⊥
 none_large octets are ok some =
     let p = read_arcs (contents_reading octets) ok in
     reading_is_err ArcTooLarge p.0 (sym (large_read some.0 octets are some.1 some.2) ∙ p.1)
 
-pub not_malformed : (octets : List ℕ) → All (λ octet. octet < 256) octets → is_ok (contents_reading octets) ≡ true → ((arcs : List ℕ) → ¬ (IsContents arcs octets)) → ⊥
+pub not_malformed : (octets : List ℕ) → All (λ octet. octet < 256) octets → is_ok (contents_reading octets) ≡ true
+    → ((arcs : List ℕ) → ¬ (IsContents arcs octets)) → ⊥
 not_malformed octets are ok none =
     let p = read_arcs (contents_reading octets) ok in
     reading_is_err Malformed p.0 (sym (none_read octets are none) ∙ p.1)
 
-pub not_refused : (octets arcs : List ℕ) (e : ContentsError) → All (λ octet. octet < 256) octets → contents_reading octets ≡ Err e → IsContents arcs octets → FitU32 arcs → ⊥
+pub not_refused : (octets arcs : List ℕ) (e : ContentsError) → All (λ octet. octet < 256) octets
+    → contents_reading octets ≡ Err e → IsContents arcs octets → FitU32 arcs → ⊥
 not_refused octets arcs e are is c fit = reading_is_err e arcs (sym is ∙ contents_read arcs octets are c fit)

@@ -13,7 +13,8 @@ use Rattle.asn1_oid.specs.ReadingLaws.{ends, goes_on}
 -- ---- one octet
 
 -- the octets from a place on, and those from one place later on
-next_octet : (octets : List ℕ) (i octet : ℕ) → i < length octets → octet ≡ get_or octets i 0 → drop i octets ≡ octet ∷ drop (i + 1) octets
+next_octet : (octets : List ℕ) (i octet : ℕ) → i < length octets → octet ≡ get_or octets i 0
+    → drop i octets ≡ octet ∷ drop (i + 1) octets
 next_octet octets i octet lt is = drop_more octets i 0 lt ∙ ap (λ (k : ℕ). k ∷ drop (i + 1) octets) (sym is)
 
 begins_with_80 : (n : ℕ) (rest : List ℕ) → numbers_from false n (128 ∷ rest) ≡ None
@@ -33,7 +34,8 @@ pub record Gathers (octets : List ℕ) (place i told cap : ℕ) : Type 0 where
   pub since : place ≤ i
   pub read : numbers_of (drop place octets) ≡ numbers_from (ltb place i) number (drop i octets)
 
-pub gathers_more : (octets : List ℕ) (place i told octet cap : ℕ) → 1 ≤ cap → Gathers octets place i told cap → i < length octets → octet ≡ get_or octets i 0 → 128 ≤ octet
+pub gathers_more : (octets : List ℕ) (place i told octet cap : ℕ) → 1 ≤ cap → Gathers octets place i told cap
+    → i < length octets → octet ≡ get_or octets i 0 → 128 ≤ octet
     → (i ≡ place → octet ≢ 128) → Gathers octets place (i + 1) (min (128 * told + octet % 128) cap) cap
 gathers_more octets place i told octet cap some g lt is ge first = record {
   number = 128 * g.number + octet % 128;
@@ -44,34 +46,42 @@ gathers_more octets place i told octet cap some g lt is ge first = record {
       let h = g.since in
       let begun : ltb place (i + 1) ≡ true = lt-ltb place (i + 1) (omega arith) in
       let here : ltb place i ≡ false → octet ≢ 128 = λ f. (let le = ltb-false place i f in first (omega arith)) in
-      g.read ∙ ap (numbers_from (ltb place i) g.number) (next_octet octets i octet lt is) ∙ goes_on (ltb place i) g.number octet (drop (i + 1) octets) ge here
+      g.read ∙ ap (numbers_from (ltb place i) g.number) (next_octet octets i octet lt is)
+          ∙ goes_on (ltb place i) g.number octet (drop (i + 1) octets) ge here
       ∙ ap (λ (b : Bool). numbers_from b m (drop (i + 1) octets)) (sym begun);
 }
 
-pub stands : (octets : List ℕ) (place i told octet cap : ℕ) → 1 ≤ cap → Gathers octets place i told cap → i < length octets → octet ≡ get_or octets i 0 → octet < 128
+pub stands : (octets : List ℕ) (place i told octet cap : ℕ) → 1 ≤ cap → Gathers octets place i told cap
+    → i < length octets → octet ≡ get_or octets i 0 → octet < 128
     → Stands octets place (min (128 * told + octet % 128) cap) (i + 1) cap
 stands octets place i told octet cap some g lt is small = record {
   number = 128 * g.number + octet % 128;
   as_told = let t = g.as_told in omega arith;
   later = let h = g.since in omega arith;
   within = omega arith;
-  read = g.read ∙ ap (numbers_from (ltb place i) g.number) (next_octet octets i octet lt is) ∙ ends (ltb place i) g.number octet (drop (i + 1) octets) small;
+  read = g.read ∙ ap (numbers_from (ltb place i) g.number) (next_octet octets i octet lt is)
+      ∙ ends (ltb place i) g.number octet (drop (i + 1) octets) small;
 }
 
 -- nothing is read where the first octet is 80
-pub none_from_80 : (octets : List ℕ) (place octet : ℕ) → place < length octets → octet ≡ get_or octets place 0 → octet ≡ 128 → numbers_of (drop place octets) ≡ None
+pub none_from_80 : (octets : List ℕ) (place octet : ℕ) → place < length octets → octet ≡ get_or octets place 0
+    → octet ≡ 128 → numbers_of (drop place octets) ≡ None
 none_from_80 octets place octet lt is e =
-    ap (numbers_from false 0) (next_octet octets place octet lt is ∙ ap (λ (k : ℕ). k ∷ drop (place + 1) octets) e) ∙ begins_with_80 0 (drop (place + 1) octets)
+    ap (numbers_from false 0) (next_octet octets place octet lt is ∙ ap (λ (k : ℕ). k ∷ drop (place + 1) octets) e)
+        ∙ begins_with_80 0 (drop (place + 1) octets)
 
 -- nor where the octets end first
-pub none_from_end : (octets : List ℕ) (place i told cap : ℕ) → Gathers octets place i told cap → place < length octets → length octets ≤ i → numbers_of (drop place octets) ≡ None
+pub none_from_end : (octets : List ℕ) (place i told cap : ℕ) → Gathers octets place i told cap → place < length octets
+    → length octets ≤ i → numbers_of (drop place octets) ≡ None
 none_from_end octets place i told cap g lt le =
     let begun : ltb place i ≡ true = lt-ltb place i (omega arith) in
-    g.read ∙ ap (λ (b : Bool). numbers_from b g.number (drop i octets)) begun ∙ ap (numbers_from true g.number) (drop_all i octets le) ∙ unended g.number
+    g.read ∙ ap (λ (b : Bool). numbers_from b g.number (drop i octets)) begun
+        ∙ ap (numbers_from true g.number) (drop_all i octets le) ∙ unended g.number
 
 -- ---- subidentifiers one after another
 
-behind_more : (front : List ℕ) (n : ℕ) (r : Option (List ℕ)) → behind front (behind (n ∷ []) r) ≡ behind (front ++ n ∷ []) r
+behind_more : (front : List ℕ) (n : ℕ) (r : Option (List ℕ))
+    → behind front (behind (n ∷ []) r) ≡ behind (front ++ n ∷ []) r
 behind_more front n (Some ns) = ap (λ (l : List ℕ). Some l) (sym (append_assoc front (n ∷ []) ns))
 behind_more front n None = refl
 
@@ -98,30 +108,38 @@ pub record Walks (octets : List ℕ) (place : ℕ) (fit : Bool) : Type 0 where
   pub within : place ≤ length octets
   pub read : numbers_of octets ≡ behind (first ∷ others) (numbers_of (drop place octets))
 
-pub walks_more : (octets : List ℕ) (place told next : ℕ) (fit : Bool) → Walks octets place fit → Stands octets place told next 4294967376 → Walks octets next (fit && leb told 4294967295)
+pub walks_more : (octets : List ℕ) (place told next : ℕ) (fit : Bool) → Walks octets place fit
+    → Stands octets place told next 4294967376 → Walks octets next (fit && leb told 4294967295)
 walks_more octets place told next fit w s = record {
   first = w.first;
   others = w.others ++ s.number ∷ [];
   tested =
-      let last : leb told 4294967295 ≡ other_fits s.number = same_test told s.number 4294967295 (let t = s.as_told in λ le. omega arith) (let t = s.as_told in λ le. omega arith) in
-      ap (λ (b : Bool). b && leb told 4294967295) w.tested ∙ ap (λ (b : Bool). (leb w.first largest_first && list_all other_fits w.others) && b) last
+      let last : leb told 4294967295 ≡ other_fits s.number =
+          same_test told s.number 4294967295 (let t = s.as_told in λ le. omega arith)
+          (let t = s.as_told in λ le. omega arith) in
+      ap (λ (b : Bool). b && leb told 4294967295) w.tested
+          ∙ ap (λ (b : Bool). (leb w.first largest_first && list_all other_fits w.others) && b) last
       ∙ three (leb w.first largest_first) (list_all other_fits w.others) (other_fits s.number)
       ∙ ap (λ (b : Bool). leb w.first largest_first && b) (sym (list_all-append other_fits w.others (s.number ∷ [])));
   within = s.within;
-  read = w.read ∙ ap (behind (w.first ∷ w.others)) s.read ∙ behind_more (w.first ∷ w.others) s.number (numbers_of (drop next octets));
+  read = w.read ∙ ap (behind (w.first ∷ w.others)) s.read
+      ∙ behind_more (w.first ∷ w.others) s.number (numbers_of (drop next octets));
 }
 
-numbers_at_end : (octets : List ℕ) (place : ℕ) (fit : Bool) (w : Walks octets place fit) → length octets ≤ place → numbers_of octets ≡ Some (w.first ∷ w.others)
+numbers_at_end : (octets : List ℕ) (place : ℕ) (fit : Bool) (w : Walks octets place fit) → length octets ≤ place
+    → numbers_of octets ≡ Some (w.first ∷ w.others)
 unfolding numbers_from
 numbers_at_end octets place fit w le =
     w.read ∙ ap (λ (l : List ℕ). behind (w.first ∷ w.others) (numbers_of l)) (drop_all place octets le)
     ∙ ap (λ (l : List ℕ). Some l) (append-nil (w.first ∷ w.others))
 
-pub reads_all : (octets : List ℕ) (place : ℕ) → Walks octets place true → length octets ≤ place → is_ok (contents_reading octets) ≡ true
+pub reads_all : (octets : List ℕ) (place : ℕ) → Walks octets place true → length octets ≤ place
+    → is_ok (contents_reading octets) ≡ true
 unfolding contents_reading
 reads_all octets place w le = rw (numbers_at_end octets place true w le, sym w.tested) refl
 
-pub reads_large : (octets : List ℕ) (place : ℕ) → Walks octets place false → length octets ≤ place → contents_reading octets ≡ Err ArcTooLarge
+pub reads_large : (octets : List ℕ) (place : ℕ) → Walks octets place false → length octets ≤ place
+    → contents_reading octets ≡ Err ArcTooLarge
 unfolding contents_reading
 reads_large octets place w le = rw (numbers_at_end octets place false w le, sym w.tested) refl
 
@@ -133,7 +151,8 @@ pub reads_empty : (octets : List ℕ) → octets ≡ [] → contents_reading oct
 unfolding contents_reading numbers_from
 reads_empty octets e = rw e refl
 
-pub stops : (octets : List ℕ) (place : ℕ) (fit : Bool) → Walks octets place fit → numbers_of (drop place octets) ≡ None → contents_reading octets ≡ Err Malformed
+pub stops : (octets : List ℕ) (place : ℕ) (fit : Bool) → Walks octets place fit → numbers_of (drop place octets) ≡ None
+    → contents_reading octets ≡ Err Malformed
 stops octets place fit w e = reads_none octets (w.read ∙ ap (behind (w.first ∷ w.others)) e)
 
 -- ---- arcs that are gathered
@@ -159,14 +178,18 @@ tested (Some (n ∷ numbers)) e = by_test (leb n largest_first && list_all other
 -- the first number fits, and one behind others
 first_fits : (n : ℕ) (front : List ℕ) (r : Option (List ℕ)) → test_of (behind (n ∷ front) r) ≡ true → n ≤ largest_first
 unfolding test_of
-first_fits n front (Some ns) e = leb-true n largest_first (and_parts (leb n largest_first) (list_all other_fits (front ++ ns)) e).0
+first_fits n front (Some ns) e =
+    leb-true n largest_first (and_parts (leb n largest_first) (list_all other_fits (front ++ ns)) e).0
 first_fits n front None e = absurd cc
 
-next_fits : (first : ℕ) (others : List ℕ) (n : ℕ) (r : Option (List ℕ)) → test_of (behind (first ∷ others) (behind (n ∷ []) r)) ≡ true → n ≤ 4294967295
+next_fits : (first : ℕ) (others : List ℕ) (n : ℕ) (r : Option (List ℕ))
+    → test_of (behind (first ∷ others) (behind (n ∷ []) r)) ≡ true → n ≤ 4294967295
 unfolding test_of
 next_fits first others n (Some ns) e =
     let p = and_parts (leb first largest_first) (list_all other_fits (others ++ n ∷ ns)) e in
-    let q = and_parts (list_all other_fits others) (list_all other_fits (n ∷ ns)) (sym (list_all-append other_fits others (n ∷ ns)) ∙ p.1) in
+    let q =
+        and_parts (list_all other_fits others) (list_all other_fits (n ∷ ns))
+        (sym (list_all-append other_fits others (n ∷ ns)) ∙ p.1) in
     leb-true n 4294967295 (and_parts (other_fits n) (list_all other_fits ns) q.1).0
 next_fits first others n None e = absurd cc
 
@@ -178,22 +201,30 @@ pub record Gathered (octets : List ℕ) (place : ℕ) (items : List ℕ) : Type 
   pub within : place ≤ length octets
   pub read : numbers_of octets ≡ behind (first ∷ others) (numbers_of (drop place octets))
 
-pub first_told : (octets : List ℕ) (told next : ℕ) → is_ok (contents_reading octets) ≡ true → (s : Stands octets 0 told next 4294967376) → (told ≡ s.number) × (told ≤ largest_first)
+pub first_told : (octets : List ℕ) (told next : ℕ) → is_ok (contents_reading octets) ≡ true
+    → (s : Stands octets 0 told next 4294967376) → (told ≡ s.number) × (told ≤ largest_first)
 unfolding contents_reading
 first_told octets told next ok s =
-    let fits = first_fits s.number [] (numbers_of (drop next octets)) (sym (ap test_of s.read) ∙ tested (numbers_of octets) ok) in
+    let fits =
+        first_fits s.number [] (numbers_of (drop next octets))
+        (sym (ap test_of s.read) ∙ tested (numbers_of octets) ok) in
     let t = s.as_told in
     (omega arith, omega arith)
 
-pub next_told : (octets : List ℕ) (place told next : ℕ) (items : List ℕ) → is_ok (contents_reading octets) ≡ true → (w : Gathered octets place items) (s : Stands octets place told next 4294967376) → (told ≡ s.number) × (told ≤ 4294967295)
+pub next_told : (octets : List ℕ) (place told next : ℕ) (items : List ℕ) → is_ok (contents_reading octets) ≡ true
+    → (w : Gathered octets place items) (s : Stands octets place told next 4294967376) → (told ≡ s.number)
+    × (told ≤ 4294967295)
 unfolding contents_reading
 next_told octets place told next items ok w s =
     let read = w.read ∙ ap (behind (w.first ∷ w.others)) s.read in
-    let fits = next_fits w.first w.others s.number (numbers_of (drop next octets)) (sym (ap test_of read) ∙ tested (numbers_of octets) ok) in
+    let fits =
+        next_fits w.first w.others s.number (numbers_of (drop next octets))
+        (sym (ap test_of read) ∙ tested (numbers_of octets) ok) in
     let t = s.as_told in
     (omega arith, omega arith)
 
-pub gathered_first : (octets : List ℕ) (told next : ℕ) (items : List ℕ) → is_ok (contents_reading octets) ≡ true → Stands octets 0 told next 4294967376
+pub gathered_first : (octets : List ℕ) (told next : ℕ) (items : List ℕ) → is_ok (contents_reading octets) ≡ true
+    → Stands octets 0 told next 4294967376
     → items ≡ first_arc told ∷ second_arc told ∷ [] → Gathered octets next items
 gathered_first octets told next items ok s is =
     let p = first_told octets told next ok s in
@@ -205,25 +236,30 @@ gathered_first octets told next items ok s is =
       read = s.read;
     }
 
-pub gathered_more : (octets : List ℕ) (place told next : ℕ) (items more : List ℕ) → is_ok (contents_reading octets) ≡ true → Gathered octets place items → Stands octets place told next 4294967376
+pub gathered_more : (octets : List ℕ) (place told next : ℕ) (items more : List ℕ)
+    → is_ok (contents_reading octets) ≡ true → Gathered octets place items → Stands octets place told next 4294967376
     → more ≡ items ++ told ∷ [] → Gathered octets next more
 gathered_more octets place told next items more ok w s is =
     let p = next_told octets place told next items ok w s in
     record {
       first = w.first;
       others = w.others ++ s.number ∷ [];
-      arcs = is ∙ ap (λ (l : List ℕ). l ++ told ∷ []) w.arcs ∙ ap (λ (k : ℕ). first_arc w.first ∷ second_arc w.first ∷ (w.others ++ k ∷ [])) p.0;
+      arcs = is ∙ ap (λ (l : List ℕ). l ++ told ∷ []) w.arcs
+          ∙ ap (λ (k : ℕ). first_arc w.first ∷ second_arc w.first ∷ (w.others ++ k ∷ [])) p.0;
       within = s.within;
-      read = w.read ∙ ap (behind (w.first ∷ w.others)) s.read ∙ behind_more (w.first ∷ w.others) s.number (numbers_of (drop next octets));
+      read = w.read ∙ ap (behind (w.first ∷ w.others)) s.read
+          ∙ behind_more (w.first ∷ w.others) s.number (numbers_of (drop next octets));
     }
 
-reads_arcs_of : (r : Option (List ℕ)) (first : ℕ) (others : List ℕ) → is_ok (arcs_of_numbers r) ≡ true → r ≡ Some (first ∷ others) → arcs_of_numbers r ≡ Ok (first_arc first ∷ second_arc first ∷ others)
+reads_arcs_of : (r : Option (List ℕ)) (first : ℕ) (others : List ℕ) → is_ok (arcs_of_numbers r) ≡ true
+    → r ≡ Some (first ∷ others) → arcs_of_numbers r ≡ Ok (first_arc first ∷ second_arc first ∷ others)
 unfolding test_of
 reads_arcs_of r first others ok e =
     let t : (leb first largest_first && list_all other_fits others) ≡ true = sym (ap test_of e) ∙ tested r ok in
     rw (e, t) refl
 
-pub gathers_all : (octets : List ℕ) (place : ℕ) (items : List ℕ) → is_ok (contents_reading octets) ≡ true → Gathered octets place items → length octets ≤ place → contents_reading octets ≡ Ok items
+pub gathers_all : (octets : List ℕ) (place : ℕ) (items : List ℕ) → is_ok (contents_reading octets) ≡ true
+    → Gathered octets place items → length octets ≤ place → contents_reading octets ≡ Ok items
 unfolding contents_reading numbers_from
 gathers_all octets place items ok w le =
     let all : numbers_of octets ≡ Some (w.first ∷ w.others) =
@@ -232,18 +268,22 @@ gathers_all octets place items ok w le =
     reads_arcs_of (numbers_of octets) w.first w.others ok all ∙ ap (λ (l : List ℕ). Ok l) (sym w.arcs)
 
 -- a subidentifier stands where one is expected
-no_reading : (octets : List ℕ) (x : ContentsError) → is_ok (contents_reading octets) ≡ true → contents_reading octets ≡ Err x → ⊥
+no_reading : (octets : List ℕ) (x : ContentsError) → is_ok (contents_reading octets) ≡ true
+    → contents_reading octets ≡ Err x → ⊥
 no_reading octets x ok e = err_is_not_ok (contents_reading octets) x ok e
   where
     err_is_not_ok : (r : Result (List ℕ) ContentsError) (x : ContentsError) → is_ok r ≡ true → r ≡ Err x → ⊥
     err_is_not_ok (Ok arcs) x ok e = cc
     err_is_not_ok (Err y) x ok e = absurd cc
 
-pub some_stands : (octets : List ℕ) → is_ok (contents_reading octets) ≡ true → (0 < length octets → numbers_of octets ≡ None) → ⊥
+pub some_stands : (octets : List ℕ) → is_ok (contents_reading octets) ≡ true
+    → (0 < length octets → numbers_of octets ≡ None) → ⊥
 some_stands octets ok none = elim (cases_lt 0 (length octets)) [
   | inl lt ↦ no_reading octets Malformed ok (reads_none octets (none lt))
   | inr le ↦ no_reading octets Malformed ok (reads_empty octets (nil_from_length octets (omega arith)))
 ]
 
-pub next_stands : (octets : List ℕ) (place : ℕ) (items : List ℕ) → is_ok (contents_reading octets) ≡ true → Gathered octets place items → numbers_of (drop place octets) ≡ None → ⊥
-next_stands octets place items ok w none = no_reading octets Malformed ok (reads_none octets (w.read ∙ ap (behind (w.first ∷ w.others)) none))
+pub next_stands : (octets : List ℕ) (place : ℕ) (items : List ℕ) → is_ok (contents_reading octets) ≡ true
+    → Gathered octets place items → numbers_of (drop place octets) ≡ None → ⊥
+next_stands octets place items ok w none =
+    no_reading octets Malformed ok (reads_none octets (w.read ∙ ap (behind (w.first ∷ w.others)) none))

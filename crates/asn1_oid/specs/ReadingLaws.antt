@@ -14,12 +14,14 @@ use Rattle.asn1_oid.specs.Reading.{behind, numbers_from, numbers_of, first_arc, 
 
 -- ---- one octet
 
-pub ends : (begun : Bool) (n octet : ℕ) (rest : List ℕ) → octet < 128 → numbers_from begun n (octet ∷ rest) ≡ behind ((128 * n + octet % 128) ∷ []) (numbers_of rest)
+pub ends : (begun : Bool) (n octet : ℕ) (rest : List ℕ) → octet < 128
+    → numbers_from begun n (octet ∷ rest) ≡ behind ((128 * n + octet % 128) ∷ []) (numbers_of rest)
 unfolding numbers_from
 ends true n octet rest lt = rw (lt-ltb _ _ lt) refl
 ends false n octet rest lt = rw (ne_eqb octet 128 (λ e. omega arith), lt-ltb _ _ lt) refl
 
-pub goes_on : (begun : Bool) (n octet : ℕ) (rest : List ℕ) → 128 ≤ octet → (begun ≡ false → octet ≢ 128) → numbers_from begun n (octet ∷ rest) ≡ numbers_from true (128 * n + octet % 128) rest
+pub goes_on : (begun : Bool) (n octet : ℕ) (rest : List ℕ) → 128 ≤ octet → (begun ≡ false → octet ≢ 128)
+    → numbers_from begun n (octet ∷ rest) ≡ numbers_from true (128 * n + octet % 128) rest
 unfolding numbers_from
 goes_on true n octet rest ge first = rw (le-ltb _ _ ge) refl
 goes_on false n octet rest ge first = rw (ne_eqb octet 128 (first refl), le-ltb _ _ ge) refl
@@ -60,7 +62,8 @@ none_is_no_some ns e = cc
 same_numbers : (ms ns : List ℕ) → ◌≡◌ {A = Option (List ℕ)} (Some ms) (Some ns) → ms ≡ ns
 same_numbers ms ns e = cc
 
-behind_some : (n : ℕ) (r : Option (List ℕ)) (ns : List ℕ) → behind (n ∷ []) r ≡ Some ns → (ms : List ℕ) × (r ≡ Some ms) × (n ∷ ms ≡ ns)
+behind_some : (n : ℕ) (r : Option (List ℕ)) (ns : List ℕ) → behind (n ∷ []) r ≡ Some ns → (ms : List ℕ) × (r ≡ Some ms)
+    × (n ∷ ms ≡ ns)
 behind_some n (Some ms) ns e = (ms, refl, same_numbers _ _ e)
 behind_some n None ns e = absurd (none_is_no_some _ e)
 
@@ -79,7 +82,8 @@ not_80 true octet e f = absurd cc
 not_80 false octet e f = eqb-false octet 128 e
 
 -- an octet that ends a subidentifier
-ended : (begun : Bool) (n octet : ℕ) (octets ms ns : List ℕ) → octet < 128 → AreSubidentifiers ms octets → (128 * n + octet % 128) ∷ ms ≡ ns
+ended : (begun : Bool) (n octet : ℕ) (octets ms ns : List ℕ) → octet < 128 → AreSubidentifiers ms octets
+    → (128 * n + octet % 128) ∷ ms ≡ ns
     → (begun ≡ false → octet ≢ 128) → Walked begun n ns (octet ∷ octets)
 unfolding Walked base_128
 ended true n octet octets ms ns lt rest these first = record {
@@ -94,11 +98,13 @@ ended true n octet octets ms ns lt rest these first = record {
   parts = refl;
 }
 ended false n octet octets ms ns lt rest these first = λ z.
-    let one : IsSubidentifier (128 * n + octet % 128) (octet ∷ []) = record { series = inl (lt, refl); value = omega arith; fewest = first refl } in
+    let one : IsSubidentifier (128 * n + octet % 128) (octet ∷ []) =
+        record { series = inl (lt, refl); value = omega arith; fewest = first refl } in
     subst (λ (l : List ℕ). AreSubidentifiers l (octet ∷ octets)) these (octet ∷ [], octets, one, rest, refl)
 
 -- an octet before others of its subidentifier
-continued : (begun : Bool) (n octet : ℕ) (octets ns : List ℕ) → 128 ≤ octet → octet < 256 → (begun ≡ false → octet ≢ 128)
+continued : (begun : Bool) (n octet : ℕ) (octets ns : List ℕ) → 128 ≤ octet → octet < 256
+    → (begun ≡ false → octet ≢ 128)
     → GoesOn (128 * n + octet % 128) ns octets → Walked begun n ns (octet ∷ octets)
 unfolding Walked base_128
 continued true n octet octets ns ge lt first g = record {
@@ -107,18 +113,23 @@ continued true n octet octets ns ge lt first g = record {
   front = octet ∷ g.front;
   rest = g.rest;
   series = inr (ge, lt, g.series);
-  value = g.value ∙ grown n (octet % 128) (128 ^ length g.front) (base_128 g.front) ∙ ap (λ (k : ℕ). n * k + (octet % 128 * 128 ^ length g.front + base_128 g.front)) (power (length g.front));
+  value = g.value ∙ grown n (octet % 128) (128 ^ length g.front) (base_128 g.front)
+      ∙ ap (λ (k : ℕ). n * k + (octet % 128 * 128 ^ length g.front + base_128 g.front)) (power (length g.front));
   of_rest = g.of_rest;
   these = g.these;
   parts = ap (λ (l : List ℕ). octet ∷ l) g.parts;
 }
 continued false n octet octets ns ge lt first g = λ z.
     let none : 128 * n + octet % 128 ≡ octet % 128 = omega arith in
-    let value : base_128 (octet ∷ g.front) ≡ g.number = sym (g.value ∙ ap (λ (k : ℕ). k * 128 ^ length g.front + base_128 g.front) none) in
-    let one : IsSubidentifier g.number (octet ∷ g.front) = record { series = inr (ge, lt, g.series); value = value; fewest = first refl } in
-    subst (λ (l : List ℕ). AreSubidentifiers l (octet ∷ octets)) (sym g.these) (octet ∷ g.front, g.rest, one, g.of_rest, ap (λ (l : List ℕ). octet ∷ l) g.parts)
+    let value : base_128 (octet ∷ g.front) ≡ g.number =
+        sym (g.value ∙ ap (λ (k : ℕ). k * 128 ^ length g.front + base_128 g.front) none) in
+    let one : IsSubidentifier g.number (octet ∷ g.front) =
+        record { series = inr (ge, lt, g.series); value = value; fewest = first refl } in
+    subst (λ (l : List ℕ). AreSubidentifiers l (octet ∷ octets)) (sym g.these)
+        (octet ∷ g.front, g.rest, one, g.of_rest, ap (λ (l : List ℕ). octet ∷ l) g.parts)
 
-walked : (begun : Bool) (n : ℕ) (octets ns : List ℕ) → All (λ octet. octet < 256) octets → numbers_from begun n octets ≡ Some ns → Walked begun n ns octets
+walked : (begun : Bool) (n : ℕ) (octets ns : List ℕ) → All (λ octet. octet < 256) octets
+    → numbers_from begun n octets ≡ Some ns → Walked begun n ns octets
 unfolding numbers_from Walked no_numbers
 walked true n [] ns are e = absurd (none_is_no_some ns e)
 walked false n [] ns are e = λ z. subst (λ (l : List ℕ). AreSubidentifiers l []) (same_numbers [] ns e) refl
@@ -126,19 +137,25 @@ walked begun n (octet ∷ octets) ns are e =
     let small : octet < 256 = All-head (λ octet. octet < 256) octet octets are in
     let others : All (λ octet. octet < 256) octets = All-tail (λ octet. octet < 256) octet octets are in
     let m : ℕ = 128 * n + octet % 128 in
-    elim (picked (not begun && eqb octet 128) no_numbers (cond (ltb octet 128) (behind (m ∷ []) (numbers_from false 0 octets)) (numbers_from true m octets)) (Some ns) e) [
+    elim (picked (not begun && eqb octet 128) no_numbers
+        (cond (ltb octet 128) (behind (m ∷ []) (numbers_from false 0 octets)) (numbers_from true m octets)) (Some ns) e)
+        [
       | inl h ↦ absurd (none_is_no_some ns h.1)
       | inr h ↦
           let first : begun ≡ false → octet ≢ 128 = not_80 begun octet h.0 in
-          elim (picked (ltb octet 128) (behind (m ∷ []) (numbers_from false 0 octets)) (numbers_from true m octets) (Some ns) h.1) [
+          elim (picked (ltb octet 128) (behind (m ∷ []) (numbers_from false 0 octets)) (numbers_from true m octets)
+              (Some ns) h.1) [
             | inl g ↦
                 let b = behind_some m (numbers_from false 0 octets) ns g.1 in
-                ended begun n octet octets b.0 ns (ltb-true _ _ g.0) (walked false 0 octets b.0 others b.1 refl) b.2 first
-            | inr g ↦ continued begun n octet octets ns (ltb-false _ _ g.0) small first (walked true m octets ns others g.1)
+                ended begun n octet octets b.0 ns (ltb-true _ _ g.0) (walked false 0 octets b.0 others b.1 refl) b.2
+                    first
+            | inr g ↦ continued begun n octet octets ns (ltb-false _ _ g.0) small first
+                (walked true m octets ns others g.1)
           ]
     ]
 
-pub subidentifiers_read : (octets ns : List ℕ) → All (λ octet. octet < 256) octets → numbers_of octets ≡ Some ns → AreSubidentifiers ns octets
+pub subidentifiers_read : (octets ns : List ℕ) → All (λ octet. octet < 256) octets → numbers_of octets ≡ Some ns
+    → AreSubidentifiers ns octets
 unfolding Walked
 subidentifiers_read octets ns are e = walked false 0 octets ns are e refl
 
@@ -154,7 +171,8 @@ one_read begun n (octet ∷ []) rest (inl p) first =
 one_read begun n (octet ∷ next ∷ octets) rest (inl p) first = absurd cc
 one_read begun n (octet ∷ octets) rest (inr p) first =
     let m : ℕ = 128 * n + octet % 128 in
-    let value : m * 128 ^ length octets + base_128 octets ≡ n * 128 ^ suc (length octets) + (octet % 128 * 128 ^ length octets + base_128 octets) =
+    let value : m * 128 ^ length octets + base_128 octets ≡ n * 128 ^ suc (length octets) +
+        (octet % 128 * 128 ^ length octets + base_128 octets) =
     grown n (octet % 128) (128 ^ length octets) (base_128 octets)
     ∙ ap (λ (k : ℕ). n * k + (octet % 128 * 128 ^ length octets + base_128 octets)) (power (length octets)) in
     goes_on begun n octet (octets ++ rest) p.0 first
@@ -176,7 +194,8 @@ subidentifiers_are_read (n ∷ ns) octets s =
 -- ---- arcs of numbers, and numbers of arcs
 
 pub numbers_back : (n : ℕ) (ns : List ℕ) → subidentifiers (first_arc n ∷ second_arc n ∷ ns) ≡ n ∷ ns
-numbers_back n ns = ap (λ (k : ℕ). k ∷ ns) (let e : 40 * min (n / 40) 2 + (n - 40 * min (n / 40) 2) ≡ n = omega arith in e)
+numbers_back n ns =
+    ap (λ (k : ℕ). k ∷ ns) (let e : 40 * min (n / 40) 2 + (n - 40 * min (n / 40) 2) ≡ n = omega arith in e)
 
 pub valid_back : (n : ℕ) (ns : List ℕ) → IsValidArcs (first_arc n ∷ second_arc n ∷ ns)
 valid_back n ns = record { some = omega arith; first = omega arith; second = λ lt more. omega arith }
@@ -187,7 +206,8 @@ first_back x y le small = elim (cases_lt x 2) [
   | inr ge ↦ omega arith
 ]
 
-pub arcs_back : (x y : ℕ) (arcs : List ℕ) → IsValidArcs (x ∷ y ∷ arcs) → first_arc (40 * x + y) ∷ second_arc (40 * x + y) ∷ arcs ≡ x ∷ y ∷ arcs
+pub arcs_back : (x y : ℕ) (arcs : List ℕ) → IsValidArcs (x ∷ y ∷ arcs)
+    → first_arc (40 * x + y) ∷ second_arc (40 * x + y) ∷ arcs ≡ x ∷ y ∷ arcs
 arcs_back x y arcs v =
     let le : x ≤ 2 = v.first in
     let small : x < 2 → y ≤ 39 = λ lt. v.second lt (omega arith) in
@@ -210,27 +230,32 @@ others_test (n ∷ ns) fit =
     let lt : n < 2 ^ 32 = All-head (λ arc. arc < 2 ^ 32) n ns fit in
     rw (le-leb n largest_other (omega arith)) (others_test ns (All-tail (λ arc. arc < 2 ^ 32) n ns fit))
 
-fits_from_test : (n : ℕ) (ns : List ℕ) → (leb n largest_first && list_all other_fits ns) ≡ true → FitU32 (first_arc n ∷ second_arc n ∷ ns)
+fits_from_test : (n : ℕ) (ns : List ℕ) → (leb n largest_first && list_all other_fits ns) ≡ true
+    → FitU32 (first_arc n ∷ second_arc n ∷ ns)
 fits_from_test n ns e =
     let p = and_parts (leb n largest_first) (list_all other_fits ns) e in
     let le = leb-true n largest_first p.0 in
     All-cons (λ arc. arc < 2 ^ 32) (first_arc n) (second_arc n ∷ ns) (omega arith)
     (All-cons (λ arc. arc < 2 ^ 32) (second_arc n) ns (omega arith) (others_fit ns p.1))
 
-test_from_fits : (n : ℕ) (ns : List ℕ) → FitU32 (first_arc n ∷ second_arc n ∷ ns) → (leb n largest_first && list_all other_fits ns) ≡ true
+test_from_fits : (n : ℕ) (ns : List ℕ) → FitU32 (first_arc n ∷ second_arc n ∷ ns)
+    → (leb n largest_first && list_all other_fits ns) ≡ true
 test_from_fits n ns fit =
     let behind_first = All-tail (λ arc. arc < 2 ^ 32) (first_arc n) (second_arc n ∷ ns) fit in
     let lt : second_arc n < 2 ^ 32 = All-head (λ arc. arc < 2 ^ 32) (second_arc n) ns behind_first in
-    rw (le-leb n largest_first (omega arith)) (others_test ns (All-tail (λ arc. arc < 2 ^ 32) (second_arc n) ns behind_first))
+    rw (le-leb n largest_first (omega arith))
+        (others_test ns (All-tail (λ arc. arc < 2 ^ 32) (second_arc n) ns behind_first))
 
 -- ---- the reading, and contents
 
 -- the numbers of contents are read
-pub numbers_of_contents : (arcs octets : List ℕ) → IsContents arcs octets → numbers_of octets ≡ Some (subidentifiers arcs)
+pub numbers_of_contents : (arcs octets : List ℕ) → IsContents arcs octets
+    → numbers_of octets ≡ Some (subidentifiers arcs)
 numbers_of_contents arcs octets c = subidentifiers_are_read (subidentifiers arcs) octets c.spelled
 
 -- arcs by their numbers
-arcs_by_numbers : (arcs octets : List ℕ) → IsContents arcs octets → (n : ℕ) × (ns : List ℕ) × (subidentifiers arcs ≡ n ∷ ns) × (arcs ≡ first_arc n ∷ second_arc n ∷ ns)
+arcs_by_numbers : (arcs octets : List ℕ) → IsContents arcs octets → (n : ℕ) × (ns : List ℕ)
+    × (subidentifiers arcs ≡ n ∷ ns) × (arcs ≡ first_arc n ∷ second_arc n ∷ ns)
 arcs_by_numbers [] octets c = absurd (let two = c.two in omega arith)
 arcs_by_numbers (x ∷ []) octets c = absurd (let two = c.two in omega arith)
 arcs_by_numbers (x ∷ y ∷ arcs) octets c = (40 * x + y, arcs, refl, sym (arcs_back x y arcs c.valid))
@@ -240,10 +265,12 @@ pub one_list_of_arcs : ContentsAreOfOneList
 one_list_of_arcs xs ys octets c d =
     let p = arcs_by_numbers xs octets c in
     let q = arcs_by_numbers ys octets d in
-    let same : (p.0 ∷ p.1) ≡ (q.0 ∷ q.1) = sym p.2 ∙ same_numbers _ _ (sym (numbers_of_contents xs octets c) ∙ numbers_of_contents ys octets d) ∙ q.2 in
+    let same : (p.0 ∷ p.1) ≡ (q.0 ∷ q.1) = sym p.2
+        ∙ same_numbers _ _ (sym (numbers_of_contents xs octets c) ∙ numbers_of_contents ys octets d) ∙ q.2 in
     let n : p.0 ≡ q.0 = cc in
     let ns : p.1 ≡ q.1 = cc in
-    p.3 ∙ ap (λ (k : ℕ). first_arc k ∷ second_arc k ∷ p.1) n ∙ ap (λ (l : List ℕ). first_arc q.0 ∷ second_arc q.0 ∷ l) ns ∙ sym q.3
+    p.3 ∙ ap (λ (k : ℕ). first_arc k ∷ second_arc k ∷ p.1) n
+        ∙ ap (λ (l : List ℕ). first_arc q.0 ∷ second_arc q.0 ∷ l) ns ∙ sym q.3
 
 -- what a reading says of the octets
 pub Told : List ℕ → Result (List ℕ) ContentsError → Type 0
@@ -252,7 +279,8 @@ Told octets (Err Malformed) = (arcs : List ℕ) → ¬ (IsContents arcs octets)
 Told octets (Err ArcTooLarge) = (arcs : List ℕ) × IsContents arcs octets × ¬ (FitU32 arcs)
 Told octets (Err Memory) = ⊥
 
-told_of : (octets : List ℕ) (r : Numbers) → All (λ octet. octet < 256) octets → numbers_of octets ≡ r → Told octets (arcs_of_numbers r)
+told_of : (octets : List ℕ) (r : Numbers) → All (λ octet. octet < 256) octets → numbers_of octets ≡ r
+    → Told octets (arcs_of_numbers r)
 unfolding Told
 told_of octets None are e = λ arcs c. none_is_no_some _ (sym e ∙ numbers_of_contents arcs octets c)
 told_of octets (Some []) are e = λ arcs c.
@@ -266,12 +294,17 @@ told_of octets (Some (n ∷ ns)) are e =
     contents = record {
       valid = valid_back n ns;
       two = omega arith;
-      spelled = subst (λ (l : List ℕ). AreSubidentifiers l octets) (sym (numbers_back n ns)) (subidentifiers_read octets (n ∷ ns) are e);
+      spelled =
+          subst (λ (l : List ℕ). AreSubidentifiers l octets) (sym (numbers_back n ns))
+          (subidentifiers_read octets (n ∷ ns) are e);
     }
 
-    by_test : (b : Bool) → (leb n largest_first && list_all other_fits ns) ≡ b → Told octets (cond b (Ok (first_arc n ∷ second_arc n ∷ ns)) (Err ArcTooLarge))
+    by_test : (b : Bool) → (leb n largest_first && list_all other_fits ns) ≡ b
+        → Told octets (cond b (Ok (first_arc n ∷ second_arc n ∷ ns)) (Err ArcTooLarge))
     by_test true t = (contents, fits_from_test n ns t)
-    by_test false t = (first_arc n ∷ second_arc n ∷ ns, contents, λ fit. absurd (let no : true ≡ false = sym (test_from_fits n ns fit) ∙ t in cc))
+    by_test false t =
+        (first_arc n ∷ second_arc n ∷ ns, contents,
+        λ fit. absurd (let no : true ≡ false = sym (test_from_fits n ns fit) ∙ t in cc))
 
 pub told : (octets : List ℕ) → All (λ octet. octet < 256) octets → Told octets (contents_reading octets)
 unfolding contents_reading
@@ -282,7 +315,8 @@ told octets are = told_of octets (numbers_of octets) are refl
 abbrev Reading : Type 0
 Reading = Result (List ℕ) ContentsError
 
-pub contents_read : (arcs octets : List ℕ) → All (λ octet. octet < 256) octets → IsContents arcs octets → FitU32 arcs → contents_reading octets ≡ Ok arcs
+pub contents_read : (arcs octets : List ℕ) → All (λ octet. octet < 256) octets → IsContents arcs octets → FitU32 arcs
+    → contents_reading octets ≡ Ok arcs
 unfolding Told
 contents_read arcs octets are c fit = by_reading (contents_reading octets) refl (told octets are)
   where
@@ -292,7 +326,8 @@ contents_read arcs octets are c fit = by_reading (contents_reading octets) refl 
     by_reading (Err ArcTooLarge) e t = absurd (t.2 (subst FitU32 (one_list_of_arcs arcs t.0 octets c t.1) fit))
     by_reading (Err Memory) e t = absurd t
 
-pub large_read : (arcs octets : List ℕ) → All (λ octet. octet < 256) octets → IsContents arcs octets → ¬ (FitU32 arcs) → contents_reading octets ≡ Err ArcTooLarge
+pub large_read : (arcs octets : List ℕ) → All (λ octet. octet < 256) octets → IsContents arcs octets → ¬ (FitU32 arcs)
+    → contents_reading octets ≡ Err ArcTooLarge
 unfolding Told
 large_read arcs octets are c large = by_reading (contents_reading octets) refl (told octets are)
   where
@@ -302,7 +337,8 @@ large_read arcs octets are c large = by_reading (contents_reading octets) refl (
     by_reading (Err ArcTooLarge) e t = e
     by_reading (Err Memory) e t = absurd t
 
-pub none_read : (octets : List ℕ) → All (λ octet. octet < 256) octets → ((arcs : List ℕ) → ¬ (IsContents arcs octets)) → contents_reading octets ≡ Err Malformed
+pub none_read : (octets : List ℕ) → All (λ octet. octet < 256) octets → ((arcs : List ℕ) → ¬ (IsContents arcs octets))
+    → contents_reading octets ≡ Err Malformed
 unfolding Told
 none_read octets are none = by_reading (contents_reading octets) refl (told octets are)
   where
@@ -313,15 +349,18 @@ none_read octets are none = by_reading (contents_reading octets) refl (told octe
     by_reading (Err Memory) e t = absurd t
 
 -- the other way round, by the refusal
-pub arcs_from_reading : (arcs octets : List ℕ) → All (λ octet. octet < 256) octets → contents_reading octets ≡ Ok arcs → IsContents arcs octets × FitU32 arcs
+pub arcs_from_reading : (arcs octets : List ℕ) → All (λ octet. octet < 256) octets → contents_reading octets ≡ Ok arcs
+    → IsContents arcs octets × FitU32 arcs
 unfolding Told
 arcs_from_reading arcs octets are e = subst (λ (r : Reading). Told octets r) e (told octets are)
 
-pub large_from_reading : (octets : List ℕ) → All (λ octet. octet < 256) octets → contents_reading octets ≡ Err ArcTooLarge → (arcs : List ℕ) × IsContents arcs octets × ¬ (FitU32 arcs)
+pub large_from_reading : (octets : List ℕ) → All (λ octet. octet < 256) octets
+    → contents_reading octets ≡ Err ArcTooLarge → (arcs : List ℕ) × IsContents arcs octets × ¬ (FitU32 arcs)
 unfolding Told
 large_from_reading octets are e = subst (λ (r : Reading). Told octets r) e (told octets are)
 
-pub none_from_reading : (octets : List ℕ) → All (λ octet. octet < 256) octets → contents_reading octets ≡ Err Malformed → (arcs : List ℕ) → ¬ (IsContents arcs octets)
+pub none_from_reading : (octets : List ℕ) → All (λ octet. octet < 256) octets → contents_reading octets ≡ Err Malformed
+    → (arcs : List ℕ) → ¬ (IsContents arcs octets)
 unfolding Told
 none_from_reading octets are e = subst (λ (r : Reading). Told octets r) e (told octets are)
 

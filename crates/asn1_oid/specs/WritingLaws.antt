@@ -44,8 +44,10 @@ digits_facts : (most n : ℕ) → n ≤ most → HasDigits n (digits_within most
 digits_facts zero n le = record { some = omega arith; enough = omega arith; fewest = λ lt. absurd (omega arith) }
 digits_facts (suc most) n le = by_test (ltb n 128) refl (λ ge. digits_facts most (n / 128) (omega arith))
   where
-    by_test : (b : Bool) → ltb n 128 ≡ b → (128 ≤ n → HasDigits (n / 128) (digits_within most (n / 128))) → HasDigits n (cond b 1 (suc (digits_within most (n / 128))))
-    by_test true e others = let lt = ltb-true n 128 e in record { some = omega arith; enough = omega arith; fewest = λ more. absurd (omega arith) }
+    by_test : (b : Bool) → ltb n 128 ≡ b → (128 ≤ n → HasDigits (n / 128) (digits_within most (n / 128)))
+        → HasDigits n (cond b 1 (suc (digits_within most (n / 128))))
+    by_test true e others = let lt =
+        ltb-true n 128 e in record { some = omega arith; enough = omega arith; fewest = λ more. absurd (omega arith) }
     by_test false e others = let ge = ltb-false n 128 e in more_digits n (digits_within most (n / 128)) ge (others ge)
 
 pub digits_of : (n : ℕ) → HasDigits n (digit_count n)
@@ -94,7 +96,8 @@ split_digits n p some =
     let here : q * p + n % p ≡ n = div-add-mod' n p in
     let high : q / 128 * 128 + q % 128 ≡ q = div-add-mod' q 128 in
     let cut : q * p ≡ q / 128 * (128 * p) + q % 128 * p =
-    ap (λ (k : ℕ). k * p) (sym high) ∙ add-mul (q / 128 * 128) (q % 128) p ∙ ap (λ (k : ℕ). k + q % 128 * p) (mul_assoc (q / 128) 128 p) in
+    ap (λ (k : ℕ). k * p) (sym high) ∙ add-mul (q / 128 * 128) (q % 128) p
+        ∙ ap (λ (k : ℕ). k + q % 128 * p) (mul_assoc (q / 128) 128 p) in
     let whole : n ≡ q / 128 * (128 * p) + (q % 128 * p + n % p) = omega arith in
     let below : q % 128 * p + n % p < p * 128 = mul-add-lt (q % 128) p (n % p) 128 (omega arith) low in
     let fits : q % 128 * p + n % p < 128 * p = omega arith in
@@ -120,7 +123,8 @@ value_of_last n (suc k) =
 
 no_leading_80 : (n k : ℕ) → HasDigits n k → slice_index (last_octets n k) 0 ≢ 128
 no_leading_80 n zero h = absurd (let some = h.some in omega arith)
-no_leading_80 n (suc zero) h = λ e. (let e2 : n % 128 ≡ 128 = sym (ap (λ (l : List ℕ). slice_index l 0) (last_octet n)) ∙ e in omega arith)
+no_leading_80 n (suc zero) h =
+    λ e. (let e2 : n % 128 ≡ 128 = sym (ap (λ (l : List ℕ). slice_index l 0) (last_octet n)) ∙ e in omega arith)
 no_leading_80 n (suc (suc k)) h = λ e.
     let low : 128 ^ suc k ≤ n = one_less (suc k) n (h.fewest (omega arith)) in
     let p = next_power (suc k) in
@@ -141,11 +145,14 @@ last_octets_are n (suc k) h = record {
 subidentifiers_of : (ns : List ℕ) → AreSubidentifiers ns (flat_map subidentifier_octets ns)
 unfolding subidentifier_octets
 subidentifiers_of [] = refl
-subidentifiers_of (n ∷ ns) = (last_octets n (digit_count n), flat_map subidentifier_octets ns, last_octets_are n (digit_count n) (digits_of n), subidentifiers_of ns, refl)
+subidentifiers_of (n ∷ ns) =
+    (last_octets n (digit_count n), flat_map subidentifier_octets ns, last_octets_are n (digit_count n) (digits_of n),
+    subidentifiers_of ns, refl)
 
 pub left_are : (n k : ℕ) (arcs : List ℕ) → HasDigits n k → AreSubidentifiers (n ∷ arcs) (octets_left n k arcs)
 unfolding octets_left
-left_are n k arcs h = (last_octets n k, flat_map subidentifier_octets arcs, last_octets_are n k h, subidentifiers_of arcs, refl)
+left_are n k arcs h =
+    (last_octets n k, flat_map subidentifier_octets arcs, last_octets_are n k h, subidentifiers_of arcs, refl)
 
 -- ---- and no others
 
@@ -161,14 +168,16 @@ lower_digits m n (suc k) j le =
     same_digit : (i : ℕ) → j ≡ i + suc k → (m * 128 ^ j + n) / 128 ^ k % 128 ≡ n / 128 ^ k % 128
     same_digit i e =
         let p : ℕ = 128 ^ k in
-        let power : 128 ^ j ≡ 128 ^ i * (128 * p) = ap (λ (x : ℕ). 128 ^ x) e ∙ pow-add 128 i (suc k) ∙ ap (λ (x : ℕ). 128 ^ i * x) (next_power k) in
+        let power : 128 ^ j ≡ 128 ^ i * (128 * p) = ap (λ (x : ℕ). 128 ^ x) e ∙ pow-add 128 i (suc k)
+            ∙ ap (λ (x : ℕ). 128 ^ i * x) (next_power k) in
         let c : ℕ = m * 128 ^ i * 128 in
         let parts : m * 128 ^ j ≡ c * p =
         ap (λ (x : ℕ). m * x) power ∙ sym (mul_assoc m (128 ^ i) (128 * p)) ∙ sym (mul_assoc (m * 128 ^ i) 128 p) in
         let low : n % p < p = mod-lt n {m = p} (some_power k) in
         let here : n / p * p + n % p ≡ n = div-add-mod' n p in
         let sum : c * p + n ≡ (c + n / p) * p + n % p = let a = add-mul c (n / p) p in omega arith in
-        let cut : (m * 128 ^ j + n) / p ≡ c + n / p = ap (λ (x : ℕ). (x + n) / p) parts ∙ ap (λ (x : ℕ). x / p) sum ∙ div-mul-add (c + n / p) p (n % p) low in
+        let cut : (m * 128 ^ j + n) / p ≡ c + n / p = ap (λ (x : ℕ). (x + n) / p) parts ∙ ap (λ (x : ℕ). x / p) sum
+            ∙ div-mul-add (c + n / p) p (n % p) low in
         ap (λ (x : ℕ). x % 128) cut ∙ omega arith
 
 below_power : (octets : List ℕ) → base_128 octets < 128 ^ length octets
@@ -201,20 +210,25 @@ series_is (octet ∷ next ∷ octets) (inr p) =
     let lt = p.1 in
     let digit : (d * q + n) / q ≡ d = div-mul-add d q n low in
     let head : 128 + (d * q + n) / q % 128 ≡ octet = ap (λ (x : ℕ). 128 + x % 128) digit ∙ omega arith in
-    let behind : last_octets (d * q + n) (length tail) ≡ tail = lower_digits d n (length tail) (length tail) (omega arith) ∙ sym (series_is (next ∷ octets) p.2) in
-    sym (octet_before (d * q + n) (length octets) ∙ ap (λ (x : ℕ). x ∷ last_octets (d * q + n) (length tail)) head ∙ ap (λ (l : List ℕ). octet ∷ l) behind)
+    let behind : last_octets (d * q + n) (length tail) ≡ tail =
+        lower_digits d n (length tail) (length tail) (omega arith) ∙ sym (series_is (next ∷ octets) p.2) in
+    sym (octet_before (d * q + n) (length octets) ∙ ap (λ (x : ℕ). x ∷ last_octets (d * q + n) (length tail)) head
+        ∙ ap (λ (l : List ℕ). octet ∷ l) behind)
 
 -- and as many as the number has digits
-series_digits : (octets : List ℕ) → IsSeries octets → slice_index octets 0 ≢ 128 → HasDigits (base_128 octets) (length octets)
+series_digits : (octets : List ℕ) → IsSeries octets → slice_index octets 0 ≢ 128
+    → HasDigits (base_128 octets) (length octets)
 unfolding base_128
 series_digits [] series first = absurd series
 series_digits (octet ∷ octets) series first = record {
   some = omega arith;
   enough = below_power (octet ∷ octets);
-  fewest = λ more. one_more (length octets) (octet % 128 * 128 ^ length octets + base_128 octets) (high octets series more);
+  fewest =
+      λ more. one_more (length octets) (octet % 128 * 128 ^ length octets + base_128 octets) (high octets series more);
 }
   where
-    high : (octets : List ℕ) → IsSeries (octet ∷ octets) → 1 < suc (length octets) → 128 ^ length octets ≤ octet % 128 * 128 ^ length octets + base_128 octets
+    high : (octets : List ℕ) → IsSeries (octet ∷ octets) → 1 < suc (length octets)
+        → 128 ^ length octets ≤ octet % 128 * 128 ^ length octets + base_128 octets
     high [] s more = absurd (omega arith)
     high (next ∷ octets) (inl p) more = absurd cc
     high (next ∷ octets) (inr p) more =
@@ -228,23 +242,27 @@ series_digits (octet ∷ octets) series first = record {
 pub only_octets : (n : ℕ) (octets : List ℕ) → IsSubidentifier n octets → octets ≡ subidentifier_octets n
 unfolding subidentifier_octets
 only_octets n octets s =
-    let digits : HasDigits n (length octets) = subst (λ (m : ℕ). HasDigits m (length octets)) s.value (series_digits octets s.series s.fewest) in
+    let digits : HasDigits n (length octets) =
+        subst (λ (m : ℕ). HasDigits m (length octets)) s.value (series_digits octets s.series s.fewest) in
     series_is octets s.series ∙ ap (λ (m : ℕ). last_octets m (length octets)) s.value
     ∙ ap (last_octets n) (same_digits n (length octets) (digit_count n) digits (digits_of n))
 
 only_subidentifiers : (ns octets : List ℕ) → AreSubidentifiers ns octets → octets ≡ flat_map subidentifier_octets ns
 only_subidentifiers [] octets e = e
 only_subidentifiers (n ∷ ns) octets s =
-    s.4 ∙ ap (λ (l : List ℕ). l ++ s.1) (only_octets n s.0 s.2) ∙ ap (λ (l : List ℕ). subidentifier_octets n ++ l) (only_subidentifiers ns s.1 s.3)
+    s.4 ∙ ap (λ (l : List ℕ). l ++ s.1) (only_octets n s.0 s.2)
+        ∙ ap (λ (l : List ℕ). subidentifier_octets n ++ l) (only_subidentifiers ns s.1 s.3)
 
 -- arcs have one contents
 pub contents_only : (arcs a b : List ℕ) → IsContents arcs a → IsContents arcs b → a ≡ b
-contents_only arcs a b x y = only_subidentifiers (subidentifiers arcs) a x.spelled ∙ sym (only_subidentifiers (subidentifiers arcs) b y.spelled)
+contents_only arcs a b x y = only_subidentifiers (subidentifiers arcs) a x.spelled
+    ∙ sym (only_subidentifiers (subidentifiers arcs) b y.spelled)
 
 pub one_contents : EachHasOneContents
 one_contents arcs valid two =
     let octets : List ℕ = flat_map subidentifier_octets (subidentifiers arcs) in
-    let are : IsContents arcs octets = record { valid = valid; two = two; spelled = subidentifiers_of (subidentifiers arcs) } in
+    let are : IsContents arcs octets =
+        record { valid = valid; two = two; spelled = subidentifiers_of (subidentifiers arcs) } in
     (octets, are, λ other c. contents_only arcs other octets c are)
 
 -- ---- contents are octets
@@ -253,7 +271,8 @@ series_octets : (octets : List ℕ) → IsSeries octets → All (λ octet. octet
 series_octets [] series = absurd series
 series_octets (octet ∷ octets) (inl p) =
     let lt = p.0 in
-    subst (λ (l : List ℕ). All (λ octet. octet < 256) (octet ∷ l)) (sym p.1) (All-cons (λ octet. octet < 256) octet [] (omega arith) (All-nil (λ octet. octet < 256)))
+    subst (λ (l : List ℕ). All (λ octet. octet < 256) (octet ∷ l)) (sym p.1)
+        (All-cons (λ octet. octet < 256) octet [] (omega arith) (All-nil (λ octet. octet < 256)))
 series_octets (octet ∷ octets) (inr p) = All-cons (λ octet. octet < 256) octet octets p.1 (series_octets octets p.2)
 
 subidentifiers_octets : (ns octets : List ℕ) → AreSubidentifiers ns octets → All (λ octet. octet < 256) octets

@@ -40,7 +40,8 @@ largest_in_table Printable = 0x7A
 largest_in_table Teletex = 0xFF
 largest_in_table Visible = 0x7E
 
-in_table : (name : CharacterSetName) → (length (base_set name) ≡ count_in_table name) × (largest (base_set name) ≡ largest_in_table name)
+in_table : (name : CharacterSetName) → (length (base_set name) ≡ count_in_table name)
+    × (largest (base_set name) ≡ largest_in_table name)
 in_table Bmp = (length-base_set Bmp, largest-base_set Bmp)
 in_table General = (length-base_set General, largest-base_set General)
 in_table Graphic = (length-base_set Graphic, largest-base_set Graphic)
@@ -50,7 +51,8 @@ in_table Printable = (length-base_set Printable, largest-base_set Printable)
 in_table Teletex = (length-base_set Teletex, largest-base_set Teletex)
 in_table Visible = (length-base_set Visible, largest-base_set Visible)
 
-by_places : (name : CharacterSetName) (aligned : Bool) → leb (2 ^ width_for aligned (count_in_table name)) (largest_in_table name) ≡ true → count_in_table name ≤ 64
+by_places : (name : CharacterSetName) (aligned : Bool)
+    → leb (2 ^ width_for aligned (count_in_table name)) (largest_in_table name) ≡ true → count_in_table name ≤ 64
 unfolding ceil_log2 least_from
 by_places Bmp true e = cc
 by_places Bmp false e = cc
@@ -68,17 +70,22 @@ by_places Teletex false e = cc
 by_places Visible true e = cc
 by_places Visible false e = cc
 
-base_by_places : (name : CharacterSetName) (aligned : Bool) → is_indexed (width_for aligned (length (base_set name))) (base_set name) ≡ true → length (base_set name) ≤ 64
+base_by_places : (name : CharacterSetName) (aligned : Bool)
+    → is_indexed (width_for aligned (length (base_set name))) (base_set name) ≡ true → length (base_set name) ≤ 64
 base_by_places name aligned e =
     let table = in_table name in rw table.0 (by_places name aligned (rw (table.0, table.1) at e))
 
 -- a base set that is written by places has few characters
-pub few_places : (name : CharacterSetName) (kept : Option (Bor (List ℕ))) (aligned : Bool) → is_some kept ≡ false → is_indexed (width_for aligned (length (set_of name kept))) (set_of name kept) ≡ true → length (set_of name kept) ≤ 64
+pub few_places : (name : CharacterSetName) (kept : Option (Bor (List ℕ))) (aligned : Bool) → is_some kept ≡ false
+    → is_indexed (width_for aligned (length (set_of name kept))) (set_of name kept) ≡ true
+    → length (set_of name kept) ≤ 64
 few_places name None aligned none by = base_by_places name aligned by
 few_places name (Some set) aligned none by = cc
 
 -- the words of a base set
-pub worded_base : (name : CharacterSetName) (kept : Option (Bor (List ℕ))) (words : CharacterWords) → kept ≡ None → name ≢ Bmp → ((c : ℕ) → c < 256 → in_words words.words c ≡ has_character (base_set name) c) → HasWords (set_of name kept) words
+pub worded_base : (name : CharacterSetName) (kept : Option (Bor (List ℕ))) (words : CharacterWords) → kept ≡ None
+    → name ≢ Bmp → ((c : ℕ) → c < 256 → in_words words.words c ≡ has_character (base_set name) c)
+    → HasWords (set_of name kept) words
 worded_base name None words is other same = record { below = largest_small name other; same = same }
 worded_base name (Some set) words is other same = cc
 
@@ -91,23 +98,28 @@ pub none_from : (set : List ℕ) (c : ℕ) → largest set < 256 → 256 ≤ c �
 none_from set c below ge = none_is (has_character set c) (λ has. let most = not_above set c has in omega arith)
 
 -- words tell what their set has, below 256 and above
-pub has_by_words : (set : List ℕ) (words : CharacterWords) (c : ℕ) → HasWords set words → (ltb c 256 && in_words words.words c) ≡ has_character set c
+pub has_by_words : (set : List ℕ) (words : CharacterWords) (c : ℕ) → HasWords set words
+    → (ltb c 256 && in_words words.words c) ≡ has_character set c
 has_by_words set words c worded = elim (cases_lt c 256) [
   | inl lt ↦ (let below : ltb c 256 ≡ true = grind (arith, nat_tests) in rw below (worded.same c lt))
-  | inr ge ↦ (let above : ltb c 256 ≡ false = grind (arith, nat_tests) in rw above (sym (none_from set c worded.below ge)))
+  | inr ge ↦ (let above : ltb c 256 ≡ false =
+      grind (arith, nat_tests) in rw above (sym (none_from set c worded.below ge)))
 ]
 
 -- a place was found exactly where the set has the character
-pub found_is : (set : List ℕ) (c : ℕ) (o : Option ℕ) → MatchOption o (has_character set c ≡ false) (λ k. slice_get set k ≡ Some c) → is_some o ≡ has_character set c
+pub found_is : (set : List ℕ) (c : ℕ) (o : Option ℕ)
+    → MatchOption o (has_character set c ≡ false) (λ k. slice_get set k ≡ Some c) → is_some o ≡ has_character set c
 found_is set c None none = sym none
 found_is set c (Some k) place = sym (stands_in set k c place)
 
 -- what is kept is there, and else nothing is
-pub is_some_if : {A : Type 0} (kept : Bool) (value : A) (o : Option A) → some_if kept value ≡ o → kept ≡ true → is_some o ≡ true
+pub is_some_if : {A : Type 0} (kept : Bool) (value : A) (o : Option A) → some_if kept value ≡ o → kept ≡ true
+    → is_some o ≡ true
 is_some_if true value o same told = rw (sym same) refl
 is_some_if false value o same told = cc
 
-pub none_if : {A : Type 0} (kept : Bool) (value : A) (o : Option A) → some_if kept value ≡ o → kept ≡ false → is_some o ≡ false
+pub none_if : {A : Type 0} (kept : Bool) (value : A) (o : Option A) → some_if kept value ≡ o → kept ≡ false
+    → is_some o ≡ false
 none_if true value o same told = cc
 none_if false value o same told = rw (sym same) refl
 

@@ -16,7 +16,8 @@ pair_number : (c : ℕ) → c < 65536 → unsigned (to_be_bytes w16 c) ≡ c
 unfolding unsigned
 pair_number c lt = omega arith
 
-numbers : (cs : List ℕ) → ((k : ℕ) → k < length cs → get_or cs k 0 < 65536) → map unsigned (pieces 2 (flat_map (to_be_bytes w16) cs)) ≡ cs
+numbers : (cs : List ℕ) → ((k : ℕ) → k < length cs → get_or cs k 0 < 65536)
+    → map unsigned (pieces 2 (flat_map (to_be_bytes w16) cs)) ≡ cs
 numbers [] small = refl
 numbers (c ∷ cs) small =
     ap (map unsigned) (pieces_cons 2 (to_be_bytes w16 c) (flat_map (to_be_bytes w16) cs) (omega arith) refl)
@@ -24,10 +25,12 @@ numbers (c ∷ cs) small =
 
 length-pairs : (cs : List ℕ) → length (flat_map (to_be_bytes w16) cs) ≡ 2 * length cs
 length-pairs [] = refl
-length-pairs (c ∷ cs) = length-append (to_be_bytes w16 c) (flat_map (to_be_bytes w16) cs) ∙ rw (length-pairs cs) (omega arith)
+length-pairs (c ∷ cs) = length-append (to_be_bytes w16 c) (flat_map (to_be_bytes w16) cs)
+    ∙ rw (length-pairs cs) (omega arith)
 
 -- the string of the octets of a string is that string
-pub read_back : (cs : List ℕ) → All (λ c. has_character (base_set Bmp) c ≡ true) cs → string_of_octets Bmp 2 (flat_map (to_be_bytes w16) cs) ≡ Ok cs
+pub read_back : (cs : List ℕ) → All (λ c. has_character (base_set Bmp) c ≡ true) cs
+    → string_of_octets Bmp 2 (flat_map (to_be_bytes w16) cs) ≡ Ok cs
 read_back cs right =
     let even : length (flat_map (to_be_bytes w16) cs) % 2 ≡ 0 = rw (length-pairs cs) (omega arith) in
     let same = numbers cs (λ k h. below_limit Bmp 65536 refl (get_or cs k 0) (right k 0 h)) in

@@ -37,16 +37,22 @@ pairs (a ∷ b ∷ xs) =
     ap (map unsigned) (pieces_cons 2 (a ∷ b ∷ []) xs (omega arith) refl) ∙ rw count (rw (two a b, pairs xs) refl)
 
 -- what a test of each found
-pub all_in : (set xs : List ℕ) (right : Bool) → right ≡ list_all (has_character set) xs → right ≡ true → All (λ c. has_character set c ≡ true) xs
+pub all_in : (set xs : List ℕ) (right : Bool) → right ≡ list_all (has_character set) xs → right ≡ true
+    → All (λ c. has_character set c ≡ true) xs
 all_in set xs right found told = AllPass-from_list_all (has_character set) xs (sym found ∙ told)
 
 -- the units that were filled in are the characters
-pub filled : (n : ℕ) (units rest octets : List ℕ) → length units ≡ n → units ≡ map (from_be_bytes w16) (first_chunks 2 (length octets / 2) octets) → map (λ (x : ℕ). x) (take n (units ++ rest)) ≡ map unsigned (pieces 2 octets)
+pub filled : (n : ℕ) (units rest octets : List ℕ) → length units ≡ n
+    → units ≡ map (from_be_bytes w16) (first_chunks 2 (length octets / 2) octets)
+    → map (λ (x : ℕ). x) (take n (units ++ rest)) ≡ map unsigned (pieces 2 octets)
 filled n units rest octets long is =
-    map-id (take n (units ++ rest)) ∙ ap (λ k. take k (units ++ rest)) (sym long) ∙ take-append_seam units rest ∙ is ∙ sym (pairs octets)
+    map-id (take n (units ++ rest)) ∙ ap (λ k. take k (units ++ rest)) (sym long) ∙ take-append_seam units rest ∙ is
+        ∙ sym (pairs octets)
 
 -- octets whose characters the set has are a string
-pub string_of_whole : (name : CharacterSetName) (w : ℕ) (octets : List ℕ) → w ≢ 0 → length octets % w ≡ 0 → All (λ c. has_character (base_set name) c ≡ true) (map unsigned (pieces w octets)) → string_of_octets name w octets ≡ Ok (map unsigned (pieces w octets))
+pub string_of_whole : (name : CharacterSetName) (w : ℕ) (octets : List ℕ) → w ≢ 0 → length octets % w ≡ 0
+    → All (λ c. has_character (base_set name) c ≡ true) (map unsigned (pieces w octets))
+    → string_of_octets name w octets ≡ Ok (map unsigned (pieces w octets))
 string_of_whole name w octets some even right =
     let width : eqb w 0 ≡ false = grind (arith, nat_tests) in
     rw (width, even) (string_of_right name (map unsigned (pieces w octets)) (λ k h. right k 0 h))

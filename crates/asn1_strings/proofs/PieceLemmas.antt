@@ -13,7 +13,8 @@ use Rattle.asn1_strings.specs.PieceLaws.{length-pieces}
 abbrev pub gathered : List ℕ → ℕ
 gathered octets = fold (λ n octet. 256 * n + octet) 0 octets
 
-gathered_from : (octets : List ℕ) (m : ℕ) → fold (λ n octet. 256 * n + octet) m octets ≡ m * 256 ^ length octets + unsigned octets
+gathered_from : (octets : List ℕ) (m : ℕ)
+    → fold (λ n octet. 256 * n + octet) m octets ≡ m * 256 ^ length octets + unsigned octets
 unfolding unsigned
 gathered_from [] m = omega arith
 gathered_from (b ∷ bs) m =
@@ -28,7 +29,8 @@ unsigned-gathered octets = gathered_from octets 0 ∙ omega arith
 -- one more octet
 pub octet_step : (i n octet : ℕ) → n < 2 ^ (8 * i) → octet < 256 → 256 * n + octet < 2 ^ (8 * (i + 1))
 octet_step i n octet low small =
-    let grown : 2 ^ (8 * (i + 1)) ≡ 2 ^ (8 * i) * 256 = ap (λ e. 2 ^ e) (let e : 8 * (i + 1) ≡ 8 * i + 8 = omega arith in e) ∙ pow-add 2 (8 * i) 8 in
+    let grown : 2 ^ (8 * (i + 1)) ≡ 2 ^ (8 * i) * 256 =
+        ap (λ e. 2 ^ e) (let e : 8 * (i + 1) ≡ 8 * i + 8 = omega arith in e) ∙ pow-add 2 (8 * i) 8 in
     omega arith
 
 -- and one more of at most four
@@ -39,9 +41,12 @@ octet_fits i n octet few low small =
     omega arith
 
 -- the number at a place, of what f gives of each piece
-pub get_or-pieces : {X : Type 0} (f : List X → ℕ) (w : ℕ) (xs : List X) (i : ℕ) → i < length xs / w → get_or (map f (pieces w xs)) i 0 ≡ f (piece w xs i)
+pub get_or-pieces : {X : Type 0} (f : List X → ℕ) (w : ℕ) (xs : List X) (i : ℕ) → i < length xs / w
+    → get_or (map f (pieces w xs)) i 0 ≡ f (piece w xs i)
 get_or-pieces f w xs i lt =
-    get_or-map f (pieces w xs) i [] 0 (rw (length-pieces w xs) lt) ∙ ap f (get_or-map-range_with_len (piece w xs) 0 (length xs / w) i i [] lt (omega arith))
+    get_or-map f (pieces w xs) i [] 0 (rw (length-pieces w xs) lt)
+        ∙ ap f (get_or-map-range_with_len (piece w xs) 0 (length xs / w) i i [] lt (omega arith))
 
-pub length-numbers : {X : Type 0} (f : List X → ℕ) (w : ℕ) (xs : List X) → length (map f (pieces {X = X} w xs)) ≡ length xs / w
+pub length-numbers : {X : Type 0} (f : List X → ℕ) (w : ℕ) (xs : List X)
+    → length (map f (pieces {X = X} w xs)) ≡ length xs / w
 length-numbers f w xs = length-map (pieces w xs) f ∙ length-pieces w xs

@@ -35,7 +35,8 @@ repeat_pair (x ∷ xs) twice = λ differ. elim (or_cases (has_character xs x) (h
 -- the places of a list without x differ from x
 place_differs : (xs : List ℕ) (x k d : ℕ) → has_character xs x ≡ false → k < length xs → x ≢ get_or xs k d
 place_differs [] x k d none lt = absurd (omega arith)
-place_differs (y ∷ xs) x zero d none lt = λ e. let t : eqb y x ≡ false = grind (arith, nat_tests) in grind (arith, nat_tests)
+place_differs (y ∷ xs) x zero d none lt = λ e. let t : eqb y x ≡ false =
+    grind (arith, nat_tests) in grind (arith, nat_tests)
 place_differs (y ∷ xs) x (suc k) d none lt = place_differs xs x k d (grind (arith, nat_tests)) (omega arith)
 
 -- in a list that has no element twice, any two differ
@@ -44,22 +45,26 @@ once_pairs [] once i j d lt within = absurd (omega arith)
 once_pairs (x ∷ xs) once zero zero d lt within = absurd (omega arith)
 once_pairs (x ∷ xs) once zero (suc j) d lt within = place_differs xs x j d (grind (arith, nat_tests)) (omega arith)
 once_pairs (x ∷ xs) once (suc i) zero d lt within = absurd (omega arith)
-once_pairs (x ∷ xs) once (suc i) (suc j) d lt within = once_pairs xs (grind (arith, nat_tests)) i j d (omega arith) (omega arith)
+once_pairs (x ∷ xs) once (suc i) (suc j) d lt within =
+    once_pairs xs (grind (arith, nat_tests)) i j d (omega arith) (omega arith)
 
 -- no range meets a later one
 abbrev pub apart : List (ℕ × ℕ) → Bool
 apart [] = true
 apart (r ∷ rs) = list_all (λ q. ltb r.1 q.0 || ltb q.1 r.0) rs && apart rs
 
-outside : (r : ℕ × ℕ) (rs : List (ℕ × ℕ)) (c : ℕ) → list_all (λ q. ltb r.1 q.0 || ltb q.1 r.0) rs ≡ true → r.0 ≤ c → c ≤ r.1 → lies_in rs c ≡ false
+outside : (r : ℕ × ℕ) (rs : List (ℕ × ℕ)) (c : ℕ) → list_all (λ q. ltb r.1 q.0 || ltb q.1 r.0) rs ≡ true → r.0 ≤ c
+    → c ≤ r.1 → lies_in rs c ≡ false
 outside r [] c away low high = refl
 outside r (q ∷ rs) c away low high = grind (arith, nat_tests, outside r rs c)
 
 -- a run before a list that has none of it
-run_once : (n a : ℕ) (ys : List ℕ) → ((c : ℕ) → a ≤ c → c < a + n → has_character ys c ≡ false) → has_repeat ys ≡ false → has_repeat (range_with_len a n ++ ys) ≡ false
+run_once : (n a : ℕ) (ys : List ℕ) → ((c : ℕ) → a ≤ c → c < a + n → has_character ys c ≡ false) → has_repeat ys ≡ false
+    → has_repeat (range_with_len a n ++ ys) ≡ false
 run_once zero a ys none once = once
 run_once (suc n) a ys none once =
-    let later : has_character (range_with_len (a + 1) n) a ≡ false = has_in_run (a + 1) n a ∙ grind (arith, nat_tests) in
+    let later : has_character (range_with_len (a + 1) n) a ≡ false = has_in_run (a + 1) n a
+        ∙ grind (arith, nat_tests) in
     let after : has_character ys a ≡ false = none a (omega arith) (omega arith) in
     rw (list_any-append (λ x. eqb x a) (range_with_len (a + 1) n) ys, later, after)
     (run_once n (a + 1) ys (λ c low high. none c (omega arith) (omega arith)) once)
@@ -69,7 +74,8 @@ once_in [] away = refl
 once_in (r ∷ rs) away =
     let first : list_all (λ q. ltb r.1 q.0 || ltb q.1 r.0) rs ≡ true = grind (arith, nat_tests) in
     let rest : apart rs ≡ true = grind (arith, nat_tests) in
-    run_once (r.1 + 1 - r.0) r.0 (flat_map characters_between rs) (λ c low high. has_in_ranges rs c ∙ outside r rs c first low (omega arith)) (once_in rs rest)
+    run_once (r.1 + 1 - r.0) r.0 (flat_map characters_between rs)
+        (λ c low high. has_in_ranges rs c ∙ outside r rs c first low (omega arith)) (once_in rs rest)
 
 apart_base : (name : CharacterSetName) → apart (ranges_of name) ≡ true
 apart_base Bmp = refl

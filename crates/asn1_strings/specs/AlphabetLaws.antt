@@ -63,6 +63,7 @@ code_is_one alphabet c j k differ first second = by_case alphabet.indexed refl
         let q = rw e at second in
         elim (cases_lt j k) [
           | inl lt ↦ absurd (places_differ alphabet.characters c j k differ p q lt)
-          | inr ge ↦ elim (cases_lt k j) [ inl lt ↦ absurd (places_differ alphabet.characters c k j differ q p lt) | inr le ↦ omega arith ]
+          | inr ge ↦ elim (cases_lt k j)
+              [ inl lt ↦ absurd (places_differ alphabet.characters c k j differ q p lt) | inr le ↦ omega arith ]
         ]
     by_case false e = let p = rw e at first in let q = rw e at second in p.1 ∙ sym q.1

@@ -16,14 +16,16 @@ use Rattle.asn1_values.proofs.ExactKinds.{IsExact, Read, cut_exact, held_is, no_
 
 -- ---- the character of a code
 
-code_of : (indexed : Bool) (set : List ℕ) (c k : ℕ) → cond indexed (slice_get set k) (cond (has_character set k) (Some k) None) ≡ Some c
+code_of : (indexed : Bool) (set : List ℕ) (c k : ℕ)
+    → cond indexed (slice_get set k) (cond (has_character set k) (Some k) None) ≡ Some c
     → MatchBool indexed (slice_get set k ≡ Some c) ((has_character set c ≡ true) × (k ≡ c))
 code_of true set c k e = e
 code_of false set c k e =
     let p = cond_some (has_character set k) k c e in
     (subst (λ (x : ℕ). has_character set x ≡ true) p.1 p.0, p.1)
 
-decoded_of : (indexed : Bool) (set : List ℕ) (c k : ℕ) → MatchBool indexed (slice_get set k ≡ Some c) ((has_character set c ≡ true) × (k ≡ c))
+decoded_of : (indexed : Bool) (set : List ℕ) (c k : ℕ)
+    → MatchBool indexed (slice_get set k ≡ Some c) ((has_character set c ≡ true) × (k ≡ c))
     → cond indexed (slice_get set k) (cond (has_character set k) (Some k) None) ≡ Some c
 decoded_of true set c k e = e
 decoded_of false set c k e =
@@ -49,63 +51,80 @@ none_from_no_code a k none = by_option (character_of a k) refl
 
 -- ---- characters as fields
 
-held_character : (a : Alphabet) (k : ℕ) (o : Option ℕ) (field : Field) → character_or_none a k o ≡ Ok field → (c : ℕ) × (o ≡ Some c) × (Character a c ≡ field)
+held_character : (a : Alphabet) (k : ℕ) (o : Option ℕ) (field : Field) → character_or_none a k o ≡ Ok field → (c : ℕ)
+    × (o ≡ Some c) × (Character a c ≡ field)
 held_character a k (Some c) field h = (c, refl, held_is _ _ h)
 held_character a k None field h = absurd (no_field _ _ h)
 
-held_none : (a : Alphabet) (k : ℕ) (o : Option ℕ) (fault : Fault) → character_or_none a k o ≡ Err fault → (o ≡ None) × (NoCharacter k ≡ fault)
+held_none : (a : Alphabet) (k : ℕ) (o : Option ℕ) (fault : Fault) → character_or_none a k o ≡ Err fault → (o ≡ None)
+    × (NoCharacter k ≡ fault)
 held_none a k (Some c) fault h = absurd (no_fault _ _ h)
 held_none a k None fault h = (refl, fault_is _ _ h)
 
-pub character_exact : (a : Alphabet) → ((c k : ℕ) → IsCode a c k → k < 2 ^ a.width) → IsExact (OfCharacter a) (field_at (OfCharacter a))
+pub character_exact : (a : Alphabet) → ((c k : ℕ) → IsCode a c k → k < 2 ^ a.width)
+    → IsExact (OfCharacter a) (field_at (OfCharacter a))
 unfolding field_at
-character_exact a fit = cut_exact (OfCharacter a) a.width (character_content a) (record { taken = taken; again = again; reason = reason; short = λ list k s. s })
+character_exact a fit =
+    cut_exact (OfCharacter a) a.width (character_content a)
+    (record { taken = taken; again = again; reason = reason; short = λ list k s. s })
   where
-    taken : (front : List Bool) (field : Field) → length front ≡ a.width → character_content a front ≡ Ok field → IsOfShape field (OfCharacter a) × IsSpelledBy field front
+    taken : (front : List Bool) (field : Field) → length front ≡ a.width → character_content a front ≡ Ok field
+        → IsOfShape field (OfCharacter a) × IsSpelledBy field front
     taken front field len e =
         let h = held_character a (number front) (character_of a (number front)) field e in
         subst (λ (f : Field). IsOfShape f (OfCharacter a) × IsSpelledBy f front) h.2
         (refl, (number front, code_from_character a h.0 (number front) h.1, sym (digits_of-number front a.width len)))
 
-    again : (field : Field) (front : List Bool) → IsOfShape field (OfCharacter a) → IsSpelledBy field front → (length front ≡ a.width) × (character_content a front ≡ Ok field)
+    again : (field : Field) (front : List Bool) → IsOfShape field (OfCharacter a) → IsSpelledBy field front
+        → (length front ≡ a.width) × (character_content a front ≡ Ok field)
     again (Character b c) front shape s =
         let k = s.0 in
         let code : IsCode a c k = subst (λ (x : Alphabet). IsCode x c k) shape s.1 in
         let is : front ≡ digits k a.width = s.2 ∙ ap (λ (x : Alphabet). digits k x.width) shape in
         let n : number front ≡ k = ap number is ∙ number_of-digits k a.width (fit c k code) in
         let d : character_of a (number front) ≡ Some c = ap (character_of a) n ∙ character_from_code a c k code in
-        (ap length is ∙ length-digits k a.width, ap (λ (o : Option ℕ). character_or_none a (number front) o) d ∙ ap (λ (x : Alphabet). Ok (Character x c)) (sym shape))
+        (ap length is ∙ length-digits k a.width, ap (λ (o : Option ℕ). character_or_none a (number front) o) d
+            ∙ ap (λ (x : Alphabet). Ok (Character x c)) (sym shape))
     again field front shape s = absurd shape
 
-    reason : (front rest : List Bool) (fault : Fault) → length front ≡ a.width → character_content a front ≡ Err fault → IsReason (OfCharacter a) (front ++ rest) fault
+    reason : (front rest : List Bool) (fault : Fault) → length front ≡ a.width → character_content a front ≡ Err fault
+        → IsReason (OfCharacter a) (front ++ rest) fault
     reason front rest fault len e =
         let h = held_none a (number front) (character_of a (number front)) fault e in
         let cut : take a.width (front ++ rest) ≡ front = take_at front rest a.width len in
         subst (λ (f : Fault). IsReason (OfCharacter a) (front ++ rest) f) h.1
-        (omega (arith, length-append front rest), ap number (sym cut), λ c code. no_character (character_of a (number front)) c (character_from_code a c (number front) code) h.0)
+        (omega (arith, length-append front rest), ap number (sym cut), λ c code. no_character
+            (character_of a (number front)) c (character_from_code a c (number front) code) h.0)
 
 -- ---- what is read of them
 
 failed : Fault → Read
 failed fault = Err fault
 
-chosen_ok : (b : Bool) (fault : Fault) (r : Read) → is_ok (cond b (failed fault) r) ≡ true → (b ≡ false) × (is_ok r ≡ true)
+chosen_ok : (b : Bool) (fault : Fault) (r : Read) → is_ok (cond b (failed fault) r) ≡ true → (b ≡ false)
+    × (is_ok r ≡ true)
 unfolding failed
 chosen_ok true fault r e = absurd cc
 chosen_ok false fault r e = (refl, e)
 
-coded : (a : Alphabet) (k : ℕ) (rest : List Bool) (o : Option ℕ) → character_of a k ≡ o → is_ok (with_rest rest (character_or_none a k o)) ≡ true → (c : ℕ) × IsCode a c k
+coded : (a : Alphabet) (k : ℕ) (rest : List Bool) (o : Option ℕ) → character_of a k ≡ o
+    → is_ok (with_rest rest (character_or_none a k o)) ≡ true → (c : ℕ) × IsCode a c k
 coded a k rest (Some c) e h = (c, code_from_character a c k e)
 coded a k rest None e h = absurd cc
 
-pub character_there : (a : Alphabet) (list : List Bool) → is_ok (field_at (OfCharacter a) list) ≡ true → (a.width ≤ length list) × ((c : ℕ) × IsCode a c (number (take a.width list)))
+pub character_there : (a : Alphabet) (list : List Bool) → is_ok (field_at (OfCharacter a) list) ≡ true
+    → (a.width ≤ length list) × ((c : ℕ) × IsCode a c (number (take a.width list)))
 unfolding field_at cut_at failed
 character_there a list ok =
     let k : ℕ = number (take a.width list) in
-    let h = chosen_ok (ltb (length list) a.width) (Short (a.width - length list)) (with_rest (drop a.width list) (character_content a (take a.width list))) ok in
+    let h =
+        chosen_ok (ltb (length list) a.width) (Short (a.width - length list))
+        (with_rest (drop a.width list) (character_content a (take a.width list))) ok in
     (ltb-false _ _ h.0, coded a k (drop a.width list) (character_of a k) refl h.1)
 
-pub character_refused : (a : Alphabet) (list : List Bool) (k : ℕ) → a.width ≤ length list → k ≡ number (take a.width list) → ((c : ℕ) → ¬ (IsCode a c k)) → field_at (OfCharacter a) list ≡ Err (NoCharacter k)
+pub character_refused : (a : Alphabet) (list : List Bool) (k : ℕ) → a.width ≤ length list
+    → k ≡ number (take a.width list) → ((c : ℕ) → ¬ (IsCode a c k))
+    → field_at (OfCharacter a) list ≡ Err (NoCharacter k)
 unfolding field_at cut_at
 character_refused a list k le is none =
     rw (le-ltb _ _ le, sym is, none_from_no_code a k none) refl

@@ -50,7 +50,8 @@ no_count k e c =
 
 -- ---- the integer behind it
 
-counted_ok : (r : Read) (field : Field) (rest : List Bool) → counted r ≡ Ok (field, rest) → (x : Field × List Bool) × (r ≡ Ok x) × (◌≡◌ {A = Field × List Bool} (as_counted x.0, x.1) (field, rest))
+counted_ok : (r : Read) (field : Field) (rest : List Bool) → counted r ≡ Ok (field, rest) → (x : Field × List Bool)
+    × (r ≡ Ok x) × (◌≡◌ {A = Field × List Bool} (as_counted x.0, x.1) (field, rest))
 counted_ok (Ok x) field rest e = (x, refl, ok_is _ _ e)
 counted_ok (Err fault) field rest e = absurd (err_is_no_ok _ _ e)
 
@@ -68,25 +69,34 @@ bits_more : (octets : List ℕ) → bits (length octets ∷ octets) ≡ digits (
 unfolding bits
 bits_more octets = refl
 
-counted_takes : (list : List Bool) (k : ℕ) (field : Field) (rest : List Bool) → 8 ≤ length list → k ≡ number (take 8 list) → IsCount k → Takes (OfInteger k) (drop 8 list) field rest → Takes OfCountedInteger list (as_counted field) rest
+counted_takes : (list : List Bool) (k : ℕ) (field : Field) (rest : List Bool) → 8 ≤ length list
+    → k ≡ number (take 8 list) → IsCount k → Takes (OfInteger k) (drop 8 list) field rest
+    → Takes OfCountedInteger list (as_counted field) rest
 counted_takes list k (Integer n) rest le is count t =
     let o : List ℕ = t.spelled.0 in
     let len : length o ≡ k = ap length (same_shortest n o t.of_shape.0 t.spelled.1 t.of_shape.1) ∙ t.of_shape.2 in
-    let first : take 8 list ≡ digits (length o) 8 = sym (digits_of-number (take 8 list) 8 (omega (arith, length-take 8 list))) ∙ ap (λ (m : ℕ). digits m 8) (sym is ∙ sym len) in
+    let first : take 8 list ≡ digits (length o) 8 =
+        sym (digits_of-number (take 8 list) 8 (omega (arith, length-take 8 list)))
+        ∙ ap (λ (m : ℕ). digits m 8) (sym is ∙ sym len) in
     let small = count.1 in
     record {
       front = take 8 list ++ t.front;
       of_shape = tt;
-      spelled = (o, t.spelled.1, omega arith, ap (λ (l : List Bool). l ++ t.front) first ∙ ap (λ (l : List Bool). digits (length o) 8 ++ l) t.spelled.2 ∙ sym (bits_more o));
-      parts = sym (take-append-drop 8 list) ∙ ap (λ (l : List Bool). take 8 list ++ l) t.parts ∙ sym (append_assoc (take 8 list) t.front rest);
+      spelled =
+          (o, t.spelled.1, omega arith, ap (λ (l : List Bool). l ++ t.front) first
+          ∙ ap (λ (l : List Bool). digits (length o) 8 ++ l) t.spelled.2 ∙ sym (bits_more o));
+      parts = sym (take-append-drop 8 list) ∙ ap (λ (l : List Bool). take 8 list ++ l) t.parts
+          ∙ sym (append_assoc (take 8 list) t.front rest);
     }
 counted_takes list k field rest le is count t = absurd t.of_shape
 
 -- why no integer is there is why no counted one is
-counted_reason : (list : List Bool) (fault : Fault) → 8 ≤ length list → IsCount (first_octet list) → IsReason (OfInteger (first_octet list)) (drop 8 list) fault → IsReason OfCountedInteger list fault
+counted_reason : (list : List Bool) (fault : Fault) → 8 ≤ length list → IsCount (first_octet list)
+    → IsReason (OfInteger (first_octet list)) (drop 8 list) fault → IsReason OfCountedInteger list fault
 counted_reason list NotInteger le count (inl none) = let some = count.0 in absurd (omega arith)
 counted_reason list NotInteger le count (inr r) = (omega (arith, length-drop 8 list, r.0), count, r.1)
-counted_reason list (Short n) le count r = let some = r.1.0 in inr (le, count, (some, omega (arith, length-drop 8 list, r.1.1)))
+counted_reason list (Short n) le count r = let some =
+    r.1.0 in inr (le, count, (some, omega (arith, length-drop 8 list, r.1.1)))
 counted_reason list (NumberWidth w) le count r = absurd r
 counted_reason list (NoCharacter c) le count r = absurd r
 counted_reason list (NoLength c) le count r = absurd r
@@ -102,12 +112,15 @@ pub counted_exact : IsExact OfCountedInteger (field_at OfCountedInteger)
 unfolding field_at counted_at failed is_no_count
 counted_exact = record { taken = taken; again = again; reason = reason }
   where
-    taken : (list : List Bool) (field : Field) (rest : List Bool) → field_at OfCountedInteger list ≡ Ok (field, rest) → Takes OfCountedInteger list field rest
+    taken : (list : List Bool) (field : Field) (rest : List Bool) → field_at OfCountedInteger list ≡ Ok (field, rest)
+        → Takes OfCountedInteger list field rest
     taken list field rest e =
         let k : ℕ = number (take 8 list) in
-        elim (chosen (ltb (length list) 8) (failed (Short (8 - length list))) (counted_at k (drop 8 list)) (Ok (field, rest)) e) [
+        elim (chosen (ltb (length list) 8) (failed (Short (8 - length list))) (counted_at k (drop 8 list))
+            (Ok (field, rest)) e) [
           | inl h ↦ absurd (err_is_no_ok _ _ h.1)
-          | inr h ↦ elim (chosen (eqb k 0 || ltb 127 k) (failed (NoLength k)) (counted (integer_at k (drop 8 list))) (Ok (field, rest)) h.1) [
+          | inr h ↦ elim (chosen (eqb k 0 || ltb 127 k) (failed (NoLength k)) (counted (integer_at k (drop 8 list)))
+              (Ok (field, rest)) h.1) [
             | inl g ↦ absurd (err_is_no_ok _ _ g.1)
             | inr g ↦
                 let x = counted_ok (integer_at k (drop 8 list)) field rest g.1 in
@@ -117,7 +130,8 @@ counted_exact = record { taken = taken; again = again; reason = reason }
           ]
         ]
 
-    again : (field : Field) (front rest : List Bool) → IsOfShape field OfCountedInteger → IsSpelledBy field front → field_at OfCountedInteger (front ++ rest) ≡ Ok (field, rest)
+    again : (field : Field) (front rest : List Bool) → IsOfShape field OfCountedInteger → IsSpelledBy field front
+        → field_at OfCountedInteger (front ++ rest) ≡ Ok (field, rest)
     again (CountedInteger n) front rest shape s =
         let o : List ℕ = s.0 in
         let list : List Bool = front ++ rest in
@@ -127,27 +141,38 @@ counted_exact = record { taken = taken; again = again; reason = reason }
         let whole : list ≡ digits (length o) 8 ++ (bits o ++ rest) =
         ap (λ (l : List Bool). l ++ rest) (s.3 ∙ bits_more o) ∙ append_assoc (digits (length o) 8) (bits o) rest in
         let first : number (take 8 list) ≡ length o =
-        ap (λ (l : List Bool). number (take 8 l)) whole ∙ ap number (take_at (digits (length o) 8) (bits o ++ rest) 8 len) ∙ number_of-digits (length o) 8 (omega arith) in
-        let behind : drop 8 list ≡ bits o ++ rest = ap (drop 8) whole ∙ drop_at (digits (length o) 8) (bits o ++ rest) 8 len in
-        let long : ltb (length list) 8 ≡ false = le-ltb _ _ (omega (arith, ap length whole, length-append (digits (length o) 8) (bits o ++ rest))) in
+        ap (λ (l : List Bool). number (take 8 l)) whole
+            ∙ ap number (take_at (digits (length o) 8) (bits o ++ rest) 8 len)
+            ∙ number_of-digits (length o) 8 (omega arith) in
+        let behind : drop 8 list ≡ bits o ++ rest = ap (drop 8) whole
+            ∙ drop_at (digits (length o) 8) (bits o ++ rest) 8 len in
+        let long : ltb (length list) 8 ≡ false =
+            le-ltb _ _ (omega (arith, ap length whole, length-append (digits (length o) 8) (bits o ++ rest))) in
         let read : integer_at (length o) (bits o ++ rest) ≡ Ok (Integer n, rest) =
-        at_integer (length o) (bits o ++ rest) ∙ (integer_exact (length o)).again (Integer n) (bits o) rest (o, s.1, refl) (o, s.1, refl) in
+        at_integer (length o) (bits o ++ rest)
+            ∙ (integer_exact (length o)).again (Integer n) (bits o) rest (o, s.1, refl) (o, s.1, refl) in
         rw (long, first, behind, count_test (length o) (omega arith, small), read) refl
     again field front rest shape s = absurd shape
 
-    reason : (list : List Bool) (fault : Fault) → field_at OfCountedInteger list ≡ Err fault → IsReason OfCountedInteger list fault
+    reason : (list : List Bool) (fault : Fault) → field_at OfCountedInteger list ≡ Err fault
+        → IsReason OfCountedInteger list fault
     reason list fault e =
         let k : ℕ = number (take 8 list) in
-        elim (chosen (ltb (length list) 8) (failed (Short (8 - length list))) (counted_at k (drop 8 list)) (Err fault) e) [
+        elim (chosen (ltb (length list) 8) (failed (Short (8 - length list))) (counted_at k (drop 8 list)) (Err fault)
+            e) [
           | inl h ↦
               let lt : length list < 8 = ltb-true _ _ h.0 in
               subst (λ (f : Fault). IsReason OfCountedInteger list f) (err_is _ _ h.1) (inl (omega arith, omega arith))
           | inr h ↦
               let le : 8 ≤ length list = ltb-false _ _ h.0 in
-              elim (chosen (eqb k 0 || ltb 127 k) (failed (NoLength k)) (counted (integer_at k (drop 8 list))) (Err fault) h.1) [
-                | inl g ↦ subst (λ (f : Fault). IsReason OfCountedInteger list f) (err_is _ _ g.1) (le, refl, no_count k g.0)
+              elim (chosen (eqb k 0 || ltb 127 k) (failed (NoLength k)) (counted (integer_at k (drop 8 list)))
+                  (Err fault) h.1) [
+                | inl g ↦ subst (λ (f : Fault). IsReason OfCountedInteger list f) (err_is _ _ g.1)
+                    (le, refl, no_count k g.0)
                 | inr g ↦
-                    let r = (integer_exact k).reason (drop 8 list) fault (sym (at_integer k (drop 8 list)) ∙ counted_err _ fault g.1) in
+                    let r =
+                        (integer_exact k).reason (drop 8 list) fault
+                        (sym (at_integer k (drop 8 list)) ∙ counted_err _ fault g.1) in
                     counted_reason list fault le (count_from k g.0) r
               ]
         ]
@@ -165,7 +190,8 @@ integer_there (Err fault) e = absurd cc
 
 -- where a counted integer can be read, its first octet is there, and behind it an integer of so many octets
 pub counted_there : (list : List Bool) → is_ok (field_at OfCountedInteger list) ≡ true
-    → (8 ≤ length list) × (is_no_count (first_octet list) ≡ false) × (is_ok (integer_at (first_octet list) (drop 8 list)) ≡ true)
+    → (8 ≤ length list) × (is_no_count (first_octet list) ≡ false)
+        × (is_ok (integer_at (first_octet list) (drop 8 list)) ≡ true)
 unfolding field_at counted_at failed is_no_count
 counted_there list ok =
     let k : ℕ = first_octet list in
@@ -173,7 +199,8 @@ counted_there list ok =
     let g = tested (eqb k 0 || ltb 127 k) (NoLength k) (counted (integer_at k (drop 8 list))) h.1 in
     (ltb-false _ _ h.0, g.0, integer_there _ g.1)
 
-pub read_counted : (list left : List Bool) (n : ℤ) → is_ok (field_at OfCountedInteger list) ≡ true → integer_at (first_octet list) (drop 8 list) ≡ Ok (Integer n, left)
+pub read_counted : (list left : List Bool) (n : ℤ) → is_ok (field_at OfCountedInteger list) ≡ true
+    → integer_at (first_octet list) (drop 8 list) ≡ Ok (Integer n, left)
     → field_at OfCountedInteger list ≡ Ok (CountedInteger n, left)
 unfolding field_at counted_at is_no_count
 read_counted list left n ok read =
@@ -181,14 +208,16 @@ read_counted list left n ok read =
     rw (le-ltb _ _ there.0, there.1, read) refl
 
 -- and every list that spells it has the bits of the octets that were asked for, and eight more
-pub length-read_counted : (k : ℕ) (list left : List Bool) (n : ℤ) → integer_at k list ≡ Ok (Integer n, left) → (others : List Bool) → IsSpelledBy (CountedInteger n) others → length others ≡ 8 + 8 * k
+pub length-read_counted : (k : ℕ) (list left : List Bool) (n : ℤ) → integer_at k list ≡ Ok (Integer n, left)
+    → (others : List Bool) → IsSpelledBy (CountedInteger n) others → length others ≡ 8 + 8 * k
 length-read_counted k list left n e others s =
     let t = (integer_exact k).taken list (Integer n) left (sym (at_integer k list) ∙ e) in
     let count : length s.0 ≡ k = ap length (same_shortest n s.0 t.of_shape.0 s.1 t.of_shape.1) ∙ t.of_shape.2 in
     omega (arith, ap length s.3, length-bits (length s.0 ∷ s.0))
 
 -- a part of the part behind an octet
-pub part_behind : (v now : View) (n m : ℕ) → now ≡ part v 8 (v.len - 8) → m ≡ 8 + n → part now n (now.len - n) ≡ part v m (v.len - m)
+pub part_behind : (v now : View) (n m : ℕ) → now ≡ part v 8 (v.len - 8) → m ≡ 8 + n
+    → part now n (now.len - n) ≡ part v m (v.len - m)
 part_behind v now n m is e =
     let first : v.first + 8 + n ≡ v.first + m = omega arith in
     let len : v.len - 8 - n ≡ v.len - m = omega arith in

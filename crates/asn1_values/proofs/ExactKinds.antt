@@ -15,15 +15,20 @@ pub record Takes (shape : Shape) (list : List Bool) (field : Field) (rest : List
 
 -- reading a field of the shape is exact
 pub record IsExact (shape : Shape) (read : List Bool → Result (Field × List Bool) Fault) : Type 0 where
-  pub taken : (list : List Bool) (field : Field) (rest : List Bool) → read list ≡ Ok (field, rest) → Takes shape list field rest
-  pub again : (field : Field) (front rest : List Bool) → IsOfShape field shape → IsSpelledBy field front → read (front ++ rest) ≡ Ok (field, rest)
+  pub taken : (list : List Bool) (field : Field) (rest : List Bool) → read list ≡ Ok (field, rest)
+      → Takes shape list field rest
+  pub again : (field : Field) (front rest : List Bool) → IsOfShape field shape → IsSpelledBy field front
+      → read (front ++ rest) ≡ Ok (field, rest)
   pub reason : (list : List Bool) (fault : Fault) → read list ≡ Err fault → IsReason shape list fault
 
 -- the same of the bits of a whole field, of which there are n
 pub record HoldsExactly (shape : Shape) (n : ℕ) (content : List Bool → Result Field Fault) : Type 0 where
-  pub taken : (front : List Bool) (field : Field) → length front ≡ n → content front ≡ Ok field → IsOfShape field shape × IsSpelledBy field front
-  pub again : (field : Field) (front : List Bool) → IsOfShape field shape → IsSpelledBy field front → (length front ≡ n) × (content front ≡ Ok field)
-  pub reason : (front rest : List Bool) (fault : Fault) → length front ≡ n → content front ≡ Err fault → IsReason shape (front ++ rest) fault
+  pub taken : (front : List Bool) (field : Field) → length front ≡ n → content front ≡ Ok field → IsOfShape field shape
+      × IsSpelledBy field front
+  pub again : (field : Field) (front : List Bool) → IsOfShape field shape → IsSpelledBy field front → (length front ≡ n)
+      × (content front ≡ Ok field)
+  pub reason : (front rest : List Bool) (fault : Fault) → length front ≡ n → content front ≡ Err fault
+      → IsReason shape (front ++ rest) fault
   pub short : (list : List Bool) (k : ℕ) → IsShortBy n list k → IsReason shape list (Short k)
 
 -- ---- steps that may fail
@@ -51,7 +56,8 @@ abbrev pub Held : Type 0
 Held = Result Field Fault
 
 -- what was given with the rest was held, and that is the rest
-held_with : (r : Held) (rest left : List Bool) (field : Field) → with_rest rest r ≡ Ok (field, left) → (r ≡ Ok field) × (rest ≡ left)
+held_with : (r : Held) (rest left : List Bool) (field : Field) → with_rest rest r ≡ Ok (field, left) → (r ≡ Ok field)
+    × (rest ≡ left)
 held_with (Ok x) rest left field e =
     let same : (x, rest) ≡ (field, left) = ok_is (x, rest) (field, left) e in
     (ap (λ (p : Field × List Bool). Ok p.0) same, ap (λ (p : Field × List Bool). p.1) same)
@@ -65,10 +71,12 @@ fault_with (Err other) rest fault e = ap (λ (f : Fault). Err f) (err_is other f
 -- ---- from the bits of a whole field to the bits that begin with it
 
 module _ (shape : Shape) (n : ℕ) (content : List Bool → Result Field Fault) (exact : HoldsExactly shape n content) where
-  cut_taken : (list : List Bool) (field : Field) (rest : List Bool) → cut_at n content list ≡ Ok (field, rest) → Takes shape list field rest
+  cut_taken : (list : List Bool) (field : Field) (rest : List Bool) → cut_at n content list ≡ Ok (field, rest)
+      → Takes shape list field rest
   unfolding cut_at
   cut_taken list field rest e =
-      elim (chosen (ltb (length list) n) (Err (Short (n - length list))) (with_rest (drop n list) (content (take n list))) (Ok (field, rest)) e) [
+      elim (chosen (ltb (length list) n) (Err (Short (n - length list)))
+          (with_rest (drop n list) (content (take n list))) (Ok (field, rest)) e) [
         | inl h ↦ absurd (err_is_no_ok _ _ h.1)
         | inr h ↦
             let long : n ≤ length list = ltb-false _ _ h.0 in
@@ -82,7 +90,8 @@ module _ (shape : Shape) (n : ℕ) (content : List Bool → Result Field Fault) 
             }
       ]
 
-  cut_again : (field : Field) (front rest : List Bool) → IsOfShape field shape → IsSpelledBy field front → cut_at n content (front ++ rest) ≡ Ok (field, rest)
+  cut_again : (field : Field) (front rest : List Bool) → IsOfShape field shape → IsSpelledBy field front
+      → cut_at n content (front ++ rest) ≡ Ok (field, rest)
   unfolding cut_at
   cut_again field front rest of_shape spelled =
       let a = exact.again field front of_shape spelled in
@@ -92,14 +101,17 @@ module _ (shape : Shape) (n : ℕ) (content : List Bool → Result Field Fault) 
   cut_reason : (list : List Bool) (fault : Fault) → cut_at n content list ≡ Err fault → IsReason shape list fault
   unfolding cut_at
   cut_reason list fault e =
-      elim (chosen (ltb (length list) n) (Err (Short (n - length list))) (with_rest (drop n list) (content (take n list))) (Err fault) e) [
+      elim (chosen (ltb (length list) n) (Err (Short (n - length list)))
+          (with_rest (drop n list) (content (take n list))) (Err fault) e) [
         | inl h ↦
             let short : length list < n = ltb-true _ _ h.0 in
-            subst (λ (f : Fault). IsReason shape list f) (err_is _ _ h.1) (exact.short list (n - length list) (omega arith, omega arith))
+            subst (λ (f : Fault). IsReason shape list f) (err_is _ _ h.1)
+                (exact.short list (n - length list) (omega arith, omega arith))
         | inr h ↦
             let long : n ≤ length list = ltb-false _ _ h.0 in
             let c = fault_with (content (take n list)) (drop n list) fault h.1 in
-            subst (λ (l : List Bool). IsReason shape l fault) (take-append-drop n list) (exact.reason (take n list) (drop n list) fault (omega (arith, length-take n list)) c)
+            subst (λ (l : List Bool). IsReason shape l fault) (take-append-drop n list)
+                (exact.reason (take n list) (drop n list) fault (omega (arith, length-take n list)) c)
       ]
 
   pub cut_exact : IsExact shape (cut_at n content)

@@ -43,7 +43,8 @@ are_exact : (ss : List Shape) → AreExact (plain_shapes ss)
 are_exact [] = tt
 are_exact (s ∷ ss) = (is_exact s, are_exact ss)
 
-named : (list : List Bool) (ss : List plain.Shape) (i : ℕ) (fault : Fault) → IsFirstFault list ss i fault → IsReadRefusal list ss (error_at i fault)
+named : (list : List Bool) (ss : List plain.Shape) (i : ℕ) (fault : Fault) → IsFirstFault list ss i fault
+    → IsReadRefusal list ss (error_at i fault)
 named list ss i (NumberWidth w) h = h
 named list ss i NotInteger h = h
 named list ss i (Short n) h = h
@@ -58,43 +59,57 @@ Left = Result (List Bool) ReadError
 error_is : (a b : ReadError) → ◌≡◌ {A = Left} (Err a) (Err b) → a ≡ b
 error_is a b e = cc
 
-refusal_of : (list : List Bool) (ss : List plain.Shape) (r : ReadAll) (e : ReadError) → AreExact ss → fields_at ss list ≡ r → past_all 0 r ≡ Err e → IsReadRefusal list ss e
+refusal_of : (list : List Bool) (ss : List plain.Shape) (r : ReadAll) (e : ReadError) → AreExact ss
+    → fields_at ss list ≡ r → past_all 0 r ≡ Err e → IsReadRefusal list ss e
 refusal_of list ss (Ok x) e exact is h = absurd cc
 refusal_of list ss (Err x) e exact is h =
     let n : 0 + x.0 ≡ x.0 = omega arith in
     let same : error_at x.0 x.1 ≡ e = ap (λ (k : ℕ). error_at k x.1) (sym n) ∙ error_is _ _ h in
     subst (λ (d : ReadError). IsReadRefusal list ss d) same (named list ss x.0 x.1 (fields_refused ss list x exact is))
 
-pub refusal : (list : List Bool) (ss : List Shape) (e : ReadError) → past_all 0 (fields_at (plain_shapes ss) list) ≡ Err e → IsReadRefusal list (plain_shapes ss) e
+pub refusal : (list : List Bool) (ss : List Shape) (e : ReadError)
+    → past_all 0 (fields_at (plain_shapes ss) list) ≡ Err e → IsReadRefusal list (plain_shapes ss) e
 refusal list ss e h = refusal_of list (plain_shapes ss) (fields_at (plain_shapes ss) list) e (are_exact ss) refl h
 
-can_begin_of : (list : List Bool) (ss : List plain.Shape) (r : ReadAll) → AreExact ss → fields_at ss list ≡ r → is_ok r ≡ true → CanBegin list ss
+can_begin_of : (list : List Bool) (ss : List plain.Shape) (r : ReadAll) → AreExact ss → fields_at ss list ≡ r
+    → is_ok r ≡ true → CanBegin list ss
 can_begin_of list ss (Ok x) exact is h = (x.0, x.1, fields_taken ss list x.0 x.1 exact is)
 can_begin_of list ss (Err x) exact is h = absurd cc
 
-pub can_begin : (list : List Bool) (ss : List Shape) → is_ok (fields_at (plain_shapes ss) list) ≡ true → CanBegin list (plain_shapes ss)
+pub can_begin : (list : List Bool) (ss : List Shape) → is_ok (fields_at (plain_shapes ss) list) ≡ true
+    → CanBegin list (plain_shapes ss)
 can_begin list ss h = can_begin_of list (plain_shapes ss) (fields_at (plain_shapes ss) list) (are_exact ss) refl h
 
-pub none_refused : (list : List Bool) (ss : List Shape) (e : ReadError) → ss ≡ [] → past_all 0 (fields_at (plain_shapes ss) list) ≡ Err e → ⊥
+pub none_refused : (list : List Bool) (ss : List Shape) (e : ReadError) → ss ≡ []
+    → past_all 0 (fields_at (plain_shapes ss) list) ≡ Err e → ⊥
 unfolding fields_at
 none_refused list ss e none h = let h2 : past_all 0 (fields_at [] list) ≡ Err e = rw none at h in no_error list e h2
   where
     no_error : (l : List Bool) (e : ReadError) → ◌≡◌ {A = Left} (Ok l) (Err e) → ⊥
     no_error l e h = cc
 
-pub found : (list : List Bool) (ss : List Shape) (fields : List plain.Field) (rest : List Bool) → fields_at (plain_shapes ss) list ≡ Ok (fields, rest) → Begins list (plain_shapes ss) fields rest
+pub found : (list : List Bool) (ss : List Shape) (fields : List plain.Field) (rest : List Bool)
+    → fields_at (plain_shapes ss) list ≡ Ok (fields, rest) → Begins list (plain_shapes ss) fields rest
 found list ss fields rest e = fields_taken (plain_shapes ss) list fields rest (are_exact ss) e
 
-pub only : (list : List Bool) (ss : List Shape) (fields : List plain.Field) (rest : List Bool) → fields_at (plain_shapes ss) list ≡ Ok (fields, rest) → (others : List plain.Field) (left : List Bool) → Begins list (plain_shapes ss) others left → (fields ≡ others) × (rest ≡ left)
-only list ss fields rest e others left b = only_fields (plain_shapes ss) list fields others rest left (are_exact ss) (found list ss fields rest e) b
+pub only : (list : List Bool) (ss : List Shape) (fields : List plain.Field) (rest : List Bool)
+    → fields_at (plain_shapes ss) list ≡ Ok (fields, rest) → (others : List plain.Field) (left : List Bool)
+    → Begins list (plain_shapes ss) others left → (fields ≡ others) × (rest ≡ left)
+only list ss fields rest e others left b =
+    only_fields (plain_shapes ss) list fields others rest left (are_exact ss) (found list ss fields rest e) b
 
-pub read_octets : (count : ℕ) (list left : List Bool) (octets : List ℕ) → 8 * count ≤ length list → left ≡ drop (8 * count) list → bits octets ≡ take (8 * count) list → All (λ octet. octet < 256) octets → field_at (plain.OfOctets count) list ≡ Ok (plain.Octets octets, left)
+pub read_octets : (count : ℕ) (list left : List Bool) (octets : List ℕ) → 8 * count ≤ length list
+    → left ≡ drop (8 * count) list → bits octets ≡ take (8 * count) list → All (λ octet. octet < 256) octets
+    → field_at (plain.OfOctets count) list ≡ Ok (plain.Octets octets, left)
 read_octets count list left octets le rest is are =
     let len : length octets ≡ count = omega (arith, length-bits octets, ap length is, length-take (8 * count) list) in
-    let whole : list ≡ take (8 * count) list ++ left = sym (take-append-drop (8 * count) list) ∙ ap (λ (l : List Bool). take (8 * count) list ++ l) (sym rest) in
-    ap (field_at (plain.OfOctets count)) whole ∙ (octets_exact count).again (plain.Octets octets) (take (8 * count) list) left len (are, sym is)
+    let whole : list ≡ take (8 * count) list ++ left = sym (take-append-drop (8 * count) list)
+        ∙ ap (λ (l : List Bool). take (8 * count) list ++ l) (sym rest) in
+    ap (field_at (plain.OfOctets count)) whole
+        ∙ (octets_exact count).again (plain.Octets octets) (take (8 * count) list) left len (are, sym is)
 
-pub accepted : (list : List Bool) (ss : List Shape) (e : ReadError) → past_all 0 (fields_at (plain_shapes ss) list) ≡ Err e → CanBegin list (plain_shapes ss) → ⊥
+pub accepted : (list : List Bool) (ss : List Shape) (e : ReadError)
+    → past_all 0 (fields_at (plain_shapes ss) list) ≡ Err e → CanBegin list (plain_shapes ss) → ⊥
 accepted list ss e h c =
     let again = fields_again (plain_shapes ss) list c.0 c.1 (are_exact ss) c.2 in
     let h2 : past_all 0 (Ok (c.0, c.1)) ≡ Err e = rw again at h in
@@ -104,23 +119,29 @@ accepted list ss e h c =
     no_error l e h = cc
 
 -- one concatenation spells one list of fields of the shapes
-pub one_list : (ss : List Shape) (xs ys : List plain.Field) (list : List Bool) → AllZip IsOfShape xs (plain_shapes ss) → AllZip IsOfShape ys (plain_shapes ss) → AreSpelledBy xs list → AreSpelledBy ys list → xs ≡ ys
+pub one_list : (ss : List Shape) (xs ys : List plain.Field) (list : List Bool) → AllZip IsOfShape xs (plain_shapes ss)
+    → AllZip IsOfShape ys (plain_shapes ss) → AreSpelledBy xs list → AreSpelledBy ys list → xs ≡ ys
 one_list ss xs ys list zx zy p q =
-    let a : Begins list (plain_shapes ss) xs [] = record { of_shapes = zx; front = list; spelled = p; parts = sym (append-nil list) } in
-    let b : Begins list (plain_shapes ss) ys [] = record { of_shapes = zy; front = list; spelled = q; parts = sym (append-nil list) } in
+    let a : Begins list (plain_shapes ss) xs [] =
+        record { of_shapes = zx; front = list; spelled = p; parts = sym (append-nil list) } in
+    let b : Begins list (plain_shapes ss) ys [] =
+        record { of_shapes = zy; front = list; spelled = q; parts = sym (append-nil list) } in
     (only_fields (plain_shapes ss) list xs ys [] [] (are_exact ss) a b).0
 
 -- and no concatenation begins that of other fields of the shapes
 pub none_begins_another : (ss : List Shape) → NoneBeginsAnother (plain_shapes ss)
 none_begins_another ss xs ys front rest zx zy p q =
-    let a : Begins (front ++ rest) (plain_shapes ss) xs rest = record { of_shapes = zx; front = front; spelled = p; parts = refl } in
-    let b : Begins (front ++ rest) (plain_shapes ss) ys [] = record { of_shapes = zy; front = front ++ rest; spelled = q; parts = sym (append-nil (front ++ rest)) } in
+    let a : Begins (front ++ rest) (plain_shapes ss) xs rest =
+        record { of_shapes = zx; front = front; spelled = p; parts = refl } in
+    let b : Begins (front ++ rest) (plain_shapes ss) ys [] =
+        record { of_shapes = zy; front = front ++ rest; spelled = q; parts = sym (append-nil (front ++ rest)) } in
     only_fields (plain_shapes ss) (front ++ rest) xs ys rest [] (are_exact ss) a b
 
 -- no spelling of one field begins that of another
 each_alone_of : (shape : plain.Shape) → IsExact shape (field_at shape) → NoSpellingBeginsAnother shape
 each_alone_of shape exact x y front rest sx sy p q =
-    let whole : field_at shape (front ++ rest) ≡ Ok (y, []) = ap (field_at shape) (sym (append-nil (front ++ rest))) ∙ exact.again y (front ++ rest) [] sy q in
+    let whole : field_at shape (front ++ rest) ≡ Ok (y, []) = ap (field_at shape) (sym (append-nil (front ++ rest)))
+        ∙ exact.again y (front ++ rest) [] sy q in
     let same : (x, rest) ≡ (y, []) = ok_is _ _ (sym (exact.again x front rest sx p) ∙ whole) in
     (ap (λ (f : plain.Field × List Bool). f.0) same, ap (λ (f : plain.Field × List Bool). f.1) same)
 
@@ -129,10 +150,12 @@ each_alone [] = tt
 each_alone (s ∷ ss) = (each_alone_of (plain_shape s) (is_exact s), each_alone ss)
 
 -- octets that can be read are there
-pub octets_there : (count : ℕ) (list : List Bool) → is_ok (field_at (plain.OfOctets count) list) ≡ true → 8 * count ≤ length list
+pub octets_there : (count : ℕ) (list : List Bool) → is_ok (field_at (plain.OfOctets count) list) ≡ true
+    → 8 * count ≤ length list
 octets_there count list ok = there (field_at (plain.OfOctets count) list) refl ok
   where
-    there : (r : Result (plain.Field × List Bool) Fault) → field_at (plain.OfOctets count) list ≡ r → is_ok r ≡ true → 8 * count ≤ length list
+    there : (r : Result (plain.Field × List Bool) Fault) → field_at (plain.OfOctets count) list ≡ r → is_ok r ≡ true
+        → 8 * count ≤ length list
     there (Ok x) e h =
         let t = (octets_exact count).taken list x.0 x.1 e in
         let front = length-spelled (plain.OfOctets count) x.0 t.front t.of_shape t.spelled in

@@ -4,7 +4,8 @@ use Rattle.std.proofs.lemmas.List.{append-nil}
 use Rattle.asn1_values.specs.Joined.{AreJoined}
 
 module _ {X A : Type 0} (P : X → List A → Type 0) where
-  pub joins_append : (xs ys : List X) (a b : List A) → AreJoined P xs a → AreJoined P ys b → AreJoined P (xs ++ ys) (a ++ b)
+  pub joins_append : (xs ys : List X) (a b : List A) → AreJoined P xs a → AreJoined P ys b
+      → AreJoined P (xs ++ ys) (a ++ b)
   joins_append [] ys a b j k = subst (λ (l : List A). AreJoined P ys l) (ap (λ (l : List A). l ++ b) (sym j)) k
   joins_append (x ∷ xs) ys a b j k =
       (j.0, j.1 ++ b, j.2, joins_append xs ys j.1 b j.3 k, ap (λ (l : List A). l ++ b) j.4 ∙ append_assoc j.0 j.1 b)
@@ -37,7 +38,8 @@ module _ {X A : Type 0} (P : X → List A → Type 0) where
   pub joins_push : (xs : List X) (x : X) (a b : List A) → AreJoined P xs a → P x b → AreJoined P (xs ++ x ∷ []) (a ++ b)
   joins_push xs x a b j p = joins_append xs (x ∷ []) a b j (joins_one x b p)
 
-  pub each_joined : (xs : List X) (whole : List A) (i : ℕ) (x : X) → AreJoined P xs whole → slice_get xs i ≡ Some x → (a : List A) × P x a
+  pub each_joined : (xs : List X) (whole : List A) (i : ℕ) (x : X) → AreJoined P xs whole → slice_get xs i ≡ Some x
+      → (a : List A) × P x a
   each_joined [] whole i x j e = absurd cc
   each_joined (y ∷ xs) whole zero x j e = let same : y ≡ x = some_is y x e in (j.0, subst (λ (z : X). P z j.0) same j.2)
     where

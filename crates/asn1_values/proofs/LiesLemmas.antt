@@ -54,11 +54,13 @@ lie_more view fs field before at = record { each = each }
     each i other front e s = elim (cases_lt i (length fs)) [
       | inl lt ↦
           let cut : take i (fs ++ field ∷ []) ≡ take i fs = take-append-le i fs (field ∷ []) (omega arith) in
-          before.each i other front (sym (at_front fs field i lt) ∙ e) (subst (λ (l : List Field). AreSpelledBy (plain_fields l) front) cut s)
+          before.each i other front (sym (at_front fs field i lt) ∙ e)
+              (subst (λ (l : List Field). AreSpelledBy (plain_fields l) front) cut s)
       | inr le ↦
           let within = slice_get_within (fs ++ field ∷ []) i other e in
           let end : i ≡ length fs = omega (arith, length-append fs (field ∷ [])) in
-          let cut : take i (fs ++ field ∷ []) ≡ fs = take-append-le i fs (field ∷ []) (omega arith) ∙ take_all i fs (omega arith) in
+          let cut : take i (fs ++ field ∷ []) ≡ fs = take-append-le i fs (field ∷ []) (omega arith)
+              ∙ take_all i fs (omega arith) in
           let same : field ≡ other = same_Some field other (sym (at_end fs field i end) ∙ e) in
           subst (λ (f : Field). LiesAt view (view.first + length front) f) same
           (at front (subst (λ (l : List Field). AreSpelledBy (plain_fields l) front) cut s))
@@ -69,16 +71,20 @@ pub left_more : (view now new : View) (fs : List Field) (field : Field)
     → ((list : List Bool) → IsSpelledBy (plain_field field) list → new ≡ after now list)
     → (front : List Bool) → AreSpelledBy (plain_fields (fs ++ field ∷ [])) front → new ≡ after view front
 left_more view now new fs field before one front s =
-    let t : AreSpelledBy (plain_fields fs ++ plain_field field ∷ []) front = subst (λ (l : List plain.Field). AreSpelledBy l front) (map-append plain_field fs (field ∷ [])) s in
-    let p : Split IsSpelledBy (plain_fields fs) (plain_field field ∷ []) front = joins_split IsSpelledBy (plain_fields fs) (plain_field field ∷ []) front t in
+    let t : AreSpelledBy (plain_fields fs ++ plain_field field ∷ []) front =
+        subst (λ (l : List plain.Field). AreSpelledBy l front) (map-append plain_field fs (field ∷ [])) s in
+    let p : Split IsSpelledBy (plain_fields fs) (plain_field field ∷ []) front =
+        joins_split IsSpelledBy (plain_fields fs) (plain_field field ∷ []) front t in
     one p.back (one_joined IsSpelledBy (plain_field field) p.back p.of_back)
     ∙ ap (λ (v : View). after v p.back) (before p.front p.of_front)
     ∙ after-after view p.front p.back front p.parts
 
 -- a field lies where the view that was left begins
-pub lies_there : (view now : View) (front : List Bool) (field : Field) → now ≡ after view front → LiesAt now now.first field → LiesAt view (view.first + length front) field
+pub lies_there : (view now : View) (front : List Bool) (field : Field) → now ≡ after view front
+    → LiesAt now now.first field → LiesAt view (view.first + length front) field
 lies_there view now front (fields.Number value width) e at = tt
-lies_there view now front (fields.Octets octets) e at = subst (λ (v : View). LiesAt v v.first (fields.Octets octets)) e at
+lies_there view now front (fields.Octets octets) e at =
+    subst (λ (v : View). LiesAt v v.first (fields.Octets octets)) e at
 lies_there view now front (fields.Bits b) e at = subst (λ (v : View). LiesAt v v.first (fields.Bits b)) e at
 lies_there view now front (fields.Integer n) e at = tt
 lies_there view now front (fields.Character alphabet c) e at = tt

@@ -45,9 +45,11 @@ pushing_none old all count = record {
 }
 
 -- the word is full, and is pushed
-pub word_pushed : (old now new : BitAppender) (all rest : List ℕ) (word count_old count_now count_new : ℕ) → Pushing old now all rest word 128 count_old count_now
+pub word_pushed : (old now new : BitAppender) (all rest : List ℕ) (word count_old count_now count_new : ℕ)
+    → Pushing old now all rest word 128 count_old count_now
     → lender_of new ≡ lender_of now → bits_written new ≡ bits_written now ++ digits word 128 → room new + 128 ≡ room now
-    → count_now + div_ceil 128 64 ≤ count_new → count_new ≤ count_now + turns_for 128 → Pushing old new all rest 0 0 count_old count_new
+    → count_now + div_ceil 128 64 ≤ count_new → count_new ≤ count_now + turns_for 128
+        → Pushing old new all rest 0 0 count_old count_new
 unfolding digits
 word_pushed old now new all rest word count_old count_now count_new p lender written left low high = record {
   lender = lender ∙ p.lender;
@@ -65,15 +67,18 @@ word_pushed old now new all rest word count_old count_now count_new p lender wri
 }
 
 -- one octet more is taken
-pub octet_taken : (old now : BitAppender) (all rest more : List ℕ) (word width octet count_old count_now : ℕ) → Pushing old now all rest word width count_old count_now
-    → width ≤ 120 → octet < 256 → rest ≡ octet ∷ more → Pushing old now all more (256 * word + octet) (width + 8) count_old count_now
+pub octet_taken : (old now : BitAppender) (all rest more : List ℕ) (word width octet count_old count_now : ℕ)
+    → Pushing old now all rest word width count_old count_now
+    → width ≤ 120 → octet < 256 → rest ≡ octet ∷ more
+        → Pushing old now all more (256 * word + octet) (width + 8) count_old count_now
 octet_taken old now all rest more word width octet count_old count_now p le lt is =
     let n : ℕ = 256 * word + octet in
     let high : n / 2 ^ 8 ≡ word = omega arith in
     let same : n ≡ word * 2 ^ 8 + octet = omega arith in
     let low : digits n 8 ≡ digits octet 8 = ap (λ (k : ℕ). digits k 8) same ∙ digits-low word octet 8 in
     let both : digits n (width + 8) ≡ digits word width ++ digits octet 8 =
-    digits-append n width 8 ∙ ap (λ (k : ℕ). digits k width ++ digits n 8) high ∙ ap (λ (l : List Bool). digits word width ++ l) low in
+    digits-append n width 8 ∙ ap (λ (k : ℕ). digits k width ++ digits n 8) high
+        ∙ ap (λ (l : List Bool). digits word width ++ l) low in
     let longer = length-append p.front (octet ∷ []) in
     let power : 2 ^ (width + 8) ≡ 2 ^ width * 256 = pow-add 2 width 8 in
     record {
@@ -81,8 +86,10 @@ octet_taken old now all rest more word width octet count_old count_now p le lt i
       front = p.front ++ octet ∷ [];
       parts = p.parts ∙ ap (λ (l : List ℕ). p.front ++ l) is ∙ sym (append_assoc p.front (octet ∷ []) more);
       written =
-          ap (λ (l : List Bool). bits_written now ++ l) both ∙ sym (append_assoc (bits_written now) (digits word width) (digits octet 8))
-          ∙ ap (λ (l : List Bool). l ++ digits octet 8) p.written ∙ append_assoc (bits_written old) (bits p.front) (digits octet 8)
+          ap (λ (l : List Bool). bits_written now ++ l) both
+              ∙ sym (append_assoc (bits_written now) (digits word width) (digits octet 8))
+          ∙ ap (λ (l : List Bool). l ++ digits octet 8) p.written
+              ∙ append_assoc (bits_written old) (bits p.front) (digits octet 8)
           ∙ ap (λ (l : List Bool). bits_written old ++ l) (sym (bits-push p.front octet));
       left = let l = p.left in omega arith;
       small = let s = p.small in omega arith;
@@ -95,14 +102,16 @@ octet_taken old now all rest more word width octet count_old count_now p le lt i
     }
 
 -- a word is full, or has room for an octet
-pub full_or_not : (old now : BitAppender) (all rest : List ℕ) (word width count_old count_now : ℕ) → Pushing old now all rest word width count_old count_now → (width ≡ 128 → ⊥) → width ≤ 120
+pub full_or_not : (old now : BitAppender) (all rest : List ℕ) (word width count_old count_now : ℕ)
+    → Pushing old now all rest word width count_old count_now → (width ≡ 128 → ⊥) → width ≤ 120
 full_or_not old now all rest word width count_old count_now p ne =
     let w = p.whole in
     let le = p.wide in
     omega arith
 
 -- a word that is not full is below 2 to the power of 120
-pub word_fits : (old now : BitAppender) (all rest : List ℕ) (word width count_old count_now : ℕ) → Pushing old now all rest word width count_old count_now → (width ≡ 128 → ⊥) → word < 2 ^ 120
+pub word_fits : (old now : BitAppender) (all rest : List ℕ) (word width count_old count_now : ℕ)
+    → Pushing old now all rest word width count_old count_now → (width ≡ 128 → ⊥) → word < 2 ^ 120
 word_fits old now all rest word width count_old count_now p ne =
     let le = full_or_not old now all rest word width count_old count_now p ne in
     let up : 2 ^ width ≤ 2 ^ 120 = pow-le-pow_right {n = 2} (omega arith) {i = width} {j = 120} le in
@@ -110,17 +119,20 @@ word_fits old now all rest word width count_old count_now p ne =
     omega arith
 
 -- all of it
-module _ (old now new : BitAppender) (all rest : List ℕ) (word width count_old count_now count_new : ℕ) (p : Pushing old now all rest word width count_old count_now) (none : rest ≡ []) where
+module _ (old now new : BitAppender) (all rest : List ℕ) (word width count_old count_now count_new : ℕ)
+    (p : Pushing old now all rest word width count_old count_now) (none : rest ≡ []) where
   whole_front : all ≡ p.front
   whole_front = p.parts ∙ ap (λ (l : List ℕ). p.front ++ l) none ∙ append-nil p.front
 
-  pub all_written : bits_written new ≡ bits_written now ++ digits word width → bits_written new ≡ bits_written old ++ bits all
+  pub all_written : bits_written new ≡ bits_written now ++ digits word width
+      → bits_written new ≡ bits_written old ++ bits all
   all_written written = written ∙ p.written ∙ ap (λ (l : List ℕ). bits_written old ++ bits l) (sym whole_front)
 
   pub all_left : room new + width ≡ room now → room new + 8 * length all ≡ room old
   all_left left = let l = p.left in let n = ap length whole_front in omega arith
 
-  pub all_counted : count_now + div_ceil width 64 ≤ count_new → count_new ≤ count_now + turns_for width → TakesTurns (8 * length all) count_old count_new
+  pub all_counted : count_now + div_ceil width 64 ≤ count_new → count_new ≤ count_now + turns_for width
+      → TakesTurns (8 * length all) count_old count_new
   all_counted low high =
       let t = p.turns in
       let s = p.so_far in

@@ -29,7 +29,8 @@ use Rattle.asn1_values.proofs.JoinedLemmas.{joins_push, joins_append, joins_spli
 -- ---- one field
 
 pub number_fits : (value width : ℕ) → width ≤ 128 → value < 2 ^ width → FitsIn (Number value width) width
-number_fits value width le lt = record { fits = (digits value width, (le, lt, refl)); len = λ list s. ap length s.2 ∙ length-digits value width }
+number_fits value width le lt =
+    record { fits = (digits value width, (le, lt, refl)); len = λ list s. ap length s.2 ∙ length-digits value width }
 
 pub octets_fit : (octets : List ℕ) → All (λ octet. octet < 256) octets → FitsIn (Octets octets) (8 * length octets)
 octets_fit octets are = record { fits = (bits octets, (are, refl)); len = λ list s. ap length s.1 ∙ length-bits octets }
@@ -40,24 +41,30 @@ bits_fit view = record { fits = (view, refl); len = λ list s. ap length s }
 pub integer_fits : (n : ℤ) (octets : List ℕ) → IsShortest n octets → FitsIn (Integer n) (8 * length octets)
 integer_fits n octets shortest = record {
   fits = (bits octets, (octets, shortest, refl));
-  len = λ list s. ap length s.2 ∙ length-bits s.0 ∙ ap (λ (o : List ℕ). 8 * length o) (same_shortest n s.0 octets s.1 shortest);
+  len = λ list s. ap length s.2 ∙ length-bits s.0
+      ∙ ap (λ (o : List ℕ). 8 * length o) (same_shortest n s.0 octets s.1 shortest);
 }
 
 pub character_fits : (a : Alphabet) (c k : ℕ) → IsCode a c k → FitsIn (Character a c) a.width
-character_fits a c k code = record { fits = (digits k a.width, (k, code, refl)); len = λ list s. ap length s.2 ∙ length-digits s.0 a.width }
+character_fits a c k code =
+    record { fits = (digits k a.width, (k, code, refl)); len = λ list s. ap length s.2 ∙ length-digits s.0 a.width }
 
-pub counted_fits : (n : ℤ) (octets : List ℕ) → IsShortest n octets → length octets ≤ 127 → FitsIn (CountedInteger n) (8 + 8 * length octets)
+pub counted_fits : (n : ℤ) (octets : List ℕ) → IsShortest n octets → length octets ≤ 127
+    → FitsIn (CountedInteger n) (8 + 8 * length octets)
 counted_fits n octets shortest le = record {
   fits = (bits (length octets ∷ octets), (octets, shortest, le, refl));
   len = λ list s.
-      let same : list ≡ bits (length octets ∷ octets) = s.3 ∙ ap (λ (o : List ℕ). bits (length o ∷ o)) (same_shortest n s.0 octets s.1 shortest) in
+      let same : list ≡ bits (length octets ∷ octets) = s.3
+          ∙ ap (λ (o : List ℕ). bits (length o ∷ o)) (same_shortest n s.0 octets s.1 shortest) in
       omega (arith, ap length same, length-bits (length octets ∷ octets));
 }
 
-pub identifier_fits : (arcs octets : List ℕ) → IsContents arcs octets → FitU32 arcs → FitsIn (Identifier arcs) (8 * length octets)
+pub identifier_fits : (arcs octets : List ℕ) → IsContents arcs octets → FitU32 arcs
+    → FitsIn (Identifier arcs) (8 * length octets)
 identifier_fits arcs octets contents fit = record {
   fits = (bits octets, (octets, contents, fit, refl));
-  len = λ list s. ap length s.3 ∙ length-bits s.0 ∙ ap (λ (o : List ℕ). 8 * length o) (contents_only arcs s.0 octets s.1 contents);
+  len = λ list s. ap length s.3 ∙ length-bits s.0
+      ∙ ap (λ (o : List ℕ). 8 * length o) (contents_only arcs s.0 octets s.1 contents);
 }
 
 -- what has a misfit has no spelling
@@ -75,31 +82,51 @@ misfit_unfit field misfit m f = absurd m
 
 -- ---- the first misfit
 
-first_misfit : (fields : List Field) (front : List Bool) (i : ℕ) (field : Field) (misfit : Misfit) → AreSpelledBy (take i fields) front → i < length fields → slice_get fields i ≡ Some field → IsMisfit field misfit → IsFirstMisfit fields i misfit
+first_misfit : (fields : List Field) (front : List Bool) (i : ℕ) (field : Field) (misfit : Misfit)
+    → AreSpelledBy (take i fields) front → i < length fields → slice_get fields i ≡ Some field → IsMisfit field misfit
+    → IsFirstMisfit fields i misfit
 first_misfit fields front i field misfit before lt here is =
     record {
-      wrong = λ other e fits. misfit_unfit field misfit is (subst (λ (f : Field). Fits f) (same_Some other field (sym e ∙ here)) fits);
-      least = λ j other j_lt e. each_joined IsSpelledBy (take i fields) front j other before (slice_get_take fields i j j_lt ∙ e);
+      wrong =
+          λ other e fits. misfit_unfit field misfit is
+          (subst (λ (f : Field). Fits f) (same_Some other field (sym e ∙ here)) fits);
+      least =
+          λ j other j_lt e. each_joined IsSpelledBy (take i fields) front j other before
+          (slice_get_take fields i j j_lt ∙ e);
       within = lt;
       reason = λ other e. subst (λ (f : Field). IsMisfit f misfit) (same_Some field other (sym here ∙ e)) is;
     }
 
-pub names_first : (fields : List Field) (front : List Bool) (i : ℕ) (field : Field) (e : WriteError) → AreSpelledBy (take i fields) front → i < length fields → slice_get fields i ≡ Some field → NamesMisfit i field e → NamesFirstMisfit fields e
-names_first fields front i field (errors.NumberWidth at width) before lt here is = subst (λ (k : ℕ). IsFirstMisfit fields k (WidthOver width)) (sym is.0) (first_misfit fields front i field (WidthOver width) before lt here is.1)
-names_first fields front i field (errors.Number at) before lt here is = subst (λ (k : ℕ). IsFirstMisfit fields k PastWidth) (sym is.0) (first_misfit fields front i field PastWidth before lt here is.1)
-names_first fields front i field (errors.Character at c) before lt here is = subst (λ (k : ℕ). IsFirstMisfit fields k (NotInAlphabet c)) (sym is.0) (first_misfit fields front i field (NotInAlphabet c) before lt here is.1)
-names_first fields front i field (errors.IntegerLength at) before lt here is = subst (λ (k : ℕ). IsFirstMisfit fields k PastLength) (sym is.0) (first_misfit fields front i field PastLength before lt here is.1)
-names_first fields front i field (errors.ArcCount at) before lt here is = subst (λ (k : ℕ). IsFirstMisfit fields k TooFewArcs) (sym is.0) (first_misfit fields front i field TooFewArcs before lt here is.1)
+pub names_first : (fields : List Field) (front : List Bool) (i : ℕ) (field : Field) (e : WriteError)
+    → AreSpelledBy (take i fields) front → i < length fields → slice_get fields i ≡ Some field → NamesMisfit i field e
+    → NamesFirstMisfit fields e
+names_first fields front i field (errors.NumberWidth at width) before lt here is =
+    subst (λ (k : ℕ). IsFirstMisfit fields k (WidthOver width)) (sym is.0)
+    (first_misfit fields front i field (WidthOver width) before lt here is.1)
+names_first fields front i field (errors.Number at) before lt here is =
+    subst (λ (k : ℕ). IsFirstMisfit fields k PastWidth) (sym is.0)
+    (first_misfit fields front i field PastWidth before lt here is.1)
+names_first fields front i field (errors.Character at c) before lt here is =
+    subst (λ (k : ℕ). IsFirstMisfit fields k (NotInAlphabet c)) (sym is.0)
+    (first_misfit fields front i field (NotInAlphabet c) before lt here is.1)
+names_first fields front i field (errors.IntegerLength at) before lt here is =
+    subst (λ (k : ℕ). IsFirstMisfit fields k PastLength) (sym is.0)
+    (first_misfit fields front i field PastLength before lt here is.1)
+names_first fields front i field (errors.ArcCount at) before lt here is =
+    subst (λ (k : ℕ). IsFirstMisfit fields k TooFewArcs) (sym is.0)
+    (first_misfit fields front i field TooFewArcs before lt here is.1)
 names_first fields front i field errors.TooLong before lt here is = absurd is
 names_first fields front i field errors.Memory before lt here is = absurd is
 
-none_misfit : (fields : List Field) (i : ℕ) (misfit : Misfit) (list : List Bool) → IsFirstMisfit fields i misfit → AreSpelledBy fields list → ⊥
+none_misfit : (fields : List Field) (i : ℕ) (misfit : Misfit) (list : List Bool) → IsFirstMisfit fields i misfit
+    → AreSpelledBy fields list → ⊥
 none_misfit fields i misfit list m s =
     let f = some_at fields i m.within in
     m.wrong f.0 f.1 (each_joined IsSpelledBy fields list i f.0 s f.1)
 
 -- where all fit, no error names a misfit
-pub names_none : (fields : List Field) (e : WriteError) (list : List Bool) → NamesFirstMisfit fields e → AreSpelledBy fields list → ⊥
+pub names_none : (fields : List Field) (e : WriteError) (list : List Bool) → NamesFirstMisfit fields e
+    → AreSpelledBy fields list → ⊥
 names_none fields (errors.NumberWidth at width) list h s = none_misfit fields at (WidthOver width) list h s
 names_none fields (errors.Number at) list h s = none_misfit fields at PastWidth list h s
 names_none fields (errors.Character at c) list h s = none_misfit fields at (NotInAlphabet c) list h s
@@ -111,9 +138,12 @@ names_none fields errors.Memory list h s = h
 -- ---- the length that fields lead to
 
 pub ends_none : (start : ℕ) → start < 2 ^ 64 → EndsAt start [] start
-ends_none start lt = record { end = start; list = []; spelled = refl; each = λ others s. let e : length others ≡ 0 = ap length s in omega arith; capped = omega arith }
+ends_none start lt =
+    record { end = start; list = []; spelled = refl; each = λ others s. let e : length others ≡ 0 =
+    ap length s in omega arith; capped = omega arith }
 
-pub ends_more : (start n k m : ℕ) (fields : List Field) (field : Field) → EndsAt start fields n → FitsIn field k → m ≡ min (n + k) (2 ^ 128 - 1) → EndsAt start (fields ++ field ∷ []) m
+pub ends_more : (start n k m : ℕ) (fields : List Field) (field : Field) → EndsAt start fields n → FitsIn field k
+    → m ≡ min (n + k) (2 ^ 128 - 1) → EndsAt start (fields ++ field ∷ []) m
 ends_more start n k m fields field e f sum =
     record {
       end = e.end + k;
@@ -129,7 +159,9 @@ ends_more start n k m fields field e f sum =
     }
 
 pub below_width : (value width : ℕ) → value / 2 ^ width ≡ 0 → value < 2 ^ width
-below_width value width e = let p = lt-div-mul-add {a = value} {b = 2 ^ width} (pow_pos width) in let q : value / 2 ^ width * 2 ^ width ≡ 0 = rw e (omega arith) in omega arith
+below_width value width e = let p =
+    lt-div-mul-add {a = value} {b = 2 ^ width} (pow_pos width) in let q : value / 2 ^ width * 2 ^ width ≡ 0 =
+    rw e (omega arith) in omega arith
 
 pub at_128 : (value width : ℕ) → width ≤ 128 → 128 ≤ width → value < 2 ^ 128 → value < 2 ^ width
 at_128 value width le ge lt = let e : width ≡ 128 = omega arith in rw e lt
@@ -137,21 +169,26 @@ at_128 value width le ge lt = let e : width ≡ 128 = omega arith in rw e lt
 -- ---- pushing one field, and fields one after another
 
 -- a field that fits the room has no more bits than that
-pub space_of : (field : Field) (list : List Bool) (n space : ℕ) → IsSpelledBy field list → length list ≡ n → ((others : List Bool) → IsSpelledBy field others → length others ≤ space) → n ≤ space
+pub space_of : (field : Field) (list : List Bool) (n space : ℕ) → IsSpelledBy field list → length list ≡ n
+    → ((others : List Bool) → IsSpelledBy field others → length others ≤ space) → n ≤ space
 space_of field list n space s len enough = let r = enough list s in omega arith
 
-pub pushes : (field : Field) (list : List Bool) (n : ℕ) (old new : BitAppender) → IsSpelledBy field list → length list ≡ n → bits_written new ≡ bits_written old ++ list → room new + n ≡ room old → Pushes field old new
+pub pushes : (field : Field) (list : List Bool) (n : ℕ) (old new : BitAppender) → IsSpelledBy field list
+    → length list ≡ n → bits_written new ≡ bits_written old ++ list → room new + n ≡ room old → Pushes field old new
 pushes field list n old new s len e r = record { list = list; spelled = s; written = e; left = omega arith }
 
 -- the turns of one field, whichever list spells it
-pub takes : (field : Field) (n old new : ℕ) → FitsIn field n → old + div_ceil n 64 ≤ new → new ≤ old + turns_for n → (list : List Bool) → IsSpelledBy field list → TakesTurns (length list) old new
-takes field n old new fits low high list s = subst (λ (k : ℕ). TakesTurns k old new) (sym (fits.len list s)) (record { at_least = low; at_most = omega arith })
+pub takes : (field : Field) (n old new : ℕ) → FitsIn field n → old + div_ceil n 64 ≤ new → new ≤ old + turns_for n
+    → (list : List Bool) → IsSpelledBy field list → TakesTurns (length list) old new
+takes field n old new fits low high list s =
+    subst (λ (k : ℕ). TakesTurns k old new) (sym (fits.len list s)) (record { at_least = low; at_most = omega arith })
 
 -- ---- a counted integer: an octet, and octets behind it
 
 -- all of it fits the room
 pub counted_space : (n : ℤ) (octets : List ℕ) (space : ℕ) → IsShortest n octets → Fits (CountedInteger n)
-    → ((list : List Bool) → IsSpelledBy (CountedInteger n) list → length list ≤ space) → (length octets ≤ 127) × (8 + 8 * length octets ≤ space)
+    → ((list : List Bool) → IsSpelledBy (CountedInteger n) list → length list ≤ space) → (length octets ≤ 127)
+        × (8 + 8 * length octets ≤ space)
 counted_space n octets space shortest fits enough =
     let same : length fits.1.0 ≡ length octets = ap length (same_shortest n fits.1.0 octets fits.1.1 shortest) in
     let small = fits.1.2 in
@@ -162,27 +199,34 @@ counted_space n octets space shortest fits enough =
 
 pub counted_pushes : (n : ℤ) (octets : List ℕ) (old now new : BitAppender) → IsShortest n octets → length octets ≤ 127
     → bits_written now ≡ bits_written old ++ digits (length octets) 8 → room now + 8 ≡ room old
-    → bits_written new ≡ bits_written now ++ bits octets → room new + 8 * length octets ≡ room now → Pushes (CountedInteger n) old new
+    → bits_written new ≡ bits_written now ++ bits octets → room new + 8 * length octets ≡ room now
+        → Pushes (CountedInteger n) old new
 unfolding bits
 counted_pushes n octets old now new shortest le first before second after =
     let list : List Bool = bits (length octets ∷ octets) in
     let written : bits_written new ≡ bits_written old ++ list =
-    second ∙ ap (λ (l : List Bool). l ++ bits octets) first ∙ append_assoc (bits_written old) (digits (length octets) 8) (bits octets) in
+    second ∙ ap (λ (l : List Bool). l ++ bits octets) first
+        ∙ append_assoc (bits_written old) (digits (length octets) 8) (bits octets) in
     let len : length list ≡ 8 + 8 * length octets = omega (arith, length-bits (length octets ∷ octets)) in
-    pushes (CountedInteger n) list (8 + 8 * length octets) old new (octets, shortest, le, refl) len written (omega arith)
+    pushes (CountedInteger n) list (8 + 8 * length octets) old new (octets, shortest, le, refl) len written
+        (omega arith)
 
 -- the turns of an octet, and of n octets behind it
-pub counted_turns : (n old now new : ℕ) → old + div_ceil 8 64 ≤ now → now ≤ old + turns_for 8 → now + div_ceil (8 * n) 64 ≤ new → new ≤ now + turns_for (8 * n) → TakesTurns (8 + 8 * n) old new
+pub counted_turns : (n old now new : ℕ) → old + div_ceil 8 64 ≤ now → now ≤ old + turns_for 8
+    → now + div_ceil (8 * n) 64 ≤ new → new ≤ now + turns_for (8 * n) → TakesTurns (8 + 8 * n) old new
 counted_turns n old now new low high low_2 high_2 = record { at_least = omega arith; at_most = omega arith }
 
 pub pushed_none : (old : BitAppender) → PushesAll [] old old
-pushed_none old = record { list = []; spelled = refl; written = sym (append-nil (bits_written old)); left = omega arith }
+pushed_none old =
+    record { list = []; spelled = refl; written = sym (append-nil (bits_written old)); left = omega arith }
 
-pub pushed_more : (before : List Field) (field : Field) (old now new : BitAppender) → PushesAll before old now → Pushes field now new → PushesAll (before ++ field ∷ []) old new
+pub pushed_more : (before : List Field) (field : Field) (old now new : BitAppender) → PushesAll before old now
+    → Pushes field now new → PushesAll (before ++ field ∷ []) old new
 pushed_more before field old now new w one = record {
   list = w.list ++ one.list;
   spelled = joins_push IsSpelledBy before field w.list one.list w.spelled one.spelled;
-  written = one.written ∙ ap (λ (l : List Bool). l ++ one.list) w.written ∙ append_assoc (bits_written old) w.list one.list;
+  written = one.written ∙ ap (λ (l : List Bool). l ++ one.list) w.written
+      ∙ append_assoc (bits_written old) w.list one.list;
   left = omega (arith, w.left, one.left, length-append w.list one.list);
 }
 
@@ -192,16 +236,20 @@ no_turns n = record {
   at_most = λ list s. omega arith;
 }
 
-pub more_turns : (before : List Field) (field : Field) (old now new : ℕ) → TakeTurns before old now → ((list : List Bool) → IsSpelledBy field list → TakesTurns (length list) now new) → TakeTurns (before ++ field ∷ []) old new
+pub more_turns : (before : List Field) (field : Field) (old now new : ℕ) → TakeTurns before old now
+    → ((list : List Bool) → IsSpelledBy field list → TakesTurns (length list) now new)
+    → TakeTurns (before ++ field ∷ []) old new
 more_turns before field old now new all one = record { at_least = at_least; at_most = at_most }
   where
     cut : (list : List Bool) → AreSpelledBy (before ++ field ∷ []) list → Split IsSpelledBy before (field ∷ []) list
     cut list s = joins_split IsSpelledBy before (field ∷ []) list s
 
-    sum : (list : List Bool) (s : AreSpelledBy (before ++ field ∷ []) list) → length list ≡ length (cut list s).front + length (cut list s).back
+    sum : (list : List Bool) (s : AreSpelledBy (before ++ field ∷ []) list)
+        → length list ≡ length (cut list s).front + length (cut list s).back
     sum list s = ap length (cut list s).parts ∙ length-append (cut list s).front (cut list s).back
 
-    last : (list : List Bool) (s : AreSpelledBy (before ++ field ∷ []) list) → TakesTurns (length (cut list s).back) now new
+    last : (list : List Bool) (s : AreSpelledBy (before ++ field ∷ []) list)
+        → TakesTurns (length (cut list s).back) now new
     last list s = one (cut list s).back (one_joined IsSpelledBy field (cut list s).back (cut list s).of_back)
 
     at_least : (list : List Bool) → AreSpelledBy (before ++ field ∷ []) list → old + div_ceil (length list) 64 ≤ new
@@ -211,7 +259,8 @@ more_turns before field old now new all one = record { at_least = at_least; at_m
         let n = sum list s in
         omega arith
 
-    at_most : (list : List Bool) → AreSpelledBy (before ++ field ∷ []) list → new ≤ old + length list / 64 + 8 * length (before ++ field ∷ [])
+    at_most : (list : List Bool) → AreSpelledBy (before ++ field ∷ []) list
+        → new ≤ old + length list / 64 + 8 * length (before ++ field ∷ [])
     at_most list s =
         let a = all.at_most (cut list s).front (cut list s).of_front in
         let b = (last list s).at_most in
@@ -221,29 +270,45 @@ more_turns before field old now new all one = record { at_least = at_least; at_m
 module _ (fields before after : List Field) (field : Field) (cut : fields ≡ before ++ field ∷ after) where
   pub field_fits : (list : List Bool) → AreSpelledBy fields list → Fits field
   field_fits list s =
-      let p : Split IsSpelledBy before (field ∷ after) list = joins_split IsSpelledBy before (field ∷ after) list (subst (λ (fs : List Field). AreSpelledBy fs list) cut s) in
+      let p : Split IsSpelledBy before (field ∷ after) list =
+          joins_split IsSpelledBy before (field ∷ after) list
+          (subst (λ (fs : List Field). AreSpelledBy fs list) cut s) in
       (p.of_back.0, p.of_back.2)
 
-  pub space_now : (old now : BitAppender) → HasRoom fields (room old) → PushesAll before old now → (list : List Bool) → IsSpelledBy field list → length list ≤ room now
+  pub space_now : (old now : BitAppender) → HasRoom fields (room old) → PushesAll before old now → (list : List Bool)
+      → IsSpelledBy field list → length list ≤ room now
   space_now old now h w list l =
-      let p : Split IsSpelledBy before (field ∷ after) h.list = joins_split IsSpelledBy before (field ∷ after) h.list (subst (λ (fs : List Field). AreSpelledBy fs h.list) cut h.spelled) in
+      let p : Split IsSpelledBy before (field ∷ after) h.list =
+          joins_split IsSpelledBy before (field ∷ after) h.list
+          (subst (λ (fs : List Field). AreSpelledBy fs h.list) cut h.spelled) in
       let rest : List Bool = p.of_back.1 in
-      let whole : AreSpelledBy (before ++ field ∷ after) (w.list ++ (list ++ rest)) = joins_append IsSpelledBy before (field ∷ after) w.list (list ++ rest) w.spelled (list, rest, l, p.of_back.3, refl) in
-      let r = h.space_for (w.list ++ (list ++ rest)) (subst (λ (fs : List Field). AreSpelledBy fs (w.list ++ (list ++ rest))) (sym cut) whole) in
+      let whole : AreSpelledBy (before ++ field ∷ after) (w.list ++ (list ++ rest)) =
+          joins_append IsSpelledBy before (field ∷ after) w.list (list ++ rest) w.spelled
+          (list, rest, l, p.of_back.3, refl) in
+      let r =
+          h.space_for (w.list ++ (list ++ rest))
+          (subst (λ (fs : List Field). AreSpelledBy fs (w.list ++ (list ++ rest))) (sym cut) whole) in
       omega (arith, w.left, length-append w.list (list ++ rest), length-append list rest)
 
 -- ---- fields of the program, by their places
 
-pub cut_of : (fs : List Program) (i : ℕ) (x : Program) → i < length fs → x ≡ get_or fs i x → plain_fields fs ≡ plain_fields (take i fs) ++ plain_field x ∷ plain_fields (drop (i + 1) fs)
+pub cut_of : (fs : List Program) (i : ℕ) (x : Program) → i < length fs → x ≡ get_or fs i x
+    → plain_fields fs ≡ plain_fields (take i fs) ++ plain_field x ∷ plain_fields (drop (i + 1) fs)
 cut_of fs i x lt is =
-    let e : fs ≡ take i fs ++ x ∷ drop (i + 1) fs = sym (take-append-drop i fs) ∙ ap (λ (l : List Program). take i fs ++ l) (drop_more fs i x lt ∙ ap (λ (y : Program). y ∷ drop (i + 1) fs) (sym is)) in
+    let e : fs ≡ take i fs ++ x ∷ drop (i + 1) fs = sym (take-append-drop i fs)
+        ∙ ap (λ (l : List Program). take i fs ++ l)
+        (drop_more fs i x lt ∙ ap (λ (y : Program). y ∷ drop (i + 1) fs) (sym is)) in
     ap plain_fields e ∙ map-append plain_field (take i fs) (x ∷ drop (i + 1) fs)
 
-pub more_of : (fs : List Program) (i : ℕ) (x : Program) → i < length fs → x ≡ get_or fs i x → plain_fields (take (i + 1) fs) ≡ plain_fields (take i fs) ++ plain_field x ∷ []
-more_of fs i x lt is = map_more plain_field fs i x lt ∙ ap (λ (y : Program). plain_fields (take i fs) ++ plain_field y ∷ []) (sym is)
+pub more_of : (fs : List Program) (i : ℕ) (x : Program) → i < length fs → x ≡ get_or fs i x
+    → plain_fields (take (i + 1) fs) ≡ plain_fields (take i fs) ++ plain_field x ∷ []
+more_of fs i x lt is = map_more plain_field fs i x lt
+    ∙ ap (λ (y : Program). plain_fields (take i fs) ++ plain_field y ∷ []) (sym is)
 
-pub here_of : (fs : List Program) (i : ℕ) (x : Program) → i < length fs → x ≡ get_or fs i x → slice_get (plain_fields fs) i ≡ Some (plain_field x)
-here_of fs i x lt is = slice_get-map plain_field fs i ∙ ap (option_map plain_field) (slice_get_read fs (length fs) i x refl lt is)
+pub here_of : (fs : List Program) (i : ℕ) (x : Program) → i < length fs → x ≡ get_or fs i x
+    → slice_get (plain_fields fs) i ≡ Some (plain_field x)
+here_of fs i x lt is = slice_get-map plain_field fs i
+    ∙ ap (option_map plain_field) (slice_get_read fs (length fs) i x refl lt is)
 
 pub take_of : (fs : List Program) (i : ℕ) → take i (plain_fields fs) ≡ plain_fields (take i fs)
 take_of fs i = take-map plain_field i fs

@@ -43,7 +43,8 @@ IsPast n place = (n < place) ⊎ (2 ^ 64 ≤ place)
 abbrev pub IsWriteAtRefusal : ℕ → ℕ → List Field → WriteError → Type 0
 IsWriteAtRefusal n place fields (writing.NumberWidth field width) = IsFirstMisfit fields field (WidthOver width)
 IsWriteAtRefusal n place fields (writing.Number field) = IsFirstMisfit fields field PastWidth
-IsWriteAtRefusal n place fields (writing.Character field character) = IsFirstMisfit fields field (NotInAlphabet character)
+IsWriteAtRefusal n place fields (writing.Character field character) =
+    IsFirstMisfit fields field (NotInAlphabet character)
 IsWriteAtRefusal n place fields (writing.IntegerLength field) = IsFirstMisfit fields field PastLength
 IsWriteAtRefusal n place fields (writing.ArcCount field) = IsFirstMisfit fields field TooFewArcs
 IsWriteAtRefusal n place fields writing.TooLong =

@@ -18,12 +18,15 @@ one_spelling (Number value width) a b one p q = p.2 ∙ sym q.2
 one_spelling (Octets octets) a b one p q = p.1 ∙ sym q.1
 one_spelling (Bits view) a b one p q = p ∙ sym q
 one_spelling (Integer n) a b one p q = p.2 ∙ ap bits (same_shortest n p.0 q.0 p.1 q.1) ∙ sym q.2
-one_spelling (Character alphabet c) a b one p q = p.2 ∙ ap (λ (k : ℕ). digits k alphabet.width) (one c p.0 q.0 p.1 q.1) ∙ sym q.2
-one_spelling (CountedInteger n) a b one p q = p.3 ∙ ap (λ (o : List ℕ). bits (length o ∷ o)) (same_shortest n p.0 q.0 p.1 q.1) ∙ sym q.3
+one_spelling (Character alphabet c) a b one p q = p.2 ∙ ap (λ (k : ℕ). digits k alphabet.width) (one c p.0 q.0 p.1 q.1)
+    ∙ sym q.2
+one_spelling (CountedInteger n) a b one p q = p.3
+    ∙ ap (λ (o : List ℕ). bits (length o ∷ o)) (same_shortest n p.0 q.0 p.1 q.1) ∙ sym q.3
 one_spelling (Identifier arcs) a b one p q = p.3 ∙ ap bits (contents_only arcs p.0 q.0 p.1 q.1) ∙ sym q.3
 
 -- and so have fields
-pub all_one : (fs : List plain.Field) (a b : List Bool) → HaveOneSpelling fs → AreSpelledBy fs a → AreSpelledBy fs b → a ≡ b
+pub all_one : (fs : List plain.Field) (a b : List Bool) → HaveOneSpelling fs → AreSpelledBy fs a → AreSpelledBy fs b
+    → a ≡ b
 all_one [] a b one p q = p ∙ sym q
 all_one (f ∷ fs) a b one p q =
     let first : p.0 ≡ q.0 = one_spelling f p.0 q.0 one.0 p.2 q.2 in

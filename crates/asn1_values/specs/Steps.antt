@@ -121,4 +121,5 @@ Overwrites field place old new next = (list : List Bool) × IsSpelledBy field li
 
 -- the spellings of the fields were, one after another
 abbrev pub OverwritesAll : List Field → ℕ → List Bool → List Bool → ℕ → Type 0
-OverwritesAll fields place old new next = (list : List Bool) × AreSpelledBy fields list × WritesOver list place old new next
+OverwritesAll fields place old new next = (list : List Bool) × AreSpelledBy fields list
+    × WritesOver list place old new next

@@ -85,7 +85,8 @@ character_content alphabet front = character_or_none alphabet (number front) (ch
 
 -- a field of the shape, and the bits after it
 unfoldable pub field_at : Shape → List Bool → Result (Field × List Bool) Fault
-field_at (OfNumber width) list = if nat_lt 128 width then Err (NumberWidth width) else cut_at width (number_content width) list
+field_at (OfNumber width) list =
+    if nat_lt 128 width then Err (NumberWidth width) else cut_at width (number_content width) list
 field_at (OfOctets count) list = cut_at (8 * count) (octets_content count) list
 field_at (OfBits len) list = cut_at len bits_content list
 field_at (OfInteger count) list = integer_at count list

@@ -32,7 +32,8 @@ IsNoIdentifier list = (octets arcs : List ℕ) → list ≡ bits octets → ¬ (
 
 -- the bits are the contents of arcs that do not all fit `u32`
 abbrev pub HoldsLargeArc : List Bool → Type 0
-HoldsLargeArc list = (octets : List ℕ) × (arcs : List ℕ) × (list ≡ bits octets) × IsContents arcs octets × ¬ (FitU32 arcs)
+HoldsLargeArc list = (octets : List ℕ) × (arcs : List ℕ) × (list ≡ bits octets) × IsContents arcs octets
+    × ¬ (FitU32 arcs)
 
 -- a counted integer can have so many octets
 abbrev pub IsCount : ℕ → Type 0

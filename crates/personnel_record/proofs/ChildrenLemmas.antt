@@ -10,7 +10,8 @@ use Rattle.personnel_record.proofs.PartLemmas.{Both, read_pair, read_along, read
 abbrev pub Joined : List Child → List Bool → Type 0
 Joined cs l = AreJoined IsChild cs l
 
-pub joined_push : (cs : List Child) (c : Child) (a b : List Bool) → Joined cs a → IsChild c b → Joined (cs ++ c ∷ []) (a ++ b)
+pub joined_push : (cs : List Child) (c : Child) (a b : List Bool) → Joined cs a → IsChild c b
+    → Joined (cs ++ c ∷ []) (a ++ b)
 joined_push [] c a b e h = (b, [], h, refl, ap (λ (l : List Bool). l ++ b) e ∙ sym (append-nil b))
 joined_push (d ∷ ds) c a b j h =
     (j.0, j.1 ++ b, j.2, joined_push ds c j.1 b j.3 h, ap (λ (l : List Bool). l ++ b) j.4 ∙ append_assoc j.0 j.1 b)
@@ -108,7 +109,8 @@ one_more i list now new done c r q = record {
 }
   where
     last : (cs : List Child) (other : List Bool) → length cs ≡ i + 1 → (d : Child) (more : List Child)
-        (rest : List Bool) → cs ≡ done ++ d ∷ more → Starts (IsChild d) now rest → Starts (λ l. Joined more l) rest other
+        (rest : List Bool) → cs ≡ done ++ d ∷ more → Starts (IsChild d) now rest
+            → Starts (λ l. Joined more l) rest other
         → (done ++ c ∷ [] ≡ cs) × (new ≡ other)
     last cs other n d [] rest is s t =
         let o = q.only d rest s in

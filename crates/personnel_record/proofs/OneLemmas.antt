@@ -81,7 +81,8 @@ in_one : (alphabet : Alphabet) → GivesOneCodeEach alphabet → (text : List �
 in_one alphabet one [] = tt
 in_one alphabet one (c ∷ text) = (one, in_one alphabet one text)
 
-one_string : (kind : StringType) → GivesOneCodeEach kind.alphabet → (text : List ℕ) → IsOfOne (λ l. IsString kind text l)
+one_string : (kind : StringType) → GivesOneCodeEach kind.alphabet → (text : List ℕ)
+    → IsOfOne (λ l. IsString kind text l)
 one_string kind one text a b p q =
     one_then (λ l. IsNumber kind.width (length text - kind.least) l) (λ l. AreCharacters kind.alphabet text l)
     (one_number kind.width (length text - kind.least))
@@ -141,13 +142,18 @@ abbrev from_name : Record → List Bool → Type 0
 from_name r list = Then (IsName r.name) (from_number r) list
 
 one_from_spouse : (r : Record) → IsOfOne (λ l. from_spouse r l)
-one_from_spouse r = one_then (λ l. IsName r.name_of_spouse l) (λ l. from_children r l) (one_name r.name_of_spouse) (one_children (presence r.children) r.children)
+one_from_spouse r =
+    one_then (λ l. IsName r.name_of_spouse l) (λ l. from_children r l) (one_name r.name_of_spouse)
+    (one_children (presence r.children) r.children)
 
 one_from_hire : (r : Record) → IsOfOne (λ l. from_hire r l)
-one_from_hire r = one_then (λ l. IsString date_string r.date_of_hire l) (λ l. from_spouse r l) (one_date r.date_of_hire) (one_from_spouse r)
+one_from_hire r =
+    one_then (λ l. IsString date_string r.date_of_hire l) (λ l. from_spouse r l) (one_date r.date_of_hire)
+    (one_from_spouse r)
 
 one_from_title : (r : Record) → IsOfOne (λ l. from_title r l)
-one_from_title r = one_then (λ l. IsString title_string r.title l) (λ l. from_hire r l) (one_title r.title) (one_from_hire r)
+one_from_title r =
+    one_then (λ l. IsString title_string r.title l) (λ l. from_hire r l) (one_title r.title) (one_from_hire r)
 
 one_from_number : (r : Record) → IsOfOne (λ l. from_number r l)
 one_from_number r = one_then (λ l. IsInteger r.number l) (λ l. from_title r l) (one_integer r.number) (one_from_title r)
@@ -156,7 +162,9 @@ one_from_name : (r : Record) → IsOfOne (λ l. from_name r l)
 one_from_name r = one_then (λ l. IsName r.name l) (λ l. from_number r l) (one_name r.name) (one_from_number r)
 
 one_record : (r : Record) → IsOfOne (λ l. IsRecord r l)
-one_record r = one_then (λ l. IsNumber 1 (presence r.children) l) (λ l. from_name r l) (one_number 1 (presence r.children)) (one_from_name r)
+one_record r =
+    one_then (λ l. IsNumber 1 (presence r.children) l) (λ l. from_name r l) (one_number 1 (presence r.children))
+    (one_from_name r)
 
 -- ---- and one list of octets
 

@@ -59,7 +59,8 @@ after_name v n a b can p = can_second IsName (λ x q m. Number v q m) n a b can 
 pub can_number : (v : ℕ) (a : List Bool) → CanRead (Number v) a → CanRead IsInteger a
 can_number v a can = can_first IsInteger (λ x q m. Title v q m) a can
 
-pub after_number : (v : ℕ) (n : ℤ) (a b : List Bool) → CanRead (Number v) a → IsRead IsInteger a n b → CanRead (Title v) b
+pub after_number : (v : ℕ) (n : ℤ) (a b : List Bool) → CanRead (Number v) a → IsRead IsInteger a n b
+    → CanRead (Title v) b
 after_number v n a b can p = can_second IsInteger (λ x q m. Title v q m) n a b can p
 
 pub can_title : (v : ℕ) (a : List Bool) → CanRead (Title v) a → CanRead (λ x m. IsString title_string x m) a
@@ -100,10 +101,12 @@ record_read v r list a b c d e f rest p q s t u w x =
     (r.name, (r.number, (r.title, (r.date_of_hire, (r.name_of_spouse, r.children))))) list a rest p
     (read_pair IsName (λ x q m. Number v q m) r.name
     (r.number, (r.title, (r.date_of_hire, (r.name_of_spouse, r.children)))) a b rest q
-    (read_pair IsInteger (λ x q m. Title v q m) r.number (r.title, (r.date_of_hire, (r.name_of_spouse, r.children))) b c rest s
+    (read_pair IsInteger (λ x q m. Title v q m) r.number (r.title, (r.date_of_hire, (r.name_of_spouse, r.children))) b c
+        rest s
     (read_pair (λ x m. IsString title_string x m) (λ x q m. Hire v q m) r.title
     (r.date_of_hire, (r.name_of_spouse, r.children)) c d rest t
-    (read_pair (λ x m. IsString date_string x m) (λ x q m. Spouse v q m) r.date_of_hire (r.name_of_spouse, r.children) d e rest u
+    (read_pair (λ x m. IsString date_string x m) (λ x q m. Spouse v q m) r.date_of_hire (r.name_of_spouse, r.children) d
+        e rest u
     (read_pair IsName (λ n cs m. AreChildren v cs m) r.name_of_spouse r.children e f rest w x)))))))
 
 -- the same, of one record
@@ -133,4 +136,5 @@ record_written r list a b c d e f rest p q s t u w x =
     (written_then (λ m. IsInteger r.number m) (λ m. Titles r m) b c rest s
     (written_then (λ m. IsString title_string r.title m) (λ m. Hires r m) c d rest t
     (written_then (λ m. IsString date_string r.date_of_hire m) (λ m. Spouses r m) d e rest u
-    (written_then (λ m. IsName r.name_of_spouse m) (λ m. AreChildren (presence r.children) r.children m) e f rest w x)))))
+    (written_then (λ m. IsName r.name_of_spouse m) (λ m. AreChildren (presence r.children) r.children m) e f rest w
+        x)))))

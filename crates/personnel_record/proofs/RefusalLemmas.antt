@@ -60,7 +60,8 @@ child_wrong index list Can decoding.Memory f r = tt
 
 children_right : (v : ℕ) (list : List Bool) (part : Part) → CanRead (AreChildren v) list → v ≡ 1
     → IsFirstWrongOf part list → ⊥
-children_right v list ChildCount can one h = h (can_count list (subst (λ (k : ℕ). CanRead (AreChildren k) list) one can))
+children_right v list ChildCount can one h =
+    h (can_count list (subst (λ (k : ℕ). CanRead (AreChildren k) list) one can))
 children_right v list (Child index) can one h =
     let k = can_counted h.0 list h.1 (subst (λ (k : ℕ). CanRead (AreChildren k) list) one can) h.2 in
     let lt = h.3.0 in

@@ -34,14 +34,16 @@ module _ (kind : StringType) (ordered : kind.least ≤ kind.most) where
       (λ t m. IsString kind t m) from_both to_both text list rest
       (read_along (Both (λ v n. IsNumber kind.width v n) (λ v u n. IsTextOf kind v u n)) (with_length kind)
       (λ a b e. ap (λ (p : ℕ × List ℕ). p.1) e) text list rest
-      (read_pair (λ v n. IsNumber kind.width v n) (λ v u n. IsTextOf kind v u n) (length text - kind.least) text list mid rest p q))
+      (read_pair (λ v n. IsNumber kind.width v n) (λ v u n. IsTextOf kind v u n) (length text - kind.least) text list
+          mid rest p q))
 
   can_both : (list : List Bool) → CanRead (λ t m. IsString kind t m) list
       → CanRead (Both (λ v n. IsNumber kind.width v n) (λ v u n. IsTextOf kind v u n)) list
   can_both list can =
       can_along (Both (λ v n. IsNumber kind.width v n) (λ v u n. IsTextOf kind v u n)) (with_length kind) list
       (can_same (λ t m. IsString kind t m)
-      (λ t m. Both (λ v n. IsNumber kind.width v n) (λ v u n. IsTextOf kind v u n) (with_length kind t) m) to_both list can)
+      (λ t m. Both (λ v n. IsNumber kind.width v n) (λ v u n. IsTextOf kind v u n) (with_length kind t) m) to_both list
+          can)
 
   -- from a number that was read, and characters, as many as it says
   pub string_read : (more : ℕ) (text : List ℕ) (list mid rest : List Bool)
@@ -58,7 +60,8 @@ module _ (kind : StringType) (ordered : kind.least ≤ kind.most) where
         only = λ y other s. q.only y other (record { front = s.front; holds = s.holds.1; parts = s.parts });
       }))
 
-  pub can_length : (list : List Bool) → CanRead (λ t m. IsString kind t m) list → CanRead (λ v m. IsNumber kind.width v m) list
+  pub can_length : (list : List Bool) → CanRead (λ t m. IsString kind t m) list
+      → CanRead (λ v m. IsNumber kind.width v m) list
   can_length list can =
       can_first (λ v n. IsNumber kind.width v n) (λ v u n. IsTextOf kind v u n) list (can_both list can)
 

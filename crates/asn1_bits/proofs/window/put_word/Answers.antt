@@ -11,4 +11,5 @@ returns-else-position-width-le64 c =
     let front = c.args.width - past in
     placed-two (bits c.args.dst.now) (bits c.put_near-else-position-width-le64.new.dst) (bits c.or_within.new.dst)
     place (place + front) c.args.word front past c.args.width
-    c.put_near-else-position-width-le64.ensures c.or_within.ensures (omega arith) (omega arith) (omega (arith, length-bits c.args.dst.now))
+    c.put_near-else-position-width-le64.ensures c.or_within.ensures (omega arith) (omega arith)
+        (omega (arith, length-bits c.args.dst.now))

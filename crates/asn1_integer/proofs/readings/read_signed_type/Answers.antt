@@ -19,5 +19,6 @@ returns c =
       signed c.args.octets.now,
       signed_is_read_at c.args.size c.args.octets.now some c.if-octets-size.false,
       bits,
-      signed_in_range c.args.size c.args.octets.now (octets_from_places c.args.octets.now (λ i. omega (arith, c.type_inv.octets i))) some c.if-octets-size.false,
+      signed_in_range c.args.size c.args.octets.now
+          (octets_from_places c.args.octets.now (λ i. omega (arith, c.type_inv.octets i))) some c.if-octets-size.false,
     )

@@ -4,4 +4,5 @@ use Rattle.asn1_oid.specs.Writing.{subidentifier_octets}
 use Rattle.asn1_oid.proofs.oid_contents.octets_of_arcs.Given as goal
 
 abbrev pub invariant-loop-arc : goal.invariant-loop-arc
-invariant-loop-arc l = (l.len ≡ length (flat_map subidentifier_octets (take l.arc-index l.arcs))) × (l.len ≤ 5 * l.arc-index)
+invariant-loop-arc l = (l.len ≡ length (flat_map subidentifier_octets (take l.arc-index l.arcs)))
+    × (l.len ≤ 5 * l.arc-index)

@@ -7,7 +7,8 @@ use Rattle.asn1_strings.proofs.alphabet.place_in_run.Goals.{else-first-character
 pub returns-then-character-first-clause-place : goal.returns-then-character-first-clause-place
 returns-then-character-first-clause-place c =
     let set = c.args.set.now in
-    run_place set (get_or set 0 0) c.args.character c.requires.run refl c.if-first-character.true c.if-character-first.true
+    run_place set (get_or set 0 0) c.args.character c.requires.run refl c.if-first-character.true
+        c.if-character-first.true
 
 pub returns-else-first-character-clause-place : goal.returns-else-first-character-clause-place
 returns-else-first-character-clause-place c =
@@ -15,7 +16,8 @@ returns-else-first-character-clause-place c =
     let first = get_or set 0 0 in
     let out : (leb first c.args.character && ltb c.args.character (first + length set)) ≡ false =
     elim c.else-first-character.branch [
-      | else-first-character-via-then-first-character+else-character-first w ↦ grind (arith, nat_tests, w.if-first-character.true, w.if-character-first.false)
+      | else-first-character-via-then-first-character+else-character-first w ↦ grind
+          (arith, nat_tests, w.if-first-character.true, w.if-character-first.false)
       | else-first-character-via-else-first-character w ↦ grind (arith, nat_tests, w.if-first-character.false)
     ] in
     run_lacks set first c.args.character c.requires.run refl out

@@ -5,7 +5,8 @@ use Rattle.asn1_strings.proofs.search.find_ascending.Given as goal
 
 abbrev pub invariant-loop-low : goal.invariant-loop-low
 invariant-loop-low g l = record {
-  search : Searching (g.L.Entries.list l.fn.entries) l.low l.high l.character l.fn.probes.count l.probes.count (l.fn.probes.count + (ceil_log2 (length (g.L.Entries.list l.fn.entries)) + 1));
+  search : Searching (g.L.Entries.list l.fn.entries) l.low l.high l.character l.fn.probes.count l.probes.count
+      (l.fn.probes.count + (ceil_log2 (length (g.L.Entries.list l.fn.entries)) + 1));
   same : g.L.Entries.list l.entries ≡ g.L.Entries.list l.fn.entries;
   tied : l.probes.count + g.L.Entries.looks l.fn.entries ≡ l.fn.probes.count + g.L.Entries.looks l.entries;
 }

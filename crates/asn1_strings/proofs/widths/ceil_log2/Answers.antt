@@ -4,7 +4,8 @@ use Rattle.asn1_strings.proofs.WidthLemmas.{digits_are_least, none_is_least}
 use Rattle.asn1_strings.proofs.widths.ceil_log2.Goals as goal
 
 pub returns-then-count-le1-clause-value : goal.returns-then-count-le1-clause-value
-returns-then-count-le1-clause-value c = sym (ceil_log2_is c.args.count 0 (none_is_least c.args.count c.if-count-le1.true))
+returns-then-count-le1-clause-value c =
+    sym (ceil_log2_is c.args.count 0 (none_is_least c.args.count c.if-count-le1.true))
 
 pub returns-then-count-le1-clause-least : goal.returns-then-count-le1-clause-least
 returns-then-count-le1-clause-least c = none_is_least c.args.count c.if-count-le1.true

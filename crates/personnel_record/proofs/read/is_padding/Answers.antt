@@ -10,7 +10,8 @@ zero_digits : (n : ℕ) → digits 0 n ≡ replicate n false
 unfolding digits
 zero_digits zero = refl
 zero_digits (suc n) =
-    ap (λ (l : List Bool). l ++ false ∷ []) (zero_digits n) ∙ sym (replicate_next n false) ∙ ap (λ (k : ℕ). replicate k false) (add-one n)
+    ap (λ (l : List Bool). l ++ false ∷ []) (zero_digits n) ∙ sym (replicate_next n false)
+        ∙ ap (λ (k : ℕ). replicate k false) (add-one n)
 
 zeros_are_zero : (n : ℕ) (list : List Bool) → list ≡ replicate n false → number list ≡ 0
 zeros_are_zero n list e =
@@ -27,8 +28,10 @@ returns-then-len-lt8 c =
     let whole : take n left ≡ left = ap (λ (k : ℕ). take k left) same ∙ take_all (length left) left (omega arith) in (
       (λ is. let none : c.first_bits.result ≡ 0 = grind (arith, nat_tests, is) in (
         omega (arith, c.if-len-lt8.true, c.len.ensures.list),
-        sym whole ∙ sym c.first_bits.ensures.digits ∙ ap (λ (k : ℕ). digits k n) none ∙ zero_digits n ∙ ap (λ (k : ℕ). replicate k false) same,
+        sym whole ∙ sym c.first_bits.ensures.digits ∙ ap (λ (k : ℕ). digits k n) none ∙ zero_digits n
+            ∙ ap (λ (k : ℕ). replicate k false) same,
       )),
-      (λ p. let none : c.first_bits.result ≡ 0 = c.first_bits.ensures.number ∙ ap number whole ∙ zeros_are_zero (length left) left p.1 in
+      (λ p. let none : c.first_bits.result ≡ 0 = c.first_bits.ensures.number ∙ ap number whole
+          ∙ zeros_are_zero (length left) left p.1 in
           grind (arith, nat_tests, none)),
     )

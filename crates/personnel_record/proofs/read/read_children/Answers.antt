@@ -69,7 +69,8 @@ loop-index-preserved c =
     ap (λ (l : List ChildInformation). plain_children l) c.in_default.ensures.items
     ∙ map-append plain_child c.loop-index.children.items (c.in_ok-child.child ∷ []) in
     record {
-      so_far = subst (λ (l : List Child). IsRead (AreSoMany (c.loop-index.index + 1)) (bits_left c.read_number.new.reader)
+      so_far =
+          subst (λ (l : List Child). IsRead (AreSoMany (c.loop-index.index + 1)) (bits_left c.read_number.new.reader)
           l (bits_left c.read_child.new.reader)) (sym pushed)
           (one_more c.loop-index.index (bits_left c.read_number.new.reader) (bits_left c.loop-index.reader)
           (bits_left c.read_child.new.reader) (plain_children c.loop-index.children.items)
@@ -86,5 +87,6 @@ returns-clause-read c =
     subst (λ (v : ℕ). IsRead (AreChildren v) old children (bits_left c.loop-index.reader)) one
     (children_read c.in_ok-count.count children old (bits_left c.read_number.new.reader) (bits_left c.loop-index.reader)
     c.in_ok-count.ensures.read (omega (arith, c.if-count-eq0.false)) c.if-count-gt127.false
-    (subst (λ (n : ℕ). IsRead (AreSoMany n) (bits_left c.read_number.new.reader) children (bits_left c.loop-index.reader))
+    (subst (λ (n : ℕ). IsRead (AreSoMany n) (bits_left c.read_number.new.reader) children
+        (bits_left c.loop-index.reader))
     all c.loop-index.invariant.so_far))

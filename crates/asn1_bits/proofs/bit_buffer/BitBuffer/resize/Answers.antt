@@ -6,4 +6,5 @@ pub loop-index-preserved : goal.loop-index-preserved
 loop-index-preserved c =
     c.set.ensures
     ∙ ap (λ (l : List Bool). set l c.loop-index.index true) c.loop-index.invariant
-    ∙ set-zeros c.args.self.now c.len-position.result c.loop-index.index c.args.new_len (sym c.len-position.ensures) (omega arith) (omega arith)
+    ∙ set-zeros c.args.self.now c.len-position.result c.loop-index.index c.args.new_len (sym c.len-position.ensures)
+        (omega arith) (omega arith)

@@ -7,7 +7,9 @@ use Rattle.asn1_bits.proofs.bit_buffer.BitBuffer.truncate.Goals as goal
 pub returns-then-len-self : goal.returns-then-len-self
 returns-then-len-self c =
     let b = c.self.inside in
-    sym (take_all c.args.len c.args.self.now (omega (arith, length-bits_shown b.bytes.items b.len c.self.invariant, ap (λ (l : List Bool). length l) c.self.view_is)))
+    sym (take_all c.args.len c.args.self.now
+        (omega (arith, length-bits_shown b.bytes.items b.len c.self.invariant, ap (λ (l : List Bool). length l)
+        c.self.view_is)))
 
 pub clear_from-requires : goal.clear_from-requires
 clear_from-requires c =
@@ -15,7 +17,8 @@ clear_from-requires c =
     ap (λ (l : List ℕ). length l) (c.as_mut_slice.ensures.value ∙ c.truncate.ensures.items)
     ∙ omega (arith, length-take c.div_ceil.result b.bytes.items, c.div_ceil.ensures, c.self.invariant.count)
 
-filled : (c : goal.After-self-2-1) → IsFilled c.clear_from.new.octets c.args.len × (bits_shown c.clear_from.new.octets c.args.len ≡ take c.args.len c.args.self.now)
+filled : (c : goal.After-self-2-1) → IsFilled c.clear_from.new.octets c.args.len
+    × (bits_shown c.clear_from.new.octets c.args.len ≡ take c.args.len c.args.self.now)
 filled c =
     let b = c.self.inside in
     let cut = c.as_mut_slice.result.now in

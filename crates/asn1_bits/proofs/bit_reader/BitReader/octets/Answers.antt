@@ -6,4 +6,5 @@ use Rattle.asn1_bits.proofs.bit_reader.BitReader.octets.Goals as goal
 pub returns-clause-bits : goal.returns-clause-bits
 returns-clause-bits c =
     c.in_ok-push_octets_to.ensures.ok
-    ∙ ap (λ (l : List Bool). l ++ bits_left c.args.self.now) (bits-none c.new-octets.result.items c.new-octets.ensures.items)
+    ∙ ap (λ (l : List Bool). l ++ bits_left c.args.self.now)
+        (bits-none c.new-octets.result.items c.new-octets.ensures.items)

@@ -5,7 +5,9 @@ use Rattle.asn1_bits.specs.ViewLaws.{list_of-front}
 use Rattle.asn1_bits.proofs.bit_str.BitStr.first_u128.Goals as goal
 
 -- what is read is the view's front
-front : (c : goal.After-read_wide) → take c.args.width (drop c.args.self.now.shift (bits c.from_octet.result.now)) ≡ take c.args.width (bits_of c.args.self.now)
+front : (c : goal.After-read_wide)
+    → take c.args.width (drop c.args.self.now.shift (bits c.from_octet.result.now)) ≡ take c.args.width
+    (bits_of c.args.self.now)
 front c =
     let b = c.args.self.now in
     ap (λ (l : List ℕ). take c.args.width (drop b.shift (bits l))) c.from_octet.ensures

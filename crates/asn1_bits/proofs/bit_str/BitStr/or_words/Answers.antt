@@ -11,7 +11,8 @@ returns-then-low-eq0-clause-bits c =
     let octet = b.octet + at / 8 + (b.shift + at % 8) / 8 in
     c.or_words.ensures.bits
     ∙ ap (ored (bits c.args.dst.now) (8 * c.args.first))
-    (list_of-run (view_of b) at octet 0 (64 * c.args.count) c.from_octet.result.now c.from_octet.ensures (omega (arith, c.if-low-eq0.true)) c.requires.within)
+    (list_of-run (view_of b) at octet 0 (64 * c.args.count) c.from_octet.result.now c.from_octet.ensures
+        (omega (arith, c.if-low-eq0.true)) c.requires.within)
 
 pub returns-else-low-eq0-clause-bits : goal.returns-else-low-eq0-clause-bits
 returns-else-low-eq0-clause-bits c =
@@ -21,4 +22,5 @@ returns-else-low-eq0-clause-bits c =
     let octet = b.octet + at / 8 + low / 8 in
     c.or_shifted_words.ensures.bits
     ∙ ap (ored (bits c.args.dst.now) (8 * c.args.first))
-    (list_of-run (view_of b) at (octet - 7) (56 + low % 8) (64 * c.args.count) c.from_octet-src.result.now c.from_octet-src.ensures (omega (arith, c.requires.behind)) c.requires.within)
+    (list_of-run (view_of b) at (octet - 7) (56 + low % 8) (64 * c.args.count) c.from_octet-src.result.now
+        c.from_octet-src.ensures (omega (arith, c.requires.behind)) c.requires.within)

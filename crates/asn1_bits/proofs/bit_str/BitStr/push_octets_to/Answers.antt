@@ -7,4 +7,5 @@ pub returns-in-Some-clause-ok : goal.returns-in-Some-clause-ok
 returns-in-Some-clause-ok c =
     let old = c.args.octets.now.items in
     let own = c.in-Some.own.now in
-    ap bits c.in_ok-extend_from_slice.ensures.items ∙ bits-append old own ∙ ap (λ (l : List Bool). bits old ++ l) c.in-Some.ensures.bits
+    ap bits c.in_ok-extend_from_slice.ensures.items ∙ bits-append old own
+        ∙ ap (λ (l : List Bool). bits old ++ l) c.in-Some.ensures.bits

@@ -7,4 +7,5 @@ use Rattle.asn1_bits.proofs.bit_str.BitStrHash.hash.Given as goal
 
 -- the length and the words so far were fed
 abbrev pub invariant-loop-k : goal.invariant-loop-k
-invariant-loop-k g l = l.state ≡ fold g.H.Hasher.write l.fn.state (fed.usize l.self.len ++ words_fed (bits_of l.self) l.k)
+invariant-loop-k g l =
+    l.state ≡ fold g.H.Hasher.write l.fn.state (fed.usize l.self.len ++ words_fed (bits_of l.self) l.k)

@@ -11,9 +11,11 @@ returns-then-bit c =
     let xs = bits_of c.args.self.now in
     let ys = bits_of c.args.other.now in
     let i = c.loop-i.i in
-    rest-greater xs ys i (slice_get_within xs i true c.if-bit.ensures) (slice_get_within ys i c.get.result c.get.ensures)
+    rest-greater xs ys i (slice_get_within xs i true c.if-bit.ensures)
+        (slice_get_within ys i c.get.result c.get.ensures)
     (get_or_from_slice_get xs i true false c.if-bit.ensures)
-    (get_or_from_slice_get ys i c.get.result false c.get.ensures ∙ other_from_test c.get-bit.result c.get.result c.if-bit-get.true ∙ ap not c.if-bit.true)
+    (get_or_from_slice_get ys i c.get.result false c.get.ensures
+        ∙ other_from_test c.get-bit.result c.get.result c.if-bit-get.true ∙ ap not c.if-bit.true)
     c.loop-i.invariant
 
 pub returns-else-bit : goal.returns-else-bit
@@ -23,18 +25,22 @@ returns-else-bit c =
     let i = c.loop-i.i in
     rest-less xs ys i (slice_get_within xs i false c.if-bit.ensures) (slice_get_within ys i c.get.result c.get.ensures)
     (get_or_from_slice_get xs i false false c.if-bit.ensures)
-    (get_or_from_slice_get ys i c.get.result false c.get.ensures ∙ other_from_test c.get-bit.result c.get.result c.if-bit-get.true ∙ ap not c.if-bit.false)
+    (get_or_from_slice_get ys i c.get.result false c.get.ensures
+        ∙ other_from_test c.get-bit.result c.get.result c.if-bit-get.true ∙ ap not c.if-bit.false)
     c.loop-i.invariant
 
 pub loop-i-init : goal.loop-i-init
-loop-i-init c = rest-from (bits_of c.args.self.now) (bits_of c.args.other.now) (64 * c.same_words-i.result) c.same_words-i.ensures.same
+loop-i-init c =
+    rest-from (bits_of c.args.self.now) (bits_of c.args.other.now) (64 * c.same_words-i.result)
+    c.same_words-i.ensures.same
 
 pub loop-i-preserved : goal.loop-i-preserved
 loop-i-preserved c =
     let xs = bits_of c.args.self.now in
     let ys = bits_of c.args.other.now in
     let i = c.loop-i.i in
-    rest-more xs ys i (slice_get_within xs i c.get-bit.result c.get-bit.ensures) (slice_get_within ys i c.get.result c.get.ensures)
+    rest-more xs ys i (slice_get_within xs i c.get-bit.result c.get-bit.ensures)
+        (slice_get_within ys i c.get.result c.get.ensures)
     (get_or_from_slice_get xs i c.get-bit.result false c.get-bit.ensures
     ∙ same_from_test c.get-bit.result c.get.result c.if-bit-get.false
     ∙ sym (get_or_from_slice_get ys i c.get.result false c.get.ensures))

@@ -9,4 +9,5 @@ returns-in-Inline-Inline-clause-octets c = λ a b s t.
     e ∙ sym (shortest_order c.args.self.now c.args.other.now a b s t)
 
 pub returns-clause-octets : goal.returns-clause-octets
-returns-clause-octets c = λ a b s t. c.compare_by_octets.ensures ∙ sym (shortest_order c.args.self.now c.args.other.now a b s t)
+returns-clause-octets c = λ a b s t. c.compare_by_octets.ensures
+    ∙ sym (shortest_order c.args.self.now c.args.other.now a b s t)

@@ -24,30 +24,35 @@ not_none e = cc
 
 pub returns-in_err-examine-clause-accepted : goal.returns-in_err-examine-clause-accepted
 returns-in_err-examine-clause-accepted g c = λ arcs is fit.
-    absurd (not_refused (g.S.OctetSource.list c.args.source.now) arcs c.in_err-examine.field-0.0 c.in_err-examine.ensures.octets c.in_err-examine.ensures.reading is fit)
+    absurd (not_refused (g.S.OctetSource.list c.args.source.now) arcs c.in_err-examine.field-0.0
+        c.in_err-examine.ensures.octets c.in_err-examine.ensures.reading is fit)
 
 pub returns-in_err-examine-clause-arc_too_large : goal.returns-in_err-examine-clause-arc_too_large
 returns-in_err-examine-clause-arc_too_large g c =
     let p = err_from_is_err_and c.from_residual.result c.from_residual.ensures.1 in
-    rw (p.1, p.2) (large_iff (g.S.OctetSource.list c.args.source.now) (Err c.in_err-examine.field-0.0) c.in_err-examine.ensures.octets c.in_err-examine.ensures.reading)
+    rw (p.1, p.2) (large_iff (g.S.OctetSource.list c.args.source.now) (Err c.in_err-examine.field-0.0)
+        c.in_err-examine.ensures.octets c.in_err-examine.ensures.reading)
 
 pub returns-in_err-examine-clause-malformed : goal.returns-in_err-examine-clause-malformed
 returns-in_err-examine-clause-malformed g c =
     let p = err_from_is_err_and c.from_residual.result c.from_residual.ensures.1 in
-    rw (p.1, p.2) (none_iff (g.S.OctetSource.list c.args.source.now) (Err c.in_err-examine.field-0.0) c.in_err-examine.ensures.octets c.in_err-examine.ensures.reading)
+    rw (p.1, p.2) (none_iff (g.S.OctetSource.list c.args.source.now) (Err c.in_err-examine.field-0.0)
+        c.in_err-examine.ensures.octets c.in_err-examine.ensures.reading)
 
 pub returns-in_err-examine-clause-memory : goal.returns-in_err-examine-clause-memory
 returns-in_err-examine-clause-memory g c = λ is.
     let p = err_from_is_err_and c.from_residual.result c.from_residual.ensures.1 in
     let same = refusal_is c.in_err-examine.field-0.0 Memory (rw (p.1, p.2) at is) in
-    absurd (no_want_of_memory (g.S.OctetSource.list c.args.source.now) c.in_err-examine.ensures.octets (rw same at c.in_err-examine.ensures.reading))
+    absurd (no_want_of_memory (g.S.OctetSource.list c.args.source.now) c.in_err-examine.ensures.octets
+        (rw same at c.in_err-examine.ensures.reading))
 
 pub returns-in_err-arcs-clause-arc_too_large : goal.returns-in_err-arcs-clause-arc_too_large
 returns-in_err-arcs-clause-arc_too_large g c =
     let p = err_from_is_err_and c.from_residual-in_err-arcs.result c.from_residual-in_err-arcs.ensures.1 in
     rw (p.1, p.2) (
       λ is. absurd (not_large (refusal_is Memory ArcTooLarge is)),
-      λ some. absurd (none_large (g.S.OctetSource.list c.args.source.now) c.in_ok-examine.ensures.octets c.in_ok-examine.ensures.reading some),
+      λ some. absurd (none_large (g.S.OctetSource.list c.args.source.now) c.in_ok-examine.ensures.octets
+          c.in_ok-examine.ensures.reading some),
     )
 
 pub returns-in_err-arcs-clause-malformed : goal.returns-in_err-arcs-clause-malformed
@@ -55,19 +60,24 @@ returns-in_err-arcs-clause-malformed g c =
     let p = err_from_is_err_and c.from_residual-in_err-arcs.result c.from_residual-in_err-arcs.ensures.1 in
     rw (p.1, p.2) (
       λ is. absurd (not_none (refusal_is Memory Malformed is)),
-      λ none. absurd (not_malformed (g.S.OctetSource.list c.args.source.now) c.in_ok-examine.ensures.octets c.in_ok-examine.ensures.reading none),
+      λ none. absurd (not_malformed (g.S.OctetSource.list c.args.source.now) c.in_ok-examine.ensures.octets
+          c.in_ok-examine.ensures.reading none),
     )
 
 pub returns-in_err-arcs-clause-memory : goal.returns-in_err-arcs-clause-memory
-returns-in_err-arcs-clause-memory g c = λ is. some_arcs (g.S.OctetSource.list c.args.source.now) c.in_ok-examine.ensures.octets c.in_ok-examine.ensures.reading
+returns-in_err-arcs-clause-memory g c =
+    λ is. some_arcs (g.S.OctetSource.list c.args.source.now) c.in_ok-examine.ensures.octets
+    c.in_ok-examine.ensures.reading
 
 pub invariant_of-result : goal.invariant_of-result
 invariant_of-result g c =
-    (arcs_from_reading c.in_ok-arcs.arcs.items (g.S.OctetSource.list c.args.source.now) c.in_ok-examine.ensures.octets c.in_ok-arcs.ensures).0.valid
+    (arcs_from_reading c.in_ok-arcs.arcs.items (g.S.OctetSource.list c.args.source.now) c.in_ok-examine.ensures.octets
+        c.in_ok-arcs.ensures).0.valid
 
 pub returns-clause-contents : goal.returns-clause-contents
 returns-clause-contents g c =
-    arcs_from_reading c.in_ok-arcs.arcs.items (g.S.OctetSource.list c.args.source.now) c.in_ok-examine.ensures.octets c.in_ok-arcs.ensures
+    arcs_from_reading c.in_ok-arcs.arcs.items (g.S.OctetSource.list c.args.source.now) c.in_ok-examine.ensures.octets
+        c.in_ok-arcs.ensures
 
 pub returns-clause-only : goal.returns-clause-only
 returns-clause-only g c = λ arcs is.
@@ -78,11 +88,13 @@ returns-clause-only g c = λ arcs is.
 pub returns-clause-arc_too_large : goal.returns-clause-arc_too_large
 returns-clause-arc_too_large g c = (
   λ is. absurd (no_refusal _ ArcTooLarge is),
-  λ some. absurd (none_large (g.S.OctetSource.list c.args.source.now) c.in_ok-examine.ensures.octets c.in_ok-examine.ensures.reading some),
+  λ some. absurd (none_large (g.S.OctetSource.list c.args.source.now) c.in_ok-examine.ensures.octets
+      c.in_ok-examine.ensures.reading some),
 )
 
 pub returns-clause-malformed : goal.returns-clause-malformed
 returns-clause-malformed g c = (
   λ is. absurd (no_refusal _ Malformed is),
-  λ none. absurd (not_malformed (g.S.OctetSource.list c.args.source.now) c.in_ok-examine.ensures.octets c.in_ok-examine.ensures.reading none),
+  λ none. absurd (not_malformed (g.S.OctetSource.list c.args.source.now) c.in_ok-examine.ensures.octets
+      c.in_ok-examine.ensures.reading none),
 )

@@ -7,5 +7,7 @@ use Rattle.asn1_oid.proofs.oid.OidDisplay.fmt.Given as goal
 abbrev pub invariant-loop-arc : goal.invariant-loop-arc
 invariant-loop-arc g l = record {
   rest : l.rest ≡ drop 1 l.self.arcs.now;
-  written : IsPlainFormatter l.fn.f → HasWritten g.W.Write.write_str_gives l.fn.f (decimal (get_or l.self.arcs.now 0 0) ++ flat_map (λ b. full_stop ∷ decimal b) (take l.arc-index l.rest)) l.f;
+  written : IsPlainFormatter l.fn.f
+      → HasWritten g.W.Write.write_str_gives l.fn.f
+      (decimal (get_or l.self.arcs.now 0 0) ++ flat_map (λ b. full_stop ∷ decimal b) (take l.arc-index l.rest)) l.f;
 }

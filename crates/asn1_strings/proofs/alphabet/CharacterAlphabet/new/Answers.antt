@@ -14,10 +14,18 @@ invariant_of-result g c =
         listing = rw is c.listing_of-listing.ensures.listing;
         unlisted = c.listing_of-listing.ensures.unlisted;
         ascends = rw is c.ascends_in-ascending.ensures.ascends;
-        not_ascending = λ told kept. rw is (c.ascends_in-ascending.ensures.not_ascending told (is_some_if c.listing_of-listing.result.kept c.listing_of-listing.result.set c.kept_set-permitted.result is kept));
+        not_ascending =
+            λ told kept. rw is (c.ascends_in-ascending.ensures.not_ascending told
+            (is_some_if c.listing_of-listing.result.kept c.listing_of-listing.result.set c.kept_set-permitted.result is
+            kept));
         gapless = rw is c.listing_of-listing.ensures.gapless;
         runs_listed = c.listing_of-listing.ensures.runs_listed;
-        few_places = λ none by. rw is (few_places c.CHARACTER_SET_NAME-name.result c.kept_set-permitted.result c.args.aligned (none_if c.listing_of-listing.result.kept c.listing_of-listing.result.set c.kept_set-permitted.result is none) (rw (c.codes_of.ensures, c.largest_in-largest.ensures, c.width_for-width.ensures.value, c.count_of.ensures) at by));
+        few_places =
+            λ none by. rw is (few_places c.CHARACTER_SET_NAME-name.result c.kept_set-permitted.result c.args.aligned
+            (none_if c.listing_of-listing.result.kept c.listing_of-listing.result.set c.kept_set-permitted.result is
+            none)
+            (rw (c.codes_of.ensures, c.largest_in-largest.ensures, c.width_for-width.ensures.value, c.count_of.ensures)
+            at by));
         worded = rw is c.words_of.ensures;
       });
     }

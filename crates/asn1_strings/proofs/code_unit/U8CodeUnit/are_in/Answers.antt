@@ -10,4 +10,5 @@ returns c =
     let set = base_set c.args.name in
     let octets = c.args.octets.now in
     let all = take_all c.loop-octet.octet-index octets (omega arith) in
-    rw (ones octets) (all_in set octets c.loop-octet.right (c.loop-octet.invariant ∙ ap (list_all (has_character set)) all))
+    rw (ones octets) (all_in set octets c.loop-octet.right
+        (c.loop-octet.invariant ∙ ap (list_all (has_character set)) all))

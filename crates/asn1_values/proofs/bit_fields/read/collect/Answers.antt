@@ -19,7 +19,9 @@ loop-shape-init c =
 
 pub read_field-requires : goal.read_field-requires
 read_field-requires c =
-    next_is_ok c.args.shapes.now c.loop-shape.shape-index c.shape-item.result (plain_fields c.loop-shape.fields.items) (bits_left c.loop-shape.reader) (fields_at (plain_shapes c.args.shapes.now) (bits_left c.args.reader.now)) c.loop-shape-test.true c.shape-item.is c.requires c.loop-shape.invariant.walk
+    next_is_ok c.args.shapes.now c.loop-shape.shape-index c.shape-item.result (plain_fields c.loop-shape.fields.items)
+        (bits_left c.loop-shape.reader) (fields_at (plain_shapes c.args.shapes.now) (bits_left c.args.reader.now))
+        c.loop-shape-test.true c.shape-item.is c.requires c.loop-shape.invariant.walk
 
 pub loop-shape-preserved : goal.loop-shape-preserved
 loop-shape-preserved c =
@@ -29,11 +31,22 @@ loop-shape-preserved c =
     let v = view_left c.args.reader.now in
     let now = view_left c.loop-shape.reader in
     record {
-      walk = rw (c.in_ok-push.ensures.items, map_push) (read_more c.args.shapes.now c.loop-shape.shape-index c.shape-item.result (plain_fields fs) (bits_left c.loop-shape.reader) (plain_field field) (bits_left c.read_field.new.reader) (fields_at (plain_shapes c.args.shapes.now) (bits_left c.args.reader.now)) c.loop-shape-test.true c.shape-item.is c.in_ok-read_field.ensures.read inv.walk);
-      places = rw c.in_ok-push.ensures.items (lie_more v fs field inv.places (λ front s. lies_there v now front field (inv.rest front s) c.in_ok-read_field.ensures.place));
-      rest = λ front s. left_more v now (view_left c.read_field.new.reader) fs field inv.rest c.in_ok-read_field.ensures.rest front (rw c.in_ok-push.ensures.items at s);
+      walk =
+          rw (c.in_ok-push.ensures.items, map_push)
+          (read_more c.args.shapes.now c.loop-shape.shape-index c.shape-item.result (plain_fields fs)
+          (bits_left c.loop-shape.reader) (plain_field field) (bits_left c.read_field.new.reader)
+          (fields_at (plain_shapes c.args.shapes.now) (bits_left c.args.reader.now)) c.loop-shape-test.true
+          c.shape-item.is c.in_ok-read_field.ensures.read inv.walk);
+      places =
+          rw c.in_ok-push.ensures.items (lie_more v fs field inv.places
+          (λ front s. lies_there v now front field (inv.rest front s) c.in_ok-read_field.ensures.place));
+      rest =
+          λ front s. left_more v now (view_left c.read_field.new.reader) fs field inv.rest
+          c.in_ok-read_field.ensures.rest front (rw c.in_ok-push.ensures.items at s);
     }
 
 pub returns-clause-fields : goal.returns-clause-fields
 returns-clause-fields c =
-    read_all c.args.shapes.now c.loop-shape.shape-index (plain_fields c.loop-shape.fields.items) (bits_left c.loop-shape.reader) (fields_at (plain_shapes c.args.shapes.now) (bits_left c.args.reader.now)) c.loop-shape-test.false c.loop-shape.invariant.walk
+    read_all c.args.shapes.now c.loop-shape.shape-index (plain_fields c.loop-shape.fields.items)
+        (bits_left c.loop-shape.reader) (fields_at (plain_shapes c.args.shapes.now) (bits_left c.args.reader.now))
+        c.loop-shape-test.false c.loop-shape.invariant.walk

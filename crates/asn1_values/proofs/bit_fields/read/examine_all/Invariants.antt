@@ -7,4 +7,6 @@ use Rattle.asn1_values.proofs.bit_fields.read.examine_all.Given as goal
 
 -- what is still to be examined gives what all of it gives
 abbrev pub invariant-loop-i : goal.invariant-loop-i
-invariant-loop-i l = past_all l.i (fields_at (plain_shapes (drop l.i l.shapes)) (bits_left l.left)) ≡ past_all 0 (fields_at (plain_shapes l.shapes) (bits_left l.initial.left))
+invariant-loop-i l =
+    past_all l.i (fields_at (plain_shapes (drop l.i l.shapes)) (bits_left l.left)) ≡ past_all 0
+    (fields_at (plain_shapes l.shapes) (bits_left l.initial.left))

@@ -7,7 +7,8 @@ use Rattle.asn1_strings.specs.AlphabetView.{alphabet_of}
 use Rattle.asn1_values.proofs.bit_fields.write.fitting_len.Goals as goal
 
 pub returns-in-Octets-clause-ok : goal.returns-in-Octets-clause-ok
-returns-in-Octets-clause-ok c = rw (c.in-Octets.is, c.as_ref.ensures.list) (octets_fit (octets_in c.in-Octets.octets) c.as_ref.ensures.octets)
+returns-in-Octets-clause-ok c =
+    rw (c.in-Octets.is, c.as_ref.ensures.list) (octets_fit (octets_in c.in-Octets.octets) c.as_ref.ensures.octets)
 
 pub returns-in-Bits-clause-ok : goal.returns-in-Bits-clause-ok
 returns-in-Bits-clause-ok c = rw (c.in-Bits.is, c.len.ensures.list) (bits_fit (bits_of c.in-Bits.bits))
@@ -25,7 +26,8 @@ returns-in-Ok-clause-ok c =
 pub returns-then-octets-gt127-clause-err : goal.returns-then-octets-gt127-clause-err
 returns-then-octets-gt127-clause-err c =
     let one = one_shortest_list c.in-CountedInteger.number in
-    rw c.in-CountedInteger.is (refl, (one.0, one.1, omega (arith, c.signed_len-octets.ensures one.0 one.1, c.if-octets-gt127.true)))
+    rw c.in-CountedInteger.is (refl,
+        (one.0, one.1, omega (arith, c.signed_len-octets.ensures one.0 one.1, c.if-octets-gt127.true)))
 
 pub returns-else-octets-gt127-clause-ok : goal.returns-else-octets-gt127-clause-ok
 returns-else-octets-gt127-clause-ok c =

@@ -8,17 +8,21 @@ push-requires-clause-fits c =
     let fs = c.args.fields.now in
     let i = c.loop-field.field-index in
     let x = c.field-item.result in
-    field_fits (plain_fields fs) (plain_fields (take i fs)) (plain_fields (drop (i + 1) fs)) (plain_field x) (cut_of fs i x c.loop-field-test.true c.field-item.is) c.requires.list c.requires.spelled
+    field_fits (plain_fields fs) (plain_fields (take i fs)) (plain_fields (drop (i + 1) fs)) (plain_field x)
+        (cut_of fs i x c.loop-field-test.true c.field-item.is) c.requires.list c.requires.spelled
 
 pub push-requires-clause-space : goal.push-requires-clause-space
 push-requires-clause-space c =
     let fs = c.args.fields.now in
     let i = c.loop-field.field-index in
     let x = c.field-item.result in
-    space_now (plain_fields fs) (plain_fields (take i fs)) (plain_fields (drop (i + 1) fs)) (plain_field x) (cut_of fs i x c.loop-field-test.true c.field-item.is) c.args.appender.now c.loop-field.appender c.requires c.loop-field.invariant.pushed
+    space_now (plain_fields fs) (plain_fields (take i fs)) (plain_fields (drop (i + 1) fs)) (plain_field x)
+        (cut_of fs i x c.loop-field-test.true c.field-item.is) c.args.appender.now c.loop-field.appender c.requires
+        c.loop-field.invariant.pushed
 
 pub loop-field-init : goal.loop-field-init
-loop-field-init c = record { lender = refl; pushed = pushed_none c.args.appender.now; counted = no_turns c.args.turns.now.count }
+loop-field-init c =
+    record { lender = refl; pushed = pushed_none c.args.appender.now; counted = no_turns c.args.turns.now.count }
 
 pub loop-field-preserved : goal.loop-field-preserved
 loop-field-preserved c =
@@ -29,8 +33,10 @@ loop-field-preserved c =
       lender = c.push.ensures.lender ∙ c.loop-field.invariant.lender;
       pushed =
           rw (more_of fs i x c.loop-field-test.true c.field-item.is)
-          (pushed_more (plain_fields (take i fs)) (plain_field x) c.args.appender.now c.loop-field.appender c.push.new.appender c.loop-field.invariant.pushed c.push.ensures.pushed);
+          (pushed_more (plain_fields (take i fs)) (plain_field x) c.args.appender.now c.loop-field.appender
+              c.push.new.appender c.loop-field.invariant.pushed c.push.ensures.pushed);
       counted =
           rw (more_of fs i x c.loop-field-test.true c.field-item.is)
-          (more_turns (plain_fields (take i fs)) (plain_field x) c.args.turns.now.count c.loop-field.turns.count c.push.new.turns.count c.loop-field.invariant.counted c.push.ensures.counted);
+          (more_turns (plain_fields (take i fs)) (plain_field x) c.args.turns.now.count c.loop-field.turns.count
+              c.push.new.turns.count c.loop-field.invariant.counted c.push.ensures.counted);
     }

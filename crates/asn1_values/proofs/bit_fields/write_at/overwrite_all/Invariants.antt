@@ -6,4 +6,5 @@ use Rattle.asn1_values.proofs.bit_fields.write_at.overwrite_all.Given as goal
 
 -- the fields so far were written
 abbrev pub invariant-loop-field : goal.invariant-loop-field
-invariant-loop-field l = OverwritesAll (plain_fields (take l.field-index l.fields)) l.position (bits l.initial.target) (bits l.target) l.next
+invariant-loop-field l =
+    OverwritesAll (plain_fields (take l.field-index l.fields)) l.position (bits l.initial.target) (bits l.target) l.next
