@@ -13,7 +13,7 @@ unfolding digits
 digits-zero zero = refl
 digits-zero (suc width) =
     ap (λ (l : List Bool). l ++ false ∷ []) (digits-zero width) ∙ replicate_more width false
-        ∙ (let e : width + 1 ≡ suc width = omega arith in ap (λ (n : ℕ). replicate n false) e)
+    ∙ (let e : width + 1 ≡ suc width = omega arith in ap (λ (n : ℕ). replicate n false) e)
 
 -- and so are the bits of octets that are 0
 pub bits-zeros : (k : ℕ) → bits (replicate k 0) ≡ replicate (8 * k) false
@@ -42,12 +42,12 @@ unfolding bits_shown
 filled_by octets len list z e l n =
     let front : take len (bits octets) ≡ list = ap (take len) e ∙ take_at list (replicate z false) len l in
     let total : length (bits octets) ≡ len + z = ap (λ (l : List Bool). length l) e
-        ∙ omega (arith, length-append list (replicate z false), length-replicate z false) in
+    ∙ omega (arith, length-append list (replicate z false), length-replicate z false) in
     let rest : z ≡ length (bits octets) - len = omega arith in
     let zeros : IsZeroFrom len (bits octets) =
     zero_from len (bits octets) (omega arith)
     (e ∙ ap (λ (k : ℕ). list ++ replicate k false) rest
-        ∙ ap (λ (l : List Bool). l ++ replicate (length (bits octets) - len) false) (sym front)) in
+    ∙ ap (λ (l : List Bool). l ++ replicate (length (bits octets) - len) false) (sym front)) in
     (record { count = n; rest = zeros }, front)
 
 -- the octets' bits are those that they show, and zeros
@@ -67,12 +67,12 @@ filled-none = filled_by [] 0 [] 0 refl refl refl
 pub padded-bits_shown : (octets : List ℕ) (len : ℕ) → IsFilled octets len → bits octets ≡ padded (bits_shown octets len)
 padded-bits_shown octets len f =
     (spelled octets len f) ∙ ap (λ (n : ℕ). bits_shown octets len ++ replicate (8 * octets_for n - n) false)
-        (sym (length-bits_shown octets len f))
+    (sym (length-bits_shown octets len f))
 
 -- octets of zeros behind them show that many zeros more
 pub filled-grow : (octets : List ℕ) (len d k : ℕ) → IsFilled octets len → length octets + k ≡ octets_for (len + d)
     → IsFilled (octets ++ replicate k 0) (len + d)
-        × (bits_shown (octets ++ replicate k 0) (len + d) ≡ bits_shown octets len ++ replicate d false)
+    × (bits_shown (octets ++ replicate k 0) (len + d) ≡ bits_shown octets len ++ replicate d false)
 filled-grow octets len d k f e =
     let z = 8 * octets_for len - len in
     let z' = 8 * octets_for (len + d) - (len + d) in
@@ -82,13 +82,17 @@ filled-grow octets len d k f e =
     ∙ ap (λ (l : List Bool). (bits_shown octets len ++ replicate z false) ++ l) (bits-zeros k)
     ∙ append_assoc (bits_shown octets len) (replicate z false) (replicate (8 * k) false)
     ∙ ap (λ (l : List Bool). bits_shown octets len ++ l)
-        (replicate-append-replicate z (8 * k) false
-        ∙ (let e : z + 8 * k ≡ d + z' = omega (arith, f.count) in ap (λ (n : ℕ). replicate n false) e)
-        ∙ sym (replicate-append-replicate d z' false))
+    (replicate-append-replicate z (8 * k) false
+    ∙ (let e : z + 8 * k ≡ d + z' = omega (arith, f.count) in ap (λ (n : ℕ). replicate n false) e)
+    ∙ sym (replicate-append-replicate d z' false))
     ∙ sym (append_assoc (bits_shown octets len) (replicate d false) (replicate z' false)) in
     filled_by (octets ++ replicate k 0) (len + d) (bits_shown octets len ++ replicate d false) z' shape
-    (omega (arith, length-append (bits_shown octets len) (replicate d false), length-bits_shown octets len f,
-        length-replicate d false))
+    (omega (
+      arith,
+      length-append (bits_shown octets len) (replicate d false),
+      length-bits_shown octets len f,
+      length-replicate d false,
+    ))
     (omega (arith, length-append octets (replicate k 0), length-replicate {A = ℕ} k 0))
 
 -- a bit that is set in the octets is set among those that are shown
@@ -99,8 +103,8 @@ filled-set octets after len i bit f e n h =
     let z = 8 * octets_for len - len in
     filled_by after len (set (bits_shown octets len) i bit) z
     (e ∙ ap (λ (l : List Bool). set l i bit) (spelled octets len f)
-        ∙ set-append_left (bits_shown octets len) (replicate z false) i bit
-        (omega (arith, length-bits_shown octets len f)))
+    ∙ set-append_left (bits_shown octets len) (replicate z false) i bit
+    (omega (arith, length-bits_shown octets len f)))
     (length-set (bits_shown octets len) i bit ∙ length-bits_shown octets len f)
     (n ∙ f.count)
 
@@ -113,8 +117,8 @@ filled-ored octets after len place src f e n h =
     let z = 8 * octets_for len - len in
     filled_by after len (ored (bits_shown octets len) place src) z
     (e ∙ ap (λ (l : List Bool). ored l place src) (spelled octets len f)
-        ∙ ored-append_left (bits_shown octets len) (replicate z false) place src
-        (omega (arith, length-bits_shown octets len f)))
+    ∙ ored-append_left (bits_shown octets len) (replicate z false) place src
+    (omega (arith, length-bits_shown octets len f)))
     (length-ored (bits_shown octets len) place src ∙ length-bits_shown octets len f)
     (n ∙ f.count)
 
@@ -128,7 +132,7 @@ filled-grow_to octets after len d needed f n e =
 -- one zero more becomes a one
 pub set-zeros : (list : List Bool) (place i n : ℕ) → length list ≡ place → place ≤ i → i < n
     → set ((list ++ replicate (i - place) true) ++ replicate (n - i) false) i
-        true ≡ (list ++ replicate ((i + 1) - place) true) ++ replicate (n - (i + 1)) false
+    true ≡ (list ++ replicate ((i + 1) - place) true) ++ replicate (n - (i + 1)) false
 set-zeros list place i n e p h =
     let ones = replicate (i - place) true in
     let more : n - i ≡ suc (n - (i + 1)) = omega arith in
@@ -138,20 +142,20 @@ set-zeros list place i n e p h =
     ∙ sym (append_assoc (list ++ ones) (true ∷ []) (replicate (n - (i + 1)) false))
     ∙ ap (λ (l : List Bool). l ++ replicate (n - (i + 1)) false)
     (append_assoc list ones (true ∷ [])
-        ∙ ap (λ (l : List Bool). list ++ l)
-        (replicate_more (i - place) true
-        ∙ (let k : (i - place) + 1 ≡ (i + 1) - place = omega arith in ap (λ (m : ℕ). replicate m true) k)))
+    ∙ ap (λ (l : List Bool). list ++ l)
+    (replicate_more (i - place) true
+    ∙ (let k : (i - place) + 1 ≡ (i + 1) - place = omega arith in ap (λ (m : ℕ). replicate m true) k)))
 
 -- one bit more is cleared
 pub cleared-more : (list : List Bool) (from k : ℕ) → from + k < length list
     → set ((take from list ++ replicate k false) ++ drop (from + k) list) (from + k)
-        false ≡ (take from list ++ replicate (k + 1) false) ++ drop (from + (k + 1)) list
+    false ≡ (take from list ++ replicate (k + 1) false) ++ drop (from + (k + 1)) list
 cleared-more list from k lt =
     let front = take from list in
     let zeros = replicate k false in
     let i = from + k in
     let here : length (front ++ zeros) ≡ i =
-        omega (arith, length-append front zeros, length-replicate k false, length-take from list) in
+    omega (arith, length-append front zeros, length-replicate k false, length-take from list) in
     let next : i + 1 ≡ from + (k + 1) = omega arith in
     ap (λ (l : List Bool). set ((front ++ zeros) ++ l) i false) (drop_more list i false lt)
     ∙ set_at (front ++ zeros) (get_or list i false) (drop (i + 1) list) false i here
@@ -167,14 +171,14 @@ pub filled-cut : (octets cut after : List ℕ) (old len : ℕ) → IsFilled octe
     → IsFilled after len × (bits_shown after len ≡ take len (bits_shown octets old))
 filled-cut octets cut after old len f h c e n =
     let count : length cut ≡ octets_for len = ap (λ (l : List ℕ). length l) c
-        ∙ omega (arith, length-take (octets_for len) octets, f.count) in
+    ∙ omega (arith, length-take (octets_for len) octets, f.count) in
     let front : take len (bits cut) ≡ take len (bits_shown octets old) =
     ap (λ (l : List ℕ). take len (bits l)) c
     ∙ ap (take len) (bits-take (octets_for len) octets)
     ∙ take-take len (8 * octets_for len) (bits octets) (omega arith)
     ∙ ap (take len) (spelled octets old f)
     ∙ take-append-le len (bits_shown octets old) (replicate (8 * octets_for old - old) false)
-        (omega (arith, length-bits_shown octets old f)) in
+    (omega (arith, length-bits_shown octets old f)) in
     filled_by after len (take len (bits_shown octets old)) (8 * length cut - len)
     (e ∙ ap (λ (l : List Bool). l ++ replicate (8 * length cut - len) false) front)
     (omega (arith, length-take len (bits_shown octets old), length-bits_shown octets old f))
@@ -206,24 +210,24 @@ zeros-shown octets len place list f e z =
     let rest = 8 * octets_for len - len in
     let front = take place list in
     let shape : bits octets ≡ list ++ replicate rest false = spelled octets len f
-        ∙ ap (λ (l : List Bool). l ++ replicate rest false) e in
+    ∙ ap (λ (l : List Bool). l ++ replicate rest false) e in
     let total : length (bits octets) ≡ length list + rest = ap (λ (l : List Bool). length l) shape
-        ∙ omega (arith, length-append list (replicate rest false), length-replicate rest false) in
+    ∙ omega (arith, length-append list (replicate rest false), length-replicate rest false) in
     let same : take place (bits octets) ≡ front = ap (take place) shape
-        ∙ take-append-le place list (replicate rest false) z.within in
+    ∙ take-append-le place list (replicate rest false) z.within in
     let n : length list - place + rest ≡ length (bits octets) - place = omega (arith, total, z.within) in
     zero_from place (bits octets) (omega (arith, total, z.within))
     (shape
     ∙ ap (λ (l : List Bool). l ++ replicate rest false) (zeros_behind place list z)
     ∙ append_assoc front (replicate (length list - place) false) (replicate rest false)
     ∙ ap (λ (l : List Bool). front ++ l)
-        (replicate-append-replicate (length list - place) rest false ∙ ap (λ (k : ℕ). replicate k false) n)
+    (replicate-append-replicate (length list - place) rest false ∙ ap (λ (k : ℕ). replicate k false) n)
     ∙ ap (λ (l : List Bool). l ++ replicate (length (bits octets) - place) false) (sym same))
 
 -- octets behind whole octets
 pub whole-filled : (items src : List ℕ) (len : ℕ) → IsFilled items len → len % 8 ≡ 0
     → IsFilled (items ++ src) (len + 8 * length src)
-        × (bits_shown (items ++ src) (len + 8 * length src) ≡ bits_shown items len ++ bits src)
+    × (bits_shown (items ++ src) (len + 8 * length src) ≡ bits_shown items len ++ bits src)
 unfolding bits_shown
 whole-filled items src len f whole =
     let end = len + 8 * length src in
@@ -233,8 +237,11 @@ whole-filled items src len f whole =
       record {
         count = omega (arith, f.count, length-append items src);
         rest =
-            record { within = omega (arith, n); zero = drop_all end all (omega (arith, n))
-            ∙ ap (λ (k : ℕ). replicate k false) none };
+            record {
+              within = omega (arith, n);
+              zero = drop_all end all (omega (arith, n))
+                  ∙ ap (λ (k : ℕ). replicate k false) none;
+            };
       },
       take_all end all (omega (arith, n)) ∙ bits-append items src
           ∙ ap (λ (l : List Bool). l ++ bits src)

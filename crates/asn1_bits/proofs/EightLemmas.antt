@@ -33,7 +33,7 @@ word-bit : (octets : List ℕ) (n i : ℕ) → i < 64 → octets ≡ to_le_bytes
 word-bit octets n i h e =
     get_or-bits octets i
     ∙ ap (λ (o : ℕ). is_odd (o / 2 ^ (7 - i % 8)))
-        (ap (λ (l : List ℕ). get_or l (i / 8) 0) e ∙ octet-low_first 0 8 n (i / 8) (i / 8) (omega arith) (omega arith))
+    (ap (λ (l : List ℕ). get_or l (i / 8) 0) e ∙ octet-low_first 0 8 n (i / 8) (i / 8) (omega arith) (omega arith))
     ∙ octet-digit n (i / 8) (7 - i % 8) (omega arith)
 
 -- eight octets ORed as words, whose lowest octet is the first
@@ -44,7 +44,7 @@ words-or xs ys new x y ex ey e =
     let n : length new ≡ 8 = ap (λ (l : List ℕ). length l) e in
     let m : length xs ≡ 8 = ap (λ (l : List ℕ). length l) ex in
     ext_get_or false (bits new) (ored (bits xs) 0 (bits ys))
-        (omega (arith, n, m, length-bits new, length-ored (bits xs) 0 (bits ys), length-bits xs))
+    (omega (arith, n, m, length-bits new, length-ored (bits xs) 0 (bits ys), length-bits xs))
     (λ i lt.
     let h : i < 64 = omega (arith, n, length-bits new) in
     let k = 8 * (i / 8) + (7 - i % 8) in
@@ -60,7 +60,7 @@ pub loaded_native : (octets eight : List ℕ) (first n : ℕ) → ((i : ℕ) →
     → eight ≡ take 8 (drop first octets) → n ≡ from_le_bytes w64 eight → to_le_bytes w64 n ≡ take 8 (drop first octets)
 loaded_native octets eight first n small h e is =
     let len : length eight ≡ 8 = ap (λ (l : List ℕ). length l) e
-        ∙ omega (arith, length-take 8 (drop first octets), length-drop first octets) in
+    ∙ omega (arith, length-take 8 (drop first octets), length-drop first octets) in
     le_bytes_8 eight n len (eight-small octets eight first small e) is ∙ e
 
 -- what stands before the bits that are ORed in stays
@@ -68,8 +68,13 @@ ored-behind : (front list src : List Bool) (place : ℕ) → place ≡ length fr
     → ored (front ++ list) place src ≡ front ++ ored list 0 src
 ored-behind front list src place e =
     ext_get_or false (ored (front ++ list) place src) (front ++ ored list 0 src)
-    (omega (arith, length-ored (front ++ list) place src, length-ored list 0 src, length-append front list,
-        length-append front (ored list 0 src)))
+    (omega (
+      arith,
+      length-ored (front ++ list) place src,
+      length-ored list 0 src,
+      length-append front list,
+      length-append front (ored list 0 src),
+    ))
     (λ i lt.
     let within : i < length (front ++ list) = omega (arith, length-ored (front ++ list) place src) in
     elim (cases_lt i place) [
@@ -80,23 +85,23 @@ ored-behind front list src place e =
       | inr from ↦
           get_or-ored_inside (front ++ list) place src i (i - place) within (omega arith)
           ∙ ap (λ (b : Bool). b || get_or src (i - place) false)
-              (get_or-append_right front list place i false (sym e) from)
+          (get_or-append_right front list place i false (sym e) from)
           ∙ sym (get_or-append_right front (ored list 0 src) place i false (sym e) from
           ∙ get_or-ored_inside list 0 src (i - place) (i - place) (omega (arith, length-append front list))
-              (omega arith))
+          (omega arith))
     ])
 
 -- eight octets between others
 pub eight-ored : (old front mid back new octets : List ℕ) (first : ℕ) → old ≡ front ++ (mid ++ back)
     → first ≡ length front → length octets ≤ length mid
     → bits new ≡ ored (bits mid) 0 (bits octets)
-        → bits (front ++ (new ++ back)) ≡ ored (bits old) (8 * first) (bits octets)
+    → bits (front ++ (new ++ back)) ≡ ored (bits old) (8 * first) (bits octets)
 eight-ored old front mid back new octets first e n fits is =
     bits-append front (new ++ back)
     ∙ ap (λ (l : List Bool). bits front ++ l) (bits-append new back ∙ ap (λ (l : List Bool). l ++ bits back) is
     ∙ sym (ored-append_left (bits mid) (bits back) 0 (bits octets)
-        (omega (arith, length-bits mid, length-bits octets))))
+    (omega (arith, length-bits mid, length-bits octets))))
     ∙ sym (ap (λ (l : List ℕ). ored (bits l) (8 * first) (bits octets)) e
     ∙ ap (λ (l : List Bool). ored l (8 * first) (bits octets))
-        (bits-append front (mid ++ back) ∙ ap (λ (l : List Bool). bits front ++ l) (bits-append mid back))
+    (bits-append front (mid ++ back) ∙ ap (λ (l : List Bool). bits front ++ l) (bits-append mid back))
     ∙ ored-behind (bits front) (bits mid ++ bits back) (bits octets) (8 * first) (omega (arith, n, length-bits front)))

@@ -31,4 +31,4 @@ pub number-last : (list last : List Bool) (n width word : ℕ) → word ≡ numb
     → word ≡ number (take 64 (drop (64 * n) list))
 number-last list last n width word e is len h =
     e ∙ ap number (take_all width last (omega (arith, len)) ∙ sym (take_all 64 last (omega (arith, len))))
-        ∙ ap (λ (l : List Bool). number (take 64 l)) is
+    ∙ ap (λ (l : List Bool). number (take 64 l)) is

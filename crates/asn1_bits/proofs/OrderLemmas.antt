@@ -15,7 +15,7 @@ Rest xs ys i = slice_cmp bool_cmp (drop i xs) (drop i ys) ≡ slice_cmp bool_cmp
 -- lists from a place on are ordered by their bits there, and then by what follows
 pub heads : (xs ys : List Bool) (i : ℕ) → i < length xs → i < length ys
     → slice_cmp bool_cmp (drop i xs) (drop i ys) ≡ ordering_then (bool_cmp (get_or xs i false) (get_or ys i false))
-        (slice_cmp bool_cmp (drop (i + 1) xs) (drop (i + 1) ys))
+    (slice_cmp bool_cmp (drop (i + 1) xs) (drop (i + 1) ys))
 heads xs ys i h k = rw (drop_more xs i false h, drop_more ys i false k) refl
 
 same_bit : (b : Bool) (o : Ordering) → ordering_then (bool_cmp b b) o ≡ o
@@ -40,7 +40,7 @@ pub rest-more : (xs ys : List Bool) (i : ℕ) → i < length xs → i < length y
 rest-more xs ys i h k e r =
     sym (heads xs ys i h k
     ∙ ap (λ (b : Bool). ordering_then (bool_cmp (get_or xs i false) b)
-        (slice_cmp bool_cmp (drop (i + 1) xs) (drop (i + 1) ys))) (sym e)
+    (slice_cmp bool_cmp (drop (i + 1) xs) (drop (i + 1) ys))) (sym e)
     ∙ same_bit (get_or xs i false) (slice_cmp bool_cmp (drop (i + 1) xs) (drop (i + 1) ys)))
     ∙ r
 
@@ -66,7 +66,7 @@ pub rest-end : (xs ys : List Bool) (i : ℕ) → i ≡ min (length xs) (length y
     → nat_cmp (length xs) (length ys) ≡ slice_cmp bool_cmp xs ys
 rest-end xs ys i e r =
     ended (drop i xs) (drop i ys) (length xs) (length ys) i (omega (arith, length-drop i xs, length-drop i ys))
-        (omega (arith, length-drop i xs)) (omega (arith, length-drop i ys)) ∙ r
+    (omega (arith, length-drop i xs)) (omega (arith, length-drop i ys)) ∙ r
 
 -- a comparison of two bits that says that they are the same, or not
 pub same_from_test : (a b : Bool) → not (beq a b) ≡ false → a ≡ b

@@ -29,7 +29,7 @@ overwritten-ored old src place n e h =
     ∙ ap (λ (l : List Bool). ored l place src) (sym (append_assoc front zeros back))
     ∙ ored-append_left (front ++ zeros) back place src (omega (arith, at, z, length-append front zeros))
     ∙ ap (λ (l : List Bool). l ++ back)
-        (ap (λ (j : ℕ). ored (front ++ zeros) j src) (sym at) ∙ ored-zeros front src n e)
+    (ap (λ (j : ℕ). ored (front ++ zeros) j src) (sym at) ∙ ored-zeros front src n e)
     ∙ append_assoc front src back
 
 -- zeros behind zeros
@@ -40,7 +40,7 @@ zeros-more old now new place next m n all e f at sum h =
     f
     ∙ ap (λ (l : List Bool). overwritten l next (replicate n false)) e
     ∙ overwritten-append old place next (replicate m false) (replicate n false)
-        (omega (arith, at, length-replicate m false)) h
+    (omega (arith, at, length-replicate m false)) h
     ∙ ap (overwritten old place) (replicate-append-replicate m n false ∙ ap (λ (k : ℕ). replicate k false) (sym sum))
 
 -- ---- in an octet
@@ -49,7 +49,7 @@ zeros-more old now new place next m n all e f at sum h =
 pub octet-cleared : (o s c : ℕ) → o < 256 → s + c ≤ 8
     → (o / 2 ^ (8 - s) * 2 ^ (8 - s) % 65536 + o % (1 * 2 ^ (8 - s - c) % 65536) < 256)
     × (digits (o / 2 ^ (8 - s) * 2 ^ (8 - s) % 65536 + o % (1 * 2 ^ (8 - s - c) % 65536)) 8 ≡ overwritten (digits o 8) s
-        (replicate c false))
+    (replicate c false))
 unfolding overwritten
 octet-cleared o s c small h =
     let k = 8 - s in
@@ -70,7 +70,7 @@ octet-cleared o s c small h =
     let second : 1 * 2 ^ j % 65536 ≡ 2 ^ j = mod-eq_of_lt (omega (arith, p8, pk)) ∙ omega arith in
     let n = a * 2 ^ k + low in
     let is : a * 2 ^ k % 65536 + o % (1 * 2 ^ j % 65536) ≡ n = ap (λ (m : ℕ). m + o % (1 * 2 ^ j % 65536)) first
-        ∙ ap (λ (m : ℕ). a * 2 ^ k + o % m) second in
+    ∙ ap (λ (m : ℕ). a * 2 ^ k + o % m) second in
     let power : 2 ^ s * 2 ^ k ≡ 2 ^ 8 = sym (pow-add 2 s k) ∙ ap (λ (m : ℕ). 2 ^ m) (sym whole) in
     let fits : n < 256 = omega (arith, power, mul-add-lt a (2 ^ k) low (2 ^ s) high (omega (arith, below, pk))) in
     let new : digits n 8 ≡ digits a s ++ (zeros ++ digits o j) =
@@ -103,21 +103,21 @@ overwritten-inside front mid back list place s e h =
     let end : place + n ≡ length front + (s + n) = omega (arith, e) in
     let head : take place all ≡ front ++ take s mid =
     ap (λ (k : ℕ). take k all) e ∙ take-append-add front (mid ++ back) s
-        ∙ ap (λ (l : List Bool). front ++ l) (take-append-le s mid back (omega arith)) in
+    ∙ ap (λ (l : List Bool). front ++ l) (take-append-le s mid back (omega arith)) in
     let rest : drop (place + n) all ≡ drop (s + n) mid ++ back =
     ap (λ (k : ℕ). drop k all) end ∙ drop-append-add front (mid ++ back) (s + n) ∙ drop-append-le (s + n) mid back h in
     ap (λ (l : List Bool). l ++ (list ++ drop (place + n) all)) head
     ∙ ap (λ (l : List Bool). (front ++ take s mid) ++ (list ++ l)) rest
     ∙ append_assoc front (take s mid) (list ++ (drop (s + n) mid ++ back))
     ∙ ap (λ (l : List Bool). front ++ l)
-        (ap (λ (l : List Bool). take s mid ++ l) (sym (append_assoc list (drop (s + n) mid) back))
-        ∙ sym (append_assoc (take s mid) (list ++ drop (s + n) mid) back))
+    (ap (λ (l : List Bool). take s mid ++ l) (sym (append_assoc list (drop (s + n) mid) back))
+    ∙ sym (append_assoc (take s mid) (list ++ drop (s + n) mid) back))
 
 -- an octet, some of whose digits were written over, among the others
 pub octet-put : (octets : List ℕ) (q new s place : ℕ) (list : List Bool) → q < length octets → s + length list ≤ 8
     → place ≡ 8 * q + s
     → digits new 8 ≡ overwritten (digits (get_or octets q 0) 8) s list
-        → bits (set octets q new) ≡ overwritten (bits octets) place list
+    → bits (set octets q new) ≡ overwritten (bits octets) place list
 unfolding bits
 octet-put octets q new s place list h fits at e =
     let o = get_or octets q 0 in
@@ -125,13 +125,13 @@ octet-put octets q new s place list h fits at e =
     let rest = drop (q + 1) octets in
     let len : length front ≡ q = omega (arith, length-take q octets) in
     let split : octets ≡ front ++ (o ∷ rest) = sym (take-append-drop q octets)
-        ∙ ap (λ (l : List ℕ). front ++ l) (drop_more octets q 0 h) in
+    ∙ ap (λ (l : List ℕ). front ++ l) (drop_more octets q 0 h) in
     ap bits (ap (λ (l : List ℕ). set l q new) split ∙ set_at front o rest new q len)
     ∙ bits-append front (new ∷ rest)
     ∙ ap (λ (l : List Bool). bits front ++ (l ++ bits rest)) e
     ∙ sym (ap (λ (l : List Bool). overwritten l place list) (ap bits split ∙ bits-append front (o ∷ rest))
     ∙ overwritten-inside (bits front) (digits o 8) (bits rest) list place s (omega (arith, at, len, length-bits front))
-        (omega (arith, fits, length-digits o 8)))
+    (omega (arith, fits, length-digits o 8)))
 
 -- ---- whole octets
 
@@ -158,7 +158,7 @@ pub lowest-digits : (octets : List ℕ) (front list : List Bool) (n width : ℕ)
 lowest-digits octets front list n width le o f e =
     let sum : 128 ≡ 128 - width + width = omega arith in
     let whole : front ≡ digits n 128 = f ∙ ap (take 128) (ap bits o ∙ bits-bytes 16 n)
-        ∙ take_all 128 (digits n 128) (omega (arith, length-digits n 128)) in
+    ∙ take_all 128 (digits n 128) (omega (arith, length-digits n 128)) in
     e
     ∙ ap (λ (l : List Bool). take width (drop (128 - width) l)) (whole ∙ ap (digits n) sum)
     ∙ ap (take width) (low-part n (128 - width) width)

@@ -20,22 +20,22 @@ use Rattle.asn1_bits.proofs.WindowLemmas.{is_odd-or, shifted-digits, bits-octet,
 -- one octet more is written
 pub set-more : (old octets : List ℕ) (q k : ℕ) → q + k < length old → k < length octets
     → set (take q old ++ (take k octets ++ drop (q + k) old)) (q + k) (get_or octets k 0) ≡ take q old ++
-        (take (k + 1) octets ++ drop (q + (k + 1)) old)
+    (take (k + 1) octets ++ drop (q + (k + 1)) old)
 set-more old octets q k h lt =
     let front = take q old in
     let done = take k octets in
     let o = get_or octets k 0 in
     let rest = drop (q + k + 1) old in
     let here : length (front ++ done) ≡ q + k =
-        omega (arith, length-append front done, length-take q old, length-take k octets) in
+    omega (arith, length-append front done, length-take q old, length-take k octets) in
     let next : q + k + 1 ≡ q + (k + 1) = omega arith in
     ap (λ (l : List ℕ). set l (q + k) o)
-        (sym (append_assoc front done (drop (q + k) old))
-        ∙ ap (λ (l : List ℕ). (front ++ done) ++ l) (drop_more old (q + k) 0 h))
+    (sym (append_assoc front done (drop (q + k) old))
+    ∙ ap (λ (l : List ℕ). (front ++ done) ++ l) (drop_more old (q + k) 0 h))
     ∙ set_at (front ++ done) (get_or old (q + k) 0) rest o (q + k) here
     ∙ append_assoc front done (o ∷ rest)
     ∙ ap (λ (l : List ℕ). front ++ l)
-        (sym (append_assoc done (o ∷ []) rest) ∙ ap (λ (l : List ℕ). l ++ rest) (sym (take_more octets k 0 lt)))
+    (sym (append_assoc done (o ∷ []) rest) ∙ ap (λ (l : List ℕ). l ++ rest) (sym (take_more octets k 0 lt)))
     ∙ ap (λ (n : ℕ). front ++ (take (k + 1) octets ++ drop n old)) next
 
 -- eight octets that were written
@@ -44,10 +44,14 @@ pub set-all : (old new octets : List ℕ) (q k word : ℕ) → new ≡ take q ol
     → bits new ≡ take (8 * q) (bits old) ++ (digits word 64 ++ drop (8 * q + 64) (bits old))
 set-all old new octets q k word e n is =
     let len : length octets ≡ 8 =
-        omega (arith, length-bits octets, ap (λ (l : List Bool). length l) (ap bits is ∙ bits-bytes 8 word),
-        length-digits word 64) in
+    omega (
+      arith,
+      length-bits octets,
+      ap (λ (l : List Bool). length l) (ap bits is ∙ bits-bytes 8 word),
+      length-digits word 64,
+    ) in
     let whole : bits (take k octets) ≡ digits word 64 = ap bits (take_all k octets (omega (arith, len))) ∙ ap bits is
-        ∙ bits-bytes 8 word in
+    ∙ bits-bytes 8 word in
     let past : 8 * (q + k) ≡ 8 * q + 64 = omega (arith, n) in
     ap bits e
     ∙ bits-append (take q old) (take k octets ++ drop (q + k) old)
@@ -81,7 +85,7 @@ put-over old p a b e h =
     (omega (arith, length-ored old p src, length-append front (mid ++ back), length-append mid back, lf, lm, lb))
     (λ i lt.
     let within : i < length old =
-        omega (arith, length-append front (mid ++ back), length-append mid back, lf, lm, lb) in
+    omega (arith, length-append front (mid ++ back), length-append mid back, lf, lm, lb) in
     elim (cases_lt i p) [
       | inl below ↦
           get_or_append_left front (mid ++ back) false i (omega (arith, lf))
@@ -95,9 +99,9 @@ put-over old p a b e h =
                 get_or_append_left mid back false (i - p) (omega (arith, lm))
                 ∙ or-digits a b 64 (i - p) (omega arith)
                 ∙ ap (λ (x : Bool). x || get_or src (i - p) false)
-                    (ap (λ (l : List Bool). get_or l (i - p) false) e
-                    ∙ get_or-take 64 (drop p old) (i - p) false (omega arith) ∙ get_or-drop p old (i - p) false
-                    ∙ ap (λ (k : ℕ). get_or old k false) there)
+                (ap (λ (l : List Bool). get_or l (i - p) false) e
+                ∙ get_or-take 64 (drop p old) (i - p) false (omega arith) ∙ get_or-drop p old (i - p) false
+                ∙ ap (λ (k : ℕ). get_or old k false) there)
                 ∙ sym (get_or-ored_inside old p src i (i - p) within (omega arith))
             | inr past ↦
                 let there : p + 64 + (i - p - 64) ≡ i = omega arith in
@@ -120,21 +124,21 @@ begun-digits octets place z h =
     let next : place + (8 * q + 8 - place) ≡ 8 * q + 8 = omega arith in
     let behind : drop (8 * q + 8) all ≡ replicate (length all - place - (8 * q + 8 - place)) false =
     sym (drop-drop (8 * q + 8 - place) place all ∙ ap (λ (k : ℕ). drop k all) next)
-        ∙ ap (drop (8 * q + 8 - place)) z.zero ∙ drop-replicate (8 * q + 8 - place) (length all - place) false in
+    ∙ ap (drop (8 * q + 8 - place)) z.zero ∙ drop-replicate (8 * q + 8 - place) (length all - place) false in
     digits-mod (o * 2 ^ 56) 64
     ∙ shifted-digits o 8 56
     ∙ ap (λ (l : List Bool). l ++ replicate 56 false) (sym (bits-octet octets q (omega arith)))
     ∙ ap (λ (l : List Bool). take 8 rest ++ l)
-        (sym (ap (take 56) (drop-drop 8 (8 * q) all ∙ behind)
-        ∙ take-replicate 56 (length all - place - (8 * q + 8 - place)) false (omega (arith, n))))
+    (sym (ap (take 56) (drop-drop 8 (8 * q) all ∙ behind)
+    ∙ take-replicate 56 (length all - place - (8 * q + 8 - place)) false (omega (arith, n))))
     ∙ sym (take-add 8 56 rest)
 
 -- the digits of the word, shifted to where they stand, written over zeros
 pub put-digits : (octets new : List ℕ) (place word width : ℕ) → IsZeroFrom place (bits octets) → 0 < width
     → place % 8 + width ≤ 64 → place / 8 + 8 ≤ length octets
     → bits new ≡ take (8 * (place / 8)) (bits octets) ++
-        (digits (bit_or (get_or octets (place / 8) 0 * 2 ^ 56 % 2 ^ 64)
-        (word * 2 ^ (64 - width) % 2 ^ 64 / 2 ^ (place % 8))) 64 ++ drop (8 * (place / 8) + 64) (bits octets))
+    (digits (bit_or (get_or octets (place / 8) 0 * 2 ^ 56 % 2 ^ 64)
+    (word * 2 ^ (64 - width) % 2 ^ 64 / 2 ^ (place % 8))) 64 ++ drop (8 * (place / 8) + 64) (bits octets))
     → bits new ≡ ored (bits octets) place (digits word width)
 put-digits octets new place word width z some fits room e =
     let q = place / 8 in
@@ -155,7 +159,7 @@ placed-two old one two place next n front back width e f at is room =
     f
     ∙ ap (λ (l : List Bool). ored l next (digits n back)) e
     ∙ ored-append old place next (digits (n / 2 ^ back) front) (digits n back)
-        (omega (arith, at, length-digits (n / 2 ^ back) front)) (omega (arith, length-digits n back, room))
+    (omega (arith, at, length-digits (n / 2 ^ back) front)) (omega (arith, length-digits n back, room))
     ∙ ap (ored old place) (sym (digits-append n front back) ∙ ap (digits n) (sym is))
 
 -- zeros are left behind what was written over their front
@@ -179,7 +183,7 @@ digits-lowest n width h =
 -- the zeros behind what a buffer shows, and behind its octets
 pub zeros-grown : (octets grown : List ℕ) (len k : ℕ) → IsFilled octets len → grown ≡ octets ++ replicate k 0
     → IsZeroFrom len (bits grown) × (take len (bits grown) ≡ bits_shown octets len)
-        × (length (bits grown) ≡ 8 * length octets + 8 * k)
+    × (length (bits grown) ≡ 8 * length octets + 8 * k)
 zeros-grown octets grown len k f g =
     let shown = bits_shown octets len in
     let z = 8 * octets_for len - len in
@@ -189,15 +193,15 @@ zeros-grown octets grown len k f g =
     ∙ ap (λ (l : List Bool). l ++ bits (replicate k 0)) (spelled octets len f)
     ∙ append_assoc shown (replicate z false) (bits (replicate k 0))
     ∙ ap (λ (l : List Bool). shown ++ l)
-        (ap (λ (l : List Bool). replicate z false ++ l) (bits-zeros k) ∙ replicate-append-replicate z (8 * k) false) in
+    (ap (λ (l : List Bool). replicate z false ++ l) (bits-zeros k) ∙ replicate-append-replicate z (8 * k) false) in
     let front : take len (bits grown) ≡ shown = ap (take len) shape
-        ∙ take_at shown (replicate (z + 8 * k) false) len n in
+    ∙ take_at shown (replicate (z + 8 * k) false) len n in
     let total : length (bits grown) ≡ len + (z + 8 * k) = ap (λ (l : List Bool). length l) shape
-        ∙ omega (arith, length-append shown (replicate (z + 8 * k) false), length-replicate (z + 8 * k) false, n) in
+    ∙ omega (arith, length-append shown (replicate (z + 8 * k) false), length-replicate (z + 8 * k) false, n) in
     let rest : z + 8 * k ≡ length (bits grown) - len = omega (arith, total) in (
       zero_from len (bits grown) (omega (arith, total))
           (shape ∙ ap (λ (j : ℕ). shown ++ replicate j false) rest
-              ∙ ap (λ (l : List Bool). l ++ replicate (length (bits grown) - len) false) (sym front)),
+          ∙ ap (λ (l : List Bool). l ++ replicate (length (bits grown) - len) false) (sym front)),
       front,
       omega (arith, total, f.count),
     )
@@ -206,7 +210,7 @@ zeros-grown octets grown len k f g =
 pub filled-pushed : (octets grown after cut : List ℕ) (len k width needed : ℕ) (src : List Bool) → IsFilled octets len
     → grown ≡ octets ++ replicate k 0
     → bits after ≡ ored (bits grown) len src → length src ≡ width → needed ≡ octets_for (len + width)
-        → needed ≤ length octets + k → cut ≡ take needed after
+    → needed ≤ length octets + k → cut ≡ take needed after
     → IsFilled cut (len + width) × (bits_shown cut (len + width) ≡ bits_shown octets len ++ src)
 filled-pushed octets grown after cut len k width needed src f g e n is room c =
     let shown = bits_shown octets len in
@@ -221,7 +225,7 @@ filled-pushed octets grown after cut len k width needed src f g e n is room c =
     let m : length front ≡ len + width = omega (arith, length-append shown src, length-bits_shown octets len f, n) in
     let sum : 8 * needed ≡ (len + width) + spare = omega (arith, is) in
     let total : length after ≡ length octets + k =
-        omega (arith, length-bits after, ap (λ (l : List Bool). length l) e, length-ored all len src, z.2) in
+    omega (arith, length-bits after, ap (λ (l : List Bool). length l) e, length-ored all len src, z.2) in
     let shape : bits cut ≡ front ++ replicate spare false =
     ap bits c ∙ bits-take needed after ∙ ap (λ (l : List Bool). take (8 * needed) l) whole
     ∙ ap (λ (j : ℕ). take j (front ++ past)) sum ∙ take-add (len + width) spare (front ++ past)
@@ -229,4 +233,4 @@ filled-pushed octets grown after cut len k width needed src f g e n is room c =
     ∙ ap (λ (l : List Bool). front ++ take spare l) (drop_at front past (len + width) m)
     ∙ ap (λ (l : List Bool). front ++ l) (take-replicate spare rest false (omega (arith, z.2, n, room))) in
     filled_by cut (len + width) front spare shape m
-        (ap (λ (l : List ℕ). length l) c ∙ length-take needed after ∙ omega (arith, total, room, is))
+    (ap (λ (l : List ℕ). length l) c ∙ length-take needed after ∙ omega (arith, total, room, is))

@@ -27,7 +27,7 @@ gathered-more field shift k h lt small =
     ap (λ (l : List ℕ). number (drop shift (bits l))) (take_more field k 0 lt)
     ∙ ap (λ (l : List Bool). number (drop shift l)) (bits-push (take k field) o)
     ∙ ap number (drop-append-le shift front (digits o 8)
-        (omega (arith, length-bits (take k field), length-take k field)))
+    (omega (arith, length-bits (take k field), length-take k field)))
     ∙ number-append (drop shift front) (digits o 8)
     ∙ ap (λ (n : ℕ). number (drop shift front) * 2 ^ n + number (digits o 8)) (length-digits o 8)
     ∙ ap (λ (n : ℕ). number (drop shift front) * 256 + n) (octet_number o small)
@@ -37,7 +37,7 @@ low-digits o shift h =
     let e : 8 ≡ shift + (8 - shift) = omega arith in
     ap (drop shift) (ap (digits o) e ∙ digits-append o shift (8 - shift))
     ∙ drop_at (digits (o / 2 ^ (8 - shift)) shift) (digits o (8 - shift)) shift
-        (length-digits (o / 2 ^ (8 - shift)) shift)
+    (length-digits (o / 2 ^ (8 - shift)) shift)
 
 -- the first octet, without the bits before the shift
 pub gathered-first : (field : List ℕ) (shift : ℕ) → shift ≤ 8 → 0 < length field
@@ -56,7 +56,7 @@ pub gathered-lt : (field : List ℕ) (shift k : ℕ) → k ≤ length field → 
 gathered-lt field shift k h =
     let l = drop shift (bits (take k field)) in
     let n : length l ≡ 8 * k - shift =
-        omega (arith, length-drop shift (bits (take k field)), length-bits (take k field), length-take k field) in
+    omega (arith, length-drop shift (bits (take k field)), length-bits (take k field), length-take k field) in
     rw n at (number-lt l)
 
 -- the bits past the width go
@@ -68,13 +68,18 @@ gathered-end field shift width excess m e h =
     let sum : 8 * m ≡ shift + (width + excess) = omega arith in
     let is : part ≡ take (width + excess) all =
     ap (drop shift) (bits-take m field ∙ ap (λ (n : ℕ). take n (bits field)) sum)
-        ∙ drop-take shift (width + excess) (bits field) in
+    ∙ drop-take shift (width + excess) (bits field) in
     let front : take width part ≡ take width all = ap (take width) is
-        ∙ take-take width (width + excess) all (omega arith) in
+    ∙ take-take width (width + excess) all (omega arith) in
     let rest = drop width part in
     let n : length rest ≡ excess =
-        omega (arith, length-drop width part, length-drop shift (bits (take m field)), length-bits (take m field),
-        length-take m field) in
+    omega (
+      arith,
+      length-drop width part,
+      length-drop shift (bits (take m field)),
+      length-bits (take m field),
+      length-take m field,
+    ) in
     let small : number rest < 2 ^ excess = rw n at (number-lt rest) in
     let whole : number part ≡ number (take width all) * 2 ^ excess + number rest =
     ap number (sym (take-append-drop width part)) ∙ number-append (take width part) rest
@@ -91,7 +96,7 @@ pub gathered-fits : (field : List ℕ) (shift k : ℕ) → k ≤ length field �
     → gathered field shift k * 256 + 255 < 2 ^ 64
 gathered-fits field shift k h lt =
     let top : 2 ^ (8 * k - shift) ≤ 2 ^ 56 =
-        pow-le-pow_right {n = 2} (omega arith) {i = 8 * k - shift} {j = 56} (omega arith) in
+    pow-le-pow_right {n = 2} (omega arith) {i = 8 * k - shift} {j = 56} (omega arith) in
     omega (arith, gathered-lt field shift k h, top)
 
 -- what is read octet by octet
@@ -100,7 +105,7 @@ pub read-short : (field : List ℕ) (shift width excess needed value k : ℕ) �
     → value / 2 ^ excess ≡ number (take width (drop shift (bits field)))
 read-short field shift width excess needed value k e h n v =
     ap (λ (m : ℕ). m / 2 ^ excess) (v ∙ ap (gathered field shift) n)
-        ∙ sym (gathered-end field shift width excess needed e h)
+    ∙ sym (gathered-end field shift width excess needed e h)
 
 -- ---- words that are read
 
@@ -119,11 +124,11 @@ read-word list place shift width word h e =
     ∙ field_of (word * 2 ^ shift) width (64 - width)
     ∙ ap (λ (k : ℕ). word * 2 ^ shift / 2 ^ k % 2 ^ width) b
     ∙ ap (λ (m : ℕ). m % 2 ^ width)
-        (sym (shr-shr (word * 2 ^ shift) shift end) ∙ ap (λ (m : ℕ). m / 2 ^ end) (shl-shr word shift)) in
+    (sym (shr-shr (word * 2 ^ shift) shift end) ∙ ap (λ (m : ℕ). m / 2 ^ end) (shl-shr word shift)) in
     let part : digits (word / 2 ^ end) width ≡ take width (drop (place + shift) list) =
     sym
-        (ap (take width) (ap (λ (k : ℕ). drop shift (digits word k)) c ∙ low-part word shift (width + end)
-        ∙ digits-append word width end)
+    (ap (take width) (ap (λ (k : ℕ). drop shift (digits word k)) c ∙ low-part word shift (width + end)
+    ∙ digits-append word width end)
     ∙ take_at (digits (word / 2 ^ end) width) (digits word end) width (length-digits (word / 2 ^ end) width))
     ∙ ap (λ (l : List Bool). take width (drop shift l)) (e ∙ ap (λ (k : ℕ). take k all) c)
     ∙ ap (take width) (drop-take shift (width + end) all)
@@ -142,7 +147,7 @@ read-top list size width word h small e =
     let less : n < 2 ^ width = shr_below word width end (rw (ap (λ (k : ℕ). 2 ^ k) (sym s)) small) in
     let front : digits n width ≡ take width list =
     sym (ap (take width) (ap (digits word) s ∙ digits-append word width end)
-        ∙ take_at (digits n width) (digits word end) width (length-digits n width))
+    ∙ take_at (digits n width) (digits word end) width (length-digits n width))
     ∙ ap (take width) e ∙ take-take width size list h in
     sym (mod-eq_of_lt less) ∙ sym (number-digits n width) ∙ ap number front
 

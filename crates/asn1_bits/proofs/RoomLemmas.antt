@@ -19,12 +19,12 @@ ored-room list src place z h =
     let split : list ≡ (front ++ zeros) ++ tail =
     zeros_behind place list z
     ∙ ap (λ (l : List Bool). front ++ l)
-        ((let e : length list - place ≡ n + rest = omega arith in ap (λ (k : ℕ). replicate k false) e)
-        ∙ sym (replicate-append-replicate n rest false))
+    ((let e : length list - place ≡ n + rest = omega arith in ap (λ (k : ℕ). replicate k false) e)
+    ∙ sym (replicate-append-replicate n rest false))
     ∙ sym (append_assoc front zeros tail) in
     ap (λ (l : List Bool). ored l place src) split
     ∙ ored-append_left (front ++ zeros) tail place src
-        (omega (arith, length-append front zeros, length-replicate n false))
+    (omega (arith, length-append front zeros, length-replicate n false))
     ∙ ap (λ (l : List Bool). l ++ tail) (ap (λ (k : ℕ). ored (front ++ zeros) k src) at ∙ ored-zeros front src n refl)
 
 -- so the front is the old front and they
@@ -45,7 +45,7 @@ room-left list src place z h =
     zero_from (place + length src) after (omega arith)
     (ored-room list src place z h
     ∙ ap (λ (l : List Bool). l ++ replicate (length list - (place + length src)) false)
-        (sym (room-taken list src place z h))
+    (sym (room-taken list src place z h))
     ∙ ap (λ (k : ℕ). take (place + length src) after ++ replicate (k - (place + length src)) false) (sym n))
 
 -- what is known after width bits were written into the room
@@ -75,7 +75,7 @@ room-zeros place n h =
       zero_from place (replicate n false) (omega arith)
           (sym (ap (λ (l : List Bool). l ++ replicate (length (replicate n false) - place) false) front
           ∙ replicate-append-replicate place (length (replicate n false) - place) false
-              ∙ ap (λ (k : ℕ). replicate k false) sum)),
+          ∙ ap (λ (k : ℕ). replicate k false) sum)),
       front,
     )
 
@@ -88,7 +88,7 @@ room-set list place i bit z h =
       zero_from place (set list i bit) (omega (arith, z.within))
           (ap (λ (l : List Bool). set l i bit) (zeros_behind place list z)
           ∙ set-append_left (take place list) (replicate (length list - place) false) i bit
-              (omega (arith, length-take place list, z.within))
+          (omega (arith, length-take place list, z.within))
           ∙ ap (λ (l : List Bool). l ++ replicate (length list - place) false) (sym front)
           ∙ ap (λ (k : ℕ). take place (set list i bit) ++ replicate (k - place) false) (sym n)),
       front,

@@ -18,7 +18,7 @@ more-placed old one new src place n m next end e f p q h room =
     f
     ∙ ap (λ (l : List Bool). ored l next piece) e
     ∙ ored-append old place next front piece (omega (arith, p, q, length-take n src))
-        (omega (arith, p, q, length-take m (drop n src), length-drop n src))
+    (omega (arith, p, q, length-take m (drop n src), length-drop n src))
     ∙ ap (ored old place) (sym (take-add n m src) ∙ ap (λ (k : ℕ). take k src) (sym q))
 
 -- the bits of eight octets
@@ -26,7 +26,7 @@ pub bits-eight : (octets : List ℕ) (k : ℕ) → bits (take 8 (drop (8 * k) oc
 bits-eight octets k =
     let place : 8 * (8 * k) ≡ 64 * k = omega arith in
     bits-take 8 (drop (8 * k) octets)
-        ∙ ap (take 64) (bits-drop (8 * k) octets ∙ ap (λ (n : ℕ). drop n (bits octets)) place)
+    ∙ ap (take 64) (bits-drop (8 * k) octets ∙ ap (λ (n : ℕ). drop n (bits octets)) place)
 
 -- a word of the end of one and the front of the next
 pub word-of_two : (list : List Bool) (k shift a b : ℕ) → shift < 64 → b < 2 ^ 64
@@ -50,5 +50,5 @@ pub words-placed : (old one two three src : List Bool) (place count spill next l
 words-placed old one two three src place count spill next last some small h room e f p g q =
     more-placed old two three src place (64 * count - spill) spill last (64 * count)
     (more-placed old one two src place (64 - spill) (64 * (count - 1)) next (64 * count - spill) e f p (omega arith)
-        (omega arith) (omega arith))
+    (omega arith) (omega arith))
     g q (omega arith) h room

@@ -39,8 +39,14 @@ bits-or octets q octet h =
     let after = set octets q new in
     let old = bits octets in
     ext_get_or false (bits after) (ored old (8 * q) (digits octet 8))
-    (omega (arith, length-bits after, length-set octets q new, length-bits octets, length-ored old (8 * q)
-        (digits octet 8)))
+    (omega (
+      arith,
+      length-bits after,
+      length-set octets q new,
+      length-bits octets,
+      length-ored old (8 * q)
+          (digits octet 8),
+    ))
     (λ i lt.
     let in_old : i < length old = omega (arith, length-bits after, length-set octets q new, length-bits octets) in
     get_or-bits after i ∙ (elim (cases_eq (i / 8) q) [
@@ -48,14 +54,16 @@ bits-or octets q octet h =
           rw (same, get_or-set_same octets q new 0 h)
           (is_odd-or (get_or octets q 0) octet (7 - i % 8)
           ∙ ap (λ (b : Bool). b || is_odd (octet / 2 ^ (7 - i % 8)))
-              (ap (λ (k : ℕ). is_odd (get_or octets k 0 / 2 ^ (7 - i % 8))) (sym same) ∙ sym (get_or-bits octets i))
+          (ap (λ (k : ℕ). is_odd (get_or octets k 0 / 2 ^ (7 - i % 8))) (sym same) ∙ sym (get_or-bits octets i))
           ∙ ap (λ (b : Bool). get_or old i false || b) (sym (get_or-digits octet 8 (i % 8) (7 - i % 8) (omega arith)))
           ∙ sym (get_or-ored_inside old (8 * q) (digits octet 8) i (i % 8) in_old (omega arith)))
       | inr apart ↦
           rw (get_or-set_other octets q (i / 8) new 0 apart)
           (sym (get_or-bits octets i) ∙ sym (get_or-ored_outside old (8 * q) (digits octet 8) i in_old
-          (elim (cases_lt i (8 * q)) [ inl below ↦ inl below | inr from ↦ inr (omega (arith, length-digits octet 8))
-              ])))
+          (elim (cases_lt i (8 * q)) [
+            | inl below ↦ inl below
+            | inr from ↦ inr (omega (arith, length-digits octet 8))
+          ])))
     ]))
 
 -- ---- the window
@@ -67,7 +75,7 @@ shifted-digits a width rest =
     ∙ ap (λ (m : ℕ). digits m width ++ digits (a * 2 ^ rest) rest) (shl-shr a rest)
     ∙ ap (λ (l : List Bool). digits a width ++ l)
     ((let e : a * 2 ^ rest ≡ a * 2 ^ rest + 0 = omega arith in ap (λ (m : ℕ). digits m rest) e) ∙ digits-low a 0 rest
-        ∙ digits-zero rest)
+    ∙ digits-zero rest)
 
 top-shifted : (n width j : ℕ) → n * 2 ^ j % 2 ^ (width + j) ≡ (n % 2 ^ width) * 2 ^ j
 top-shifted n width j =
@@ -79,14 +87,14 @@ window_is : (n width rest shift : ℕ)
     → n * 2 ^ (rest + shift) % 2 ^ (width + (rest + shift)) / 2 ^ shift ≡ (n % 2 ^ width) * 2 ^ rest
 window_is n width rest shift =
     ap (λ (m : ℕ). m / 2 ^ shift) (top-shifted n width (rest + shift)
-        ∙ ap (λ (m : ℕ). (n % 2 ^ width) * m) (pow-add 2 rest shift)
-        ∙ sym (mul_assoc (n % 2 ^ width) (2 ^ rest) (2 ^ shift)))
+    ∙ ap (λ (m : ℕ). (n % 2 ^ width) * m) (pow-add 2 rest shift)
+    ∙ sym (mul_assoc (n % 2 ^ width) (2 ^ rest) (2 ^ shift)))
     ∙ shl-shr ((n % 2 ^ width) * 2 ^ rest) shift
 
 -- digits moved to a place in a window, with zeros round them
 pub window-digits : (n width rest shift : ℕ)
     → digits (n * 2 ^ (rest + shift) % 2 ^ (width + (rest + shift)) / 2 ^ shift) (shift + (width + rest)) ≡ replicate
-        shift false ++ (digits n width ++ replicate rest false)
+    shift false ++ (digits n width ++ replicate rest false)
 window-digits n width rest shift =
     let a = n % 2 ^ width in
     let small : a * 2 ^ rest < 2 ^ (width + rest) = shl_below a width rest (mod_below n (2 ^ width) (pow_pos width)) in
@@ -95,13 +103,13 @@ window-digits n width rest shift =
     ∙ ap (λ (m : ℕ). digits m shift ++ digits (a * 2 ^ rest) (width + rest)) (div-eq_of_lt small)
     ∙ ap (λ (l : List Bool). l ++ digits (a * 2 ^ rest) (width + rest)) (digits-zero shift)
     ∙ ap (λ (l : List Bool). replicate shift false ++ l)
-        (shifted-digits a width rest ∙ ap (λ (l : List Bool). l ++ replicate rest false) (digits-mod n width))
+    (shifted-digits a width rest ∙ ap (λ (l : List Bool). l ++ replicate rest false) (digits-mod n width))
 
 -- the front of the octets of the window
 pub window-front : (m n width shift count : ℕ) (octets : List ℕ) → shift + width ≤ 8 * count → count ≤ m
     → octets ≡ bytes_high_first m (n * 2 ^ ((8 * m) - width) % 2 ^ (8 * m) / 2 ^ shift)
     → take (8 * count) (bits octets) ≡ replicate shift false ++
-        (digits n width ++ replicate (8 * count - shift - width) false)
+    (digits n width ++ replicate (8 * count - shift - width) false)
 window-front m n width shift count octets h small e =
     let rest = (8 * m) - shift - width in
     let near = 8 * count - shift - width in
@@ -120,13 +128,19 @@ window-front m n width shift count octets h small e =
     ∙ sym (ap (digits (n * 2 ^ (rest + shift) % 2 ^ (width + (rest + shift)) / 2 ^ shift)) all)
     ∙ window-digits n width rest shift
     ∙ ap (λ (l : List Bool). zeros ++ (src ++ l))
-        (sym (replicate-append-replicate near far false ∙ ap (λ (k : ℕ). replicate k false) parts))
+    (sym (replicate-append-replicate near far false ∙ ap (λ (k : ℕ). replicate k false) parts))
     ∙ ap (λ (l : List Bool). zeros ++ l) (sym (append_assoc src (replicate near false) (replicate far false)))
     ∙ sym (append_assoc zeros (src ++ replicate near false) (replicate far false)) in
     ap (take (8 * count)) shape
     ∙ take_at (zeros ++ (src ++ replicate near false)) (replicate far false) (8 * count)
-    (omega (arith, length-append zeros (src ++ replicate near false), length-append src (replicate near false),
-        length-replicate shift false, length-replicate near false, length-digits n width))
+    (omega (
+      arith,
+      length-append zeros (src ++ replicate near false),
+      length-append src (replicate near false),
+      length-replicate shift false,
+      length-replicate near false,
+      length-digits n width,
+    ))
 
 -- ---- octet after octet
 
@@ -144,19 +158,19 @@ pub or-more : (old : List Bool) (dst octets : List ℕ) (q k : ℕ)
     → bits dst ≡ ored old (8 * q) (take (8 * k) (bits octets))
     → q + k < length dst → k < length octets
     → bits (set dst (q + k) (bit_or (get_or dst (q + k) 0) (get_or octets k 0))) ≡ ored old (8 * q)
-        (take (8 * (k + 1)) (bits octets))
+    (take (8 * (k + 1)) (bits octets))
 or-more old dst octets q k e h small =
     let all = bits octets in
     let front = take (8 * k) all in
     let o = get_or octets k 0 in
     let n : length old ≡ 8 * length dst = sym (length-ored old (8 * q) front) ∙ sym (ap (λ (l : List Bool). length l) e)
-        ∙ length-bits dst in
+    ∙ length-bits dst in
     bits-or dst (q + k) o h
     ∙ ap (λ (l : List Bool). ored l (8 * (q + k)) (digits o 8)) e
     ∙ ored-append old (8 * q) (8 * (q + k)) front (digits o 8)
-        (omega (arith, length-take (8 * k) all, length-bits octets)) (omega (arith, length-digits o 8))
+    (omega (arith, length-take (8 * k) all, length-bits octets)) (omega (arith, length-digits o 8))
     ∙ ap (ored old (8 * q)) (ap (λ (l : List Bool). front ++ l) (sym (bits-octet octets k small))
-        ∙ sym (take-add (8 * k) 8 all)
+    ∙ sym (take-add (8 * k) 8 all)
     ∙ (let m : 8 * k + 8 ≡ 8 * (k + 1) = omega arith in ap (λ (j : ℕ). take j all) m))
 
 -- all octets of the window
@@ -191,7 +205,7 @@ or-near old new place n width some fits room e =
     let w = n * 2 ^ (64 - width) % 2 ^ 64 / 2 ^ shift in
     let octets = bytes_high_first 8 w in
     let whole : take 64 (bits octets) ≡ digits w 64 = ap (take 64) (bits-bytes 8 w)
-        ∙ take_all 64 (digits w 64) (omega (arith, length-digits w 64)) in
+    ∙ take_all 64 (digits w 64) (omega (arith, length-digits w 64)) in
     e
     ∙ ap (ored old (8 * q)) (sym whole ∙ window-front 8 n width shift 8 octets fits (omega arith) refl)
     ∙ ored-within old (digits n width) (8 * q) shift (64 - shift - width) (omega (arith, length-digits n width))
@@ -206,10 +220,10 @@ eight-small octets eight first small e i =
     elim (cases_lt i 8) [
       | inl lt ↦
           rw (ap (λ (l : List ℕ). get_or l i 0) e ∙ get_or-take 8 (drop first octets) i 0 lt
-              ∙ get_or-drop first octets i 0) (small (first + i))
+          ∙ get_or-drop first octets i 0) (small (first + i))
       | inr past ↦
           rw (get_or_past eight i 0 (omega (arith, ap (λ (l : List ℕ). length l) e, length-take 8 (drop first octets))))
-              (omega arith)
+          (omega arith)
     ]
 
 -- the word of eight octets
@@ -218,7 +232,7 @@ pub loaded : (octets chunk : List ℕ) (first n : ℕ) → ((i : ℕ) → get_or
     → digits n 64 ≡ take 64 (drop (8 * first) (bits octets))
 loaded octets chunk first n small h e is =
     let len : length chunk ≡ 8 = ap (λ (l : List ℕ). length l) e
-        ∙ omega (arith, length-take 8 (drop first octets), length-drop first octets) in
+    ∙ omega (arith, length-take 8 (drop first octets), length-drop first octets) in
     sym (bits-bytes 8 n)
     ∙ ap bits (be_bytes_8 chunk n len (eight-small octets chunk first small e) is ∙ e)
     ∙ bits-take 8 (drop first octets)
@@ -228,12 +242,12 @@ loaded octets chunk first n small h e is =
 pub low-part : (n s width : ℕ) → drop s (digits n (s + width)) ≡ digits n width
 low-part n s width =
     ap (drop s) (digits-append n s width)
-        ∙ drop_at (digits (n / 2 ^ width) s) (digits n width) s (length-digits (n / 2 ^ width) s)
+    ∙ drop_at (digits (n / 2 ^ width) s) (digits n width) s (length-digits (n / 2 ^ width) s)
 
 -- bits from within a number: those of it but for the first, and the first of the next number
 carried : (list : List Bool) (place size n shift : ℕ) → shift ≤ n → shift ≤ size
     → take size (drop (place + shift) list) ≡ drop shift (take size (drop place list)) ++ take shift
-        (take n (drop (place + size) list))
+    (take n (drop (place + size) list))
 carried list place size n shift h k =
     let all = drop (place + shift) list in
     let w = size - shift in
@@ -244,11 +258,11 @@ carried list place size n shift h k =
     ∙ take-add w shift all
     ∙ ap (λ (l : List Bool). take w l ++ take shift (drop w all)) (sym (drop-drop shift place list))
     ∙ ap (λ (l : List Bool). l ++ take shift (drop w all))
-        (sym (drop-take shift w (drop place list)) ∙ ap (λ (k : ℕ). drop shift (take k (drop place list))) b)
+    (sym (drop-take shift w (drop place list)) ∙ ap (λ (k : ℕ). drop shift (take k (drop place list))) b)
     ∙ ap (λ (l : List Bool). drop shift (take size (drop place list)) ++ take shift l)
-        (drop-drop w (place + shift) list ∙ ap (λ (k : ℕ). drop k list) c)
+    (drop-drop w (place + shift) list ∙ ap (λ (k : ℕ). drop k list) c)
     ∙ ap (λ (l : List Bool). drop shift (take size (drop place list)) ++ l)
-        (sym (take-take shift n (drop (place + size) list) h))
+    (sym (take-take shift n (drop (place + size) list) h))
 
 -- the number that the code joins of a number and the next one, of n digits
 pub joined : (list : List Bool) (place size n shift high o : ℕ) → shift ≤ n → shift ≤ size → o < 2 ^ n
@@ -269,11 +283,11 @@ joined list place size n shift high o h fits small e f =
     ∙ or_shifted top shift low less in
     let tail : digits low shift ≡ take shift (take n (drop (place + size) list)) =
     sym (ap (take shift) (ap (digits o) s ∙ digits-append o shift (n - shift))
-        ∙ take_at (digits low shift) (digits o (n - shift)) shift (length-digits low shift))
+    ∙ take_at (digits low shift) (digits o (n - shift)) shift (length-digits low shift))
     ∙ ap (take shift) f in
     let head : digits top w ≡ drop shift (take size (drop place list)) =
     digits-mod high w ∙ sym (low-part high shift w) ∙ ap (λ (k : ℕ). drop shift (digits high k)) b
-        ∙ ap (drop shift) e in
+    ∙ ap (drop shift) e in
     ap (λ (m : ℕ). digits m size) sum
     ∙ ap (digits (top * 2 ^ shift + low)) (sym a)
     ∙ digits-append (top * 2 ^ shift + low) w shift
@@ -298,7 +312,7 @@ word-joined octets first shift high low n h lt small e l is =
 pub carry-joined : (list : List Bool) (size shift high o : ℕ) → shift < 8 → 16 ≤ size → o < 256
     → digits high size ≡ take size list → digits o 8 ≡ take 8 (drop size list)
     → digits (bit_or (high * 2 ^ shift % 2 ^ size) (o * 2 ^ shift % 2 ^ size / 2 ^ 8)) size ≡ take size
-        (drop shift list)
+    (drop shift list)
 carry-joined list size shift high o h big small e f =
     let s : 8 ≡ shift + (8 - shift) = omega arith in
     let here : 0 + size ≡ size = omega arith in
@@ -306,8 +320,8 @@ carry-joined list size shift high o h big small e f =
     let low : o * 2 ^ shift % 2 ^ size / 2 ^ 8 ≡ o / 2 ^ (8 - shift) =
     ap (λ (m : ℕ). m / 2 ^ 8) (shl_whole o 8 shift size small (omega arith))
     ∙ ap (λ (k : ℕ). o * 2 ^ shift / 2 ^ k) s ∙ sym (shr-shr (o * 2 ^ shift) shift (8 - shift))
-        ∙ ap (λ (m : ℕ). m / 2 ^ (8 - shift)) (shl-shr o shift) in
+    ∙ ap (λ (m : ℕ). m / 2 ^ (8 - shift)) (shl-shr o shift) in
     ap (λ (m : ℕ). digits (bit_or (high * 2 ^ shift % 2 ^ size) m) size) low
     ∙ joined list 0 size 8 shift high o (omega arith) (omega arith) small e
-        (f ∙ ap (λ (k : ℕ). take 8 (drop k list)) (sym here))
+    (f ∙ ap (λ (k : ℕ). take 8 (drop k list)) (sym here))
     ∙ ap (λ (k : ℕ). take size (drop k list)) there

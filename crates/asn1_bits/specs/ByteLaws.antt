@@ -28,7 +28,7 @@ unfolding bits digits
 bits-bytes zero n = refl
 bits-bytes (suc k) n =
     ap (λ (l : List Bool). l ++ bits (bytes_high_first k n))
-        (ap (λ (b : ℕ). digits b 8) (byte_at_is k n) ∙ digits-mod (n / 2 ^ (8 * k)) 8)
+    (ap (λ (b : ℕ). digits b 8) (byte_at_is k n) ∙ digits-mod (n / 2 ^ (8 * k)) 8)
     ∙ ap (λ (l : List Bool). digits (n / 2 ^ (8 * k)) 8 ++ l) (bits-bytes k n)
     ∙ sym (digits-append n 8 (8 * k))
     ∙ (let e : 8 + 8 * k ≡ 8 * suc k = omega arith in ap (digits n) e)

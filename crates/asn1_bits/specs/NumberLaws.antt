@@ -38,7 +38,7 @@ number-append xs (y ∷ ys) =
 pub number-cons : (bit : Bool) (list : List Bool) → number (bit ∷ list) ≡ cond bit 1 0 * 2 ^ length list + number list
 number-cons bit list =
     number-append (bit ∷ []) list ∙ ap (λ (n : ℕ). n * 2 ^ length list + number list)
-        (number-push [] bit ∙ omega (arith, number-nil))
+    (number-push [] bit ∙ omega (arith, number-nil))
 
 worth_le : (bit : Bool) → cond bit 1 0 ≤ 1
 worth_le true = omega arith
@@ -80,13 +80,13 @@ digits-append n i (suc j) =
     (ap (λ (l : List Bool). l ++ is_odd n ∷ []) (digits-append (n / 2) i j)
     ∙ append_assoc (digits (n / 2 / 2 ^ j) i) (digits (n / 2) j) (is_odd n ∷ [])
     ∙ ap (λ (m : ℕ). digits m i ++ (digits (n / 2) j ++ is_odd n ∷ []))
-        (shr-shr n 1 j ∙ ap (λ (k : ℕ). n / 2 ^ k) (let e : 1 + j ≡ suc j = omega arith in e)))
+    (shr-shr n 1 j ∙ ap (λ (k : ℕ). n / 2 ^ k) (let e : 1 + j ≡ suc j = omega arith in e)))
 
 -- higher digits do not count
 pub digits-low : (a b width : ℕ) → digits (a * 2 ^ width + b) width ≡ digits b width
 digits-low a b width =
     ext_get_or false (digits (a * 2 ^ width + b) width) (digits b width)
-        (length-digits (a * 2 ^ width + b) width ∙ sym (length-digits b width)) (λ i h.
+    (length-digits (a * 2 ^ width + b) width ∙ sym (length-digits b width)) (λ i h.
     let lt : i < width = omega (arith, length-digits (a * 2 ^ width + b) width) in
     get_or-digits (a * 2 ^ width + b) width i (width - 1 - i) (omega arith)
     ∙ ap (λ (m : ℕ). eqb m 1) (bit_at_cat_low a width b (width - 1 - i) (omega arith))
@@ -142,13 +142,13 @@ same_octets (x ∷ xs) (y ∷ ys) of_o of_p e =
     let l = length-digits x 8 in
     let m = length-digits y 8 in
     let first : digits x 8 ≡ digits y 8 =
-        sym (take_at (digits x 8) (bits xs) 8 l) ∙ ap (take 8) e ∙ take_at (digits y 8) (bits ys) 8 m in
+    sym (take_at (digits x 8) (bits xs) 8 l) ∙ ap (take 8) e ∙ take_at (digits y 8) (bits ys) 8 m in
     let others : bits xs ≡ bits ys =
-        sym (drop_at (digits x 8) (bits xs) 8 l) ∙ ap (drop 8) e ∙ drop_at (digits y 8) (bits ys) 8 m in
+    sym (drop_at (digits x 8) (bits xs) 8 l) ∙ ap (drop 8) e ∙ drop_at (digits y 8) (bits ys) 8 m in
     let head : x ≡ y =
-        sym (number_of-digits x 8 (All-head (λ octet. octet < 256) x xs of_o)) ∙ ap number first
-        ∙ number_of-digits y 8 (All-head (λ octet. octet < 256) y ys of_p) in
+    sym (number_of-digits x 8 (All-head (λ octet. octet < 256) x xs of_o)) ∙ ap number first
+    ∙ number_of-digits y 8 (All-head (λ octet. octet < 256) y ys of_p) in
     let tail =
-        same_octets xs ys (All-tail (λ octet. octet < 256) x xs of_o) (All-tail (λ octet. octet < 256) y ys of_p)
-        others in
+    same_octets xs ys (All-tail (λ octet. octet < 256) x xs of_o) (All-tail (λ octet. octet < 256) y ys of_p)
+    others in
     λ i. head i ∷ tail i

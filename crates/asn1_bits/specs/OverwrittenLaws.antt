@@ -10,15 +10,20 @@ pub length-overwritten : (old : List Bool) (place : ℕ) (list : List Bool) → 
 unfolding overwritten
 length-overwritten old place list h =
     let rest = drop (place + length list) old in
-    omega (arith, length-append (take place old) (list ++ rest), length-append list rest, length-take place old,
-        length-drop (place + length list) old)
+    omega (
+      arith,
+      length-append (take place old) (list ++ rest),
+      length-append list rest,
+      length-take place old,
+      length-drop (place + length list) old,
+    )
 
 -- writing nothing over bits changes nothing
 pub overwritten-none : (old : List Bool) (place : ℕ) → overwritten old place [] ≡ old
 unfolding overwritten
 overwritten-none old place =
     (let e : place + 0 ≡ place = omega arith in ap (λ (k : ℕ). take place old ++ drop k old) e)
-        ∙ take-append-drop place old
+    ∙ take-append-drop place old
 
 -- two lists, one behind the other, are their concatenation
 pub overwritten-append : (old : List Bool) (place next : ℕ) (xs ys : List Bool) → next ≡ place + length xs
@@ -34,7 +39,7 @@ overwritten-append old place next xs ys e h =
     ap (λ (k : ℕ). front ++ (xs ++ drop k old)) (sym e) ∙ sym (append_assoc front xs rest) in
     let past : drop (next + length ys) (done ++ rest) ≡ drop (next + length ys) old =
     ap (λ (k : ℕ). drop (k + length ys) (done ++ rest)) (sym n) ∙ drop-append-add done rest (length ys)
-        ∙ drop-drop (length ys) next old in
+    ∙ drop-drop (length ys) next old in
     let end : next + length ys ≡ place + length (xs ++ ys) = omega (arith, e, length-append xs ys) in
     ap (λ (l : List Bool). take next l ++ (ys ++ drop (next + length ys) l)) first
     ∙ ap (λ (l : List Bool). l ++ (ys ++ drop (next + length ys) (done ++ rest))) (take_at done rest next n)

@@ -32,12 +32,12 @@ at_range (r ∷ rs) zero j lt small =
     ∙ slice_get-get_or (characters_between r) j 0 (omega arith)
     ∙ ap Some (get_or-range_with_len r.0 (r.1 + 1 - r.0) j 0 small)
     in ap (slice_get (characters_between r ++ flat_map characters_between rs)) (let e : 0 + j ≡ j = omega arith in e)
-        ∙ here
+    ∙ here
 at_range (r ∷ rs) (suc i) j lt small =
     let regrouped : r.1 + 1 - r.0 + counted (take i rs) + j ≡ r.1 + 1 - r.0 + (counted (take i rs) + j) = omega arith in
     ap (slice_get (characters_between r ++ flat_map characters_between rs)) regrouped
     ∙ get_right (characters_between r) (flat_map characters_between rs) (r.1 + 1 - r.0) (counted (take i rs) + j)
-        (length-range_with_len r.0 (r.1 + 1 - r.0))
+    (length-range_with_len r.0 (r.1 + 1 - r.0))
     ∙ at_range rs i j (omega arith) small
 
 -- one more range
@@ -65,11 +65,11 @@ pub digit_at : (place : ℕ) → 1 ≤ place → place ≤ 10 → slice_get (bas
 digit_at place low high =
     let j = place - 1 in
     let at : slice_get (flat_map characters_between (ranges_of Numeric)) (1 + j) ≡ Some (48 + j) =
-        at_range (ranges_of Numeric) 1 j (omega arith) (omega arith) in
+    at_range (ranges_of Numeric) 1 j (omega arith) (omega arith) in
     let same : 1 + j ≡ place = omega arith in
     let value : 48 + j ≡ 47 + place = omega arith in
     rw (base_is Numeric) (ap (slice_get (flat_map characters_between (ranges_of Numeric))) (sym same) ∙ at
-        ∙ ap Some value)
+    ∙ ap Some value)
 
 pub space_at : slice_get (base_set Numeric) 0 ≡ Some 32
 space_at = rw (base_is Numeric) (at_range (ranges_of Numeric) 0 0 (omega arith) (omega arith))

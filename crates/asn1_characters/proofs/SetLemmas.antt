@@ -51,4 +51,3 @@ not_indexed Numeric other = absurd (other refl)
 not_indexed Printable other = indexed-base_set Printable
 not_indexed Teletex other = indexed-base_set Teletex
 not_indexed Visible other = indexed-base_set Visible
-

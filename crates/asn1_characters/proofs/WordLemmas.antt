@@ -72,7 +72,7 @@ none_is false none = refl
 pub none_above : (name : CharacterSetName) (c : ℕ) → name ≢ Bmp → 256 ≤ c → has_character (base_set name) c ≡ false
 none_above name c other ge =
     none_is (has_character (base_set name) c)
-        (λ h. let lt = below_limit name 256 (small_base name other) c h in omega arith)
+    (λ h. let lt = below_limit name 256 (small_base name other) c h in omega arith)
 
 -- the words of a set tell what it has, below 256 and above
 pub has_by_words : (name : CharacterSetName) (words : List ℕ) (c : ℕ) → name ≢ Bmp
@@ -95,8 +95,11 @@ more_bit w n c = by_case (same_or_not n c)
   where
     same_or_not : (n c : ℕ) → (n ≡ c) ⊎ (n ≢ c)
     same_or_not n c =
-        elim (cases_lt n c) [ inl lt ↦ inr (λ e. omega arith) | inr ge ↦ elim (cases_lt c n)
-        [ inl lt ↦ inr (λ e. omega arith) | inr le ↦ inl (omega arith) ] ]
+        elim (cases_lt n c) [
+          | inl lt ↦ inr (λ e. omega arith)
+          | inr ge ↦ elim (cases_lt c n)
+              [ inl lt ↦ inr (λ e. omega arith) | inr le ↦ inl (omega arith) ]
+        ]
 
     by_case : (n ≡ c) ⊎ (n ≢ c) → (eqb (bit_at (bit_or w (2 ^ n)) c) 1) ≡ (eqb n c || eqb (bit_at w c) 1)
     by_case (inl same) =
@@ -123,20 +126,26 @@ words_with words n c within = by_case (cases_lt (n / 64) (c / 64))
         c ≡ (eqb n c || in_words words c)
     by_case (inl lt) =
         let apart : eqb n c ≡ false = grind (arith, nat_tests) in
-        rw (get_or-set_other words (n / 64) (c / 64) (bit_or (get_or words (n / 64) 0) (2 ^ (n % 64))) 0
-            (λ e. omega arith), apart) refl
+        rw (
+          get_or-set_other words (n / 64) (c / 64) (bit_or (get_or words (n / 64) 0) (2 ^ (n % 64))) 0
+              (λ e. omega arith),
+          apart,
+        ) refl
     by_case (inr le) = elim (cases_lt (c / 64) (n / 64)) [
       | inl lt ↦ (let apart : eqb n c ≡ false = grind (arith, nat_tests) in
-          rw (get_or-set_other words (n / 64) (c / 64) (bit_or (get_or words (n / 64) 0) (2 ^ (n % 64))) 0
-              (λ e. omega arith), apart) refl)
+          rw (
+            get_or-set_other words (n / 64) (c / 64) (bit_or (get_or words (n / 64) 0) (2 ^ (n % 64))) 0
+                (λ e. omega arith),
+            apart,
+          ) refl)
       | inr ge ↦ (let same : c / 64 ≡ n / 64 = omega arith in
           let tests : eqb n c ≡ eqb (n % 64) (c % 64) = grind (arith, nat_tests) in
           rw (same, get_or-set_same words (n / 64) (bit_or (get_or words (n / 64) 0) (2 ^ (n % 64))) 0 within, tests)
-              (more_bit (get_or words (n / 64) 0) (n % 64) (c % 64)))
+          (more_bit (get_or words (n / 64) 0) (n % 64) (c % 64)))
     ]
 
 -- the test of an octet by ranges of `PrintableString`
 abbrev pub is_printable : ℕ → Bool
 is_printable c =
     leb 97 (bit_or c 32) && leb (bit_or c 32) 122 || leb 39 c && leb c 58 && not (eqb c 42) || eqb c 32 || eqb c 61 ||
-        eqb c 63
+    eqb c 63

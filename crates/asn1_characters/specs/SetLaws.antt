@@ -34,7 +34,7 @@ pub has_in_ranges : (rs : List (ℕ × ℕ)) (c : ℕ) →
 has_in_ranges [] c = refl
 has_in_ranges (r ∷ rs) c =
     list_any-append (λ x. eqb x c) (characters_between r) (flat_map characters_between rs)
-        ∙ rw (has_between r c, has_in_ranges rs c) refl
+    ∙ rw (has_between r c, has_in_ranges rs c) refl
 
 -- a base set has what lies in its ranges
 pub has_in_base : (name : CharacterSetName) (c : ℕ) →
@@ -74,9 +74,10 @@ no_larger set i d lt = below_fold set 0 i d lt
 has_below : (set : List ℕ) (m c : ℕ) → has_character set c ≡ true → c ≤ fold max m set
 has_below [] m c has = cc
 has_below (x ∷ set) m c has =
-    elim (or_cases (eqb x c) (has_character set c) has)
-        [ inl same ↦ (let up = fold_above set (max m x) in let e : x ≡ c = grind (arith, nat_tests) in omega arith) |
-        inr rest ↦ has_below set (max m x) c rest ]
+    elim (or_cases (eqb x c) (has_character set c) has) [
+      | inl same ↦ (let up = fold_above set (max m x) in let e : x ≡ c = grind (arith, nat_tests) in omega arith)
+      | inr rest ↦ has_below set (max m x) c rest
+    ]
 
 pub not_above : (set : List ℕ) (c : ℕ) → has_character set c ≡ true → c ≤ largest set
 not_above set c has = has_below set 0 c has

@@ -19,7 +19,7 @@ pub length_counted : (rs : List (ℕ × ℕ)) → length (flat_map characters_be
 length_counted [] = refl
 length_counted (r ∷ rs) =
     length-append (characters_between r) (flat_map characters_between rs)
-        ∙ rw (length-range_with_len r.0 (r.1 + 1 - r.0), length_counted rs) refl
+    ∙ rw (length-range_with_len r.0 (r.1 + 1 - r.0), length_counted rs) refl
 
 -- a base set has as many characters as its ranges
 pub length-base_set : (name : CharacterSetName) → length (base_set name) ≡ counted (ranges_of name)

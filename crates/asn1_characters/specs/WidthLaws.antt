@@ -70,7 +70,7 @@ unfolding least_from
 least_above zero w n enough least = record { enough = let e : w + 0 ≡ w = omega arith in rw e at enough; least = least }
 least_above (suc more) w n enough least =
     choose (leb n (2 ^ w)) w (least_from more (w + 1) n) n
-        (λ e. record { enough = grind (arith, nat_tests); least = least })
+    (λ e. record { enough = grind (arith, nat_tests); least = least })
     (λ e.
     let few : 2 ^ w < n = grind (arith, nat_tests) in
     let up : w + suc more ≡ w + 1 + more = omega arith in

@@ -36,7 +36,7 @@ goes_on (Err error) P Q h more = tt
 
 module _ (list : List Bool) (shapes : List Shape) (fields : List Field) (rest : List Bool)
     (only : (others : List Field) (left : List Bool) → Begins list shapes others left → (fields ≡ others)
-        × (rest ≡ left))
+    × (rest ≡ left))
     (none : (e : ReadError) → e ≢ Memory → IsReadRefusal list shapes e → ⊥) where
   other_is : (answer other : Answer) → ((x : Answer) → IsPrinted fields (length rest) x → x ≡ answer)
       → IsBitsAnswer list shapes other → other ≡ answer
@@ -72,9 +72,11 @@ module _ (text : List ℕ) (lines : Lines) (are : AreLines text lines) where
 
   pub bad_shapes : ((shapes : List Shape) → ¬ (AreWords lines.shapes shapes))
       → IsOnly (IsAnswer text) (refusal (codes "bad shapes"))
-  bad_shapes none =
-      (inl (lines, are, inr (none, refl)), λ other h. only_none (AreWords lines.shapes) (codes "bad shapes")
-          (IsOctetsAnswer lines) other none (by_lines other h))
+  bad_shapes none = (
+    inl (lines, are, inr (none, refl)),
+    λ other h. only_none (AreWords lines.shapes) (codes "bad shapes")
+        (IsOctetsAnswer lines) other none (by_lines other h),
+  )
 
 -- and so are the shapes
 module _ (text : List ℕ) (lines : Lines) (are : AreLines text lines) (shapes : List Shape)
@@ -86,10 +88,12 @@ module _ (text : List ℕ) (lines : Lines) (are : AreLines text lines) (shapes :
 
   pub bad_octets : ((octets : List ℕ) → ¬ (decode_of lines.octets ≡ Ok octets))
       → IsOnly (IsAnswer text) (refusal (codes "bad octets"))
-  bad_octets none =
-      (inl (lines, are, inl (shapes, words, inr (none, refl))), λ other h. only_none
-          (λ octets. decode_of lines.octets ≡ Ok octets) (codes "bad octets") (IsStartAnswer lines shapes) other none
-          (by_shapes other h))
+  bad_octets none = (
+    inl (lines, are, inl (shapes, words, inr (none, refl))),
+    λ other h. only_none
+        (λ octets. decode_of lines.octets ≡ Ok octets) (codes "bad octets") (IsStartAnswer lines shapes) other none
+        (by_shapes other h),
+  )
 
 -- and so are the octets
 module _ (text : List ℕ) (lines : Lines) (are : AreLines text lines) (shapes : List Shape)
@@ -133,7 +137,7 @@ answer_bit text answer =
     step_bit (AreLines text) (codes "bad input") IsShapesAnswer answer
     (λ lines. step_bit (AreWords lines.shapes) (codes "bad shapes") (IsOctetsAnswer lines) answer
     (λ shapes. step_bit (λ octets. decode_of lines.octets ≡ Ok octets) (codes "bad octets") (IsStartAnswer lines shapes)
-        answer
+    answer
     (λ octets. step_bit (IsStart lines.start octets) (codes "bad start")
-        (λ first. IsBitsAnswer (drop first (bits octets)) shapes) answer
+    (λ first. IsBitsAnswer (drop first (bits octets)) shapes) answer
     (λ first. bits_bit (drop first (bits octets)) shapes answer))))

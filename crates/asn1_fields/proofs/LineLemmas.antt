@@ -45,7 +45,7 @@ pub field_lines_more : (fields : List Field) (i : ℕ) (field : Field) → i < l
 field_lines_more fields i field here is =
     ap field_lines (map_more plain_field fields i field here)
     ∙ flat_map-append (λ f. line (field_text f)) (plain_fields (take i fields))
-        (plain_field (get_or fields i field) ∷ [])
+    (plain_field (get_or fields i field) ∷ [])
     ∙ ap (λ (l : List ℕ). field_lines (plain_fields (take i fields)) ++ l)
-        (append-nil (line (field_text (plain_field (get_or fields i field)))))
+    (append-nil (line (field_text (plain_field (get_or fields i field)))))
     ∙ ap (λ (f : Field). field_lines (plain_fields (take i fields)) ++ line (field_text (plain_field f))) (sym is)

@@ -37,7 +37,7 @@ pub other_octet_is_none : (text : List ℕ) (n i c : ℕ) → i < length text �
 other_octet_is_none text n i c here is none h =
     let small : n < 10 ^ 9 = h.1 in
     let digits : AllDigits 10 text =
-        subst (λ (l : List ℕ). AllDigits 10 l) (sym h.0) (decimal_is_IsNumeral n (omega arith)).0.1 in
+    subst (λ (l : List ℕ). AllDigits 10 l) (sym h.0) (decimal_is_IsNumeral n (omega arith)).0.1 in
     none (subst (λ (k : ℕ). IsInRange 48 57 k) (sym is) (digit_at text i digits here))
 
 -- ---- digits so far

@@ -54,15 +54,15 @@ wrapped_bits_back true size (negsuc m) s r =
     let h = above_half size m r in
     let p = halves size s.0 in
     let q : 2 ^ (8 * size + (128 - 8 * size)) ≡ 2 ^ (8 * size) * 2 ^ (128 - 8 * size) =
-        pow-add 2 (8 * size) (128 - 8 * size) in
+    pow-add 2 (8 * size) (128 - 8 * size) in
     let w : 2 ^ (8 * size + (128 - 8 * size)) ≡ 2 ^ 128 =
-        ap (λ (k : ℕ). 2 ^ k) (let e : 8 * size + (128 - 8 * size) ≡ 128 = omega arith in e) in
+    ap (λ (k : ℕ). 2 ^ k) (let e : 8 * size + (128 - 8 * size) ≡ 128 = omega arith in e) in
     let one : 1 ≤ 2 ^ (128 - 8 * size) = one-le-pow (128 - 8 * size) 2 (omega arith) in
     let t : (2 ^ (128 - 8 * size) - 1) * 2 ^ (8 * size) + 2 ^ (8 * size) ≡ 2 ^ 128 =
-        less_one (2 ^ (128 - 8 * size)) (2 ^ (8 * size)) one ∙ (omega (arith, q) ∙ w) in
+    less_one (2 ^ (128 - 8 * size)) (2 ^ (8 * size)) one ∙ (omega (arith, q) ∙ w) in
     let e : (2 ^ 128 - suc m) % 2 ^ (8 * size) ≡ 2 ^ (8 * size) - suc m =
     ap (λ x. x % 2 ^ (8 * size)) (let f : 2 ^ 128 - suc m ≡ (2 ^ (128 - 8 * size) - 1) * 2 ^ (8 * size) +
-        (2 ^ (8 * size) - suc m) = omega arith in f)
+    (2 ^ (8 * size) - suc m) = omega arith in f)
     ∙ mod-mul-add (2 ^ (128 - 8 * size) - 1) (2 ^ (8 * size)) (2 ^ (8 * size) - suc m) (omega arith) in
     cond-false (ltb ((2 ^ 128 - suc m) % 2 ^ (8 * size)) (2 ^ (8 * size - 1))) _ _ (le-ltb _ _ (omega arith))
     ∙ (ap (λ x. pos x -ℤ pos (2 ^ (8 * size))) e ∙ omega (arith, ints))
@@ -70,7 +70,7 @@ wrapped_bits_back true size (negsuc m) s r =
 pub behind_zero : (k bits : ℕ) → bits < 256 ^ k → S.signed (0 ∷ bytes_high_first k bits) ≡ pos bits
 behind_zero k bits h =
     signed_low 0 (bytes_high_first k bits) (omega arith)
-        ∙ ap pos (unsigned-cons 0 (bytes_high_first k bits) ∙ omega (arith, unsigned-bytes k bits h))
+    ∙ ap pos (unsigned-cons 0 (bytes_high_first k bits) ∙ omega (arith, unsigned-bytes k bits h))
 
 -- its low bits are those of a number of 128 bits
 pub bits_of_native : (signed : Bool) (size bits : ℕ) (n : ℤ) → IsNativeSize size → IsInRange (native_kind signed size) n
@@ -83,9 +83,10 @@ bits_of_native true size bits (pos m) s r e =
     ((at_most_in (neg_ℤ (pos (2 ^ 127))) (pos m) (omega arith), below_in (pos m) (pos (2 ^ 127)) (omega arith)), e)
 bits_of_native true size bits (negsuc m) s r e =
     let h = above_half size m r in
-    let f = half_fits size s in
-    ((at_most_in (neg_ℤ (pos (2 ^ 127))) (negsuc m) (omega arith), below_in (negsuc m) (pos (2 ^ 127)) (omega arith)),
-        e)
+    let f = half_fits size s in (
+      (at_most_in (neg_ℤ (pos (2 ^ 127))) (negsuc m) (omega arith), below_in (negsuc m) (pos (2 ^ 127)) (omega arith)),
+      e,
+    )
 
 -- a type's number from the bits that were read
 pub read_back : (signed : Bool) (size bits : ℕ) (n v : ℤ) (reading : Result ℤ IntegerError) → IsNativeSize size
@@ -98,7 +99,7 @@ read_back signed size bits n v reading s e b r w = e
 pub read_back_at : (f : IntegerKind → Result ℤ IntegerError) (a signed : Bool) (b size bits : ℕ) (v : ℤ) → a ≡ signed
     → b ≡ size → IsNativeSize size →
     ((x : ℤ) × (f (native_kind a b) ≡ Ok x) × (bits ≡ of_z w128 x) × IsInRange (native_kind a b) x)
-        → v ≡ wrapped_bits signed size bits → f (native_kind signed size) ≡ Ok v
+    → v ≡ wrapped_bits signed size bits → f (native_kind signed size) ≡ Ok v
 read_back_at f a signed b size bits v p q s r w =
     let k : native_kind a b ≡ native_kind signed size = ap (λ x. native_kind x b) p ∙ ap (native_kind signed) q in
     let Read : IntegerKind → Type 0 = λ k. (x : ℤ) × (f k ≡ Ok x) × (bits ≡ of_z w128 x) × IsInRange k x in
@@ -117,9 +118,11 @@ pub below_zero_by_bits : (signed : Bool) (n : ℤ) (bits : ℕ) → AreBitsOf si
 below_zero_by_bits false n bits b = (λ t. cc, λ l. absurd (omega (arith, lt_out n (pos 0) l, ap up b, ap down b)))
 below_zero_by_bits true (pos m) bits b =
     let small : m < 2 ^ 127 = omega (arith, lt_out (pos m) (pos (2 ^ 127)) b.0.1) in
-    let e : bits ≡ m = b.1 in
-    (λ t. let f : leb (2 ^ 127) bits ≡ false =
-        lt-leb (2 ^ 127) bits (omega arith) in cc, λ l. absurd (omega (arith, lt_out (pos m) (pos 0) l)))
+    let e : bits ≡ m = b.1 in (
+      λ t. let f : leb (2 ^ 127) bits ≡ false =
+          lt-leb (2 ^ 127) bits (omega arith) in cc,
+      λ l. absurd (omega (arith, lt_out (pos m) (pos 0) l)),
+    )
 below_zero_by_bits true (negsuc m) bits b =
     let small : suc m ≤ 2 ^ 127 = omega (arith, le_out (neg_ℤ (pos (2 ^ 127))) (negsuc m) b.0.0) in
     let e : bits ≡ 2 ^ 128 - suc m = b.1 in
@@ -148,11 +151,17 @@ on_err (Err e) P Q f h = f h
 -- an `i128` is within `i128`
 pub fitted : (n : ℤ) → SFits w128 n → FitsI128 n
 fitted (pos m) f = let b : m < 2 ^ 127 =
-    f.sfits in (at_most_in (neg_ℤ (pos (2 ^ 127))) (pos m) (omega arith), below_in (pos m) (pos (2 ^ 127))
-    (omega arith))
+    f.sfits in (
+      at_most_in (neg_ℤ (pos (2 ^ 127))) (pos m) (omega arith),
+      below_in (pos m) (pos (2 ^ 127))
+          (omega arith),
+    )
 fitted (negsuc m) f = let b : m < 2 ^ 127 =
-    f.sfits in (at_most_in (neg_ℤ (pos (2 ^ 127))) (negsuc m) (omega arith), below_in (negsuc m) (pos (2 ^ 127))
-    (omega arith))
+    f.sfits in (
+      at_most_in (neg_ℤ (pos (2 ^ 127))) (negsuc m) (omega arith),
+      below_in (negsuc m) (pos (2 ^ 127))
+          (omega arith),
+    )
 
 -- a native number that was made of an `i128` of its range is that `i128`
 pub same_number : (signed : Bool) (size bits : ℕ) (n v : ℤ) → IsNativeSize size → bits ≡ of_z w128 n

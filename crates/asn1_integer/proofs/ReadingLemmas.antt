@@ -77,25 +77,31 @@ signed_in_range (suc k) (b ∷ bs) h some l =
     let r = signed_range b bs h in
     let q : 256 ^ length bs ≤ 256 ^ k = pow-le-pow_right (omega arith) {i = length bs} {j = k} (omega arith) in
     let e = half_of_bits k in
-    let m = neg_is (pos (2 ^ (8 * suc k - 1))) in
-    (at_most_in (neg_ℤ (pos (2 ^ (8 * suc k - 1)))) (signed (b ∷ bs)) (omega arith), below_in (signed (b ∷ bs))
-        (pos (2 ^ (8 * suc k - 1))) (omega arith))
+    let m = neg_is (pos (2 ^ (8 * suc k - 1))) in (
+      at_most_in (neg_ℤ (pos (2 ^ (8 * suc k - 1)))) (signed (b ∷ bs)) (omega arith),
+      below_in (signed (b ∷ bs))
+          (pos (2 ^ (8 * suc k - 1))) (omega arith),
+    )
 
 pub unsigned_in_range : (size : ℕ) (o : List ℕ) → IsOctets o → length o ≤ size
     → IsInRange (UnsignedOf size) (pos (unsigned o))
 unsigned_in_range size o h l =
     let w = unsigned_below o h in
     let q : 256 ^ length o ≤ 256 ^ size = pow-le-pow_right (omega arith) {i = length o} {j = size} (omega arith) in
-    let e = power_of_bits size in
-    (at_most_in (pos 0) (pos (unsigned o)) (omega arith), below_in (pos (unsigned o)) (pos (2 ^ (8 * size)))
-        (omega arith))
+    let e = power_of_bits size in (
+      at_most_in (pos 0) (pos (unsigned o)) (omega arith),
+      below_in (pos (unsigned o)) (pos (2 ^ (8 * size)))
+          (omega arith),
+    )
 
 pub counted_after_zero : (o : List ℕ) → 0 < length o → get_or o 0 0 ≡ 0 → (length (drop 1 o) ≡ counted_length o)
     × (unsigned (drop 1 o) ≡ unsigned o)
 counted_after_zero [] some z = absurd (omega arith)
-counted_after_zero (b ∷ bs) some z =
-    (sym (cond-true (eqb b 0) (length bs) (length (b ∷ bs)) (eq-eqb b 0 z)), sym
-        (ap (λ x. unsigned (x ∷ bs)) z ∙ unsigned-zero_first bs))
+counted_after_zero (b ∷ bs) some z = (
+  sym (cond-true (eqb b 0) (length bs) (length (b ∷ bs)) (eq-eqb b 0 z)),
+  sym
+      (ap (λ x. unsigned (x ∷ bs)) z ∙ unsigned-zero_first bs),
+)
 
 pub counted_whole : (o : List ℕ) → (0 < length o → get_or o 0 0 ≡ 0 → ⊥) → length o ≡ counted_length o
 counted_whole [] d = refl
@@ -120,7 +126,7 @@ counted_in_range size (b ∷ bs) h l =
 pub answers_signed : (o : List ℕ) (r : Result ℤ IntegerError) → (o ≡ [] → r ≡ Err UnexpectedEmptyInput)
     → IfOk r (λ n. n ≡ signed o) →
     (o ≢ [] → IfErr r (λ e. (e ≡ Memory) × ¬ (FitsI128 (signed o))))
-        → Answers Unbounded (λ n. n) r (signed_reading Unbounded o)
+    → Answers Unbounded (λ n. n) r (signed_reading Unbounded o)
 unfolding signed_reading
 answers_signed [] r empty value memory =
     subst (λ t. Answers Unbounded (λ n. n) t (Err UnexpectedEmptyInput)) (sym (empty refl)) refl
@@ -136,7 +142,7 @@ answers_signed (b ∷ bs) (Err Memory) empty value memory = (memory (λ e. omega
 pub answers_unsigned : (o : List ℕ) (r : Result ℤ IntegerError) → (o ≡ [] → r ≡ Err UnexpectedEmptyInput)
     → IfOk r (λ n. n ≡ pos (unsigned o)) →
     (o ≢ [] → IfErr r (λ e. (e ≡ Memory) × ¬ (FitsI128 (pos (unsigned o)))))
-        → Answers Unbounded (λ n. n) r (unsigned_reading Unbounded o)
+    → Answers Unbounded (λ n. n) r (unsigned_reading Unbounded o)
 unfolding unsigned_reading
 answers_unsigned [] r empty value memory =
     subst (λ t. Answers Unbounded (λ n. n) t (Err UnexpectedEmptyInput)) (sym (empty refl)) refl

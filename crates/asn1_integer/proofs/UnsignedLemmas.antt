@@ -46,9 +46,11 @@ unsigned_reads size (b ∷ bs) some l = cond-false (ltb size (length (b ∷ bs))
 
 pub below_half_in_range : (size n : ℕ) → n < 2 ^ (8 * size - 1) → IsInRange (SignedOf size) (pos n)
 below_half_in_range size n h =
-    let m = neg_is (pos (2 ^ (8 * size - 1))) in
-    (at_most_in (neg_ℤ (pos (2 ^ (8 * size - 1)))) (pos n) (omega arith), below_in (pos n) (pos (2 ^ (8 * size - 1)))
-        (omega arith))
+    let m = neg_is (pos (2 ^ (8 * size - 1))) in (
+      at_most_in (neg_ℤ (pos (2 ^ (8 * size - 1)))) (pos n) (omega arith),
+      below_in (pos n) (pos (2 ^ (8 * size - 1)))
+          (omega arith),
+    )
 
 pub shifted_one : (size : ℕ) → IsNativeSize size → (1 * 2 ^ (8 * size - 1)) % 2 ^ 128 ≡ 2 ^ (8 * size - 1)
 shifted_one size s = one_shl (8 * size - 1) 128 (omega arith)
@@ -57,7 +59,7 @@ shifted_one size s = one_shl (8 * size - 1) 128 (omega arith)
 pub read_without_sign : (signed : Bool) (size bits : ℕ) (o : List ℕ) → signed ≡ false → IsOctets o → 0 < length o
     → length o ≤ size → bits ≡ unsigned o →
     (x : ℤ) × (unsigned_reading (native_kind signed size) o ≡ Ok x) × (bits ≡ of_z w128 x)
-        × IsInRange (native_kind signed size) x
+    × IsInRange (native_kind signed size) x
 read_without_sign true size bits o e h some l b = cc
 read_without_sign false size bits o e h some l b =
     (pos (unsigned o), unsigned_reads size o some l, b, unsigned_in_range size o h l)
@@ -65,7 +67,7 @@ read_without_sign false size bits o e h some l b =
 pub read_below_half : (signed : Bool) (size bits : ℕ) (o : List ℕ) → signed ≡ true → IsNativeSize size → 0 < length o
     → length o ≤ size → bits ≡ unsigned o → bits < (1 * 2 ^ (8 * size - 1)) % 2 ^ 128 →
     (x : ℤ) × (unsigned_reading (native_kind signed size) o ≡ Ok x) × (bits ≡ of_z w128 x)
-        × IsInRange (native_kind signed size) x
+    × IsInRange (native_kind signed size) x
 read_below_half false size bits o e s some l b h = cc
 read_below_half true size bits o e s some l b h =
     let small : unsigned o < 2 ^ (8 * size - 1) = omega (arith, shifted_one size s) in

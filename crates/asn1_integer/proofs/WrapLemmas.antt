@@ -38,12 +38,15 @@ low_parts_of (negsuc n) h = (1, omega arith)
 value_parts : (signed : Bool) (size n : ℕ) → 1 ≤ size →
     IsInRange (native_kind signed size) (wrapped_bits signed size n) ×
     ((t : ℕ)
-        × (n % 2 ^ (8 * size) + down (wrapped_bits signed size n) ≡ up (wrapped_bits signed size n) + t * 2 ^
-        (8 * size)))
+    × (n % 2 ^ (8 * size) + down (wrapped_bits signed size n) ≡ up (wrapped_bits signed size n) + t * 2 ^
+    (8 * size)))
 value_parts false size n p =
     let r = mod-lt n {m = 2 ^ (8 * size)} (pow_pos (8 * size)) in (
-      (at_most_in (pos 0) (pos (n % 2 ^ (8 * size))) (omega arith), below_in (pos (n % 2 ^ (8 * size)))
-          (pos (2 ^ (8 * size))) (omega arith)),
+      (
+        at_most_in (pos 0) (pos (n % 2 ^ (8 * size))) (omega arith),
+        below_in (pos (n % 2 ^ (8 * size)))
+            (pos (2 ^ (8 * size))) (omega arith),
+      ),
       (0, omega arith),
     )
 value_parts true size n p = ⊎_elim low high (cases_lt (n % 2 ^ (8 * size)) (2 ^ (8 * size - 1)))
@@ -59,8 +62,11 @@ value_parts true size n p = ⊎_elim low high (cases_lt (n % 2 ^ (8 * size)) (2 
 
     low : n % 2 ^ (8 * size) < 2 ^ (8 * size - 1) → Parts (wrapped_bits true size n)
     low l = subst Parts (sym (cond-true (ltb (n % 2 ^ (8 * size)) (2 ^ (8 * size - 1))) _ _ (lt-ltb _ _ l))) (
-      (at_most_in (neg_ℤ (pos (2 ^ (8 * size - 1)))) (pos (n % 2 ^ (8 * size))) (omega (arith, m)), below_in
-          (pos (n % 2 ^ (8 * size))) (pos (2 ^ (8 * size - 1))) (omega arith)),
+      (
+        at_most_in (neg_ℤ (pos (2 ^ (8 * size - 1)))) (pos (n % 2 ^ (8 * size))) (omega (arith, m)),
+        below_in
+            (pos (n % 2 ^ (8 * size))) (pos (2 ^ (8 * size - 1))) (omega arith),
+      ),
       (0, omega arith),
     )
 
@@ -72,11 +78,14 @@ value_parts true size n p = ⊎_elim low high (cases_lt (n % 2 ^ (8 * size)) (2 
         let v = pos (n % 2 ^ (8 * size)) -ℤ pos (2 ^ (8 * size)) in
         let one = one_part (pos (n % 2 ^ (8 * size)) -ℤ pos (2 ^ (8 * size))) in
         let z : up (pos (n % 2 ^ (8 * size)) -ℤ pos (2 ^ (8 * size))) ≡ 0 =
-            ⊎_elim (λ e. e) (λ e. absurd (omega arith)) one in
+        ⊎_elim (λ e. e) (λ e. absurd (omega arith)) one in
         subst Parts (sym (cond-false (ltb (n % 2 ^ (8 * size)) (2 ^ (8 * size - 1))) _ _ (le-ltb _ _ l))) (
-          (at_most_in (neg_ℤ (pos (2 ^ (8 * size - 1)))) (pos (n % 2 ^ (8 * size)) -ℤ pos (2 ^ (8 * size)))
-              (omega (arith, m, h)), below_in (pos (n % 2 ^ (8 * size)) -ℤ pos (2 ^ (8 * size)))
-              (pos (2 ^ (8 * size - 1))) (omega (arith, h))),
+          (
+            at_most_in (neg_ℤ (pos (2 ^ (8 * size - 1)))) (pos (n % 2 ^ (8 * size)) -ℤ pos (2 ^ (8 * size)))
+                (omega (arith, m, h)),
+            below_in (pos (n % 2 ^ (8 * size)) -ℤ pos (2 ^ (8 * size)))
+                (pos (2 ^ (8 * size - 1))) (omega (arith, h)),
+          ),
           (1, omega arith),
         )
 
@@ -91,9 +100,9 @@ sum_is_wrapped signed size a b s h k =
 
     value : IsInRange (native_kind signed size) (wrapped_bits signed size ((of_z w128 a + of_z w128 b) % 2 ^ 128)) ×
         ((t : ℕ)
-            × ((of_z w128 a + of_z w128 b) % 2 ^ 128 % 2 ^ (8 * size) + down
-            (wrapped_bits signed size ((of_z w128 a + of_z w128 b) % 2 ^ 128)) ≡ up
-            (wrapped_bits signed size ((of_z w128 a + of_z w128 b) % 2 ^ 128)) + t * 2 ^ (8 * size)))
+        × ((of_z w128 a + of_z w128 b) % 2 ^ 128 % 2 ^ (8 * size) + down
+        (wrapped_bits signed size ((of_z w128 a + of_z w128 b) % 2 ^ 128)) ≡ up
+        (wrapped_bits signed size ((of_z w128 a + of_z w128 b) % 2 ^ 128)) + t * 2 ^ (8 * size)))
     value = value_parts signed size ((of_z w128 a + of_z w128 b) % 2 ^ 128) s.0
 
     alike : DifferByMultiple (2 ^ (8 * size)) (a +ℤ b)
@@ -104,18 +113,18 @@ sum_is_wrapped signed size a b s h k =
         let q = 2 ^ (128 - 8 * size) in
         let x : 8 * size + (128 - 8 * size) ≡ 128 = omega (arith, s) in
         let w : 2 ^ 128 ≡ 2 ^ (8 * size) * 2 ^ (128 - 8 * size) = ap (λ (k : ℕ). 2 ^ k) (sym x)
-            ∙ pow-add 2 (8 * size) (128 - 8 * size) in
+        ∙ pow-add 2 (8 * size) (128 - 8 * size) in
         let d1 = div-add-mod' (of_z w128 a + of_z w128 b) (2 ^ 128) in
         let d2 = div-add-mod' ((of_z w128 a + of_z w128 b) % 2 ^ 128) (2 ^ (8 * size)) in
         let t = sum_is_lem a b in
         let wa : ea.0 * 2 ^ 128 ≡ ea.0 * (2 ^ (8 * size) * 2 ^ (128 - 8 * size)) = ap (λ y. ea.0 * y) w in
         let wb : eb.0 * 2 ^ 128 ≡ eb.0 * (2 ^ (8 * size) * 2 ^ (128 - 8 * size)) = ap (λ y. eb.0 * y) w in
         let wd : (of_z w128 a + of_z w128 b) / 2 ^ 128 * 2 ^ 128 ≡ (of_z w128 a + of_z w128 b) / 2 ^ 128 *
-            (2 ^ (8 * size) * 2 ^ (128 - 8 * size)) = ap (λ y. (of_z w128 a + of_z w128 b) / 2 ^ 128 * y) w in
+        (2 ^ (8 * size) * 2 ^ (128 - 8 * size)) = ap (λ y. (of_z w128 a + of_z w128 b) / 2 ^ 128 * y) w in
         apart_by (8 * size) (a +ℤ b) (wrapped_bits signed size ((of_z w128 a + of_z w128 b) % 2 ^ 128))
         ((ea.0 + eb.0) * 2 ^ (128 - 8 * size))
         ((of_z w128 a + of_z w128 b) / 2 ^ 128 * 2 ^ (128 - 8 * size) + (of_z w128 a + of_z w128 b) % 2 ^ 128 / 2 ^
-            (8 * size) + value.1.0)
+        (8 * size) + value.1.0)
         (omega (arith, value.1.1))
 
     in_kind : (signed' : Bool) (m n : ℤ) → IsInRange (native_kind signed' size) m
@@ -176,16 +185,18 @@ in_range_held false size n h = h
 pub read_from_shortest : (a signed : Bool) (b size bits : ℕ) (n v : ℤ) (o : List ℕ) → a ≡ signed → b ≡ size
     → IsNativeSize size → IsShortest n o →
     ((x : ℤ) × (signed_reading (native_kind a b) o ≡ Ok x) × (bits ≡ of_z w128 x) × IsInRange (native_kind a b) x)
-        → v ≡ wrapped_bits signed size bits →
+    → v ≡ wrapped_bits signed size bits →
     (v ≡ n) × IsInReach (native_kind signed size) n
 read_from_shortest a signed b size bits n v o p q s t r w =
     let e : n ≡ r.0 = sym t.value ∙ reading_value (native_kind a b) o r.0 r.1 in
     let k : native_kind a b ≡ native_kind signed size = ap (λ x. native_kind x b) p ∙ ap (native_kind signed) q in
     let range : IsInRange (native_kind signed size) n =
-        subst (λ z. IsInRange (native_kind signed size) z) (sym e) (subst (λ k. IsInRange k r.0) k r.3) in
-    let bits_of : bits ≡ of_z w128 n = r.2 ∙ ap (of_z w128) (sym e) in
-    (w ∙ (ap (wrapped_bits signed size) bits_of ∙ wrapped_bits_back signed size n s range), in_range_held signed size n
-        range)
+    subst (λ z. IsInRange (native_kind signed size) z) (sym e) (subst (λ k. IsInRange k r.0) k r.3) in
+    let bits_of : bits ≡ of_z w128 n = r.2 ∙ ap (of_z w128) (sym e) in (
+      w ∙ (ap (wrapped_bits signed size) bits_of ∙ wrapped_bits_back signed size n s range),
+      in_range_held signed size n
+          range,
+    )
 
 pub none_from_shortest : (a signed : Bool) (b size : ℕ) (n : ℤ) (o : List ℕ) (e : IntegerError) → a ≡ signed → b ≡ size
     → IsNativeSize size → IsShortest n o →
@@ -203,9 +214,9 @@ sum_at_bits signed size la lb a b v s r p q w =
     let pair : down b ≤ 2 ^ 128 = subst (λ z. down z ≤ 2 ^ 128) q (omega arith) in
     let e : v ≡ wrapped_bits signed size ((of_z w128 a + of_z w128 b) % 2 ^ 128) =
     w ∙ (ap (λ x. wrapped_bits signed size ((x + lb) % 2 ^ 128)) p
-        ∙ ap (λ z. wrapped_bits signed size ((of_z w128 a + of_z w128 z) % 2 ^ 128)) q) in
+    ∙ ap (λ z. wrapped_bits signed size ((of_z w128 a + of_z w128 z) % 2 ^ 128)) q) in
     subst (IsWrapped (native_kind signed size) (a +ℤ b)) (sym e)
-        (sum_is_wrapped signed size a b s (down_fits signed size a s r) pair)
+    (sum_is_wrapped signed size a b s (down_fits signed size a s r) pair)
 
 -- the low octets of the bits are those of the residue
 residue_at_bits : (size : ℕ) (n : ℤ) → IsNativeSize size → down n ≤ 2 ^ 128
@@ -215,7 +226,7 @@ residue_at_bits size n s h =
     let e = low_parts_of n h in
     let x : 8 * size + (128 - 8 * size) ≡ 128 = omega (arith, s) in
     let w : 2 ^ 128 ≡ 2 ^ (8 * size) * 2 ^ (128 - 8 * size) = ap (λ (k : ℕ). 2 ^ k) (sym x)
-        ∙ pow-add 2 (8 * size) (128 - 8 * size) in
+    ∙ pow-add 2 (8 * size) (128 - 8 * size) in
     let d = div-add-mod' (of_z w128 n) (2 ^ (8 * size)) in
     let we : e.0 * 2 ^ 128 ≡ e.0 * (2 ^ (8 * size) * 2 ^ (128 - 8 * size)) = ap (λ y. e.0 * y) w in (
       mod-lt (of_z w128 n) {m = 2 ^ (8 * size)} (pow_pos (8 * size)),
@@ -233,8 +244,8 @@ pub residue_spelled : (signed : Bool) (size low : ℕ) (n : ℤ) (o : List ℕ) 
     IsShortestUnsigned (low % 2 ^ (8 * size)) o → SpellsUnsigned (native_kind signed size) n o
 residue_spelled signed size low n o s r b t =
     spelled signed (of_z w128 n % 2 ^ (8 * size))
-        (in_residue signed size n (of_z w128 n % 2 ^ (8 * size))
-        (residue_at_bits size n s (down_fits signed size n s r)))
+    (in_residue signed size n (of_z w128 n % 2 ^ (8 * size))
+    (residue_at_bits size n s (down_fits signed size n s r)))
     (subst (λ x. IsShortestUnsigned (x % 2 ^ (8 * size)) o) b t)
   where
     spelled : (s' : Bool) (x : ℕ) → IsResidue (native_kind s' size) n x → IsShortestUnsigned x o

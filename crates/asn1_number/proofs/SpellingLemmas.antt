@@ -29,7 +29,7 @@ bytes-cat (suc m) k (suc size) n e =
     let p : 256 ^ size ≡ 256 ^ k * 256 ^ m = ap (λ (j : ℕ). 256 ^ j) l ∙ pow-add 256 k m in
     let first : byte_at size n ≡ byte_at m (n / 256 ^ k) =
     byte_at_is size n ∙ (ap (λ x. n / x % 256) p
-        ∙ (ap (λ x. x % 256) (sym (div-div-eq-div-mul n (256 ^ k) (256 ^ m))) ∙ sym (byte_at_is m (n / 256 ^ k)))) in
+    ∙ (ap (λ x. x % 256) (sym (div-div-eq-div-mul n (256 ^ k) (256 ^ m))) ∙ sym (byte_at_is m (n / 256 ^ k)))) in
     let rest = bytes-cat m k size n (omega arith) in
     cc (first, rest)
 
@@ -38,18 +38,18 @@ bytes_by_residue : (k n r a : ℕ) → n ≡ a * 256 ^ k + r → r < 256 ^ k →
 bytes_by_residue k n r a e l =
     let small : unsigned (bytes_high_first k n) < 256 ^ k =
     subst (λ (j : ℕ). unsigned (bytes_high_first k n) < 256 ^ j) (length-bytes k n)
-        (unsigned_below (bytes_high_first k n) (octets_of_bytes k n)) in
+    (unsigned_below (bytes_high_first k n) (octets_of_bytes k n)) in
     let both =
-        same_from_place (n / 256 ^ k) (unsigned (bytes_high_first k n)) a r (256 ^ k) small l
-        (omega (arith, unsigned-bytes_and_rest k n)) in
+    same_from_place (n / 256 ^ k) (unsigned (bytes_high_first k n)) a r (256 ^ k) small l
+    (omega (arith, unsigned-bytes_and_rest k n)) in
     unsigned_once (bytes_high_first k n) (bytes_high_first k r) (octets_of_bytes k n) (octets_of_bytes k r)
     (length-bytes k n ∙ sym (length-bytes k r)) (both.1 ∙ sym (unsigned-bytes k r l))
 
 pub two_words : (n : ℕ) → to_be_bytes w64 (n / 2 ^ 64) ++ to_be_bytes w64 (n % 2 ^ 64) ≡ to_be_bytes w128 n
 two_words n =
     let low : bytes_high_first 8 n ≡ bytes_high_first 8 (n % 2 ^ 64) =
-        bytes_by_residue 8 n (n % 2 ^ 64) (n / 2 ^ 64) (sym (div-add-mod' n (2 ^ 64)))
-        (mod_below n (2 ^ 64) (omega arith)) in
+    bytes_by_residue 8 n (n % 2 ^ 64) (n / 2 ^ 64) (sym (div-add-mod' n (2 ^ 64)))
+    (mod_below n (2 ^ 64) (omega arith)) in
     ap (λ o. bytes_high_first 8 (n / 2 ^ 64) ++ o) (sym low) ∙ sym (bytes-cat 8 8 16 n refl)
 
 -- ---- the shortest octets of a number at the end of a word
@@ -59,12 +59,12 @@ bytes-residue : (m size : ℕ) (z : ℤ) → m ≤ size → mag z < 256 ^ m
 bytes-residue m size (pos n) l h = refl
 bytes-residue m size (negsuc n) l h =
     let p : 256 ^ size ≡ 256 ^ (size - m) * 256 ^ m =
-        ap (λ (j : ℕ). 256 ^ j) (let e : size ≡ size - m + m = omega arith in e) ∙ pow-add 256 (size - m) m in
+    ap (λ (j : ℕ). 256 ^ j) (let e : size ≡ size - m + m = omega arith in e) ∙ pow-add 256 (size - m) m in
     let one : 1 ≤ 256 ^ (size - m) = one-le-pow (size - m) 256 (omega arith) in
     let q : 256 ^ (size - m) * 256 ^ m ≡ suc (256 ^ (size - m) - 1) * 256 ^ m =
-        ap (λ x. x * 256 ^ m) (let e : 256 ^ (size - m) ≡ suc (256 ^ (size - m) - 1) = omega arith in e) in
+    ap (λ x. x * 256 ^ m) (let e : 256 ^ (size - m) ≡ suc (256 ^ (size - m) - 1) = omega arith in e) in
     bytes_by_residue m (256 ^ size - suc n) (256 ^ m - suc n) (256 ^ (size - m) - 1)
-        (omega (arith, p, q, suc-mul (256 ^ (size - m) - 1) (256 ^ m))) (omega arith)
+    (omega (arith, p, q, suc-mul (256 ^ (size - m) - 1) (256 ^ m))) (omega arith)
 
 pub end_of_word : (size s n : ℕ) (z : ℤ) → s + length (shortest_octets z) ≡ size → n ≡ residue_at size z
     → drop s (bytes_high_first size n) ≡ shortest_octets z
@@ -74,7 +74,7 @@ end_of_word size s n z e r =
     let l : s + suc k ≡ size = ap (λ x. s + x) (sym (length-bytes (suc k) (residue_at (suc k) z))) ∙ e in
     let enough : mag z < 256 ^ suc k = omega (arith, past_first_enough z, power_step k) in
     drop-bytes s (suc k) size n l ∙ (ap (bytes_high_first (suc k)) r
-        ∙ bytes-residue (suc k) size z (omega arith) enough)
+    ∙ bytes-residue (suc k) size z (omega arith) enough)
 
 -- a number's bits are its residue
 pub residue_64 : (z : ℤ) → of_z w64 z ≡ residue_at 8 z
@@ -101,12 +101,12 @@ spare_octets size z h =
     let low : 8 * k ≤ t.0 = omega (arith, t.1) in
     let enough : mag z < 128 * 256 ^ k =
     let p : 2 ^ t.0 ≤ 2 ^ (8 * suc k - 1) =
-        pow-le-pow_right (omega arith) {i = t.0} {j = 8 * suc k - 1} (omega arith) in
+    pow-le-pow_right (omega arith) {i = t.0} {j = 8 * suc k - 1} (omega arith) in
     omega (arith, p, half_of_bits k, t.2, t.3, pow-suc 2 t.0) in
     let few : (i : ℕ) → i < k → 128 * 256 ^ i ≤ mag z = λ i l.
     let p : 2 ^ (8 * suc i) ≤ 2 ^ t.0 = pow-le-pow_right (omega arith) {i = 8 * suc i} {j = t.0} (omega arith) in
     let e : 2 ^ (8 * suc i) ≡ 2 ^ suc (8 * suc i - 1) =
-        ap (λ (j : ℕ). 2 ^ j) (let f : 8 * suc i ≡ suc (8 * suc i - 1) = omega arith in f) in
+    ap (λ (j : ℕ). 2 ^ j) (let f : 8 * suc i ≡ suc (8 * suc i - 1) = omega arith in f) in
     omega (arith, p, e, pow-suc 2 (8 * suc i - 1), half_of_bits i, t.2, t.3) in
     let same : k ≡ octets_past_first z = past_first_only k z enough few in
     omega (arith, t.1, length-bytes (suc (octets_past_first z)) (residue_at (suc (octets_past_first z)) z))

@@ -119,13 +119,13 @@ signed_outside b c bs o d = ⊎_elim low high (cases_lt b 128)
         zero_first : b < 1 → 128 * 256 ^ length bs ≤ up (signed (b ∷ c ∷ bs))
         zero_first z =
             let big : 128 * 256 ^ length bs ≤ c * 256 ^ length bs =
-                mul-le-mul_right (256 ^ length bs) (d.0 (omega arith)) in
+            mul-le-mul_right (256 ^ length bs) (d.0 (omega arith)) in
             omega (arith, e, u1, u2, big)
 
         some_first : 1 ≤ b → 128 * 256 ^ length bs ≤ up (signed (b ∷ c ∷ bs))
         some_first z =
             let big : 1 * 256 ^ length (c ∷ bs) ≤ b * 256 ^ length (c ∷ bs) =
-                mul-le-mul_right (256 ^ length (c ∷ bs)) z in
+            mul-le-mul_right (256 ^ length (c ∷ bs)) z in
             omega (arith, e, u1, s1, big)
 
     high : 128 ≤ b → (128 * 256 ^ length bs ≤ up (signed (b ∷ c ∷ bs))) ⊎
@@ -139,7 +139,7 @@ signed_outside b c bs o d = ⊎_elim low high (cases_lt b 128)
         some_first : b < 255 → 128 * 256 ^ length bs < down (signed (b ∷ c ∷ bs))
         some_first z =
             let big : b * 256 ^ length (c ∷ bs) ≤ 254 * 256 ^ length (c ∷ bs) =
-                mul-le-mul_right (256 ^ length (c ∷ bs)) (omega arith) in
+            mul-le-mul_right (256 ^ length (c ∷ bs)) (omega arith) in
             let one : 1 ≤ 256 ^ length bs = one-le-pow (length bs) 256 (omega arith) in
             omega (arith, e, u1, s1, s2, big, small, one)
 
@@ -147,7 +147,7 @@ signed_outside b c bs o d = ⊎_elim low high (cases_lt b 128)
         last_first z =
             let is : b ≡ 255 = omega (arith, o.0) in
             let big : b * 256 ^ length (c ∷ bs) ≡ 255 * 256 ^ length (c ∷ bs) =
-                ap (λ x. x * 256 ^ length (c ∷ bs)) is in
+            ap (λ x. x * 256 ^ length (c ∷ bs)) is in
             let few = mul-add-lt c (256 ^ length bs) (unsigned bs) 128 (d.1 is) (unsigned_below bs o.1.1) in
             omega (arith, e, u1, u2, s1, s2, big, few)
 
@@ -195,7 +195,7 @@ nine_bits_from_shortest n (b ∷ c ∷ bs) s = (zeros, ones)
         clash : c < 128 → ⊥
         clash l =
             let v : signed (c ∷ bs) ≡ n = sym (signed-zero_first c bs l)
-                ∙ (ap (λ x. signed (x ∷ c ∷ bs)) (sym e) ∙ s.value) in
+            ∙ (ap (λ x. signed (x ∷ c ∷ bs)) (sym e) ∙ s.value) in
             let short : length (b ∷ c ∷ bs) ≤ length (c ∷ bs) = s.least (c ∷ bs) s.octets.1 (omega arith) v in
             omega arith
 
@@ -205,7 +205,7 @@ nine_bits_from_shortest n (b ∷ c ∷ bs) s = (zeros, ones)
         clash : 128 ≤ c → ⊥
         clash l =
             let v : signed (c ∷ bs) ≡ n = sym (signed-ones_first c bs l)
-                ∙ (ap (λ x. signed (x ∷ c ∷ bs)) (sym e) ∙ s.value) in
+            ∙ (ap (λ x. signed (x ∷ c ∷ bs)) (sym e) ∙ s.value) in
             let short : length (b ∷ c ∷ bs) ≤ length (c ∷ bs) = s.least (c ∷ bs) s.octets.1 (omega arith) v in
             omega arith
 
@@ -247,9 +247,9 @@ shortest_once n a b s t =
         let by : unsigned (y ∷ ys) < 256 ^ length (y ∷ ys) = unsigned_below (y ∷ ys) k in
         ⊎_elim
         (λ i. ⊎_elim (λ j. omega (arith, low_parts x xs i, low_parts y ys j))
-            (λ j. absurd (omega (arith, low_parts x xs i, high_parts y ys k j))) (cases_lt y 128))
+        (λ j. absurd (omega (arith, low_parts x xs i, high_parts y ys k j))) (cases_lt y 128))
         (λ i. ⊎_elim (λ j. absurd (omega (arith, high_parts x xs h i, low_parts y ys j)))
-            (λ j. omega (arith, high_parts x xs h i, high_parts y ys k j)) (cases_lt y 128))
+        (λ j. omega (arith, high_parts x xs h i, high_parts y ys k j)) (cases_lt y 128))
         (cases_lt x 128)
 
 -- ---- the order
@@ -286,13 +286,13 @@ texts_ranked (x ∷ xs) (y ∷ ys) h k l =
     let small : unsigned ys < 256 ^ length xs = omega (arith, unsigned_below ys k.1, p) in
     let ex : unsigned (x ∷ xs) ≡ x * 256 ^ length xs + unsigned xs = unsigned-cons x xs in
     let ey : unsigned (y ∷ ys) ≡ y * 256 ^ length xs + unsigned ys = unsigned-cons y ys
-        ∙ ap (λ w. y * w + unsigned ys) p in
+    ∙ ap (λ w. y * w + unsigned ys) p in
     map_match _ _ _ _ _ _ (slice_cmp nat_cmp (x ∷ xs) (y ∷ ys))
     (λ (r : x * 256 ^ length xs + unsigned xs < y * 256 ^ length xs + unsigned ys). omega arith)
     (λ (r : x * 256 ^ length xs + unsigned xs ≡ y * 256 ^ length xs + unsigned ys). omega arith)
     (λ (r : y * 256 ^ length xs + unsigned ys < x * 256 ^ length xs + unsigned xs). omega arith)
     (first_then x y (unsigned xs) (unsigned ys) (256 ^ length xs) (nat_cmp x y) (slice_cmp nat_cmp xs ys)
-        (unsigned_below xs h.1) small
+    (unsigned_below xs h.1) small
     (ranked x y (nat_cmp x y) refl) (texts_ranked xs ys h.1 k.1 same))
 
 -- more octets, a greater distance from 0
@@ -321,7 +321,7 @@ octets_ranked [] b h k d e = absurd d
 octets_ranked (x ∷ xs) [] h k d e = absurd e
 octets_ranked (x ∷ xs) (y ∷ ys) h k d e =
     ⊎_elim (λ i. ⊎_elim (low_low i) (low_high i) (cases_lt y 128))
-        (λ i. ⊎_elim (high_low i) (high_high i) (cases_lt y 128)) (cases_lt x 128)
+    (λ i. ⊎_elim (high_low i) (high_high i) (cases_lt y 128)) (cases_lt x 128)
   where
     low_high : x < 128 → 128 ≤ y → Ranked (x ∷ xs) (y ∷ ys) (octets_cmp (x ∷ xs) (y ∷ ys))
     low_high i j =
@@ -409,7 +409,7 @@ octets_order a b h k d e = int_cmp_is (signed a) (signed b) (octets_cmp a b) (oc
 pub shortest_order : (m n : ℤ) (a b : List ℕ) → IsShortest m a → IsShortest n b → octets_cmp a b ≡ int_cmp m n
 shortest_order m n a b s t =
     octets_order a b s.octets t.octets (nine_bits_from_shortest m a s) (nine_bits_from_shortest n b t)
-        ∙ (ap (λ x. int_cmp x (signed b)) s.value ∙ ap (int_cmp m) t.value)
+    ∙ (ap (λ x. int_cmp x (signed b)) s.value ∙ ap (int_cmp m) t.value)
 
 -- ---- places
 
@@ -425,9 +425,11 @@ pub without_first : (o : List ℕ) → 2 ≤ length o → RepeatsSign (get_or o 
     × (signed (drop 1 o) ≡ signed o)
 without_first [] l r = absurd (omega arith)
 without_first (b ∷ []) l r = absurd (omega arith)
-without_first (b ∷ c ∷ bs) l r =
-    (omega arith, ⊎_elim (λ z. sym (signed-zero_first c bs z.1) ∙ ap (λ x. signed (x ∷ c ∷ bs)) (sym z.0))
-        (λ z. sym (signed-ones_first c bs z.1) ∙ ap (λ x. signed (x ∷ c ∷ bs)) (sym z.0)) r)
+without_first (b ∷ c ∷ bs) l r = (
+  omega arith,
+  ⊎_elim (λ z. sym (signed-zero_first c bs z.1) ∙ ap (λ x. signed (x ∷ c ∷ bs)) (sym z.0))
+      (λ z. sym (signed-ones_first c bs z.1) ∙ ap (λ x. signed (x ∷ c ∷ bs)) (sym z.0)) r,
+)
 
 pub nine_bits_by_places : (o : List ℕ) → 0 < length o → (2 ≤ length o → RepeatsSign (get_or o 0 0) (get_or o 1 0) → ⊥)
     → NineBitsDiffer o
@@ -450,7 +452,7 @@ pub end_is_shortest : (o rest : List ℕ) (k : ℕ) → ((i : ℕ) → get_or o 
 end_is_shortest o rest k h e s r =
     subst (λ z. IsShortest z rest) s.1
     (shortest_from_nine_bits rest (subst IsOctets (sym e) (octets-drop k o (octets_from_places o h)))
-        (nine_bits_by_places rest s.0 r))
+    (nine_bits_by_places rest s.0 r))
 
 -- a turn that leaves out the first octet
 pub next_keeps : (o rest next : List ℕ) (k : ℕ) → next ≡ drop 1 rest → rest ≡ drop k o → 2 ≤ length rest
@@ -496,10 +498,10 @@ shortest_unsigned_from_first (b ∷ c ∷ bs) h some d = record { octets = h; so
         clash l =
             let one : 1 ≤ b = ⊎_elim (λ z. absurd (d (omega arith) (omega arith))) (λ z. z) (cases_lt b 1) in
             let big : 1 * 256 ^ length (c ∷ bs) ≤ b * 256 ^ length (c ∷ bs) =
-                mul-le-mul_right (256 ^ length (c ∷ bs)) one in
+            mul-le-mul_right (256 ^ length (c ∷ bs)) one in
             let w = unsigned_below other oh in
             let p : 256 ^ length other ≤ 256 ^ length (c ∷ bs) =
-                pow-le-pow_right (omega arith) {i = length other} {j = length (c ∷ bs)} (omega arith) in
+            pow-le-pow_right (omega arith) {i = length other} {j = length (c ∷ bs)} (omega arith) in
             omega (arith, unsigned-cons b (c ∷ bs))
 
 -- the shortest octets of a number that is not negative, without a first zero octet that stands before others
@@ -512,10 +514,10 @@ unsigned_after_zero n (b ∷ c ∷ bs) rest s l z e =
     let value : pos (unsigned (b ∷ c ∷ bs)) ≡ pos n = sym (signed_low b (c ∷ bs) (omega arith)) ∙ s.value in
     let number : unsigned (b ∷ c ∷ bs) ≡ n = ap up value in
     let same : unsigned (c ∷ bs) ≡ n = sym (unsigned-zero_first (c ∷ bs))
-        ∙ (ap (λ x. unsigned (x ∷ c ∷ bs)) (sym z) ∙ number) in
+    ∙ (ap (λ x. unsigned (x ∷ c ∷ bs)) (sym z) ∙ number) in
     subst (λ t. IsShortestUnsigned n t) (sym e)
     (subst (λ m. IsShortestUnsigned m (c ∷ bs)) same
-        (shortest_unsigned_from_first (c ∷ bs) s.octets.1 (omega arith) (λ _ w. first w)))
+    (shortest_unsigned_from_first (c ∷ bs) s.octets.1 (omega arith) (λ _ w. first w)))
 
 -- with no such octet they are shortest without a sign too
 pub unsigned_as_it_is : (n : ℕ) (o : List ℕ) → IsShortest (pos n) o → (2 ≤ length o → get_or o 0 0 ≡ 0 → ⊥)

@@ -20,7 +20,7 @@ past_sixteen (b ∷ c ∷ bs) h d l r =
     let high = lt_out (signed (b ∷ c ∷ bs)) (pos (2 ^ 127)) r.1 in
     let one = one_part (signed (b ∷ c ∷ bs)) in
     ⊎_elim (λ big. ⊎_elim (λ z. omega arith) (λ z. omega arith) one)
-        (λ big. ⊎_elim (λ z. omega arith) (λ z. omega arith) one) (signed_outside b c bs h d)
+    (λ big. ⊎_elim (λ z. omega arith) (λ z. omega arith) one) (signed_outside b c bs h d)
 
 -- ---- the cases of the table that read a value
 
@@ -65,7 +65,7 @@ signed_law zero n (b ∷ bs) p r s = absurd (omega arith)
 signed_law (suc k) n (b ∷ []) p r s = signed_is_read (suc k) b [] (omega arith) ∙ ap Ok s.value
 signed_law (suc k) n (b ∷ c ∷ bs) p r s =
     ⊎_elim (λ l. absurd (clash l)) (λ l. signed_is_read (suc k) b (c ∷ bs) l ∙ ap Ok s.value)
-        (cases_lt (suc k) (length (b ∷ c ∷ bs)))
+    (cases_lt (suc k) (length (b ∷ c ∷ bs)))
   where
     clash : suc k < length (b ∷ c ∷ bs) → ⊥
     clash l =
@@ -78,7 +78,7 @@ signed_law (suc k) n (b ∷ c ∷ bs) p r s =
         let high = lt_out n (pos (2 ^ (8 * suc k - 1))) r.1 in
         let m = neg_is (pos (2 ^ (8 * suc k - 1))) in
         ⊎_elim (λ big. ⊎_elim (λ z. omega arith) (λ z. omega arith) one)
-            (λ big. ⊎_elim (λ z. omega arith) (λ z. omega arith) one)
+        (λ big. ⊎_elim (λ z. omega arith) (λ z. omega arith) one)
         (signed_outside b c bs s.octets (nine_bits_from_shortest n (b ∷ c ∷ bs) s))
 
 pub unsigned_law : (size : ℕ) (n : ℤ) (o : List ℕ) → 1 ≤ size → IsInRange (UnsignedOf size) n → IsShortest n o
@@ -119,11 +119,11 @@ unsigned_law size n (b ∷ bs) p r s =
             let big : 1 * 256 ^ length bs ≤ b * 256 ^ length bs = mul-le-mul_right (256 ^ length bs) z in
             let short : length (b ∷ bs) ≤ size =
             ⊎_elim (λ l. l)
-                (λ l. absurd (let q : 256 ^ size ≤ 256 ^ length bs =
-                pow-le-pow_right (omega arith) {i = size} {j = length bs} (omega arith) in omega (arith, bound)))
+            (λ l. absurd (let q : 256 ^ size ≤ 256 ^ length bs =
+            pow-le-pow_right (omega arith) {i = size} {j = length bs} (omega arith) in omega (arith, bound)))
             (cases_le (length (b ∷ bs)) size) in
             subst (λ t. t ≤ size)
-                (sym (cond-false (eqb b 0) (length bs) (length (b ∷ bs)) (ne_eqb b 0 (λ e. omega arith)))) short
+            (sym (cond-false (eqb b 0) (length bs) (length (b ∷ bs)) (ne_eqb b 0 (λ e. omega arith)))) short
 
         zero_first : (xs : List ℕ) → IsShortest n (b ∷ xs) → b < 1 → counted_length (b ∷ xs) ≤ size
         zero_first [] t z = subst (λ k. k ≤ size) (sym (counted [] (omega arith))) (omega arith)
@@ -134,12 +134,12 @@ unsigned_law size n (b ∷ bs) p r s =
             let u = unsigned-cons b (c ∷ cs) in
             let v = unsigned-cons c cs in
             let big : 128 * 256 ^ length cs ≤ c * 256 ^ length cs =
-                mul-le-mul_right (256 ^ length cs) ((nine_bits_from_shortest n (b ∷ c ∷ cs) t).0 zero) in
+            mul-le-mul_right (256 ^ length cs) ((nine_bits_from_shortest n (b ∷ c ∷ cs) t).0 zero) in
             let short : length (c ∷ cs) ≤ size =
             ⊎_elim (λ l. l)
-                (λ l. absurd (let q : 256 ^ size ≤ 256 ^ length cs =
-                pow-le-pow_right (omega arith) {i = size} {j = length cs} (omega arith) in omega
-                (arith, low, high, power_of_bits size, value)))
+            (λ l. absurd (let q : 256 ^ size ≤ 256 ^ length cs =
+            pow-le-pow_right (omega arith) {i = size} {j = length cs} (omega arith) in omega
+            (arith, low, high, power_of_bits size, value)))
             (cases_le (length (c ∷ cs)) size) in
             subst (λ k. k ≤ size) (sym (counted (c ∷ cs) zero)) short
 
@@ -155,9 +155,9 @@ pub zero_in_front : (o : List ℕ) → IsOctets o → 0 < length o → 128 ≤ g
 zero_in_front [] h some l = absurd (omega arith)
 zero_in_front (b ∷ bs) h some l =
     let value : signed (0 ∷ b ∷ bs) ≡ pos (unsigned (b ∷ bs)) = signed_low 0 (b ∷ bs) (omega arith)
-        ∙ ap pos (unsigned-zero_first (b ∷ bs)) in
+    ∙ ap pos (unsigned-zero_first (b ∷ bs)) in
     subst (λ z. IsShortest z (0 ∷ b ∷ bs)) value
-        (shortest_from_nine_bits (0 ∷ b ∷ bs) (omega arith, h) (λ e. l, λ e. absurd (omega arith)))
+    (shortest_from_nine_bits (0 ∷ b ∷ bs) (omega arith, h) (λ e. l, λ e. absurd (omega arith)))
 
 pub fifteen_fit : (o : List ℕ) → IsOctets o → length o < 16 → unsigned o < 2 ^ 127
 fifteen_fit o h l =
@@ -187,19 +187,19 @@ past_u128 (b ∷ c ∷ bs) h d l z r = ⊎_elim low high (cases_lt b 128)
         zero_first : b < 1 → ⊥
         zero_first k =
             let longer : 17 < length (b ∷ c ∷ bs) =
-                ⊎_elim (λ m. m) (λ m. absurd (z (omega arith) (omega arith))) (cases_lt 17 (length (b ∷ c ∷ bs))) in
+            ⊎_elim (λ m. m) (λ m. absurd (z (omega arith) (omega arith))) (cases_lt 17 (length (b ∷ c ∷ bs))) in
             let p : 256 ^ 16 ≤ 256 ^ length bs =
-                pow-le-pow_right (omega arith) {i = 16} {j = length bs} (omega arith) in
+            pow-le-pow_right (omega arith) {i = 16} {j = length bs} (omega arith) in
             let big : 128 * 256 ^ length bs ≤ c * 256 ^ length bs =
-                mul-le-mul_right (256 ^ length bs) (d.0 (omega arith)) in
+            mul-le-mul_right (256 ^ length bs) (d.0 (omega arith)) in
             omega (arith, most, low_parts b (c ∷ bs) i, unsigned-cons b (c ∷ bs), unsigned-cons c bs)
 
         some_first : 1 ≤ b → ⊥
         some_first k =
             let p : 256 ^ 16 ≤ 256 ^ length (c ∷ bs) =
-                pow-le-pow_right (omega arith) {i = 16} {j = length (c ∷ bs)} (omega arith) in
+            pow-le-pow_right (omega arith) {i = 16} {j = length (c ∷ bs)} (omega arith) in
             let big : 1 * 256 ^ length (c ∷ bs) ≤ b * 256 ^ length (c ∷ bs) =
-                mul-le-mul_right (256 ^ length (c ∷ bs)) k in
+            mul-le-mul_right (256 ^ length (c ∷ bs)) k in
             omega (arith, most, low_parts b (c ∷ bs) i, unsigned-cons b (c ∷ bs))
 
 -- seventeen octets that begin with zero spell what the other sixteen do without a sign
@@ -208,7 +208,7 @@ pub zero_then_sixteen : (o rest : List ℕ) → 0 < length o → get_or o 0 0 �
 zero_then_sixteen [] rest l z e = absurd (omega arith)
 zero_then_sixteen (b ∷ bs) rest l z e =
     signed_low b bs (omega arith) ∙ ap pos
-        (ap (λ x. unsigned (x ∷ bs)) z ∙ (unsigned-zero_first bs ∙ ap unsigned (sym e)))
+    (ap (λ x. unsigned (x ∷ bs)) z ∙ (unsigned-zero_first bs ∙ ap unsigned (sym e)))
 
 -- a first octet below 128 is no sign
 pub low_value : (o : List ℕ) → 0 < length o → get_or o 0 0 < 128 → signed o ≡ pos (unsigned o)
@@ -220,11 +220,13 @@ pub spells_no_u128 : (n : ℤ) (o s : List ℕ) → s ≡ o → signed o ≡ n �
     → (length s ≡ 17 → get_or s 0 0 ≡ 0 → ⊥) → IsInRange (UnsignedOf 16) n → ⊥
 spells_no_u128 n o s e v k l d r =
     past_u128 o k.octets (nine_bits_from_shortest _ _ k) l (subst (λ t. length t ≡ 17 → get_or t 0 0 ≡ 0 → ⊥) e d)
-        (subst (IsInRange (UnsignedOf 16)) (sym v) r)
+    (subst (IsInRange (UnsignedOf 16)) (sym v) r)
 
 pub spells_u128 : (n : ℤ) (o s rest : List ℕ) (r : ℕ) → s ≡ o → signed o ≡ n → 0 < length s → get_or s 0 0 ≡ 0
     → rest ≡ drop 1 s → r ≡ unsigned rest → r < 2 ^ 128 → (pos r ≡ n) × IsInRange (UnsignedOf 16) n
 spells_u128 n o s rest r e v l z d u small =
-    let value : pos r ≡ n = ap pos u ∙ (sym (zero_then_sixteen s rest l z d) ∙ (ap signed e ∙ v)) in
-    (value, subst (IsInRange (UnsignedOf 16)) value
-        (at_most_in (pos 0) (pos r) (omega arith), below_in (pos r) (pos (2 ^ 128)) (omega arith)))
+    let value : pos r ≡ n = ap pos u ∙ (sym (zero_then_sixteen s rest l z d) ∙ (ap signed e ∙ v)) in (
+      value,
+      subst (IsInRange (UnsignedOf 16)) value
+          (at_most_in (pos 0) (pos r) (omega arith), below_in (pos r) (pos (2 ^ 128)) (omega arith)),
+    )

@@ -31,7 +31,7 @@ past_first_holds (suc turns) k z h =
     ⊎_elim
     (λ l.
     let e : past_from k (suc turns) z ≡ 1 + past_from (k + 1) turns z =
-        cond-true (leb (128 * 256 ^ k) (mag z)) _ _ (le-leb _ _ l) in
+    cond-true (leb (128 * 256 ^ k) (mag z)) _ _ (le-leb _ _ l) in
     let f : k + 1 + past_from (k + 1) turns z ≡ k + past_from k (suc turns) z = omega arith in
     subst (λ x. mag z < 128 * 256 ^ x) f (past_first_holds turns (k + 1) z (omega arith)))
     (λ l.
@@ -47,9 +47,9 @@ fewer_do_not (suc turns) k z j p l =
     ⊎_elim
     (λ m.
     let e : past_from k (suc turns) z ≡ 1 + past_from (k + 1) turns z =
-        cond-true (leb (128 * 256 ^ k) (mag z)) _ _ (le-leb _ _ m) in
+    cond-true (leb (128 * 256 ^ k) (mag z)) _ _ (le-leb _ _ m) in
     ⊎_elim (λ s. fewer_do_not turns (k + 1) z j (omega arith) (omega arith))
-        (λ s. let f : k ≡ j = omega arith in subst (λ x. 128 * 256 ^ x ≤ mag z) f m) (cases_lt k j))
+    (λ s. let f : k ≡ j = omega arith in subst (λ x. 128 * 256 ^ x ≤ mag z) f m) (cases_lt k j))
     (λ m.
     let e : past_from k (suc turns) z ≡ 0 = cond-false (leb (128 * 256 ^ k) (mag z)) _ _ (lt-leb _ _ m) in
     absurd (omega arith))
@@ -67,7 +67,7 @@ past_first_only k z h f =
     ⊎_elim
     (λ l. absurd (let e = fewer_do_not (suc (mag z)) 0 z k (omega arith) (omega arith) in omega arith))
     (λ l. ⊎_elim (λ m. absurd (let e = f (octets_past_first z) m in omega (arith, past_first_enough z)))
-        (λ m. omega arith) (cases_lt (octets_past_first z) k))
+    (λ m. omega arith) (cases_lt (octets_past_first z) k))
     (cases_lt k (octets_past_first z))
 
 value_at : (k : ℕ) (z : ℤ) → mag z < 128 * 256 ^ k → signed (bytes_high_first (suc k) (residue_at (suc k) z)) ≡ z
@@ -78,7 +78,7 @@ value_at k (negsuc n) h =
     let s = power_step k in
     signed-bytes k (256 ^ suc k - suc n) (omega arith)
     ∙ (ap (λ t. sel t (pos (256 ^ suc k - suc n)) (negsuc (256 ^ suc k - suc (256 ^ suc k - suc n))))
-        (le-ltb (256 ^ suc k - suc n) (128 * 256 ^ k) (omega arith))
+    (le-ltb (256 ^ suc k - suc n) (128 * 256 ^ k) (omega arith))
     ∙ ap negsuc (let e : 256 ^ suc k - suc (256 ^ suc k - suc n) ≡ n = omega arith in e))
 
 pub shortest_octets_are : (z : ℤ) → IsShortest z (shortest_octets z)
@@ -102,8 +102,8 @@ shortest_octets_are z = record {
         let one = one_part z in
         ⊎_elim
         (λ s. absurd (let f =
-            fewer_do_not (suc (mag z)) 0 z (length xs) (omega arith) (omega arith) in ⊎_elim (λ o. omega arith)
-            (λ o. omega arith) one))
+        fewer_do_not (suc (mag z)) 0 z (length xs) (omega arith) (omega arith) in ⊎_elim (λ o. omega arith)
+        (λ o. omega arith) one))
         (λ s. omega arith)
         (cases_lt (length xs) (octets_past_first z))
 

@@ -47,9 +47,9 @@ signed-push b bs d h l = ⊎_elim low high (cases_lt b 128)
     high i =
         let n : 256 ^ length ((b ∷ bs) ++ d ∷ []) ≡ 256 * 256 ^ length (b ∷ bs) =
         ap (λ (n : ℕ). 256 ^ n) (let e : length ((b ∷ bs) ++ d ∷ []) ≡ suc (length (b ∷ bs)) =
-            length-append (b ∷ bs) (d ∷ []) ∙ omega arith in e) ∙ power_step (length (b ∷ bs)) in
+        length-append (b ∷ bs) (d ∷ []) ∙ omega arith in e) ∙ power_step (length (b ∷ bs)) in
         same_in _ _
-            (omega (arith, high_parts b bs h i, high_parts b (bs ++ d ∷ []) (octets-push (b ∷ bs) d h l) i, u, s, m, n))
+        (omega (arith, high_parts b bs h i, high_parts b (bs ++ d ∷ []) (octets-push (b ∷ bs) d h l) i, u, s, m, n))
 
 -- ---- the bytes of a number
 
@@ -74,12 +74,12 @@ unsigned-bytes_and_rest (suc k) n =
     let l : 256 ^ length (bytes_high_first k n) ≡ 256 ^ k = ap (λ (m : ℕ). 256 ^ m) (length-bytes k n) in
     let c' : unsigned (bytes_high_first (suc k) n) ≡ (n / 256 ^ k % 256) * 256 ^ k + unsigned (bytes_high_first k n) =
     c ∙ ap (λ x. x + unsigned (bytes_high_first k n))
-        (ap (λ x. byte_at k n * x) l ∙ ap (λ x. x * 256 ^ k) (byte_at_is k n)) in
+    (ap (λ x. byte_at k n * x) l ∙ ap (λ x. x * 256 ^ k) (byte_at_is k n)) in
     let d : n / 256 ^ suc k ≡ n / 256 ^ k / 256 = ap (λ x. n / x) (pow-suc 256 k)
-        ∙ sym (div-div-eq-div-mul n (256 ^ k) 256) in
+    ∙ sym (div-div-eq-div-mul n (256 ^ k) 256) in
     let q : n / 256 ^ k / 256 * 256 + n / 256 ^ k % 256 ≡ n / 256 ^ k = div-add-mod' (n / 256 ^ k) 256 in
     let r : n / 256 ^ suc k * 256 ^ suc k ≡ n / 256 ^ k / 256 * (256 * 256 ^ k) = ap (λ x. x * 256 ^ suc k) d
-        ∙ ap (λ x. n / 256 ^ k / 256 * x) (power_step k) in
+    ∙ ap (λ x. n / 256 ^ k / 256 * x) (power_step k) in
     let t : (n / 256 ^ k / 256 * 256 + n / 256 ^ k % 256) * 256 ^ k ≡ n / 256 ^ k * 256 ^ k = ap (λ x. x * 256 ^ k) q in
     omega arith
 
@@ -92,7 +92,7 @@ unsigned-bytes k n h =
 -- two's complement: the number that the bits stand for
 pub signed_as_bits : (b : ℕ) (bs : List ℕ) → IsOctets (b ∷ bs) →
     signed (b ∷ bs) ≡ sel (ltb (unsigned (b ∷ bs)) (128 * 256 ^ length bs)) (pos (unsigned (b ∷ bs)))
-        (negsuc (256 ^ length (b ∷ bs) - suc (unsigned (b ∷ bs))))
+    (negsuc (256 ^ length (b ∷ bs) - suc (unsigned (b ∷ bs))))
 signed_as_bits b bs h = ⊎_elim low high (cases_lt b 128)
   where
     u : unsigned (b ∷ bs) ≡ b * 256 ^ length bs + unsigned bs
@@ -104,8 +104,8 @@ signed_as_bits b bs h = ⊎_elim low high (cases_lt b 128)
         let k = mul-add-lt b (256 ^ length bs) (unsigned bs) 128 i (unsigned_below bs h.1) in
         let t : ltb (unsigned (b ∷ bs)) (128 * 256 ^ length bs) ≡ true = lt-ltb _ _ (omega (arith, u)) in
         signed_low b bs i
-            ∙ ap (λ x. sel x (pos (unsigned (b ∷ bs))) (negsuc (256 ^ length (b ∷ bs) - suc (unsigned (b ∷ bs)))))
-            (sym t)
+        ∙ ap (λ x. sel x (pos (unsigned (b ∷ bs))) (negsuc (256 ^ length (b ∷ bs) - suc (unsigned (b ∷ bs)))))
+        (sym t)
 
     high : 128 ≤ b → signed (b ∷ bs) ≡ sel (ltb (unsigned (b ∷ bs)) (128 * 256 ^ length bs)) (pos (unsigned (b ∷ bs)))
         (negsuc (256 ^ length (b ∷ bs) - suc (unsigned (b ∷ bs))))
@@ -115,7 +115,7 @@ signed_as_bits b bs h = ⊎_elim low high (cases_lt b 128)
         let p = high_parts b bs h i in
         let w = unsigned_below (b ∷ bs) h in
         let e : signed (b ∷ bs) ≡ negsuc (256 ^ length (b ∷ bs) - suc (unsigned (b ∷ bs))) =
-            same_in _ _ (omega arith) in
+        same_in _ _ (omega arith) in
         e ∙ ap (λ x. sel x (pos (unsigned (b ∷ bs))) (negsuc (256 ^ length (b ∷ bs) - suc (unsigned (b ∷ bs))))) (sym t)
 
 pub signed-bytes : (k n : ℕ) → n < 256 ^ suc k
@@ -125,8 +125,8 @@ signed-bytes k n h =
     let l = length-bytes k n in
     signed_as_bits (byte_at k n) (bytes_high_first k n) (octets_of_bytes (suc k) n)
     ∙
-        (ap (λ x. sel (ltb x (128 * 256 ^ length (bytes_high_first k n))) (pos x)
-        (negsuc (256 ^ suc (length (bytes_high_first k n)) - suc x))) u
+    (ap (λ x. sel (ltb x (128 * 256 ^ length (bytes_high_first k n))) (pos x)
+    (negsuc (256 ^ suc (length (bytes_high_first k n)) - suc x))) u
     ∙ ap (λ m. sel (ltb n (128 * 256 ^ m)) (pos n) (negsuc (256 ^ suc m - suc n))) l)
 
 pub fits_by_parts : (z : ℤ) → up z < 2 ^ 127 → down z ≤ 2 ^ 127 → SFits w128 z
@@ -185,25 +185,25 @@ pub room_for_more : (o : List ℕ) (k : ℕ) (v : ℤ) → IsOctets o → k + 1 
 room_for_more o k v h l few e =
     let t : length (take (k + 1) o) ≡ k + 1 = length-take (k + 1) o ∙ omega arith in
     subst (λ z. SFits w128 (z *ℤ pos 256)) (sym e)
-        (fifteen_times_fit (take (k + 1) o) (octets-take (k + 1) o h) (omega arith) (omega arith))
+    (fifteen_times_fit (take (k + 1) o) (octets-take (k + 1) o h) (omega arith) (omega arith))
 
 pub more_value : (o : List ℕ) (k : ℕ) (v x : ℤ) (d : ℕ) → IsOctets o → k + 1 < length o → length o ≤ 16
     → v ≡ signed (take (k + 1) o) → x ≡ pos d → d ≡ get_or o (k + 1) 0 →
     to_z w128 (of_z w128 (to_z w128 (of_z w128 (v *ℤ pos 256)) +ℤ to_z w128 (of_z w128 x))) ≡ signed
-        (take (k + 1 + 1) o)
+    (take (k + 1 + 1) o)
 more_value o k v x d h l few e a b =
     let f : SFits w128 (v *ℤ pos 256) = room_for_more o k v h l few e in
     let x' : x ≡ pos (get_or o (k + 1) 0) = a ∙ ap pos b in
     let g : SFits w128 x =
-        subst (λ z. SFits w128 z) (sym x')
-        (fits_by_parts (pos (get_or o (k + 1) 0)) (omega (arith, octet_at o (k + 1) h)) (omega arith)) in
+    subst (λ z. SFits w128 z) (sym x')
+    (fits_by_parts (pos (get_or o (k + 1) 0)) (omega (arith, octet_at o (k + 1) h)) (omega arith)) in
     let s : v *ℤ pos 256 +ℤ x ≡ signed (take (k + 1 + 1) o) =
     ap (λ z. z *ℤ pos 256 +ℤ x) e ∙ (ap (λ z. signed (take (k + 1) o) *ℤ pos 256 +ℤ z) x'
-        ∙ sym (signed_more o (k + 1) h (omega arith) l)) in
+    ∙ sym (signed_more o (k + 1) h (omega arith) l)) in
     let t2 : length (take (k + 1 + 1) o) ≡ k + 1 + 1 = length-take (k + 1 + 1) o ∙ omega arith in
     let fs : SFits w128 (v *ℤ pos 256 +ℤ x) =
-        subst (λ z. SFits w128 z) (sym s)
-        (sixteen_fit (take (k + 1 + 1) o) (octets-take (k + 1 + 1) o h) (omega arith) (omega arith)) in
+    subst (λ z. SFits w128 z) (sym s)
+    (sixteen_fit (take (k + 1 + 1) o) (octets-take (k + 1 + 1) o h) (omega arith) (omega arith)) in
     ap (λ z. to_z w128 (of_z w128 (z +ℤ to_z w128 (of_z w128 x)))) (to_z-of_z f) ∙
     (ap (λ z. to_z w128 (of_z w128 (v *ℤ pos 256 +ℤ z))) (to_z-of_z g) ∙ (to_z-of_z fs ∙ s))
 
@@ -219,5 +219,5 @@ unsigned_room o k h l few =
     let t : length (take k o) ≡ k = length-take k o ∙ omega arith in
     let b = unsigned_below (take k o) (octets-take k o (octets_from_places o h)) in
     let p : 256 ^ length (take k o) ≤ 256 ^ 15 =
-        pow-le-pow_right (omega arith) {i = length (take k o)} {j = 15} (omega arith) in
+    pow-le-pow_right (omega arith) {i = length (take k o)} {j = 15} (omega arith) in
     omega (arith, h k)

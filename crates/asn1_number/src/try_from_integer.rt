@@ -1,5 +1,5 @@
 //! Native numbers made of whole ones, where they hold them.
-ghost use Rattle.std.specs.Prelude.{◌≡◌, pos, Some, codes, IfOk, OnErr};
+ghost use Rattle.std.specs.Prelude.{◌≡◌, pos, Some, Ok, Err, codes, IfOk, OnErr, MatchOption};
 ghost use Rattle.asn1_number.specs.Conversions.{Converts};
 ghost use Rattle.asn1_number.specs.Readings.{FitsI128};
 ghost use Rattle.asn1_number.specs.Readings.{kind_u8, kind_u16, kind_u32, kind_u64};
@@ -65,16 +65,24 @@ impl fmt::Display for TryFromIntegerError {
     }
 }
 
+/// The value, where the type holds the number, else the number back.
+#[inline(always)]
+fn kept_or_back<T: Copy>(value: Option<T>, number: Integer) -> Result<T, TryFromIntegerError>
+    ensures { MatchOption value (result ≡ Err number) (λ x. result ≡ Ok x) }
+{
+    match value {
+        Some(value) => Ok(value),
+        None => Err(TryFromIntegerError::new(number)),
+    }
+}
+
 impl TryFrom<Integer> for u8 {
     type Error = TryFromIntegerError;
 
     ghost try_from_gives = { λ n r. Converts kind_u8 (λ x. pos x) n r };
 
     fn try_from(number: Integer) -> Result<u8, TryFromIntegerError> {
-        let Some(value) = number.to_i128().and_then(|n| u8::try_from(n).ok()) else {
-            return Err(TryFromIntegerError::new(number));
-        };
-        Ok(value)
+        kept_or_back(number.to_i128().and_then(|n| u8::try_from(n).ok()), number)
     }
 }
 
@@ -84,10 +92,7 @@ impl TryFrom<Integer> for i8 {
     ghost try_from_gives = { λ n r. Converts kind_i8 (λ x. x) n r };
 
     fn try_from(number: Integer) -> Result<i8, TryFromIntegerError> {
-        let Some(value) = number.to_i128().and_then(|n| i8::try_from(n).ok()) else {
-            return Err(TryFromIntegerError::new(number));
-        };
-        Ok(value)
+        kept_or_back(number.to_i128().and_then(|n| i8::try_from(n).ok()), number)
     }
 }
 
@@ -97,10 +102,7 @@ impl TryFrom<Integer> for u16 {
     ghost try_from_gives = { λ n r. Converts kind_u16 (λ x. pos x) n r };
 
     fn try_from(number: Integer) -> Result<u16, TryFromIntegerError> {
-        let Some(value) = number.to_i128().and_then(|n| u16::try_from(n).ok()) else {
-            return Err(TryFromIntegerError::new(number));
-        };
-        Ok(value)
+        kept_or_back(number.to_i128().and_then(|n| u16::try_from(n).ok()), number)
     }
 }
 
@@ -110,10 +112,7 @@ impl TryFrom<Integer> for i16 {
     ghost try_from_gives = { λ n r. Converts kind_i16 (λ x. x) n r };
 
     fn try_from(number: Integer) -> Result<i16, TryFromIntegerError> {
-        let Some(value) = number.to_i128().and_then(|n| i16::try_from(n).ok()) else {
-            return Err(TryFromIntegerError::new(number));
-        };
-        Ok(value)
+        kept_or_back(number.to_i128().and_then(|n| i16::try_from(n).ok()), number)
     }
 }
 
@@ -123,10 +122,7 @@ impl TryFrom<Integer> for u32 {
     ghost try_from_gives = { λ n r. Converts kind_u32 (λ x. pos x) n r };
 
     fn try_from(number: Integer) -> Result<u32, TryFromIntegerError> {
-        let Some(value) = number.to_i128().and_then(|n| u32::try_from(n).ok()) else {
-            return Err(TryFromIntegerError::new(number));
-        };
-        Ok(value)
+        kept_or_back(number.to_i128().and_then(|n| u32::try_from(n).ok()), number)
     }
 }
 
@@ -136,10 +132,7 @@ impl TryFrom<Integer> for i32 {
     ghost try_from_gives = { λ n r. Converts kind_i32 (λ x. x) n r };
 
     fn try_from(number: Integer) -> Result<i32, TryFromIntegerError> {
-        let Some(value) = number.to_i128().and_then(|n| i32::try_from(n).ok()) else {
-            return Err(TryFromIntegerError::new(number));
-        };
-        Ok(value)
+        kept_or_back(number.to_i128().and_then(|n| i32::try_from(n).ok()), number)
     }
 }
 
@@ -149,10 +142,7 @@ impl TryFrom<Integer> for u64 {
     ghost try_from_gives = { λ n r. Converts kind_u64 (λ x. pos x) n r };
 
     fn try_from(number: Integer) -> Result<u64, TryFromIntegerError> {
-        let Some(value) = number.to_i128().and_then(|n| u64::try_from(n).ok()) else {
-            return Err(TryFromIntegerError::new(number));
-        };
-        Ok(value)
+        kept_or_back(number.to_i128().and_then(|n| u64::try_from(n).ok()), number)
     }
 }
 
@@ -162,10 +152,7 @@ impl TryFrom<Integer> for i64 {
     ghost try_from_gives = { λ n r. Converts kind_i64 (λ x. x) n r };
 
     fn try_from(number: Integer) -> Result<i64, TryFromIntegerError> {
-        let Some(value) = number.to_i128().and_then(|n| i64::try_from(n).ok()) else {
-            return Err(TryFromIntegerError::new(number));
-        };
-        Ok(value)
+        kept_or_back(number.to_i128().and_then(|n| i64::try_from(n).ok()), number)
     }
 }
 
@@ -175,10 +162,7 @@ impl TryFrom<Integer> for u128 {
     ghost try_from_gives = { λ n r. Converts kind_u128 (λ x. pos x) n r };
 
     fn try_from(number: Integer) -> Result<u128, TryFromIntegerError> {
-        let Some(value) = number.to_u128() else {
-            return Err(TryFromIntegerError::new(number));
-        };
-        Ok(value)
+        kept_or_back(number.to_u128(), number)
     }
 }
 
@@ -188,10 +172,7 @@ impl TryFrom<Integer> for i128 {
     ghost try_from_gives = { λ n r. Converts kind_i128 (λ x. x) n r };
 
     fn try_from(number: Integer) -> Result<i128, TryFromIntegerError> {
-        let Some(value) = number.to_i128() else {
-            return Err(TryFromIntegerError::new(number));
-        };
-        Ok(value)
+        kept_or_back(number.to_i128(), number)
     }
 }
 
@@ -201,10 +182,10 @@ impl TryFrom<Integer> for usize {
     ghost try_from_gives = { λ n r. Converts kind_usize (λ x. pos x) n r };
 
     fn try_from(number: Integer) -> Result<usize, TryFromIntegerError> {
-        let Some(value) = number.to_i128().and_then(|n| usize::try_from(n).ok()) else {
-            return Err(TryFromIntegerError::new(number));
-        };
-        Ok(value)
+        kept_or_back(
+            number.to_i128().and_then(|n| usize::try_from(n).ok()),
+            number,
+        )
     }
 }
 
@@ -214,9 +195,9 @@ impl TryFrom<Integer> for isize {
     ghost try_from_gives = { λ n r. Converts kind_isize (λ x. x) n r };
 
     fn try_from(number: Integer) -> Result<isize, TryFromIntegerError> {
-        let Some(value) = number.to_i128().and_then(|n| isize::try_from(n).ok()) else {
-            return Err(TryFromIntegerError::new(number));
-        };
-        Ok(value)
+        kept_or_back(
+            number.to_i128().and_then(|n| isize::try_from(n).ok()),
+            number,
+        )
     }
 }

@@ -37,16 +37,19 @@ module _ {A : Type 0} where
       let p = read_arcs (contents_reading octets) a in
       let t = arcs_from_reading p.0 octets are p.1 in
       (λ ok. (p.0, t.0, t.1), λ some. refl)
-  ok_iff octets (Err e) are a =
-      (λ ok. absurd cc, λ some. absurd (reading_is_err e some.0
-      (sym a ∙ contents_read some.0 octets are some.1 some.2)))
+  ok_iff octets (Err e) are a = (
+    λ ok. absurd cc,
+    λ some. absurd (reading_is_err e some.0
+        (sym a ∙ contents_read some.0 octets are some.1 some.2)),
+  )
 
   pub large_iff : (octets : List ℕ) (r : Result A ContentsError) → All (λ octet. octet < 256) octets → Agrees octets r
       → (r ≡ Err ArcTooLarge) ↔ ((arcs : List ℕ) × IsContents arcs octets × ¬ (FitU32 arcs))
   large_iff octets (Ok x) are a =
-      let p = read_arcs (contents_reading octets) a in
-      (λ e. absurd (no_refusal x ArcTooLarge e),
-          λ some. absurd (reading_is_err ArcTooLarge p.0 (sym (large_read some.0 octets are some.1 some.2) ∙ p.1)))
+      let p = read_arcs (contents_reading octets) a in (
+        λ e. absurd (no_refusal x ArcTooLarge e),
+        λ some. absurd (reading_is_err ArcTooLarge p.0 (sym (large_read some.0 octets are some.1 some.2) ∙ p.1)),
+      )
   large_iff octets (Err e) are a = (
     λ is. large_from_reading octets are (a ∙ ap (λ (x : ContentsError). Err x) (refusal_is e ArcTooLarge is)),
     λ some. ap (λ (x : ContentsError). Err x)
@@ -56,9 +59,10 @@ module _ {A : Type 0} where
   pub none_iff : (octets : List ℕ) (r : Result A ContentsError) → All (λ octet. octet < 256) octets → Agrees octets r
       → (r ≡ Err Malformed) ↔ ((arcs : List ℕ) → ¬ (IsContents arcs octets))
   none_iff octets (Ok x) are a =
-      let p = read_arcs (contents_reading octets) a in
-      (λ e. absurd (no_refusal x Malformed e),
-          λ none. absurd (reading_is_err Malformed p.0 (sym (none_read octets are none) ∙ p.1)))
+      let p = read_arcs (contents_reading octets) a in (
+        λ e. absurd (no_refusal x Malformed e),
+        λ none. absurd (reading_is_err Malformed p.0 (sym (none_read octets are none) ∙ p.1)),
+      )
   none_iff octets (Err e) are a = (
     λ is. none_from_reading octets are (a ∙ ap (λ (x : ContentsError). Err x) (refusal_is e Malformed is)),
     λ none. ap (λ (x : ContentsError). Err x) (same_refusal e Malformed (sym a ∙ none_read octets are none)),

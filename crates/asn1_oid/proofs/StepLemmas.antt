@@ -47,7 +47,7 @@ gathers_more octets place i told octet cap some g lt is ge first = record {
       let begun : ltb place (i + 1) ≡ true = lt-ltb place (i + 1) (omega arith) in
       let here : ltb place i ≡ false → octet ≢ 128 = λ f. (let le = ltb-false place i f in first (omega arith)) in
       g.read ∙ ap (numbers_from (ltb place i) g.number) (next_octet octets i octet lt is)
-          ∙ goes_on (ltb place i) g.number octet (drop (i + 1) octets) ge here
+      ∙ goes_on (ltb place i) g.number octet (drop (i + 1) octets) ge here
       ∙ ap (λ (b : Bool). numbers_from b m (drop (i + 1) octets)) (sym begun);
 }
 
@@ -68,7 +68,7 @@ pub none_from_80 : (octets : List ℕ) (place octet : ℕ) → place < length oc
     → octet ≡ 128 → numbers_of (drop place octets) ≡ None
 none_from_80 octets place octet lt is e =
     ap (numbers_from false 0) (next_octet octets place octet lt is ∙ ap (λ (k : ℕ). k ∷ drop (place + 1) octets) e)
-        ∙ begins_with_80 0 (drop (place + 1) octets)
+    ∙ begins_with_80 0 (drop (place + 1) octets)
 
 -- nor where the octets end first
 pub none_from_end : (octets : List ℕ) (place i told cap : ℕ) → Gathers octets place i told cap → place < length octets
@@ -76,7 +76,7 @@ pub none_from_end : (octets : List ℕ) (place i told cap : ℕ) → Gathers oct
 none_from_end octets place i told cap g lt le =
     let begun : ltb place i ≡ true = lt-ltb place i (omega arith) in
     g.read ∙ ap (λ (b : Bool). numbers_from b g.number (drop i octets)) begun
-        ∙ ap (numbers_from true g.number) (drop_all i octets le) ∙ unended g.number
+    ∙ ap (numbers_from true g.number) (drop_all i octets le) ∙ unended g.number
 
 -- ---- subidentifiers one after another
 
@@ -115,10 +115,10 @@ walks_more octets place told next fit w s = record {
   others = w.others ++ s.number ∷ [];
   tested =
       let last : leb told 4294967295 ≡ other_fits s.number =
-          same_test told s.number 4294967295 (let t = s.as_told in λ le. omega arith)
-          (let t = s.as_told in λ le. omega arith) in
+      same_test told s.number 4294967295 (let t = s.as_told in λ le. omega arith)
+      (let t = s.as_told in λ le. omega arith) in
       ap (λ (b : Bool). b && leb told 4294967295) w.tested
-          ∙ ap (λ (b : Bool). (leb w.first largest_first && list_all other_fits w.others) && b) last
+      ∙ ap (λ (b : Bool). (leb w.first largest_first && list_all other_fits w.others) && b) last
       ∙ three (leb w.first largest_first) (list_all other_fits w.others) (other_fits s.number)
       ∙ ap (λ (b : Bool). leb w.first largest_first && b) (sym (list_all-append other_fits w.others (s.number ∷ [])));
   within = s.within;
@@ -188,8 +188,8 @@ unfolding test_of
 next_fits first others n (Some ns) e =
     let p = and_parts (leb first largest_first) (list_all other_fits (others ++ n ∷ ns)) e in
     let q =
-        and_parts (list_all other_fits others) (list_all other_fits (n ∷ ns))
-        (sym (list_all-append other_fits others (n ∷ ns)) ∙ p.1) in
+    and_parts (list_all other_fits others) (list_all other_fits (n ∷ ns))
+    (sym (list_all-append other_fits others (n ∷ ns)) ∙ p.1) in
     leb-true n 4294967295 (and_parts (other_fits n) (list_all other_fits ns) q.1).0
 next_fits first others n None e = absurd cc
 
@@ -206,8 +206,8 @@ pub first_told : (octets : List ℕ) (told next : ℕ) → is_ok (contents_readi
 unfolding contents_reading
 first_told octets told next ok s =
     let fits =
-        first_fits s.number [] (numbers_of (drop next octets))
-        (sym (ap test_of s.read) ∙ tested (numbers_of octets) ok) in
+    first_fits s.number [] (numbers_of (drop next octets))
+    (sym (ap test_of s.read) ∙ tested (numbers_of octets) ok) in
     let t = s.as_told in
     (omega arith, omega arith)
 
@@ -218,8 +218,8 @@ unfolding contents_reading
 next_told octets place told next items ok w s =
     let read = w.read ∙ ap (behind (w.first ∷ w.others)) s.read in
     let fits =
-        next_fits w.first w.others s.number (numbers_of (drop next octets))
-        (sym (ap test_of read) ∙ tested (numbers_of octets) ok) in
+    next_fits w.first w.others s.number (numbers_of (drop next octets))
+    (sym (ap test_of read) ∙ tested (numbers_of octets) ok) in
     let t = s.as_told in
     (omega arith, omega arith)
 

@@ -20,7 +20,7 @@ contents_are arcs rest octets n valid numbers two left = record {
       let k : ℕ = digit_count n in
       let are : AreSubidentifiers (n ∷ rest) (octets_left n k rest) = left_are n k rest (digits_of n) in
       subst (λ (l : List ℕ). AreSubidentifiers l octets) (sym numbers)
-          (subst (λ (o : List ℕ). AreSubidentifiers (n ∷ rest) o) (sym (left k (digits_of n))) are);
+      (subst (λ (o : List ℕ). AreSubidentifiers (n ∷ rest) o) (sym (left k (digits_of n))) are);
 }
 
 -- the subidentifier of one arc more
@@ -31,12 +31,12 @@ unfolding subidentifier_octets
 octets_more arcs i arc len k lt is e h =
     let old : List ℕ = flat_map subidentifier_octets (take i arcs) in
     let more : take (i + 1) arcs ≡ take i arcs ++ arc ∷ [] = take_more arcs i 0 lt
-        ∙ ap (λ (x : ℕ). take i arcs ++ x ∷ []) (sym is) in
+    ∙ ap (λ (x : ℕ). take i arcs ++ x ∷ []) (sym is) in
     let whole : flat_map subidentifier_octets (take (i + 1) arcs) ≡ old ++ subidentifier_octets arc =
     ap (λ (l : List ℕ). flat_map subidentifier_octets l) more
-        ∙ sym (flat_map_more subidentifier_octets [] (take i arcs) arc) in
+    ∙ sym (flat_map_more subidentifier_octets [] (take i arcs) arc) in
     let long : length (subidentifier_octets arc) ≡ k = length-last_octets arc (digit_count arc)
-        ∙ same_digits arc (digit_count arc) k (digits_of arc) h in
+    ∙ same_digits arc (digit_count arc) k (digits_of arc) h in
     let sum = ap length whole ∙ length-append old (subidentifier_octets arc) in
     omega arith
 
@@ -68,7 +68,7 @@ unfolding octets_left subidentifier_octets last_octets
 next_arc n arc k arcs others e h =
     ap (λ (l : List ℕ). flat_map subidentifier_octets l) e
     ∙ ap (λ (j : ℕ). last_octets arc j ++ flat_map subidentifier_octets others)
-        (same_digits arc (digit_count arc) k (digits_of arc) h)
+    (same_digits arc (digit_count arc) k (digits_of arc) h)
 
 pub none_left : (n : ℕ) (arcs : List ℕ) → length arcs ≡ 0 → octets_left n 0 arcs ≡ []
 unfolding octets_left last_octets
@@ -106,7 +106,7 @@ gives_more n (suc zero) digit arcs some more is = absurd (more (omega arith))
 gives_more n (suc (suc k)) digit arcs some more is =
     let e : suc (suc k) - 1 ≡ suc k = omega arith in
     let d : digit ≡ n / 128 ^ suc k % 128 = is ∙ ap (λ (j : ℕ). n / 2 ^ (7 * j) % 128) e
-        ∙ ap (λ (p : ℕ). n / p % 128) (sevens (suc k)) in
+    ∙ ap (λ (p : ℕ). n / p % 128) (sevens (suc k)) in
     ap (λ (l : List ℕ). l ++ flat_map subidentifier_octets arcs) (octet_before n k)
     ∙ ap (λ (x : ℕ). (128 + x) ∷ (last_octets n (suc k) ++ flat_map subidentifier_octets arcs)) (sym d)
     ∙ ap (λ (j : ℕ). (128 + digit) ∷ (last_octets n j ++ flat_map subidentifier_octets arcs)) (sym e)

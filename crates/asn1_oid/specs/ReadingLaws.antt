@@ -99,7 +99,7 @@ ended true n octet octets ms ns lt rest these first = record {
 }
 ended false n octet octets ms ns lt rest these first = λ z.
     let one : IsSubidentifier (128 * n + octet % 128) (octet ∷ []) =
-        record { series = inl (lt, refl); value = omega arith; fewest = first refl } in
+    record { series = inl (lt, refl); value = omega arith; fewest = first refl } in
     subst (λ (l : List ℕ). AreSubidentifiers l (octet ∷ octets)) these (octet ∷ [], octets, one, rest, refl)
 
 -- an octet before others of its subidentifier
@@ -122,11 +122,11 @@ continued true n octet octets ns ge lt first g = record {
 continued false n octet octets ns ge lt first g = λ z.
     let none : 128 * n + octet % 128 ≡ octet % 128 = omega arith in
     let value : base_128 (octet ∷ g.front) ≡ g.number =
-        sym (g.value ∙ ap (λ (k : ℕ). k * 128 ^ length g.front + base_128 g.front) none) in
+    sym (g.value ∙ ap (λ (k : ℕ). k * 128 ^ length g.front + base_128 g.front) none) in
     let one : IsSubidentifier g.number (octet ∷ g.front) =
-        record { series = inr (ge, lt, g.series); value = value; fewest = first refl } in
+    record { series = inr (ge, lt, g.series); value = value; fewest = first refl } in
     subst (λ (l : List ℕ). AreSubidentifiers l (octet ∷ octets)) (sym g.these)
-        (octet ∷ g.front, g.rest, one, g.of_rest, ap (λ (l : List ℕ). octet ∷ l) g.parts)
+    (octet ∷ g.front, g.rest, one, g.of_rest, ap (λ (l : List ℕ). octet ∷ l) g.parts)
 
 walked : (begun : Bool) (n : ℕ) (octets ns : List ℕ) → All (λ octet. octet < 256) octets
     → numbers_from begun n octets ≡ Some ns → Walked begun n ns octets
@@ -138,17 +138,16 @@ walked begun n (octet ∷ octets) ns are e =
     let others : All (λ octet. octet < 256) octets = All-tail (λ octet. octet < 256) octet octets are in
     let m : ℕ = 128 * n + octet % 128 in
     elim (picked (not begun && eqb octet 128) no_numbers
-        (cond (ltb octet 128) (behind (m ∷ []) (numbers_from false 0 octets)) (numbers_from true m octets)) (Some ns) e)
-        [
+    (cond (ltb octet 128) (behind (m ∷ []) (numbers_from false 0 octets)) (numbers_from true m octets)) (Some ns) e) [
       | inl h ↦ absurd (none_is_no_some ns h.1)
       | inr h ↦
           let first : begun ≡ false → octet ≢ 128 = not_80 begun octet h.0 in
           elim (picked (ltb octet 128) (behind (m ∷ []) (numbers_from false 0 octets)) (numbers_from true m octets)
-              (Some ns) h.1) [
+          (Some ns) h.1) [
             | inl g ↦
                 let b = behind_some m (numbers_from false 0 octets) ns g.1 in
                 ended begun n octet octets b.0 ns (ltb-true _ _ g.0) (walked false 0 octets b.0 others b.1 refl) b.2
-                    first
+                first
             | inr g ↦ continued begun n octet octets ns (ltb-false _ _ g.0) small first
                 (walked true m octets ns others g.1)
           ]
@@ -172,7 +171,7 @@ one_read begun n (octet ∷ next ∷ octets) rest (inl p) first = absurd cc
 one_read begun n (octet ∷ octets) rest (inr p) first =
     let m : ℕ = 128 * n + octet % 128 in
     let value : m * 128 ^ length octets + base_128 octets ≡ n * 128 ^ suc (length octets) +
-        (octet % 128 * 128 ^ length octets + base_128 octets) =
+    (octet % 128 * 128 ^ length octets + base_128 octets) =
     grown n (octet % 128) (128 ^ length octets) (base_128 octets)
     ∙ ap (λ (k : ℕ). n * k + (octet % 128 * 128 ^ length octets + base_128 octets)) (power (length octets)) in
     goes_on begun n octet (octets ++ rest) p.0 first
@@ -244,7 +243,7 @@ test_from_fits n ns fit =
     let behind_first = All-tail (λ arc. arc < 2 ^ 32) (first_arc n) (second_arc n ∷ ns) fit in
     let lt : second_arc n < 2 ^ 32 = All-head (λ arc. arc < 2 ^ 32) (second_arc n) ns behind_first in
     rw (le-leb n largest_first (omega arith))
-        (others_test ns (All-tail (λ arc. arc < 2 ^ 32) (second_arc n) ns behind_first))
+    (others_test ns (All-tail (λ arc. arc < 2 ^ 32) (second_arc n) ns behind_first))
 
 -- ---- the reading, and contents
 
@@ -266,11 +265,11 @@ one_list_of_arcs xs ys octets c d =
     let p = arcs_by_numbers xs octets c in
     let q = arcs_by_numbers ys octets d in
     let same : (p.0 ∷ p.1) ≡ (q.0 ∷ q.1) = sym p.2
-        ∙ same_numbers _ _ (sym (numbers_of_contents xs octets c) ∙ numbers_of_contents ys octets d) ∙ q.2 in
+    ∙ same_numbers _ _ (sym (numbers_of_contents xs octets c) ∙ numbers_of_contents ys octets d) ∙ q.2 in
     let n : p.0 ≡ q.0 = cc in
     let ns : p.1 ≡ q.1 = cc in
     p.3 ∙ ap (λ (k : ℕ). first_arc k ∷ second_arc k ∷ p.1) n
-        ∙ ap (λ (l : List ℕ). first_arc q.0 ∷ second_arc q.0 ∷ l) ns ∙ sym q.3
+    ∙ ap (λ (l : List ℕ). first_arc q.0 ∷ second_arc q.0 ∷ l) ns ∙ sym q.3
 
 -- what a reading says of the octets
 pub Told : List ℕ → Result (List ℕ) ContentsError → Type 0
@@ -302,9 +301,11 @@ told_of octets (Some (n ∷ ns)) are e =
     by_test : (b : Bool) → (leb n largest_first && list_all other_fits ns) ≡ b
         → Told octets (cond b (Ok (first_arc n ∷ second_arc n ∷ ns)) (Err ArcTooLarge))
     by_test true t = (contents, fits_from_test n ns t)
-    by_test false t =
-        (first_arc n ∷ second_arc n ∷ ns, contents,
-        λ fit. absurd (let no : true ≡ false = sym (test_from_fits n ns fit) ∙ t in cc))
+    by_test false t = (
+      first_arc n ∷ second_arc n ∷ ns,
+      contents,
+      λ fit. absurd (let no : true ≡ false = sym (test_from_fits n ns fit) ∙ t in cc),
+    )
 
 pub told : (octets : List ℕ) → All (λ octet. octet < 256) octets → Told octets (contents_reading octets)
 unfolding contents_reading

@@ -97,7 +97,7 @@ split_digits n p some =
     let high : q / 128 * 128 + q % 128 ≡ q = div-add-mod' q 128 in
     let cut : q * p ≡ q / 128 * (128 * p) + q % 128 * p =
     ap (λ (k : ℕ). k * p) (sym high) ∙ add-mul (q / 128 * 128) (q % 128) p
-        ∙ ap (λ (k : ℕ). k + q % 128 * p) (mul_assoc (q / 128) 128 p) in
+    ∙ ap (λ (k : ℕ). k + q % 128 * p) (mul_assoc (q / 128) 128 p) in
     let whole : n ≡ q / 128 * (128 * p) + (q % 128 * p + n % p) = omega arith in
     let below : q % 128 * p + n % p < p * 128 = mul-add-lt (q % 128) p (n % p) 128 (omega arith) low in
     let fits : q % 128 * p + n % p < 128 * p = omega arith in
@@ -145,9 +145,13 @@ last_octets_are n (suc k) h = record {
 subidentifiers_of : (ns : List ℕ) → AreSubidentifiers ns (flat_map subidentifier_octets ns)
 unfolding subidentifier_octets
 subidentifiers_of [] = refl
-subidentifiers_of (n ∷ ns) =
-    (last_octets n (digit_count n), flat_map subidentifier_octets ns, last_octets_are n (digit_count n) (digits_of n),
-    subidentifiers_of ns, refl)
+subidentifiers_of (n ∷ ns) = (
+  last_octets n (digit_count n),
+  flat_map subidentifier_octets ns,
+  last_octets_are n (digit_count n) (digits_of n),
+  subidentifiers_of ns,
+  refl,
+)
 
 pub left_are : (n k : ℕ) (arcs : List ℕ) → HasDigits n k → AreSubidentifiers (n ∷ arcs) (octets_left n k arcs)
 unfolding octets_left
@@ -169,7 +173,7 @@ lower_digits m n (suc k) j le =
     same_digit i e =
         let p : ℕ = 128 ^ k in
         let power : 128 ^ j ≡ 128 ^ i * (128 * p) = ap (λ (x : ℕ). 128 ^ x) e ∙ pow-add 128 i (suc k)
-            ∙ ap (λ (x : ℕ). 128 ^ i * x) (next_power k) in
+        ∙ ap (λ (x : ℕ). 128 ^ i * x) (next_power k) in
         let c : ℕ = m * 128 ^ i * 128 in
         let parts : m * 128 ^ j ≡ c * p =
         ap (λ (x : ℕ). m * x) power ∙ sym (mul_assoc m (128 ^ i) (128 * p)) ∙ sym (mul_assoc (m * 128 ^ i) 128 p) in
@@ -177,7 +181,7 @@ lower_digits m n (suc k) j le =
         let here : n / p * p + n % p ≡ n = div-add-mod' n p in
         let sum : c * p + n ≡ (c + n / p) * p + n % p = let a = add-mul c (n / p) p in omega arith in
         let cut : (m * 128 ^ j + n) / p ≡ c + n / p = ap (λ (x : ℕ). (x + n) / p) parts ∙ ap (λ (x : ℕ). x / p) sum
-            ∙ div-mul-add (c + n / p) p (n % p) low in
+        ∙ div-mul-add (c + n / p) p (n % p) low in
         ap (λ (x : ℕ). x % 128) cut ∙ omega arith
 
 below_power : (octets : List ℕ) → base_128 octets < 128 ^ length octets
@@ -211,9 +215,9 @@ series_is (octet ∷ next ∷ octets) (inr p) =
     let digit : (d * q + n) / q ≡ d = div-mul-add d q n low in
     let head : 128 + (d * q + n) / q % 128 ≡ octet = ap (λ (x : ℕ). 128 + x % 128) digit ∙ omega arith in
     let behind : last_octets (d * q + n) (length tail) ≡ tail =
-        lower_digits d n (length tail) (length tail) (omega arith) ∙ sym (series_is (next ∷ octets) p.2) in
+    lower_digits d n (length tail) (length tail) (omega arith) ∙ sym (series_is (next ∷ octets) p.2) in
     sym (octet_before (d * q + n) (length octets) ∙ ap (λ (x : ℕ). x ∷ last_octets (d * q + n) (length tail)) head
-        ∙ ap (λ (l : List ℕ). octet ∷ l) behind)
+    ∙ ap (λ (l : List ℕ). octet ∷ l) behind)
 
 -- and as many as the number has digits
 series_digits : (octets : List ℕ) → IsSeries octets → slice_index octets 0 ≢ 128
@@ -243,7 +247,7 @@ pub only_octets : (n : ℕ) (octets : List ℕ) → IsSubidentifier n octets →
 unfolding subidentifier_octets
 only_octets n octets s =
     let digits : HasDigits n (length octets) =
-        subst (λ (m : ℕ). HasDigits m (length octets)) s.value (series_digits octets s.series s.fewest) in
+    subst (λ (m : ℕ). HasDigits m (length octets)) s.value (series_digits octets s.series s.fewest) in
     series_is octets s.series ∙ ap (λ (m : ℕ). last_octets m (length octets)) s.value
     ∙ ap (last_octets n) (same_digits n (length octets) (digit_count n) digits (digits_of n))
 
@@ -251,7 +255,7 @@ only_subidentifiers : (ns octets : List ℕ) → AreSubidentifiers ns octets →
 only_subidentifiers [] octets e = e
 only_subidentifiers (n ∷ ns) octets s =
     s.4 ∙ ap (λ (l : List ℕ). l ++ s.1) (only_octets n s.0 s.2)
-        ∙ ap (λ (l : List ℕ). subidentifier_octets n ++ l) (only_subidentifiers ns s.1 s.3)
+    ∙ ap (λ (l : List ℕ). subidentifier_octets n ++ l) (only_subidentifiers ns s.1 s.3)
 
 -- arcs have one contents
 pub contents_only : (arcs a b : List ℕ) → IsContents arcs a → IsContents arcs b → a ≡ b
@@ -262,7 +266,7 @@ pub one_contents : EachHasOneContents
 one_contents arcs valid two =
     let octets : List ℕ = flat_map subidentifier_octets (subidentifiers arcs) in
     let are : IsContents arcs octets =
-        record { valid = valid; two = two; spelled = subidentifiers_of (subidentifiers arcs) } in
+    record { valid = valid; two = two; spelled = subidentifiers_of (subidentifiers arcs) } in
     (octets, are, λ other c. contents_only arcs other octets c are)
 
 -- ---- contents are octets
@@ -272,7 +276,7 @@ series_octets [] series = absurd series
 series_octets (octet ∷ octets) (inl p) =
     let lt = p.0 in
     subst (λ (l : List ℕ). All (λ octet. octet < 256) (octet ∷ l)) (sym p.1)
-        (All-cons (λ octet. octet < 256) octet [] (omega arith) (All-nil (λ octet. octet < 256)))
+    (All-cons (λ octet. octet < 256) octet [] (omega arith) (All-nil (λ octet. octet < 256)))
 series_octets (octet ∷ octets) (inr p) = All-cons (λ octet. octet < 256) octet octets p.1 (series_octets octets p.2)
 
 subidentifiers_octets : (ns octets : List ℕ) → AreSubidentifiers ns octets → All (λ octet. octet < 256) octets

@@ -60,7 +60,7 @@ pub goes_up : (list : List ℕ) (low high character start probes limit : ℕ) �
     → Searching list (low + (high - low) / 2 + 1) high character start (probes + 1) limit
 goes_up list low high character start probes limit rises s some less =
     let half =
-        halved (high - low) (high - (low + (high - low) / 2 + 1)) s.budget (omega arith) (omega arith) s.narrow in
+    halved (high - low) (high - (low + (high - low) / 2 + 1)) s.budget (omega arith) (omega arith) s.narrow in
     record {
       ordered = omega arith;
       within = s.within;
@@ -99,16 +99,18 @@ absent (x ∷ list) c none = rw (none 0 (omega arith)) (absent list c (λ k h. n
 pub nowhere : (list : List ℕ) (low high character start probes limit : ℕ)
     → Searching list low high character start probes limit → high ≤ low → has_character list character ≡ false
 nowhere list low high character start probes limit s done =
-    absent list character (λ k h. elim (cases_lt k low)
-        [ inl lt ↦ (let less = s.below k lt in grind (arith, nat_tests)) | inr le ↦
-        (let more = s.above k (omega arith) h in grind (arith, nat_tests)) ])
+    absent list character (λ k h. elim (cases_lt k low) [
+      | inl lt ↦ (let less = s.below k lt in grind (arith, nat_tests))
+      | inr le ↦
+          (let more = s.above k (omega arith) h in grind (arith, nat_tests))
+    ])
 
 -- while something is left, so is a probe
 pub one_more : (list : List ℕ) (low high character start probes limit : ℕ)
     → Searching list low high character start probes limit → low < high → probes + 1 ≤ limit
 one_more list low high character start probes limit s some =
     let half =
-        halved (high - low) 0 s.budget (omega arith) (omega arith) s.narrow in omega (arith, s.spent, half.one_less)
+    halved (high - low) 0 s.budget (omega arith) (omega arith) s.narrow in omega (arith, s.spent, half.one_less)
 
 -- what rises from each entry to the next never falls
 rises_by : (xs : List ℕ) → ((k : ℕ) → k + 1 < length xs → get_or xs k 0 ≤ get_or xs (k + 1) 0) → (d i : ℕ)
@@ -134,6 +136,6 @@ neighbours_differ xs rises apart i j d lt within =
     let here = rises i (i + 1) d (omega arith) (omega arith) in
     let up = rises (i + 1) j d (omega arith) within in
     let other : get_or xs i d ≢ get_or xs (i + 1) d =
-        rw (get_or_default xs i d 0 (omega arith), get_or_default xs (i + 1) d 0 (omega arith))
-        (apart i (omega arith)) in
+    rw (get_or_default xs i d 0 (omega arith), get_or_default xs (i + 1) d 0 (omega arith))
+    (apart i (omega arith)) in
     λ e. other (omega arith)

@@ -55,7 +55,7 @@ keyed_right name get keys right =
     (λ k h.
     let lt : k < length keys = rw (length-map keys (λ (k : ℕ). unwrap_or (get k) 0)) at h in
     rw (get_or-map (λ (k : ℕ). unwrap_or (get k) 0) keys k 0 0 lt)
-        (right_key name (get (get_or keys k 0)) (right k lt)))
+    (right_key name (get (get_or keys k 0)) (right k lt)))
     ∙ ap Ok (sym (kept_all name get keys right))
     ∙ sym (ap (after_search name get keys) (find_nothing (is_wrong_key name get) keys right))
 
@@ -65,7 +65,7 @@ pub keyed_missing : (name : CharacterSetName) (get : ℕ → Option ℕ) (keys :
     → string_of_keys name get keys ≡ Err (IndexNotFound (get_or keys i 0))
 keyed_missing name get keys i lt before none =
     keyed_wrong name get keys i lt before
-        (ap (λ o. option_map_or (λ c. not (has_character (base_set name) c)) o true) none)
+    (ap (λ o. option_map_or (λ c. not (has_character (base_set name) c)) o true) none)
     ∙ ap (λ o. Err (key_error name (get_or keys i 0) o)) none
 
 -- the character at the first wrong key is not in the set
@@ -75,5 +75,5 @@ pub keyed_outside : (name : CharacterSetName) (get : ℕ → Option ℕ) (keys :
     → string_of_keys name get keys ≡ Err (InvalidRestrictedString (own_error name c))
 keyed_outside name get keys i c lt before some outside =
     keyed_wrong name get keys i lt before
-        (ap (λ o. option_map_or (λ c. not (has_character (base_set name) c)) o true) some ∙ ap not outside)
+    (ap (λ o. option_map_or (λ c. not (has_character (base_set name) c)) o true) some ∙ ap not outside)
     ∙ ap (λ o. Err (key_error name (get_or keys i 0) o)) some

@@ -47,7 +47,7 @@ pub filled : (n : ℕ) (units rest octets : List ℕ) → length units ≡ n
     → map (λ (x : ℕ). x) (take n (units ++ rest)) ≡ map unsigned (pieces 2 octets)
 filled n units rest octets long is =
     map-id (take n (units ++ rest)) ∙ ap (λ k. take k (units ++ rest)) (sym long) ∙ take-append_seam units rest ∙ is
-        ∙ sym (pairs octets)
+    ∙ sym (pairs octets)
 
 -- octets whose characters the set has are a string
 pub string_of_whole : (name : CharacterSetName) (w : ℕ) (octets : List ℕ) → w ≢ 0 → length octets % w ≡ 0

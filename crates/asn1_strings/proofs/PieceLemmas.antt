@@ -30,7 +30,7 @@ unsigned-gathered octets = gathered_from octets 0 ∙ omega arith
 pub octet_step : (i n octet : ℕ) → n < 2 ^ (8 * i) → octet < 256 → 256 * n + octet < 2 ^ (8 * (i + 1))
 octet_step i n octet low small =
     let grown : 2 ^ (8 * (i + 1)) ≡ 2 ^ (8 * i) * 256 =
-        ap (λ e. 2 ^ e) (let e : 8 * (i + 1) ≡ 8 * i + 8 = omega arith in e) ∙ pow-add 2 (8 * i) 8 in
+    ap (λ e. 2 ^ e) (let e : 8 * (i + 1) ≡ 8 * i + 8 = omega arith in e) ∙ pow-add 2 (8 * i) 8 in
     omega arith
 
 -- and one more of at most four
@@ -45,7 +45,7 @@ pub get_or-pieces : {X : Type 0} (f : List X → ℕ) (w : ℕ) (xs : List X) (i
     → get_or (map f (pieces w xs)) i 0 ≡ f (piece w xs i)
 get_or-pieces f w xs i lt =
     get_or-map f (pieces w xs) i [] 0 (rw (length-pieces w xs) lt)
-        ∙ ap f (get_or-map-range_with_len (piece w xs) 0 (length xs / w) i i [] lt (omega arith))
+    ∙ ap f (get_or-map-range_with_len (piece w xs) 0 (length xs / w) i i [] lt (omega arith))
 
 pub length-numbers : {X : Type 0} (f : List X → ℕ) (w : ℕ) (xs : List X)
     → length (map f (pieces {X = X} w xs)) ≡ length xs / w

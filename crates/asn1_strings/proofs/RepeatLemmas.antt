@@ -64,7 +64,7 @@ run_once : (n a : ℕ) (ys : List ℕ) → ((c : ℕ) → a ≤ c → c < a + n 
 run_once zero a ys none once = once
 run_once (suc n) a ys none once =
     let later : has_character (range_with_len (a + 1) n) a ≡ false = has_in_run (a + 1) n a
-        ∙ grind (arith, nat_tests) in
+    ∙ grind (arith, nat_tests) in
     let after : has_character ys a ≡ false = none a (omega arith) (omega arith) in
     rw (list_any-append (λ x. eqb x a) (range_with_len (a + 1) n) ys, later, after)
     (run_once n (a + 1) ys (λ c low high. none c (omega arith) (omega arith)) once)
@@ -75,7 +75,7 @@ once_in (r ∷ rs) away =
     let first : list_all (λ q. ltb r.1 q.0 || ltb q.1 r.0) rs ≡ true = grind (arith, nat_tests) in
     let rest : apart rs ≡ true = grind (arith, nat_tests) in
     run_once (r.1 + 1 - r.0) r.0 (flat_map characters_between rs)
-        (λ c low high. has_in_ranges rs c ∙ outside r rs c first low (omega arith)) (once_in rs rest)
+    (λ c low high. has_in_ranges rs c ∙ outside r rs c first low (omega arith)) (once_in rs rest)
 
 apart_base : (name : CharacterSetName) → apart (ranges_of name) ≡ true
 apart_base Bmp = refl

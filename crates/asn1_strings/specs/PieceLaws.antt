@@ -15,7 +15,7 @@ shifted w p rest long zero i = refl
 shifted w p rest long (suc n) i =
     let next : (i + 1) * w ≡ length p + i * w = rw long (omega arith) in
     let head : piece w (p ++ rest) (i + 1) ≡ piece w rest i =
-        ap (take w) (ap (λ k. drop k (p ++ rest)) next ∙ drop-append-add p rest (i * w)) in
+    ap (take w) (ap (λ k. drop k (p ++ rest)) next ∙ drop-append-add p rest (i * w)) in
     rw (head, shifted w p rest long n (i + 1)) refl
 
 -- a list that begins with a piece has it as its first piece
@@ -23,10 +23,10 @@ pub pieces_cons : {X : Type 0} (w : ℕ) (p rest : List X) → 0 < w → length 
     pieces w (p ++ rest) ≡ p ∷ pieces w rest
 pieces_cons w p rest some long =
     let count : length (p ++ rest) / w ≡ suc (length rest / w) =
-        ap (λ n. n / w) (length-append p rest ∙ ap (λ n. n + length rest) long) ∙ add-div_left (length rest) some
-        ∙ omega arith in
+    ap (λ n. n / w) (length-append p rest ∙ ap (λ n. n + length rest) long) ∙ add-div_left (length rest) some
+    ∙ omega arith in
     let first : piece w (p ++ rest) 0 ≡ p = let none : 0 * w ≡ 0 =
-        omega arith in rw none (ap (λ n. take n (p ++ rest)) (sym long) ∙ take-append_seam p rest) in
+    omega arith in rw none (ap (λ n. take n (p ++ rest)) (sym long) ∙ take-append_seam p rest) in
     rw count (rw (first, shifted w p rest long (length rest / w) 0) refl)
 
 pub length-pieces : {X : Type 0} (w : ℕ) (xs : List X) → length (pieces w xs) ≡ length xs / w
@@ -57,5 +57,4 @@ pub joined : {X : Type 0} (w : ℕ) (xs : List X) → 0 < w → length xs % w �
     flat_map (λ p. p) (pieces w xs) ≡ xs
 joined w xs some even =
     let count : length xs ≡ length xs / w * w =
-        omega (arith, div-add-mod' (length xs) w) in joined_count w (length xs / w) xs some count
-
+    omega (arith, div-add-mod' (length xs) w) in joined_count w (length xs / w) xs some count

@@ -8,8 +8,13 @@ pub bits_exact : (len : ℕ) → IsExact (OfBits len) (field_at (OfBits len))
 unfolding field_at
 bits_exact len =
     cut_exact (OfBits len) len bits_content
-    (record { taken = taken; again = again; reason = λ front rest fault n e. absurd (no_fault _ _ e); short =
-    λ list k s. s })
+    (record {
+      taken = taken;
+      again = again;
+      reason = λ front rest fault n e. absurd (no_fault _ _ e);
+      short =
+          λ list k s. s;
+    })
   where
     taken : (front : List Bool) (field : Field) → length front ≡ len → bits_content front ≡ Ok field
         → IsOfShape field (OfBits len) × IsSpelledBy field front

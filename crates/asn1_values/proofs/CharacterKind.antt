@@ -82,9 +82,11 @@ character_exact a fit =
         let code : IsCode a c k = subst (λ (x : Alphabet). IsCode x c k) shape s.1 in
         let is : front ≡ digits k a.width = s.2 ∙ ap (λ (x : Alphabet). digits k x.width) shape in
         let n : number front ≡ k = ap number is ∙ number_of-digits k a.width (fit c k code) in
-        let d : character_of a (number front) ≡ Some c = ap (character_of a) n ∙ character_from_code a c k code in
-        (ap length is ∙ length-digits k a.width, ap (λ (o : Option ℕ). character_or_none a (number front) o) d
-            ∙ ap (λ (x : Alphabet). Ok (Character x c)) (sym shape))
+        let d : character_of a (number front) ≡ Some c = ap (character_of a) n ∙ character_from_code a c k code in (
+          ap length is ∙ length-digits k a.width,
+          ap (λ (o : Option ℕ). character_or_none a (number front) o) d
+              ∙ ap (λ (x : Alphabet). Ok (Character x c)) (sym shape),
+        )
     again field front shape s = absurd shape
 
     reason : (front rest : List Bool) (fault : Fault) → length front ≡ a.width → character_content a front ≡ Err fault
@@ -92,9 +94,12 @@ character_exact a fit =
     reason front rest fault len e =
         let h = held_none a (number front) (character_of a (number front)) fault e in
         let cut : take a.width (front ++ rest) ≡ front = take_at front rest a.width len in
-        subst (λ (f : Fault). IsReason (OfCharacter a) (front ++ rest) f) h.1
-        (omega (arith, length-append front rest), ap number (sym cut), λ c code. no_character
-            (character_of a (number front)) c (character_from_code a c (number front) code) h.0)
+        subst (λ (f : Fault). IsReason (OfCharacter a) (front ++ rest) f) h.1 (
+          omega (arith, length-append front rest),
+          ap number (sym cut),
+          λ c code. no_character
+              (character_of a (number front)) c (character_from_code a c (number front) code) h.0,
+        )
 
 -- ---- what is read of them
 
@@ -118,8 +123,8 @@ unfolding field_at cut_at failed
 character_there a list ok =
     let k : ℕ = number (take a.width list) in
     let h =
-        chosen_ok (ltb (length list) a.width) (Short (a.width - length list))
-        (with_rest (drop a.width list) (character_content a (take a.width list))) ok in
+    chosen_ok (ltb (length list) a.width) (Short (a.width - length list))
+    (with_rest (drop a.width list) (character_content a (take a.width list))) ok in
     (ltb-false _ _ h.0, coded a k (drop a.width list) (character_of a k) refl h.1)
 
 pub character_refused : (a : Alphabet) (list : List Bool) (k : ℕ) → a.width ≤ length list

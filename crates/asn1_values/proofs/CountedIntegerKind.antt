@@ -76,15 +76,19 @@ counted_takes list k (Integer n) rest le is count t =
     let o : List ℕ = t.spelled.0 in
     let len : length o ≡ k = ap length (same_shortest n o t.of_shape.0 t.spelled.1 t.of_shape.1) ∙ t.of_shape.2 in
     let first : take 8 list ≡ digits (length o) 8 =
-        sym (digits_of-number (take 8 list) 8 (omega (arith, length-take 8 list)))
-        ∙ ap (λ (m : ℕ). digits m 8) (sym is ∙ sym len) in
+    sym (digits_of-number (take 8 list) 8 (omega (arith, length-take 8 list)))
+    ∙ ap (λ (m : ℕ). digits m 8) (sym is ∙ sym len) in
     let small = count.1 in
     record {
       front = take 8 list ++ t.front;
       of_shape = tt;
-      spelled =
-          (o, t.spelled.1, omega arith, ap (λ (l : List Bool). l ++ t.front) first
-          ∙ ap (λ (l : List Bool). digits (length o) 8 ++ l) t.spelled.2 ∙ sym (bits_more o));
+      spelled = (
+        o,
+        t.spelled.1,
+        omega arith,
+        ap (λ (l : List Bool). l ++ t.front) first
+            ∙ ap (λ (l : List Bool). digits (length o) 8 ++ l) t.spelled.2 ∙ sym (bits_more o),
+      );
       parts = sym (take-append-drop 8 list) ∙ ap (λ (l : List Bool). take 8 list ++ l) t.parts
           ∙ sym (append_assoc (take 8 list) t.front rest);
     }
@@ -117,17 +121,17 @@ counted_exact = record { taken = taken; again = again; reason = reason }
     taken list field rest e =
         let k : ℕ = number (take 8 list) in
         elim (chosen (ltb (length list) 8) (failed (Short (8 - length list))) (counted_at k (drop 8 list))
-            (Ok (field, rest)) e) [
+        (Ok (field, rest)) e) [
           | inl h ↦ absurd (err_is_no_ok _ _ h.1)
           | inr h ↦ elim (chosen (eqb k 0 || ltb 127 k) (failed (NoLength k)) (counted (integer_at k (drop 8 list)))
               (Ok (field, rest)) h.1) [
-            | inl g ↦ absurd (err_is_no_ok _ _ g.1)
-            | inr g ↦
-                let x = counted_ok (integer_at k (drop 8 list)) field rest g.1 in
-                let t = (integer_exact k).taken (drop 8 list) x.0.0 x.0.1 (sym (at_integer k (drop 8 list)) ∙ x.1) in
-                subst (λ (p : Field × List Bool). Takes OfCountedInteger list p.0 p.1) x.2
-                (counted_takes list k x.0.0 x.0.1 (ltb-false _ _ h.0) refl (count_from k g.0) t)
-          ]
+                | inl g ↦ absurd (err_is_no_ok _ _ g.1)
+                | inr g ↦
+                    let x = counted_ok (integer_at k (drop 8 list)) field rest g.1 in
+                    let t = (integer_exact k).taken (drop 8 list) x.0.0 x.0.1 (sym (at_integer k (drop 8 list)) ∙ x.1) in
+                    subst (λ (p : Field × List Bool). Takes OfCountedInteger list p.0 p.1) x.2
+                    (counted_takes list k x.0.0 x.0.1 (ltb-false _ _ h.0) refl (count_from k g.0) t)
+              ]
         ]
 
     again : (field : Field) (front rest : List Bool) → IsOfShape field OfCountedInteger → IsSpelledBy field front
@@ -142,15 +146,15 @@ counted_exact = record { taken = taken; again = again; reason = reason }
         ap (λ (l : List Bool). l ++ rest) (s.3 ∙ bits_more o) ∙ append_assoc (digits (length o) 8) (bits o) rest in
         let first : number (take 8 list) ≡ length o =
         ap (λ (l : List Bool). number (take 8 l)) whole
-            ∙ ap number (take_at (digits (length o) 8) (bits o ++ rest) 8 len)
-            ∙ number_of-digits (length o) 8 (omega arith) in
+        ∙ ap number (take_at (digits (length o) 8) (bits o ++ rest) 8 len)
+        ∙ number_of-digits (length o) 8 (omega arith) in
         let behind : drop 8 list ≡ bits o ++ rest = ap (drop 8) whole
-            ∙ drop_at (digits (length o) 8) (bits o ++ rest) 8 len in
+        ∙ drop_at (digits (length o) 8) (bits o ++ rest) 8 len in
         let long : ltb (length list) 8 ≡ false =
-            le-ltb _ _ (omega (arith, ap length whole, length-append (digits (length o) 8) (bits o ++ rest))) in
+        le-ltb _ _ (omega (arith, ap length whole, length-append (digits (length o) 8) (bits o ++ rest))) in
         let read : integer_at (length o) (bits o ++ rest) ≡ Ok (Integer n, rest) =
         at_integer (length o) (bits o ++ rest)
-            ∙ (integer_exact (length o)).again (Integer n) (bits o) rest (o, s.1, refl) (o, s.1, refl) in
+        ∙ (integer_exact (length o)).again (Integer n) (bits o) rest (o, s.1, refl) (o, s.1, refl) in
         rw (long, first, behind, count_test (length o) (omega arith, small), read) refl
     again field front rest shape s = absurd shape
 
@@ -159,20 +163,20 @@ counted_exact = record { taken = taken; again = again; reason = reason }
     reason list fault e =
         let k : ℕ = number (take 8 list) in
         elim (chosen (ltb (length list) 8) (failed (Short (8 - length list))) (counted_at k (drop 8 list)) (Err fault)
-            e) [
+        e) [
           | inl h ↦
               let lt : length list < 8 = ltb-true _ _ h.0 in
               subst (λ (f : Fault). IsReason OfCountedInteger list f) (err_is _ _ h.1) (inl (omega arith, omega arith))
           | inr h ↦
               let le : 8 ≤ length list = ltb-false _ _ h.0 in
               elim (chosen (eqb k 0 || ltb 127 k) (failed (NoLength k)) (counted (integer_at k (drop 8 list)))
-                  (Err fault) h.1) [
+              (Err fault) h.1) [
                 | inl g ↦ subst (λ (f : Fault). IsReason OfCountedInteger list f) (err_is _ _ g.1)
                     (le, refl, no_count k g.0)
                 | inr g ↦
                     let r =
-                        (integer_exact k).reason (drop 8 list) fault
-                        (sym (at_integer k (drop 8 list)) ∙ counted_err _ fault g.1) in
+                    (integer_exact k).reason (drop 8 list) fault
+                    (sym (at_integer k (drop 8 list)) ∙ counted_err _ fault g.1) in
                     counted_reason list fault le (count_from k g.0) r
               ]
         ]
@@ -191,7 +195,7 @@ integer_there (Err fault) e = absurd cc
 -- where a counted integer can be read, its first octet is there, and behind it an integer of so many octets
 pub counted_there : (list : List Bool) → is_ok (field_at OfCountedInteger list) ≡ true
     → (8 ≤ length list) × (is_no_count (first_octet list) ≡ false)
-        × (is_ok (integer_at (first_octet list) (drop 8 list)) ≡ true)
+    × (is_ok (integer_at (first_octet list) (drop 8 list)) ≡ true)
 unfolding field_at counted_at failed is_no_count
 counted_there list ok =
     let k : ℕ = first_octet list in

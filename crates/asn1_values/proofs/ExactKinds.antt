@@ -76,7 +76,7 @@ module _ (shape : Shape) (n : ℕ) (content : List Bool → Result Field Fault) 
   unfolding cut_at
   cut_taken list field rest e =
       elim (chosen (ltb (length list) n) (Err (Short (n - length list)))
-          (with_rest (drop n list) (content (take n list))) (Ok (field, rest)) e) [
+      (with_rest (drop n list) (content (take n list))) (Ok (field, rest)) e) [
         | inl h ↦ absurd (err_is_no_ok _ _ h.1)
         | inr h ↦
             let long : n ≤ length list = ltb-false _ _ h.0 in
@@ -102,16 +102,16 @@ module _ (shape : Shape) (n : ℕ) (content : List Bool → Result Field Fault) 
   unfolding cut_at
   cut_reason list fault e =
       elim (chosen (ltb (length list) n) (Err (Short (n - length list)))
-          (with_rest (drop n list) (content (take n list))) (Err fault) e) [
+      (with_rest (drop n list) (content (take n list))) (Err fault) e) [
         | inl h ↦
             let short : length list < n = ltb-true _ _ h.0 in
             subst (λ (f : Fault). IsReason shape list f) (err_is _ _ h.1)
-                (exact.short list (n - length list) (omega arith, omega arith))
+            (exact.short list (n - length list) (omega arith, omega arith))
         | inr h ↦
             let long : n ≤ length list = ltb-false _ _ h.0 in
             let c = fault_with (content (take n list)) (drop n list) fault h.1 in
             subst (λ (l : List Bool). IsReason shape l fault) (take-append-drop n list)
-                (exact.reason (take n list) (drop n list) fault (omega (arith, length-take n list)) c)
+            (exact.reason (take n list) (drop n list) fault (omega (arith, length-take n list)) c)
       ]
 
   pub cut_exact : IsExact shape (cut_at n content)

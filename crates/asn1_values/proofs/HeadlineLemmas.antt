@@ -104,9 +104,9 @@ pub read_octets : (count : ℕ) (list left : List Bool) (octets : List ℕ) → 
 read_octets count list left octets le rest is are =
     let len : length octets ≡ count = omega (arith, length-bits octets, ap length is, length-take (8 * count) list) in
     let whole : list ≡ take (8 * count) list ++ left = sym (take-append-drop (8 * count) list)
-        ∙ ap (λ (l : List Bool). take (8 * count) list ++ l) (sym rest) in
+    ∙ ap (λ (l : List Bool). take (8 * count) list ++ l) (sym rest) in
     ap (field_at (plain.OfOctets count)) whole
-        ∙ (octets_exact count).again (plain.Octets octets) (take (8 * count) list) left len (are, sym is)
+    ∙ (octets_exact count).again (plain.Octets octets) (take (8 * count) list) left len (are, sym is)
 
 pub accepted : (list : List Bool) (ss : List Shape) (e : ReadError)
     → past_all 0 (fields_at (plain_shapes ss) list) ≡ Err e → CanBegin list (plain_shapes ss) → ⊥
@@ -123,25 +123,25 @@ pub one_list : (ss : List Shape) (xs ys : List plain.Field) (list : List Bool) �
     → AllZip IsOfShape ys (plain_shapes ss) → AreSpelledBy xs list → AreSpelledBy ys list → xs ≡ ys
 one_list ss xs ys list zx zy p q =
     let a : Begins list (plain_shapes ss) xs [] =
-        record { of_shapes = zx; front = list; spelled = p; parts = sym (append-nil list) } in
+    record { of_shapes = zx; front = list; spelled = p; parts = sym (append-nil list) } in
     let b : Begins list (plain_shapes ss) ys [] =
-        record { of_shapes = zy; front = list; spelled = q; parts = sym (append-nil list) } in
+    record { of_shapes = zy; front = list; spelled = q; parts = sym (append-nil list) } in
     (only_fields (plain_shapes ss) list xs ys [] [] (are_exact ss) a b).0
 
 -- and no concatenation begins that of other fields of the shapes
 pub none_begins_another : (ss : List Shape) → NoneBeginsAnother (plain_shapes ss)
 none_begins_another ss xs ys front rest zx zy p q =
     let a : Begins (front ++ rest) (plain_shapes ss) xs rest =
-        record { of_shapes = zx; front = front; spelled = p; parts = refl } in
+    record { of_shapes = zx; front = front; spelled = p; parts = refl } in
     let b : Begins (front ++ rest) (plain_shapes ss) ys [] =
-        record { of_shapes = zy; front = front ++ rest; spelled = q; parts = sym (append-nil (front ++ rest)) } in
+    record { of_shapes = zy; front = front ++ rest; spelled = q; parts = sym (append-nil (front ++ rest)) } in
     only_fields (plain_shapes ss) (front ++ rest) xs ys rest [] (are_exact ss) a b
 
 -- no spelling of one field begins that of another
 each_alone_of : (shape : plain.Shape) → IsExact shape (field_at shape) → NoSpellingBeginsAnother shape
 each_alone_of shape exact x y front rest sx sy p q =
     let whole : field_at shape (front ++ rest) ≡ Ok (y, []) = ap (field_at shape) (sym (append-nil (front ++ rest)))
-        ∙ exact.again y (front ++ rest) [] sy q in
+    ∙ exact.again y (front ++ rest) [] sy q in
     let same : (x, rest) ≡ (y, []) = ok_is _ _ (sym (exact.again x front rest sx p) ∙ whole) in
     (ap (λ (f : plain.Field × List Bool). f.0) same, ap (λ (f : plain.Field × List Bool). f.1) same)
 

@@ -52,9 +52,11 @@ module _ (count : ℕ) (some : 0 < count) where
       let o : List ℕ = s.0 in
       let len : length o ≡ count = contents_length arcs o count s.1 shape in
       let are = contents_octets arcs o s.1 in
-      let back : octets_of count front ≡ o = read_back count o front are len s.3 in
-      (omega (arith, ap length s.3, length-bits o), ap (λ (l : List ℕ). identifier_or_fault (contents_reading l)) back
-          ∙ ap identifier_or_fault (contents_read arcs o are s.1 s.2))
+      let back : octets_of count front ≡ o = read_back count o front are len s.3 in (
+        omega (arith, ap length s.3, length-bits o),
+        ap (λ (l : List ℕ). identifier_or_fault (contents_reading l)) back
+            ∙ ap identifier_or_fault (contents_read arcs o are s.1 s.2),
+      )
   again field front shape s = absurd shape
 
   reason : (front rest : List Bool) (fault : Fault) → length front ≡ 8 * count
@@ -79,12 +81,12 @@ module _ (count : ℕ) (some : 0 < count) where
           let n : length octets ≡ count = omega (arith, ap length here, length-bits octets) in
           let back = read_back count octets front (contents_octets arcs octets c) n here in
           none_from_reading (octets_of count front) are is arcs
-              (subst (λ (l : List ℕ). IsContents arcs l) (sym back) c) in
+          (subst (λ (l : List ℕ). IsContents arcs l) (sym back) c) in
           subst (λ (f : Fault). IsReason (OfIdentifier count) (front ++ rest) f) (fault_is _ _ h) (inr (enough, none))
       by_reading (Err ArcTooLarge) is h =
           let large = large_from_reading (octets_of count front) are is in
           let holds : HoldsLargeArc (take (8 * count) (front ++ rest)) =
-              (octets_of count front, large.0, cut ∙ sym (bits-octets_of count front len), large.1, large.2) in
+          (octets_of count front, large.0, cut ∙ sym (bits-octets_of count front len), large.1, large.2) in
           subst (λ (f : Fault). IsReason (OfIdentifier count) (front ++ rest) f) (fault_is _ _ h) (some, enough, holds)
       by_reading (Err Memory) is h = absurd (no_want_of_memory (octets_of count front) are is)
 
@@ -105,9 +107,9 @@ identifier_exact count = record { taken = taken_at; again = again_at; reason = r
     taken_at list field rest e =
         elim (chosen (eqb count 0) (Err NotIdentifier) (cut_at (8 * count) (identifier_content count) list)
         (Ok (field, rest)) e) [
-      | inl h ↦ absurd (err_is_no_ok _ _ h.1)
-      | inr h ↦ (exact h.0).taken list field rest h.1
-    ]
+          | inl h ↦ absurd (err_is_no_ok _ _ h.1)
+          | inr h ↦ (exact h.0).taken list field rest h.1
+        ]
 
     some_octets : (octets : List ℕ) (arcs : List ℕ) → IsContents arcs octets → length octets ≡ 0 → ⊥
     some_octets octets arcs c z = some_contents arcs octets c z
@@ -116,7 +118,7 @@ identifier_exact count = record { taken = taken_at; again = again_at; reason = r
         → field_at (OfIdentifier count) (front ++ rest) ≡ Ok (field, rest)
     again_at (Identifier arcs) front rest shape s =
         let some : eqb count 0 ≡ false =
-            ne_eqb count 0 (λ z. some_octets s.0 arcs s.1 (contents_length arcs s.0 count s.1 shape ∙ z)) in
+        ne_eqb count 0 (λ z. some_octets s.0 arcs s.1 (contents_length arcs s.0 count s.1 shape ∙ z)) in
         rw some ((exact some).again (Identifier arcs) front rest shape s)
     again_at field front rest shape s = absurd shape
 
@@ -125,10 +127,10 @@ identifier_exact count = record { taken = taken_at; again = again_at; reason = r
     reason_at list fault e =
         elim (chosen (eqb count 0) (Err NotIdentifier) (cut_at (8 * count) (identifier_content count) list) (Err fault)
         e) [
-      | inl h ↦ subst (λ (f : Fault). IsReason (OfIdentifier count) list f) (err_is _ _ h.1)
-          (inl (eqb-true count 0 h.0))
-      | inr h ↦ (exact h.0).reason list fault h.1
-    ]
+          | inl h ↦ subst (λ (f : Fault). IsReason (OfIdentifier count) list f) (err_is _ _ h.1)
+              (inl (eqb-true count 0 h.0))
+          | inr h ↦ (exact h.0).reason list fault h.1
+        ]
 
 -- ---- what is read of them
 
@@ -153,7 +155,7 @@ module _ (count : ℕ) (list : List Bool) (octets : List ℕ) (some : count ≡ 
   unfolding field_at cut_at
   identifier_there arcs c fit =
       let read : contents_reading (octets_of count (take (8 * count) list)) ≡ Ok arcs = ap contents_reading (sym source)
-          ∙ contents_read arcs octets octets_are c fit in
+      ∙ contents_read arcs octets octets_are c fit in
       rw (ne_eqb count 0 some, le-ltb _ _ enough, read) refl
 
   pub identifier_large : (arcs : List ℕ) → IsContents arcs octets → ¬ (FitU32 arcs)
@@ -161,7 +163,7 @@ module _ (count : ℕ) (list : List Bool) (octets : List ℕ) (some : count ≡ 
   unfolding field_at cut_at
   identifier_large arcs c large =
       let read : contents_reading (octets_of count (take (8 * count) list)) ≡ Err ArcTooLarge =
-          ap contents_reading (sym source) ∙ large_read arcs octets octets_are c large in
+      ap contents_reading (sym source) ∙ large_read arcs octets octets_are c large in
       rw (ne_eqb count 0 some, le-ltb _ _ enough, read) refl
 
   pub identifier_none : ((arcs : List ℕ) → ¬ (IsContents arcs octets))
@@ -169,7 +171,7 @@ module _ (count : ℕ) (list : List Bool) (octets : List ℕ) (some : count ≡ 
   unfolding field_at cut_at
   identifier_none none =
       let read : contents_reading (octets_of count (take (8 * count) list)) ≡ Err Malformed =
-          ap contents_reading (sym source) ∙ none_read octets octets_are none in
+      ap contents_reading (sym source) ∙ none_read octets octets_are none in
       rw (ne_eqb count 0 some, le-ltb _ _ enough, read) refl
 
 -- every list that spells what was read of n octets has their bits
@@ -179,5 +181,5 @@ pub length-read_identifier : (n : ℕ) (front : List Bool) (arcs : List ℕ) →
 length-read_identifier n front arcs le e others s =
     let c = arcs_from_reading arcs (octets_of n front) (octets-octets_of n front le) e in
     ap length s.3 ∙ length-bits s.0
-        ∙ ap (λ (o : List ℕ). 8 * length o) (contents_only arcs s.0 (octets_of n front) s.1 c.0)
-        ∙ ap (λ (k : ℕ). 8 * k) (length-octets_of n front)
+    ∙ ap (λ (o : List ℕ). 8 * length o) (contents_only arcs s.0 (octets_of n front) s.1 c.0)
+    ∙ ap (λ (k : ℕ). 8 * k) (length-octets_of n front)

@@ -32,7 +32,7 @@ nine_bits b c bs octets =
     ∙ ap (λ (l : List Bool). first ++ l) (append_assoc bit (digits c 7) (bits bs))
     ∙ sym (append_assoc first bit behind) in
     let n : length (first ++ bit) ≡ 9 =
-        omega (arith, length-append first bit, length-digits b 8, length-digits (c / 128) 1) in
+    omega (arith, length-append first bit, length-digits b 8, length-digits (c / 128) 1) in
     let cut : take 9 (bits (b ∷ c ∷ bs)) ≡ first ++ bit = ap (take 9) whole ∙ take_at (first ++ bit) behind 9 n in
     let high : number first ≡ b = number_of-digits b 8 octets.0 in
     let low : number bit ≡ c / 128 = number_of-digits (c / 128) 1 (let lt = octets.1.0 in omega arith) in
@@ -65,9 +65,9 @@ passes (b ∷ c ∷ bs) are differ =
     let zero : b ≡ 0 → 128 ≤ c = differ.0 in
     let top : b ≡ 255 → c < 128 = differ.1 in
     let not_zero : number (take 9 (bits (b ∷ c ∷ bs))) ≡ 0
-        → ⊥ = λ e. (let z : b ≡ 0 = omega arith in let le = zero z in omega arith) in
+    → ⊥ = λ e. (let z : b ≡ 0 = omega arith in let le = zero z in omega arith) in
     let not_top : number (take 9 (bits (b ∷ c ∷ bs))) ≡ 511
-        → ⊥ = λ e. (let t : b ≡ 255 = (let second = are.1.0 in omega arith) in let lt = top t in omega arith) in
+    → ⊥ = λ e. (let t : b ≡ 255 = (let second = are.1.0 in omega arith) in let lt = top t in omega arith) in
     rw (lt-ltb 1 (length (b ∷ c ∷ bs)) (omega arith)) (alike_not (number (take 9 (bits (b ∷ c ∷ bs)))) not_zero not_top)
 
 differs : (octets : List ℕ) → IsOctets octets → 0 < length octets → fails octets ≡ false → NineBitsDiffer octets
@@ -101,7 +101,7 @@ shortest_from_bits octets are some e = (shortest_by_nine_bits octets are some).1
 pub bits_from_shortest : (n : ℤ) (octets : List ℕ) → IsShortest n octets → fails octets ≡ false
 bits_from_shortest n octets s =
     passes octets s.octets ((shortest_by_nine_bits octets s.octets s.some).0
-        (subst (λ (m : ℤ). IsShortest m octets) (sym s.value) s))
+    (subst (λ (m : ℤ). IsShortest m octets) (sym s.value) s))
 
 -- ---- integers as fields
 
@@ -133,7 +133,7 @@ integer_holds count some = record { taken = taken; again = again; reason = reaso
         let h = held_integer (nat_lt 1 count && nine_alike front) (signed o) field e in
         let are : IsOctets o = IsOctets_from_All o (octets-octets_of count front (omega arith)) in
         let s : IsShortest (signed o) o =
-            shortest_from_bits o are (omega arith) (sym (fails_at o count front n is) ∙ h.0) in
+        shortest_from_bits o are (omega arith) (sym (fails_at o count front n is) ∙ h.0) in
         subst (λ (f : Field). IsOfShape f (OfInteger count) × IsSpelledBy f front) h.1 ((o, s, n), (o, s, sym is))
 
     again : (field : Field) (front : List Bool) → IsOfShape field (OfInteger count) → IsSpelledBy field front
@@ -143,9 +143,9 @@ integer_holds count some = record { taken = taken; again = again; reason = reaso
         let s = spelled.1 in
         let len : length o ≡ count = ap length (same_shortest n o shape.0 s shape.1) ∙ shape.2 in
         let back : octets_of count front ≡ o = ap (λ (k : ℕ). octets_of k front) (sym len)
-            ∙ ap (octets_of (length o)) spelled.2 ∙ octets_of-bits o (All_from_IsOctets o s.octets) in
+        ∙ ap (octets_of (length o)) spelled.2 ∙ octets_of-bits o (All_from_IsOctets o s.octets) in
         let pass : (nat_lt 1 count && nine_alike front) ≡ false = fails_at o count front len (sym spelled.2)
-            ∙ bits_from_shortest n o s in
+        ∙ bits_from_shortest n o s in
         let held : integer_content count front ≡ Ok (Integer (signed o)) =
         ap (λ (b : Bool). cond b (Err NotInteger) (Ok (Integer (signed (octets_of count front))))) pass
         ∙ ap (λ (p : List ℕ). Ok (Integer (signed p))) back in
@@ -178,9 +178,9 @@ integer_exact count = record { taken = taken; again = again; reason = reason }
     taken list field rest e =
         elim (chosen (eqb count 0) (Err NotInteger) (cut_at (8 * count) (integer_content count) list) (Ok (field, rest))
         e) [
-      | inl h ↦ absurd (err_is_no_ok _ _ h.1)
-      | inr h ↦ (exact h.0).taken list field rest h.1
-    ]
+          | inl h ↦ absurd (err_is_no_ok _ _ h.1)
+          | inr h ↦ (exact h.0).taken list field rest h.1
+        ]
 
     some_octets : (field : Field) → IsOfShape field (OfInteger count) → count ≡ 0 → ⊥
     some_octets (Integer n) shape z = let some = shape.1.some in omega (arith, shape.2)
@@ -196,9 +196,9 @@ integer_exact count = record { taken = taken; again = again; reason = reason }
         → IsReason (OfInteger count) list fault
     reason list fault e =
         elim (chosen (eqb count 0) (Err NotInteger) (cut_at (8 * count) (integer_content count) list) (Err fault) e) [
-      | inl h ↦ subst (λ (f : Fault). IsReason (OfInteger count) list f) (err_is _ _ h.1) (inl (eqb-true count 0 h.0))
-      | inr h ↦ (exact h.0).reason list fault h.1
-    ]
+          | inl h ↦ subst (λ (f : Fault). IsReason (OfInteger count) list f) (err_is _ _ h.1) (inl (eqb-true count 0 h.0))
+          | inr h ↦ (exact h.0).reason list fault h.1
+        ]
 
 -- ---- what is read of them
 
@@ -223,11 +223,11 @@ read_integer count list left n ok rest value = there (integer_at count list) ref
         let t = (integer_exact count).taken list x.0 x.1 e in
         let len : length t.front ≡ 8 * count = length-spelled (OfInteger count) x.0 t.front t.of_shape t.spelled in
         let front : t.front ≡ take (8 * count) list = sym (take_at t.front x.1 (8 * count) len)
-            ∙ ap (take (8 * count)) (sym t.parts) in
+        ∙ ap (take (8 * count)) (sym t.parts) in
         let back : x.1 ≡ left = sym (drop_at t.front x.1 (8 * count) len) ∙ ap (drop (8 * count)) (sym t.parts)
-            ∙ sym rest in
+        ∙ sym rest in
         e ∙ ap (λ (f : Field). Ok (f, x.1)) (same_field x.0 t.front t.of_shape t.spelled front)
-            ∙ ap (λ (l : List Bool). Ok (Integer n, l)) back
+        ∙ ap (λ (l : List Bool). Ok (Integer n, l)) back
     there (Err fault) e h = absurd cc
 
 -- and every list that spells it has the bits of the octets that were asked for

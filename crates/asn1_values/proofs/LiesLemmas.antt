@@ -55,12 +55,12 @@ lie_more view fs field before at = record { each = each }
       | inl lt ↦
           let cut : take i (fs ++ field ∷ []) ≡ take i fs = take-append-le i fs (field ∷ []) (omega arith) in
           before.each i other front (sym (at_front fs field i lt) ∙ e)
-              (subst (λ (l : List Field). AreSpelledBy (plain_fields l) front) cut s)
+          (subst (λ (l : List Field). AreSpelledBy (plain_fields l) front) cut s)
       | inr le ↦
           let within = slice_get_within (fs ++ field ∷ []) i other e in
           let end : i ≡ length fs = omega (arith, length-append fs (field ∷ [])) in
           let cut : take i (fs ++ field ∷ []) ≡ fs = take-append-le i fs (field ∷ []) (omega arith)
-              ∙ take_all i fs (omega arith) in
+          ∙ take_all i fs (omega arith) in
           let same : field ≡ other = same_Some field other (sym (at_end fs field i end) ∙ e) in
           subst (λ (f : Field). LiesAt view (view.first + length front) f) same
           (at front (subst (λ (l : List Field). AreSpelledBy (plain_fields l) front) cut s))
@@ -72,9 +72,9 @@ pub left_more : (view now new : View) (fs : List Field) (field : Field)
     → (front : List Bool) → AreSpelledBy (plain_fields (fs ++ field ∷ [])) front → new ≡ after view front
 left_more view now new fs field before one front s =
     let t : AreSpelledBy (plain_fields fs ++ plain_field field ∷ []) front =
-        subst (λ (l : List plain.Field). AreSpelledBy l front) (map-append plain_field fs (field ∷ [])) s in
+    subst (λ (l : List plain.Field). AreSpelledBy l front) (map-append plain_field fs (field ∷ [])) s in
     let p : Split IsSpelledBy (plain_fields fs) (plain_field field ∷ []) front =
-        joins_split IsSpelledBy (plain_fields fs) (plain_field field ∷ []) front t in
+    joins_split IsSpelledBy (plain_fields fs) (plain_field field ∷ []) front t in
     one p.back (one_joined IsSpelledBy (plain_field field) p.back p.of_back)
     ∙ ap (λ (v : View). after v p.back) (before p.front p.of_front)
     ∙ after-after view p.front p.back front p.parts

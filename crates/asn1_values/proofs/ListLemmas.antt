@@ -13,7 +13,7 @@ AreExact shapes = AllByRecursion (λ shape. IsExact shape (field_at shape)) shap
 pub Begins-cons : (list : List Bool) (shape : Shape) (field : Field) (middle : List Bool) (shapes : List Shape)
     (fields : List Field) (rest : List Bool)
     → Takes shape list field middle → Begins middle shapes fields rest
-        → Begins list (shape ∷ shapes) (field ∷ fields) rest
+    → Begins list (shape ∷ shapes) (field ∷ fields) rest
 Begins-cons list shape field middle shapes fields rest t b =
     record {
       of_shapes = (t.of_shape, b.of_shapes);
@@ -40,8 +40,13 @@ Begins-split list shape field shapes fields rest b =
     record {
       middle = s.1 ++ rest;
       first =
-          record { front = s.0; of_shape = b.of_shapes.0; spelled = s.2; parts = b.parts
-          ∙ ap (λ (l : List Bool). l ++ rest) s.4 ∙ append_assoc s.0 s.1 rest };
+          record {
+            front = s.0;
+            of_shape = b.of_shapes.0;
+            spelled = s.2;
+            parts = b.parts
+                ∙ ap (λ (l : List Bool). l ++ rest) s.4 ∙ append_assoc s.0 s.1 rest;
+          };
       others = record { of_shapes = b.of_shapes.1; front = s.1; spelled = s.3; parts = refl };
     }
 
@@ -91,7 +96,7 @@ pub fields_taken : (shapes : List Shape) (list : List Bool) (fields : List Field
 unfolding fields_at
 fields_taken [] list fields rest exact e =
     subst (λ (x : List Field × List Bool). Begins list [] x.0 x.1) (all_is ([], list) (fields, rest) e)
-        (Begins-none list)
+    (Begins-none list)
 fields_taken (shape ∷ shapes) list fields rest exact e =
     let f = first_read (fields_at shapes) (field_at shape list) fields rest e in
     let first = exact.0.taken list f.field f.left f.first in
@@ -111,7 +116,7 @@ fields_again (shape ∷ shapes) list [] rest exact b = absurd b.of_shapes
 fields_again (shape ∷ shapes) list (field ∷ fields) rest exact b =
     let s = Begins-split list shape field shapes fields rest b in
     let one : field_at shape list ≡ Ok (field, s.middle) = ap (field_at shape) s.first.parts
-        ∙ exact.0.again field s.first.front s.middle s.first.of_shape s.first.spelled in
+    ∙ exact.0.again field s.first.front s.middle s.first.of_shape s.first.spelled in
     let two = fields_again shapes s.middle fields rest exact.1 s.others in
     rw (one, two) refl
 
@@ -121,6 +126,6 @@ pub only_fields : (shapes : List Shape) (list : List Bool) (fields others : List
     × (rest ≡ left)
 only_fields shapes list fields others rest left exact a b =
     let same : (fields, rest) ≡ (others, left) =
-        all_is _ _ (sym (fields_again shapes list fields rest exact a)
-        ∙ fields_again shapes list others left exact b) in
+    all_is _ _ (sym (fields_again shapes list fields rest exact a)
+    ∙ fields_again shapes list others left exact b) in
     (ap (λ (x : List Field × List Bool). x.0) same, ap (λ (x : List Field × List Bool). x.1) same)

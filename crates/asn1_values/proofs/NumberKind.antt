@@ -11,8 +11,13 @@ use Rattle.asn1_values.proofs.ExactKinds.{IsExact, HoldsExactly, Takes, cut_exac
 
 number_holds : (width : ℕ) → width ≤ 128 → HoldsExactly (OfNumber width) width (number_content width)
 number_holds width le =
-    record { taken = taken; again = again; reason = λ front rest fault len e. absurd (no_fault _ _ e); short =
-    λ list k s. (le, s) }
+    record {
+      taken = taken;
+      again = again;
+      reason = λ front rest fault len e. absurd (no_fault _ _ e);
+      short =
+          λ list k s. (le, s);
+    }
   where
     taken : (front : List Bool) (field : Field) → length front ≡ width → number_content width front ≡ Ok field
         → IsOfShape field (OfNumber width) × IsSpelledBy field front
@@ -41,25 +46,24 @@ number_exact width = record { taken = taken; again = again; reason = reason }
     taken list field rest e =
         elim (chosen (ltb 128 width) (Err (NumberWidth width)) (cut_at width (number_content width) list)
         (Ok (field, rest)) e) [
-      | inl h ↦ absurd (err_is_no_ok _ _ h.1)
-      | inr h ↦ (cut_exact (OfNumber width) width (number_content width) (number_holds width (ltb-false _ _ h.0))).taken
-          list field rest h.1
-    ]
+          | inl h ↦ absurd (err_is_no_ok _ _ h.1)
+          | inr h ↦ (cut_exact (OfNumber width) width (number_content width) (number_holds width (ltb-false _ _ h.0))).taken
+              list field rest h.1
+        ]
 
     again : (field : Field) (front rest : List Bool) → IsOfShape field (OfNumber width) → IsSpelledBy field front
         → field_at (OfNumber width) (front ++ rest) ≡ Ok (field, rest)
     again field front rest shape spelled =
         let le : width ≤ 128 = width_le field front shape spelled in
         rw (le-ltb 128 width le)
-            ((cut_exact (OfNumber width) width (number_content width) (number_holds width le)).again field front rest
-            shape spelled)
+        ((cut_exact (OfNumber width) width (number_content width) (number_holds width le)).again field front rest
+        shape spelled)
 
     reason : (list : List Bool) (fault : Fault) → field_at (OfNumber width) list ≡ Err fault
         → IsReason (OfNumber width) list fault
     reason list fault e =
-        elim (chosen (ltb 128 width) (Err (NumberWidth width)) (cut_at width (number_content width) list) (Err fault) e)
-        [
-      | inl h ↦ subst (λ (f : Fault). IsReason (OfNumber width) list f) (err_is _ _ h.1) (refl, ltb-true _ _ h.0)
-      | inr h ↦ (cut_exact (OfNumber width) width (number_content width)
-          (number_holds width (ltb-false _ _ h.0))).reason list fault h.1
-    ]
+        elim (chosen (ltb 128 width) (Err (NumberWidth width)) (cut_at width (number_content width) list) (Err fault) e) [
+          | inl h ↦ subst (λ (f : Fault). IsReason (OfNumber width) list f) (err_is _ _ h.1) (refl, ltb-true _ _ h.0)
+          | inr h ↦ (cut_exact (OfNumber width) width (number_content width)
+              (number_holds width (ltb-false _ _ h.0))).reason list fault h.1
+        ]

@@ -24,8 +24,11 @@ pub bits-octets_of : (n : ℕ) (list : List Bool) → length list ≡ 8 * n → 
 unfolding bits
 bits-octets_of zero list e = sym (nil_from_length list (omega arith))
 bits-octets_of (suc n) list e =
-    rw (digits_of-number (take 8 list) 8 (omega (arith, length-take 8 list)), bits-octets_of n (drop 8 list)
-        (omega (arith, length-drop 8 list))) (take-append-drop 8 list)
+    rw (
+      digits_of-number (take 8 list) 8 (omega (arith, length-take 8 list)),
+      bits-octets_of n (drop 8 list)
+          (omega (arith, length-drop 8 list)),
+    ) (take-append-drop 8 list)
 
 pub octets_of-bits : (octets : List ℕ) → All (λ octet. octet < 256) octets
     → octets_of (length octets) (bits octets) ≡ octets
@@ -34,8 +37,13 @@ octets_of-bits [] h = refl
 octets_of-bits (x ∷ xs) h =
     let lt : x < 256 = All-head (λ octet. octet < 256) x xs h in
     let l = length-digits x 8 in
-    rw (take_at (digits x 8) (bits xs) 8 l, drop_at (digits x 8) (bits xs) 8 l, number_of-digits x 8 lt, octets_of-bits
-        xs (All-tail (λ octet. octet < 256) x xs h)) refl
+    rw (
+      take_at (digits x 8) (bits xs) 8 l,
+      drop_at (digits x 8) (bits xs) 8 l,
+      number_of-digits x 8 lt,
+      octets_of-bits
+          xs (All-tail (λ octet. octet < 256) x xs h),
+    ) refl
 
 -- the octet at a place
 pub get_or-octets_of : (n i : ℕ) (list : List Bool) → i < n
@@ -45,7 +53,7 @@ get_or-octets_of (suc n) zero list lt = refl
 get_or-octets_of (suc n) (suc i) list lt =
     let e : 8 + 8 * i ≡ 8 * suc i = omega arith in
     get_or-octets_of n i (drop 8 list) (omega arith)
-        ∙ ap (λ (l : List Bool). number (take 8 l)) (drop-drop (8 * i) 8 list ∙ ap (λ (k : ℕ). drop k list) e)
+    ∙ ap (λ (l : List Bool). number (take 8 l)) (drop-drop (8 * i) 8 list ∙ ap (λ (k : ℕ). drop k list) e)
 
 -- the two ways to say that each is an octet
 pub IsOctets_from_All : (octets : List ℕ) → All (λ octet. octet < 256) octets → IsOctets octets

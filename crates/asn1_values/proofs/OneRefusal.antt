@@ -132,7 +132,7 @@ CanBegin-front list (shape ∷ shapes) (suc k) ([], rest, b) = absurd b.of_shape
 CanBegin-front list (shape ∷ shapes) (suc k) (field ∷ fields, rest, b) =
     let s = Begins-split list shape field shapes fields rest b in
     CanBegin-cons list shape field s.middle (take k shapes) s.first
-        (CanBegin-front s.middle shapes k (fields, rest, s.others))
+    (CanBegin-front s.middle shapes k (fields, rest, s.others))
 
 -- some fields stand before the first fault
 before_fault : (list : List Bool) (shapes : List Shape) (i : ℕ)

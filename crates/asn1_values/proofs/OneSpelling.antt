@@ -52,7 +52,7 @@ length-spelled (OfOctets count) (Octets octets) list shape s = ap length s.1 ∙
 length-spelled (OfBits len) (Bits view) list shape s = ap length s ∙ shape
 length-spelled (OfInteger count) (Integer n) list shape s =
     ap length s.2 ∙ length-bits s.0 ∙ ap (λ (o : List ℕ). 8 * length o) (same_shortest n s.0 shape.0 s.1 shape.1)
-        ∙ ap (λ (k : ℕ). 8 * k) shape.2
+    ∙ ap (λ (k : ℕ). 8 * k) shape.2
 length-spelled (OfCharacter alphabet) (Character a c) list shape s = ap length s.2 ∙ length-digits s.0 a.width
     ∙ ap (λ (x : Alphabet). x.width) shape
 length-spelled OfCountedInteger field list shape s = tt
@@ -76,8 +76,8 @@ equally_long (shape ∷ shapes) [] list z s = absurd z
 equally_long (shape ∷ shapes) (f ∷ fields) list z s =
     let sum : length list ≡ length s.0 + length s.1 = ap length s.4 ∙ length-append s.0 s.1 in
     let known =
-        sum_is (need shape) (needs shapes) (length s.0) (length s.1) (length-spelled shape f s.0 z.0 s.2)
-        (equally_long shapes fields s.1 z.1 s.3) in
+    sum_is (need shape) (needs shapes) (length s.0) (length s.1) (length-spelled shape f s.0 z.0 s.2)
+    (equally_long shapes fields s.1 z.1 s.3) in
     subst (λ (k : ℕ). IfSome (needs (shape ∷ shapes)) (λ n. k ≡ n)) (sym sum) known
 
 -- and the fields take so many bits of what they begin

@@ -10,7 +10,7 @@ use Rattle.asn1_values.specs.Fields.{Field, IsSpelledBy, AreSpelledBy, CountedIn
 use Rattle.asn1_values.specs.Wrong.{Fits}
 use Rattle.asn1_values.specs.Steps.{IsReached, EndWithin, WritesOver, Overwrites, OverwritesAll}
 use Rattle.asn1_values.proofs.JoinedLemmas.{joins_push, joins_append, joins_split, Split}
-use Rattle.asn1_values.proofs.OneSpelling.{same_shortest}
+use Rattle.asn1_values.specs.SpellingLaws.{same_shortest}
 
 -- ---- lists
 
@@ -32,15 +32,21 @@ pub over_same : (target now : List ℕ) (list : List Bool) (place next : ℕ)
     → place + length list ≤ 8 * length target → length now ≡ length target
 over_same target now list place next w h =
     let n = length-bits target in
-    omega (arith, n, length-bits now, ap length w.written, length-overwritten (bits target) place list
-        (omega (arith, n, h)))
+    omega (
+      arith,
+      n,
+      length-bits now,
+      ap length w.written,
+      length-overwritten (bits target) place list
+          (omega (arith, n, h)),
+    )
 
 -- ---- one field
 
 -- a field of n bits ends where they do
 pub reached : (field : Field) (list : List Bool) (n limit place : ℕ) → IsSpelledBy field list → length list ≡ n
     → ((others : List Bool) → IsSpelledBy field others → IsReached limit (place + length others))
-        → IsReached limit (place + n)
+    → IsReached limit (place + n)
 reached field list n limit place s len within = let r =
     within list s in (omega (arith, r.0, len), omega (arith, r.1, len))
 
@@ -57,12 +63,15 @@ counted_reached n octets limit place shortest fits within =
 pub counted_over : (n : ℤ) (octets : List ℕ) (place mid next : ℕ) (old now new : List Bool) → IsShortest n octets
     → length octets ≤ 127
     → WritesOver (digits (length octets) 8) place old now mid → WritesOver (bits octets) mid now new next
-        → place ≤ length old
+    → place ≤ length old
     → Overwrites (CountedInteger n) place old new next
 unfolding bits
-counted_over n octets place mid next old now new shortest le one two h =
-    (bits (length octets ∷ octets), (octets, shortest, le, refl), over_more (digits (length octets) 8) (bits octets)
-        place mid next old now new one two h)
+counted_over n octets place mid next old now new shortest le one two h = (
+  bits (length octets ∷ octets),
+  (octets, shortest, le, refl),
+  over_more (digits (length octets) 8) (bits octets)
+      place mid next old now new one two h,
+)
 
 -- ---- octets one by one
 
@@ -82,7 +91,7 @@ pub octets_within : (all rest more target now : List ℕ) (octet place next : �
     → IsReached (8 * length target) (place + 8 * length all) → IsReached (8 * length now) (next + 8)
 octets_within all rest more target now octet place next o is r =
     let l : length all ≡ length o.front + length (octet ∷ more) =
-        ap length (o.parts ∙ ap (λ (l : List ℕ). o.front ++ l) is) ∙ length-append o.front (octet ∷ more) in
+    ap length (o.parts ∙ ap (λ (l : List ℕ). o.front ++ l) is) ∙ length-append o.front (octet ∷ more) in
     let n = length-bits o.front in
     let same = over_same target now (bits o.front) place next o.over (omega (arith, r.0, l, n)) in
     let end = o.over.end in
@@ -91,14 +100,14 @@ octets_within all rest more target now octet place next o is r =
 pub octets_more : (all rest more target now new : List ℕ) (octet place mid next : ℕ)
     → OctetsOver all rest target now place mid → rest ≡ octet ∷ more
     → place ≤ 8 * length target → WritesOver (digits octet 8) mid (bits now) (bits new) next
-        → OctetsOver all more target new place next
+    → OctetsOver all more target new place next
 octets_more all rest more target now new octet place mid next o is h w = record {
   front = o.front ++ octet ∷ [];
   parts = o.parts ∙ ap (λ (l : List ℕ). o.front ++ l) is ∙ sym (append_assoc o.front (octet ∷ []) more);
   over =
       subst (λ (l : List Bool). WritesOver l place (bits target) (bits new) next) (sym (bits-push o.front octet))
       (over_more (bits o.front) (digits octet 8) place mid next (bits target) (bits now) (bits new) o.over w
-          (omega (arith, h, length-bits target)));
+      (omega (arith, h, length-bits target)));
 }
 
 pub octets_all : (all rest target now : List ℕ) (place next : ℕ) → OctetsOver all rest target now place next → rest ≡ []
@@ -115,9 +124,12 @@ overwrites_none place old = ([], refl, over_none place old)
 pub overwrites_more : (before : List Field) (field : Field) (place mid next : ℕ) (old now new : List Bool)
     → OverwritesAll before place old now mid
     → Overwrites field mid now new next → place ≤ length old → OverwritesAll (before ++ field ∷ []) place old new next
-overwrites_more before field place mid next old now new w one h =
-    (w.0 ++ one.0, joins_push IsSpelledBy before field w.0 one.0 w.1 one.1, over_more w.0 one.0 place mid next old now
-        new w.2 one.2 h)
+overwrites_more before field place mid next old now new w one h = (
+  w.0 ++ one.0,
+  joins_push IsSpelledBy before field w.0 one.0 w.1 one.1,
+  over_more w.0 one.0 place mid next old now
+      new w.2 one.2 h,
+)
 
 -- the next field ends within the target
 pub reached_now : (fields before after : List Field) (field : Field) → fields ≡ before ++ field ∷ after
@@ -126,15 +138,15 @@ pub reached_now : (fields before after : List Field) (field : Field) → fields 
     → (list : List Bool) → IsSpelledBy field list → IsReached (8 * length now) (next + length list)
 reached_now fields before after field cut target now place next h w list l =
     let p : Split IsSpelledBy before (field ∷ after) h.list =
-        joins_split IsSpelledBy before (field ∷ after) h.list
-        (subst (λ (fs : List Field). AreSpelledBy fs h.list) cut h.spelled) in
+    joins_split IsSpelledBy before (field ∷ after) h.list
+    (subst (λ (fs : List Field). AreSpelledBy fs h.list) cut h.spelled) in
     let rest : List Bool = p.of_back.1 in
     let all : List Bool = w.0 ++ (list ++ rest) in
     let whole : AreSpelledBy (before ++ field ∷ after) all =
-        joins_append IsSpelledBy before (field ∷ after) w.0 (list ++ rest) w.1 (list, rest, l, p.of_back.3, refl) in
+    joins_append IsSpelledBy before (field ∷ after) w.0 (list ++ rest) w.1 (list, rest, l, p.of_back.3, refl) in
     let r = h.within all (subst (λ (fs : List Field). AreSpelledBy fs all) (sym cut) whole) in
     let n : length all ≡ length w.0 + (length list + length rest) =
-        omega (arith, length-append w.0 (list ++ rest), length-append list rest) in
+    omega (arith, length-append w.0 (list ++ rest), length-append list rest) in
     let same = over_same target now w.0 place next w.2 (omega (arith, r.0, n)) in
     let end = w.2.end in
     (omega (arith, r.0, n, same, end), omega (arith, r.1, n, end))

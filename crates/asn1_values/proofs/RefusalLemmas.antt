@@ -21,7 +21,7 @@ CanBegin-rest list shape field middle shapes exact e ([], rest, b) = absurd b.of
 CanBegin-rest list shape field middle shapes exact e (f ∷ fields, rest, b) =
     let s = Begins-split list shape f shapes fields rest b in
     let one : field_at shape list ≡ Ok (f, s.middle) = ap (field_at shape) s.first.parts
-        ∙ exact.again f s.first.front s.middle s.first.of_shape s.first.spelled in
+    ∙ exact.again f s.first.front s.middle s.first.of_shape s.first.spelled in
     let same : (f, s.middle) ≡ (field, middle) = ok_is _ _ (sym one ∙ e) in
     let at_middle : s.middle ≡ middle = ap (λ (x : Field × List Bool). x.1) same in
     (fields, rest, subst (λ (l : List Bool). Begins l shapes fields rest) at_middle s.others)
@@ -32,7 +32,7 @@ CanBegin-none list shape fault shapes exact e ([], rest, b) = absurd b.of_shapes
 CanBegin-none list shape fault shapes exact e (f ∷ fields, rest, b) =
     let s = Begins-split list shape f shapes fields rest b in
     let one : field_at shape list ≡ Ok (f, s.middle) = ap (field_at shape) s.first.parts
-        ∙ exact.again f s.first.front s.middle s.first.of_shape s.first.spelled in
+    ∙ exact.again f s.first.front s.middle s.first.of_shape s.first.spelled in
     err_is_no_ok fault (f, s.middle) (sym e ∙ one)
 
 -- nothing before what is left
@@ -50,7 +50,7 @@ fault_here list shape fault shapes exact e =
       reason = λ other fields left is b.
           let r : IsReason shape list fault = exact.reason list fault e in
           let r2 : IsReason shape left fault =
-              subst (λ (l : List Bool). IsReason shape l fault) (left_is list fields left b) r in
+          subst (λ (l : List Bool). IsReason shape l fault) (left_is list fields left b) r in
           subst (λ (s : Shape). IsReason s left fault) (same_Some shape other is) r2;
     }
 
@@ -61,24 +61,24 @@ least_later list shape field middle shapes i t least zero lt =
     CanBegin-cons list shape field middle [] t ([], middle, Begins-none middle)
 least_later list shape field middle shapes i t least (suc j) lt =
     let c : CanBegin list (shape ∷ take (j + 1) shapes) =
-        CanBegin-cons list shape field middle (take (j + 1) shapes) t (least j (omega arith)) in
+    CanBegin-cons list shape field middle (take (j + 1) shapes) t (least j (omega arith)) in
     let n : suc (j + 1) ≡ suc j + 1 = omega arith in
     subst (λ (k : ℕ). CanBegin list (take k (shape ∷ shapes))) n c
 
 reason_later : (list : List Bool) (shape : Shape) (field : Field) (middle : List Bool) (shapes : List Shape) (i : ℕ)
     (fault : Fault) → IsExact shape (field_at shape) → field_at shape list ≡ Ok (field, middle)
     → ((other : Shape) (fields : List Field) (left : List Bool) → slice_get shapes i ≡ Some other
-        → Begins middle (take i shapes) fields left → IsReason other left fault)
+    → Begins middle (take i shapes) fields left → IsReason other left fault)
     → (other : Shape) (fields : List Field) (left : List Bool) → slice_get shapes i ≡ Some other
-        → Begins list (shape ∷ take i shapes) fields left → IsReason other left fault
+    → Begins list (shape ∷ take i shapes) fields left → IsReason other left fault
 reason_later list shape field middle shapes i fault exact e reason other [] left is b = absurd b.of_shapes
 reason_later list shape field middle shapes i fault exact e reason other (f ∷ fields) left is b =
     let s = Begins-split list shape f (take i shapes) fields left b in
     let one : field_at shape list ≡ Ok (f, s.middle) = ap (field_at shape) s.first.parts
-        ∙ exact.again f s.first.front s.middle s.first.of_shape s.first.spelled in
+    ∙ exact.again f s.first.front s.middle s.first.of_shape s.first.spelled in
     let same : (f, s.middle) ≡ (field, middle) = ok_is _ _ (sym one ∙ e) in
     reason other fields left is (subst (λ (l : List Bool). Begins l (take i shapes) fields left)
-        (ap (λ (x : Field × List Bool). x.1) same) s.others)
+    (ap (λ (x : Field × List Bool). x.1) same) s.others)
 
 fault_later : (list : List Bool) (shape : Shape) (field : Field) (middle : List Bool) (shapes : List Shape) (i : ℕ)
     (fault : Fault) → IsExact shape (field_at shape) → field_at shape list ≡ Ok (field, middle)
@@ -90,7 +90,7 @@ fault_later list shape field middle shapes i fault exact e first =
       wrong = λ c.
           let n : suc i + 1 ≡ suc (i + 1) = omega arith in
           let c2 : CanBegin list (shape ∷ take (i + 1) shapes) =
-              subst (λ (k : ℕ). CanBegin list (take k (shape ∷ shapes))) n c in
+          subst (λ (k : ℕ). CanBegin list (take k (shape ∷ shapes))) n c in
           first.wrong (CanBegin-rest list shape field middle (take (i + 1) shapes) exact e c2);
       least = least_later list shape field middle shapes i (exact.taken list field middle e) first.least;
       reason = reason_later list shape field middle shapes i fault exact e first.reason;
@@ -118,7 +118,7 @@ fields_refused (shape ∷ shapes) list x exact e =
 
     by_first : (r : Read) → field_at shape list ≡ r → first_and (fields_at shapes) r ≡ Err x
         → ((left : List Bool) (y : ℕ × Fault) → fields_at shapes left ≡ Err y → IsFirstFault left shapes y.0 y.1)
-            → IsFirstFault list (shape ∷ shapes) x.0 x.1
+        → IsFirstFault list (shape ∷ shapes) x.0 x.1
     by_first (Err fault) is h others =
         whole (0, fault) (end_is (0, fault) x h) (fault_here list shape fault shapes exact.0 is)
     by_first (Ok z) is h others =

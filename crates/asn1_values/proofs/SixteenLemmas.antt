@@ -49,7 +49,7 @@ pub word_pushed : (old now new : BitAppender) (all rest : List ℕ) (word count_
     → Pushing old now all rest word 128 count_old count_now
     → lender_of new ≡ lender_of now → bits_written new ≡ bits_written now ++ digits word 128 → room new + 128 ≡ room now
     → count_now + div_ceil 128 64 ≤ count_new → count_new ≤ count_now + turns_for 128
-        → Pushing old new all rest 0 0 count_old count_new
+    → Pushing old new all rest 0 0 count_old count_new
 unfolding digits
 word_pushed old now new all rest word count_old count_now count_new p lender written left low high = record {
   lender = lender ∙ p.lender;
@@ -70,7 +70,7 @@ word_pushed old now new all rest word count_old count_now count_new p lender wri
 pub octet_taken : (old now : BitAppender) (all rest more : List ℕ) (word width octet count_old count_now : ℕ)
     → Pushing old now all rest word width count_old count_now
     → width ≤ 120 → octet < 256 → rest ≡ octet ∷ more
-        → Pushing old now all more (256 * word + octet) (width + 8) count_old count_now
+    → Pushing old now all more (256 * word + octet) (width + 8) count_old count_now
 octet_taken old now all rest more word width octet count_old count_now p le lt is =
     let n : ℕ = 256 * word + octet in
     let high : n / 2 ^ 8 ≡ word = omega arith in
@@ -78,7 +78,7 @@ octet_taken old now all rest more word width octet count_old count_now p le lt i
     let low : digits n 8 ≡ digits octet 8 = ap (λ (k : ℕ). digits k 8) same ∙ digits-low word octet 8 in
     let both : digits n (width + 8) ≡ digits word width ++ digits octet 8 =
     digits-append n width 8 ∙ ap (λ (k : ℕ). digits k width ++ digits n 8) high
-        ∙ ap (λ (l : List Bool). digits word width ++ l) low in
+    ∙ ap (λ (l : List Bool). digits word width ++ l) low in
     let longer = length-append p.front (octet ∷ []) in
     let power : 2 ^ (width + 8) ≡ 2 ^ width * 256 = pow-add 2 width 8 in
     record {
@@ -87,9 +87,9 @@ octet_taken old now all rest more word width octet count_old count_now p le lt i
       parts = p.parts ∙ ap (λ (l : List ℕ). p.front ++ l) is ∙ sym (append_assoc p.front (octet ∷ []) more);
       written =
           ap (λ (l : List Bool). bits_written now ++ l) both
-              ∙ sym (append_assoc (bits_written now) (digits word width) (digits octet 8))
+          ∙ sym (append_assoc (bits_written now) (digits word width) (digits octet 8))
           ∙ ap (λ (l : List Bool). l ++ digits octet 8) p.written
-              ∙ append_assoc (bits_written old) (bits p.front) (digits octet 8)
+          ∙ append_assoc (bits_written old) (bits p.front) (digits octet 8)
           ∙ ap (λ (l : List Bool). bits_written old ++ l) (sym (bits-push p.front octet));
       left = let l = p.left in omega arith;
       small = let s = p.small in omega arith;

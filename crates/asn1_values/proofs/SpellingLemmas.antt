@@ -55,7 +55,7 @@ counted_fits n octets shortest le = record {
   fits = (bits (length octets ∷ octets), (octets, shortest, le, refl));
   len = λ list s.
       let same : list ≡ bits (length octets ∷ octets) = s.3
-          ∙ ap (λ (o : List ℕ). bits (length o ∷ o)) (same_shortest n s.0 octets s.1 shortest) in
+      ∙ ap (λ (o : List ℕ). bits (length o ∷ o)) (same_shortest n s.0 octets s.1 shortest) in
       omega (arith, ap length same, length-bits (length octets ∷ octets));
 }
 
@@ -139,8 +139,14 @@ names_none fields errors.Memory list h s = h
 
 pub ends_none : (start : ℕ) → start < 2 ^ 64 → EndsAt start [] start
 ends_none start lt =
-    record { end = start; list = []; spelled = refl; each = λ others s. let e : length others ≡ 0 =
-    ap length s in omega arith; capped = omega arith }
+    record {
+      end = start;
+      list = [];
+      spelled = refl;
+      each = λ others s. let e : length others ≡ 0 =
+          ap length s in omega arith;
+      capped = omega arith;
+    }
 
 pub ends_more : (start n k m : ℕ) (fields : List Field) (field : Field) → EndsAt start fields n → FitsIn field k
     → m ≡ min (n + k) (2 ^ 128 - 1) → EndsAt start (fields ++ field ∷ []) m
@@ -188,7 +194,7 @@ takes field n old new fits low high list s =
 -- all of it fits the room
 pub counted_space : (n : ℤ) (octets : List ℕ) (space : ℕ) → IsShortest n octets → Fits (CountedInteger n)
     → ((list : List Bool) → IsSpelledBy (CountedInteger n) list → length list ≤ space) → (length octets ≤ 127)
-        × (8 + 8 * length octets ≤ space)
+    × (8 + 8 * length octets ≤ space)
 counted_space n octets space shortest fits enough =
     let same : length fits.1.0 ≡ length octets = ap length (same_shortest n fits.1.0 octets fits.1.1 shortest) in
     let small = fits.1.2 in
@@ -200,16 +206,16 @@ counted_space n octets space shortest fits enough =
 pub counted_pushes : (n : ℤ) (octets : List ℕ) (old now new : BitAppender) → IsShortest n octets → length octets ≤ 127
     → bits_written now ≡ bits_written old ++ digits (length octets) 8 → room now + 8 ≡ room old
     → bits_written new ≡ bits_written now ++ bits octets → room new + 8 * length octets ≡ room now
-        → Pushes (CountedInteger n) old new
+    → Pushes (CountedInteger n) old new
 unfolding bits
 counted_pushes n octets old now new shortest le first before second after =
     let list : List Bool = bits (length octets ∷ octets) in
     let written : bits_written new ≡ bits_written old ++ list =
     second ∙ ap (λ (l : List Bool). l ++ bits octets) first
-        ∙ append_assoc (bits_written old) (digits (length octets) 8) (bits octets) in
+    ∙ append_assoc (bits_written old) (digits (length octets) 8) (bits octets) in
     let len : length list ≡ 8 + 8 * length octets = omega (arith, length-bits (length octets ∷ octets)) in
     pushes (CountedInteger n) list (8 + 8 * length octets) old new (octets, shortest, le, refl) len written
-        (omega arith)
+    (omega arith)
 
 -- the turns of an octet, and of n octets behind it
 pub counted_turns : (n old now new : ℕ) → old + div_ceil 8 64 ≤ now → now ≤ old + turns_for 8
@@ -271,23 +277,23 @@ module _ (fields before after : List Field) (field : Field) (cut : fields ≡ be
   pub field_fits : (list : List Bool) → AreSpelledBy fields list → Fits field
   field_fits list s =
       let p : Split IsSpelledBy before (field ∷ after) list =
-          joins_split IsSpelledBy before (field ∷ after) list
-          (subst (λ (fs : List Field). AreSpelledBy fs list) cut s) in
+      joins_split IsSpelledBy before (field ∷ after) list
+      (subst (λ (fs : List Field). AreSpelledBy fs list) cut s) in
       (p.of_back.0, p.of_back.2)
 
   pub space_now : (old now : BitAppender) → HasRoom fields (room old) → PushesAll before old now → (list : List Bool)
       → IsSpelledBy field list → length list ≤ room now
   space_now old now h w list l =
       let p : Split IsSpelledBy before (field ∷ after) h.list =
-          joins_split IsSpelledBy before (field ∷ after) h.list
-          (subst (λ (fs : List Field). AreSpelledBy fs h.list) cut h.spelled) in
+      joins_split IsSpelledBy before (field ∷ after) h.list
+      (subst (λ (fs : List Field). AreSpelledBy fs h.list) cut h.spelled) in
       let rest : List Bool = p.of_back.1 in
       let whole : AreSpelledBy (before ++ field ∷ after) (w.list ++ (list ++ rest)) =
-          joins_append IsSpelledBy before (field ∷ after) w.list (list ++ rest) w.spelled
-          (list, rest, l, p.of_back.3, refl) in
+      joins_append IsSpelledBy before (field ∷ after) w.list (list ++ rest) w.spelled
+      (list, rest, l, p.of_back.3, refl) in
       let r =
-          h.space_for (w.list ++ (list ++ rest))
-          (subst (λ (fs : List Field). AreSpelledBy fs (w.list ++ (list ++ rest))) (sym cut) whole) in
+      h.space_for (w.list ++ (list ++ rest))
+      (subst (λ (fs : List Field). AreSpelledBy fs (w.list ++ (list ++ rest))) (sym cut) whole) in
       omega (arith, w.left, length-append w.list (list ++ rest), length-append list rest)
 
 -- ---- fields of the program, by their places
@@ -296,8 +302,8 @@ pub cut_of : (fs : List Program) (i : ℕ) (x : Program) → i < length fs → x
     → plain_fields fs ≡ plain_fields (take i fs) ++ plain_field x ∷ plain_fields (drop (i + 1) fs)
 cut_of fs i x lt is =
     let e : fs ≡ take i fs ++ x ∷ drop (i + 1) fs = sym (take-append-drop i fs)
-        ∙ ap (λ (l : List Program). take i fs ++ l)
-        (drop_more fs i x lt ∙ ap (λ (y : Program). y ∷ drop (i + 1) fs) (sym is)) in
+    ∙ ap (λ (l : List Program). take i fs ++ l)
+    (drop_more fs i x lt ∙ ap (λ (y : Program). y ∷ drop (i + 1) fs) (sym is)) in
     ap plain_fields e ∙ map-append plain_field (take i fs) (x ∷ drop (i + 1) fs)
 
 pub more_of : (fs : List Program) (i : ℕ) (x : Program) → i < length fs → x ≡ get_or fs i x

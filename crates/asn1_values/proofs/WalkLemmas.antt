@@ -72,18 +72,18 @@ shapes_more ss i x lt is = ap plain_shapes (drop_more ss i x lt)
 pub examined_more : (ss : List Shape) (i : ℕ) (x : Shape) (list left : List Bool) (total : Left) → i < length ss
     → x ≡ get_or ss i x → past i (field_at (plain_shape x) list) ≡ Ok left
     → past_all i (fields_at (plain_shapes (drop i ss)) list) ≡ total
-        → past_all (i + 1) (fields_at (plain_shapes (drop (i + 1) ss)) left) ≡ total
+    → past_all (i + 1) (fields_at (plain_shapes (drop (i + 1) ss)) left) ≡ total
 examined_more ss i x list left total lt is e so_far =
     sym (past_step i (plain_shape x) (plain_shapes (drop (i + 1) ss)) list left e)
-        ∙ ap (λ (shapes : List plain.Shape). past_all i (fields_at shapes list)) (sym (shapes_more ss i x lt is))
-        ∙ so_far
+    ∙ ap (λ (shapes : List plain.Shape). past_all i (fields_at shapes list)) (sym (shapes_more ss i x lt is))
+    ∙ so_far
 
 pub examined_stop : (ss : List Shape) (i : ℕ) (x : Shape) (list : List Bool) (e : ReadError) (total : Left)
     → i < length ss → x ≡ get_or ss i x → past i (field_at (plain_shape x) list) ≡ Err e
     → past_all i (fields_at (plain_shapes (drop i ss)) list) ≡ total → total ≡ Err e
 examined_stop ss i x list e total lt is h so_far =
     sym so_far ∙ ap (λ (shapes : List plain.Shape). past_all i (fields_at shapes list)) (shapes_more ss i x lt is)
-        ∙ past_stop i (plain_shape x) (plain_shapes (drop (i + 1) ss)) list e h
+    ∙ past_stop i (plain_shape x) (plain_shapes (drop (i + 1) ss)) list e h
 
 pub examined_all : (ss : List Shape) (i : ℕ) (left : List Bool) (total : Left) → length ss ≤ i
     → past_all i (fields_at (plain_shapes (drop i ss)) left) ≡ total → total ≡ Ok left
@@ -114,11 +114,11 @@ pub read_more : (ss : List Shape) (i : ℕ) (x : Shape) (front : List plain.Fiel
     (field : plain.Field) (left : List Bool) (total : ReadAll) → i < length ss → x ≡ get_or ss i x
     → field_at (plain_shape x) list ≡ Ok (field, left)
     → with_front front (fields_at (plain_shapes (drop i ss)) list) ≡ total
-        → with_front (front ++ field ∷ []) (fields_at (plain_shapes (drop (i + 1) ss)) left) ≡ total
+    → with_front (front ++ field ∷ []) (fields_at (plain_shapes (drop (i + 1) ss)) left) ≡ total
 read_more ss i x front list field left total lt is e so_far =
     sym (front_step front (plain_shape x) (plain_shapes (drop (i + 1) ss)) list field left e)
-        ∙ ap (λ (shapes : List plain.Shape). with_front front (fields_at shapes list)) (sym (shapes_more ss i x lt is))
-        ∙ so_far
+    ∙ ap (λ (shapes : List plain.Shape). with_front front (fields_at shapes list)) (sym (shapes_more ss i x lt is))
+    ∙ so_far
 
 first_read : (others : List Bool → ReadAll) (r : ReadOne) → is_ok (first_and others r) ≡ true → is_ok r ≡ true
 first_read others (Ok x) h = refl
@@ -142,14 +142,14 @@ pub next_is_ok : (ss : List Shape) (i : ℕ) (x : Shape) (front : List plain.Fie
 next_is_ok ss i x front list total lt is ok so_far =
     first_is_ok front (plain_shape x) (plain_shapes (drop (i + 1) ss)) list
     (ap is_ok (ap (λ (shapes : List plain.Shape). with_front front (fields_at shapes list))
-        (sym (shapes_more ss i x lt is)) ∙ so_far) ∙ ok)
+    (sym (shapes_more ss i x lt is)) ∙ so_far) ∙ ok)
 
 pub read_all : (ss : List Shape) (i : ℕ) (front : List plain.Field) (left : List Bool) (total : ReadAll) → length ss ≤ i
     → with_front front (fields_at (plain_shapes (drop i ss)) left) ≡ total → total ≡ Ok (front, left)
 unfolding fields_at
 read_all ss i front left total le so_far =
     sym so_far ∙ ap (λ (ts : List Shape). with_front front (fields_at (plain_shapes ts) left)) (drop_all i ss le)
-        ∙ ap (λ (fs : List plain.Field). Ok (fs, left)) (append-nil front)
+    ∙ ap (λ (fs : List plain.Field). Ok (fs, left)) (append-nil front)
 
 pub from_front : (r : ReadAll) → with_front [] r ≡ r
 from_front (Ok x) = refl

@@ -38,7 +38,7 @@ number-bits (b ∷ bs) h =
 pub word_value : (o : List ℕ) (list : List Bool) (word width : ℕ) (n : ℤ) → All (λ octet. octet < 256) o → bits o ≡ list
     → width ≡ length list → word ≡ number (take width list) → 0 < width
     → (word < 2 ^ (width - 1) → n ≡ pos word) → (2 ^ (width - 1) ≤ word → n ≡ pos word -ℤ pos (2 ^ width))
-        → n ≡ signed o
+    → n ≡ signed o
 unfolding signed unsigned
 word_value o list word width n are is long held some low high = at o (IsOctets_from_All o are) is
   where
@@ -47,8 +47,13 @@ word_value o list word width n are is long held some low high = at o (IsOctets_f
 
     below : (bs : List ℕ) → IsOctets bs → unsigned bs < 256 ^ length bs
     below bs h =
-        omega (arith, number-below (bits bs) (8 * length bs) (omega (arith, length-bits bs)), number-bits bs h, power
-        (length bs))
+        omega (
+          arith,
+          number-below (bits bs) (8 * length bs) (omega (arith, length-bits bs)),
+          number-bits bs h,
+          power
+              (length bs),
+        )
 
     at : (o : List ℕ) → IsOctets o → bits o ≡ list → n ≡ signed o
     at [] h e = absurd (omega (arith, long, ap length e, length-bits []))
@@ -57,20 +62,20 @@ word_value o list word width n are is long held some low high = at o (IsOctets_f
         let len : width ≡ 8 + 8 * length bs = omega (arith, long, ap length (sym e), length-bits (b ∷ bs)) in
         let is_word : word ≡ b * m + unsigned bs = all ∙ ap number (sym e) ∙ number-bits (b ∷ bs) h in
         let whole : 2 ^ width ≡ 256 ^ length (b ∷ bs) = ap (λ (k : ℕ). 2 ^ k) (len ∙ omega arith)
-            ∙ sym (power (length (b ∷ bs))) in
+        ∙ sym (power (length (b ∷ bs))) in
         let before : width - 1 ≡ 7 + 8 * length bs = omega (arith, len) in
         let half : 2 ^ (width - 1) ≡ 128 * m = ap (λ (k : ℕ). 2 ^ k) before ∙ pow-add 2 7 (8 * length bs)
-            ∙ ap (λ (k : ℕ). 128 * k) (sym (power (length bs))) in
+        ∙ ap (λ (k : ℕ). 128 * k) (sym (power (length bs))) in
         elim (cases_lt b 128) [
           | inl lt ↦
               let sum = mul-add-lt b m (unsigned bs) 128 lt (below bs h.1) in
               low (omega (arith, is_word, half, sum)) ∙ ap (λ (k : ℕ). pos k) is_word
-                  ∙ sym (cond-true (ltb b 128) _ _ (lt-ltb b 128 lt))
+              ∙ sym (cond-true (ltb b 128) _ _ (lt-ltb b 128 lt))
           | inr le ↦
               let sum : 128 * m ≤ b * m = mul-le-mul_right m le in
               high (omega (arith, is_word, half, sum)) ∙ ap (λ (k : ℕ). pos k -ℤ pos (2 ^ width)) is_word
               ∙ ap (λ (k : ℕ). pos (b * m + unsigned bs) -ℤ pos k) whole
-                  ∙ sym (cond-false (ltb b 128) _ _ (le-ltb b 128 le))
+              ∙ sym (cond-false (ltb b 128) _ _ (le-ltb b 128 le))
         ]
 
 -- a power of 2 is twice the one before
@@ -103,22 +108,22 @@ lowest_octets n (b ∷ bs) h value some few =
     let number_is : u ≡ number (bits o) = sym (number-bits o h) in
     let below : u < m = omega (arith, number_is, number-below (bits o) width (omega (arith, length-bits o))) in
     let back : digits u width ≡ bits o = ap (λ (k : ℕ). digits k width) number_is
-        ∙ digits_of-number (bits o) width (length-bits o) in
+    ∙ digits_of-number (bits o) width (length-bits o) in
     let q : ℕ = 2 ^ (128 - width) - 1 in
     let one_more : suc q ≡ 2 ^ (128 - width) = omega (arith, pow_pos (128 - width)) in
     let whole : 128 - width + width ≡ 128 = omega (arith, few) in
     let all : q * m + m ≡ 2 ^ 128 = sym (suc-mul q m) ∙ ap (λ (k : ℕ). k * m) one_more
-        ∙ sym (pow-add 2 (128 - width) width) ∙ ap (λ (k : ℕ). 2 ^ k) whole in
+    ∙ sym (pow-add 2 (128 - width) width) ∙ ap (λ (k : ℕ). 2 ^ k) whole in
     elim (cases_lt b 128) [
       | inl lt ↦
           let is : n ≡ pos u = sym value ∙ cond-true (ltb b 128) _ _ (lt-ltb b 128 lt) in
           ap (λ (z : ℤ). digits (of_z w128 z) width) is ∙ back
       | inr le ↦
           let is : n ≡ pos u -ℤ pos m = sym value ∙ cond-false (ltb b 128) _ _ (le-ltb b 128 le)
-              ∙ ap (λ (k : ℕ). pos u -ℤ pos k) (power (length o)) in
+          ∙ ap (λ (k : ℕ). pos u -ℤ pos k) (power (length o)) in
           let negative : pos u -ℤ pos m ≡ negsuc (m - suc u) = omega (arith, ints, below) in
           let rest : 2 ^ 128 - suc (m - suc u) ≡ q * m + u = omega (arith, below, all) in
           let wraps : of_z w128 (pos u -ℤ pos m) ≡ q * m + u = ap (of_z w128) negative ∙ rest in
           ap (λ (z : ℤ). digits (of_z w128 z) width) is ∙ ap (λ (k : ℕ). digits k width) wraps ∙ digits-low q u width
-              ∙ back
+          ∙ back
     ]

@@ -110,7 +110,7 @@ one_more i list now new done c r q = record {
   where
     last : (cs : List Child) (other : List Bool) → length cs ≡ i + 1 → (d : Child) (more : List Child)
         (rest : List Bool) → cs ≡ done ++ d ∷ more → Starts (IsChild d) now rest
-            → Starts (λ l. Joined more l) rest other
+        → Starts (λ l. Joined more l) rest other
         → (done ++ c ∷ [] ≡ cs) × (new ≡ other)
     last cs other n d [] rest is s t =
         let o = q.only d rest s in

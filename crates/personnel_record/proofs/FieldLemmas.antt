@@ -107,7 +107,7 @@ all_characters a zero (f ∷ fs) z = absurd z
 all_characters a (suc n) [] z = absurd z
 all_characters a (suc n) (Character b c ∷ fs) z =
     ap (λ (x : Alphabet). Character x c ∷ fs) z.0
-        ∙ ap (λ (l : List Field). Character a c ∷ l) (all_characters a n fs z.1)
+    ∙ ap (λ (l : List Field). Character a c ∷ l) (all_characters a n fs z.1)
 all_characters a (suc n) (Number v w ∷ fs) z = absurd z.0
 all_characters a (suc n) (Octets v ∷ fs) z = absurd z.0
 all_characters a (suc n) (Bits v ∷ fs) z = absurd z.0
@@ -154,15 +154,17 @@ read_text a n text list rest shapes fs e t b only =
     record {
       found = record {
         front = b.front;
-        holds =
-            (ap length t ∙ as_many_characters a n fs zip, subst (λ (l : List Field). AreSpelledBy l b.front) are
-            b.spelled);
+        holds = (
+          ap length t ∙ as_many_characters a n fs zip,
+          subst (λ (l : List Field). AreSpelledBy l b.front) are
+              b.spelled,
+        );
         parts = b.parts;
       };
       only = λ y other s.
           let o = only (as_fields a y) other
           (subst (λ (ss : List Shape). Begins list ss (as_fields a y) other) (sym e)
-              (begins_text a n y list other s)) in
+          (begins_text a n y list other s)) in
           (t ∙ ap characters_in o.0 ∙ characters_of_fields a y, o.1);
     }
 

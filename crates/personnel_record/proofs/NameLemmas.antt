@@ -34,10 +34,10 @@ module _ (s t : StringType) (of_names : s ≡ name_string) (of_initials : t ≡ 
   name_read n list a b rest p q r =
       read_along Whole name_parts one_name n list rest
       (read_pair (λ g m. IsString name_string g m) (λ g q m. Last q m) n.given_name (n.initial, n.family_name) list a
-          rest
+      rest
       (read_in s name_string n.given_name list a of_names p)
       (read_pair (λ i m. IsString initial_string i m) (λ i f m. IsString name_string f m) n.initial n.family_name a b
-          rest
+      rest
       (read_in t initial_string n.initial a b of_initials q) (read_in s name_string n.family_name b rest of_names r)))
 
   whole : (list : List Bool) → CanRead IsName list → CanRead Whole list
@@ -46,7 +46,7 @@ module _ (s t : StringType) (of_names : s ≡ name_string) (of_initials : t ≡ 
   pub can_given : (list : List Bool) → CanRead IsName list → CanRead (λ x m. IsString s x m) list
   can_given list can =
       can_in name_string s list of_names
-          (can_first (λ g m. IsString name_string g m) (λ g q m. Last q m) list (whole list can))
+      (can_first (λ g m. IsString name_string g m) (λ g q m. Last q m) list (whole list can))
 
   last : (list a : List Bool) (g : List ℕ) → CanRead IsName list → IsRead (λ x m. IsString s x m) list g a
       → CanRead Last a

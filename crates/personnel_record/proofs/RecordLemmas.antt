@@ -102,11 +102,11 @@ record_read v r list a b c d e f rest p q s t u w x =
     (read_pair IsName (λ x q m. Number v q m) r.name
     (r.number, (r.title, (r.date_of_hire, (r.name_of_spouse, r.children)))) a b rest q
     (read_pair IsInteger (λ x q m. Title v q m) r.number (r.title, (r.date_of_hire, (r.name_of_spouse, r.children))) b c
-        rest s
+    rest s
     (read_pair (λ x m. IsString title_string x m) (λ x q m. Hire v q m) r.title
     (r.date_of_hire, (r.name_of_spouse, r.children)) c d rest t
     (read_pair (λ x m. IsString date_string x m) (λ x q m. Spouse v q m) r.date_of_hire (r.name_of_spouse, r.children) d
-        e rest u
+    e rest u
     (read_pair IsName (λ n cs m. AreChildren v cs m) r.name_of_spouse r.children e f rest w x)))))))
 
 -- the same, of one record
@@ -137,4 +137,4 @@ record_written r list a b c d e f rest p q s t u w x =
     (written_then (λ m. IsString title_string r.title m) (λ m. Hires r m) c d rest t
     (written_then (λ m. IsString date_string r.date_of_hire m) (λ m. Spouses r m) d e rest u
     (written_then (λ m. IsName r.name_of_spouse m) (λ m. AreChildren (presence r.children) r.children m) e f rest w
-        x)))))
+    x)))))

@@ -35,7 +35,7 @@ module _ (kind : StringType) (ordered : kind.least ≤ kind.most) where
       (read_along (Both (λ v n. IsNumber kind.width v n) (λ v u n. IsTextOf kind v u n)) (with_length kind)
       (λ a b e. ap (λ (p : ℕ × List ℕ). p.1) e) text list rest
       (read_pair (λ v n. IsNumber kind.width v n) (λ v u n. IsTextOf kind v u n) (length text - kind.least) text list
-          mid rest p q))
+      mid rest p q))
 
   can_both : (list : List Bool) → CanRead (λ t m. IsString kind t m) list
       → CanRead (Both (λ v n. IsNumber kind.width v n) (λ v u n. IsTextOf kind v u n)) list
@@ -43,7 +43,7 @@ module _ (kind : StringType) (ordered : kind.least ≤ kind.most) where
       can_along (Both (λ v n. IsNumber kind.width v n) (λ v u n. IsTextOf kind v u n)) (with_length kind) list
       (can_same (λ t m. IsString kind t m)
       (λ t m. Both (λ v n. IsNumber kind.width v n) (λ v u n. IsTextOf kind v u n) (with_length kind t) m) to_both list
-          can)
+      can)
 
   -- from a number that was read, and characters, as many as it says
   pub string_read : (more : ℕ) (text : List ℕ) (list mid rest : List Bool)

@@ -7,5 +7,9 @@ use Rattle.asn1_bits.proofs.kernels.read_bits.Goals as goal
 pub overflow_cast-result : goal.overflow_cast-result
 overflow_cast-result c =
     let l = drop c.args.position (bits c.args.bytes.now) in
-    omega (arith, c.read_wide.ensures, number-below (take c.args.width l) 32
-        (omega (arith, length-take c.args.width l)))
+    omega (
+      arith,
+      c.read_wide.ensures,
+      number-below (take c.args.width l) 32
+          (omega (arith, length-take c.args.width l)),
+    )

@@ -9,27 +9,27 @@ returns-then-width-eq0 c = rw c.if-width-eq0.true (sym number-nil)
 pub loop-k-init : goal.loop-k-init
 loop-k-init c =
     c.from-value.ensures ∙ gathered-first c.args.octets.now c.args.shift (omega (arith, c.requires.shift))
-        (omega (arith, c.requires.within))
+    (omega (arith, c.requires.within))
 
 pub overflow_mul-value : goal.overflow_mul-value
 overflow_mul-value c =
     let h =
-        gathered-fits c.args.octets.now c.args.shift c.loop-k.k (omega (arith, c.div_ceil-needed.ensures))
-        (omega (arith, c.div_ceil-needed.ensures)) in
+    gathered-fits c.args.octets.now c.args.shift c.loop-k.k (omega (arith, c.div_ceil-needed.ensures))
+    (omega (arith, c.div_ceil-needed.ensures)) in
     omega (arith, h, c.loop-k.invariant)
 
 pub overflow_add-value : goal.overflow_add-value
 overflow_add-value c =
     let h =
-        gathered-fits c.args.octets.now c.args.shift c.loop-k.k (omega (arith, c.div_ceil-needed.ensures))
-        (omega (arith, c.div_ceil-needed.ensures)) in
+    gathered-fits c.args.octets.now c.args.shift c.loop-k.k (omega (arith, c.div_ceil-needed.ensures))
+    (omega (arith, c.div_ceil-needed.ensures)) in
     omega (arith, h, c.loop-k.invariant, c.from.ensures, c.type_inv.octets c.loop-k.k)
 
 pub loop-k-preserved : goal.loop-k-preserved
 loop-k-preserved c =
     rw (c.from.ensures, c.loop-k.invariant)
     (sym (gathered-more c.args.octets.now c.args.shift c.loop-k.k (omega (arith, c.loop-k.auto.k))
-        (omega (arith, c.div_ceil-needed.ensures)) (omega (arith, c.type_inv.octets c.loop-k.k))))
+    (omega (arith, c.div_ceil-needed.ensures)) (omega (arith, c.type_inv.octets c.loop-k.k))))
 
 pub returns : goal.returns
 returns c =
@@ -37,4 +37,4 @@ returns c =
     let excess = needed * 8 - c.args.shift - c.args.width in
     read-short c.args.octets.now c.args.shift c.args.width excess needed c.loop-k.value c.loop-k.k
     (omega (arith, c.div_ceil-needed.ensures)) (omega (arith, c.div_ceil-needed.ensures)) (omega (arith, c.loop-k.auto))
-        c.loop-k.invariant
+    c.loop-k.invariant

@@ -11,8 +11,13 @@ field c =
     let all = bits c.args.bytes.now in
     let rest = drop c.args.position all in
     number_is (take c.args.width rest) c.read_number.result c.args.width
-    (omega (arith, length-take c.args.width rest, length-drop c.args.position all, length-bits c.args.bytes.now,
-        c.requires.within))
+    (omega (
+      arith,
+      length-take c.args.width rest,
+      length-drop c.args.position all,
+      length-bits c.args.bytes.now,
+      c.requires.within,
+    ))
     c.read_number.ensures
 
 pub returns-clause-digits : goal.returns-clause-digits

@@ -9,5 +9,5 @@ pub returns-else-len-gt0-clause-bits : goal.returns-else-len-gt0-clause-bits
 returns-else-len-gt0-clause-bits c =
     let old = bits c.args.dst.now in
     let none : bits_of c.args.src ≡ [] =
-        list_of-none (view_of c.args.src) (omega (arith, c.if-len-gt0.false, c.len-len.ensures.len)) in
+    list_of-none (view_of c.args.src) (omega (arith, c.if-len-gt0.false, c.len-len.ensures.len)) in
     sym (ap (ored old c.args.position) none ∙ ored-none old c.args.position)

@@ -15,8 +15,8 @@ returns-then-rest-gt0 c =
     let within : place ≤ 8 * length c.args.dst.now = omega (arith, c.requires.room) in
     let whole : 8 * (next / 8) ≡ next = omega (arith, c.min-front.ensures, c.if-rest-gt0.true) in
     zeros-more old (bits c.clear_octets.new.dst) _ place (next + rest / 8 * 8) (front + 8 * (rest / 8)) (rest % 8)
-        c.args.count
+    c.args.count
     (zeros-more old (bits c.clear_within.new.dst) (bits c.clear_octets.new.dst) place (8 * (next / 8)) front
-        (8 * (rest / 8)) (front + 8 * (rest / 8)) c.clear_within.ensures c.clear_octets.ensures whole (omega arith)
-        (omega (arith, n, within)))
+    (8 * (rest / 8)) (front + 8 * (rest / 8)) c.clear_within.ensures c.clear_octets.ensures whole (omega arith)
+    (omega (arith, n, within)))
     c.clear_within-then-rest-gt0.ensures (omega arith) (omega (arith, c.if-rest-gt0.true)) (omega (arith, n, within))

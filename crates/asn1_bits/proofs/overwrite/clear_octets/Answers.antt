@@ -12,9 +12,9 @@ returns c =
     let count = c.args.count in
     let n : first + count - first ≡ count = omega arith in
     let len : length (take (first + count - first) (drop first old)) ≡ count =
-        omega (arith, length-take (first + count - first) (drop first old), length-drop first old, c.requires) in
+    omega (arith, length-take (first + count - first) (drop first old), length-drop first old, c.requires) in
     let zeros : c.fill.new.self ≡ replicate count 0 = c.fill.ensures.after (λ y e. e)
-        ∙ ap (λ (k : ℕ). replicate k 0) len in
+    ∙ ap (λ (k : ℕ). replicate k 0) len in
     ap bits
     (ap (λ (k : ℕ). put_mid first k old c.fill.new.self) n
     ∙ ap (λ (l : List ℕ). take first old ++ (l ++ drop count (drop first old))) zeros

@@ -9,5 +9,5 @@ returns-clause-bits c =
     c.overwrite_bitslice.ensures.bits
     ∙ ap (λ (l : List Bool). overwritten (bits c.args.dst.now) c.args.position l)
     (lowest-digits c.to_be_bytes-octets.result (bits_of c.front_of.result) (bits_of c.slice-lowest.result) c.args.value
-        c.args.width
+    c.args.width
     c.requires.width c.to_be_bytes-octets.ensures c.front_of.ensures.list c.slice-lowest.ensures.list)

@@ -21,7 +21,7 @@ place-requires-clause-within g c =
     let old = g.D.Places.list c.args.target.now in
     let src = bits_of c.args.src in
     let n = ap (λ (l : List Bool). length l) c.loop-k.invariant.bits
-        ∙ length-ored old c.args.position (take (64 * c.loop-k.k) src) in
+    ∙ length-ored old c.args.position (take (64 * c.loop-k.k) src) in
     omega (arith, n, c.len-words.ensures.len)
 
 pub loop-k-preserved : goal.loop-k-preserved
@@ -39,8 +39,13 @@ loop-k-preserved g c =
           ∙ ap (ored (g.D.Places.list c.loop-k.target) (c.args.position + at)) c.word_of_64.ensures
           ∙ ap (λ (l : List Bool). ored l (c.args.position + at) back) c.loop-k.invariant.bits
           ∙ ored-append old c.args.position (c.args.position + at) front back (omega (arith, n))
-          (omega (arith, length-take 64 (drop at src), length-drop at src, c.len-words.ensures.len,
-              c.len-words.ensures.list))
+          (omega (
+            arith,
+            length-take 64 (drop at src),
+            length-drop at src,
+            c.len-words.ensures.len,
+            c.len-words.ensures.list,
+          ))
           ∙ ap (ored old c.args.position) (sym (take-add at 64 src) ∙ ap (λ (k : ℕ). take k src) next);
       same_reference = c.place.ensures.same_reference ∙ c.loop-k.invariant.same_reference;
       placements = omega (arith, c.place.ensures.counted, c.loop-k.invariant.placements);
@@ -52,7 +57,7 @@ place_tail-requires-clause-within g c =
     let old = g.D.Places.list c.args.target.now in
     let src = bits_of c.args.src in
     let n = ap (λ (l : List Bool). length l) c.loop-k.invariant.bits
-        ∙ length-ored old c.args.position (take (64 * c.loop-k.k) src) in
+    ∙ length-ored old c.args.position (take (64 * c.loop-k.k) src) in
     let m = ap (λ (v : View). v.len) c.split_at.ensures.back in
     omega (arith, n, m, c.len-words.ensures.len)
 
@@ -75,11 +80,11 @@ returns-clause-list g c =
     c.place_tail.ensures.list
     ∙ ap (λ (m : ℕ). ored (g.D.Places.list c.loop-k.target) m (bits_of c.split_at.result.1)) p
     ∙ ap (λ (w : View). ored (g.D.Places.list c.loop-k.target) (place + at) (list_of w))
-        (c.split_at.ensures.back ∙ rest)
+    (c.split_at.ensures.back ∙ rest)
     ∙ ap (λ (l : List Bool). ored (g.D.Places.list c.loop-k.target) (place + at) l)
-        (list_of-part v at (len - at) (omega arith))
+    (list_of-part v at (len - at) (omega arith))
     ∙ ap (λ (l : List Bool). ored l (place + at) back)
-        (c.loop-k.invariant.bits ∙ ap (λ (m : ℕ). ored old place (take m src)) k)
+    (c.loop-k.invariant.bits ∙ ap (λ (m : ℕ). ored old place (take m src)) k)
     ∙ ored-append old place (place + at) front back (omega (arith, length-take at src, n))
-        (omega (arith, length-take (len - at) (drop at src), length-drop at src, n, c.requires.within))
+    (omega (arith, length-take (len - at) (drop at src), length-drop at src, n, c.requires.within))
     ∙ ap (ored old place) (sym (take-add at (len - at) src) ∙ take_all (at + (len - at)) src (omega (arith, n)))

@@ -9,5 +9,5 @@ pub returns-else-len-gt0-clause-list : goal.returns-else-len-gt0-clause-list
 returns-else-len-gt0-clause-list g c =
     let old = g.D.Places.list c.args.target.now in
     let none : bits_of c.args.src ≡ [] =
-        nil_from_length (bits_of c.args.src) (omega (arith, c.if-len-gt0.false, c.len-len.ensures.list)) in
+    nil_from_length (bits_of c.args.src) (omega (arith, c.if-len-gt0.false, c.len-len.ensures.list)) in
     sym (ap (ored old c.args.position) none ∙ ored-none old c.args.position)

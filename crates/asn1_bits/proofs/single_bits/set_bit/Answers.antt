@@ -11,10 +11,10 @@ returns c =
     elim c.if-bit.branch [
       | then-bit w ↦
           rw (w.octets-is, w.if-bit.true)
-              (bits-set octets c.args.i _ _ c.requires (or_mask_same _ k small)
-              (λ j h ne. or_mask_other _ k j small ne))
+          (bits-set octets c.args.i _ _ c.requires (or_mask_same _ k small)
+          (λ j h ne. or_mask_other _ k j small ne))
       | else-bit w ↦
           rw (w.octets-is, w.if-bit.false)
-              (bits-set octets c.args.i _ _ c.requires (and_mask_same _ k small)
-              (λ j h ne. and_mask_other _ k j small h ne))
+          (bits-set octets c.args.i _ _ c.requires (and_mask_same _ k small)
+          (λ j h ne. and_mask_other _ k j small h ne))
     ]

@@ -10,4 +10,4 @@ returns c =
     let n : length octets ≡ 8 = ap (λ (l : List ℕ). length l) c.to_be_bytes.ensures in
     c.or_eight.ensures
     ∙ ap (ored (bits c.args.dst.now) (8 * c.args.first))
-        (ap bits (take_all 8 octets (omega (arith, n)) ∙ c.to_be_bytes.ensures) ∙ bits-bytes 8 c.args.word)
+    (ap bits (take_all 8 octets (omega (arith, n)) ∙ c.to_be_bytes.ensures) ∙ bits-bytes 8 c.args.word)

@@ -18,14 +18,14 @@ loop-k-preserved c =
     record {
       bits =
           more-placed old (bits c.loop-k.dst) (bits c.or_octets.new.dst) (drop shift src) (8 * c.args.first) (64 * k) 64
-              (8 * (c.args.first + 8 * k)) (64 * (k + 1))
+          (8 * (c.args.first + 8 * k)) (64 * (k + 1))
           c.loop-k.invariant.bits
           (c.or_octets.ensures ∙ ap (ored (bits c.loop-k.dst) (8 * (c.args.first + 8 * k)))
           (word-of_two src k shift c.load.result c.load-in-loop-k.result c.requires.word
-              (omega (arith, c.load-in-loop-k.type_inv)) c.load.ensures c.load-in-loop-k.ensures))
+          (omega (arith, c.load-in-loop-k.type_inv)) c.load.ensures c.load-in-loop-k.ensures))
           (omega arith) (omega arith)
           (omega (arith, length-bits c.args.src.now, length-drop shift src, c.requires.source, c.requires.word))
-              (omega (arith, length-bits c.args.dst.now, c.requires.room));
+          (omega (arith, length-bits c.args.dst.now, c.requires.room));
       turns = omega (arith, c.tick.ensures, c.loop-k.invariant.turns);
     }
 
@@ -33,5 +33,5 @@ pub returns-clause-bits : goal.returns-clause-bits
 returns-clause-bits c =
     let done : c.loop-k.k ≡ c.args.count = omega arith in
     c.loop-k.invariant.bits
-        ∙ ap (λ (k : ℕ). ored (bits c.args.dst.now) (8 * c.args.first)
-        (take (64 * k) (drop c.args.shift (bits c.args.src.now)))) done
+    ∙ ap (λ (k : ℕ). ored (bits c.args.dst.now) (8 * c.args.first)
+    (take (64 * k) (drop c.args.shift (bits c.args.src.now)))) done

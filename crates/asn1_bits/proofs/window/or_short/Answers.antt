@@ -14,11 +14,11 @@ loop-k-init c = sym (ored-none (bits c.args.dst.now) (8 * (c.args.position / 8))
 pub loop-k-preserved : goal.loop-k-preserved
 loop-k-preserved c =
     or-more (bits c.args.dst.now) c.loop-k.dst c.to_be_bytes-octets.result (c.args.position / 8) c.loop-k.k
-        c.loop-k.invariant
+    c.loop-k.invariant
     (omega (arith, c.loop-k.auto.dst, c.div_ceil-count.ensures, c.requires.width))
     (let n : length c.to_be_bytes-octets.result ≡ 8 =
-        ap (λ (l : List ℕ). length l) c.to_be_bytes-octets.ensures in omega
-        (arith, c.div_ceil-count.ensures, c.requires.width))
+    ap (λ (l : List ℕ). length l) c.to_be_bytes-octets.ensures in omega
+    (arith, c.div_ceil-count.ensures, c.requires.width))
 
 pub returns : goal.returns
 returns c =
@@ -30,8 +30,8 @@ returns c =
     c.loop-k.invariant
     ∙ ap (λ (k : ℕ). ored old (8 * (place / 8)) (take (8 * k) (bits c.to_be_bytes-octets.result))) done
     ∙ or-window old c.to_be_bytes-octets.result 8 place c.args.word c.args.width count (omega arith)
-        (omega (arith, c.div_ceil-count.ensures, c.requires.width)) (omega arith)
+    (omega (arith, c.div_ceil-count.ensures, c.requires.width)) (omega arith)
     (omega (arith, c.div_ceil-count.ensures, c.requires.width))
-        (omega (arith, c.div_ceil-count.ensures, c.requires.width))
-        (omega (arith, c.div_ceil-count.ensures, c.requires.width))
+    (omega (arith, c.div_ceil-count.ensures, c.requires.width))
+    (omega (arith, c.div_ceil-count.ensures, c.requires.width))
     c.to_be_bytes-octets.ensures

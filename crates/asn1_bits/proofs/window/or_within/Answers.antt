@@ -18,8 +18,8 @@ returns c =
     let within : q < length c.args.dst.now = omega (arith, c.requires.within, c.if-width-eq0.false) in
     let here : q + 0 ≡ q = omega arith in
     rw here at (or-more old c.args.dst.now octets q 0 (sym (ored-none old (8 * q))) (omega (arith, within))
-        (omega (arith, n)))
+    (omega (arith, n)))
     ∙ or-window old octets 8 place c.args.word c.args.width 1 (omega (arith, c.if-width-eq0.false)) (omega arith)
     (omega (arith, length-bits c.args.dst.now, c.requires.within)) (omega (arith, length-bits c.args.dst.now, within))
-        (omega (arith, c.if-width-eq0.false)) (omega (arith, c.requires.width))
+    (omega (arith, c.if-width-eq0.false)) (omega (arith, c.requires.width))
     c.to_be_bytes-octets.ensures

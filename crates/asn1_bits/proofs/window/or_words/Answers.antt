@@ -16,13 +16,13 @@ loop-k-preserved c =
     record {
       bits =
           more-placed old (bits c.loop-k.dst) (bits c.or_eight.new.dst) src (8 * c.args.first) (64 * k) 64
-              (8 * (c.args.first + 8 * k)) (64 * (k + 1))
+          (8 * (c.args.first + 8 * k)) (64 * (k + 1))
           c.loop-k.invariant.bits
           (c.or_eight.ensures ∙ ap (ored (bits c.loop-k.dst) (8 * (c.args.first + 8 * k)))
-              (bits-eight c.args.src.now k))
+          (bits-eight c.args.src.now k))
           (omega arith) (omega arith)
           (omega (arith, length-bits c.args.src.now, c.requires.source))
-              (omega (arith, length-bits c.args.dst.now, c.requires.room));
+          (omega (arith, length-bits c.args.dst.now, c.requires.room));
       turns = omega (arith, c.tick.ensures, c.loop-k.invariant.turns);
     }
 
@@ -30,4 +30,4 @@ pub returns-clause-bits : goal.returns-clause-bits
 returns-clause-bits c =
     let done : c.loop-k.k ≡ c.args.count = omega arith in
     c.loop-k.invariant.bits
-        ∙ ap (λ (k : ℕ). ored (bits c.args.dst.now) (8 * c.args.first) (take (64 * k) (bits c.args.src.now))) done
+    ∙ ap (λ (k : ℕ). ored (bits c.args.dst.now) (8 * c.args.first) (take (64 * k) (bits c.args.src.now))) done

@@ -10,7 +10,7 @@ returns c =
     let q = c.args.position / 8 in
     let w = c.args.word * 2 ^ (64 - c.args.width) % 2 ^ 64 / 2 ^ (c.args.position % 8) in
     put-digits c.args.dst.now c.set_octets.new.dst c.args.position c.args.word c.args.width c.requires.zeros
-        (omega arith) c.requires.width (omega arith)
+    (omega arith) c.requires.width (omega arith)
     (c.set_octets.ensures
     ∙ ap (λ (n : ℕ). take (8 * q) old ++ (digits (bit_or (n * 2 ^ 56 % 2 ^ 64) w) 64 ++ drop (8 * q + 64) old))
-        c.from-begun.ensures)
+    c.from-begun.ensures)

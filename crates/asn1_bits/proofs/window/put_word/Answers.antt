@@ -12,4 +12,4 @@ returns-else-position-width-le64 c =
     placed-two (bits c.args.dst.now) (bits c.put_near-else-position-width-le64.new.dst) (bits c.or_within.new.dst)
     place (place + front) c.args.word front past c.args.width
     c.put_near-else-position-width-le64.ensures c.or_within.ensures (omega arith) (omega arith)
-        (omega (arith, length-bits c.args.dst.now))
+    (omega (arith, length-bits c.args.dst.now))

@@ -20,4 +20,4 @@ loop-k-preserved c =
 pub returns : goal.returns
 returns c =
     set-all c.args.dst.now c.loop-k.dst c.to_be_bytes-octets.result c.args.first c.loop-k.k c.args.word
-        c.loop-k.invariant (omega arith) c.to_be_bytes-octets.ensures
+    c.loop-k.invariant (omega arith) c.to_be_bytes-octets.ensures

@@ -14,14 +14,14 @@ returns c =
     let b = c.load-2.result in
     let front = bit_or (a * 2 ^ 64 % 2 ^ 128) b in
     ap
-        (λ (n : ℕ). digits (bit_or (bit_or (n * 2 ^ 64 % 2 ^ 128) c.from-2.result * 2 ^ shift % 2 ^ 128)
-        (c.from-3.result * 2 ^ shift % 2 ^ 128 / 2 ^ 8)) 128) c.from.ensures
+    (λ (n : ℕ). digits (bit_or (bit_or (n * 2 ^ 64 % 2 ^ 128) c.from-2.result * 2 ^ shift % 2 ^ 128)
+    (c.from-3.result * 2 ^ shift % 2 ^ 128 / 2 ^ 8)) 128) c.from.ensures
     ∙ ap
-        (λ (n : ℕ). digits (bit_or (bit_or (a * 2 ^ 64 % 2 ^ 128) n * 2 ^ shift % 2 ^ 128)
-        (c.from-3.result * 2 ^ shift % 2 ^ 128 / 2 ^ 8)) 128) c.from-2.ensures
+    (λ (n : ℕ). digits (bit_or (bit_or (a * 2 ^ 64 % 2 ^ 128) n * 2 ^ shift % 2 ^ 128)
+    (c.from-3.result * 2 ^ shift % 2 ^ 128 / 2 ^ 8)) 128) c.from-2.ensures
     ∙ ap (λ (n : ℕ). digits (bit_or (front * 2 ^ shift % 2 ^ 128) (n * 2 ^ shift % 2 ^ 128 / 2 ^ 8)) 128)
-        c.from-3.ensures
+    c.from-3.ensures
     ∙ carry-joined list 128 shift front (get_or octets 16 0) c.requires.shift (omega arith)
-        (omega (arith, c.type_inv.octets 16))
+    (omega (arith, c.type_inv.octets 16))
     (pair-digits list a b (omega (arith, c.load.type_inv)) (omega (arith, c.load-2.type_inv)) c.load.ensures
-        c.load-2.ensures) (sym (bits-octet octets 16 (omega (arith, c.requires.seventeen))))
+    c.load-2.ensures) (sym (bits-octet octets 16 (omega (arith, c.requires.seventeen))))

@@ -25,4 +25,4 @@ returns-clause-some c =
     let all : take (length text - (at + 1)) rest ≡ rest = take_all _ rest (simp length-drop (omega arith)) in
     rw all
     (cut_at (λ octet. eqb octet c.args.separator) text at
-        (sym c.in_ok-at.was ∙ place (goal.at.returns-clause-some c).After-position))
+    (sym c.in_ok-at.was ∙ place (goal.at.returns-clause-some c).After-position))

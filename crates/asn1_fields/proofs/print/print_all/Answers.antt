@@ -9,4 +9,4 @@ loop-field-preserved c =
     c.in_ok-print_field.ensures
     ∙ ap (λ l. l ++ line (field_text (plain_field c.field-item.result))) c.loop-field.invariant
     ∙ sym (field_lines_more c.args.fields.now c.loop-field.field-index c.field-item.result c.loop-field-test.true
-        c.field-item.is)
+    c.field-item.is)

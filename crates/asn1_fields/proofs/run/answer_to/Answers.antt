@@ -15,7 +15,7 @@ pub returns-in_default-2 : goal.returns-in_default-2
 returns-in_default-2 c =
     let none = rw c.in_default-2.is at c.in_ok-shapes.ensures in
     refused_by c.refusal-in_default-2.result (codes "bad shapes") (IsOnly (IsAnswer c.args.text.now))
-        c.refusal-in_default-2.ensures
+    c.refusal-in_default-2.ensures
     (bad_shapes c.args.text.now _ c.in-Some.ensures none)
 
 pub returns-in_default-3 : goal.returns-in_default-3
@@ -23,7 +23,7 @@ returns-in_default-3 c =
     let words = rw c.in-Some-2.is at c.in_ok-shapes.ensures in
     let none = rw c.in_default-3.is at c.in_ok-octets.ensures in
     refused_by c.refusal-in_default-3.result (codes "bad octets") (IsOnly (IsAnswer c.args.text.now))
-        c.refusal-in_default-3.ensures
+    c.refusal-in_default-3.ensures
     (bad_octets c.args.text.now _ c.in-Some.ensures _ words none)
 
 pub returns-in_default-4 : goal.returns-in_default-4
@@ -32,7 +32,7 @@ returns-in_default-4 c =
     let octets = rw c.in-Some-3.is at c.in_ok-octets.ensures in
     let none = rw (c.in_default-4.is, c.as_slice.ensures.value) at c.in_ok-view.ensures in
     refused_by c.refusal-in_default-4.result (codes "bad start") (IsOnly (IsAnswer c.args.text.now))
-        c.refusal-in_default-4.ensures
+    c.refusal-in_default-4.ensures
     (bad_start c.args.text.now _ c.in-Some.ensures _ words _ octets none)
 
 pub fields_of-requires : goal.fields_of-requires
@@ -47,6 +47,6 @@ returns c =
     let start = rw (c.in-Some-4.is, c.as_slice.ensures.value) at c.in_ok-view.ensures in
     let shapes = plain_shapes c.as_slice-2.result.now in
     goes_on c.fields_of.result (IsOnly (IsBitsAnswer (bits_of c.in-Some-4.view) shapes))
-        (IsOnly (IsAnswer c.args.text.now)) c.fields_of.ensures
+    (IsOnly (IsAnswer c.args.text.now)) c.fields_of.ensures
     (λ answer is. on_bits c.args.text.now _ c.in-Some.ensures _ words _ octets start.0 answer start.1
     (rw (← c.as_slice-2.ensures.value) (subst (λ (l : List Bool). IsOnly (IsBitsAnswer l shapes) answer) start.2 is)))

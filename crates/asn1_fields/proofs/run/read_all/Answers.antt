@@ -14,10 +14,10 @@ returns-then-count-eq0-clause-text g c =
     let text = c.loop.text.items in
     let none = rw c.if-count-eq0.true at c.in-Ok.ensures.bytes.0 in
     subst (λ (l : List ℕ). Consumes old new l) (append-nil text)
-        (consumes_more old (g.R.Read.remaining c.loop.input) new text [] c.loop.invariant none)
+    (consumes_more old (g.R.Read.remaining c.loop.input) new text [] c.loop.invariant none)
 
 pub loop-preserved : goal.loop-preserved
 loop-preserved g c =
     rw c.in_ok-extend_from_slice.ensures.items
     (consumes_more (g.R.Read.remaining c.args.input.now) (g.R.Read.remaining c.loop.input)
-        (g.R.Read.remaining c.read.new.self) c.loop.text.items _ c.loop.invariant c.in-Ok.ensures.bytes.0)
+    (g.R.Read.remaining c.read.new.self) c.loop.text.items _ c.loop.invariant c.in-Ok.ensures.bytes.0)

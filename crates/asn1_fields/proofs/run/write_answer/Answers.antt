@@ -8,7 +8,7 @@ loop-preserved g c =
     let left = c.loop.rest.now in
     let front : List ℕ = c.loop.invariant.0 in
     let all : take (length left - n) (drop n left) ≡ drop n left =
-        take_all (length left - n) (drop n left) (simp length-drop (omega arith)) in
+    take_all (length left - n) (drop n left) (simp length-drop (omega arith)) in
     let cut : left ≡ take n left ++ take (length left - n) (drop n left) =
     sym (take-append-drop n left) ∙ ap (λ (l : List ℕ). take n left ++ l) (sym all) in
     let contents = g.W.Write.contents in (

@@ -14,14 +14,14 @@ returns-then-octets-ge128 c = unsigned_below_zero_at c.args.size c.args.octets.n
 pub returns-then-number-size : goal.returns-then-number-size
 returns-then-number-size c =
     let l : c.args.size < counted_length c.args.octets.now =
-        subst (λ k. c.args.size < k) c.without_zero_first-number.ensures.counted c.if-number-size.true in
+    subst (λ k. c.args.size < k) c.without_zero_first-number.ensures.counted c.if-number-size.true in
     unsigned_too_long_at c.args.size c.args.octets.now (search rules) c.if-octets-ge128.false l
 
 pub returns : goal.returns
 returns c =
     let some : 0 < length c.args.octets.now = search rules in
     let l : counted_length c.args.octets.now ≤ c.args.size =
-        subst (λ k. k ≤ c.args.size) c.without_zero_first-number.ensures.counted c.if-number-size.false in (
+    subst (λ k. k ≤ c.args.size) c.without_zero_first-number.ensures.counted c.if-number-size.false in (
       pos (unsigned c.args.octets.now),
       unsigned_is_read_at c.args.size c.args.octets.now some c.if-octets-ge128.false l,
       c.unsigned_value.ensures ∙ c.without_zero_first-number.ensures.value,

@@ -8,5 +8,5 @@ pub returns-in-0-clause-value : goal.returns-in-0-clause-value
 returns-in-0-clause-value c =
     let zero : get_or c.args.octets.now 0 0 ≡ 0 = omega arith in
     let rest : take (length c.args.octets.now - 1) (drop 1 c.args.octets.now) ≡ drop 1 c.args.octets.now =
-        grind (arith, common_steps) in
+    grind (arith, common_steps) in
     ap unsigned rest ∙ (counted_after_zero c.args.octets.now (omega arith) zero).1

@@ -15,13 +15,13 @@ overflow_mul-value c =
     let l : c.loop-octet.octet-index + 1 < length c.args.octets.now = grind (arith, common_steps) in
     room_for_more c.args.octets.now c.loop-octet.octet-index _
     (octets_from_places c.args.octets.now (λ i. omega (arith, c.type_inv.octets i))) l c.requires.few
-        c.loop-octet.invariant
+    c.loop-octet.invariant
 
 pub loop-octet-preserved : goal.loop-octet-preserved
 loop-octet-preserved c =
     let e : get_or (take (length c.args.octets.now - 1) (drop 1 c.args.octets.now)) c.loop-octet.octet-index 0 ≡ get_or
-        c.args.octets.now (c.loop-octet.octet-index + 1) 0 = grind (arith, common_steps) in
+    c.args.octets.now (c.loop-octet.octet-index + 1) 0 = grind (arith, common_steps) in
     let l : c.loop-octet.octet-index + 1 < length c.args.octets.now = grind (arith, common_steps) in
     more_value c.args.octets.now c.loop-octet.octet-index _ c.from.result _
     (octets_from_places c.args.octets.now (λ i. omega (arith, c.type_inv.octets i))) l c.requires.few
-        c.loop-octet.invariant c.from.ensures e
+    c.loop-octet.invariant c.from.ensures e

@@ -16,4 +16,4 @@ returns c =
       | else-number-lt0 w ↦ omega (arith, ints, mag_is c.args.number, one_part c.args.number)
     ] in
     ap (λ x. count_leading_zeros 128 (2 * x + 1) / 8 + length (shortest_octets c.args.number)) m
-        ∙ spare_octets 16 c.args.number (omega (arith, ints, mag_is c.args.number))
+    ∙ spare_octets 16 c.args.number (omega (arith, ints, mag_is c.args.number))

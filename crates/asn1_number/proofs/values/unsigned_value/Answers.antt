@@ -10,16 +10,16 @@ loop-octet-init c = sym unsigned_nil
 pub overflow_mul-value : goal.overflow_mul-value
 overflow_mul-value c =
     let r =
-        unsigned_room c.args.octets.now c.loop-octet.octet-index (λ i. omega (arith, c.type_inv.octets i))
-        c.loop-octet-test.true c.requires in
+    unsigned_room c.args.octets.now c.loop-octet.octet-index (λ i. omega (arith, c.type_inv.octets i))
+    c.loop-octet-test.true c.requires in
     let e : c.loop-octet.value ≡ unsigned (take c.loop-octet.octet-index c.args.octets.now) = c.loop-octet.invariant in
     search rules
 
 pub overflow_add-value : goal.overflow_add-value
 overflow_add-value c =
     let r =
-        unsigned_room c.args.octets.now c.loop-octet.octet-index (λ i. omega (arith, c.type_inv.octets i))
-        c.loop-octet-test.true c.requires in
+    unsigned_room c.args.octets.now c.loop-octet.octet-index (λ i. omega (arith, c.type_inv.octets i))
+    c.loop-octet-test.true c.requires in
     let e : c.loop-octet.value ≡ unsigned (take c.loop-octet.octet-index c.args.octets.now) = c.loop-octet.invariant in
     let f : c.from.result ≡ get_or c.args.octets.now c.loop-octet.octet-index 0 = c.from.ensures in
     search rules
@@ -29,5 +29,5 @@ loop-octet-preserved c =
     let e : c.loop-octet.value ≡ unsigned (take c.loop-octet.octet-index c.args.octets.now) = c.loop-octet.invariant in
     let f : c.from.result ≡ get_or c.args.octets.now c.loop-octet.octet-index 0 = c.from.ensures in
     ap (λ x. x * 256 + c.from.result) e
-        ∙ (ap (λ x. unsigned (take c.loop-octet.octet-index c.args.octets.now) * 256 + x) f
-        ∙ sym (unsigned_more c.args.octets.now c.loop-octet.octet-index c.loop-octet-test.true))
+    ∙ (ap (λ x. unsigned (take c.loop-octet.octet-index c.args.octets.now) * 256 + x) f
+    ∙ sym (unsigned_more c.args.octets.now c.loop-octet.octet-index c.loop-octet-test.true))

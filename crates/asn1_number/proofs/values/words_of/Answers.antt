@@ -17,9 +17,9 @@ pub returns-in-Err-clause-octets : goal.returns-in-Err-clause-octets
 returns-in-Err-clause-octets c =
     let z = to_z-of_z c.ranges.number in
     let bits : c.cast_unsigned-bits.result ≡ of_z w128 c.args.number = c.cast_unsigned-bits.ensures
-        ∙ ap (of_z w128) z in
+    ∙ ap (of_z w128) z in
     let count : c.spare_of_sixteen.result + length (shortest_octets c.args.number) ≡ 16 =
-        ap (λ x. c.spare_of_sixteen.result + length (shortest_octets x)) (sym z) ∙ c.spare_of_sixteen.ensures in
+    ap (λ x. c.spare_of_sixteen.result + length (shortest_octets x)) (sym z) ∙ c.spare_of_sixteen.ensures in
     ap (drop c.spare_of_sixteen.result) (two_words c.cast_unsigned-bits.result)
     ∙ end_of_word 16 c.spare_of_sixteen.result c.cast_unsigned-bits.result c.args.number count
-        (bits ∙ residue_128 c.args.number)
+    (bits ∙ residue_128 c.args.number)

@@ -25,8 +25,8 @@ loop-at-preserved-then-fit g c =
     let told = c.in-Some-subidentifier_at.number in
     let next = c.in-Some-subidentifier_at.next in
     let more =
-        walks_more octets c.loop-at.at told next c.loop-at.fit c.loop-at.invariant
-        c.in-Some-subidentifier_at.ensures.some in
+    walks_more octets c.loop-at.at told next c.loop-at.fit c.loop-at.invariant
+    c.in-Some-subidentifier_at.ensures.some in
     subst (λ (b : Bool). Walks octets next (b && leb told 4294967295)) c.if-fit.true more
 
 pub loop-at-preserved : goal.loop-at-preserved
@@ -35,20 +35,20 @@ loop-at-preserved g c =
     let told = c.in-Some-subidentifier_at.number in
     let next = c.in-Some-subidentifier_at.next in
     let more =
-        walks_more octets c.loop-at.at told next c.loop-at.fit c.loop-at.invariant
-        c.in-Some-subidentifier_at.ensures.some in
+    walks_more octets c.loop-at.at told next c.loop-at.fit c.loop-at.invariant
+    c.in-Some-subidentifier_at.ensures.some in
     subst (λ (b : Bool). Walks octets next b)
-        (ap (λ (b : Bool). b && leb told 4294967295) c.if-fit.false ∙ sym c.if-fit.false) more
+    (ap (λ (b : Bool). b && leb told 4294967295) c.if-fit.false ∙ sym c.if-fit.false) more
 
 pub returns-then-fit-2-clause-reading : goal.returns-then-fit-2-clause-reading
 returns-then-fit-2-clause-reading g c =
     let octets = g.S.OctetSource.list c.args.source.now in
     reads_all octets c.loop-at.at (subst (λ (b : Bool). Walks octets c.loop-at.at b) c.if-fit-2.true
-        c.loop-at.invariant) (omega (arith, c.count-count.ensures.count))
+    c.loop-at.invariant) (omega (arith, c.count-count.ensures.count))
 
 pub returns-else-fit-2-clause-reading : goal.returns-else-fit-2-clause-reading
 returns-else-fit-2-clause-reading g c =
     let octets = g.S.OctetSource.list c.args.source.now in
     reads_large octets c.loop-at.at
-        (subst (λ (b : Bool). Walks octets c.loop-at.at b) c.if-fit-2.false c.loop-at.invariant)
-        (omega (arith, c.count-count.ensures.count))
+    (subst (λ (b : Bool). Walks octets c.loop-at.at b) c.if-fit-2.false c.loop-at.invariant)
+    (omega (arith, c.count-count.ensures.count))

@@ -8,7 +8,7 @@ pub returns-then-character-first-clause-place : goal.returns-then-character-firs
 returns-then-character-first-clause-place c =
     let set = c.args.set.now in
     run_place set (get_or set 0 0) c.args.character c.requires.run refl c.if-first-character.true
-        c.if-character-first.true
+    c.if-character-first.true
 
 pub returns-else-first-character-clause-place : goal.returns-else-first-character-clause-place
 returns-else-first-character-clause-place c =

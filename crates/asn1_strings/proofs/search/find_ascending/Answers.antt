@@ -5,9 +5,12 @@ use Rattle.asn1_strings.proofs.search.find_ascending.Goals as goal
 
 pub loop-low-init : goal.loop-low-init
 loop-low-init g c =
-    record { search =
-        rw c.count-high.ensures (starts (g.L.Entries.list c.args.entries.now) c.args.character c.args.probes.now.count);
-        same = refl; tied = refl }
+    record {
+      search =
+          rw c.count-high.ensures (starts (g.L.Entries.list c.args.entries.now) c.args.character c.args.probes.now.count);
+      same = refl;
+      tied = refl;
+    }
 
 pub entry-entry-requires : goal.entry-entry-requires
 entry-entry-requires g c = rw c.loop-low.invariant.same (omega (arith, c.loop-low.invariant.search.within))
@@ -17,7 +20,7 @@ returns-then-entry-character-clause-place g c =
     let at = c.loop-low.low + (c.loop-low.high - c.loop-low.low) / 2 in
     let value = rw c.loop-low.invariant.same at c.entry-entry.ensures.value in
     slice_get-get_or (g.L.Entries.list c.args.entries.now) at 0 (omega (arith, c.loop-low.invariant.search.within))
-        ∙ ap Some (sym value ∙ c.if-entry-character.true)
+    ∙ ap Some (sym value ∙ c.if-entry-character.true)
 
 pub returns-then-entry-character-clause-same : goal.returns-then-entry-character-clause-same
 returns-then-entry-character-clause-same g c = c.entry-entry.ensures.same ∙ c.loop-low.invariant.same
@@ -28,9 +31,13 @@ returns-then-entry-character-clause-each_look_counts g c =
 
 pub returns-then-entry-character-clause-cost : goal.returns-then-entry-character-clause-cost
 returns-then-entry-character-clause-cost g c =
-    omega (arith, c.entry-entry.ensures.probe, one_more (g.L.Entries.list c.args.entries.now) c.loop-low.low
-        c.loop-low.high c.args.character c.args.probes.now.count c.loop-low.probes.count _ c.loop-low.invariant.search
-        (omega arith))
+    omega (
+      arith,
+      c.entry-entry.ensures.probe,
+      one_more (g.L.Entries.list c.args.entries.now) c.loop-low.low
+          c.loop-low.high c.args.character c.args.probes.now.count c.loop-low.probes.count _ c.loop-low.invariant.search
+          (omega arith),
+    )
 
 pub loop-low-preserved-then-entry-character-2 : goal.loop-low-preserved-then-entry-character-2
 loop-low-preserved-then-entry-character-2 g c =
@@ -61,7 +68,7 @@ loop-low-preserved g c =
 pub returns-clause-place : goal.returns-clause-place
 returns-clause-place g c =
     nowhere (g.L.Entries.list c.args.entries.now) c.loop-low.low c.loop-low.high c.args.character
-        c.args.probes.now.count c.loop-low.probes.count _ c.loop-low.invariant.search (omega arith)
+    c.args.probes.now.count c.loop-low.probes.count _ c.loop-low.invariant.search (omega arith)
 
 pub returns-clause-same : goal.returns-clause-same
 returns-clause-same g c = c.loop-low.invariant.same

@@ -6,17 +6,17 @@ use Rattle.asn1_strings.proofs.static_permitted_alphabet.string_of.Goals as goal
 pub returns-then-not-contains_char : goal.returns-then-not-contains_char
 returns-then-not-contains_char g c =
     let wrong =
-        string_of_wrong g.S.StaticPermittedAlphabet.CHARACTER_SET_NAME (g.C.Characters.list c.args.source.now)
-        c.loop-i.i (omega arith) c.loop-i.invariant
-        (rw (← c.character-character.ensures) (sym c.contains_char.ensures ∙ c.if-not-contains_char.true)) in
+    string_of_wrong g.S.StaticPermittedAlphabet.CHARACTER_SET_NAME (g.C.Characters.list c.args.source.now)
+    c.loop-i.i (omega arith) c.loop-i.invariant
+    (rw (← c.character-character.ensures) (sym c.contains_char.ensures ∙ c.if-not-contains_char.true)) in
     rw c.invalid_restricted_string.ensures (rw c.character-character.ensures wrong)
 
 pub copied-requires : goal.copied-requires
 copied-requires g c =
     all_right (base_set g.S.StaticPermittedAlphabet.CHARACTER_SET_NAME) (g.C.Characters.list c.args.source.now)
-        (λ k h. c.loop-i.invariant k (omega arith))
+    (λ k h. c.loop-i.invariant k (omega arith))
 
 pub returns : goal.returns
 returns g c =
     rw (string_of_right g.S.StaticPermittedAlphabet.CHARACTER_SET_NAME (g.C.Characters.list c.args.source.now)
-        (λ k h. c.loop-i.invariant k (omega arith))) c.copied.ensures
+    (λ k h. c.loop-i.invariant k (omega arith))) c.copied.ensures

@@ -33,18 +33,18 @@ no_character (Oid v) none = refl
 pub loop-field-preserved : goal.loop-field-preserved
 loop-field-preserved c =
     let step =
-        next c.args.fields.now c.loop-field.field-index c.field-item.result c.loop-field-test.true c.field-item.is in
+    next c.args.fields.now c.loop-field.field-index c.field-item.result c.loop-field-test.true c.field-item.is in
     elim c.match-field.branch [
       | in-Character+in_ok-push w ↦ rw w.text-is
           (w.in_ok-push.ensures.items
           ∙ ap (λ (l : List ℕ). l ++ w.in-Character.character ∷ []) c.loop-field.invariant
           ∙ ap (λ (f : Field). characters_in (plain_fields (take c.loop-field.field-index c.args.fields.now)) ++
-              characters_in (plain_field f ∷ [])) (sym w.in-Character.is)
+          characters_in (plain_field f ∷ [])) (sym w.in-Character.is)
           ∙ sym step)
       | in_default w ↦ rw w.text-is
           (c.loop-field.invariant
           ∙ sym (append-nil (characters_in (plain_fields (take c.loop-field.field-index c.args.fields.now))))
           ∙ ap (λ (l : List ℕ). characters_in (plain_fields (take c.loop-field.field-index c.args.fields.now)) ++ l)
-              (sym (no_character c.field-item.result w.in_default.not-Character))
+          (sym (no_character c.field-item.result w.in_default.not-Character))
           ∙ sym step)
     ]

@@ -34,8 +34,8 @@ returns-then-not-is_padding-clause-refused c =
 pub returns-then-not-is_padding-clause-accepted : goal.returns-then-not-is_padding-clause-accepted
 returns-then-not-is_padding-clause-accepted c = λ other e.
     let k =
-        record_of (bits_left c.from_octets-reader.result) (bits_left c.read_record.new.reader) c.args.octets.now
-        (plain_record c.in_ok-record.record) other c.from_octets-reader.ensures.list c.in_ok-record.ensures.read e in
+    record_of (bits_left c.from_octets-reader.result) (bits_left c.read_record.new.reader) c.args.octets.now
+    (plain_record c.in_ok-record.record) other c.from_octets-reader.ensures.list c.in_ok-record.ensures.read e in
     let is : c.is_padding.result ≡ true = c.is_padding.ensures.1 k.1 in
     let not : c.is_padding.result ≡ false = c.if-not-is_padding.true in
     cc
@@ -43,4 +43,4 @@ returns-then-not-is_padding-clause-accepted c = λ other e.
 pub returns-clause-only : goal.returns-clause-only
 returns-clause-only c = λ other e.
     (record_of (bits_left c.from_octets-reader.result) (bits_left c.read_record.new.reader) c.args.octets.now
-        (plain_record c.in_ok-record.record) other c.from_octets-reader.ensures.list c.in_ok-record.ensures.read e).0
+    (plain_record c.in_ok-record.record) other c.from_octets-reader.ensures.list c.in_ok-record.ensures.read e).0

@@ -11,7 +11,7 @@ unfolding digits
 zero_digits zero = refl
 zero_digits (suc n) =
     ap (λ (l : List Bool). l ++ false ∷ []) (zero_digits n) ∙ sym (replicate_next n false)
-        ∙ ap (λ (k : ℕ). replicate k false) (add-one n)
+    ∙ ap (λ (k : ℕ). replicate k false) (add-one n)
 
 zeros_are_zero : (n : ℕ) (list : List Bool) → list ≡ replicate n false → number list ≡ 0
 zeros_are_zero n list e =

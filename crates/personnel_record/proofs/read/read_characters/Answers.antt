@@ -12,16 +12,16 @@ pub returns-in_err-fields-clause-refused : goal.returns-in_err-fields-clause-ref
 returns-in_err-fields-clause-refused c =
     let p = err_from_is_err_and c.from_residual-in_err-fields.result c.from_residual-in_err-fields.ensures.1 in
     rw (p.1, p.2) (refused_along _ _ _ _
-        (λ can. can_begin_text (alphabet_of c.args.alphabet) c.args.count (bits_left c.args.reader.now)
-        (plain_shapes c.as_slice.result.now) (ap plain_shapes c.as_slice.ensures.value ∙ c.in_ok-shapes.ensures) can)
-        c.in_err-fields.ensures.refused)
+    (λ can. can_begin_text (alphabet_of c.args.alphabet) c.args.count (bits_left c.args.reader.now)
+    (plain_shapes c.as_slice.result.now) (ap plain_shapes c.as_slice.ensures.value ∙ c.in_ok-shapes.ensures) can)
+    c.in_err-fields.ensures.refused)
 
 pub returns-clause-read : goal.returns-clause-read
 returns-clause-read c =
     read_text (alphabet_of c.args.alphabet) c.args.count c.in_ok-characters_of.field-0.items
-        (bits_left c.args.reader.now)
+    (bits_left c.args.reader.now)
     (bits_left c.read_part.new.reader) (plain_shapes c.as_slice.result.now) (plain_fields c.in_ok-fields.fields.items)
     (ap plain_shapes c.as_slice.ensures.value ∙ c.in_ok-shapes.ensures)
     (c.in_ok-characters_of.ensures
-        ∙ ap (λ (fs : List Field). characters_in (plain_fields fs)) c.as_slice-2.ensures.value)
-        c.in_ok-fields.ensures.found c.in_ok-fields.ensures.only
+    ∙ ap (λ (fs : List Field). characters_in (plain_fields fs)) c.as_slice-2.ensures.value)
+    c.in_ok-fields.ensures.found c.in_ok-fields.ensures.only

@@ -10,18 +10,18 @@ pub returns-in_err-name-clause-refused : goal.returns-in_err-name-clause-refused
 returns-in_err-name-clause-refused c =
     let p = err_from_is_err_and c.from_residual.result c.from_residual.ensures.1 in
     rw (p.1, p.2) (refused_along _ _ _ _
-        (λ can. can_name (plain_type c.args.types.now.date) c.args.types.now.dates (bits_left c.args.reader.now) can)
-        c.in_err-name.ensures.refused)
+    (λ can. can_name (plain_type c.args.types.now.date) c.args.types.now.dates (bits_left c.args.reader.now) can)
+    c.in_err-name.ensures.refused)
 
 pub returns-in_err-date_of_birth-clause-refused : goal.returns-in_err-date_of_birth-clause-refused
 returns-in_err-date_of_birth-clause-refused c =
     let p =
-        err_from_is_err_and c.from_residual-in_err-date_of_birth.result
-        c.from_residual-in_err-date_of_birth.ensures.1 in
+    err_from_is_err_and c.from_residual-in_err-date_of_birth.result
+    c.from_residual-in_err-date_of_birth.ensures.1 in
     rw (p.1, p.2) (refused_along _ _ _ _
-        (λ can. can_date (plain_type c.args.types.now.date) c.args.types.now.dates (bits_left c.args.reader.now)
-        (bits_left c.read_name.new.reader) (plain_name c.in_ok-name.name) can c.in_ok-name.ensures.read)
-        c.in_err-date_of_birth.ensures.refused)
+    (λ can. can_date (plain_type c.args.types.now.date) c.args.types.now.dates (bits_left c.args.reader.now)
+    (bits_left c.read_name.new.reader) (plain_name c.in_ok-name.name) can c.in_ok-name.ensures.read)
+    c.in_err-date_of_birth.ensures.refused)
 
 pub returns-clause-read : goal.returns-clause-read
 returns-clause-read c =

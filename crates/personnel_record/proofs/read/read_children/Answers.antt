@@ -88,5 +88,5 @@ returns-clause-read c =
     (children_read c.in_ok-count.count children old (bits_left c.read_number.new.reader) (bits_left c.loop-index.reader)
     c.in_ok-count.ensures.read (omega (arith, c.if-count-eq0.false)) c.if-count-gt127.false
     (subst (λ (n : ℕ). IsRead (AreSoMany n) (bits_left c.read_number.new.reader) children
-        (bits_left c.loop-index.reader))
+    (bits_left c.loop-index.reader))
     all c.loop-index.invariant.so_far))

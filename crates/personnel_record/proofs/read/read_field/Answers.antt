@@ -11,8 +11,8 @@ pub returns-in_err-fields-clause-refused : goal.returns-in_err-fields-clause-ref
 returns-in_err-fields-clause-refused c =
     let p = err_from_is_err_and c.from_residual.result c.from_residual.ensures.1 in
     rw (p.1, p.2) (refused_along _ _ _ _
-        (λ can. can_begin_one (bits_left c.args.reader.now) (plain_shape c.args.shape) can)
-        c.in_err-fields.ensures.refused)
+    (λ can. can_begin_one (bits_left c.args.reader.now) (plain_shape c.args.shape) can)
+    c.in_err-fields.ensures.refused)
 
 pub returns-in-Some-clause-read : goal.returns-in-Some-clause-read
 returns-in-Some-clause-read c =

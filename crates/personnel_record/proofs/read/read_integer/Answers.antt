@@ -14,7 +14,7 @@ pub returns-in_err-number-clause-refused : goal.returns-in_err-number-clause-ref
 returns-in_err-number-clause-refused c =
     let p = err_from_is_err_and c.from_residual.result c.from_residual.ensures.1 in
     rw (p.1, p.2) (refused_along _ _ _ _ (λ can. can_as_integer (bits_left c.args.reader.now) can)
-        c.in_err-number.ensures.refused)
+    c.in_err-number.ensures.refused)
 
 pub returns-in-CountedInteger-clause-read : goal.returns-in-CountedInteger-clause-read
 returns-in-CountedInteger-clause-read c =

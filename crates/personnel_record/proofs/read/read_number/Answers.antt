@@ -15,7 +15,7 @@ pub returns-in_err-value-clause-refused : goal.returns-in_err-value-clause-refus
 returns-in_err-value-clause-refused c =
     let p = err_from_is_err_and c.from_residual.result c.from_residual.ensures.1 in
     rw (p.1, p.2) (refused_along _ _ _ _ (λ can. can_as_number (bits_left c.args.reader.now) c.args.width can)
-        c.in_err-value.ensures.refused)
+    c.in_err-value.ensures.refused)
 
 pub returns-clause-read : goal.returns-clause-read
 returns-clause-read c =
@@ -24,6 +24,6 @@ returns-clause-read c =
     elim c.match-branch-2.branch [
       | in-Number w ↦ rw w.result-is (read_as_number old new w.in-Number.value _ c.args.width
           (subst (λ (f : Field). IsRead (IsField (OfNumber c.args.width)) old (plain_field f) new) w.in-Number.is
-              c.in_ok-value.ensures.read))
+          c.in_ok-value.ensures.read))
       | in_default w ↦ rw w.result-is tt
     ]

@@ -12,5 +12,5 @@ returns-in_err-write_name-clause-accepted c = λ list h.
 pub returns-clause-accepted : goal.returns-clause-accepted
 returns-clause-accepted c =
     λ list h. c.write_string.ensures.accepted h.1
-        (string_in date_string (plain_type c.args.types.now.date) c.args.child.now.date_of_birth.items
-        c.deref.result.now h.1 c.args.types.now.dates c.deref.ensures.value h.3)
+    (string_in date_string (plain_type c.args.types.now.date) c.args.child.now.date_of_birth.items
+    c.deref.result.now h.1 c.args.types.now.dates c.deref.ensures.value h.3)

@@ -12,9 +12,9 @@ invariant_of-self c =
     let a = c.args.self.now in
     let z = a.zeros in
     let f =
-        room-step a.buffer.now c.put_at.new.self (digits c.args.value c.args.width) a.position c.args.width z
-        (c.put_at.ensures.list ∙ ap (λ (n : ℕ). ored a.buffer.now a.position (digits n c.args.width)) c.from.ensures)
-        (length-digits c.args.value c.args.width) (omega (arith, z.within, c.len-len.ensures)) in
+    room-step a.buffer.now c.put_at.new.self (digits c.args.value c.args.width) a.position c.args.width z
+    (c.put_at.ensures.list ∙ ap (λ (n : ℕ). ored a.buffer.now a.position (digits n c.args.width)) c.from.ensures)
+    (length-digits c.args.value c.args.width) (omega (arith, z.within, c.len-len.ensures)) in
     record { zeros = f.rest }
 
 pub returns-clause-written : goal.returns-clause-written
@@ -22,9 +22,9 @@ returns-clause-written c =
     let a = c.args.self.now in
     let z = a.zeros in
     let f =
-        room-step a.buffer.now c.put_at.new.self (digits c.args.value c.args.width) a.position c.args.width z
-        (c.put_at.ensures.list ∙ ap (λ (n : ℕ). ored a.buffer.now a.position (digits n c.args.width)) c.from.ensures)
-        (length-digits c.args.value c.args.width) (omega (arith, z.within, c.len-len.ensures)) in
+    room-step a.buffer.now c.put_at.new.self (digits c.args.value c.args.width) a.position c.args.width z
+    (c.put_at.ensures.list ∙ ap (λ (n : ℕ). ored a.buffer.now a.position (digits n c.args.width)) c.from.ensures)
+    (length-digits c.args.value c.args.width) (omega (arith, z.within, c.len-len.ensures)) in
     f.taken
 
 pub returns-clause-room : goal.returns-clause-room
@@ -32,7 +32,7 @@ returns-clause-room c =
     let a = c.args.self.now in
     let z = a.zeros in
     let f =
-        room-step a.buffer.now c.put_at.new.self (digits c.args.value c.args.width) a.position c.args.width z
-        (c.put_at.ensures.list ∙ ap (λ (n : ℕ). ored a.buffer.now a.position (digits n c.args.width)) c.from.ensures)
-        (length-digits c.args.value c.args.width) (omega (arith, z.within, c.len-len.ensures)) in
+    room-step a.buffer.now c.put_at.new.self (digits c.args.value c.args.width) a.position c.args.width z
+    (c.put_at.ensures.list ∙ ap (λ (n : ℕ). ored a.buffer.now a.position (digits n c.args.width)) c.from.ensures)
+    (length-digits c.args.value c.args.width) (omega (arith, z.within, c.len-len.ensures)) in
     omega (arith, f.len, z.within, c.len-len.ensures, length-digits c.args.value c.args.width)

@@ -11,8 +11,8 @@ invariant_of-self c =
     let a = c.args.self.now in
     let z = a.zeros in
     let f =
-        room-step a.buffer.now c.write_at.new.self (bits_of c.args.src) a.position c.len.result z
-        c.write_at.ensures.list (sym c.len.ensures.list) (omega (arith, z.within, c.len.ensures.len)) in
+    room-step a.buffer.now c.write_at.new.self (bits_of c.args.src) a.position c.len.result z
+    c.write_at.ensures.list (sym c.len.ensures.list) (omega (arith, z.within, c.len.ensures.len)) in
     record { zeros = f.rest }
 
 pub returns-clause-written : goal.returns-clause-written
@@ -20,8 +20,8 @@ returns-clause-written c =
     let a = c.args.self.now in
     let z = a.zeros in
     let f =
-        room-step a.buffer.now c.write_at.new.self (bits_of c.args.src) a.position c.len.result z
-        c.write_at.ensures.list (sym c.len.ensures.list) (omega (arith, z.within, c.len.ensures.len)) in
+    room-step a.buffer.now c.write_at.new.self (bits_of c.args.src) a.position c.len.result z
+    c.write_at.ensures.list (sym c.len.ensures.list) (omega (arith, z.within, c.len.ensures.len)) in
     f.taken
 
 pub returns-clause-room : goal.returns-clause-room
@@ -29,6 +29,6 @@ returns-clause-room c =
     let a = c.args.self.now in
     let z = a.zeros in
     let f =
-        room-step a.buffer.now c.write_at.new.self (bits_of c.args.src) a.position c.len.result z
-        c.write_at.ensures.list (sym c.len.ensures.list) (omega (arith, z.within, c.len.ensures.len)) in
+    room-step a.buffer.now c.write_at.new.self (bits_of c.args.src) a.position c.len.result z
+    c.write_at.ensures.list (sym c.len.ensures.list) (omega (arith, z.within, c.len.ensures.len)) in
     omega (arith, f.len, z.within, c.len.ensures.len)

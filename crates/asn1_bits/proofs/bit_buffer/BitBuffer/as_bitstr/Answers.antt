@@ -8,15 +8,20 @@ use Rattle.asn1_bits.proofs.bit_buffer.BitBuffer.as_bitstr.Goals as goal
 pub front_of-requires : goal.front_of-requires
 front_of-requires c =
     let b = c.self.inside in
-    omega (arith, length-bits_shown b.bytes.items b.len c.self.invariant, ap (λ (l : List Bool). length l)
-        c.self.view_is, c.as_bytes.ensures.count)
+    omega (
+      arith,
+      length-bits_shown b.bytes.items b.len c.self.invariant,
+      ap (λ (l : List Bool). length l)
+          c.self.view_is,
+      c.as_bytes.ensures.count,
+    )
 
 pub returns-clause-list : goal.returns-clause-list
 returns-clause-list c =
     let b = c.self.inside in
     let list = c.args.self.now in
     let n : b.len ≡ length list = sym (length-bits_shown b.bytes.items b.len c.self.invariant)
-        ∙ ap (λ (l : List Bool). length l) c.self.view_is in
+    ∙ ap (λ (l : List Bool). length l) c.self.view_is in
     c.front_of.ensures.list
     ∙ ap (take b.len) c.as_bytes.ensures.spelled
     ∙ take_at list (replicate (8 * octets_for (length list) - length list) false) b.len (sym n)

@@ -17,5 +17,13 @@ returns-clause-len c =
     let zeros = replicate c.len.result false in
     let after = ap (λ (l : List Bool). length l) c.write_at.ensures.list in
     let grown = ap (λ (l : List Bool). length l) c.in_ok-grow.ensures.ok in
-    omega (arith, after, grown, c.len.ensures.len, length-ored c.grow.new.self c.len-position.result
-        (bits_of c.args.src), length-append c.args.self.now zeros, length-replicate c.len.result false)
+    omega (
+      arith,
+      after,
+      grown,
+      c.len.ensures.len,
+      length-ored c.grow.new.self c.len-position.result
+          (bits_of c.args.src),
+      length-append c.args.self.now zeros,
+      length-replicate c.len.result false,
+    )

@@ -7,19 +7,29 @@ use Rattle.asn1_bits.proofs.bit_buffer.BitBuffer.extend_whole.Goals as goal
 pub overflow_add-self : goal.overflow_add-self
 overflow_add-self c =
     let b = c.self.inside in
-    omega (arith, length-bits_shown b.bytes.items b.len c.self.invariant, ap (λ (l : List Bool). length l)
-        c.self.view_is, c.requires.fits)
+    omega (
+      arith,
+      length-bits_shown b.bytes.items b.len c.self.invariant,
+      ap (λ (l : List Bool). length l)
+          c.self.view_is,
+      c.requires.fits,
+    )
 
 filled : (c : goal.After-self-1)
     → IsFilled c.extend_from_slice.new.self.items (c.self.inside.len + 8 * length c.args.src.now)
     × (bits_shown c.extend_from_slice.new.self.items (c.self.inside.len + 8 * length c.args.src.now) ≡ bits_shown
-        c.self.inside.bytes.items c.self.inside.len ++ bits c.args.src.now)
+    c.self.inside.bytes.items c.self.inside.len ++ bits c.args.src.now)
 filled c =
     let b = c.self.inside in
     rw c.in_ok-extend_from_slice.ensures.items
     (whole-filled b.bytes.items c.args.src.now b.len c.self.invariant
-    (omega (arith, length-bits_shown b.bytes.items b.len c.self.invariant, ap (λ (l : List Bool). length l)
-        c.self.view_is, c.requires.whole)))
+    (omega (
+      arith,
+      length-bits_shown b.bytes.items b.len c.self.invariant,
+      ap (λ (l : List Bool). length l)
+          c.self.view_is,
+      c.requires.whole,
+    )))
 
 pub invariant_of-self-2 : goal.invariant_of-self-2
 invariant_of-self-2 c = (filled c).0
@@ -32,6 +42,6 @@ returns-clause-len c =
     let f = filled c in
     length-bits_shown c.extend_from_slice.new.self.items (c.self.inside.len + 8 * length c.args.src.now) f.0
     ∙ (let n : c.self.inside.len ≡ length c.args.self.now =
-        sym (length-bits_shown c.self.inside.bytes.items c.self.inside.len c.self.invariant)
-        ∙ ap (λ (l : List Bool). length l) c.self.view_is in
+    sym (length-bits_shown c.self.inside.bytes.items c.self.inside.len c.self.invariant)
+    ∙ ap (λ (l : List Bool). length l) c.self.view_is in
     ap (λ (k : ℕ). k + 8 * length c.args.src.now) n)

@@ -9,24 +9,28 @@ use Rattle.asn1_bits.proofs.bit_buffer.BitBuffer.grow.Goals.{then-needed-len+in_
 pub overflow_add-len : goal.overflow_add-len
 overflow_add-len c =
     let b = c.self.inside in
-    omega (arith, length-bits_shown b.bytes.items b.len c.self.invariant, ap (λ (l : List Bool). length l)
-        c.self.view_is)
+    omega (
+      arith,
+      length-bits_shown b.bytes.items b.len c.self.invariant,
+      ap (λ (l : List Bool). length l)
+          c.self.view_is,
+    )
 
 pub returns-in_err-resize-clause-free : goal.returns-in_err-resize-clause-free
 returns-in_err-resize-clause-free c = λ same.
     let b = c.self.inside in
     let len : b.len ≡ length c.args.self.now = sym (length-bits_shown b.bytes.items b.len c.self.invariant)
-        ∙ ap (λ (l : List Bool). length l) c.self.view_is in
+    ∙ ap (λ (l : List Bool). length l) c.self.view_is in
     let held : octets_for b.len ≡ length b.bytes.items = sym c.self.invariant.count in
     absurd (omega (arith, b.bytes.ok.0, rw (← len) at same, held))
 
 filled : (c : goal.After-self-1) → IsFilled c.if-needed-len.self-inside.bytes.items (c.self.inside.len + c.args.count)
     × (bits_shown c.if-needed-len.self-inside.bytes.items (c.self.inside.len + c.args.count) ≡ bits_shown
-        c.self.inside.bytes.items c.self.inside.len ++ replicate c.args.count false)
+    c.self.inside.bytes.items c.self.inside.len ++ replicate c.args.count false)
 filled c =
     let b = c.self.inside in
     filled-grow_to b.bytes.items c.if-needed-len.self-inside.bytes.items b.len c.args.count c.div_ceil-needed.result
-        c.self.invariant c.div_ceil-needed.ensures
+    c.self.invariant c.div_ceil-needed.ensures
     (elim c.if-needed-len.branch [
       | then-needed-len+in_ok-resize w ↦
           let items = b.bytes.items in
@@ -34,7 +38,7 @@ filled c =
           rw w.self-inside-is
           (w.in_ok-resize.ensures.items
           ∙ ap (λ (l : List ℕ). l ++ replicate (needed - b.bytes.len) 0)
-              (take_all needed items (omega (arith, b.bytes.ok.0)))
+          (take_all needed items (omega (arith, b.bytes.ok.0)))
           ∙ ap (λ (n : ℕ). items ++ replicate (needed - n) 0) b.bytes.ok.0)
       | else-needed-len w ↦
           let items = b.bytes.items in

@@ -13,4 +13,4 @@ returns-clause-count c =
     let b = c.self.inside in
     b.bytes.ok.0 ∙ c.self.invariant.count
     ∙ ap octets_for (sym (length-bits_shown b.bytes.items b.len c.self.invariant)
-        ∙ ap (λ (l : List Bool). length l) c.self.view_is)
+    ∙ ap (λ (l : List Bool). length l) c.self.view_is)

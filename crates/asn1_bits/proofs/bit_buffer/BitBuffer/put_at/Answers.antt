@@ -17,15 +17,20 @@ pub put_word-requires-clause-zeros : goal.put_word-requires-clause-zeros
 put_word-requires-clause-zeros c =
     let b = c.self.inside in
     rw c.as_mut_slice.ensures.value
-        (zeros-shown b.bytes.items b.len c.args.position c.args.self.now c.self.invariant c.self.view_is
-        c.requires.zeros)
+    (zeros-shown b.bytes.items b.len c.args.position c.args.self.now c.self.invariant c.self.view_is
+    c.requires.zeros)
 
 pub put_word-requires-clause-within : goal.put_word-requires-clause-within
 put_word-requires-clause-within c =
     let b = c.self.inside in
     let shows = ap (λ (l : List Bool). length l) c.self.view_is in
-    omega (arith, length-bits_shown b.bytes.items b.len c.self.invariant, len_fits b.bytes.items b.len c.self.invariant,
-        ap (λ (l : List ℕ). length l) c.as_mut_slice.ensures.value, shows)
+    omega (
+      arith,
+      length-bits_shown b.bytes.items b.len c.self.invariant,
+      len_fits b.bytes.items b.len c.self.invariant,
+      ap (λ (l : List ℕ). length l) c.as_mut_slice.ensures.value,
+      shows,
+    )
 
 filled : (c : goal.After-tick) → IsFilled c.put_word.new.dst c.self.inside.len
     × (bits_shown c.put_word.new.dst c.self.inside.len ≡ ored c.args.self.now c.args.position
@@ -37,8 +42,13 @@ filled c =
     let f = filled-ored b.bytes.items c.put_word.new.dst b.len c.args.position src c.self.invariant
     (c.put_word.ensures ∙ ap (λ (l : List ℕ). ored (bits l) c.args.position src) c.as_mut_slice.ensures.value)
     (omega (arith, c.put_word.auto.dst, c.as_mut_slice.ensures.len, b.bytes.ok.0))
-    (omega (arith, length-bits_shown b.bytes.items b.len c.self.invariant, shows, length-digits c.args.word
-        c.args.width)) in
+    (omega (
+      arith,
+      length-bits_shown b.bytes.items b.len c.self.invariant,
+      shows,
+      length-digits c.args.word
+          c.args.width,
+    )) in
     (f.0, f.1 ∙ ap (λ (l : List Bool). ored l c.args.position src) c.self.view_is)
 
 same_len : (c : goal.After-tick) → length c.put_word.new.dst ≡ c.self.inside.bytes.len

@@ -7,4 +7,4 @@ loop-index-preserved c =
     c.set.ensures
     ∙ ap (λ (l : List Bool). set l c.loop-index.index true) c.loop-index.invariant
     ∙ set-zeros c.args.self.now c.len-position.result c.loop-index.index c.args.new_len (sym c.len-position.ensures)
-        (omega arith) (omega arith)
+    (omega arith) (omega arith)

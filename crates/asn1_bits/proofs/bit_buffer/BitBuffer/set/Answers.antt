@@ -9,8 +9,13 @@ pub set_bit-requires : goal.set_bit-requires
 set_bit-requires c =
     let b = c.self.inside in
     let shows = ap (λ (l : List Bool). length l) c.self.view_is in
-    omega (arith, length-bits_shown b.bytes.items b.len c.self.invariant, len_fits b.bytes.items b.len c.self.invariant,
-        ap (λ (l : List ℕ). length l) c.as_mut_slice.ensures.value, shows)
+    omega (
+      arith,
+      length-bits_shown b.bytes.items b.len c.self.invariant,
+      len_fits b.bytes.items b.len c.self.invariant,
+      ap (λ (l : List ℕ). length l) c.as_mut_slice.ensures.value,
+      shows,
+    )
 
 filled : (c : goal.After-self-1) → IsFilled c.set_bit.new.octets c.self.inside.len
     × (bits_shown c.set_bit.new.octets c.self.inside.len ≡ set c.args.self.now c.args.index c.args.bit)

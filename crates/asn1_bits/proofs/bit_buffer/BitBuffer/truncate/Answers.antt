@@ -8,8 +8,12 @@ pub returns-then-len-self : goal.returns-then-len-self
 returns-then-len-self c =
     let b = c.self.inside in
     sym (take_all c.args.len c.args.self.now
-        (omega (arith, length-bits_shown b.bytes.items b.len c.self.invariant, ap (λ (l : List Bool). length l)
-        c.self.view_is)))
+    (omega (
+      arith,
+      length-bits_shown b.bytes.items b.len c.self.invariant,
+      ap (λ (l : List Bool). length l)
+          c.self.view_is,
+    )))
 
 pub clear_from-requires : goal.clear_from-requires
 clear_from-requires c =

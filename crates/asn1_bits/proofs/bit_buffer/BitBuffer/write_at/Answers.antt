@@ -11,8 +11,13 @@ pub write_bitslice-requires-clause-room : goal.write_bitslice-requires-clause-ro
 write_bitslice-requires-clause-room c =
     let b = c.self.inside in
     let shows = ap (λ (l : List Bool). length l) c.self.view_is in
-    omega (arith, length-bits_shown b.bytes.items b.len c.self.invariant, len_fits b.bytes.items b.len c.self.invariant,
-        ap (λ (l : List ℕ). length l) c.as_mut_slice.ensures.value, shows)
+    omega (
+      arith,
+      length-bits_shown b.bytes.items b.len c.self.invariant,
+      len_fits b.bytes.items b.len c.self.invariant,
+      ap (λ (l : List ℕ). length l) c.as_mut_slice.ensures.value,
+      shows,
+    )
 
 pub write_bitslice-requires-clause-fits : goal.write_bitslice-requires-clause-fits
 write_bitslice-requires-clause-fits c =
@@ -30,10 +35,15 @@ filled c =
     let shows = ap (λ (l : List Bool). length l) c.self.view_is in
     let f = filled-ored b.bytes.items c.write_bitslice.new.dst b.len c.args.position src c.self.invariant
     (c.write_bitslice.ensures.bits
-        ∙ ap (λ (l : List ℕ). ored (bits l) c.args.position src) c.as_mut_slice.ensures.value)
+    ∙ ap (λ (l : List ℕ). ored (bits l) c.args.position src) c.as_mut_slice.ensures.value)
     (omega (arith, c.write_bitslice.auto.dst, c.as_mut_slice.ensures.len, b.bytes.ok.0))
-    (omega (arith, length-bits_shown b.bytes.items b.len c.self.invariant, shows, length-list_of (view_of c.args.src)
-        c.args.src.within)) in
+    (omega (
+      arith,
+      length-bits_shown b.bytes.items b.len c.self.invariant,
+      shows,
+      length-list_of (view_of c.args.src)
+          c.args.src.within,
+    )) in
     (f.0, f.1 ∙ ap (λ (l : List Bool). ored l c.args.position src) c.self.view_is)
 
 same_len : (c : goal.After-self-1) → length c.write_bitslice.new.dst ≡ c.self.inside.bytes.len

@@ -7,4 +7,4 @@ pub returns-clause-bits : goal.returns-clause-bits
 returns-clause-bits c =
     c.in_ok-push_octets_to.ensures.ok
     ∙ ap (λ (l : List Bool). l ++ bits_left c.args.self.now)
-        (bits-none c.new-octets.result.items c.new-octets.ensures.items)
+    (bits-none c.new-octets.result.items c.new-octets.ensures.items)

@@ -21,4 +21,4 @@ returns-clause-octets c =
     let b = c.args.self.now in
     let P : List ℕ → Type 0 = λ l. All (λ o. o < 256) l in
     subst P (sym (piece c)) (All-take (λ o. o < 256) (b.len / 8) (drop b.octet b.storage.now)
-        (All-drop (λ o. o < 256) b.octet b.storage.now b.octets))
+    (All-drop (λ o. o < 256) b.octet b.storage.now b.octets))

@@ -12,7 +12,7 @@ returns-then-low-eq0-clause-bits c =
     c.or_words.ensures.bits
     ∙ ap (ored (bits c.args.dst.now) (8 * c.args.first))
     (list_of-run (view_of b) at octet 0 (64 * c.args.count) c.from_octet.result.now c.from_octet.ensures
-        (omega (arith, c.if-low-eq0.true)) c.requires.within)
+    (omega (arith, c.if-low-eq0.true)) c.requires.within)
 
 pub returns-else-low-eq0-clause-bits : goal.returns-else-low-eq0-clause-bits
 returns-else-low-eq0-clause-bits c =
@@ -23,4 +23,4 @@ returns-else-low-eq0-clause-bits c =
     c.or_shifted_words.ensures.bits
     ∙ ap (ored (bits c.args.dst.now) (8 * c.args.first))
     (list_of-run (view_of b) at (octet - 7) (56 + low % 8) (64 * c.args.count) c.from_octet-src.result.now
-        c.from_octet-src.ensures (omega (arith, c.requires.behind)) c.requires.within)
+    c.from_octet-src.ensures (omega (arith, c.requires.behind)) c.requires.within)

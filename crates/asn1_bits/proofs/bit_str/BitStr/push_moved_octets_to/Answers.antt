@@ -10,7 +10,7 @@ pub returns-then-count-eq0-clause-ok : goal.returns-then-count-eq0-clause-ok
 returns-then-count-eq0-clause-ok c =
     let octets = c.args.octets.now.items in
     sym (ap (λ (l : List Bool). bits octets ++ l) (list_of-none (view_of c.args.self.now) (omega arith))
-        ∙ append-nil (bits octets))
+    ∙ append-nil (bits octets))
 
 pub returns-clause-ok : goal.returns-clause-ok
 returns-clause-ok c =
@@ -23,12 +23,18 @@ returns-clause-ok c =
     let dst = c.write_bitslice.new.dst in
     let n : c.len-front.result ≡ length v.items = omega (arith, c.len-front.ensures, v.ok.0) in
     let len : length (front ++ dst) ≡ grown.len =
-    omega (arith, length-append front dst, c.write_bitslice.auto.dst, c.split_at_mut-room.ensures.front_len,
-        c.split_at_mut-room.ensures.back_len, c.as_mut_slice.ensures.len) in
+    omega (
+      arith,
+      length-append front dst,
+      c.write_bitslice.auto.dst,
+      c.split_at_mut-room.ensures.front_len,
+      c.split_at_mut-room.ensures.back_len,
+      c.as_mut_slice.ensures.len,
+    ) in
     ap bits (take_at (front ++ dst) (drop (length (front ++ dst)) grown.items) grown.len len)
     ∙ bits-lengthened v.items grown.items front room dst (bits_of b) c.len-front.result c.in-Some.needed (b.len / 8)
     (c.in_ok-resize.ensures.items ∙ ap (λ (k : ℕ). take needed v.items ++ replicate (needed - k) 0)
-        (sym c.len-front.ensures)) n c.in-Some.ensures.1
+    (sym c.len-front.ensures)) n c.in-Some.ensures.1
     (c.split_at_mut-room.ensures.front ∙ ap (λ (l : List ℕ). take c.len-front.result l) c.as_mut_slice.ensures.value)
     (c.split_at_mut-room.ensures.back ∙ ap (λ (l : List ℕ). drop c.len-front.result l) c.as_mut_slice.ensures.value)
     c.write_bitslice.ensures.bits

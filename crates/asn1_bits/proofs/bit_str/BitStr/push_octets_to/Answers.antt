@@ -8,4 +8,4 @@ returns-in-Some-clause-ok c =
     let old = c.args.octets.now.items in
     let own = c.in-Some.own.now in
     ap bits c.in_ok-extend_from_slice.ensures.items ∙ bits-append old own
-        ∙ ap (λ (l : List Bool). bits old ++ l) c.in-Some.ensures.bits
+    ∙ ap (λ (l : List Bool). bits old ++ l) c.in-Some.ensures.bits

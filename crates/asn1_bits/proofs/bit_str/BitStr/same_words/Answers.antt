@@ -11,7 +11,7 @@ loop-k-preserved c =
     let at = 64 * c.loop-k.k in
     let next : at + 64 ≡ 64 * (c.loop-k.k + 1) = omega arith in
     let word : take 64 (drop at xs) ≡ take 64 (drop at ys) = sym c.word_of_64.ensures
-        ∙ ap (λ (n : ℕ). digits n 64) c.if-word_of_64.false ∙ c.word_of_64-in-loop-k.ensures in
+    ∙ ap (λ (n : ℕ). digits n 64) c.if-word_of_64.false ∙ c.word_of_64-in-loop-k.ensures in
     ap (λ (n : ℕ). take n xs) (sym next) ∙ take-add at 64 xs
     ∙ ap (λ (l : List Bool). l ++ take 64 (drop at xs)) c.loop-k.invariant
     ∙ ap (λ (l : List Bool). take at ys ++ l) word

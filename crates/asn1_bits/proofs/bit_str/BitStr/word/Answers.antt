@@ -14,7 +14,13 @@ returns c =
     let piece = take c.args.width (drop at (bits_of b)) in
     ap (λ (n : ℕ). digits n c.args.width) (c.read_word.ensures
     ∙ ap number (list_of-run (view_of b) at (b.octet + at / 8 + low / 8) (low % 8) c.args.width
-        c.from_octet-octets.result.now c.from_octet-octets.ensures (omega arith) c.requires.within))
+    c.from_octet-octets.result.now c.from_octet-octets.ensures (omega arith) c.requires.within))
     ∙ digits_of-number piece c.args.width
-        (omega (arith, length-take c.args.width (drop at (bits_of b)), length-drop at (bits_of b), length-list_of
-        (view_of b) b.within, c.requires.within))
+    (omega (
+      arith,
+      length-take c.args.width (drop at (bits_of b)),
+      length-drop at (bits_of b),
+      length-list_of
+          (view_of b) b.within,
+      c.requires.within,
+    ))

@@ -9,4 +9,4 @@ returns c =
     let at = c.args.at in
     let low = b.shift + at % 8 in
     whole_read (view_of b) at (b.octet + at / 8 + low / 8) (low % 8) c.whole_word.result (omega arith) c.requires
-        c.whole_word.ensures
+    c.whole_word.ensures

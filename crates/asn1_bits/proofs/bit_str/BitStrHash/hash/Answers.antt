@@ -14,7 +14,7 @@ pub loop-k-init : goal.loop-k-init
 loop-k-init g c =
     let start = g.H.Hasher.write c.args.state.now (fed.le_bytes 8 c.args.self.now.len) in
     c.write_usize.ensures
-        ∙ sym (ap (λ (l : List (List ℕ)). fold g.H.Hasher.write start l) (fed-none (bits_of c.args.self.now)))
+    ∙ sym (ap (λ (l : List (List ℕ)). fold g.H.Hasher.write start l) (fed-none (bits_of c.args.self.now)))
 
 pub loop-k-preserved : goal.loop-k-preserved
 loop-k-preserved g c =
@@ -25,7 +25,7 @@ loop-k-preserved g c =
     c.write_u64.ensures
     ∙ ap (λ (s : g.row.H.Denot). g.H.Hasher.write s (fed.le_bytes 8 word)) c.loop-k.invariant
     ∙ sym (ap (λ (l : List (List ℕ)). fold g.H.Hasher.write start l)
-        (fed-more list k word (number-word _ word (omega (arith, c.word_of_64.type_inv)) c.word_of_64.ensures))
+    (fed-more list k word (number-word _ word (omega (arith, c.word_of_64.type_inv)) c.word_of_64.ensures))
     ∙ fold-append g.H.Hasher.write start (words_fed list k) (fed.le_bytes 8 word ∷ []))
 
 pub returns-then-tail-gt0 : goal.returns-then-tail-gt0
@@ -42,7 +42,7 @@ returns-then-tail-gt0 g c =
     let all : k + 1 ≡ div_ceil (length list) 64 = omega (arith, c.if-tail-gt0.true, left, len) in
     let last = number-last list (bits_of tail) k tail.len word c.first_u128.ensures.number
     (c.split_at.ensures.back_list ∙ ap (λ (n : ℕ). drop (64 * n) list) (sym words))
-        (length-list_of (view_of tail) tail.within) (omega (arith, left)) in
+    (length-list_of (view_of tail) tail.within) (omega (arith, left)) in
     c.write_u64-then-tail-gt0.ensures
     ∙ ap (λ (s : g.row.H.Denot). g.H.Hasher.write s (fed.le_bytes 8 word)) c.loop-k.invariant
     ∙ sym (ap (λ (l : List (List ℕ)). fold g.H.Hasher.write (start a.len) l) (fed-more list k word last)

@@ -12,10 +12,10 @@ returns-then-bit c =
     let ys = bits_of c.args.other.now in
     let i = c.loop-i.i in
     rest-greater xs ys i (slice_get_within xs i true c.if-bit.ensures)
-        (slice_get_within ys i c.get.result c.get.ensures)
+    (slice_get_within ys i c.get.result c.get.ensures)
     (get_or_from_slice_get xs i true false c.if-bit.ensures)
     (get_or_from_slice_get ys i c.get.result false c.get.ensures
-        ∙ other_from_test c.get-bit.result c.get.result c.if-bit-get.true ∙ ap not c.if-bit.true)
+    ∙ other_from_test c.get-bit.result c.get.result c.if-bit-get.true ∙ ap not c.if-bit.true)
     c.loop-i.invariant
 
 pub returns-else-bit : goal.returns-else-bit
@@ -26,7 +26,7 @@ returns-else-bit c =
     rest-less xs ys i (slice_get_within xs i false c.if-bit.ensures) (slice_get_within ys i c.get.result c.get.ensures)
     (get_or_from_slice_get xs i false false c.if-bit.ensures)
     (get_or_from_slice_get ys i c.get.result false c.get.ensures
-        ∙ other_from_test c.get-bit.result c.get.result c.if-bit-get.true ∙ ap not c.if-bit.false)
+    ∙ other_from_test c.get-bit.result c.get.result c.if-bit-get.true ∙ ap not c.if-bit.false)
     c.loop-i.invariant
 
 pub loop-i-init : goal.loop-i-init
@@ -40,7 +40,7 @@ loop-i-preserved c =
     let ys = bits_of c.args.other.now in
     let i = c.loop-i.i in
     rest-more xs ys i (slice_get_within xs i c.get-bit.result c.get-bit.ensures)
-        (slice_get_within ys i c.get.result c.get.ensures)
+    (slice_get_within ys i c.get.result c.get.ensures)
     (get_or_from_slice_get xs i c.get-bit.result false c.get-bit.ensures
     ∙ same_from_test c.get-bit.result c.get.result c.if-bit-get.false
     ∙ sym (get_or_from_slice_get ys i c.get.result false c.get.ensures))

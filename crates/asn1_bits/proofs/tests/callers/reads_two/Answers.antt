@@ -14,5 +14,5 @@ returns-clause-second c =
     let list = bits_left c.args.reader.now in
     c.first_u128-2.ensures.digits
     ∙ ap (λ (l : List Bool). take 16 l)
-        (c.in_ok-second.ensures.front_list ∙ ap (λ (l : List Bool). take 16 l) c.in_ok-first.ensures.rest_list)
+    (c.in_ok-second.ensures.front_list ∙ ap (λ (l : List Bool). take 16 l) c.in_ok-first.ensures.rest_list)
     ∙ take-take 16 16 (drop 3 list) (omega arith)

@@ -13,7 +13,7 @@ returns-then-left-count c =
     let i = c.loop-range.range-index in
     let fine = c.ranges-range-items.ensures.fine i (omega arith) in
     let here : slice_get (flat_map characters_between rs) (counted (take i rs) + c.loop-range.left) ≡ Some
-        ((get_or rs i (0, 0)).0 + c.loop-range.left) =
+    ((get_or rs i (0, 0)).0 + c.loop-range.left) =
     at_range rs i c.loop-range.left (omega arith) (omega arith)
     in
     sym (rw (base_is c.args.self, ← c.ranges-range-items.ensures.value, c.loop-range.invariant) here)
@@ -23,6 +23,6 @@ returns c =
     let rs = c.ranges-range-items.result.now in
     let all : take c.loop-range.range-index rs ≡ rs = take_all c.loop-range.range-index rs (omega arith) in
     let past : length (flat_map characters_between rs) ≤ c.args.place =
-        omega (arith, length_counted rs, ap counted all, c.loop-range.invariant) in
+    omega (arith, length_counted rs, ap counted all, c.loop-range.invariant) in
     sym (rw (base_is c.args.self, ← c.ranges-range-items.ensures.value)
-        (slice_get_past (flat_map characters_between rs) c.args.place past))
+    (slice_get_past (flat_map characters_between rs) c.args.place past))

@@ -8,4 +8,4 @@ returns-in-Bmp c = rw c.in-Bmp.is (bmp_is c.args.character)
 pub returns-in_default : goal.returns-in_default
 returns-in_default c =
     c.contains.ensures ∙ has_by_words c.args.self c.words.result.words c.args.character c.in_default.not-Bmp
-        c.words.ensures
+    c.words.ensures

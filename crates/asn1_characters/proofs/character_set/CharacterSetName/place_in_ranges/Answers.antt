@@ -13,7 +13,7 @@ returns-then-character-range c =
     let i = c.loop-range.range-index in
     let j = c.args.character - (get_or rs i (0, 0)).0 in
     let here : slice_get (flat_map characters_between rs) (counted (take i rs) + j) ≡ Some ((get_or rs i (0, 0)).0 + j)
-        =
+    =
     at_range rs i j (omega arith) (omega arith)
     in
     let same : (get_or rs i (0, 0)).0 + j ≡ c.args.character = omega arith in

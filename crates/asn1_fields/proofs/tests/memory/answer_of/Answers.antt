@@ -8,11 +8,11 @@ returns c =
     let text : List ℕ = a.0 in
     let answer : Answer = a.1 in
     let input : c.args.input.now ≡ text = a.2 ∙ ap (λ (l : List ℕ). text ++ l) c.in_ok-status.ensures.end
-        ∙ append-nil text in
+    ∙ append-nil text in
     let output : answer.text ≡ c.run.new.output.items =
-        sym (a.4 ∙ ap (λ (l : List ℕ). l ++ answer.text) c.new-output.ensures.items) in
+    sym (a.4 ∙ ap (λ (l : List ℕ). l ++ answer.text) c.new-output.ensures.items) in
     let status : answer.status ≡ c.in_ok-status.status = sym a.5 in
     let made : Answer = record { text = c.run.new.output.items; status = c.in_ok-status.status } in
     let is : answer ≡ made = λ i. record { text = output i; status = status i } in
     subst (λ (l : List ℕ). IsOnly (IsAnswer l) made) (sym input)
-        (subst (λ (x : Answer). IsOnly (IsAnswer text) x) is a.3)
+    (subst (λ (x : Answer). IsOnly (IsAnswer text) x) is a.3)

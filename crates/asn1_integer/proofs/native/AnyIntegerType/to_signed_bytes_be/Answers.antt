@@ -5,5 +5,5 @@ pub returns-clause-shortest : goal.returns-clause-shortest
 returns-clause-shortest g c =
     c.signed_octets_of.ensures (g.N.Native.value c.args.self.now)
     (bits_at c.IS_SIGNED.result g.N.Native.IS_SIGNED g.N.Native.BYTE_WIDTH c.low_bits.result
-        (g.N.Native.value c.args.self.now) c.IS_SIGNED.ensures g.met.N.Native.sized c.low_bits.ensures.in_range
-        c.low_bits.ensures.bits)
+    (g.N.Native.value c.args.self.now) c.IS_SIGNED.ensures g.met.N.Native.sized c.low_bits.ensures.in_range
+    c.low_bits.ensures.bits)

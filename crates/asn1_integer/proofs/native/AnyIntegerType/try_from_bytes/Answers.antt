@@ -5,4 +5,4 @@ use Rattle.asn1_integer.proofs.native.AnyIntegerType.try_from_bytes.Goals as goa
 pub returns : goal.returns
 returns g c =
     read_back_at (λ kind. own_reading kind c.args.octets.now) _ _ _ _ _ _ c.IS_SIGNED.ensures c.BYTE_WIDTH.ensures
-        g.met.N.Native.sized c.in_ok-bits.ensures c.from_low_bits.ensures
+    g.met.N.Native.sized c.in_ok-bits.ensures c.from_low_bits.ensures

@@ -10,6 +10,6 @@ pub returns-in_default-clause-memory : goal.returns-in_default-clause-memory
 returns-in_default-clause-memory c = λ r.
     let form = subst IsOneForm c.in-Shortest.is c.self.invariant in
     let value : signed c.in-Shortest.octets.items ≡ c.args.self.now = ap number_in (sym c.in-Shortest.is)
-        ∙ c.self.view_is in
+    ∙ c.self.view_is in
     past_sixteen c.in-Shortest.octets.items form.0.octets (nine_bits_from_shortest _ _ form.0) form.1
-        (subst FitsI128 (sym value) r)
+    (subst FitsI128 (sym value) r)

@@ -8,6 +8,8 @@ pub returns-in_default-clause-memory : goal.returns-in_default-clause-memory
 returns-in_default-clause-memory c =
     let some : 0 < length c.args.octets.now = search rules in
     let s = c.without_redundant_sign_octets-shortest.ensures.shortest some in
-    let e : signed c.without_redundant_sign_octets-shortest.result.now ≡ signed c.args.octets.now = s.value in
-    (refl, λ r. past_sixteen c.without_redundant_sign_octets-shortest.result.now s.octets
-        (nine_bits_from_shortest _ _ s) (omega arith) (rw e r))
+    let e : signed c.without_redundant_sign_octets-shortest.result.now ≡ signed c.args.octets.now = s.value in (
+      refl,
+      λ r. past_sixteen c.without_redundant_sign_octets-shortest.result.now s.octets
+          (nine_bits_from_shortest _ _ s) (omega arith) (rw e r),
+    )

@@ -13,14 +13,14 @@ returns-in-Inline c = λ o s.
     let fits : SFits w128 c.in-Inline.number = search rules in
     let same : length o ≡ length (shortest_octets (to_z w128 (of_z w128 c.in-Inline.number))) =
     ap length (shortest_octets_only c.args.self.now o s)
-        ∙ ap (λ z. length (shortest_octets z)) (sym (to_z-of_z fits ∙ value)) in
+    ∙ ap (λ z. length (shortest_octets z)) (sym (to_z-of_z fits ∙ value)) in
     omega (arith, c.words_of-start.ensures.count)
 
 pub returns-in-Shortest : goal.returns-in-Shortest
 returns-in-Shortest c = λ o s.
     let form = subst IsOneForm c.in-Shortest.is c.self.invariant in
     let value : signed c.in-Shortest.octets.items ≡ c.args.self.now = ap number_in (sym c.in-Shortest.is)
-        ∙ c.self.view_is in
+    ∙ c.self.view_is in
     let t : IsShortest c.args.self.now c.in-Shortest.octets.items =
-        subst (λ z. IsShortest z c.in-Shortest.octets.items) value form.0 in
+    subst (λ z. IsShortest z c.in-Shortest.octets.items) value form.0 in
     ap length (c.as_slice.ensures.value ∙ shortest_once c.args.self.now c.in-Shortest.octets.items o t s)

@@ -6,4 +6,4 @@ returns-in-Shortest c =
     let e = c.in-Shortest.is in
     let v = c.self.view_is in
     rw (← c.self.view_is, c.in-Shortest.is, c.borrowed.ensures, c.as_slice.ensures.value)
-        (rw c.in-Shortest.is at c.self.invariant).0
+    (rw c.in-Shortest.is at c.self.invariant).0

@@ -10,6 +10,6 @@ pub returns-in-Shortest : goal.returns-in-Shortest
 returns-in-Shortest c = λ r.
     let form = subst IsOneForm c.in-Shortest.is c.self.invariant in
     let value : signed c.in-Shortest.field-0.items ≡ c.args.self.now = ap number_in (sym c.in-Shortest.is)
-        ∙ c.self.view_is in
+    ∙ c.self.view_is in
     past_sixteen c.in-Shortest.field-0.items form.0.octets (nine_bits_from_shortest _ _ form.0) form.1
-        (subst (IsInRange (SignedOf 16)) (sym value) r)
+    (subst (IsInRange (SignedOf 16)) (sym value) r)

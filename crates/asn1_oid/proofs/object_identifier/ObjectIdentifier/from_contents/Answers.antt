@@ -25,26 +25,26 @@ not_none e = cc
 pub returns-in_err-examine-clause-accepted : goal.returns-in_err-examine-clause-accepted
 returns-in_err-examine-clause-accepted g c = λ arcs is fit.
     absurd (not_refused (g.S.OctetSource.list c.args.source.now) arcs c.in_err-examine.field-0.0
-        c.in_err-examine.ensures.octets c.in_err-examine.ensures.reading is fit)
+    c.in_err-examine.ensures.octets c.in_err-examine.ensures.reading is fit)
 
 pub returns-in_err-examine-clause-arc_too_large : goal.returns-in_err-examine-clause-arc_too_large
 returns-in_err-examine-clause-arc_too_large g c =
     let p = err_from_is_err_and c.from_residual.result c.from_residual.ensures.1 in
     rw (p.1, p.2) (large_iff (g.S.OctetSource.list c.args.source.now) (Err c.in_err-examine.field-0.0)
-        c.in_err-examine.ensures.octets c.in_err-examine.ensures.reading)
+    c.in_err-examine.ensures.octets c.in_err-examine.ensures.reading)
 
 pub returns-in_err-examine-clause-malformed : goal.returns-in_err-examine-clause-malformed
 returns-in_err-examine-clause-malformed g c =
     let p = err_from_is_err_and c.from_residual.result c.from_residual.ensures.1 in
     rw (p.1, p.2) (none_iff (g.S.OctetSource.list c.args.source.now) (Err c.in_err-examine.field-0.0)
-        c.in_err-examine.ensures.octets c.in_err-examine.ensures.reading)
+    c.in_err-examine.ensures.octets c.in_err-examine.ensures.reading)
 
 pub returns-in_err-examine-clause-memory : goal.returns-in_err-examine-clause-memory
 returns-in_err-examine-clause-memory g c = λ is.
     let p = err_from_is_err_and c.from_residual.result c.from_residual.ensures.1 in
     let same = refusal_is c.in_err-examine.field-0.0 Memory (rw (p.1, p.2) at is) in
     absurd (no_want_of_memory (g.S.OctetSource.list c.args.source.now) c.in_err-examine.ensures.octets
-        (rw same at c.in_err-examine.ensures.reading))
+    (rw same at c.in_err-examine.ensures.reading))
 
 pub returns-in_err-arcs-clause-arc_too_large : goal.returns-in_err-arcs-clause-arc_too_large
 returns-in_err-arcs-clause-arc_too_large g c =
@@ -72,12 +72,12 @@ returns-in_err-arcs-clause-memory g c =
 pub invariant_of-result : goal.invariant_of-result
 invariant_of-result g c =
     (arcs_from_reading c.in_ok-arcs.arcs.items (g.S.OctetSource.list c.args.source.now) c.in_ok-examine.ensures.octets
-        c.in_ok-arcs.ensures).0.valid
+    c.in_ok-arcs.ensures).0.valid
 
 pub returns-clause-contents : goal.returns-clause-contents
 returns-clause-contents g c =
     arcs_from_reading c.in_ok-arcs.arcs.items (g.S.OctetSource.list c.args.source.now) c.in_ok-examine.ensures.octets
-        c.in_ok-arcs.ensures
+    c.in_ok-arcs.ensures
 
 pub returns-clause-only : goal.returns-clause-only
 returns-clause-only g c = λ arcs is.

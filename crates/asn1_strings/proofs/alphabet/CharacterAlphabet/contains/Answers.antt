@@ -15,4 +15,4 @@ pub returns-then-self-2-clause-value : goal.returns-then-self-2-clause-value
 returns-then-self-2-clause-value c =
     let worded = c.args.self.now.known.worded c.args.self.now.words (rw c.if-self-2.true refl) in
     c.contains.ensures ∙ has_by_words (set_of c.args.self.now.name (some_if c.args.self.now.kept c.args.self.now.set))
-        c.args.self.now.words c.args.character worded
+    c.args.self.now.words c.args.character worded

@@ -11,8 +11,8 @@ returns-clause-read_back c =
     let octets = c.put_octets.new.octets in
     let rest = drop (length octets) c.resize.new.self.items in
     let long : length octets ≡ c.resize.new.self.len =
-        omega (arith, c.put_octets.auto.octets, c.as_mut_slice.ensures.len) in
+    omega (arith, c.put_octets.auto.octets, c.as_mut_slice.ensures.len) in
     let all : take c.resize.new.self.len (octets ++ rest) ≡ flat_map (to_be_bytes w16) c.args.self.now =
     ap (λ k. take k (octets ++ rest)) (sym long) ∙ take-append_seam octets rest ∙ c.put_octets.ensures
-        ∙ ap (flat_map (to_be_bytes w16)) (sym (map-id c.as_slice-units.result.now) ∙ c.as_slice-units.ensures.list) in
+    ∙ ap (flat_map (to_be_bytes w16)) (sym (map-id c.as_slice-units.result.now) ∙ c.as_slice-units.ensures.list) in
     rw all (read_back c.args.self.now c.as_slice-units.ensures.in_set)

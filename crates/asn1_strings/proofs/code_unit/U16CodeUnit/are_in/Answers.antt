@@ -12,5 +12,5 @@ returns c =
     let chunks = c.as_chunks.result.0.now in
     let all = take_all c.loop-pair.pair-index chunks (omega arith) in
     let found = c.loop-pair.invariant
-        ∙ ap (λ ps. list_all (has_character set) (map (from_be_bytes w16) ps)) (all ∙ c.as_chunks.ensures.front) in
+    ∙ ap (λ ps. list_all (has_character set) (map (from_be_bytes w16) ps)) (all ∙ c.as_chunks.ensures.front) in
     rw (pairs c.args.octets.now) (all_in set _ c.loop-pair.right found)

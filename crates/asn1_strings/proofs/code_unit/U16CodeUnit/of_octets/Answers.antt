@@ -7,6 +7,6 @@ pub returns-clause-units : goal.returns-clause-units
 returns-clause-units c =
     let units = c.put_pairs.new.units in
     let long : length units ≡ c.resize.new.self.len =
-        omega (arith, c.put_pairs.auto.units, c.as_mut_slice.ensures.len) in
+    omega (arith, c.put_pairs.auto.units, c.as_mut_slice.ensures.len) in
     filled c.resize.new.self.len units (drop (length units) c.resize.new.self.items) c.args.octets.now long
-        (c.put_pairs.ensures ∙ ap (map (from_be_bytes w16)) c.as_chunks.ensures.front)
+    (c.put_pairs.ensures ∙ ap (map (from_be_bytes w16)) c.as_chunks.ensures.front)

@@ -11,4 +11,4 @@ returns c =
     let octets = c.args.octets.now in
     let all = take_all c.loop-octet.octet-index octets (omega arith) in
     rw (ones octets) (all_in set octets c.loop-octet.right
-        (c.loop-octet.invariant ∙ ap (list_all (has_character set)) all))
+    (c.loop-octet.invariant ∙ ap (list_all (has_character set)) all))

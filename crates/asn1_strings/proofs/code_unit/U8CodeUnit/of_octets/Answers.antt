@@ -15,7 +15,7 @@ pub returns-clause-units : goal.returns-clause-units
 returns-clause-units c =
     let octets = c.args.octets.now in
     IfOk-weaker c.from_slice.result (λ v. v.items ≡ octets)
-        (λ v. map (λ (unit : ℕ). unit) v.items ≡ map unsigned (pieces 1 octets))
+    (λ v. map (λ (unit : ℕ). unit) v.items ≡ map unsigned (pieces 1 octets))
     (λ v is. map-id v.items ∙ is ∙ sym (ones octets))
     c.from_slice.ensures.items
 

@@ -24,4 +24,4 @@ returns c =
     let bits = bits_of c.args.self.now.bits in
     let within = rw (length-numbers number c.args.self.now.width bits) at c.requires in
     c.read_u128.ensures.number ∙ ap number c.slice-piece.ensures.list
-        ∙ sym (get_or-pieces number c.args.self.now.width bits c.args.i within)
+    ∙ sym (get_or-pieces number c.args.self.now.width bits c.args.i within)

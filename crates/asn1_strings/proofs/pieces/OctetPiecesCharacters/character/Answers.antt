@@ -7,8 +7,11 @@ use Rattle.asn1_strings.proofs.pieces.OctetPiecesCharacters.character.Goals as g
 
 pub piece_of-requires : goal.piece_of-requires
 piece_of-requires c =
-    rw (length-map (pieces c.args.self.now.width c.args.self.now.octets.now) unsigned, length-pieces
-        c.args.self.now.width c.args.self.now.octets.now) at c.requires
+    rw (
+      length-map (pieces c.args.self.now.width c.args.self.now.octets.now) unsigned,
+      length-pieces
+          c.args.self.now.width c.args.self.now.octets.now,
+    ) at c.requires
 
 pub unsigned_of-requires : goal.unsigned_of-requires
 unsigned_of-requires c = rw (c.piece_of.ensures, length-take) (omega (arith, c.args.self.now.small))
@@ -16,7 +19,10 @@ unsigned_of-requires c = rw (c.piece_of.ensures, length-take) (omega (arith, c.a
 pub returns : goal.returns
 returns c =
     let within =
-        rw (length-map (pieces c.args.self.now.width c.args.self.now.octets.now) unsigned, length-pieces
-        c.args.self.now.width c.args.self.now.octets.now) at c.requires in
+    rw (
+      length-map (pieces c.args.self.now.width c.args.self.now.octets.now) unsigned,
+      length-pieces
+          c.args.self.now.width c.args.self.now.octets.now,
+    ) at c.requires in
     c.unsigned_of.ensures ∙ ap unsigned c.piece_of.ensures
-        ∙ sym (get_or-pieces unsigned c.args.self.now.width c.args.self.now.octets.now c.args.i within)
+    ∙ sym (get_or-pieces unsigned c.args.self.now.width c.args.self.now.octets.now c.args.i within)

@@ -20,8 +20,8 @@ loop-shape-init c =
 pub read_field-requires : goal.read_field-requires
 read_field-requires c =
     next_is_ok c.args.shapes.now c.loop-shape.shape-index c.shape-item.result (plain_fields c.loop-shape.fields.items)
-        (bits_left c.loop-shape.reader) (fields_at (plain_shapes c.args.shapes.now) (bits_left c.args.reader.now))
-        c.loop-shape-test.true c.shape-item.is c.requires c.loop-shape.invariant.walk
+    (bits_left c.loop-shape.reader) (fields_at (plain_shapes c.args.shapes.now) (bits_left c.args.reader.now))
+    c.loop-shape-test.true c.shape-item.is c.requires c.loop-shape.invariant.walk
 
 pub loop-shape-preserved : goal.loop-shape-preserved
 loop-shape-preserved c =
@@ -48,5 +48,5 @@ loop-shape-preserved c =
 pub returns-clause-fields : goal.returns-clause-fields
 returns-clause-fields c =
     read_all c.args.shapes.now c.loop-shape.shape-index (plain_fields c.loop-shape.fields.items)
-        (bits_left c.loop-shape.reader) (fields_at (plain_shapes c.args.shapes.now) (bits_left c.args.reader.now))
-        c.loop-shape-test.false c.loop-shape.invariant.walk
+    (bits_left c.loop-shape.reader) (fields_at (plain_shapes c.args.shapes.now) (bits_left c.args.reader.now))
+    c.loop-shape-test.false c.loop-shape.invariant.walk

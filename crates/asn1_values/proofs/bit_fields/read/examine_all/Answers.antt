@@ -10,15 +10,15 @@ pub returns-in_err-examine-clause-err : goal.returns-in_err-examine-clause-err
 returns-in_err-examine-clause-err c =
     let p = err_from_is_err_and c.from_residual.result c.from_residual.ensures.1 in
     rw (p.1, p.2) (examined_stop c.args.shapes.now c.loop-i.i c.index-shapes-i.result (bits_left c.loop-i.left)
-        c.in_err-examine.field-0.0 (past_all 0 (fields_at (plain_shapes c.args.shapes.now) (bits_left c.args.reader)))
-        c.loop-i-test.true c.index-shapes-i.is c.in_err-examine.ensures.err c.loop-i.invariant)
+    c.in_err-examine.field-0.0 (past_all 0 (fields_at (plain_shapes c.args.shapes.now) (bits_left c.args.reader)))
+    c.loop-i-test.true c.index-shapes-i.is c.in_err-examine.ensures.err c.loop-i.invariant)
 
 pub loop-i-preserved : goal.loop-i-preserved
 loop-i-preserved c =
     examined_more c.args.shapes.now c.loop-i.i c.index-shapes-i.result (bits_left c.loop-i.left)
-        (bits_left c.examine.new.reader)
-        (past_all 0 (fields_at (plain_shapes c.args.shapes.now) (bits_left c.args.reader))) c.loop-i-test.true
-        c.index-shapes-i.is c.in_ok-examine.ensures.ok c.loop-i.invariant
+    (bits_left c.examine.new.reader)
+    (past_all 0 (fields_at (plain_shapes c.args.shapes.now) (bits_left c.args.reader))) c.loop-i-test.true
+    c.index-shapes-i.is c.in_ok-examine.ensures.ok c.loop-i.invariant
 
 pub returns-clause-ok : goal.returns-clause-ok
 returns-clause-ok c =

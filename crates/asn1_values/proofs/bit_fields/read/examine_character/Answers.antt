@@ -12,6 +12,6 @@ returns-in-Err-clause-err c =
     ap (past c.args.field)
     (character_refused (alphabet_of c.args.alphabet.now) (bits_left c.args.reader.now) c.first_bits-code.result
     (rw w at c.in_ok-front.ensures.enough)
-        (rw w at (c.first_bits-code.ensures.number
-        ∙ ap number (cut_twice c.width-width.result (bits_left c.args.reader.now) (bits_left c.in_ok-front.front)
-        c.in_ok-front.ensures.front))) c.in-Err.ensures.character.1)
+    (rw w at (c.first_bits-code.ensures.number
+    ∙ ap number (cut_twice c.width-width.result (bits_left c.args.reader.now) (bits_left c.in_ok-front.front)
+    c.in_ok-front.ensures.front))) c.in-Err.ensures.character.1)

@@ -12,11 +12,11 @@ returns-in-Ok-clause-ok c =
     let b = c.bits.result in
     let front = c.in_ok-front.ensures in
     let source =
-        source_is (view_of b) (view_left c.in_ok-front.front) c.args.octet_count list c.bits.ensures front.len
-        front.front in
+    source_is (view_of b) (view_left c.in_ok-front.front) c.args.octet_count list c.bits.ensures front.len
+    front.front in
     let some = c.in-Ok.ensures.ok.0 refl in
     ap (past c.args.field) (identifier_there c.args.octet_count list _ c.if-octet_count-eq0.false front.enough source
-        some.0 some.1 some.2) ∙ ap (λ (l : List Bool). Ok l) (sym front.rest)
+    some.0 some.1 some.2) ∙ ap (λ (l : List Bool). Ok l) (sym front.rest)
 
 pub returns-in-Err-Malformed-clause-err : goal.returns-in-Err-Malformed-clause-err
 returns-in-Err-Malformed-clause-err c =
@@ -24,12 +24,12 @@ returns-in-Err-Malformed-clause-err c =
     let b = c.bits.result in
     let front = c.in_ok-front.ensures in
     let source =
-        source_is (view_of b) (view_left c.in_ok-front.front) c.args.octet_count list c.bits.ensures front.len
-        front.front in
+    source_is (view_of b) (view_left c.in_ok-front.front) c.args.octet_count list c.bits.ensures front.len
+    front.front in
     let none =
-        c.in-Err-Malformed.ensures.malformed.0 (ap (λ (e : ContentsError). Err e) c.in-Err-Malformed.field-0-is) in
+    c.in-Err-Malformed.ensures.malformed.0 (ap (λ (e : ContentsError). Err e) c.in-Err-Malformed.field-0-is) in
     ap (past c.args.field) (identifier_none c.args.octet_count list _ c.if-octet_count-eq0.false front.enough source
-        none)
+    none)
 
 pub returns-in-Err-ArcTooLarge-clause-err : goal.returns-in-Err-ArcTooLarge-clause-err
 returns-in-Err-ArcTooLarge-clause-err c =
@@ -37,10 +37,10 @@ returns-in-Err-ArcTooLarge-clause-err c =
     let b = c.bits.result in
     let front = c.in_ok-front.ensures in
     let source =
-        source_is (view_of b) (view_left c.in_ok-front.front) c.args.octet_count list c.bits.ensures front.len
-        front.front in
+    source_is (view_of b) (view_left c.in_ok-front.front) c.args.octet_count list c.bits.ensures front.len
+    front.front in
     let large =
-        c.in-Err-ArcTooLarge.ensures.arc_too_large.0
-        (ap (λ (e : ContentsError). Err e) c.in-Err-ArcTooLarge.field-0-is) in
+    c.in-Err-ArcTooLarge.ensures.arc_too_large.0
+    (ap (λ (e : ContentsError). Err e) c.in-Err-ArcTooLarge.field-0-is) in
     ap (past c.args.field) (identifier_large c.args.octet_count list _ c.if-octet_count-eq0.false front.enough source
-        large.0 large.1 large.2)
+    large.0 large.1 large.2)

@@ -14,7 +14,7 @@ returns c =
     let octets = octets_of ((view_of b).len / 8) (bits_of b) in
     let contents = c.in-Ok.ensures.contents in
     let read =
-        contents_read c.in-Ok.oid octets
-        (octets-octets_of ((view_of b).len / 8) (bits_of b) (omega (arith, length-list_of (view_of b) b.within)))
-        contents.0 contents.1 in
+    contents_read c.in-Ok.oid octets
+    (octets-octets_of ((view_of b).len / 8) (bits_of b) (omega (arith, length-list_of (view_of b) b.within)))
+    contents.0 contents.1 in
     ap (λ (v : View). contents_reading (octets_of (v.len / 8) (list_of v))) (sym c.bits.ensures) ∙ read

@@ -10,4 +10,4 @@ returns-then-width-le128 c = λ octets is are.
     ∙ to_z-of_z {w = w128} (record { sfits = c.signed_word.type_inv })
     ∙ word_value octets (bits_left c.args.reader.now) c.first_u128.result c.len-width.result c.signed_word.result are is
     c.len-width.ensures.list c.first_u128.ensures.number c.if-width-gt0.true c.signed_word.ensures.low
-        c.signed_word.ensures.high
+    c.signed_word.ensures.high

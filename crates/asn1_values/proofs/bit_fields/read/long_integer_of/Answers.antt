@@ -8,5 +8,5 @@ pub returns : goal.returns
 returns c = λ octets is are.
     let read = octets_in c.in_ok-octets.octets in
     c.in-Ok.ensures.value ∙ ap signed
-        (c.as_ref.ensures.list ∙ same_octets read octets c.in_ok-octets.ensures.octets are
-        (c.in_ok-octets.ensures.bits ∙ sym is))
+    (c.as_ref.ensures.list ∙ same_octets read octets c.in_ok-octets.ensures.octets are
+    (c.in_ok-octets.ensures.bits ∙ sym is))

@@ -19,15 +19,15 @@ returns-in_ok-read_octets-in-Octets-clause-read c =
     let there = octets_there c.in-Octets.count list (rw c.in-Octets.is at c.requires) in
     rw c.in-Octets.is
     (read_octets c.in-Octets.count list (bits_left c.read_octets.new.reader)
-        (octets_in c.in_ok-read_octets-in-Octets.field-0) there
+    (octets_in c.in_ok-read_octets-in-Octets.field-0) there
     c.in_ok-read_octets-in-Octets.ensures.rest_list c.in_ok-read_octets-in-Octets.ensures.bits
-        c.in_ok-read_octets-in-Octets.ensures.octets)
+    c.in_ok-read_octets-in-Octets.ensures.octets)
 
 pub returns-in_ok-read_integer-in-Integer-clause-rest : goal.returns-in_ok-read_integer-in-Integer-clause-rest
 returns-in_ok-read_integer-in-Integer-clause-rest c = λ list s.
     let len =
-        length-read_integer c.in-Integer.octets (bits_left c.args.reader.now) (bits_left c.read_integer.new.reader)
-        c.in_ok-read_integer-in-Integer.field-0 c.in_ok-read_integer-in-Integer.ensures.read list s in
+    length-read_integer c.in-Integer.octets (bits_left c.args.reader.now) (bits_left c.read_integer.new.reader)
+    c.in_ok-read_integer-in-Integer.field-0 c.in_ok-read_integer-in-Integer.ensures.read list s in
     rw len c.in_ok-read_integer-in-Integer.ensures.rest
 
 pub returns-in-Character-clause-rest : goal.returns-in-Character-clause-rest

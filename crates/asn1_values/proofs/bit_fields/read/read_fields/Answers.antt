@@ -12,7 +12,7 @@ pub returns-in_err-examine_all-clause-refused : goal.returns-in_err-examine_all-
 returns-in_err-examine_all-clause-refused c =
     let p = err_from_is_err_and c.from_residual.result c.from_residual.ensures.1 in
     rw (p.1, p.2) (refusal (bits_left c.args.reader.now) c.args.shapes.now c.in_err-examine_all.field-0.0
-        c.in_err-examine_all.ensures.err)
+    c.in_err-examine_all.ensures.err)
 
 pub returns-in_err-examine_all-clause-no_shapes : goal.returns-in_err-examine_all-clause-no_shapes
 returns-in_err-examine_all-clause-no_shapes c =
@@ -61,8 +61,8 @@ returns-clause-front_read c =
 pub returns-clause-one_spelling : goal.returns-clause-one_spelling
 returns-clause-one_spelling c =
     let b =
-        found (bits_left c.args.reader.now) c.args.shapes.now (plain_fields c.in_ok-fields.fields.items)
-        (bits_left c.collect.new.reader) c.in_ok-fields.ensures.fields in
+    found (bits_left c.args.reader.now) c.args.shapes.now (plain_fields c.in_ok-fields.fields.items)
+    (bits_left c.collect.new.reader) c.in_ok-fields.ensures.fields in
     in_one_code (plain_fields c.in_ok-fields.fields.items) (plain_shapes c.args.shapes.now) b.of_shapes
 
 pub returns-clause-none_begins_another : goal.returns-clause-none_begins_another
@@ -75,21 +75,21 @@ pub returns-in_err-examine_all-clause-named : goal.returns-in_err-examine_all-cl
 returns-in_err-examine_all-clause-named c = λ e ne is.
     let p = err_from_is_err_and c.from_residual.result c.from_residual.ensures.1 in
     let first =
-        refusal (bits_left c.args.reader.now) c.args.shapes.now c.in_err-examine_all.field-0.0
-        c.in_err-examine_all.ensures.err in
+    refusal (bits_left c.args.reader.now) c.args.shapes.now c.in_err-examine_all.field-0.0
+    c.in_err-examine_all.ensures.err in
     rw (p.1, p.2) (ap (λ (x : ReadError). Err x)
-        (one_read_refusal (bits_left c.args.reader.now) (plain_shapes c.args.shapes.now) c.in_err-examine_all.field-0.0
-        e ne first is))
+    (one_read_refusal (bits_left c.args.reader.now) (plain_shapes c.args.shapes.now) c.in_err-examine_all.field-0.0
+    e ne first is))
 
 pub returns-in_err-fields-clause-named : goal.returns-in_err-fields-clause-named
 returns-in_err-fields-clause-named c = λ e ne is.
     absurd (begun_unnamed (bits_left c.args.reader.now) (plain_shapes c.args.shapes.now) e
-        (can_begin (bits_left c.args.reader.now) c.args.shapes.now c.in_ok-examine_all.ensures.ok) ne is)
+    (can_begin (bits_left c.args.reader.now) c.args.shapes.now c.in_ok-examine_all.ensures.ok) ne is)
 
 pub returns-clause-named : goal.returns-clause-named
 returns-clause-named c = λ e ne is.
     absurd (begun_unnamed (bits_left c.args.reader.now) (plain_shapes c.args.shapes.now) e
-        (can_begin (bits_left c.args.reader.now) c.args.shapes.now c.in_ok-examine_all.ensures.ok) ne is)
+    (can_begin (bits_left c.args.reader.now) c.args.shapes.now c.in_ok-examine_all.ensures.ok) ne is)
 
 pub returns-in_err-examine_all-clause-each_alone : goal.returns-in_err-examine_all-clause-each_alone
 returns-in_err-examine_all-clause-each_alone c = each_alone c.args.shapes.now
@@ -112,7 +112,7 @@ returns-clause-equally_long c = equally_long (plain_shapes c.args.shapes.now)
 pub returns-clause-moved : goal.returns-clause-moved
 returns-clause-moved c =
     let b =
-        found (bits_left c.args.reader.now) c.args.shapes.now (plain_fields c.in_ok-fields.fields.items)
-        (bits_left c.collect.new.reader) c.in_ok-fields.ensures.fields in
+    found (bits_left c.args.reader.now) c.args.shapes.now (plain_fields c.in_ok-fields.fields.items)
+    (bits_left c.collect.new.reader) c.in_ok-fields.ensures.fields in
     moved (plain_shapes c.args.shapes.now) (plain_fields c.in_ok-fields.fields.items) (bits_left c.args.reader.now)
-        (bits_left c.collect.new.reader) b
+    (bits_left c.collect.new.reader) b

@@ -11,7 +11,7 @@ returns-clause-rest c = λ list s.
     let n = (view_left front).len / 8 in
     let whole : (view_left front).len ≡ 8 * c.args.octets = ap (λ (v : View). v.len) c.take_front-front.ensures.front in
     let len =
-        length-read_identifier n (bits_left front) c.in_ok-identifier_of.field-0
-        (omega (arith, length-list_of (view_left front) front.view.within)) c.in_ok-identifier_of.ensures list s in
+    length-read_identifier n (bits_left front) c.in_ok-identifier_of.field-0
+    (omega (arith, length-list_of (view_left front) front.view.within)) c.in_ok-identifier_of.ensures list s in
     let same : length list ≡ 8 * c.args.octets = omega arith in
     rw same c.take_front-front.ensures.rest

@@ -17,5 +17,5 @@ returns-clause-read c =
     (λ n. (octets : List ℕ) → bits octets ≡ front → All (λ octet. octet < 256) octets → n ≡ signed octets)
     (λ n. integer_at c.args.octets list ≡ Ok (Integer n, left))
     (λ n value. read_integer c.args.octets list left n c.requires c.take_front.ensures.rest_list
-        (λ octets is are. value octets (is ∙ sym c.take_front.ensures.front_list) are))
+    (λ octets is are. value octets (is ∙ sym c.take_front.ensures.front_list) are))
     c.integer_of.ensures

@@ -14,7 +14,7 @@ half_fits width few = pow-le-pow_right {n = 2} (omega arith) {i = width - 1} {j 
 pub overflow_cast-result : goal.overflow_cast-result
 overflow_cast-result c =
     let less =
-        rw (one_shl (c.args.width - 1) 128 (omega (arith, c.requires.some, c.requires.few))) at c.if-word-half.true in
+    rw (one_shl (c.args.width - 1) 128 (omega (arith, c.requires.some, c.requires.few))) at c.if-word-half.true in
     omega (arith, ints, less, half_fits c.args.width c.requires.few)
 
 pub overflow_cast-result-else-word-half : goal.overflow_cast-result-else-word-half
@@ -37,5 +37,8 @@ returns-else-word-half-clause-high c = λ le.
     let fit : SFits w128 value = omega (arith, ints, fits) in
     let kept : to_z w128 (of_z w128 value) ≡ value = to_z-of_z fit in
     let is : value ≡ pos c.args.word -ℤ pos (2 ^ c.args.width) = omega (arith, ints, le, two, below) in
-    rw (one_shl (c.args.width - 1) 128 (omega (arith, c.requires.some, c.requires.few)), to_z_pos w128 k
-        (omega (arith, fits))) (kept ∙ is)
+    rw (
+      one_shl (c.args.width - 1) 128 (omega (arith, c.requires.some, c.requires.few)),
+      to_z_pos w128 k
+          (omega (arith, fits)),
+    ) (kept ∙ is)

@@ -26,8 +26,10 @@ returns-in-Ok-clause-ok c =
 pub returns-then-octets-gt127-clause-err : goal.returns-then-octets-gt127-clause-err
 returns-then-octets-gt127-clause-err c =
     let one = one_shortest_list c.in-CountedInteger.number in
-    rw c.in-CountedInteger.is (refl,
-        (one.0, one.1, omega (arith, c.signed_len-octets.ensures one.0 one.1, c.if-octets-gt127.true)))
+    rw c.in-CountedInteger.is (
+      refl,
+      (one.0, one.1, omega (arith, c.signed_len-octets.ensures one.0 one.1, c.if-octets-gt127.true)),
+    )
 
 pub returns-else-octets-gt127-clause-ok : goal.returns-else-octets-gt127-clause-ok
 returns-else-octets-gt127-clause-ok c =

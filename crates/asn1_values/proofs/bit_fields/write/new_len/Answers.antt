@@ -15,14 +15,14 @@ returns-in_err-fitting_len-clause-err c =
     let inv = c.loop-i.invariant in
     let before : AreSpelledBy (take c.loop-i.i (plain_fields c.args.fields.now)) inv.list = rw take_of inv.spelled in
     rw (p.1, p.2) (names_first (plain_fields c.args.fields.now) inv.list c.loop-i.i
-        (plain_field c.index-fields-i.result) c.in_err-fitting_len.field-0.0 before
-        (omega (arith, length-map c.args.fields.now plain_field, c.loop-i-test.true))
-        (here_of c.args.fields.now c.loop-i.i c.index-fields-i.result c.loop-i-test.true c.index-fields-i.is)
-        c.in_err-fitting_len.ensures.err)
+    (plain_field c.index-fields-i.result) c.in_err-fitting_len.field-0.0 before
+    (omega (arith, length-map c.args.fields.now plain_field, c.loop-i-test.true))
+    (here_of c.args.fields.now c.loop-i.i c.index-fields-i.result c.loop-i-test.true c.index-fields-i.is)
+    c.in_err-fitting_len.ensures.err)
 
 pub loop-i-preserved : goal.loop-i-preserved
 loop-i-preserved c =
     rw (more_of c.args.fields.now c.loop-i.i c.index-fields-i.result c.loop-i-test.true c.index-fields-i.is)
     (ends_more c.args.len c.loop-i.end c.in_ok-fitting_len.field-0 c.saturating_add-end.result
-        (plain_fields (take c.loop-i.i c.args.fields.now)) (plain_field c.index-fields-i.result) c.loop-i.invariant
-        c.in_ok-fitting_len.ensures.ok c.saturating_add-end.ensures)
+    (plain_fields (take c.loop-i.i c.args.fields.now)) (plain_field c.index-fields-i.result) c.loop-i.invariant
+    c.in_ok-fitting_len.ensures.ok c.saturating_add-end.ensures)

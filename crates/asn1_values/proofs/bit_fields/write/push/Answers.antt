@@ -20,7 +20,7 @@ push_wide-requires-clause-room c =
     let w = c.in-Number.width in
     let fits = rw c.in-Number.is at c.requires.fits in
     space_of (Number n w) (digits n w) w (room c.args.appender.now) (fits.1.0, fits.1.1, refl) (length-digits n w)
-        (rw c.in-Number.is at c.requires.space)
+    (rw c.in-Number.is at c.requires.space)
 
 pub returns-in-Number-clause-pushed : goal.returns-in-Number-clause-pushed
 returns-in-Number-clause-pushed c =
@@ -29,7 +29,7 @@ returns-in-Number-clause-pushed c =
     let fits = rw c.in-Number.is at c.requires.fits in
     rw c.in-Number.is
     (pushes (Number n w) (digits n w) w c.args.appender.now c.push_wide.new.self (fits.1.0, fits.1.1, refl)
-        (length-digits n w) c.push_wide.ensures.written c.push_wide.ensures.room)
+    (length-digits n w) c.push_wide.ensures.written c.push_wide.ensures.room)
 
 pub returns-in-Number-clause-counted : goal.returns-in-Number-clause-counted
 returns-in-Number-clause-counted c =
@@ -38,7 +38,7 @@ returns-in-Number-clause-counted c =
     let fits = rw c.in-Number.is at c.requires.fits in
     rw c.in-Number.is
     (takes (Number n w) w c.args.turns.now.count c.push_wide.new.turns.count (number_fits n w fits.1.0 fits.1.1)
-        c.push_wide.ensures.at_least c.push_wide.ensures.at_most)
+    c.push_wide.ensures.at_least c.push_wide.ensures.at_most)
 
 -- ---- octets
 
@@ -47,25 +47,25 @@ push_octets-requires c =
     let o = octets_in c.in-Octets.octets in
     rw c.as_ref.ensures.list
     (space_of (Octets o) (bits o) (8 * length o) (room c.args.appender.now) (c.as_ref.ensures.octets, refl)
-        (length-bits o) (rw c.in-Octets.is at c.requires.space))
+    (length-bits o) (rw c.in-Octets.is at c.requires.space))
 
 pub returns-in-Octets-clause-pushed : goal.returns-in-Octets-clause-pushed
 returns-in-Octets-clause-pushed c =
     let o = octets_in c.in-Octets.octets in
     rw c.in-Octets.is
     (pushes (Octets o) (bits o) (8 * length o) c.args.appender.now c.push_octets.new.self
-        (c.as_ref.ensures.octets, refl) (length-bits o)
+    (c.as_ref.ensures.octets, refl) (length-bits o)
     (rw c.as_ref.ensures.list at c.push_octets.ensures.written)
-        (rw c.as_ref.ensures.list at c.push_octets.ensures.room))
+    (rw c.as_ref.ensures.list at c.push_octets.ensures.room))
 
 pub returns-in-Octets-clause-counted : goal.returns-in-Octets-clause-counted
 returns-in-Octets-clause-counted c =
     let o = octets_in c.in-Octets.octets in
     rw c.in-Octets.is
     (takes (Octets o) (8 * length o) c.args.turns.now.count c.push_octets.new.turns.count
-        (octets_fit o c.as_ref.ensures.octets)
+    (octets_fit o c.as_ref.ensures.octets)
     (rw c.as_ref.ensures.list at c.push_octets.ensures.at_least)
-        (rw c.as_ref.ensures.list at c.push_octets.ensures.at_most))
+    (rw c.as_ref.ensures.list at c.push_octets.ensures.at_most))
 
 -- ---- bits
 
@@ -73,14 +73,14 @@ pub push_bitslice-requires : goal.push_bitslice-requires
 push_bitslice-requires c =
     let b = c.in-Bits.bits in
     space_of (Bits (bits_of b)) (bits_of b) (view_of b).len (room c.args.appender.now) refl
-        (length-list_of (view_of b) b.within) (rw c.in-Bits.is at c.requires.space)
+    (length-list_of (view_of b) b.within) (rw c.in-Bits.is at c.requires.space)
 
 pub returns-in-Bits-clause-pushed : goal.returns-in-Bits-clause-pushed
 returns-in-Bits-clause-pushed c =
     let b = c.in-Bits.bits in
     rw c.in-Bits.is
     (pushes (Bits (bits_of b)) (bits_of b) (view_of b).len c.args.appender.now c.push_bitslice.new.self refl
-        (length-list_of (view_of b) b.within) c.push_bitslice.ensures.written c.push_bitslice.ensures.room)
+    (length-list_of (view_of b) b.within) c.push_bitslice.ensures.written c.push_bitslice.ensures.room)
 
 pub returns-in-Bits-clause-counted : goal.returns-in-Bits-clause-counted
 returns-in-Bits-clause-counted c =
@@ -88,7 +88,7 @@ returns-in-Bits-clause-counted c =
     let n = length-list_of (view_of b) b.within in
     rw c.in-Bits.is
     (takes (Bits (bits_of b)) (length (bits_of b)) c.args.turns.now.count c.push_bitslice.new.turns.count
-        (bits_fit (bits_of b))
+    (bits_fit (bits_of b))
     (rw n c.push_bitslice.ensures.at_least) (rw n c.push_bitslice.ensures.at_most))
 
 -- ---- integers
@@ -96,7 +96,7 @@ returns-in-Bits-clause-counted c =
 pub push_shortest-requires : goal.push_shortest-requires
 push_shortest-requires c = λ octets s.
     space_of (Integer c.in-Integer.number) (bits octets) (8 * length octets) (room c.args.appender.now)
-        (octets, s, refl) (length-bits octets) (rw c.in-Integer.is at c.requires.space)
+    (octets, s, refl) (length-bits octets) (rw c.in-Integer.is at c.requires.space)
 
 pub returns-in-Integer-clause-pushed : goal.returns-in-Integer-clause-pushed
 returns-in-Integer-clause-pushed c =
@@ -104,7 +104,7 @@ returns-in-Integer-clause-pushed c =
     let one = one_shortest_list n in
     rw c.in-Integer.is
     (pushes (Integer n) (bits one.0) (8 * length one.0) c.args.appender.now c.push_shortest.new.appender
-        (one.0, one.1, refl) (length-bits one.0)
+    (one.0, one.1, refl) (length-bits one.0)
     (c.push_shortest.ensures.written one.0 one.1) (c.push_shortest.ensures.room one.0 one.1))
 
 pub returns-in-Integer-clause-counted : goal.returns-in-Integer-clause-counted
@@ -113,7 +113,7 @@ returns-in-Integer-clause-counted c =
     let one = one_shortest_list n in
     rw c.in-Integer.is
     (takes (Integer n) (8 * length one.0) c.args.turns.now.count c.push_shortest.new.turns.count
-        (integer_fits n one.0 one.1)
+    (integer_fits n one.0 one.1)
     (c.push_shortest.ensures.at_least one.0 one.1) (c.push_shortest.ensures.at_most one.0 one.1))
 
 -- ---- characters
@@ -129,7 +129,7 @@ push_wide-requires-in-Ok-clause-room c =
     let k = c.in-Ok.code in
     rw c.width.ensures.value
     (space_of (Character a c.in-Character.character) (digits k a.width) a.width (room c.args.appender.now)
-        (k, c.in-Ok.ensures.0, refl) (length-digits k a.width) (rw c.in-Character.is at c.requires.space))
+    (k, c.in-Ok.ensures.0, refl) (length-digits k a.width) (rw c.in-Character.is at c.requires.space))
 
 pub returns-in-Ok-clause-pushed : goal.returns-in-Ok-clause-pushed
 returns-in-Ok-clause-pushed c =
@@ -137,9 +137,9 @@ returns-in-Ok-clause-pushed c =
     let k = c.in-Ok.code in
     rw c.in-Character.is
     (pushes (Character a c.in-Character.character) (digits k a.width) a.width c.args.appender.now
-        c.push_wide-in-Ok.new.self (k, c.in-Ok.ensures.0, refl) (length-digits k a.width)
+    c.push_wide-in-Ok.new.self (k, c.in-Ok.ensures.0, refl) (length-digits k a.width)
     (rw (c.from.ensures, c.width.ensures.value) at c.push_wide-in-Ok.ensures.written)
-        (rw c.width.ensures.value at c.push_wide-in-Ok.ensures.room))
+    (rw c.width.ensures.value at c.push_wide-in-Ok.ensures.room))
 
 pub returns-in-Ok-clause-counted : goal.returns-in-Ok-clause-counted
 returns-in-Ok-clause-counted c =
@@ -147,9 +147,9 @@ returns-in-Ok-clause-counted c =
     let k = c.in-Ok.code in
     rw c.in-Character.is
     (takes (Character a c.in-Character.character) a.width c.args.turns.now.count c.push_wide-in-Ok.new.turns.count
-        (character_fits a c.in-Character.character k c.in-Ok.ensures.0)
+    (character_fits a c.in-Character.character k c.in-Ok.ensures.0)
     (rw c.width.ensures.value at c.push_wide-in-Ok.ensures.at_least)
-        (rw c.width.ensures.value at c.push_wide-in-Ok.ensures.at_most))
+    (rw c.width.ensures.value at c.push_wide-in-Ok.ensures.at_most))
 
 -- ---- identifiers
 
@@ -160,7 +160,7 @@ push_each-requires c =
     let fits = rw c.in-Oid.is at c.requires.fits in
     let contents = rw c.as_oid.ensures at c.in-Some.ensures in
     space_of (Identifier arcs) (bits o) (8 * length o) (room c.args.appender.now) (o, contents, fits.1.2, refl)
-        (length-bits o) (rw c.in-Oid.is at c.requires.space)
+    (length-bits o) (rw c.in-Oid.is at c.requires.space)
 
 pub returns-in-Some-clause-pushed : goal.returns-in-Some-clause-pushed
 returns-in-Some-clause-pushed c =
@@ -170,7 +170,7 @@ returns-in-Some-clause-pushed c =
     let contents = rw c.as_oid.ensures at c.in-Some.ensures in
     rw c.in-Oid.is
     (pushes (Identifier arcs) (bits o) (8 * length o) c.args.appender.now c.push_each.new.appender
-        (o, contents, fits.1.2, refl) (length-bits o) c.push_each.ensures.written c.push_each.ensures.room)
+    (o, contents, fits.1.2, refl) (length-bits o) c.push_each.ensures.written c.push_each.ensures.room)
 
 pub returns-in-Some-clause-counted : goal.returns-in-Some-clause-counted
 returns-in-Some-clause-counted c =
@@ -180,4 +180,4 @@ returns-in-Some-clause-counted c =
     let contents = rw c.as_oid.ensures at c.in-Some.ensures in
     let len = (identifier_fits arcs o contents fits.1.2).len in
     rw c.in-Oid.is (λ list s. subst (λ (n : ℕ). TakesTurns n c.args.turns.now.count c.push_each.new.turns.count)
-        (sym (len list s)) c.push_each.ensures.counted)
+    (sym (len list s)) c.push_each.ensures.counted)

@@ -9,7 +9,7 @@ push-requires-clause-fits c =
     let i = c.loop-field.field-index in
     let x = c.field-item.result in
     field_fits (plain_fields fs) (plain_fields (take i fs)) (plain_fields (drop (i + 1) fs)) (plain_field x)
-        (cut_of fs i x c.loop-field-test.true c.field-item.is) c.requires.list c.requires.spelled
+    (cut_of fs i x c.loop-field-test.true c.field-item.is) c.requires.list c.requires.spelled
 
 pub push-requires-clause-space : goal.push-requires-clause-space
 push-requires-clause-space c =
@@ -17,8 +17,8 @@ push-requires-clause-space c =
     let i = c.loop-field.field-index in
     let x = c.field-item.result in
     space_now (plain_fields fs) (plain_fields (take i fs)) (plain_fields (drop (i + 1) fs)) (plain_field x)
-        (cut_of fs i x c.loop-field-test.true c.field-item.is) c.args.appender.now c.loop-field.appender c.requires
-        c.loop-field.invariant.pushed
+    (cut_of fs i x c.loop-field-test.true c.field-item.is) c.args.appender.now c.loop-field.appender c.requires
+    c.loop-field.invariant.pushed
 
 pub loop-field-init : goal.loop-field-init
 loop-field-init c =
@@ -34,9 +34,9 @@ loop-field-preserved c =
       pushed =
           rw (more_of fs i x c.loop-field-test.true c.field-item.is)
           (pushed_more (plain_fields (take i fs)) (plain_field x) c.args.appender.now c.loop-field.appender
-              c.push.new.appender c.loop-field.invariant.pushed c.push.ensures.pushed);
+          c.push.new.appender c.loop-field.invariant.pushed c.push.ensures.pushed);
       counted =
           rw (more_of fs i x c.loop-field-test.true c.field-item.is)
           (more_turns (plain_fields (take i fs)) (plain_field x) c.args.turns.now.count c.loop-field.turns.count
-              c.push.new.turns.count c.loop-field.invariant.counted c.push.ensures.counted);
+          c.push.new.turns.count c.loop-field.invariant.counted c.push.ensures.counted);
     }

@@ -32,5 +32,5 @@ returns-clause-counted c = λ list s.
     let len = (counted_fits n one.0 one.1 p.0).len list s in
     rw len
     (counted_turns (length one.0) c.args.turns.now.count c.push_wide.new.turns.count c.push_shortest.new.turns.count
-        c.push_wide.ensures.at_least c.push_wide.ensures.at_most
+    c.push_wide.ensures.at_least c.push_wide.ensures.at_most
     (c.push_shortest.ensures.at_least one.0 one.1) (c.push_shortest.ensures.at_most one.0 one.1))

@@ -33,7 +33,7 @@ loop-octet-preserved c =
     let rest = c.loop-octet.octet-iterator in
     let count = c.args.turns.now.count in
     let after : Pushing old c.if-width-eq128.appender all rest c.if-width-eq128.word c.if-width-eq128.width count
-        c.if-width-eq128.turns.count × (c.if-width-eq128.width ≤ 120) =
+    c.if-width-eq128.turns.count × (c.if-width-eq128.width ≤ 120) =
     elim c.if-width-eq128.branch [
       | then-width-eq128 w ↦
           let full = rw w.if-width-eq128.true at inv in
@@ -41,9 +41,9 @@ loop-octet-preserved c =
             word_pushed old c.loop-octet.appender w.push_wide.new.self all rest c.loop-octet.word count
                 c.loop-octet.turns.count w.push_wide.new.turns.count full
                 w.push_wide.ensures.lender (rw w.if-width-eq128.true at w.push_wide.ensures.written)
-                    (rw w.if-width-eq128.true at w.push_wide.ensures.room)
+                (rw w.if-width-eq128.true at w.push_wide.ensures.room)
                 (rw w.if-width-eq128.true at w.push_wide.ensures.at_least)
-                    (rw w.if-width-eq128.true at w.push_wide.ensures.at_most),
+                (rw w.if-width-eq128.true at w.push_wide.ensures.at_most),
             omega arith,
           )
       | else-width-eq128 w ↦ rw (w.appender-is, w.turns-is, w.word-is, w.width-is)
@@ -52,4 +52,4 @@ loop-octet-preserved c =
     let octet : c.in-Some.octet < 256 = omega arith in
     rw c.from.ensures
     (octet_taken old c.if-width-eq128.appender all rest c.next.new.self c.if-width-eq128.word c.if-width-eq128.width
-        c.in-Some.octet count c.if-width-eq128.turns.count after.0 after.1 octet c.in-Some.ensures.steps)
+    c.in-Some.octet count c.if-width-eq128.turns.count after.0 after.1 octet c.in-Some.ensures.steps)

@@ -32,7 +32,7 @@ returns-in-Some-clause-written c = λ octets s.
     let few = sixteen_at_most n octets c.in-Some.ensures.0 s in
     let fit : SFits w128 n = subst (SFits w128) s.value (sixteen_fit octets s.octets s.some few) in
     let word = c.cast_unsigned.ensures ∙ ap (λ (z : ℤ). of_z w128 (to_z w128 (of_z w128 z))) c.in-Some.ensures.1
-        ∙ ap (of_z w128) (to_z-of_z fit) in
+    ∙ ap (of_z w128) (to_z-of_z fit) in
     c.push_wide.ensures.written
     ∙ ap (λ (l : List Bool). bits_written c.args.appender.now ++ l)
     (ap (λ (k : ℕ). digits k (8 * c.signed_len.result)) word
@@ -45,4 +45,4 @@ pub returns-in-None-clause-written : goal.returns-in-None-clause-written
 returns-in-None-clause-written c = λ octets s.
     let same = same_shortest c.args.number.now c.signed_octets.result octets c.signed_octets.ensures s in
     c.push_octets.ensures.written ∙ ap (λ (l : List Bool). bits_written c.args.appender.now ++ l)
-        (ap bits (c.as_ref.ensures ∙ same))
+    (ap bits (c.as_ref.ensures ∙ same))

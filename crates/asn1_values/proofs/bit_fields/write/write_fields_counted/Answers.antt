@@ -31,7 +31,7 @@ pub returns-clause-one : goal.returns-clause-one
 returns-clause-one c = λ codes list s.
     let p = c.push_all.ensures.pushed in
     same_end c.args.buffer.now p.list list _ (grind (arith, common_steps))
-        (all_one (plain_fields c.args.fields.now) p.list list codes p.spelled s)
+    (all_one (plain_fields c.args.fields.now) p.list list codes p.spelled s)
 
 pub returns-in_err-end-clause-turns_at_least : goal.returns-in_err-end-clause-turns_at_least
 returns-in_err-end-clause-turns_at_least c =
@@ -49,21 +49,21 @@ pub returns-in_err-end-clause-named : goal.returns-in_err-end-clause-named
 returns-in_err-end-clause-named c = λ e ne is.
     let p = err_from_is_err_and c.from_residual.result c.from_residual.ensures.1 in
     rw (p.1, p.2) (ap (λ (x : WriteError). Err x)
-        (one_write_refusal (length c.args.buffer.now) (plain_fields c.args.fields.now) c.in_err-end.field-0.0 e
-        c.in_err-end.ensures.err ne is))
+    (one_write_refusal (length c.args.buffer.now) (plain_fields c.args.fields.now) c.in_err-end.field-0.0 e
+    c.in_err-end.ensures.err ne is))
 
 pub returns-then-end-clause-named : goal.returns-then-end-clause-named
 returns-then-end-clause-named c = λ e ne is.
     let far =
-        only_too_long (length c.args.buffer.now) (plain_fields c.args.fields.now) c.in_ok-end.ensures.ok.list e
-        c.in_ok-end.ensures.ok.spelled ne is in
+    only_too_long (length c.args.buffer.now) (plain_fields c.args.fields.now) c.in_ok-end.ensures.ok.list e
+    c.in_ok-end.ensures.ok.spelled ne is in
     ap (λ (x : WriteError). Err x) (sym far.3)
 
 pub returns-in_err-appender-clause-named : goal.returns-in_err-appender-clause-named
 returns-in_err-appender-clause-named c = λ e ne is.
     let ends = c.in_ok-end.ensures.ok in
     let far =
-        only_too_long (length c.args.buffer.now) (plain_fields c.args.fields.now) ends.list e ends.spelled ne is in
+    only_too_long (length c.args.buffer.now) (plain_fields c.args.fields.now) ends.list e ends.spelled ne is in
     let long = far.2 in
     let end = ends.each far.0 far.1 in
     let capped = ends.capped in
@@ -73,7 +73,7 @@ pub returns-clause-named : goal.returns-clause-named
 returns-clause-named c = λ e ne is.
     let ends = c.in_ok-end.ensures.ok in
     let far =
-        only_too_long (length c.args.buffer.now) (plain_fields c.args.fields.now) ends.list e ends.spelled ne is in
+    only_too_long (length c.args.buffer.now) (plain_fields c.args.fields.now) ends.list e ends.spelled ne is in
     let long = far.2 in
     let end = ends.each far.0 far.1 in
     let capped = ends.capped in

@@ -15,7 +15,7 @@ overwrite-next-requires-clause-fits c =
     let i = c.loop-field.field-index in
     let x = c.field-item.result in
     field_fits (plain_fields fs) (plain_fields (take i fs)) (plain_fields (drop (i + 1) fs)) (plain_field x)
-        (cut_of fs i x c.loop-field-test.true c.field-item.is) c.requires.list c.requires.spelled
+    (cut_of fs i x c.loop-field-test.true c.field-item.is) c.requires.list c.requires.spelled
 
 pub overwrite-next-requires-clause-within : goal.overwrite-next-requires-clause-within
 overwrite-next-requires-clause-within c =
@@ -23,7 +23,7 @@ overwrite-next-requires-clause-within c =
     let i = c.loop-field.field-index in
     let x = c.field-item.result in
     reached_now (plain_fields fs) (plain_fields (take i fs)) (plain_fields (drop (i + 1) fs)) (plain_field x)
-        (cut_of fs i x c.loop-field-test.true c.field-item.is)
+    (cut_of fs i x c.loop-field-test.true c.field-item.is)
     c.args.target.now c.loop-field.target c.args.position c.loop-field.next c.requires c.loop-field.invariant
 
 pub loop-field-preserved : goal.loop-field-preserved
@@ -33,9 +33,13 @@ loop-field-preserved c =
     let x = c.field-item.result in
     let old = bits c.args.target.now in
     let within : c.args.position ≤ length old =
-        omega (arith, length-bits c.args.target.now, begins_within (8 * length c.args.target.now) c.args.position
-        (plain_fields fs) c.requires) in
+    omega (
+      arith,
+      length-bits c.args.target.now,
+      begins_within (8 * length c.args.target.now) c.args.position
+          (plain_fields fs) c.requires,
+    ) in
     rw (more_of fs i x c.loop-field-test.true c.field-item.is)
     (overwrites_more (plain_fields (take i fs)) (plain_field x) c.args.position c.loop-field.next
-        c.overwrite-next.result old (bits c.loop-field.target) (bits c.overwrite-next.new.target) c.loop-field.invariant
-        c.overwrite-next.ensures within)
+    c.overwrite-next.result old (bits c.loop-field.target) (bits c.overwrite-next.new.target) c.loop-field.invariant
+    c.overwrite-next.ensures within)

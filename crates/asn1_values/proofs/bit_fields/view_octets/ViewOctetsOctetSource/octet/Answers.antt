@@ -21,4 +21,4 @@ returns c =
     let b = c.args.self.now.bits in
     let within = rw (length-octets_of ((view_of b).len / 8) (bits_of b)) at c.requires in
     c.read_u128.ensures.number ∙ ap number c.slice.ensures.list
-        ∙ sym (get_or-octets_of ((view_of b).len / 8) c.args.i (bits_of b) within)
+    ∙ sym (get_or-octets_of ((view_of b).len / 8) c.args.i (bits_of b) within)
