@@ -43,8 +43,8 @@ typedef uint32_t asn1_code;
 #define ASN1_CHARACTER UINT32_C(12)    /* a character is not in the set */
 #define ASN1_SET UINT32_C(13)          /* a permitted set of more than 2 to the power of 32 characters */
 #define ASN1_CODE UINT32_C(14)         /* a number is the code of no character */
-
 #define ASN1_SHORT UINT32_C(15)        /* the octets end before a field does */
+#define ASN1_TEXT UINT32_C(16)         /* not the dotted text of an identifier whose arcs all fit 32 bits */
 
 /* The eight restricted character strings (X.680 41). */
 typedef uint32_t asn1_kind;
@@ -167,6 +167,17 @@ asn1_code asn1_oid_contents(const uint32_t *arcs, size_t arc_count, uint8_t *roo
  * there are octets is always enough. ASN1_MALFORMED and ASN1_ARC_TOO_LARGE as asn1_oid_check says; else ASN1_ROOM where
  * there are more arcs than the room holds, and then the room may have been written to. */
 asn1_code asn1_oid_arcs(const uint8_t *octets, size_t octet_count, uint32_t *room, size_t room_count, size_t *count);
+
+/* Writes the dotted text of the arcs, their decimals joined by full stops, to the front of the room, and leaves the
+ * octets behind it; no zero ends it, and eleven octets for each arc are always enough. How many octets it has is told
+ * also where the answer is ASN1_ROOM. ASN1_ARCS where they are no identifier's; ASN1_OVERFLOW where the text would have
+ * more than SIZE_MAX octets. */
+asn1_code asn1_oid_text(const uint32_t *arcs, size_t arc_count, uint8_t *room, size_t room_count, size_t *count);
+
+/* Writes the arcs of which the octets are the dotted text to the front of the room, and leaves the numbers behind them;
+ * half as many as there are octets, and one more, are always enough. How many arcs there are is told also where the
+ * answer is ASN1_ROOM. ASN1_TEXT for octets that are the dotted text of no identifier whose arcs all fit 32 bits. */
+asn1_code asn1_oid_from_text(const uint8_t *text, size_t text_count, uint32_t *room, size_t room_count, size_t *count);
 
 /* ---- restricted character strings (X.680 41, X.690 8.21) */
 

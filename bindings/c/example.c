@@ -127,6 +127,41 @@ static void identifiers(void)
     expect("one arc has no contents", asn1_oid_contents(arcs, 1, room, sizeof room, &count) == ASN1_ARC_COUNT);
 }
 
+static bool is_no_text(const char *text)
+{
+    uint32_t room[8];
+    size_t count = 7;
+    return asn1_oid_from_text((const uint8_t *)text, strlen(text), room, 8, &count) == ASN1_TEXT && count == 7;
+}
+
+static void dotted_text(void)
+{
+    const uint32_t arcs[4] = {1, 2, 840, 113549};
+    uint8_t text[16];
+    size_t count = 0;
+    expect("an identifier has its dotted text", asn1_oid_text(arcs, 4, text, sizeof text, &count) == ASN1_DONE
+           && count == 14 && memcmp(text, "1.2.840.113549", 14) == 0);
+    uint32_t read[4];
+    size_t arc_count = 0;
+    expect("which has its arcs", asn1_oid_from_text(text, count, read, 4, &arc_count) == ASN1_DONE && arc_count == 4
+           && memcmp(read, arcs, sizeof arcs) == 0);
+    expect("three are no room, and four are told", asn1_oid_from_text(text, count, read, 3, &arc_count) == ASN1_ROOM
+           && arc_count == 4);
+    const uint32_t zeros[2] = {0, 0};
+    expect("two octets are no room, and three are told", asn1_oid_text(zeros, 2, text, 2, &count) == ASN1_ROOM
+           && count == 3);
+    const uint32_t largest[2] = {2, UINT32_MAX};
+    expect("the largest arc has ten digits", asn1_oid_text(largest, 2, text, sizeof text, &count) == ASN1_DONE
+           && count == 12 && memcmp(text, "2.4294967295", 12) == 0);
+    const uint32_t none[1] = {3};
+    expect("3 is no identifier", asn1_oid_text(none, 1, text, sizeof text, &count) == ASN1_ARCS && is_no_text("3"));
+    expect("arcs are decimals without a leading zero or a sign",
+           is_no_text("2.01") && is_no_text("2.+1") && is_no_text("2.-1") && is_no_text("2. 1"));
+    expect("a full stop stands between two arcs", is_no_text("") && is_no_text(".") && is_no_text("2.") && is_no_text(".2")
+           && is_no_text("2..1"));
+    expect("an arc fits 32 bits, and 1.40 is no identifier", is_no_text("2.4294967296") && is_no_text("1.40"));
+}
+
 static void strings(void)
 {
     size_t place = 0;
@@ -162,6 +197,7 @@ int main(void)
     fields();
     integers();
     identifiers();
+    dotted_text();
     strings();
     return wrong;
 }

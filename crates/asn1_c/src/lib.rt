@@ -14,3 +14,4 @@ mod identifiers;
 mod integers;
 mod room;
 mod strings;
+mod text;

@@ -33,7 +33,9 @@ pub enum IdentifierError {
     Arcs,
     /// There is one arc, which has no contents.
     ArcCount,
-    /// The room is shorter than the contents.
+    /// The text is not the dotted text of an identifier whose arcs all fit 32 bits.
+    Text,
+    /// The room is too short.
     Room,
 }
 
@@ -163,7 +165,8 @@ impl fmt::Display for IdentifierError {
             IdentifierError::ArcTooLarge => f.write_str("an arc is past 32 bits"),
             IdentifierError::Arcs => f.write_str("not the arcs of an identifier"),
             IdentifierError::ArcCount => f.write_str("fewer than two arcs"),
-            IdentifierError::Room => f.write_str("the room is shorter than the contents"),
+            IdentifierError::Text => f.write_str("not the dotted text of an identifier"),
+            IdentifierError::Room => f.write_str("the room is too short"),
         }
     }
 }

@@ -58,6 +58,7 @@ pub const ARC_COUNT: u32 = 9;
 pub const CHARACTER: u32 = 12;
 pub const SET: u32 = 13;
 pub const SHORT: u32 = 15;
+pub const TEXT: u32 = 16;
 
 extern "C" {
     pub fn asn1_read_u128(
@@ -115,6 +116,20 @@ extern "C" {
     pub fn asn1_oid_arcs(
         octets: *const u8,
         octet_count: usize,
+        room: *mut u32,
+        room_count: usize,
+        count: *mut usize,
+    ) -> u32;
+    pub fn asn1_oid_text(
+        arcs: *const u32,
+        arc_count: usize,
+        room: *mut u8,
+        room_count: usize,
+        count: *mut usize,
+    ) -> u32;
+    pub fn asn1_oid_from_text(
+        text: *const u8,
+        text_count: usize,
         room: *mut u32,
         room_count: usize,
         count: *mut usize,
