@@ -3,6 +3,7 @@ pub mod EightLemmas
 pub mod HashLemmas
 pub mod OrderLemmas
 pub mod OredLemmas
+pub mod OverwriteLemmas
 pub mod PutLemmas
 pub mod ReadWideLemmas
 pub mod RoomLemmas

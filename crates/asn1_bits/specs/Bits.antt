@@ -1,5 +1,5 @@
 -- Lists of bits: what numbers and octets spell. A bit is a truth value.
-use Rattle.std.specs.Prelude.{◌≡◌, ℕ, zero, suc, ◌+◌, ◌-◌, ◌*◌, ◌/◌, ◌%◌, ◌≤◌, Bool, false, ◌||◌, ◌&&◌, if◌then◌else◌, ◌==◌, nat_le, List, [], ◌∷◌, ◌++◌, drop, map, length, replicate, slice_index_or}
+use Rattle.std.specs.Prelude.{◌≡◌, ℕ, zero, suc, ◌+◌, ◌-◌, ◌*◌, ◌/◌, ◌%◌, ◌≤◌, Bool, false, ◌||◌, ◌&&◌, if◌then◌else◌, ◌==◌, nat_le, List, [], ◌∷◌, ◌++◌, take, drop, map, length, replicate, slice_index_or}
 use Rattle.std.specs.List.{flat_map, fold, range_with_len}
 use Rattle.std.specs.Int.{div_ceil}
 
@@ -42,3 +42,7 @@ ored old place src =
     map
     (λ i. slice_index_or old i false || (nat_le place i && slice_index_or src (i - place) false))
     (range_with_len 0 (length old))
+
+-- old with the list written over it from a place on
+unfoldable pub overwritten : List Bool → ℕ → List Bool → List Bool
+overwritten old place list = take place old ++ (list ++ drop (place + length list) old)

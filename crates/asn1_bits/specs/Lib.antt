@@ -13,4 +13,5 @@ pub mod View
 pub mod DigitLaws
 pub mod NumberLaws
 pub mod ByteLaws
+pub mod OverwrittenLaws
 pub mod ViewLaws

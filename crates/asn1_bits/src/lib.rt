@@ -12,6 +12,7 @@ mod bit_string;
 mod fixed_bit_string;
 mod kernels;
 mod octets;
+mod overwrite;
 mod places;
 mod single_bits;
 mod turns;
@@ -28,6 +29,7 @@ pub use kernels::{
     read_wide, write_bitslice,
 };
 pub use octets::Octets;
+pub use overwrite::{overwrite_bitslice, overwrite_number};
 pub use places::{Places, place_bits};
 pub use turns::Turns;
 

@@ -5,5 +5,6 @@ mod callers;
 mod comparisons;
 mod hashes;
 mod kernel_rows;
+mod overwritten;
 mod plain;
 mod rows;

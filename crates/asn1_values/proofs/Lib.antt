@@ -13,6 +13,7 @@ pub mod OctetLemmas
 pub mod OctetsKind
 pub mod OneRefusal
 pub mod OneSpelling
+pub mod OverLemmas
 pub mod RefusalLemmas
 pub mod SixteenLemmas
 pub mod SpellingLemmas

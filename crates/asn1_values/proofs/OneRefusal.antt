@@ -7,7 +7,7 @@ use Rattle.asn1_values.specs.declared.bit_fields.error.WriteError.{WriteError}
 use Rattle.asn1_values.specs.declared.bit_fields.error.WriteError.TheVariants as writing
 use Rattle.asn1_values.specs.Fields.{Field, Shape, AreSpelledBy, Number, Character, CountedInteger, Identifier, OfNumber, OfOctets, OfBits, OfInteger, OfCharacter, OfCountedInteger, OfIdentifier}
 use Rattle.asn1_values.specs.Wrong.{Fault, NumberWidth, NotInteger, Short, NoCharacter, NoLength, NotIdentifier, ArcOver, IsShortBy, IsNoInteger, IsNoIdentifier, HoldsLargeArc, IsCount, first_octet, IsReason, CanBegin, IsFirstFault, Misfit, WidthOver, PastWidth, NotInAlphabet, PastLength, TooFewArcs, IsMisfit, IsFirstMisfit}
-use Rattle.asn1_values.specs.Refusals.{IsReadRefusal, IsWriteRefusal}
+use Rattle.asn1_values.specs.Refusals.{IsReadRefusal, IsWriteRefusal, IsPast, IsWriteAtRefusal}
 use Rattle.asn1_values.specs.Steps.{error_at, NamesFirstMisfit}
 use Rattle.asn1_values.proofs.JoinedLemmas.{some_at}
 use Rattle.asn1_values.proofs.ListLemmas.{Begins-none, Begins-split}
@@ -264,6 +264,29 @@ one_write_refusal n fields d e p ne q = elim (misfit_or_length n fields e ne q) 
 -- where all fit, only the new length is left
 pub only_too_long : (n : ℕ) (fields : List Field) (list : List Bool) (e : WriteError) → AreSpelledBy fields list → e ≢ writing.Memory → IsWriteRefusal n fields e → LeadsTooFar n fields e
 only_too_long n fields list e s ne q = elim (misfit_or_length n fields e ne q) [
+  | inl h ↦ absurd (names_none fields e list h s)
+  | inr h ↦ h
+]
+
+-- the fields fit, and end past n bits or past what `usize` counts
+abbrev pub EndPast : ℕ → ℕ → List Field → WriteError → Type 0
+EndPast n place fields e = (list : List Bool) × AreSpelledBy fields list × IsPast n (place + length list) × (e ≡ writing.TooLong)
+
+misfit_or_past : (n place : ℕ) (fields : List Field) (e : WriteError) → IsWriteAtRefusal n place fields e → NamesFirstMisfit fields e ⊎ EndPast n place fields e
+misfit_or_past n place fields writing.TooLong h = inr (h.0, h.1, h.2, refl)
+misfit_or_past n place fields writing.Memory h = absurd h
+misfit_or_past n place fields e h = inl h
+
+-- a refusal to write over bits that names a field is the only one
+pub one_write_at_refusal : (n place : ℕ) (fields : List Field) (d e : WriteError) → NamesFirstMisfit fields d → IsWriteAtRefusal n place fields e → d ≡ e
+one_write_at_refusal n place fields d e p q = elim (misfit_or_past n place fields e q) [
+  | inl h ↦ same_misfit fields d e p h
+  | inr h ↦ absurd (names_none fields d h.0 p h.1)
+]
+
+-- where all fit, only the end is left
+pub only_past : (n place : ℕ) (fields : List Field) (list : List Bool) (e : WriteError) → AreSpelledBy fields list → IsWriteAtRefusal n place fields e → EndPast n place fields e
+only_past n place fields list e s q = elim (misfit_or_past n place fields e q) [
   | inl h ↦ absurd (names_none fields e list h s)
   | inr h ↦ h
 ]

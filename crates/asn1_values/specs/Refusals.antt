@@ -1,5 +1,5 @@
 -- What an error of reading or writing says.
-use Rattle.std.specs.Prelude.{ℕ, ◌+◌, ◌^◌, ◌<◌, ◌≤◌, Bool, List, length}
+use Rattle.std.specs.Prelude.{ℕ, ◌+◌, ◌^◌, ◌<◌, ◌≤◌, ◌⊎◌, Bool, List, length}
 use Rattle.asn1_bits.specs.Bits.{octets_for}
 use Rattle.asn1_values.specs.declared.bit_fields.error.ReadError.{ReadError}
 use Rattle.asn1_values.specs.declared.bit_fields.error.ReadError.TheVariants as reading
@@ -33,3 +33,19 @@ IsWriteRefusal n fields writing.TooLong =
 IsWriteRefusal n fields writing.Memory =
     (list : List Bool) × AreSpelledBy fields list × (n + length list < 2 ^ 64)
     × (octets_for n < octets_for (n + length list))
+
+-- a place behind n bits, or one that usize can't count
+abbrev pub IsPast : ℕ → ℕ → Type 0
+IsPast n place = (n < place) ⊎ (2 ^ 64 ≤ place)
+
+-- writing these fields over n bits, from a place on, is refused by the first that doesn't fit, with its reason; where all
+-- fit, for the place that they end at; and never for want of memory
+abbrev pub IsWriteAtRefusal : ℕ → ℕ → List Field → WriteError → Type 0
+IsWriteAtRefusal n place fields (writing.NumberWidth field width) = IsFirstMisfit fields field (WidthOver width)
+IsWriteAtRefusal n place fields (writing.Number field) = IsFirstMisfit fields field PastWidth
+IsWriteAtRefusal n place fields (writing.Character field character) = IsFirstMisfit fields field (NotInAlphabet character)
+IsWriteAtRefusal n place fields (writing.IntegerLength field) = IsFirstMisfit fields field PastLength
+IsWriteAtRefusal n place fields (writing.ArcCount field) = IsFirstMisfit fields field TooFewArcs
+IsWriteAtRefusal n place fields writing.TooLong =
+    (list : List Bool) × AreSpelledBy fields list × IsPast n (place + length list)
+IsWriteAtRefusal n place fields writing.Memory = ⊥

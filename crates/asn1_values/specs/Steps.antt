@@ -1,7 +1,8 @@
 -- How the steps of the two calls are stated. No public contract cites this.
-use Rattle.std.specs.Prelude.{◌≡◌, ℕ, ◌+◌, ◌-◌, ◌*◌, ◌/◌, ◌^◌, ◌≤◌, Bool, List, ◌++◌, length, min, Result, Ok, Err}
+use Rattle.std.specs.Prelude.{◌≡◌, ℕ, ◌+◌, ◌-◌, ◌*◌, ◌/◌, ◌^◌, ◌<◌, ◌≤◌, Bool, List, ◌++◌, length, min, Result, Ok, Err}
 use Rattle.std.specs.Int.{div_ceil}
 use Rattle.asn1_bits.specs.declared.bit_appender.BitAppender.{BitAppender}
+use Rattle.asn1_bits.specs.Bits.{overwritten}
 use Rattle.asn1_bits.specs.BitAppender.{bits_written, room}
 use Rattle.asn1_values.specs.declared.bit_fields.error.ReadError.{ReadError}
 use Rattle.asn1_values.specs.declared.bit_fields.error.ReadError.TheVariants as reading
@@ -96,3 +97,28 @@ pub record TakesTurns (n old new : ℕ) : Type 0 where
 pub record TakeTurns (fields : List Field) (old new : ℕ) : Type 0 where
   pub at_least : (list : List Bool) → AreSpelledBy fields list → old + div_ceil (length list) 64 ≤ new
   pub at_most : (list : List Bool) → AreSpelledBy fields list → new ≤ old + length list / 64 + 8 * length fields
+
+-- ---- writing over what is there
+
+-- bits that end at the place end within n bits, and usize counts it
+abbrev pub IsReached : ℕ → ℕ → Type 0
+IsReached n place = (place ≤ n) × (place < 2 ^ 64)
+
+-- the fields all fit, and with them from a place on n bits are reached
+pub record EndWithin (n place : ℕ) (fields : List Field) : Type 0 where
+  pub list : List Bool
+  pub spelled : AreSpelledBy fields list
+  pub within : (others : List Bool) → AreSpelledBy fields others → IsReached n (place + length others)
+
+-- the list was written over the bits from a place on, up to the next place
+pub record WritesOver (list : List Bool) (place : ℕ) (old new : List Bool) (next : ℕ) : Type 0 where
+  pub written : new ≡ overwritten old place list
+  pub end : next ≡ place + length list
+
+-- the spelling of the field was
+abbrev pub Overwrites : Field → ℕ → List Bool → List Bool → ℕ → Type 0
+Overwrites field place old new next = (list : List Bool) × IsSpelledBy field list × WritesOver list place old new next
+
+-- the spellings of the fields were, one after another
+abbrev pub OverwritesAll : List Field → ℕ → List Bool → List Bool → ℕ → Type 0
+OverwritesAll fields place old new next = (list : List Bool) × AreSpelledBy fields list × WritesOver list place old new next

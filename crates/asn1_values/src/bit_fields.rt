@@ -1,5 +1,5 @@
-//! Bit fields: numbers, octets, bits, integers and characters, written one after another behind the bits of a buffer,
-//! and read back from any bit of a storage.
+//! Bit fields: numbers, octets, bits, integers and characters, written one after another behind the bits of a buffer or
+//! over those of octets, and read back from any bit of a storage.
 
 mod error;
 mod field;
@@ -7,9 +7,11 @@ mod read;
 mod shape;
 mod view_octets;
 mod write;
+mod write_at;
 
 pub use error::{ReadError, WriteError};
 pub use field::Field;
 pub use read::read_fields;
 pub use shape::{Shape, shape_of};
 pub use write::{write_fields, write_fields_counted};
+pub use write_at::write_fields_at;

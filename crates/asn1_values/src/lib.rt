@@ -11,8 +11,9 @@ mod tests;
 
 pub use asn1_bits::{
     BitAppender, BitBuffer, BitReader, BitStr, BitString, FixedBitString, Octets, Places, Turns,
-    aligned_octets, extend_bitstring, extend_vec_from_bitslice, or_bits, place_bits,
-    range_from_len, read_bits, read_u128, read_wide, to_bitstring, write_bitslice,
+    aligned_octets, extend_bitstring, extend_vec_from_bitslice, or_bits, overwrite_bitslice,
+    overwrite_number, place_bits, range_from_len, read_bits, read_u128, read_wide, to_bitstring,
+    write_bitslice,
 };
 pub use asn1_integer::{
     ConstrainedInteger, Integer, IntegerBytes, IntegerError, IntegerType, TryFromIntegerError,
@@ -34,5 +35,6 @@ pub use asn1_strings::{
     should_be_indexed,
 };
 pub use bit_fields::{
-    Field, ReadError, Shape, WriteError, read_fields, shape_of, write_fields, write_fields_counted,
+    Field, ReadError, Shape, WriteError, read_fields, shape_of, write_fields, write_fields_at,
+    write_fields_counted,
 };

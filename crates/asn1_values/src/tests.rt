@@ -10,3 +10,4 @@ mod integers;
 mod ragged;
 mod same;
 mod texts;
+mod written_at;

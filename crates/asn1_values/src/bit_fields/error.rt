@@ -15,7 +15,7 @@ pub enum WriteError {
     /// A character that its alphabet has no code for.
     #[error("field {field}: character {character} is not in the alphabet")]
     Character { field: usize, character: u32 },
-    /// Every field fits, and the new length passes `usize::MAX` bits.
+    /// Every field fits, and the new length passes `usize::MAX` bits, or the end of the octets that are written over.
     #[error("too many bits")]
     TooLong,
     /// Every field fits, and memory is wanting.

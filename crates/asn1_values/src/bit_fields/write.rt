@@ -94,7 +94,7 @@ pub fn write_fields_counted(
 /// The length that the fields lead to, if they all fit. The sum stops growing at `u128::MAX`, and later fields are still
 /// examined.
 #[inline(always)]
-fn new_len(len: usize, fields: &[Field<'_, '_>]) -> Result<u128, WriteError>
+pub(super) fn new_len(len: usize, fields: &[Field<'_, '_>]) -> Result<u128, WriteError>
     ensures ok { IfOk result (EndsAt len (plain_fields fields.now)) }
     ensures err { IfErr result (NamesFirstMisfit (plain_fields fields.now)) }
 {

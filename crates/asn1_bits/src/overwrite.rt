@@ -1,0 +1,88 @@
+//! Bits that are written over those of octets.
+
+ghost use Rattle.std.specs.Prelude.{◌≡◌, ◌+◌, ◌*◌, ◌%◌, ◌^◌, ◌<◌, ◌≤◌, length, replicate, false};
+ghost use Rattle.std.specs.Int.{div_ceil};
+ghost use Rattle.asn1_bits.specs.Bits.{bits, digits, overwritten};
+ghost use Rattle.asn1_bits.specs.BitStr.{view_of, bits_of};
+ghost use Rattle.asn1_bits.specs.Turns.{turns_for};
+
+use crate::bit_str::BitStr;
+use crate::kernels::write_bitslice;
+use crate::turns::Turns;
+
+/// Writes the view over the bits of `dst` from bit `position` on, and leaves every other bit. That the bits are cleared
+/// first takes no turns.
+#[inline]
+pub fn overwrite_bitslice(dst: &mut [u8], position: usize, src: BitStr<'_>, turns: &mut Turns)
+    requires room { position + (view_of src).len ≤ 8 * length dst.old }
+    requires fits { position + (view_of src).len < 2 ^ 64 }
+    ensures bits { bits dst.new ≡ overwritten (bits dst.old) position (bits_of src.entry) }
+    ensures at_least { turns.old.count + div_ceil (view_of src.entry).len 64 ≤ turns.new.count }
+    ensures at_most { turns.new.count ≤ turns.old.count + turns_for (view_of src.entry).len }
+{
+    clear_bits(dst, position, src.len());
+    write_bitslice(dst, position, src, turns);
+}
+
+/// Writes the lowest `width` binary digits of `value`, most significant first, over the bits of `dst` from bit
+/// `position` on, and leaves every other bit. That the bits are cleared first takes no turns.
+#[inline]
+pub fn overwrite_number(
+    dst: &mut [u8],
+    position: usize,
+    value: u128,
+    width: usize,
+    turns: &mut Turns,
+)
+    requires width { width ≤ 128 }
+    requires room { position + width ≤ 8 * length dst.old }
+    requires fits { position + width < 2 ^ 64 }
+    ensures bits { bits dst.new ≡ overwritten (bits dst.old) position (digits value width) }
+    ensures at_least { turns.old.count + div_ceil width 64 ≤ turns.new.count }
+    ensures at_most { turns.new.count ≤ turns.old.count + turns_for width }
+{
+    let octets = value.to_be_bytes();
+    let lowest = BitStr::front_of(&octets, 128).slice(128 - width, width);
+    overwrite_bitslice(dst, position, lowest, turns);
+}
+
+/// Makes zeros of the `count` bits from bit `position` on: those before the first whole octet, whole octets, and those
+/// behind the last.
+fn clear_bits(dst: &mut [u8], position: usize, count: usize)
+    requires room { position + count ≤ 8 * length dst.old }
+    requires fits { position + count < 2 ^ 64 }
+    ensures { bits dst.new ≡ overwritten (bits dst.old) position (replicate count false) }
+{
+    let front = count.min((8 - position % 8) % 8);
+    clear_within(dst, position, front);
+    let rest = count - front;
+    if rest > 0 {
+        let next = position + front;
+        clear_octets(dst, next / 8, rest / 8);
+        clear_within(dst, next + rest / 8 * 8, rest % 8);
+    }
+}
+
+/// Makes zeros of `count` bits that lie in one octet.
+fn clear_within(dst: &mut [u8], position: usize, count: usize)
+    requires octet { position % 8 + count ≤ 8 }
+    requires room { position + count ≤ 8 * length dst.old }
+    ensures { bits dst.new ≡ overwritten (bits dst.old) position (replicate count false) }
+{
+    if count == 0 {
+        return;
+    }
+    let shift = position % 8;
+    let octet = u16::from(dst[position / 8]);
+    let before = (octet >> (8 - shift)) << (8 - shift);
+    let behind = octet % (1 << (8 - shift - count));
+    dst[position / 8] = (before + behind) as u8;
+}
+
+/// Makes zeros of the bits of `count` octets from one of them on.
+fn clear_octets(dst: &mut [u8], first: usize, count: usize)
+    requires { first + count ≤ length dst.old }
+    ensures { bits dst.new ≡ overwritten (bits dst.old) (8 * first) (replicate (8 * count) false) }
+{
+    dst[first..first + count].fill(0);
+}
