@@ -3,3 +3,4 @@ pub mod BitLemmas
 pub mod FieldLemmas
 pub mod IntegerLemmas
 pub mod TextLemmas
+pub mod WritingLemmas

@@ -3,3 +3,4 @@ pub mod Codes
 pub mod Fields
 pub mod Sets
 pub mod Text
+pub mod Writing

@@ -15,3 +15,4 @@ mod integers;
 mod room;
 mod strings;
 mod text;
+mod writing;
