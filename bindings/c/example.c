@@ -82,6 +82,45 @@ static void fields(void)
            asn1_read_fields(message, sizeof message, 1, shapes, 3, read, 2, &end, &refusal) == ASN1_ROOM);
 }
 
+/* How the only field of a kind is refused, and that nothing has changed. */
+static asn1_code refused(asn1_shape shape, asn1_field field)
+{
+    const uint8_t source[2] = {0xFF, 0xFF};
+    uint8_t target[2] = {0x12, 0x34};
+    size_t end = 7;
+    asn1_refusal refusal = {0, 9, 0, 0};
+    asn1_code code = asn1_write_fields(target, 2, 3, source, 2, &shape, 1, &field, 1, &end, &refusal);
+    bool same = target[0] == 0x12 && target[1] == 0x34 && end == 7;
+    bool named = code == ASN1_ROOM ? refusal.field == 9 : refusal.field == 0 && refusal.code == code;
+    return same && named ? code : ASN1_DONE;
+}
+
+static void written_fields(void)
+{
+    /* What is read at bit 1 of one message is written at bit 4 of another, over ones. */
+    const uint8_t message[4] = {0x5A, 0x5B, 0xCF, 0x80};
+    const asn1_shape shapes[3] = {{ASN1_NUMBER, 3}, {ASN1_OCTETS, 2}, {ASN1_BITS, 5}};
+    asn1_field read[3];
+    asn1_refusal refusal = {0, 0, 0, 0};
+    size_t end = 0;
+    asn1_code code = asn1_read_fields(message, sizeof message, 1, shapes, 3, read, 3, &end, &refusal);
+    uint8_t target[4] = {0xFF, 0xFF, 0xFF, 0xFF};
+    if (code == ASN1_DONE) {
+        code = asn1_write_fields(target, sizeof target, 4, message, sizeof message, shapes, 3, read, 3, &end, &refusal);
+    }
+    expect("what was read is written to another place", code == ASN1_DONE && end == 28
+           && memcmp(target, "\xFB\x4B\x79\xFF", 4) == 0);
+
+    expect("no field of an unknown kind", refused((asn1_shape){3, 1}, (asn1_field){0, 1, 0, 0}) == ASN1_KIND);
+    expect("no number of 129 bits", refused((asn1_shape){ASN1_NUMBER, 129}, (asn1_field){0, 0, 0, 0}) == ASN1_WIDTH);
+    expect("no 8 in three bits", refused((asn1_shape){ASN1_NUMBER, 3}, (asn1_field){0, 0, 0, 8}) == ASN1_OVERFLOW);
+    expect("no octet of seven bits", refused((asn1_shape){ASN1_OCTETS, 1}, (asn1_field){0, 7, 0, 0}) == ASN1_LENGTH);
+    expect("no bits past the source", refused((asn1_shape){ASN1_BITS, 4}, (asn1_field){13, 4, 0, 0}) == ASN1_OUTSIDE);
+    expect("14 bits are too many", refused((asn1_shape){ASN1_BITS, 14}, (asn1_field){0, 14, 0, 0}) == ASN1_ROOM);
+    expect("each field has a shape", asn1_write_fields(target, sizeof target, 4, message, sizeof message, shapes, 3, read, 2,
+                                                       &end, &refusal) == ASN1_COUNT && end == 28);
+}
+
 static void integers(void)
 {
     uint8_t room[8];
@@ -195,6 +234,7 @@ int main(void)
 {
     bits();
     fields();
+    written_fields();
     integers();
     identifiers();
     dotted_text();

@@ -102,6 +102,11 @@ pub enum WriteError {
         /// Which field.
         field: usize,
     },
+    /// The bits of octets are not whole octets.
+    Length {
+        /// Which field.
+        field: usize,
+    },
     /// The bits of a field do not all lie in their octets.
     Outside {
         /// Which field.
@@ -133,6 +138,7 @@ impl fmt::Display for WriteError {
             WriteError::Number { field } => {
                 write!(f, "field {field}: the number does not fit its width")
             }
+            WriteError::Length { field } => write!(f, "field {field}: not whole octets"),
             WriteError::Outside { field } => write!(f, "field {field}: past the end of its octets"),
             WriteError::Room => f.write_str("the room is too small"),
         }

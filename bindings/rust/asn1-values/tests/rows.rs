@@ -255,6 +255,15 @@ fn fields_are_written_read_and_refused() {
         write_fields(&mut room, 0, &outside),
         Err(WriteError::Outside { field: 0 })
     );
+    let seven = [Field::Octets(Bits {
+        octets: &[0],
+        first: 0,
+        length: 7,
+    })];
+    assert_eq!(
+        write_fields(&mut room, 0, &seven),
+        Err(WriteError::Length { field: 0 })
+    );
     assert_eq!(room, [0, 0]);
     let error: Box<dyn std::error::Error> = Box::new(WriteError::Room);
     assert_eq!(error.to_string(), "the room is too small");
