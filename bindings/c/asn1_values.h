@@ -137,9 +137,9 @@ asn1_code asn1_read_fields(const uint8_t *octets, size_t octet_count, size_t pos
  * asn1_read_fields told are written with the octets that they were read from as source.
  *
  * All fields are looked at before a bit is written. ASN1_COUNT where there are not as many fields as shapes. Else the
- * refusal names the first wrong field and the first of these reasons: ASN1_KIND; ASN1_WIDTH, and the width, for a number
- * of more than 128 bits; ASN1_OVERFLOW for a number that is not below 2 to the power of its count; ASN1_LENGTH, and the
- * length, for a field that is not as long as its shape says; ASN1_OUTSIDE where the source ends before the field does.
+ * refusal names the first wrong field and the first of these reasons: ASN1_KIND; ASN1_WIDTH, and the width, for a
+ * number of more than 128 bits; ASN1_OVERFLOW for a number that is not below 2 to the power of its count; ASN1_LENGTH,
+ * and the length, for a field that is not as long as its shape says; ASN1_OUTSIDE where the source ends before it does.
  * ASN1_ROOM where no field is wrong and the fields end past the target, or past SIZE_MAX. */
 asn1_code asn1_write_fields(uint8_t *target, size_t target_count, size_t position, const uint8_t *source,
                             size_t source_count, const asn1_shape *shapes, size_t shape_count,

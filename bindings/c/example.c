@@ -117,8 +117,8 @@ static void written_fields(void)
     expect("no octet of seven bits", refused((asn1_shape){ASN1_OCTETS, 1}, (asn1_field){0, 7, 0, 0}) == ASN1_LENGTH);
     expect("no bits past the source", refused((asn1_shape){ASN1_BITS, 4}, (asn1_field){13, 4, 0, 0}) == ASN1_OUTSIDE);
     expect("14 bits are too many", refused((asn1_shape){ASN1_BITS, 14}, (asn1_field){0, 14, 0, 0}) == ASN1_ROOM);
-    expect("each field has a shape", asn1_write_fields(target, sizeof target, 4, message, sizeof message, shapes, 3, read, 2,
-                                                       &end, &refusal) == ASN1_COUNT && end == 28);
+    code = asn1_write_fields(target, sizeof target, 4, message, sizeof message, shapes, 3, read, 2, &end, &refusal);
+    expect("each field has a shape", code == ASN1_COUNT && end == 28);
 }
 
 static void integers(void)
@@ -196,8 +196,8 @@ static void dotted_text(void)
     expect("3 is no identifier", asn1_oid_text(none, 1, text, sizeof text, &count) == ASN1_ARCS && is_no_text("3"));
     expect("arcs are decimals without a leading zero or a sign",
            is_no_text("2.01") && is_no_text("2.+1") && is_no_text("2.-1") && is_no_text("2. 1"));
-    expect("a full stop stands between two arcs", is_no_text("") && is_no_text(".") && is_no_text("2.") && is_no_text(".2")
-           && is_no_text("2..1"));
+    expect("a full stop stands between two arcs",
+           is_no_text("") && is_no_text(".") && is_no_text("2.") && is_no_text(".2") && is_no_text("2..1"));
     expect("an arc fits 32 bits, and 1.40 is no identifier", is_no_text("2.4294967296") && is_no_text("1.40"));
 }
 
