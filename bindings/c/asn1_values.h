@@ -43,8 +43,10 @@ typedef uint32_t asn1_code;
 #define ASN1_CHARACTER UINT32_C(12)    /* a character is not in the set */
 #define ASN1_SET UINT32_C(13)          /* a permitted set of more than 2 to the power of 32 characters */
 #define ASN1_CODE UINT32_C(14)         /* a number is the code of no character */
-
 #define ASN1_SHORT UINT32_C(15)        /* the octets end before a field does */
+#define ASN1_TEXT UINT32_C(16)         /* not the dotted text of an identifier whose arcs all fit 32 bits */
+#define ASN1_LENGTH UINT32_C(17)       /* a field is not as long as its shape says */
+#define ASN1_COUNT UINT32_C(18)        /* there are not as many fields as shapes */
 
 /* The eight restricted character strings (X.680 41). */
 typedef uint32_t asn1_kind;
@@ -113,7 +115,7 @@ typedef struct asn1_field {
 } asn1_field;
 
 /* The first wrong field, counted from 0, and its reason: ASN1_WIDTH, and the width; ASN1_SHORT, and how many bits are
- * missing; or ASN1_KIND. */
+ * missing; or ASN1_KIND; and those that asn1_write_fields names. */
 typedef struct asn1_refusal {
     asn1_code code;
     size_t field;
@@ -128,6 +130,20 @@ typedef struct asn1_refusal {
 asn1_code asn1_read_fields(const uint8_t *octets, size_t octet_count, size_t position, const asn1_shape *shapes,
                            size_t shape_count, asn1_field *fields, size_t field_count, size_t *end,
                            asn1_refusal *refusal);
+
+/* Writes fields of the shapes one after another over the bits of the target, from bit position on, and tells the first
+ * bit behind them; every other bit of the target stays. A number of count bits is written by its value, and where it
+ * was read is not looked at; octets and bits are those that lie in the source at the field's place. So fields that
+ * asn1_read_fields told are written with the octets that they were read from as source.
+ *
+ * All fields are looked at before a bit is written. ASN1_COUNT where there are not as many fields as shapes. Else the
+ * refusal names the first wrong field and the first of these reasons: ASN1_KIND; ASN1_WIDTH, and the width, for a
+ * number of more than 128 bits; ASN1_OVERFLOW for a number that is not below 2 to the power of its count; ASN1_LENGTH,
+ * and the length, for a field that is not as long as its shape says; ASN1_OUTSIDE where the source ends before it does.
+ * ASN1_ROOM where no field is wrong and the fields end past the target, or past SIZE_MAX. */
+asn1_code asn1_write_fields(uint8_t *target, size_t target_count, size_t position, const uint8_t *source,
+                            size_t source_count, const asn1_shape *shapes, size_t shape_count,
+                            const asn1_field *fields, size_t field_count, size_t *end, asn1_refusal *refusal);
 
 /* ---- whole numbers, as two's complement octets, most significant first (X.690 8.3) */
 
@@ -167,6 +183,17 @@ asn1_code asn1_oid_contents(const uint32_t *arcs, size_t arc_count, uint8_t *roo
  * there are octets is always enough. ASN1_MALFORMED and ASN1_ARC_TOO_LARGE as asn1_oid_check says; else ASN1_ROOM where
  * there are more arcs than the room holds, and then the room may have been written to. */
 asn1_code asn1_oid_arcs(const uint8_t *octets, size_t octet_count, uint32_t *room, size_t room_count, size_t *count);
+
+/* Writes the dotted text of the arcs, their decimals joined by full stops, to the front of the room, and leaves the
+ * octets behind it; no zero ends it, and eleven octets for each arc are always enough. How many octets it has is told
+ * also where the answer is ASN1_ROOM. ASN1_ARCS where they are no identifier's; ASN1_OVERFLOW where the text would have
+ * more than SIZE_MAX octets. */
+asn1_code asn1_oid_text(const uint32_t *arcs, size_t arc_count, uint8_t *room, size_t room_count, size_t *count);
+
+/* Writes the arcs of which the octets are the dotted text to the front of the room, and leaves the numbers behind them;
+ * half as many as there are octets, and one more, are always enough. How many arcs there are is told also where the
+ * answer is ASN1_ROOM. ASN1_TEXT for octets that are the dotted text of no identifier whose arcs all fit 32 bits. */
+asn1_code asn1_oid_from_text(const uint8_t *text, size_t text_count, uint32_t *room, size_t room_count, size_t *count);
 
 /* ---- restricted character strings (X.680 41, X.690 8.21) */
 

@@ -82,6 +82,45 @@ static void fields(void)
            asn1_read_fields(message, sizeof message, 1, shapes, 3, read, 2, &end, &refusal) == ASN1_ROOM);
 }
 
+/* How the only field of a kind is refused, and that nothing has changed. */
+static asn1_code refused(asn1_shape shape, asn1_field field)
+{
+    const uint8_t source[2] = {0xFF, 0xFF};
+    uint8_t target[2] = {0x12, 0x34};
+    size_t end = 7;
+    asn1_refusal refusal = {0, 9, 0, 0};
+    asn1_code code = asn1_write_fields(target, 2, 3, source, 2, &shape, 1, &field, 1, &end, &refusal);
+    bool same = target[0] == 0x12 && target[1] == 0x34 && end == 7;
+    bool named = code == ASN1_ROOM ? refusal.field == 9 : refusal.field == 0 && refusal.code == code;
+    return same && named ? code : ASN1_DONE;
+}
+
+static void written_fields(void)
+{
+    /* What is read at bit 1 of one message is written at bit 4 of another, over ones. */
+    const uint8_t message[4] = {0x5A, 0x5B, 0xCF, 0x80};
+    const asn1_shape shapes[3] = {{ASN1_NUMBER, 3}, {ASN1_OCTETS, 2}, {ASN1_BITS, 5}};
+    asn1_field read[3];
+    asn1_refusal refusal = {0, 0, 0, 0};
+    size_t end = 0;
+    asn1_code code = asn1_read_fields(message, sizeof message, 1, shapes, 3, read, 3, &end, &refusal);
+    uint8_t target[4] = {0xFF, 0xFF, 0xFF, 0xFF};
+    if (code == ASN1_DONE) {
+        code = asn1_write_fields(target, sizeof target, 4, message, sizeof message, shapes, 3, read, 3, &end, &refusal);
+    }
+    expect("what was read is written to another place", code == ASN1_DONE && end == 28
+           && memcmp(target, "\xFB\x4B\x79\xFF", 4) == 0);
+
+    expect("no field of an unknown kind", refused((asn1_shape){3, 1}, (asn1_field){0, 1, 0, 0}) == ASN1_KIND);
+    expect("no number of 129 bits", refused((asn1_shape){ASN1_NUMBER, 129}, (asn1_field){0, 0, 0, 0}) == ASN1_WIDTH);
+    expect("no 8 in three bits", refused((asn1_shape){ASN1_NUMBER, 3}, (asn1_field){0, 0, 0, 8}) == ASN1_OVERFLOW);
+    expect("no octet of seven bits", refused((asn1_shape){ASN1_OCTETS, 1}, (asn1_field){0, 7, 0, 0}) == ASN1_LENGTH);
+    expect("no bits past the source", refused((asn1_shape){ASN1_BITS, 4}, (asn1_field){13, 4, 0, 0}) == ASN1_OUTSIDE);
+    expect("14 bits are too many", refused((asn1_shape){ASN1_BITS, 14}, (asn1_field){0, 14, 0, 0}) == ASN1_ROOM);
+    code = asn1_write_fields(target, sizeof target, 4, message, sizeof message, shapes, 3, read, 2, &end, &refusal);
+    expect("each field has a shape", code == ASN1_COUNT && end == 28);
+}
+
 static void integers(void)
 {
     uint8_t room[8];
@@ -127,6 +166,41 @@ static void identifiers(void)
     expect("one arc has no contents", asn1_oid_contents(arcs, 1, room, sizeof room, &count) == ASN1_ARC_COUNT);
 }
 
+static bool is_no_text(const char *text)
+{
+    uint32_t room[8];
+    size_t count = 7;
+    return asn1_oid_from_text((const uint8_t *)text, strlen(text), room, 8, &count) == ASN1_TEXT && count == 7;
+}
+
+static void dotted_text(void)
+{
+    const uint32_t arcs[4] = {1, 2, 840, 113549};
+    uint8_t text[16];
+    size_t count = 0;
+    expect("an identifier has its dotted text", asn1_oid_text(arcs, 4, text, sizeof text, &count) == ASN1_DONE
+           && count == 14 && memcmp(text, "1.2.840.113549", 14) == 0);
+    uint32_t read[4];
+    size_t arc_count = 0;
+    expect("which has its arcs", asn1_oid_from_text(text, count, read, 4, &arc_count) == ASN1_DONE && arc_count == 4
+           && memcmp(read, arcs, sizeof arcs) == 0);
+    expect("three are no room, and four are told", asn1_oid_from_text(text, count, read, 3, &arc_count) == ASN1_ROOM
+           && arc_count == 4);
+    const uint32_t zeros[2] = {0, 0};
+    expect("two octets are no room, and three are told", asn1_oid_text(zeros, 2, text, 2, &count) == ASN1_ROOM
+           && count == 3);
+    const uint32_t largest[2] = {2, UINT32_MAX};
+    expect("the largest arc has ten digits", asn1_oid_text(largest, 2, text, sizeof text, &count) == ASN1_DONE
+           && count == 12 && memcmp(text, "2.4294967295", 12) == 0);
+    const uint32_t none[1] = {3};
+    expect("3 is no identifier", asn1_oid_text(none, 1, text, sizeof text, &count) == ASN1_ARCS && is_no_text("3"));
+    expect("arcs are decimals without a leading zero or a sign",
+           is_no_text("2.01") && is_no_text("2.+1") && is_no_text("2.-1") && is_no_text("2. 1"));
+    expect("a full stop stands between two arcs",
+           is_no_text("") && is_no_text(".") && is_no_text("2.") && is_no_text(".2") && is_no_text("2..1"));
+    expect("an arc fits 32 bits, and 1.40 is no identifier", is_no_text("2.4294967296") && is_no_text("1.40"));
+}
+
 static void strings(void)
 {
     size_t place = 0;
@@ -160,8 +234,10 @@ int main(void)
 {
     bits();
     fields();
+    written_fields();
     integers();
     identifiers();
+    dotted_text();
     strings();
     return wrong;
 }

@@ -20,7 +20,7 @@ pub struct Words {
 
 impl Words {
     /// The number.
-    fn number(&self) -> u128
+    pub(crate) fn number(&self) -> u128
         ensures { result ≡ self.now.high * 2 ^ 64 + self.now.low }
     {
         u128::from(self.high) * (1 << 64) + u128::from(self.low)
@@ -154,7 +154,7 @@ pub extern "C" fn asn1_or_number(
 }
 
 /// Whether the number is below 2 to the power of the width.
-fn fits_width(number: u128, width: usize) -> bool
+pub(crate) fn fits_width(number: u128, width: usize) -> bool
     requires { width ≤ 128 }
     ensures { IsTrue result ↔ (number < 2 ^ width) }
 {

@@ -53,6 +53,15 @@ pub const CODE: u32 = 14;
 /// The octets end before a field does.
 pub const SHORT: u32 = 15;
 
+/// The octets are not the dotted text of an identifier whose arcs all fit 32 bits.
+pub const TEXT: u32 = 16;
+
+/// A field is not as long as its shape says.
+pub const LENGTH: u32 = 17;
+
+/// There are not as many fields as shapes.
+pub const COUNT: u32 = 18;
+
 /// Below, equal and above, as -1, 0 and 1.
 pub(crate) fn number_of_order(order: Ordering) -> i32
     ensures { result ≡ order_number order }

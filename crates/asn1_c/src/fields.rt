@@ -49,7 +49,7 @@ pub struct Refusal {
 
 impl Refusal {
     /// A refusal with a number.
-    fn with(code: u32, field: usize, number: u128) -> Refusal
+    pub(crate) fn with(code: u32, field: usize, number: u128) -> Refusal
         ensures code { result.code ≡ code }
         ensures field { result.field ≡ field }
         ensures number { number_of_words result.high result.low ≡ number }

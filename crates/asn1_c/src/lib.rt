@@ -14,3 +14,5 @@ mod identifiers;
 mod integers;
 mod room;
 mod strings;
+mod text;
+mod writing;

@@ -33,7 +33,9 @@ pub enum IdentifierError {
     Arcs,
     /// There is one arc, which has no contents.
     ArcCount,
-    /// The room is shorter than the contents.
+    /// The text is not the dotted text of an identifier whose arcs all fit 32 bits.
+    Text,
+    /// The room is too short.
     Room,
 }
 
@@ -100,6 +102,11 @@ pub enum WriteError {
         /// Which field.
         field: usize,
     },
+    /// The bits of octets are not whole octets.
+    Length {
+        /// Which field.
+        field: usize,
+    },
     /// The bits of a field do not all lie in their octets.
     Outside {
         /// Which field.
@@ -131,6 +138,7 @@ impl fmt::Display for WriteError {
             WriteError::Number { field } => {
                 write!(f, "field {field}: the number does not fit its width")
             }
+            WriteError::Length { field } => write!(f, "field {field}: not whole octets"),
             WriteError::Outside { field } => write!(f, "field {field}: past the end of its octets"),
             WriteError::Room => f.write_str("the room is too small"),
         }
@@ -163,7 +171,8 @@ impl fmt::Display for IdentifierError {
             IdentifierError::ArcTooLarge => f.write_str("an arc is past 32 bits"),
             IdentifierError::Arcs => f.write_str("not the arcs of an identifier"),
             IdentifierError::ArcCount => f.write_str("fewer than two arcs"),
-            IdentifierError::Room => f.write_str("the room is shorter than the contents"),
+            IdentifierError::Text => f.write_str("not the dotted text of an identifier"),
+            IdentifierError::Room => f.write_str("the room is too short"),
         }
     }
 }

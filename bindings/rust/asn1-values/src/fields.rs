@@ -1,5 +1,6 @@
-use crate::bits::{compare_bits, or_bits, or_number, read_bits};
+use crate::bits::{compare_bits, read_bits};
 use crate::error::WriteError;
+use crate::sys::{self, Words};
 
 /// Bits of octets, wherever they lie. Two are equal where their lists of bits are.
 #[derive(Clone, Copy, Debug)]
@@ -96,6 +97,7 @@ fn spelled_length(field: usize, what: &Field<'_>) -> Result<usize, WriteError> {
             Err(WriteError::Number { field })
         }
         Field::Number { width, .. } => Ok(*width),
+        Field::Octets(bits) if bits.length % 8 != 0 => Err(WriteError::Length { field }),
         Field::Octets(bits) | Field::Bits(bits) if !bits.lie_within() => {
             Err(WriteError::Outside { field })
         }
@@ -103,11 +105,11 @@ fn spelled_length(field: usize, what: &Field<'_>) -> Result<usize, WriteError> {
     }
 }
 
-/// ORs the fields, one after another, into the octets from bit `position` on, and answers the first bit behind them.
-/// Every other bit stays, so into zeros it writes. All fields are looked at first: what does not fit is refused, and
-/// then no bit has changed.
+/// Writes the fields, one after another, over the bits of the octets from bit `position` on, and answers the first bit
+/// behind them. Every other bit stays. All fields are looked at first: what does not fit is refused, and then no bit has
+/// changed.
 ///
-/// Each field is placed by a call that is proved; the walk over the fields is this crate's, and is tested.
+/// Each field is written by a call that is proved; the walk over the fields is this crate's, and is tested.
 pub fn write_fields(
     octets: &mut [u8],
     position: usize,
@@ -123,23 +125,58 @@ pub fn write_fields(
         return Err(WriteError::Room);
     }
     let mut at = position;
-    for (i, field) in fields.iter().enumerate() {
-        at = place(octets, at, field).ok_or(WriteError::Outside { field: i })?;
+    for field in fields {
+        at = place(octets, at, field).ok_or(WriteError::Room)?;
     }
     Ok(at)
 }
 
 fn place(octets: &mut [u8], at: usize, field: &Field<'_>) -> Option<usize> {
-    match field {
+    let nowhere = sys::Field {
+        first: 0,
+        length: 0,
+        high: 0,
+        low: 0,
+    };
+    let lies = |bits: &Bits<'_>| sys::Field {
+        first: bits.first,
+        length: bits.length,
+        ..nowhere
+    };
+    let (source, kind, count, told) = match field {
         Field::Number { value, width } => {
-            or_number(octets, at, *value, *width).ok()?;
-            Some(at + width)
+            let Words { high, low } = Words::of(*value);
+            let told = sys::Field {
+                high,
+                low,
+                ..nowhere
+            };
+            (&[][..], sys::NUMBER, *width, told)
         }
-        Field::Octets(bits) | Field::Bits(bits) => {
-            or_bits(octets, at, bits.octets, bits.first, bits.length).ok()?;
-            Some(at + bits.length)
-        }
-    }
+        Field::Octets(bits) => (bits.octets, sys::OCTETS, bits.length / 8, lies(bits)),
+        Field::Bits(bits) => (bits.octets, sys::BITS, bits.length, lies(bits)),
+    };
+    let shape = sys::Shape { kind, count };
+    let mut end = at;
+    let mut refusal = sys::Refusal::NONE;
+    // SAFETY: pointers and lengths are those of slices, of which the mutable one overlaps no other, and the rest are
+    // places of their own.
+    let code = unsafe {
+        sys::asn1_write_fields(
+            octets.as_mut_ptr(),
+            octets.len(),
+            at,
+            source.as_ptr(),
+            source.len(),
+            &shape,
+            1,
+            &told,
+            1,
+            &mut end,
+            &mut refusal,
+        )
+    };
+    (code == sys::DONE).then_some(end)
 }
 
 #[cfg(feature = "alloc")]
@@ -153,12 +190,15 @@ mod reading {
     fn told(shape: &Shape) -> sys::Shape {
         match *shape {
             Shape::Number { width } => sys::Shape {
-                kind: 0,
+                kind: sys::NUMBER,
                 count: width,
             },
-            Shape::Octets { count } => sys::Shape { kind: 1, count },
+            Shape::Octets { count } => sys::Shape {
+                kind: sys::OCTETS,
+                count,
+            },
             Shape::Bits { length } => sys::Shape {
-                kind: 2,
+                kind: sys::BITS,
                 count: length,
             },
         }
@@ -204,12 +244,7 @@ mod reading {
             shapes.len()
         ];
         let mut end = 0;
-        let mut refusal = sys::Refusal {
-            code: 0,
-            field: 0,
-            high: 0,
-            low: 0,
-        };
+        let mut refusal = sys::Refusal::NONE;
         // SAFETY: pointers and lengths are those of slices and vectors, and the rest are places of their own.
         let code = unsafe {
             sys::asn1_read_fields(

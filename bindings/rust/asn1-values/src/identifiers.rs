@@ -6,7 +6,8 @@ fn refusal(code: u32) -> IdentifierError {
         sys::ARC_TOO_LARGE => IdentifierError::ArcTooLarge,
         sys::ARCS => IdentifierError::Arcs,
         sys::ARC_COUNT => IdentifierError::ArcCount,
-        sys::ROOM => IdentifierError::Room,
+        sys::TEXT => IdentifierError::Text,
+        sys::ROOM | sys::OVERFLOW => IdentifierError::Room,
         _ => IdentifierError::Malformed,
     }
 }
@@ -64,6 +65,80 @@ pub fn write_arcs<'a>(octets: &[u8], room: &'a mut [u32]) -> Result<&'a [u32], I
     };
     match code {
         sys::DONE => Ok(&room[..count]),
+        code => Err(refusal(code)),
+    }
+}
+
+fn text_into(arcs: &[u32], room: &mut [u8], count: &mut usize) -> u32 {
+    // SAFETY: pointers and lengths are those of slices, of which the mutable one overlaps no other.
+    unsafe {
+        sys::asn1_oid_text(
+            arcs.as_ptr(),
+            arcs.len(),
+            room.as_mut_ptr(),
+            room.len(),
+            count,
+        )
+    }
+}
+
+fn arcs_into(text: &str, room: &mut [u32], count: &mut usize) -> u32 {
+    // SAFETY: pointers and lengths are those of slices, of which the mutable one overlaps no other.
+    unsafe {
+        sys::asn1_oid_from_text(
+            text.as_ptr(),
+            text.len(),
+            room.as_mut_ptr(),
+            room.len(),
+            count,
+        )
+    }
+}
+
+/// The dotted text of the arcs, at the front of the room: eleven octets for each arc are always enough.
+pub fn write_dotted<'a>(arcs: &[u32], room: &'a mut [u8]) -> Result<&'a str, IdentifierError> {
+    let mut count = 0;
+    match text_into(arcs, room, &mut count) {
+        sys::DONE => core::str::from_utf8(&room[..count]).map_err(|_| IdentifierError::Text),
+        code => Err(refusal(code)),
+    }
+}
+
+/// The arcs of a dotted text, at the front of the room: half as many as the text has octets, and one more, are always
+/// enough.
+pub fn write_arcs_of_dotted<'a>(
+    text: &str,
+    room: &'a mut [u32],
+) -> Result<&'a [u32], IdentifierError> {
+    let mut count = 0;
+    match arcs_into(text, room, &mut count) {
+        sys::DONE => Ok(&room[..count]),
+        code => Err(refusal(code)),
+    }
+}
+
+/// The dotted text of the arcs.
+#[cfg(feature = "alloc")]
+pub fn dotted(arcs: &[u32]) -> Result<alloc::string::String, IdentifierError> {
+    let mut count = 0;
+    match text_into(arcs, &mut [], &mut count) {
+        sys::ROOM => {
+            write_dotted(arcs, &mut alloc::vec![0; count]).map(alloc::string::String::from)
+        }
+        code => Err(refusal(code)),
+    }
+}
+
+/// The arcs of a dotted text.
+#[cfg(feature = "alloc")]
+pub fn arcs_of_dotted(text: &str) -> Result<alloc::vec::Vec<u32>, IdentifierError> {
+    let mut count = 0;
+    match arcs_into(text, &mut [], &mut count) {
+        sys::ROOM => {
+            let mut room = alloc::vec![0; count];
+            write_arcs_of_dotted(text, &mut room)?;
+            Ok(room)
+        }
         code => Err(refusal(code)),
     }
 }

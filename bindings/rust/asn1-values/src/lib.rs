@@ -28,6 +28,8 @@ pub use error::{
 pub use fields::read_fields;
 pub use fields::{write_fields, Bits, Field, Shape};
 #[cfg(feature = "alloc")]
-pub use identifiers::{arcs, contents};
-pub use identifiers::{check_arcs, check_contents, write_arcs, write_contents};
+pub use identifiers::{arcs, arcs_of_dotted, contents, dotted};
+pub use identifiers::{
+    check_arcs, check_contents, write_arcs, write_arcs_of_dotted, write_contents, write_dotted,
+};
 pub use integers::{compare_integers, integer_from_octets, integer_octets, is_shortest, shortest};

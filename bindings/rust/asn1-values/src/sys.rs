@@ -47,6 +47,19 @@ pub struct Refusal {
     pub low: u64,
 }
 
+impl Refusal {
+    pub const NONE: Refusal = Refusal {
+        code: 0,
+        field: 0,
+        high: 0,
+        low: 0,
+    };
+}
+
+pub const NUMBER: u32 = 0;
+pub const OCTETS: u32 = 1;
+pub const BITS: u32 = 2;
+
 pub const DONE: u32 = 0;
 pub const WIDTH: u32 = 2;
 pub const ROOM: u32 = 3;
@@ -58,6 +71,7 @@ pub const ARC_COUNT: u32 = 9;
 pub const CHARACTER: u32 = 12;
 pub const SET: u32 = 13;
 pub const SHORT: u32 = 15;
+pub const TEXT: u32 = 16;
 
 extern "C" {
     pub fn asn1_read_u128(
@@ -119,6 +133,20 @@ extern "C" {
         room_count: usize,
         count: *mut usize,
     ) -> u32;
+    pub fn asn1_oid_text(
+        arcs: *const u32,
+        arc_count: usize,
+        room: *mut u8,
+        room_count: usize,
+        count: *mut usize,
+    ) -> u32;
+    pub fn asn1_oid_from_text(
+        text: *const u8,
+        text_count: usize,
+        room: *mut u32,
+        room_count: usize,
+        count: *mut usize,
+    ) -> u32;
     pub fn asn1_oid_contents(
         arcs: *const u32,
         arc_count: usize,
@@ -158,6 +186,19 @@ extern "C" {
         set_count: usize,
         aligned: bool,
         width: *mut usize,
+    ) -> u32;
+    pub fn asn1_write_fields(
+        target: *mut u8,
+        target_count: usize,
+        position: usize,
+        source: *const u8,
+        source_count: usize,
+        shapes: *const Shape,
+        shape_count: usize,
+        fields: *const Field,
+        field_count: usize,
+        end: *mut usize,
+        refusal: *mut Refusal,
     ) -> u32;
     pub fn asn1_read_fields(
         octets: *const u8,

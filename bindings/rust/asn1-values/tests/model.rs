@@ -151,7 +151,7 @@ fn ten_thousand_messages_are_as_the_model_says() {
             .flat_map(|one| one.bits.iter().copied())
             .collect();
 
-        // What was there before stays, and the list is ORed in, or nothing is.
+        // The list stands over what was there, and the rest stays, or all of it does.
         let before = dice.octets(room);
         let mut octets = before.clone();
         let written = write_fields(&mut octets, position, &fields);
@@ -162,7 +162,7 @@ fn ten_thousand_messages_are_as_the_model_says() {
         } else {
             let mut model = bits_of(&before);
             for (i, bit) in list.iter().enumerate() {
-                model[position + i] |= *bit;
+                model[position + i] = *bit;
             }
             assert_eq!(written, Ok(position + list.len()));
             assert_eq!(octets, octets_of(&model));

@@ -80,6 +80,40 @@ fn integers_have_their_shortest_octets() {
 }
 
 #[test]
+fn identifiers_have_their_text() {
+    for (arcs, text) in [
+        (&[1, 2, 840, 113549][..], "1.2.840.113549"),
+        (&[0], "0"),
+        (&[2, u32::MAX], "2.4294967295"),
+    ] {
+        assert_eq!(dotted(arcs).as_deref(), Ok(text));
+        assert_eq!(arcs_of_dotted(text).as_deref(), Ok(arcs));
+    }
+    assert_eq!(dotted(&[1, 40]), Err(IdentifierError::Arcs));
+    assert_eq!(
+        write_dotted(&[2, 5], &mut [0; 2]),
+        Err(IdentifierError::Room)
+    );
+    assert_eq!(
+        write_arcs_of_dotted("2.5", &mut [0]),
+        Err(IdentifierError::Room)
+    );
+    for text in [
+        "",
+        "2.",
+        ".2",
+        "2..1",
+        "3",
+        "1.40",
+        "2.01",
+        "2.+1",
+        "2.4294967296",
+    ] {
+        assert_eq!(arcs_of_dotted(text), Err(IdentifierError::Text), "{text}");
+    }
+}
+
+#[test]
 fn identifiers_have_their_contents() {
     assert_eq!(contents(&[2, 100, 3]), Ok(vec![0x81, 0x34, 0x03]));
     assert_eq!(
@@ -220,6 +254,15 @@ fn fields_are_written_read_and_refused() {
     assert_eq!(
         write_fields(&mut room, 0, &outside),
         Err(WriteError::Outside { field: 0 })
+    );
+    let seven = [Field::Octets(Bits {
+        octets: &[0],
+        first: 0,
+        length: 7,
+    })];
+    assert_eq!(
+        write_fields(&mut room, 0, &seven),
+        Err(WriteError::Length { field: 0 })
     );
     assert_eq!(room, [0, 0]);
     let error: Box<dyn std::error::Error> = Box::new(WriteError::Room);
