@@ -38,8 +38,8 @@ IsWriteRefusal n fields writing.Memory =
 abbrev pub IsPast : ℕ → ℕ → Type 0
 IsPast n place = (n < place) ⊎ (2 ^ 64 ≤ place)
 
--- writing these fields over n bits, from a place on, is refused by the first that doesn't fit, with its reason; where all
--- fit, for the place that they end at; and never for want of memory
+-- writing these fields over n bits, from a place on, is refused by the first that doesn't fit, with its reason; where
+-- all fit, for the place that they end at; and never for want of memory
 abbrev pub IsWriteAtRefusal : ℕ → ℕ → List Field → WriteError → Type 0
 IsWriteAtRefusal n place fields (writing.NumberWidth field width) = IsFirstMisfit fields field (WidthOver width)
 IsWriteAtRefusal n place fields (writing.Number field) = IsFirstMisfit fields field PastWidth

@@ -1,4 +1,4 @@
--- How the steps of the two calls are stated. No public contract cites this.
+-- How the steps of the calls are stated. No public contract cites this.
 use Rattle.std.specs.Prelude.{◌≡◌, ℕ, ◌+◌, ◌-◌, ◌*◌, ◌/◌, ◌^◌, ◌<◌, ◌≤◌, Bool, List, ◌++◌, length, min, Result, Ok, Err}
 use Rattle.std.specs.Int.{div_ceil}
 use Rattle.asn1_bits.specs.declared.bit_appender.BitAppender.{BitAppender}
@@ -121,5 +121,5 @@ Overwrites field place old new next = (list : List Bool) × IsSpelledBy field li
 
 -- the spellings of the fields were, one after another
 abbrev pub OverwritesAll : List Field → ℕ → List Bool → List Bool → ℕ → Type 0
-OverwritesAll fields place old new next = (list : List Bool) × AreSpelledBy fields list
-    × WritesOver list place old new next
+OverwritesAll fields place old new next =
+    (list : List Bool) × AreSpelledBy fields list × WritesOver list place old new next

@@ -19,8 +19,8 @@ use asn1_integer::Integer;
 use asn1_oid::OidContents;
 
 /// Writes the fields' bits over those of the octets from bit `position` on, one after another, and leaves every other
-/// bit. It takes no memory, and answers with the first bit behind the fields. The whole list is examined first; where it
-/// is refused, the octets stay.
+/// bit. It takes no memory, and answers with the first bit behind the fields. The whole list is examined first; where
+/// it is refused, the octets stay.
 pub fn write_fields_at(
     octets: &mut [u8],
     position: usize,

@@ -106,67 +106,36 @@ fn octets_and_bits_are_written_at_any_bit(rt: HostRuntime) -> Result<(), Fail> {
 }
 
 #[test]
-fn integers_characters_and_identifiers_are_written(rt: HostRuntime) -> Result<(), Fail> {
+fn integers_and_identifiers_are_written(rt: HostRuntime) -> Result<(), Fail> {
+    let ones = [0xFF; 3];
+    let integer = [Field::Integer(Integer::from(128))];
+    leaves(&rt, &ones, 4, &integer, 20, &[0xF0, 0x08, 0x0F])?;
+    let negative = [Field::Integer(Integer::from(-1))];
+    leaves(&rt, &[0x00; 3], 8, &negative, 16, &[0x00, 0xFF, 0x00])?;
+    let counted = [Field::CountedInteger(Integer::from(5))];
+    leaves(&rt, &ones, 1, &counted, 17, &[0x80, 0x82, 0xFF])?;
+    let three = [identifier(rt.alloc(), &[2, 999, 3])?];
+    leaves(&rt, &ones, 0, &three, 24, &[0x88, 0x37, 0x03])?;
+    let two = [identifier(rt.alloc(), &[1, 2])?];
+    leaves(&rt, &ones, 2, &two, 10, &[0xCA, 0xBF, 0xFF])?;
+    let last = [identifier(rt.alloc(), &[0, 0])?];
+    leaves(&rt, &ones, 16, &last, 24, &[0xFF, 0xFF, 0x00])
+}
+
+#[test]
+fn characters_are_written(rt: HostRuntime) -> Result<(), Fail> {
     let letters = [97, 98];
     let alphabet = CharacterAlphabet::new::<Ia5String>(Some(&letters), false);
-    let a = Field::Character {
+    let first = [Field::Character {
         alphabet,
         character: 97,
-    };
-    let b = Field::Character {
+    }];
+    leaves(&rt, &[0xFF; 3], 23, &first, 24, &[0xFF, 0xFF, 0xFE])?;
+    let second = [Field::Character {
         alphabet,
         character: 98,
-    };
-    let rows: [(Field<'_, '_>, u8, usize, usize, &[u8]); 8] = [
-        (
-            Field::Integer(Integer::from(128)),
-            0xFF,
-            4,
-            20,
-            &[0xF0, 0x08, 0x0F],
-        ),
-        (
-            Field::Integer(Integer::from(-1)),
-            0x00,
-            8,
-            16,
-            &[0x00, 0xFF, 0x00],
-        ),
-        (
-            Field::CountedInteger(Integer::from(5)),
-            0xFF,
-            1,
-            17,
-            &[0x80, 0x82, 0xFF],
-        ),
-        (a, 0xFF, 23, 24, &[0xFF, 0xFF, 0xFE]),
-        (b, 0x00, 7, 8, &[0x01, 0x00, 0x00]),
-        (
-            identifier(rt.alloc(), &[2, 999, 3])?,
-            0xFF,
-            0,
-            24,
-            &[0x88, 0x37, 0x03],
-        ),
-        (
-            identifier(rt.alloc(), &[1, 2])?,
-            0xFF,
-            2,
-            10,
-            &[0xCA, 0xBF, 0xFF],
-        ),
-        (
-            identifier(rt.alloc(), &[0, 0])?,
-            0xFF,
-            16,
-            24,
-            &[0xFF, 0xFF, 0x00],
-        ),
-    ];
-    for (field, octet, position, next, after) in rows {
-        leaves(&rt, &[octet; 3], position, &[field], next, after)?;
-    }
-    Ok(())
+    }];
+    leaves(&rt, &[0x00; 3], 7, &second, 8, &[0x01, 0x00, 0x00])
 }
 
 #[test]
@@ -202,59 +171,46 @@ fn fields_that_end_past_the_octets_are_refused(rt: HostRuntime) -> Result<(), Fa
     refuses(&rt, 25, &[], WriteError::TooLong)
 }
 
+/// Compares how a field is refused behind one that would end past the octets, and before one that does not fit.
+fn names<R: Abort + AllocGlobal>(
+    rt: &R,
+    field: Field<'_, '_>,
+    error: WriteError,
+) -> Result<(), Fail> {
+    let fields = [
+        Field::Number {
+            value: 0,
+            width: 32,
+        },
+        field,
+        Field::Number { value: 1, width: 0 },
+    ];
+    refuses(rt, 3, &fields, error)
+}
+
 #[test]
 fn the_first_field_that_does_not_fit_is_named(rt: HostRuntime) -> Result<(), Fail> {
+    let large = Field::Number { value: 8, width: 3 };
+    names(&rt, large, WriteError::Number { field: 1 })?;
+    let width = 129;
+    let wide = Field::Number { value: 0, width };
+    names(&rt, wide, WriteError::NumberWidth { field: 1, width })?;
     let letters = [97, 98];
     let alphabet = CharacterAlphabet::new::<Ia5String>(Some(&letters), false);
     let character = 99;
+    let other = Field::Character {
+        alphabet,
+        character,
+    };
+    let error = WriteError::Character {
+        field: 1,
+        character,
+    };
+    names(&rt, other, error)?;
     let mut octets = [0x01; 128];
     octets[0] = 0x7F;
-    let long = Integer::from_signed_octets(rt.alloc(), &octets)?;
-    let rows: [(Field<'_, '_>, WriteError); 5] = [
-        (
-            Field::Number { value: 8, width: 3 },
-            WriteError::Number { field: 1 },
-        ),
-        (
-            Field::Number {
-                value: 0,
-                width: 129,
-            },
-            WriteError::NumberWidth {
-                field: 1,
-                width: 129,
-            },
-        ),
-        (
-            Field::Character {
-                alphabet,
-                character,
-            },
-            WriteError::Character {
-                field: 1,
-                character,
-            },
-        ),
-        (
-            Field::CountedInteger(long),
-            WriteError::IntegerLength { field: 1 },
-        ),
-        (
-            identifier(rt.alloc(), &[1])?,
-            WriteError::ArcCount { field: 1 },
-        ),
-    ];
-    for (field, error) in rows {
-        // The first field alone would end past the octets.
-        let fields = [
-            Field::Number {
-                value: 0,
-                width: 32,
-            },
-            field,
-            Field::Number { value: 1, width: 0 },
-        ];
-        refuses(&rt, 3, &fields, error)?;
-    }
-    Ok(())
+    let long = Field::CountedInteger(Integer::from_signed_octets(rt.alloc(), &octets)?);
+    names(&rt, long, WriteError::IntegerLength { field: 1 })?;
+    let single = identifier(rt.alloc(), &[1])?;
+    names(&rt, single, WriteError::ArcCount { field: 1 })
 }
