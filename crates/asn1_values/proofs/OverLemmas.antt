@@ -1,7 +1,7 @@
 -- Fields that are written over bits, one after another.
 use Rattle.std.proofs.Common.{◌≡◌, ℕ, ◌+◌, ◌*◌, ◌≤◌, Bool, List, [], ◌∷◌, ◌++◌, length, refl, sym, ap, subst, ◌∙◌, append_assoc, arith}
 use Rattle.std.specs.Prelude.{ℤ}
-use Rattle.std.proofs.lemmas.List.{length-append, append-nil}
+use Rattle.std.proofs.lemmas.List.{length-append}
 use Rattle.asn1_bits.specs.Bits.{digits, bits, overwritten}
 use Rattle.asn1_bits.specs.DigitLaws.{length-bits, bits-push}
 use Rattle.asn1_bits.specs.OverwrittenLaws.{length-overwritten, overwritten-none, overwritten-append}
@@ -109,12 +109,6 @@ octets_more all rest more target now new octet place mid next o is h w = record 
       (over_more (bits o.front) (digits octet 8) place mid next (bits target) (bits now) (bits new) o.over w
       (omega (arith, h, length-bits target)));
 }
-
-pub octets_all : (all rest target now : List ℕ) (place next : ℕ) → OctetsOver all rest target now place next → rest ≡ []
-    → WritesOver (bits all) place (bits target) (bits now) next
-octets_all all rest target now place next o none =
-    let whole : all ≡ o.front = o.parts ∙ ap (λ (l : List ℕ). o.front ++ l) none ∙ append-nil o.front in
-    subst (λ (l : List ℕ). WritesOver (bits l) place (bits target) (bits now) next) (sym whole) o.over
 
 -- ---- fields one after another
 
