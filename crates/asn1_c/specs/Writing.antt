@@ -28,17 +28,21 @@ AreNamed source (s ∷ ss) (f ∷ fs) list =
     × (list ≡ front ++ rest)
 AreNamed source ss fs list = ⊥
 
+-- the refusal has the code, and tells the number
+abbrev pub Says : Refusal → ℕ → ℕ → Type 0
+Says r code n = (r.code ≡ code) × (number_of_words r.high r.low ≡ n)
+
 -- the bits of the source lie elsewhere, or are not as many as the shape says
 abbrev pub IsMisplaced : List ℕ → ℕ → Field → Refusal → Type 0
 IsMisplaced source need f r =
-    ((r.code ≡ 17) × (f.length ≢ need)) ⊎ ((r.code ≡ 1) × (f.length ≡ need) × (8 * length source < end_of f))
+    (Says r 17 f.length × (f.length ≢ need)) ⊎ (Says r 1 0 × (f.length ≡ need) × (8 * length source < end_of f))
 
 -- why no bits spell the field; the first reason that applies
 abbrev pub IsUnnamed : List ℕ → Shape → Field → Refusal → Type 0
 IsUnnamed source s f r =
-    ((r.code ≡ 10) × (2 < s.kind))
-    ⊎ (((r.code ≡ 2) × (s.kind ≡ 0) × (128 < s.count))
-    ⊎ (((r.code ≡ 5) × (s.kind ≡ 0) × (s.count ≤ 128) × (2 ^ s.count ≤ number_of_words f.high f.low))
+    (Says r 10 0 × (2 < s.kind))
+    ⊎ ((Says r 2 s.count × (s.kind ≡ 0) × (128 < s.count))
+    ⊎ ((Says r 5 0 × (s.kind ≡ 0) × (s.count ≤ 128) × (2 ^ s.count ≤ number_of_words f.high f.low))
     ⊎ (((s.kind ≡ 1) × IsMisplaced source (8 * s.count) f r)
     ⊎ ((s.kind ≡ 2) × IsMisplaced source s.count f r))))
 

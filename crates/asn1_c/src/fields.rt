@@ -33,7 +33,8 @@ pub struct Field {
     pub low: u64,
 }
 
-/// The first wrong field, counted from 0, and its reason: by how many bits the octets are short of it, or its width.
+/// The first wrong field, counted from 0, and its reason: by how many bits the octets are short of it, its width, or its
+/// length.
 #[repr(C)]
 #[derive(Clone, Copy, Debug)]
 pub struct Refusal {

@@ -3,16 +3,16 @@
 ghost use Rattle.std.specs.Prelude.{◌≡◌, ◌≢◌, ◌↔◌, ◌⊎◌, ◌+◌, ◌*◌, ◌^◌, ◌<◌, ◌≤◌, List, Bool, length, IfOk, IfErr};
 ghost use Rattle.asn1_bits.specs.Bits.{bits, overwritten};
 ghost use Rattle.asn1_values.specs.Refusals.{IsPast};
-ghost use Rattle.asn1_c.specs.Writing.{AreNamed, IsUnnamed, IsUnnamedAt, IsNamed, bits_named, all_named};
+ghost use Rattle.asn1_c.specs.Writing.{AreNamed, Says, IsUnnamed, IsUnnamedAt, IsNamed, bits_named, all_named};
 
 use crate::bits::{Words, fits_width};
 use crate::codes::{COUNT, DONE, KIND, LENGTH, OUTSIDE, OVERFLOW, ROOM, WIDTH};
 use crate::fields::{Field, Refusal, Shape};
 use asn1_values::{BitStr, Turns, overwrite_bitslice, overwrite_number};
 
-/// Writes fields of the shapes one after another over the bits of the target from bit `position` on, and tells the first
-/// bit behind them: a number by its value, octets and bits from where they lie in the source. Every other bit stays. A
-/// refusal names the first wrong field.
+/// Writes fields of the shapes one after another over the bits of the target from bit `position` on, and tells the
+/// first bit behind them: a number by its value, octets and bits from where they lie in the source. Every other bit
+/// stays. A refusal names the first wrong field.
 #[unsafe(no_mangle)]
 pub extern "C" fn asn1_write_fields(
     target: &mut [u8],
@@ -99,8 +99,8 @@ fn number_length(shape: &Shape, field: &Field, place: usize) -> Result<usize, Re
     ensures fits { IfOk result (λ n. (n ≡ shape.now.count) × (n ≤ 128)
         × (field.now.high * 2 ^ 64 + field.now.low < 2 ^ n)) }
     ensures wrong { IfErr result (λ r.
-        ((r.code ≡ 2) × (128 < shape.now.count))
-        ⊎ ((r.code ≡ 5) × (shape.now.count ≤ 128)
+        (Says r 2 shape.now.count × (128 < shape.now.count))
+        ⊎ (Says r 5 0 × (shape.now.count ≤ 128)
         × (2 ^ shape.now.count ≤ field.now.high * 2 ^ 64 + field.now.low))) }
     ensures place { IfErr result (λ r. r.field ≡ place) }
 {
@@ -129,8 +129,8 @@ fn length_in(source: &[u8], field: &Field, need: u128, place: usize) -> Result<u
     ensures lies { IfOk result (λ n. (n ≡ field.now.length) × (n ≡ need)
         × (field.now.first + n ≤ 8 * length source.now)) }
     ensures wrong { IfErr result (λ r.
-        ((r.code ≡ 17) × (field.now.length ≢ need))
-        ⊎ ((r.code ≡ 1) × (field.now.length ≡ need)
+        (Says r 17 field.now.length × (field.now.length ≢ need))
+        ⊎ (Says r 1 0 × (field.now.length ≡ need)
         × (8 * length source.now < field.now.first + field.now.length))) }
     ensures place { IfErr result (λ r. r.field ≡ place) }
 {
