@@ -35,7 +35,8 @@ pub record AllFit (octets : List ℕ) (arcs : List ℕ) : Type 0 where
   pub tested : (leb first largest_first && list_all other_fits others) ≡ true
   pub arcs_are : arcs_from (first ∷ others) ≡ arcs
 
-all_fit_of : (octets : List ℕ) (arcs : List ℕ) (r : Option (List ℕ)) → numbers_of octets ≡ r → arcs_of_numbers r ≡ Ok arcs → AllFit octets arcs
+all_fit_of : (octets : List ℕ) (arcs : List ℕ) (r : Option (List ℕ)) → numbers_of octets ≡ r
+    → arcs_of_numbers r ≡ Ok arcs → AllFit octets arcs
 unfolding arcs_from
 all_fit_of octets arcs None e h = absurd cc
 all_fit_of octets arcs (Some []) e h = absurd cc
@@ -44,7 +45,8 @@ all_fit_of octets arcs (Some (n ∷ ns)) e h = by_test (leb n largest_first && l
     these : List ℕ
     these = first_arc n ∷ second_arc n ∷ ns
 
-    by_test : (b : Bool) → (leb n largest_first && list_all other_fits ns) ≡ b → cond b (Ok these) (Err ArcTooLarge) ≡ Ok arcs → AllFit octets arcs
+    by_test : (b : Bool) → (leb n largest_first && list_all other_fits ns) ≡ b
+        → cond b (Ok these) (Err ArcTooLarge) ≡ Ok arcs → AllFit octets arcs
     by_test true t g = record { first = n; others = ns; read = e; tested = t; arcs_are = ok_is g }
       where
         ok_is : ◌≡◌ {A = Result (List ℕ) ContentsError} (Ok these) (Ok arcs) → these ≡ arcs
@@ -66,7 +68,8 @@ pub record Reads (octets : List ℕ) (i told : ℕ) (arcs : List ℕ) : Type 0 w
 
 pub reads_none : (octets : List ℕ) → Reads octets 0 0 []
 unfolding arcs_from
-reads_none octets = record { begun = false; n = 0; done = []; as_told = omega arith; read = front (numbers_of octets); arcs_are = refl }
+reads_none octets =
+    record { begun = false; n = 0; done = []; as_told = omega arith; read = front (numbers_of octets); arcs_are = refl }
   where
     front : (r : Option (List ℕ)) → r ≡ behind [] r
     front (Some ns) = refl
@@ -86,7 +89,8 @@ unfolding numbers_from
 begins_with_80 n rest = refl
 
 -- an octet that does not end its subidentifier
-pub reads_on : (octets : List ℕ) (i told : ℕ) (arcs all : List ℕ) → AllFit octets all → Reads octets i told arcs → i < length octets → 128 ≤ get_or octets i 0
+pub reads_on : (octets : List ℕ) (i told : ℕ) (arcs all : List ℕ) → AllFit octets all → Reads octets i told arcs
+    → i < length octets → 128 ≤ get_or octets i 0
     → Reads octets (i + 1) (min (128 * told + get_or octets i 0 % 128) 4294967376) arcs
 reads_on octets i told arcs all a r lt ge = record {
   begun = true;
@@ -107,12 +111,14 @@ reads_on octets i told arcs all a r lt ge = record {
     here = r.read ∙ ap (λ (l : List ℕ). behind r.done (numbers_from r.begun r.n l)) (next_octet octets i lt)
 
     none : r.begun ≡ false → octet ≡ 128 → numbers_from r.begun r.n (octet ∷ rest) ≡ None
-    none b e = ap (λ (x : Bool). numbers_from x r.n (octet ∷ rest)) b ∙ ap (λ (k : ℕ). numbers_from false r.n (k ∷ rest)) e ∙ begins_with_80 r.n rest
+    none b e = ap (λ (x : Bool). numbers_from x r.n (octet ∷ rest)) b
+        ∙ ap (λ (k : ℕ). numbers_from false r.n (k ∷ rest)) e ∙ begins_with_80 r.n rest
 
     first : r.begun ≡ false → octet ≢ 128
     first b e = some_is_no_none _ (sym a.read ∙ here ∙ behind_none r.done _ (none b e))
 
-behind_more : (front : List ℕ) (n : ℕ) (r : Option (List ℕ)) → behind front (behind (n ∷ []) r) ≡ behind (front ++ n ∷ []) r
+behind_more : (front : List ℕ) (n : ℕ) (r : Option (List ℕ))
+    → behind front (behind (n ∷ []) r) ≡ behind (front ++ n ∷ []) r
 behind_more front n (Some ns) = ap (λ (l : List ℕ). Some l) (sym (append_assoc front (n ∷ []) ns))
 behind_more front n None = refl
 
@@ -135,7 +141,8 @@ pub record Ends (octets : List ℕ) (i told : ℕ) (arcs all : List ℕ) : Type 
   pub next : Reads octets (i + 1) 0 (more_arcs arcs told)
   pub few : length (more_arcs arcs told) ≤ length all
 
-fits_first : (first : ℕ) (others done rest : List ℕ) (n : ℕ) → (leb first largest_first && list_all other_fits others) ≡ true
+fits_first : (first : ℕ) (others done rest : List ℕ) (n : ℕ)
+    → (leb first largest_first && list_all other_fits others) ≡ true
     → first ∷ others ≡ (done ++ n ∷ []) ++ rest → (done ≡ [] → n ≤ 4294967375) × (done ≢ [] → n < 2 ^ 32)
 fits_first first others [] rest n t e =
     let same : first ≡ n = cc in
@@ -143,9 +150,14 @@ fits_first first others [] rest n t e =
     (λ z. omega arith, λ ne. absurd (ne refl))
 fits_first first others (x ∷ xs) rest n t e =
     let tail : others ≡ (xs ++ n ∷ []) ++ rest = cc in
-    let all : list_all other_fits ((xs ++ n ∷ []) ++ rest) ≡ true = sym (ap (list_all other_fits) tail) ∙ (and_parts (leb first largest_first) (list_all other_fits others) t).1 in
-    let front = and_parts (list_all other_fits (xs ++ n ∷ [])) (list_all other_fits rest) (sym (list_all-append other_fits (xs ++ n ∷ []) rest) ∙ all) in
-    let last = and_parts (list_all other_fits xs) (list_all other_fits (n ∷ [])) (sym (list_all-append other_fits xs (n ∷ [])) ∙ front.0) in
+    let all : list_all other_fits ((xs ++ n ∷ []) ++ rest) ≡ true = sym (ap (list_all other_fits) tail)
+    ∙ (and_parts (leb first largest_first) (list_all other_fits others) t).1 in
+    let front =
+    and_parts (list_all other_fits (xs ++ n ∷ [])) (list_all other_fits rest)
+    (sym (list_all-append other_fits (xs ++ n ∷ []) rest) ∙ all) in
+    let last =
+    and_parts (list_all other_fits xs) (list_all other_fits (n ∷ []))
+    (sym (list_all-append other_fits xs (n ∷ [])) ∙ front.0) in
     let le = leb-true n 4294967295 (and_parts (other_fits n) true last.1).0 in
     (λ z. absurd cc, λ ne. omega arith)
 
@@ -158,7 +170,8 @@ no_arcs : (ns : List ℕ) → ns ≡ [] → arcs_from ns ≡ []
 unfolding arcs_from
 no_arcs ns e = ap arcs_from e
 
-pub reads_end : (octets : List ℕ) (i told : ℕ) (arcs all : List ℕ) → AllFit octets all → Reads octets i told arcs → i < length octets → get_or octets i 0 < 128
+pub reads_end : (octets : List ℕ) (i told : ℕ) (arcs all : List ℕ) → AllFit octets all → Reads octets i told arcs
+    → i < length octets → get_or octets i 0 < 128
     → Ends octets i (min (128 * told + get_or octets i 0 % 128) 4294967376) arcs all
 reads_end octets i told arcs all a r lt small = record {
   first = λ e. (let le = fit.0 (empty_arcs r.done (sym r.arcs_are ∙ e)) in omega arith);
@@ -171,7 +184,14 @@ reads_end octets i told arcs all a r lt small = record {
     read = whole;
     arcs_are = more;
   };
-  few = omega (arith, ap length more, ap length a.arcs_are, ap (λ (l : List ℕ). length (arcs_from l)) split.parts, length-arcs_from-append (r.done ++ m ∷ []) split.rest);
+  few =
+      omega (
+        arith,
+        ap length more,
+        ap length a.arcs_are,
+        ap (λ (l : List ℕ). length (arcs_from l)) split.parts,
+        length-arcs_from-append (r.done ++ m ∷ []) split.rest,
+      );
 }
   where
     octet : ℕ
@@ -208,12 +228,14 @@ reads_end octets i told arcs all a r lt small = record {
     more = ap (more_arcs arcs) told_is ∙ ap (λ (l : List ℕ). more_arcs l m) r.arcs_are ∙ sym (arcs_from-push r.done m)
 
 -- at the end
-pub reads_all : (octets : List ℕ) (i told : ℕ) (arcs all : List ℕ) → AllFit octets all → Reads octets i told arcs → length octets ≤ i → arcs ≡ all
+pub reads_all : (octets : List ℕ) (i told : ℕ) (arcs all : List ℕ) → AllFit octets all → Reads octets i told arcs
+    → length octets ≤ i → arcs ≡ all
 unfolding numbers_from
 reads_all octets i told arcs all a r le = by_begun r.begun refl
   where
     end : (b : Bool) → r.begun ≡ b → numbers_of octets ≡ behind r.done (numbers_from b r.n [])
-    end b e = r.read ∙ ap (λ (l : List ℕ). behind r.done (numbers_from r.begun r.n l)) (drop_all i octets le) ∙ ap (λ (x : Bool). behind r.done (numbers_from x r.n [])) e
+    end b e = r.read ∙ ap (λ (l : List ℕ). behind r.done (numbers_from r.begun r.n l)) (drop_all i octets le)
+        ∙ ap (λ (x : Bool). behind r.done (numbers_from x r.n [])) e
 
     some_is : (x y : List ℕ) → ◌≡◌ {A = Option (List ℕ)} (Some x) (Some y) → x ≡ y
     some_is x y h = cc
@@ -221,26 +243,34 @@ reads_all octets i told arcs all a r le = by_begun r.begun refl
     by_begun : (b : Bool) → r.begun ≡ b → arcs ≡ all
     by_begun true e = absurd (some_is_no_none _ (sym a.read ∙ end true e))
     by_begun false e =
-        let same : a.first ∷ a.others ≡ r.done = some_is _ _ (sym a.read ∙ end false e ∙ ap (λ (l : List ℕ). Some l) (append-nil r.done)) in
+        let same : a.first ∷ a.others ≡ r.done =
+        some_is _ _ (sym a.read ∙ end false e ∙ ap (λ (l : List ℕ). Some l) (append-nil r.done)) in
         r.arcs_are ∙ ap arcs_from (sym same) ∙ a.arcs_are
 
 -- ---- the steps, by the code's numbers
 
-number_is : (told number x d : ℕ) → number ≡ min (128 * told + x) 4294967376 → x ≡ d % 128 → min (128 * told + d % 128) 4294967376 ≡ number
+number_is : (told number x d : ℕ) → number ≡ min (128 * told + x) 4294967376 → x ≡ d % 128
+    → min (128 * told + d % 128) 4294967376 ≡ number
 number_is told number x d e f = omega arith
 
-pub ended : (octets : List ℕ) (i told number x : ℕ) (arcs all : List ℕ) → contents_reading octets ≡ Ok all → Reads octets i told arcs → i < length octets → get_or octets i 0 < 128
+pub ended : (octets : List ℕ) (i told number x : ℕ) (arcs all : List ℕ) → contents_reading octets ≡ Ok all
+    → Reads octets i told arcs → i < length octets → get_or octets i 0 < 128
     → number ≡ min (128 * told + x) 4294967376 → x ≡ get_or octets i 0 % 128 → Ends octets i number arcs all
 ended octets i told number x arcs all a r lt small e f =
-    subst (λ (k : ℕ). Ends octets i k arcs all) (number_is told number x (get_or octets i 0) e f) (reads_end octets i told arcs all (all_fit octets all a) r lt small)
+    subst (λ (k : ℕ). Ends octets i k arcs all) (number_is told number x (get_or octets i 0) e f)
+    (reads_end octets i told arcs all (all_fit octets all a) r lt small)
 
-pub continued : (octets : List ℕ) (i told number x : ℕ) (arcs all : List ℕ) → contents_reading octets ≡ Ok all → Reads octets i told arcs → i < length octets → 128 ≤ get_or octets i 0
+pub continued : (octets : List ℕ) (i told number x : ℕ) (arcs all : List ℕ) → contents_reading octets ≡ Ok all
+    → Reads octets i told arcs → i < length octets → 128 ≤ get_or octets i 0
     → number ≡ min (128 * told + x) 4294967376 → x ≡ get_or octets i 0 % 128 → Reads octets (i + 1) number arcs
 continued octets i told number x arcs all a r lt ge e f =
-    subst (λ (k : ℕ). Reads octets (i + 1) k arcs) (number_is told number x (get_or octets i 0) e f) (reads_on octets i told arcs all (all_fit octets all a) r lt ge)
+    subst (λ (k : ℕ). Reads octets (i + 1) k arcs) (number_is told number x (get_or octets i 0) e f)
+    (reads_on octets i told arcs all (all_fit octets all a) r lt ge)
 
-pub written : (octets : List ℕ) (i told : ℕ) (arcs all : List ℕ) → contents_reading octets ≡ Ok all → Reads octets i told arcs → length octets ≤ i → contents_reading octets ≡ Ok arcs
-written octets i told arcs all a r le = a ∙ ap (λ (l : List ℕ). Ok l) (sym (reads_all octets i told arcs all (all_fit octets all a) r le))
+pub written : (octets : List ℕ) (i told : ℕ) (arcs all : List ℕ) → contents_reading octets ≡ Ok all
+    → Reads octets i told arcs → length octets ≤ i → contents_reading octets ≡ Ok arcs
+written octets i told arcs all a r le = a
+    ∙ ap (λ (l : List ℕ). Ok l) (sym (reads_all octets i told arcs all (all_fit octets all a) r le))
 
 pub two_written : (room : List ℕ) (x y : ℕ) → 2 ≤ length room → take 2 (set (set room 0 x) 1 y) ≡ x ∷ y ∷ []
 two_written [] x y le = absurd (omega arith)
@@ -251,4 +281,5 @@ pub none_before : (room : List ℕ) (count : ℕ) → count ≡ 0 → take count
 none_before room count e = ap (λ (k : ℕ). take k room) e
 
 pub some_before : (room : List ℕ) (count : ℕ) → count ≤ length room → count ≢ 0 → take count room ≢ []
-some_before room count le ne e = let n : length (take count room) ≡ 0 = ap length e in absurd (ne (omega (arith, length-take count room)))
+some_before room count le ne e = let n : length (take count room) ≡ 0 =
+    ap length e in absurd (ne (omega (arith, length-take count room)))

@@ -14,13 +14,17 @@ last_digits n width le =
     let high : List Bool = digits (n / 2 ^ width) (128 - width) in
     let sum : 128 ≡ (128 - width) + width = omega arith in
     let parts : digits n 128 ≡ high ++ digits n width = ap (digits n) sum ∙ digits-append n (128 - width) width in
-    let cut : drop (128 - width) (high ++ digits n width) ≡ digits n width = drop_at high (digits n width) (128 - width) (length-digits (n / 2 ^ width) (128 - width)) in
-    ap (λ (l : List Bool). take width (drop (128 - width) l)) parts ∙ ap (take width) cut ∙ take_all width (digits n width) (omega (arith, length-digits n width))
+    let cut : drop (128 - width) (high ++ digits n width) ≡ digits n width =
+    drop_at high (digits n width) (128 - width) (length-digits (n / 2 ^ width) (128 - width)) in
+    ap (λ (l : List Bool). take width (drop (128 - width) l)) parts ∙ ap (take width) cut
+    ∙ take_all width (digits n width) (omega (arith, length-digits n width))
 
 -- the view of the last bits of a number's sixteen octets has its lowest digits
-pub placed : (v : View) (octets : List ℕ) (n width : ℕ) → width ≤ 128 → v ≡ record { storage = octets; first = 128 - width; len = width } → octets ≡ to_be_bytes w128 n
+pub placed : (v : View) (octets : List ℕ) (n width : ℕ) → width ≤ 128
+    → v ≡ record { storage = octets; first = 128 - width; len = width } → octets ≡ to_be_bytes w128 n
     → list_of v ≡ digits n width
 unfolding list_of
 placed v octets n width le e o =
-    ap list_of e ∙ ap (λ (l : List ℕ). take width (drop (128 - width) (bits l))) o ∙ ap (λ (l : List Bool). take width (drop (128 - width) l)) (bits-bytes 16 n)
+    ap list_of e ∙ ap (λ (l : List ℕ). take width (drop (128 - width) (bits l))) o
+    ∙ ap (λ (l : List Bool). take width (drop (128 - width) l)) (bits-bytes 16 n)
     ∙ last_digits n width le

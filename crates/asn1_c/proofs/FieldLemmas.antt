@@ -33,7 +33,11 @@ bits-octets_of : (n : ℕ) (list : List Bool) → length list ≡ 8 * n → bits
 unfolding bits
 bits-octets_of zero list e = sym (nil_from_length list (omega arith))
 bits-octets_of (suc n) list e =
-    rw (digits_of-number (take 8 list) 8 (omega (arith, length-take 8 list)), bits-octets_of n (drop 8 list) (omega (arith, length-drop 8 list))) (take-append-drop 8 list)
+    rw (
+      digits_of-number (take 8 list) 8 (omega (arith, length-take 8 list)),
+      bits-octets_of n (drop 8 list)
+          (omega (arith, length-drop 8 list)),
+    ) (take-append-drop 8 list)
 
 -- so many octets are spelled by their bits
 pub octets_spelled : (n : ℕ) (list : List Bool) → length list ≡ 8 * n
@@ -66,7 +70,8 @@ bits_read octets at count f first len high low le = record {
   told = (high, low);
 }
 
-pub octets_read : (octets : List ℕ) (at count : ℕ) (f : Field) → f.first ≡ at → f.length ≡ 8 * count → f.high ≡ 0 → f.low ≡ 0
+pub octets_read : (octets : List ℕ) (at count : ℕ) (f : Field) → f.first ≡ at → f.length ≡ 8 * count → f.high ≡ 0
+    → f.low ≡ 0
     → at + 8 * count ≤ 8 * length octets → IsSpelledAt octets at (plain.OfOctets count) f
 octets_read octets at count f first len high low le =
     let n : length (take f.length (drop at (bits octets))) ≡ 8 * count =
@@ -81,7 +86,8 @@ octets_read octets at count f first len high low le =
       told = (high, low);
     }
 
-pub number_read : (octets : List ℕ) (at width n : ℕ) (f : Field) → f.first ≡ at → f.length ≡ width → number_of_words f.high f.low ≡ n
+pub number_read : (octets : List ℕ) (at width n : ℕ) (f : Field) → f.first ≡ at → f.length ≡ width
+    → number_of_words f.high f.low ≡ n
     → at + width ≤ 8 * length octets → width ≤ 128 → n < 2 ^ width → digits n width ≡ take width (drop at (bits octets))
     → IsSpelledAt octets at (plain.OfNumber width) f
 number_read octets at width n f first len value le wide below is = record {
@@ -93,46 +99,59 @@ number_read octets at width n f first len value le wide below is = record {
   told = value;
 }
 
-pub bits_short : (octets : List ℕ) (at count : ℕ) (r : Refusal) → at ≤ 8 * length octets → r.code ≡ 15 → 8 * length octets < at + count
-    → number_of_words r.high r.low ≡ at + count - 8 * length octets → NamesReason (plain.OfBits count) (drop at (bits octets)) r
+pub bits_short : (octets : List ℕ) (at count : ℕ) (r : Refusal) → at ≤ 8 * length octets → r.code ≡ 15
+    → 8 * length octets < at + count
+    → number_of_words r.high r.low ≡ at + count - 8 * length octets
+    → NamesReason (plain.OfBits count) (drop at (bits octets)) r
 bits_short octets at count r le code lt n = inr (code, is_short octets at count _ le n (omega arith))
 
-pub octets_short : (octets : List ℕ) (at count : ℕ) (r : Refusal) → at ≤ 8 * length octets → r.code ≡ 15 → 8 * length octets < at + 8 * count
-    → number_of_words r.high r.low ≡ at + 8 * count - 8 * length octets → NamesReason (plain.OfOctets count) (drop at (bits octets)) r
+pub octets_short : (octets : List ℕ) (at count : ℕ) (r : Refusal) → at ≤ 8 * length octets → r.code ≡ 15
+    → 8 * length octets < at + 8 * count
+    → number_of_words r.high r.low ≡ at + 8 * count - 8 * length octets
+    → NamesReason (plain.OfOctets count) (drop at (bits octets)) r
 octets_short octets at count r le code lt n = inr (code, is_short octets at (8 * count) _ le n (omega arith))
 
-pub number_short : (octets : List ℕ) (at width : ℕ) (r : Refusal) → at ≤ 8 * length octets → r.code ≡ 15 → 8 * length octets < at + width
-    → number_of_words r.high r.low ≡ at + width - 8 * length octets → width ≤ 128 → NamesReason (plain.OfNumber width) (drop at (bits octets)) r
+pub number_short : (octets : List ℕ) (at width : ℕ) (r : Refusal) → at ≤ 8 * length octets → r.code ≡ 15
+    → 8 * length octets < at + width
+    → number_of_words r.high r.low ≡ at + width - 8 * length octets → width ≤ 128
+    → NamesReason (plain.OfNumber width) (drop at (bits octets)) r
 number_short octets at width r le code lt n wide = inr (code, (wide, is_short octets at width _ le n (omega arith)))
 
 abbrev Taken : Type 0
 Taken = Result Field Refusal
 
-pub bits_taken : (octets : List ℕ) (at count : ℕ) (r : Taken) → IfOk r (λ f. (f.first ≡ at) × (f.length ≡ count)) → IfOk r (λ f. (f.high ≡ 0) × (f.low ≡ 0))
+pub bits_taken : (octets : List ℕ) (at count : ℕ) (r : Taken) → IfOk r (λ f. (f.first ≡ at) × (f.length ≡ count))
+    → IfOk r (λ f. (f.high ≡ 0) × (f.low ≡ 0))
     → OnOk r (at + count ≤ 8 * length octets) → IfOk r (IsSpelledAt octets at (plain.OfBits count))
 bits_taken octets at count (Ok f) place none le = bits_read octets at count f place.0 place.1 none.0 none.1 le
 bits_taken octets at count (Err e) place none le = tt
 
-pub bits_refused : (octets : List ℕ) (at count i : ℕ) (r : Taken) → at ≤ 8 * length octets → IfErr r (λ e. (e.code ≡ 15) × (e.field ≡ i))
+pub bits_refused : (octets : List ℕ) (at count i : ℕ) (r : Taken) → at ≤ 8 * length octets
+    → IfErr r (λ e. (e.code ≡ 15) × (e.field ≡ i))
     → IfErr r (λ e. (8 * length octets < at + count) × (number_of_words e.high e.low ≡ at + count - 8 * length octets))
     → IfErr r (NamesReason (plain.OfBits count) (drop at (bits octets)))
 bits_refused octets at count i (Ok f) within code short = tt
 bits_refused octets at count i (Err e) within code short = bits_short octets at count e within code.0 short.0 short.1
 
-pub octets_taken : (octets : List ℕ) (at count : ℕ) (r : Taken) → IfOk r (λ f. (f.first ≡ at) × (f.length ≡ 8 * count)) → IfOk r (λ f. (f.high ≡ 0) × (f.low ≡ 0))
+pub octets_taken : (octets : List ℕ) (at count : ℕ) (r : Taken) → IfOk r (λ f. (f.first ≡ at) × (f.length ≡ 8 * count))
+    → IfOk r (λ f. (f.high ≡ 0) × (f.low ≡ 0))
     → OnOk r (at + 8 * count ≤ 8 * length octets) → IfOk r (IsSpelledAt octets at (plain.OfOctets count))
 octets_taken octets at count (Ok f) place none le = octets_read octets at count f place.0 place.1 none.0 none.1 le
 octets_taken octets at count (Err e) place none le = tt
 
-pub octets_refused : (octets : List ℕ) (at count i : ℕ) (r : Taken) → at ≤ 8 * length octets → IfErr r (λ e. (e.code ≡ 15) × (e.field ≡ i))
-    → IfErr r (λ e. (8 * length octets < at + 8 * count) × (number_of_words e.high e.low ≡ at + 8 * count - 8 * length octets))
+pub octets_refused : (octets : List ℕ) (at count i : ℕ) (r : Taken) → at ≤ 8 * length octets
+    → IfErr r (λ e. (e.code ≡ 15) × (e.field ≡ i))
+    → IfErr r (λ e. (8 * length octets < at + 8 * count)
+    × (number_of_words e.high e.low ≡ at + 8 * count - 8 * length octets))
     → IfErr r (NamesReason (plain.OfOctets count) (drop at (bits octets)))
 octets_refused octets at count i (Ok f) within code short = tt
-octets_refused octets at count i (Err e) within code short = octets_short octets at count e within code.0 short.0 short.1
+octets_refused octets at count i (Err e) within code short =
+    octets_short octets at count e within code.0 short.0 short.1
 
 -- ---- fields one after another
 
-pub read_more : (octets : List ℕ) (from at : ℕ) (ss : List Shape) (fs : List Field) (s : Shape) (f : Field) → AreReadAt octets from ss fs at
+pub read_more : (octets : List ℕ) (from at : ℕ) (ss : List Shape) (fs : List Field) (s : Shape) (f : Field)
+    → AreReadAt octets from ss fs at
     → IsReadAt octets at s f → AreReadAt octets from (ss ++ s ∷ []) (fs ++ f ∷ []) (end_of f)
 read_more octets from at [] [] s f e h = (subst (λ (k : ℕ). IsReadAt octets k s f) (sym e) h, refl)
 read_more octets from at (x ∷ ss) (y ∷ fs) s f p h = (p.0, read_more octets (end_of y) at ss fs s f p.1 h)
@@ -140,8 +159,10 @@ read_more octets from at [] (y ∷ fs) s f p h = absurd p
 read_more octets from at (x ∷ ss) [] s f p h = absurd p
 
 -- one field more, in the caller's lists
-pub next_read : (octets : List ℕ) (from at i : ℕ) (ss : List Shape) (fs : List Field) (d : Shape) (f : Field) → i < length ss → i < length fs
+pub next_read : (octets : List ℕ) (from at i : ℕ) (ss : List Shape) (fs : List Field) (d : Shape) (f : Field)
+    → i < length ss → i < length fs
     → AreReadAt octets from (take i ss) (take i fs) at → IsReadAt octets at (get_or ss i d) f
     → AreReadAt octets from (take (i + 1) ss) (take (i + 1) (set fs i f)) (end_of f)
 next_read octets from at i ss fs d f in_shapes in_fields p h =
-    rw (take_more ss i d in_shapes, take_more_set fs i f in_fields) (read_more octets from at (take i ss) (take i fs) (get_or ss i d) f p h)
+    rw (take_more ss i d in_shapes, take_more_set fs i f in_fields)
+    (read_more octets from at (take i ss) (take i fs) (get_or ss i d) f p h)

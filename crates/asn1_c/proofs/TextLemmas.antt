@@ -36,8 +36,10 @@ no_stop_in_digits (c ∷ cs) d =
 no_stop : (n : ℕ) → n < 2 ^ 64 → All (λ b. eqb b 46 ≡ false) (decimal n)
 no_stop n lt = no_stop_in_digits (decimal n) (decimal_is_IsNumeral n lt).0.1
 
-pub split_dotted : (x : ℕ) (xs : List ℕ) → All (λ n. n < 2 ^ 32) (x ∷ xs) → slice_split (λ b. eqb b 46) (dotted (x ∷ xs)) ≡ map decimal (x ∷ xs)
-split_dotted x [] fit = let lt = All-head (λ n. n < 2 ^ 32) x [] fit in slice_split_none (λ b. eqb b 46) (decimal x) (no_stop x (omega arith))
+pub split_dotted : (x : ℕ) (xs : List ℕ) → All (λ n. n < 2 ^ 32) (x ∷ xs)
+    → slice_split (λ b. eqb b 46) (dotted (x ∷ xs)) ≡ map decimal (x ∷ xs)
+split_dotted x [] fit = let lt =
+    All-head (λ n. n < 2 ^ 32) x [] fit in slice_split_none (λ b. eqb b 46) (decimal x) (no_stop x (omega arith))
 split_dotted x (y ∷ ys) fit =
     let lt = All-head (λ n. n < 2 ^ 32) x (y ∷ ys) fit in
     slice_split_at (λ b. eqb b 46) (decimal x) 46 (dotted (y ∷ ys)) (no_stop x (omega arith)) refl
@@ -62,7 +64,8 @@ last_digit number left i octets small l lt none text =
     let inner : List ℕ = set octets (10 - i) (48 + left % 10) in
     let next : (9 - i) + 1 ≡ 10 - i = omega arith in
     let same : left % 10 ≡ left = omega arith in
-    drop-set inner (9 - i) 46 (omega (arith, length-set octets (10 - i) (48 + left % 10))) ∙ ap (λ k. 46 ∷ drop k inner) next
+    drop-set inner (9 - i) 46 (omega (arith, length-set octets (10 - i) (48 + left % 10)))
+    ∙ ap (λ k. 46 ∷ drop k inner) next
     ∙ ap (λ t. 46 ∷ t) (digit_stored octets i left l lt ∙ ap (λ k. (48 + k) ∷ drop (11 - i) octets) same
     ∙ ap (λ t. t ++ drop (11 - i) octets) (sym (decimal_digit left (omega arith))) ∙ sym text)
 
@@ -77,7 +80,8 @@ more_digits number left i octets small l lt some text =
     ∙ ap (λ k. decimal (left / 10) ++ drop k (set octets (10 - i) (48 + left % 10))) (sym place)
 
 -- ten digits are enough
-pub no_more_digits : (number left i : ℕ) (octets : List ℕ) → number < 2 ^ 32 → left < 2 ^ 32 → length octets ≡ 11 → 10 ≤ i → i ≤ 10
+pub no_more_digits : (number left i : ℕ) (octets : List ℕ) → number < 2 ^ 32 → left < 2 ^ 32 → length octets ≡ 11
+    → 10 ≤ i → i ≤ 10
     → decimal number ≡ decimal left ++ drop (11 - i) octets → ⊥
 no_more_digits number left i octets n_small small l ge le text =
     let n = length-decimal-le 10 number (omega arith) (omega arith) (omega arith) in
@@ -87,43 +91,57 @@ no_more_digits number left i octets n_small small l ge le text =
 -- ---- the text, arc by arc
 
 behind_more : (xs : List ℕ) (i d : ℕ) → i < length xs
-    → flat_map (λ arc. full_stop ∷ decimal arc) (take (i + 1) xs) ≡ flat_map (λ arc. full_stop ∷ decimal arc) (take i xs) ++ (full_stop ∷ decimal (get_or xs i d))
+    → flat_map (λ arc. full_stop ∷ decimal arc) (take (i + 1) xs) ≡ flat_map (λ arc. full_stop ∷ decimal arc)
+    (take i xs) ++ (full_stop ∷ decimal (get_or xs i d))
 behind_more xs i d lt =
     ap (flat_map (λ arc. full_stop ∷ decimal arc)) (take_more xs i d lt)
     ∙ flat_map-append (λ arc. full_stop ∷ decimal arc) (take i xs) (get_or xs i d ∷ [])
-    ∙ ap (λ t. flat_map (λ arc. full_stop ∷ decimal arc) (take i xs) ++ (full_stop ∷ t)) (append-nil (decimal (get_or xs i d)))
+    ∙ ap (λ t. flat_map (λ arc. full_stop ∷ decimal arc) (take i xs) ++ (full_stop ∷ t))
+    (append-nil (decimal (get_or xs i d)))
 
-pub dotted_more : (x : ℕ) (xs : List ℕ) (i d : ℕ) → i < length xs → dotted_from x (take (i + 1) xs) ≡ dotted_from x (take i xs) ++ (full_stop ∷ decimal (get_or xs i d))
+pub dotted_more : (x : ℕ) (xs : List ℕ) (i d : ℕ) → i < length xs
+    → dotted_from x (take (i + 1) xs) ≡ dotted_from x (take i xs) ++ (full_stop ∷ decimal (get_or xs i d))
 dotted_more x xs i d lt =
-    ap (λ t. decimal x ++ t) (behind_more xs i d lt) ∙ sym (append_assoc (decimal x) (flat_map (λ arc. full_stop ∷ decimal arc) (take i xs)) (full_stop ∷ decimal (get_or xs i d)))
+    ap (λ t. decimal x ++ t) (behind_more xs i d lt)
+    ∙ sym (append_assoc (decimal x) (flat_map (λ arc. full_stop ∷ decimal arc) (take i xs))
+    (full_stop ∷ decimal (get_or xs i d)))
 
 pub length-dotted_more : (x : ℕ) (xs : List ℕ) (i d : ℕ) → i < length xs
-    → length (dotted_from x (take (i + 1) xs)) ≡ length (dotted_from x (take i xs)) + length (full_stop ∷ decimal (get_or xs i d))
-length-dotted_more x xs i d lt = ap length (dotted_more x xs i d lt) ∙ length-append (dotted_from x (take i xs)) (full_stop ∷ decimal (get_or xs i d))
+    → length (dotted_from x (take (i + 1) xs)) ≡ length (dotted_from x (take i xs)) + length
+    (full_stop ∷ decimal (get_or xs i d))
+length-dotted_more x xs i d lt = ap length (dotted_more x xs i d lt)
+    ∙ length-append (dotted_from x (take i xs)) (full_stop ∷ decimal (get_or xs i d))
 
 -- a front is no longer than the whole
 pub dotted_front : (x : ℕ) (xs : List ℕ) (i : ℕ) → length (dotted_from x (take i xs)) ≤ length (dotted_from x xs)
 dotted_front x xs i =
-    let parts = ap (flat_map (λ arc. full_stop ∷ decimal arc)) (sym (take-append-drop i xs)) ∙ flat_map-append (λ arc. full_stop ∷ decimal arc) (take i xs) (drop i xs) in
+    let parts = ap (flat_map (λ arc. full_stop ∷ decimal arc)) (sym (take-append-drop i xs))
+    ∙ flat_map-append (λ arc. full_stop ∷ decimal arc) (take i xs) (drop i xs) in
     omega (
       arith,
       ap length parts,
-      length-append (flat_map (λ arc. full_stop ∷ decimal arc) (take i xs)) (flat_map (λ arc. full_stop ∷ decimal arc) (drop i xs)),
+      length-append (flat_map (λ arc. full_stop ∷ decimal arc) (take i xs))
+          (flat_map (λ arc. full_stop ∷ decimal arc) (drop i xs)),
       length-append (decimal x) (flat_map (λ arc. full_stop ∷ decimal arc) (take i xs)),
       length-append (decimal x) (flat_map (λ arc. full_stop ∷ decimal arc) xs),
     )
 
 -- what was put behind what was written
 pub put_behind : (front part room : List ℕ) (at : ℕ) → at ≡ length front → at + length part ≤ length room
-    → take at (front ++ drop at room) ++ (part ++ drop (at + length part) (front ++ drop at room)) ≡ (front ++ part) ++ drop (at + length part) room
+    → take at (front ++ drop at room) ++ (part ++ drop (at + length part) (front ++ drop at room)) ≡ (front ++ part) ++
+    drop (at + length part) room
 put_behind front part room at e le =
-    let f : take at (front ++ drop at room) ≡ front = ap (λ k. take k (front ++ drop at room)) e ∙ take-append_seam front (drop at room) in
+    let f : take at (front ++ drop at room) ≡ front = ap (λ k. take k (front ++ drop at room)) e
+    ∙ take-append_seam front (drop at room) in
     let b : drop (at + length part) (front ++ drop at room) ≡ drop (at + length part) room =
-    ap (λ k. drop (k + length part) (front ++ drop at room)) e ∙ drop-append-add front (drop at room) (length part) ∙ drop-drop (length part) at room in
-    ap (λ l. l ++ (part ++ drop (at + length part) (front ++ drop at room))) f ∙ ap (λ l. front ++ (part ++ l)) b ∙ sym (append_assoc front part (drop (at + length part) room))
+    ap (λ k. drop (k + length part) (front ++ drop at room)) e ∙ drop-append-add front (drop at room) (length part)
+    ∙ drop-drop (length part) at room in
+    ap (λ l. l ++ (part ++ drop (at + length part) (front ++ drop at room))) f ∙ ap (λ l. front ++ (part ++ l)) b
+    ∙ sym (append_assoc front part (drop (at + length part) room))
 
 -- what stands behind the full stop
-pub digits_behind : (octets : List ℕ) (first n : ℕ) → drop first octets ≡ full_stop ∷ decimal n → drop (first + 1) octets ≡ decimal n
+pub digits_behind : (octets : List ℕ) (first n : ℕ) → drop first octets ≡ full_stop ∷ decimal n
+    → drop (first + 1) octets ≡ decimal n
 digits_behind octets first n e = sym (drop-drop 1 first octets) ∙ ap (drop 1) e
 
 -- ---- the arcs of a text, part by part
@@ -147,7 +165,8 @@ pub record Reads (text : List ℕ) (left : Option (Bor (List ℕ))) (count : ℕ
   pub kept : length room ≡ length initial
   pub few : 2 * count + octets_left left ≤ length text + 1
 
-pub reads_none : (text front room : List ℕ) (t : Bor (List ℕ)) → t.now ≡ text → length front ≡ 2 → Reads text (Some t) 0 front room room
+pub reads_none : (text front room : List ℕ) (t : Bor (List ℕ)) → t.now ≡ text → length front ≡ 2
+    → Reads text (Some t) 0 front room room
 reads_none text front room t e l = record {
   done = [];
   parts = ap (slice_split (λ b. eqb b 46)) (sym e);
@@ -160,7 +179,8 @@ reads_none text front room t e l = record {
   few = omega (arith, ap length e);
 }
 
-firsts_more : (front done : List ℕ) (count n : ℕ) → count ≡ length done → length front ≡ 2 → take (min count 2) front ≡ take 2 done
+firsts_more : (front done : List ℕ) (count n : ℕ) → count ≡ length done → length front ≡ 2
+    → take (min count 2) front ≡ take 2 done
     → take (min (count + 1) 2) (set front count n) ≡ take 2 (done ++ n ∷ [])
 firsts_more [] done count n e l f = absurd (omega arith)
 firsts_more (a ∷ []) done count n e l f = absurd (omega arith)
@@ -176,9 +196,11 @@ firsts_more (a ∷ b ∷ []) (x ∷ []) count n e l f =
 firsts_more (a ∷ b ∷ []) (x ∷ y ∷ more) count n e l f =
     let two : min (count + 1) 2 ≡ 2 = omega arith in
     let was : min count 2 ≡ 2 = omega arith in
-    ap (λ k. take k (set (a ∷ b ∷ []) count n)) two ∙ ap (take 2) (set_past (a ∷ b ∷ []) count n (omega arith)) ∙ ap (λ k. take k (a ∷ b ∷ [])) (sym was) ∙ f
+    ap (λ k. take k (set (a ∷ b ∷ []) count n)) two ∙ ap (take 2) (set_past (a ∷ b ∷ []) count n (omega arith))
+    ∙ ap (λ k. take k (a ∷ b ∷ [])) (sym was) ∙ f
 
-room_more : (room initial done : List ℕ) (count n : ℕ) → count ≡ length done → count + 1 ≤ length initial → room ≡ done ++ drop count initial
+room_more : (room initial done : List ℕ) (count n : ℕ) → count ≡ length done → count + 1 ≤ length initial
+    → room ≡ done ++ drop count initial
     → set room count n ≡ (done ++ n ∷ []) ++ drop (count + 1) initial
 room_more room initial done count n e le w =
     ap (λ r. set r count n) (w ∙ ap (λ t. done ++ t) (drop_more initial count 0 (omega arith)))
@@ -186,14 +208,20 @@ room_more room initial done count n e le w =
     ∙ set-append_seam done (get_or initial count 0) (drop (count + 1) initial) n
     ∙ sym (append_assoc done (n ∷ []) (drop (count + 1) initial))
 
-pub reads_more : (text : List ℕ) (here : Bor (List ℕ)) (behind : Option (Bor (List ℕ))) (part : List ℕ) (count n : ℕ) (front room initial : List ℕ)
-    → Reads text (Some here) count front room initial → slice_split (λ b. eqb b 46) here.now ≡ part ∷ parts_left behind → decimal n ≡ part → n < 2 ^ 32
-    → length part + octets_left behind ≤ length here.now → Reads text behind (count + 1) (set front count n) (set room count n) initial
+pub reads_more : (text : List ℕ) (here : Bor (List ℕ)) (behind : Option (Bor (List ℕ))) (part : List ℕ) (count n : ℕ)
+    (front room initial : List ℕ)
+    → Reads text (Some here) count front room initial → slice_split (λ b. eqb b 46) here.now ≡ part ∷ parts_left behind
+    → decimal n ≡ part → n < 2 ^ 32
+    → length part + octets_left behind ≤ length here.now
+    → Reads text behind (count + 1) (set front count n) (set room count n) initial
 reads_more text here behind part count n front room initial r parts is lt few = record {
   done = r.done ++ n ∷ [];
   parts = r.parts ∙ ap (λ l. map decimal r.done ++ l) (parts ∙ ap (λ p. p ∷ parts_left behind) (sym is))
-      ∙ sym (append_assoc (map decimal r.done) (decimal n ∷ []) (parts_left behind)) ∙ ap (λ l. l ++ parts_left behind) (sym (map-append decimal r.done (n ∷ [])));
-  fit = All-append (λ m. m < 2 ^ 32) r.done (n ∷ []) r.fit (All-cons (λ m. m < 2 ^ 32) n [] lt (All-nil (λ m. m < 2 ^ 32)));
+      ∙ sym (append_assoc (map decimal r.done) (decimal n ∷ []) (parts_left behind))
+      ∙ ap (λ l. l ++ parts_left behind) (sym (map-append decimal r.done (n ∷ [])));
+  fit =
+      All-append (λ m. m < 2 ^ 32) r.done (n ∷ []) r.fit
+      (All-cons (λ m. m < 2 ^ 32) n [] lt (All-nil (λ m. m < 2 ^ 32)));
   counted = let c = r.counted in omega (arith, length-append r.done (n ∷ []));
   front_two = length-set front count n ∙ r.front_two;
   firsts = firsts_more front r.done count n r.counted r.front_two r.firsts;
@@ -207,24 +235,32 @@ record Among (n : ℕ) (p : List ℕ) : Type 0 where
   fits : n < 2 ^ 32
   is : decimal n ≡ p
 
-among : (arcs done : List ℕ) (p : List ℕ) (ps : List (List ℕ)) → All (λ n. n < 2 ^ 32) arcs → map decimal arcs ≡ map decimal done ++ (p ∷ ps) → (n : ℕ) × Among n p
+among : (arcs done : List ℕ) (p : List ℕ) (ps : List (List ℕ)) → All (λ n. n < 2 ^ 32) arcs
+    → map decimal arcs ≡ map decimal done ++ (p ∷ ps) → (n : ℕ) × Among n p
 among [] [] p ps fit e = absurd cc
 among [] (y ∷ ys) p ps fit e = absurd cc
-among (x ∷ xs) [] p ps fit e = let h : decimal x ≡ p = cc in (x, record { fits = All-head (λ n. n < 2 ^ 32) x xs fit; is = h })
-among (x ∷ xs) (y ∷ ys) p ps fit e = let t : map decimal xs ≡ map decimal ys ++ (p ∷ ps) = cc in among xs ys p ps (All-tail (λ n. n < 2 ^ 32) x xs fit) t
+among (x ∷ xs) [] p ps fit e = let h : decimal x ≡ p =
+    cc in (x, record { fits = All-head (λ n. n < 2 ^ 32) x xs fit; is = h })
+among (x ∷ xs) (y ∷ ys) p ps fit e = let t : map decimal xs ≡ map decimal ys ++ (p ∷ ps) =
+    cc in among xs ys p ps (All-tail (λ n. n < 2 ^ 32) x xs fit) t
 
 parts_are : (arcs text : List ℕ) → IsDottedText arcs text → slice_split (λ b. eqb b 46) text ≡ map decimal arcs
 parts_are [] text d = absurd (let s = d.valid.some in omega arith)
 parts_are (x ∷ xs) text d = ap (slice_split (λ b. eqb b 46)) (sym d.spelled) ∙ split_dotted x xs d.fit
 
-pub no_number : (text : List ℕ) (here : Bor (List ℕ)) (behind : Option (Bor (List ℕ))) (part : List ℕ) (count : ℕ) (front room initial : List ℕ)
-    → Reads text (Some here) count front room initial → slice_split (λ b. eqb b 46) here.now ≡ part ∷ parts_left behind → ((n : ℕ) → n < 2 ^ 32 → decimal n ≢ part)
+pub no_number : (text : List ℕ) (here : Bor (List ℕ)) (behind : Option (Bor (List ℕ))) (part : List ℕ) (count : ℕ)
+    (front room initial : List ℕ)
+    → Reads text (Some here) count front room initial → slice_split (λ b. eqb b 46) here.now ≡ part ∷ parts_left behind
+    → ((n : ℕ) → n < 2 ^ 32 → decimal n ≢ part)
     → (arcs : List ℕ) → IsDottedText arcs text → ⊥
 no_number text here behind part count front room initial r parts none arcs d =
-    let a = among arcs r.done part (parts_left behind) d.fit (sym (parts_are arcs text d) ∙ r.parts ∙ ap (λ l. map decimal r.done ++ l) parts) in
+    let a =
+    among arcs r.done part (parts_left behind) d.fit
+    (sym (parts_are arcs text d) ∙ r.parts ∙ ap (λ l. map decimal r.done ++ l) parts) in
     none a.0 a.1.fits a.1.is
 
-same_arcs : (xs ys : List ℕ) → All (λ n. n < 2 ^ 32) xs → All (λ n. n < 2 ^ 32) ys → map decimal xs ≡ map decimal ys → xs ≡ ys
+same_arcs : (xs ys : List ℕ) → All (λ n. n < 2 ^ 32) xs → All (λ n. n < 2 ^ 32) ys → map decimal xs ≡ map decimal ys
+    → xs ≡ ys
 same_arcs [] [] f g e = refl
 same_arcs [] (y ∷ ys) f g e = absurd cc
 same_arcs (x ∷ xs) [] f g e = absurd cc
@@ -244,26 +280,32 @@ one_text xs ys text d e = same_arcs xs ys d.fit e.fit (sym (parts_are xs text d)
 valid_front : (arcs : List ℕ) → IsValidArcs arcs → IsValidArcs (take 2 arcs)
 valid_front [] v = v
 valid_front (x ∷ []) v = v
-valid_front (x ∷ y ∷ more) v = record { some = omega arith; first = v.first; second = λ lt two. v.second lt (omega arith) }
+valid_front (x ∷ y ∷ more) v =
+    record { some = omega arith; first = v.first; second = λ lt two. v.second lt (omega arith) }
 
 valid_all : (arcs : List ℕ) → IsValidArcs (take 2 arcs) → IsValidArcs arcs
 valid_all [] v = v
 valid_all (x ∷ []) v = v
-valid_all (x ∷ y ∷ more) v = record { some = omega arith; first = v.first; second = λ lt two. v.second lt (omega arith) }
+valid_all (x ∷ y ∷ more) v =
+    record { some = omega arith; first = v.first; second = λ lt two. v.second lt (omega arith) }
 
-pub all_read : (text : List ℕ) (count : ℕ) (front room initial : List ℕ) → (r : Reads text None count front room initial) → IsValidArcs (take (min count 2) front) → IsDottedText r.done text
+pub all_read : (text : List ℕ) (count : ℕ) (front room initial : List ℕ)
+    → (r : Reads text None count front room initial) → IsValidArcs (take (min count 2) front) → IsDottedText r.done text
 all_read text count front room initial r v = record {
   valid = valid_all r.done (subst IsValidArcs r.firsts v);
   fit = r.fit;
   spelled = dotted_of_split text r.done (r.parts ∙ append-nil (map decimal r.done));
 }
 
-pub none_valid : (text : List ℕ) (count : ℕ) (front room initial : List ℕ) → Reads text None count front room initial → ¬ (IsValidArcs (take (min count 2) front))
+pub none_valid : (text : List ℕ) (count : ℕ) (front room initial : List ℕ) → Reads text None count front room initial
+    → ¬ (IsValidArcs (take (min count 2) front))
     → (arcs : List ℕ) → IsDottedText arcs text → ⊥
 none_valid text count front room initial r wrong arcs d =
-    let same = same_arcs arcs r.done d.fit r.fit (sym (parts_are arcs text d) ∙ r.parts ∙ append-nil (map decimal r.done)) in
+    let same =
+    same_arcs arcs r.done d.fit r.fit (sym (parts_are arcs text d) ∙ r.parts ∙ append-nil (map decimal r.done)) in
     wrong (subst IsValidArcs (sym r.firsts) (valid_front r.done (subst IsValidArcs same d.valid)))
 
-pub part_few : (part here : ℕ) (behind : Option (Bor (List ℕ))) → IfSome behind (λ b. part + 1 + length b.now ≡ here) → IfNone behind (part ≡ here) → part + octets_left behind ≤ here
+pub part_few : (part here : ℕ) (behind : Option (Bor (List ℕ))) → IfSome behind (λ b. part + 1 + length b.now ≡ here)
+    → IfNone behind (part ≡ here) → part + octets_left behind ≤ here
 part_few part here (Some b) some none = omega arith
 part_few part here None some none = omega arith

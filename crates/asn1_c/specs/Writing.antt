@@ -51,7 +51,8 @@ pub record IsUnnamedAt (source : List ℕ) (ss : List Shape) (fs : List Field) (
   pub list : List Bool
   pub before : AreNamed source (take r.field ss) (take r.field fs) list
   pub within : r.field < length ss
-  pub reason : (s : Shape) (f : Field) → slice_get ss r.field ≡ Some s → slice_get fs r.field ≡ Some f → IsUnnamed source s f r
+  pub reason : (s : Shape) (f : Field) → slice_get ss r.field ≡ Some s → slice_get fs r.field ≡ Some f
+      → IsUnnamed source s f r
 
 -- ---- computed: how the steps of the code are stated. No public contract cites these.
 

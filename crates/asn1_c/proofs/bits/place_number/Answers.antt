@@ -8,4 +8,5 @@ pub returns : goal.returns
 returns c =
     c.write_bitslice.ensures.bits
     ∙ ap (λ (l : List Bool). ored (bits c.args.target.now) c.args.position l)
-    (placed (view_of c.in-Some.view) _ c.args.number c.args.width c.requires.few c.in-Some.ensures.some c.to_be_bytes-octets.ensures)
+    (placed (view_of c.in-Some.view) _ c.args.number c.args.width c.requires.few c.in-Some.ensures.some
+    c.to_be_bytes-octets.ensures)

@@ -8,7 +8,9 @@ loop-i-preserved c =
     let inv = c.loop-i.invariant in
     let kept = c.loop-i.auto.fields in
     record {
-      read = next_read c.args.octets.now c.args.position c.loop-i.at c.loop-i.i c.args.shapes.now c.loop-i.fields _ c.in-Ok.field c.loop-i-test.true (omega arith) inv.read c.in-Ok.ensures.read;
+      read =
+          next_read c.args.octets.now c.args.position c.loop-i.at c.loop-i.i c.args.shapes.now c.loop-i.fields _
+          c.in-Ok.field c.loop-i-test.true (omega arith) inv.read c.in-Ok.ensures.read;
       within = c.in-Ok.ensures.end;
       rest = drop-set-lt _ _ _ _ c.loop-i-test.true ∙ inv.rest;
       kept = inv.kept;

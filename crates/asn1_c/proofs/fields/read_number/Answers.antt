@@ -5,10 +5,12 @@ use Rattle.asn1_c.proofs.fields.read_number.Goals as goal
 pub returns-in-Ok-clause-read : goal.returns-in-Ok-clause-read
 returns-in-Ok-clause-read c =
     let read = c.read_wide-number.ensures in
-    number_read c.args.octets.now c.args.at c.args.width c.read_wide-number.result _ c.in-Ok.ensures.bits.0 c.in-Ok.ensures.bits.1 (omega arith)
+    number_read c.args.octets.now c.args.at c.args.width c.read_wide-number.result _ c.in-Ok.ensures.bits.0
+    c.in-Ok.ensures.bits.1 (omega arith)
     c.in-Ok.ensures.enough c.if-width-gt128.false read.below read.digits
 
 pub returns-in-Err-clause-refused : goal.returns-in-Err-clause-refused
 returns-in-Err-clause-refused c =
-    number_short c.args.octets.now c.args.at c.args.width c.in-Err.refusal c.requires.within c.in-Err.ensures.code.0 c.in-Err.ensures.short.0 c.in-Err.ensures.short.1
+    number_short c.args.octets.now c.args.at c.args.width c.in-Err.refusal c.requires.within c.in-Err.ensures.code.0
+    c.in-Err.ensures.short.0 c.in-Err.ensures.short.1
     c.if-width-gt128.false

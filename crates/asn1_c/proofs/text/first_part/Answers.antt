@@ -13,8 +13,10 @@ returns-then-octet-eq-FULL_STOP-clause-parts c =
     let i : ℕ = c.loop-i.i in
     let stop : get_or text i 0 ≡ 46 = c.if-octet-eq-FULL_STOP.true in
     let parts : text ≡ take i text ++ (46 ∷ drop (i + 1) text) =
-    sym (take-append-drop i text) ∙ ap (λ t. take i text ++ t) (drop_more text i 0 c.loop-i-test.true ∙ ap (λ b. b ∷ drop (i + 1) text) stop) in
-    rw take_rest (ap (slice_split (λ b. eqb b 46)) parts ∙ slice_split_at (λ b. eqb b 46) (take i text) 46 (drop (i + 1) text) c.loop-i.invariant refl)
+    sym (take-append-drop i text) ∙ ap (λ t. take i text ++ t)
+    (drop_more text i 0 c.loop-i-test.true ∙ ap (λ b. b ∷ drop (i + 1) text) stop) in
+    rw take_rest (ap (slice_split (λ b. eqb b 46)) parts
+    ∙ slice_split_at (λ b. eqb b 46) (take i text) 46 (drop (i + 1) text) c.loop-i.invariant refl)
 
 pub loop-i-preserved : goal.loop-i-preserved
 loop-i-preserved c =
@@ -22,8 +24,10 @@ loop-i-preserved c =
     let i : ℕ = c.loop-i.i in
     let other : eqb (get_or text i 0) 46 ≡ false = ne_eqb (get_or text i 0) 46 c.if-octet-eq-FULL_STOP.false in
     subst (All (λ b. eqb b 46 ≡ false)) (sym (take_more text i 0 c.loop-i-test.true))
-    (All-append (λ b. eqb b 46 ≡ false) (take i text) (get_or text i 0 ∷ []) c.loop-i.invariant (All-cons (λ b. eqb b 46 ≡ false) (get_or text i 0) [] other (All-nil (λ b. eqb b 46 ≡ false))))
+    (All-append (λ b. eqb b 46 ≡ false) (take i text) (get_or text i 0 ∷ []) c.loop-i.invariant
+    (All-cons (λ b. eqb b 46 ≡ false) (get_or text i 0) [] other (All-nil (λ b. eqb b 46 ≡ false))))
 
 pub returns-clause-parts : goal.returns-clause-parts
 returns-clause-parts c =
-    slice_split_none (λ b. eqb b 46) c.args.text.now (subst (All (λ b. eqb b 46 ≡ false)) (take_all _ _ c.loop-i-test.false) c.loop-i.invariant)
+    slice_split_none (λ b. eqb b 46) c.args.text.now
+    (subst (All (λ b. eqb b 46 ≡ false)) (take_all _ _ c.loop-i-test.false) c.loop-i.invariant)

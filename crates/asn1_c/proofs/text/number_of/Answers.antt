@@ -6,11 +6,13 @@ use Rattle.std.proofs.lemmas.Str.{IsUtf8-from_ascii}
 use Rattle.asn1_c.proofs.text.number_of.Goals as goal
 
 pub returns-in_default-clause-none : goal.returns-in_default-clause-none
-returns-in_default-clause-none c = λ n lt e. c.in_default.ensures.cases.0 (subst IsUtf8 e (IsUtf8-from_ascii _ (IsAscii-decimal n (omega arith))))
+returns-in_default-clause-none c =
+    λ n lt e. c.in_default.ensures.cases.0 (subst IsUtf8 e (IsUtf8-from_ascii _ (IsAscii-decimal n (omega arith))))
 
 pub returns-in_default-parse-clause-none : goal.returns-in_default-parse-clause-none
 returns-in_default-parse-clause-none c = λ n lt e.
-    c.in_default-parse.not-Ok n (parse-decimal 32 n c.in-Ok.text.now c.parse.result lt (omega arith) (c.in-Ok.ensures.cases.0 ∙ sym e) c.parse.ensures.value.0)
+    c.in_default-parse.not-Ok n (parse-decimal 32 n c.in-Ok.text.now c.parse.result lt (omega arith)
+    (c.in-Ok.ensures.cases.0 ∙ sym e) c.parse.ensures.value.0)
 
 pub returns-then-eq-clause-some : goal.returns-then-eq-clause-some
 returns-then-eq-clause-some c =
@@ -21,7 +23,9 @@ returns-then-eq-clause-some c =
 
 pub returns-else-eq-clause-none : goal.returns-else-eq-clause-none
 returns-else-eq-clause-none c = λ n lt e.
-    let read = parse-decimal 32 n c.in-Ok.text.now c.parse.result lt (omega arith) (c.in-Ok.ensures.cases.0 ∙ sym e) c.parse.ensures.value.0 in
+    let read =
+    parse-decimal 32 n c.in-Ok.text.now c.parse.result lt (omega arith) (c.in-Ok.ensures.cases.0 ∙ sym e)
+    c.parse.ensures.value.0 in
     let number : c.in-Ok-parse.number ≡ n = let both = sym c.in-Ok-parse.is ∙ read in cc in
     let same : c.digits.result.now ≡ c.args.part.now = c.digits.ensures ∙ c.of.ensures.digits ∙ ap decimal number ∙ e in
     let differs : c.digits.result.now ≡ c.args.part.now → ⊥ = search (rules, tests) in

@@ -8,7 +8,9 @@ use Rattle.asn1_c.proofs.text.text_length.Goals as goal
 pub loop-arc-init : goal.loop-arc-init
 loop-arc-init c =
     let is : c.digits.result.now ≡ decimal c.args.first = c.digits.ensures ∙ c.of.ensures.digits in
-    let few : length (decimal c.args.first) ≤ 10 = length-decimal-le 10 c.args.first (omega arith) (omega (arith, c.ranges.first)) (omega (arith, c.ranges.first)) in
+    let few : length (decimal c.args.first) ≤ 10 =
+    length-decimal-le 10 c.args.first (omega arith) (omega (arith, c.ranges.first))
+    (omega (arith, c.ranges.first)) in
     record {
       total = ap length (is ∙ sym (append-nil (decimal c.args.first)));
       bounded = omega (arith, ap length is);
@@ -22,10 +24,18 @@ loop-arc-preserved c =
     let fits : arc < 2 ^ 32 = omega (arith, c.type_inv.others c.loop-arc.arc-index) in
     let few : length (decimal arc) ≤ 10 = length-decimal-le 10 arc (omega arith) (omega arith) (omega arith) in
     record {
-      total = omega (arith, inv.total, ap length is, length-dotted_more c.args.first c.args.others.now c.loop-arc.arc-index 0 c.loop-arc-test.true);
+      total =
+          omega (
+            arith,
+            inv.total,
+            ap length is,
+            length-dotted_more c.args.first c.args.others.now c.loop-arc.arc-index
+                0 c.loop-arc-test.true,
+          );
       bounded = omega (arith, inv.bounded, ap length is, few);
     }
 
 pub returns : goal.returns
 returns c =
-    c.loop-arc.invariant.total ∙ ap (λ l. length (dotted_from c.args.first l)) (take_all _ _ c.loop-arc-test.false) ∙ ap length (joined c.args.first c.args.others.now)
+    c.loop-arc.invariant.total ∙ ap (λ l. length (dotted_from c.args.first l)) (take_all _ _ c.loop-arc-test.false)
+    ∙ ap length (joined c.args.first c.args.others.now)

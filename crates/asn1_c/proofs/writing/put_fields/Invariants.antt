@@ -5,7 +5,8 @@ use Rattle.asn1_c.proofs.writing.put_fields.Given as goal
 
 abbrev pub invariant-loop-i : goal.invariant-loop-i
 invariant-loop-i l = record {
-  written : bits l.target ≡ overwritten (bits l.initial.target) l.position (all_named l.source (take l.i l.shapes) (take l.i l.fields));
+  written : bits l.target ≡ overwritten (bits l.initial.target) l.position
+      (all_named l.source (take l.i l.shapes) (take l.i l.fields));
   place : l.at ≡ l.position + length (all_named l.source (take l.i l.shapes) (take l.i l.fields));
   kept : length l.target ≡ length l.initial.target;
 }
