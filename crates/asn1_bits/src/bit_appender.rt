@@ -1,6 +1,6 @@
 //! Digits and octets, written into room that a buffer made at once.
 
-ghost use Rattle.std.specs.Prelude.{◌≡◌, ◌+◌, ◌-◌, ◌*◌, ◌^◌, ◌<◌, ◌≤◌, ◌++◌, length, replicate, false, IsOk, IfOk};
+ghost use Rattle.std.specs.Prelude.{◌≡◌, ◌+◌, ◌-◌, ◌*◌, ◌^◌, ◌<◌, ◌≤◌, ◌++◌, length, IsOk, IfOk};
 ghost use Rattle.std.specs.Int.{div_ceil};
 ghost use Rattle.asn1_bits.specs.Bits.{bits, digits, AddsNoOctet, IsZeroFrom};
 ghost use Rattle.asn1_bits.specs.BitStr.{view_of, bits_of};

@@ -1,6 +1,6 @@
 //! A list of bits that grows.
 
-ghost use Rattle.std.specs.Prelude.{◌≡◌, ℕ, ◌+◌, ◌-◌, ◌*◌, ◌%◌, ◌^◌, ◌<◌, ◌≤◌, [], ◌∷◌, ◌++◌, All, length, take, replicate, slice_set, IfOk, OnOk, OnErr, IsOk, false, vec_len};
+ghost use Rattle.std.specs.Prelude.{◌≡◌, ◌+◌, ◌-◌, ◌*◌, ◌%◌, ◌^◌, ◌<◌, ◌≤◌, [], ◌∷◌, ◌++◌, All, length, take, replicate, slice_set, IfOk, OnOk, OnErr, IsOk, false, vec_len};
 ghost use Rattle.std.specs.Int.{div_ceil};
 ghost use Rattle.asn1_bits.specs.Bits.{bits, digits, octets_for, ored, padded, AddsNoOctet, IsZeroFrom};
 ghost use Rattle.asn1_bits.specs.BitStr.{view_of, bits_of};

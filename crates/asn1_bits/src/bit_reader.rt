@@ -1,8 +1,8 @@
 //! A reader of bits.
 
-ghost use Rattle.std.specs.Prelude.{◌≡◌, ℕ, ◌+◌, ◌-◌, ◌*◌, ◌%◌, ◌^◌, ◌<◌, ◌≤◌, ◌↔◌, length, take, drop, OnOk, OnErr, IfOk, IfErr, IfSome, IsSome, IsErr, IsOk, Some, All, slice_get};
+ghost use Rattle.std.specs.Prelude.{◌≡◌, ◌+◌, ◌-◌, ◌*◌, ◌%◌, ◌^◌, ◌<◌, ◌≤◌, ◌↔◌, length, take, drop, OnOk, OnErr, IfOk, IfErr, IfSome, IsSome, IsErr, IsOk, Some, All, slice_get};
 ghost use Rattle.asn1_bits.specs.Bits.{bits, number, digits};
-ghost use Rattle.asn1_bits.specs.BitStr.{view_of, bits_of};
+ghost use Rattle.asn1_bits.specs.BitStr.{view_of};
 ghost use Rattle.asn1_bits.specs.View.{whole, part, IsAligned};
 ghost use Rattle.asn1_bits.specs.BitReader.{view_left, bits_left};
 ghost use Rattle.asn1_bits.specs.Octets.{octets_in, IsBorrowed};

@@ -1,6 +1,6 @@
 //! Views of bits.
 
-ghost use Rattle.std.specs.Prelude.{◌≡◌, ℕ, ◌+◌, ◌*◌, ◌/◌, ◌^◌, ◌<◌, ◌≤◌, ◌-◌, ◌%◌, ◌↔◌, ◌++◌, length, vec_len, IsNone, IsSome, IsOk, IfSome, OnOk, OnErr, IsTrue, Some, All, take, drop, slice_get};
+ghost use Rattle.std.specs.Prelude.{◌≡◌, ◌+◌, ◌*◌, ◌/◌, ◌^◌, ◌<◌, ◌≤◌, ◌-◌, ◌%◌, ◌↔◌, ◌++◌, length, vec_len, IsNone, IsSome, IsOk, IfSome, OnOk, OnErr, IsTrue, Some, All, take, drop, slice_get};
 ghost use Rattle.asn1_bits.specs.Bits.{bits, digits, number, ored};
 ghost use Rattle.asn1_bits.specs.View.{IsWithin};
 

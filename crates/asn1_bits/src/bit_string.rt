@@ -1,6 +1,6 @@
 //! An owned list of bits.
 
-ghost use Rattle.std.specs.Prelude.{◌≡◌, ℕ, ◌+◌, ◌*◌, ◌^◌, ◌<◌, ◌↔◌, [], ◌++◌, length, take, IsTrue, IsOk, IfOk, OnOk, OnErr, vec_len};
+ghost use Rattle.std.specs.Prelude.{◌≡◌, ◌+◌, ◌*◌, ◌^◌, ◌<◌, ◌↔◌, [], ◌++◌, length, take, IsTrue, IsOk, IfOk, OnOk, OnErr, vec_len};
 ghost use Rattle.asn1_bits.specs.Bits.{bits, octets_for, padded, AddsNoOctet};
 ghost use Rattle.asn1_bits.specs.BitStr.{view_of, bits_of};
 

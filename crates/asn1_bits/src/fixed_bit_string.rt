@@ -1,6 +1,6 @@
 //! A list of bits whose length is known.
 
-ghost use Rattle.std.specs.Prelude.{◌≡◌, ◌≢◌, ℕ, ◌*◌, ◌<◌, ◌↔◌, ◌++◌, length, take, replicate, slice_set, slice_get, false, IfSome, IsSome, IsNone, Some};
+ghost use Rattle.std.specs.Prelude.{◌≡◌, ◌≢◌, ◌*◌, ◌<◌, ◌↔◌, ◌++◌, length, take, replicate, slice_set, slice_get, false, IfSome, IsSome, IsNone, Some};
 ghost use Rattle.asn1_bits.specs.Bits.{bits, IsZeroFrom};
 ghost use Rattle.asn1_bits.specs.BitStr.{view_of, bits_of};
 

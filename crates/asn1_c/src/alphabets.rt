@@ -4,7 +4,7 @@ ghost use Rattle.std.specs.Prelude.{◌≡◌, ◌≢◌, ◌↔◌, ◌<◌, �
 ghost use Rattle.std.specs.Option.{ForSome, option_copied};
 ghost use Rattle.asn1_strings.specs.Alphabet.{Alphabet, effective, IsCode};
 ghost use Rattle.asn1_strings.specs.AlphabetView.{alphabet_of};
-ghost use Rattle.asn1_c.specs.Sets.{set_named, alphabet_named, permitted_set};
+ghost use Rattle.asn1_c.specs.Sets.{set_named, alphabet_named};
 
 use crate::codes::{CHARACTER, CODE, DONE, KIND, SET};
 use crate::strings::set_of_kind;

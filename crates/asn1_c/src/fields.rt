@@ -1,6 +1,6 @@
 //! Fields of the caller's octets, from any bit on.
 
-ghost use Rattle.std.specs.Prelude.{◌≡◌, ◌≢◌, ◌↔◌, ◌+◌, ◌-◌, ◌*◌, ◌/◌, ◌^◌, ◌<◌, ◌≤◌, ◌⊎◌, ℕ, List, Bool, Some, length, take, drop, IfOk, IfErr, OnOk, IsTrue};
+ghost use Rattle.std.specs.Prelude.{◌≡◌, ◌≢◌, ◌↔◌, ◌+◌, ◌-◌, ◌*◌, ◌/◌, ◌^◌, ◌<◌, ◌≤◌, ◌⊎◌, Some, length, take, drop, IfOk, IfErr, OnOk};
 ghost use Rattle.asn1_bits.specs.Bits.{bits, number};
 ghost use Rattle.asn1_values.specs.Fields as plain;
 ghost use Rattle.asn1_c.specs.Fields.{IsSpelledAt, NamesReason, IsReadAt, AreReadAt, IsRefusal, IsRefusedAt, number_of_words, end_of};

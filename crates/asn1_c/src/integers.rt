@@ -1,6 +1,6 @@
 //! Whole numbers as two's complement octets, most significant first: the contents of INTEGER (X.690 8.3).
 
-ghost use Rattle.std.specs.Prelude.{◌≡◌, ◌≢◌, ◌↔◌, ◌⊎◌, ◌<◌, ◌≤◌, ℤ, ℕ, List, length, take, drop, IsTrue};
+ghost use Rattle.std.specs.Prelude.{◌≡◌, ◌≢◌, ◌↔◌, ◌<◌, ◌≤◌, ℤ, ℕ, List, length, take, drop, IsTrue};
 ghost use Rattle.std.specs.Ordering.{int_cmp};
 ghost use Rattle.asn1_number.specs.Octets.{IsShortest, signed};
 ghost use Rattle.asn1_number.specs.Order.{octets_cmp};

@@ -1,6 +1,6 @@
 //! The eight restricted character strings by their octets (X.690 8.21).
 
-ghost use Rattle.std.specs.Prelude.{◌≡◌, ◌≢◌, ◌↔◌, ◌<◌, ◌≤◌, ◌+◌, ◌*◌, ◌/◌, ◌%◌, ℕ, true, false, Some, None, length, slice_index, IfSome, IfNone};
+ghost use Rattle.std.specs.Prelude.{◌≡◌, ◌≢◌, ◌↔◌, ◌<◌, ◌+◌, ◌*◌, ◌/◌, ◌%◌, ℕ, true, false, Some, None, length, slice_index, IfSome, IfNone};
 ghost use Rattle.asn1_characters.specs.Sets.{base_set, has_character};
 ghost use Rattle.asn1_characters.specs.declared.character_set.CharacterSetName.{CharacterSetName};
 ghost use Rattle.asn1_characters.specs.declared.character_set.CharacterSetName.TheVariants.{Bmp};

@@ -1,6 +1,6 @@
 //! Reading a record.
 
-ghost use Rattle.std.specs.Prelude.{◌≡◌, ℕ, ◌+◌, ◌*◌, ◌^◌, ◌<◌, ◌≤◌, ◌↔◌, Bool, List, length, replicate, IfOk, IfErr, IsOkUnless, IsTrue};
+ghost use Rattle.std.specs.Prelude.{◌≡◌, ◌+◌, ◌*◌, ◌^◌, ◌<◌, ◌↔◌, Bool, List, length, replicate, IfOk, IfErr, IsOkUnless, IsTrue};
 ghost use Rattle.asn1_values.specs.Fields as bit_fields;
 ghost use Rattle.asn1_values.specs.Fields.{Begins, OfCharacter};
 ghost use Rattle.asn1_values.specs.Plain.{plain_field, plain_fields, plain_shape, plain_shapes};
