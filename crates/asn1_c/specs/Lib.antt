@@ -1,6 +1,8 @@
-pub mod Arcs
+-- The words of the contracts.
 pub mod Codes
 pub mod Fields
 pub mod Sets
 pub mod Text
 pub mod Writing
+-- How a step of the code is stated; no public contract cites this.
+pub mod Arcs

@@ -1,8 +1,10 @@
+-- The words of the contracts, those of the crate below first.
 pub use Rattle.asn1_number.specs.Octets
 pub use Rattle.asn1_number.specs.Order
 pub use Rattle.asn1_number.specs.Readings
 pub use Rattle.asn1_number.specs.Laws
 pub mod Wrapping
 pub mod Calls
+-- Numbers by their low bits, and the laws of the private trait on them; no public contract cites these.
 pub mod NativeBits
 pub mod NativeLaws
