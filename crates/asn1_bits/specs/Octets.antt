@@ -7,7 +7,7 @@ abbrev pub octets_in : Octets → List ℕ
 octets_in (Borrowed o) = o.now
 octets_in (Owned v) = v.items
 
--- they lie in the storage, and are no copy
+-- they are lent: the octets of some storage, and no vector of their own
 abbrev pub IsBorrowed : Octets → Type 0
 IsBorrowed (Borrowed o) = Unit {0}
 IsBorrowed (Owned v) = ⊥

@@ -27,6 +27,7 @@ impl BitBuffer {
     ghost use Rattle.asn1_bits.specs.BitAppender.{bits_written, room, lender_of, EndsInZeros};
 
     /// Appends `additional` zero bits, by one growth, for the appender to fill. Where memory is wanting, the bits stay.
+    /// The new length fits `usize`.
     pub fn appender(&mut self, additional: usize) -> Result<BitAppender<'_>, AllocError>
         requires { length self.old + additional < 2 ^ 64 }
         // Where memory is wanting, the buffer is as before; else it ends as the appender leaves it.
@@ -59,7 +60,8 @@ impl<'a> BitAppender<'a> {
         self.buffer.len() - self.position
     }
 
-    /// Writes the lowest `width` binary digits of `value`, most significant first.
+    /// Writes the lowest `width` binary digits of `value`, most significant first. `width` is at most 32, and at most
+    /// the room.
     #[inline]
     pub fn push(&mut self, value: u32, width: usize)
         requires width { width ≤ 32 }
@@ -78,7 +80,8 @@ impl<'a> BitAppender<'a> {
             .put_at(position, u64::from(value), width, &mut Turns::new());
     }
 
-    /// Writes the lowest `width` binary digits of `value`, most significant first, 64 bits a turn.
+    /// Writes the lowest `width` binary digits of `value`, most significant first, 64 bits a turn. `width` is at most
+    /// 128, and at most the room.
     #[inline(always)]
     pub fn push_wide(&mut self, value: u128, width: usize, turns: &mut Turns)
         requires width { width ≤ 128 }
@@ -98,7 +101,7 @@ impl<'a> BitAppender<'a> {
         self.buffer.put_wide(position, value, width, turns);
     }
 
-    /// Writes the bits of the octets, 64 bits a turn.
+    /// Writes the bits of the octets, 64 bits a turn. They fit the room.
     pub fn push_octets(&mut self, octets: &[u8], turns: &mut Turns)
         requires { 8 * length octets.now ≤ room self.old }
         ensures lender { lender_of self.new ≡ lender_of self.old }
@@ -113,7 +116,7 @@ impl<'a> BitAppender<'a> {
         self.push_bitslice(BitStr::from_octets(octets), turns);
     }
 
-    /// Writes the bits of the view, 64 bits a turn.
+    /// Writes the bits of the view, 64 bits a turn. They fit the room.
     pub fn push_bitslice(&mut self, src: BitStr<'_>, turns: &mut Turns)
         requires { (view_of src).len ≤ room self.old }
         ensures lender { lender_of self.new ≡ lender_of self.old }

@@ -104,7 +104,7 @@ impl BitBuffer {
         bytes
     }
 
-    /// Makes bit `index` that bit.
+    /// Makes bit `index` that bit. The index is below the length.
     pub fn set(&mut self, index: usize, bit: bool)
         requires { index < length self.old }
         ensures { self.new ≡ slice_set self.old index bit }
@@ -124,7 +124,8 @@ impl BitBuffer {
         self.bytes.reserve(additional)
     }
 
-    /// Appends copies of `bit` up to `new_len` bits. Where memory is wanting, the bits stay.
+    /// Appends copies of `bit` up to `new_len` bits. Where memory is wanting, the bits stay. `new_len` is at least the
+    /// length.
     pub fn resize(&mut self, new_len: usize, bit: bool) -> Result<(), AllocError>
         requires { length self.old ≤ new_len }
         ensures ok { OnOk result
@@ -143,7 +144,7 @@ impl BitBuffer {
         Ok(())
     }
 
-    /// Appends the bit. Where memory is wanting, the bits stay.
+    /// Appends the bit. Where memory is wanting, the bits stay. The new length fits `usize`.
     pub fn push(&mut self, bit: bool) -> Result<(), AllocError>
         requires { length self.old + 1 < 2 ^ 64 }
         ensures ok { OnOk result (self.new ≡ self.old ++ bit ∷ []) }
@@ -158,7 +159,7 @@ impl BitBuffer {
     }
 
     /// Appends the lowest `width` binary digits of `value`, most significant first. Where memory is wanting, the bits
-    /// stay.
+    /// stay. `width` is at most 128, and the new length fits `usize`.
     #[inline]
     pub fn push_bits(&mut self, value: u128, width: usize) -> Result<(), AllocError>
         requires width { width ≤ 128 }
@@ -203,7 +204,7 @@ impl BitBuffer {
         Ok(())
     }
 
-    /// Appends the bits of the octets. Where memory is wanting, the bits stay.
+    /// Appends the bits of the octets. Where memory is wanting, the bits stay. The new length fits `usize`.
     pub fn extend_from_bytes(&mut self, src: &[u8]) -> Result<(), AllocError>
         requires { length self.old + 8 * length src.now < 2 ^ 64 }
         ensures ok { OnOk result (self.new ≡ self.old ++ bits src.now) }
@@ -232,7 +233,7 @@ impl BitBuffer {
         Ok(())
     }
 
-    /// Appends the bits of the view. Where memory is wanting, the bits stay.
+    /// Appends the bits of the view. Where memory is wanting, the bits stay. The new length fits `usize`.
     pub fn extend_from_bitslice(&mut self, src: BitStr<'_>) -> Result<(), AllocError>
         requires { length self.old + (view_of src).len < 2 ^ 64 }
         ensures ok { OnOk result (self.new ≡ self.old ++ bits_of src.entry) }
@@ -247,7 +248,7 @@ impl BitBuffer {
         Ok(())
     }
 
-    /// Appends the bits of the other buffer. Where memory is wanting, the bits stay.
+    /// Appends the bits of the other buffer. Where memory is wanting, the bits stay. The new length fits `usize`.
     pub fn extend_from_buffer(&mut self, src: &BitBuffer) -> Result<(), AllocError>
         requires { length self.old + length src.now < 2 ^ 64 }
         ensures ok { OnOk result (self.new ≡ self.old ++ src.now) }

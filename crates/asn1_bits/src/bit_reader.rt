@@ -25,7 +25,7 @@ impl<'a> BitReader<'a> {
         BitReader { view }
     }
 
-    /// A reader over all bits of the octets.
+    /// A reader over all bits of the octets. How many they are fits `usize`.
     pub fn from_octets(octets: &'a [u8]) -> BitReader<'a>
         requires { 8 * length octets.now < 2 ^ 64 }
         ensures view { view_left result ≡ whole octets.now }
@@ -62,7 +62,8 @@ impl<'a> BitReader<'a> {
         self.view.aligned()
     }
 
-    /// The octets that are left, copied only where they do not lie on octet boundaries of the storage.
+    /// The octets that are left, copied only where they do not lie on octet boundaries of the storage. What is left is
+    /// whole octets. Refused for want of memory alone.
     pub fn octets(&self, alloc: Global) -> Result<Octets<'a>, AllocError>
         requires { (view_left self.now).len % 8 ≡ 0 }
         ensures bits { IfOk result (λ o. bits (octets_in o) ≡ bits_left self.now) }
@@ -105,7 +106,7 @@ impl<'a> BitReader<'a> {
         Ok(BitReader { view: front })
     }
 
-    /// The first bit.
+    /// The first bit. There is one.
     pub fn first_bit(&self) -> bool
         requires { 0 < (view_left self.now).len }
         ensures { slice_get (bits_left self.now) 0 ≡ Some result }
@@ -113,7 +114,8 @@ impl<'a> BitReader<'a> {
         self.view.get(0)
     }
 
-    /// The number of the first `width` bits, the first of them its highest digit.
+    /// The number of the first `width` bits, the first of them its highest digit. `width` is at most 32, and at most
+    /// the length.
     #[inline(always)]
     pub fn first_bits(&self, width: usize) -> u32
         requires width { width ≤ 32 }
@@ -126,7 +128,8 @@ impl<'a> BitReader<'a> {
         number as u32
     }
 
-    /// The number of the first `width` bits, the first of them its highest digit.
+    /// The number of the first `width` bits, the first of them its highest digit. `width` is at most 128, and at most
+    /// the length.
     #[inline(always)]
     pub fn first_u128(&self, width: usize) -> u128
         requires width { width ≤ 128 }

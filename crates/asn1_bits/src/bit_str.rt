@@ -49,7 +49,7 @@ impl<'a> BitStr<'a> {
         })
     }
 
-    /// All bits of the octets.
+    /// All bits of the octets. How many they are fits `usize`.
     pub fn from_octets(octets: &'a [u8]) -> BitStr<'a>
         requires { 8 * length octets.now < 2 ^ 64 }
         ensures view { view_of result ≡ whole octets.now }
@@ -81,7 +81,7 @@ impl<'a> BitStr<'a> {
         self.shift
     }
 
-    /// Bit `i`.
+    /// Bit `i`. `i` is below the length.
     pub fn get(&self, i: usize) -> bool
         requires { i < (view_of self.now).len }
         ensures { slice_get (bits_of self.now) i ≡ Some result }
@@ -89,7 +89,7 @@ impl<'a> BitStr<'a> {
         bit_from(self.storage, self.octet, self.shift, i)
     }
 
-    /// `len` bits of it, from bit `from` on.
+    /// `len` bits of it, from bit `from` on. They lie in it.
     #[inline(always)]
     pub fn slice(&self, from: usize, len: usize) -> BitStr<'a>
         requires { from + len ≤ (view_of self.now).len }
@@ -105,7 +105,7 @@ impl<'a> BitStr<'a> {
         }
     }
 
-    /// The first `at` bits, and the others.
+    /// The first `at` bits, and the others. `at` is at most the length.
     #[inline(always)]
     pub fn split_at(&self, at: usize) -> (BitStr<'a>, BitStr<'a>)
         requires { at ≤ (view_of self.now).len }

@@ -36,7 +36,7 @@ impl BitString {
         }
     }
 
-    /// All bits of the octets.
+    /// All bits of the octets. How many they are fits `usize`.
     pub fn from_vec(octets: Vec<u8>) -> BitString
         requires { 8 * vec_len octets < 2 ^ 64 }
         ensures { result ≡ bits octets.items }
@@ -106,7 +106,7 @@ impl BitString {
     }
 }
 
-/// Appends the bits of the view. Where memory is wanting, the bits stay.
+/// Appends the bits of the view. Where memory is wanting, the bits stay. The new length fits `usize`.
 pub fn extend_bitstring(dst: &mut BitString, src: BitStr<'_>) -> Result<(), AllocError>
     requires { length dst.old + (view_of src).len < 2 ^ 64 }
     ensures ok { OnOk result (dst.new ≡ dst.old ++ bits_of src.entry) }
@@ -118,7 +118,7 @@ pub fn extend_bitstring(dst: &mut BitString, src: BitStr<'_>) -> Result<(), Allo
     dst.buffer.extend_from_bitslice(src)
 }
 
-/// A copy of the view.
+/// A copy of the view. Refused for want of memory alone.
 pub fn to_bitstring(alloc: Global, src: BitStr<'_>) -> Result<BitString, AllocError>
     ensures list { IfOk result (λ s. s ≡ bits_of src.entry) }
     ensures len { IfOk result (λ s. length s ≡ (view_of src.entry).len) }

@@ -48,7 +48,7 @@ impl<const N: usize> FixedBitString<N> {
         Some(FixedBitString::of_view(src))
     }
 
-    /// Bit `i`.
+    /// Bit `i`. `i` is below `N`.
     pub fn get(&self, i: usize) -> bool
         requires { i < N }
         ensures { slice_get (fixed_bits N self.now) i ≡ Some result }
@@ -56,7 +56,7 @@ impl<const N: usize> FixedBitString<N> {
         bit_from(&self.octets, 0, 0, i)
     }
 
-    /// Makes bit `i` that bit.
+    /// Makes bit `i` that bit. `i` is below `N`.
     pub fn set(&mut self, i: usize, bit: bool)
         requires { i < N }
         ensures { fixed_bits N self.new ≡ slice_set (fixed_bits N self.old) i bit }

@@ -13,7 +13,8 @@ use crate::turns::Turns;
 use crate::window::{load, or_word, whole_word, wide_of_seventeen, word_of_nine};
 use std::alloc::AllocError;
 
-/// ORs the first `count` bits of `src` into `dst` from bit `position` on, and leaves every other bit.
+/// ORs the first `count` bits of `src` into `dst` from bit `position` on, and leaves every other bit. Both lie within
+/// their octets, and end at a bit that `usize` counts.
 pub fn or_bits(dst: &mut [u8], position: usize, src: &[u8], count: usize, turns: &mut Turns)
     requires source { count ≤ 8 * length src.now }
     requires room { position + count ≤ 8 * length dst.old }
@@ -25,7 +26,8 @@ pub fn or_bits(dst: &mut [u8], position: usize, src: &[u8], count: usize, turns:
     write_bitslice(dst, position, BitStr::front_of(src, count), turns);
 }
 
-/// ORs the view into `dst` from bit `position` on, and leaves every other bit.
+/// ORs the view into `dst` from bit `position` on, and leaves every other bit. It ends within `dst`, at a bit that
+/// `usize` counts.
 #[inline(always)]
 pub fn write_bitslice(dst: &mut [u8], position: usize, src: BitStr<'_>, turns: &mut Turns)
     requires room { position + (view_of src).len ≤ 8 * length dst.old }
@@ -73,7 +75,8 @@ fn write_long(dst: &mut [u8], position: usize, src: BitStr<'_>, turns: &mut Turn
     }
 }
 
-/// The number of the `width` bits from bit `position` on, the first of them its highest digit.
+/// The number of the `width` bits from bit `position` on, the first of them its highest digit. `width` is at most 128,
+/// and the bits lie within the octets.
 #[inline(always)]
 pub fn read_wide(bytes: &[u8], position: usize, width: usize) -> u128
     requires width { width ≤ 128 }
@@ -144,7 +147,8 @@ fn read_octets(octets: &[u8], shift: usize, width: usize) -> u64
     value >> excess
 }
 
-/// The number of the `width` bits from bit `position` on, the first of them its highest digit.
+/// The number of the `width` bits from bit `position` on, the first of them its highest digit. `width` is at most 32,
+/// and the bits lie within the octets.
 pub fn read_bits(bytes: &[u8], position: usize, width: usize) -> u32
     requires width { width ≤ 32 }
     requires within { position + width ≤ 8 * length bytes.now }
@@ -155,7 +159,7 @@ pub fn read_bits(bytes: &[u8], position: usize, width: usize) -> u32
     read_wide(bytes, position, width) as u32
 }
 
-/// The number of the view's bits, the first of them its highest digit.
+/// The number of the view's bits, the first of them its highest digit. The view has at most 128 bits.
 pub fn read_u128(src: BitStr<'_>) -> u128
     requires { (view_of src).len ≤ 128 }
     ensures number { result ≡ number (bits_of src.entry) }
@@ -165,7 +169,7 @@ pub fn read_u128(src: BitStr<'_>) -> u128
     src.first_u128(src.len())
 }
 
-/// The greatest number of `n` bits.
+/// The greatest number of `n` bits. `n` is at most 126.
 pub fn range_from_len(n: u32) -> i128
     requires { n ≤ 126 }
     ensures { result ≡ pos (2 ^ n - 1) }
@@ -183,7 +187,8 @@ pub fn aligned_octets(src: BitStr<'_>) -> Option<&[u8]>
     src.aligned()
 }
 
-/// Appends the octets of the view to the vector. Where memory is wanting, the vector is as before.
+/// Appends the octets of the view to the vector. Where memory is wanting, the vector is as before. The view is whole
+/// octets.
 pub fn extend_vec_from_bitslice(dst: &mut Vec<u8>, src: BitStr<'_>) -> Result<(), AllocError>
     requires { (view_of src).len % 8 ≡ 0 }
     ensures ok { OnOk result (bits dst.new.items ≡ bits dst.old.items ++ bits_of src.entry) }

@@ -35,7 +35,8 @@ pub trait Places {
         ensures turn { turns.new.count ≡ turns.old.count + 1 };
 }
 
-/// ORs the view into the target from bit `position` on: a turn for each word of 64 bits, and one for the tail.
+/// ORs the view into the target from bit `position` on: a turn for each word of 64 bits, and one for the tail. It ends
+/// within the target, at a bit that `usize` counts.
 pub fn place_bits<D: Places>(target: &mut D, position: usize, src: BitStr<'_>, turns: &mut Turns)
     requires fits { position + (view_of src).len < 2 ^ 64 }
     requires within { position + (view_of src).len ≤ length (D.list target.old) }

@@ -1,5 +1,5 @@
--- The shortest two's complement octets of a number, computed. That they are the shortest is the
--- law `EachNumberHasOneShortestList`.
+-- The shortest two's complement octets of a number, computed. That they are the shortest is the law
+-- `ComputedAreShortest`.
 use Rattle.std.specs.Prelude.{ℕ, suc, ◌-◌, ◌*◌, ◌^◌, ℤ, pos, negsuc, List, nat_le}
 use Rattle.std.specs.Int.{bytes_high_first}
 use Rattle.std.specs.List.{prefix_len, range_with_len}

@@ -67,7 +67,7 @@ impl ObjectIdentifier {
         ObjectIdentifier { arcs }
     }
 
-    /// A copy that owns its arcs.
+    /// A copy that owns its arcs. Refused for want of memory alone.
     pub fn from_oid(alloc: Global, oid: Oid<'_>) -> Result<ObjectIdentifier, AllocError>
         ensures { IfOk result (λ copy. copy ≡ arcs_of oid.entry) }
     {
@@ -134,7 +134,8 @@ impl ObjectIdentifier {
         self.as_ref() == arcs
     }
 
-    /// The same identifier. Arcs that are borrowed for good stay borrowed; others are copied.
+    /// The same identifier. Arcs that are borrowed for good stay borrowed; others are copied. Refused for want of
+    /// memory alone.
     pub fn clone(&self) -> Result<ObjectIdentifier, AllocError>
         ensures { IfOk result (λ copy. copy ≡ self.now) }
     {

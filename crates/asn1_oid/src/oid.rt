@@ -58,7 +58,7 @@ impl<'a> Oid<'a> {
         self.arcs
     }
 
-    /// A copy that owns its arcs.
+    /// A copy that owns its arcs. Refused for want of memory alone.
     pub fn to_owned(&self, alloc: Global) -> Result<ObjectIdentifier, AllocError>
         ensures { IfOk result (λ copy. copy ≡ arcs_of self.now) }
     {

@@ -51,8 +51,7 @@ string_of_keys name get keys =
     option_map_or (λ k. Err (key_error name k (get k))) (find (is_wrong_key name get) keys)
     (Ok (filter_map get keys))
 
--- the string of bits in a map: its pieces, of the least width of so many entries, are keys where
--- the largest character
+-- the string of bits in a map: its pieces, of the least width of so many entries, are keys where the largest character
 -- does not fit that width, and else characters
 abbrev pub string_of_map : CharacterSetName → KeyMap → List Bool → Reading
 string_of_map name m bits =

@@ -25,7 +25,7 @@ character_octets Printable = 1
 character_octets Teletex = 1
 character_octets Visible = 1
 
--- the first of the characters that a set lacks, as the law `first_outside_is_first` says
+-- the first of the characters that a set lacks
 abbrev pub first_outside : List ℕ → List ℕ → Option ℕ
 first_outside set cs = find (λ c. not (has_character set c)) cs
 

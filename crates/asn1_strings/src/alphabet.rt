@@ -18,8 +18,8 @@ use asn1_characters::{
     CharacterSetName, CharacterWords, InvalidRestrictedString, PermittedAlphabetError,
 };
 
-/// Whether characters of a set are written by their places in `width` bits, since its largest
-/// character does not fit them. The largest of no characters is 0.
+/// Whether characters of a set are written by their places in `width` bits, since its largest character does not fit
+/// them. The largest of no characters is 0. `width` is at most 31.
 pub fn should_be_indexed(width: u32, set: &[u32]) -> bool
     requires { width ≤ 31 }
     ensures { result ≡ is_indexed width set.now }
@@ -53,9 +53,9 @@ pub struct CharacterAlphabet<'s> {
 impl<'s> CharacterAlphabet<'s> {
     ghost use Rattle.asn1_strings.specs.AlphabetView.{alphabet_of};
 
-    /// The alphabet of the string `S` with a permitted set, which is kept where the string is
-    /// written by places or needs more bits than the set does. Else the base set alone counts. A
-    /// kept set may hold characters that the base set lacks.
+    /// The alphabet of the string `S` with a permitted set, which is kept where the string is written by places or
+    /// needs more bits than the set does. Else the base set alone counts. A kept set may hold characters that the base
+    /// set lacks. The permitted set has at most 2^32 characters.
     #[inline]
     pub fn new<S: StaticPermittedAlphabet>(
         permitted: Option<&'s [u32]>,

@@ -7,7 +7,7 @@ use Rattle.asn1_oid.specs.Contents.{IsContents, FitU32}
 use Rattle.asn1_strings.specs.Alphabet.{Alphabet, IsCode}
 use Rattle.asn1_values.specs.Joined.{AreJoined}
 
--- a field without where it lies in memory
+-- what a field says, whatever storage holds it
 pub data Field : Type 0 where
   Number : ℕ → ℕ → Field
   Octets : List ℕ → Field

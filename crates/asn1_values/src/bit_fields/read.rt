@@ -29,7 +29,7 @@ use asn1_strings::CharacterAlphabet;
 use std::alloc::{AllocError, Global};
 
 /// Reads fields of the shapes from the front of the reader, which moves past them. The whole list is examined first;
-/// where it is refused, the reader stays.
+/// where it is refused, the reader stays. Want of memory is the last refusal.
 pub fn read_fields<'a, 's>(
     alloc: Global,
     reader: &mut BitReader<'a>,

@@ -27,7 +27,7 @@ pub enum Shape<'s> {
     Oid { octets: usize },
 }
 
-/// The shape of the field.
+/// The shape of the field. The length of an identifier's contents fits `usize`.
 pub fn shape_of<'s>(field: &Field<'_, 's>) -> Shape<'s>
     // The octets of an identifier's contents are so few that their number fits `usize`.
     requires { HasShape (plain_field field.now) }

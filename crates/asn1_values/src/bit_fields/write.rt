@@ -21,7 +21,7 @@ use asn1_integer::Integer;
 use asn1_oid::{ObjectIdentifier, OidContents};
 
 /// Appends the fields' bits to the buffer, one after another, by one growth. The whole list is examined first; where it
-/// is refused, the buffer stays.
+/// is refused, the buffer stays. Want of memory is the last refusal.
 pub fn write_fields(buffer: &mut BitBuffer, fields: &[Field<'_, '_>]) -> Result<(), WriteError>
     // The old bits are followed by a concatenation of the fields' spellings.
     ensures written { OnOk result ((list : List Bool) × AreSpelledBy (plain_fields fields.now) list
