@@ -231,7 +231,7 @@ impl CharacterSetName {
         }
     }
 
-    // The character at a place, by the ranges one after another.
+    /// The character at a place, by the ranges one after another.
     #[inline(never)]
     fn character_in_ranges(self, place: u32) -> Option<u32>
         ensures { result ≡ slice_get (base_set self) place }
@@ -247,7 +247,7 @@ impl CharacterSetName {
         None
     }
 
-    // The place of a character, by the ranges one after another.
+    /// The place of a character, by the ranges one after another.
     #[inline(never)]
     fn place_in_ranges(self, character: u32) -> Option<u32>
         ensures { MatchOption result (has_character (base_set self) character ≡ false)

@@ -171,7 +171,7 @@ impl<'s> CharacterAlphabet<'s> {
         }
     }
 
-    // The permitted set, where it is kept.
+    /// The permitted set, where it is kept.
     #[inline]
     fn permitted(&self) -> Option<&'s [u32]>
         ensures { result ≡ some_if self.now.kept self.now.set }
@@ -179,7 +179,7 @@ impl<'s> CharacterAlphabet<'s> {
         if self.kept { Some(self.set) } else { None }
     }
 
-    // The error for a character that the set lacks.
+    /// The error for a character that the set lacks.
     #[cold]
     #[inline(never)]
     fn missing(&self, character: u32) -> PermittedAlphabetError
@@ -193,8 +193,8 @@ impl<'s> CharacterAlphabet<'s> {
         }
     }
 
-    // Whether the set has the character: by its ends where it leaves no gap, by its words where it has
-    // any.
+    /// Whether the set has the character: by its ends where it leaves no gap, by its words where it has
+    /// any.
     #[inline]
     fn contains(&self, character: u32, probes: &mut Turns) -> bool
         ensures value { result ≡ has_character (alphabet_of self.now).characters character }
@@ -211,7 +211,7 @@ impl<'s> CharacterAlphabet<'s> {
         self.contains_by_looks(character, probes)
     }
 
-    // Whether the set has the character: by looks at a permitted set, else by the base set's range.
+    /// Whether the set has the character: by looks at a permitted set, else by the base set's range.
     #[inline(never)]
     fn contains_by_looks(&self, character: u32, probes: &mut Turns) -> bool
         ensures value { result ≡ has_character (alphabet_of self.now).characters character }
@@ -226,7 +226,7 @@ impl<'s> CharacterAlphabet<'s> {
         }
     }
 
-    // A place of the character.
+    /// A place of the character.
     #[inline]
     fn place_of(&self, character: u32, probes: &mut Turns) -> Option<u32>
         requires { self.now.indexed ≡ true }
@@ -245,7 +245,7 @@ impl<'s> CharacterAlphabet<'s> {
         }
     }
 
-    // The character at a place.
+    /// The character at a place.
     #[inline]
     fn character_at(&self, place: u32) -> Option<u32>
         ensures { result ≡ slice_get (alphabet_of self.now).characters place }
@@ -258,7 +258,7 @@ impl<'s> CharacterAlphabet<'s> {
     }
 }
 
-// A place of the character in a run: how far it is from the first, which is one probe.
+/// A place of the character in a run: how far it is from the first, which is one probe.
 #[inline]
 fn place_in_run(set: &[u32], character: u32, probes: &mut Turns) -> Option<u32>
     requires few { length set.now ≤ 2 ^ 32 }
@@ -279,7 +279,7 @@ fn place_in_run(set: &[u32], character: u32, probes: &mut Turns) -> Option<u32>
     }
 }
 
-// A place of the character, by halves where the set is long and ascending.
+/// A place of the character, by halves where the set is long and ascending.
 #[inline]
 fn place_among(
     set: &[u32],
@@ -307,7 +307,7 @@ fn place_among(
     }
 }
 
-// A place of the character: by halves where the list is long and ascending, else one by one.
+/// A place of the character: by halves where the list is long and ascending, else one by one.
 #[inline(never)]
 fn place_by_looks(set: &[u32], ascending: bool, character: u32, probes: &mut Turns) -> Option<u32>
     requires few { length set.now ≤ 2 ^ 32 }
@@ -329,7 +329,7 @@ fn place_by_looks(set: &[u32], ascending: bool, character: u32, probes: &mut Tur
     }
 }
 
-// The permitted set, where it is kept.
+/// The permitted set, where it is kept.
 #[inline]
 fn kept_set<'s>(
     name: CharacterSetName,
@@ -349,7 +349,7 @@ fn kept_set<'s>(
     }
 }
 
-// How many characters the set that counts has.
+/// How many characters the set that counts has.
 #[inline]
 fn count_of(name: CharacterSetName, kept: Option<&[u32]>) -> u64
     ensures { result ≡ length (set_of name kept.entry) }
@@ -360,7 +360,7 @@ fn count_of(name: CharacterSetName, kept: Option<&[u32]>) -> u64
     }
 }
 
-// The largest character of the set that counts.
+/// The largest character of the set that counts.
 #[inline]
 fn largest_in(name: CharacterSetName, kept: Option<&[u32]>, run: bool) -> u32
     requires { run ≡ true → IsRun (set_of name kept) }
@@ -373,7 +373,7 @@ fn largest_in(name: CharacterSetName, kept: Option<&[u32]>, run: bool) -> u32
     }
 }
 
-// Whether a permitted set that was kept is ascending.
+/// Whether a permitted set that was kept is ascending.
 #[inline]
 fn ascends_in(name: CharacterSetName, kept: Option<&[u32]>, run: bool) -> bool
     requires { run ≡ true → IsRun (set_of name kept) }
@@ -387,7 +387,7 @@ fn ascends_in(name: CharacterSetName, kept: Option<&[u32]>, run: bool) -> bool
     }
 }
 
-// The words of the set that counts, where its characters are below 256.
+/// The words of the set that counts, where its characters are below 256.
 #[inline]
 fn words_of(
     name: CharacterSetName,
@@ -418,7 +418,7 @@ struct Listing<'s> {
     set: &'s [u32],
 }
 
-// How the set that counts lies in memory.
+/// How the set that counts lies in memory.
 #[inline]
 fn listing_of<'s>(name: CharacterSetName, kept: Option<&'s [u32]>) -> Listing<'s>
     ensures kept { some_if result.kept result.set ≡ kept.entry }
@@ -451,7 +451,7 @@ fn listing_of<'s>(name: CharacterSetName, kept: Option<&'s [u32]>) -> Listing<'s
     }
 }
 
-// Whether a base set with a table is known to leave no gap.
+/// Whether a base set with a table is known to leave no gap.
 #[inline]
 fn leaves_no_gap(name: CharacterSetName) -> bool
     ensures { result ≡ true → IsRun (base_set name) }
@@ -463,7 +463,7 @@ fn leaves_no_gap(name: CharacterSetName) -> bool
     }
 }
 
-// Whether there are words, and the words, or those of no character.
+/// Whether there are words, and the words, or those of no character.
 #[inline]
 fn parts_of_words(words: Option<CharacterWords>) -> (bool, CharacterWords)
     ensures { some_if result.0 result.1 ≡ words }

@@ -20,7 +20,7 @@ impl<'a, T: CodeUnit> Model for Chars<'a, T> {
 impl<'a, T: CodeUnit> Chars<'a, T> {
     ghost use Rattle.std.specs.Prelude.{◌≡◌};
 
-    // The characters of these units.
+    /// The characters of these units.
     pub(crate) fn of(units: &'a [T]) -> Chars<'a, T>
         ensures { result ≡ map T.value units.now }
     {

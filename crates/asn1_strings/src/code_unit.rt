@@ -146,7 +146,7 @@ impl CodeUnit for u16 {
     ghost few_octets = { lit≤ tt };
 }
 
-// Puts the number of each pair of octets in its unit.
+/// Puts the number of each pair of octets in its unit.
 fn put_pairs(units: &mut [u16], pairs: &[[u8; 2]])
     requires { length units.old ≡ length pairs.now }
     ensures { units.new ≡ map (from_be_bytes w16) pairs.now }

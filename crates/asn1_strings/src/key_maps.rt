@@ -86,7 +86,7 @@ impl<'a, M: Keys> Characters for KeyedPieces<'a, M> {
     }
 }
 
-// The string of the characters at these keys.
+/// The string of the characters at these keys.
 fn string_at_keys<'a, S: StaticPermittedAlphabet, M: Keys>(
     alloc: Global,
     keys: BitPieces<'a>,
@@ -112,7 +112,7 @@ fn string_at_keys<'a, S: StaticPermittedAlphabet, M: Keys>(
     string_of::<S, KeyedPieces<'_, M>>(alloc, &KeyedPieces { keys, map })
 }
 
-// The string of bits in a map: by keys where its largest character needs more bits than a key has.
+/// The string of bits in a map: by keys where its largest character needs more bits than a key has.
 pub(crate) fn string_of_bits_in<'a, S: StaticPermittedAlphabet, M: Keys>(
     alloc: Global,
     input: BitStr<'a>,

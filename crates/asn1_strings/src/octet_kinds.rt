@@ -54,7 +54,7 @@ impl<K: Iso646> RestrictedString<K> {
         self.as_slice()
     }
 
-    // The characters as a text.
+    /// The characters as a text.
     fn as_text(&self) -> &str
         ensures { result.now ≡ self.now }
     {

@@ -4,7 +4,7 @@ ghost use Rattle.std.specs.List.Sorted.{IsNonDecreasing};
 ghost use Rattle.asn1_characters.specs.Sets.{has_character, largest};
 ghost use Rattle.asn1_strings.specs.AlphabetInMemory.{IsRun};
 
-// The largest character, or 0.
+/// The largest character, or 0.
 pub(crate) fn largest_of(set: &[u32]) -> u32
     ensures { result ≡ largest set.now }
 {
@@ -15,7 +15,7 @@ pub(crate) fn largest_of(set: &[u32]) -> u32
     most
 }
 
-// The largest character of a list without a gap, or 0: its last.
+/// The largest character of a list without a gap, or 0: its last.
 #[inline]
 pub(crate) fn largest_of_run(set: &[u32]) -> u32
     requires { IsRun set.now }
@@ -28,7 +28,7 @@ pub(crate) fn largest_of_run(set: &[u32]) -> u32
     }
 }
 
-// A place of the character.
+/// A place of the character.
 pub(crate) fn place_in(set: &[u32], character: u32) -> Option<u32>
     requires { length set.now ≤ 2 ^ 32 }
     ensures { MatchOption result (has_character set.now character ≡ false)
@@ -42,7 +42,7 @@ pub(crate) fn place_in(set: &[u32], character: u32) -> Option<u32>
     None
 }
 
-// Whether the list has a character twice. An ascending one is walked once.
+/// Whether the list has a character twice. An ascending one is walked once.
 pub(crate) fn repeats_in(set: &[u32], ascending: bool) -> bool
     requires { ascending ≡ true → IsNonDecreasing set.now }
     ensures { MatchBool result (¬ (AllPairs (λ a b. a ≢ b) set.now))
@@ -60,7 +60,7 @@ pub(crate) fn repeats_in(set: &[u32], ascending: bool) -> bool
     false
 }
 
-// Whether an ascending list has a character twice: then two neighbours are equal.
+/// Whether an ascending list has a character twice: then two neighbours are equal.
 fn repeats_in_ascending(set: &[u32]) -> bool
     requires { IsNonDecreasing set.now }
     ensures { MatchBool result (¬ (AllPairs (λ a b. a ≢ b) set.now))
@@ -74,7 +74,7 @@ fn repeats_in_ascending(set: &[u32]) -> bool
     false
 }
 
-// Whether the list is ascending: no entry is below the one before it.
+/// Whether the list is ascending: no entry is below the one before it.
 pub(crate) fn is_ascending(set: &[u32]) -> bool
     ensures ascends { result ≡ true → IsNonDecreasing set.now }
     ensures not_ascending { result ≡ false → ¬ (IsNonDecreasing set.now) }
@@ -87,8 +87,8 @@ pub(crate) fn is_ascending(set: &[u32]) -> bool
     true
 }
 
-// Whether the characters follow one another without a gap. None of them ends the test, so that many
-// are tested at once.
+/// Whether the characters follow one another without a gap. None of them ends the test, so that many
+/// are tested at once.
 pub(crate) fn is_run(set: &[u32]) -> bool
     ensures { result ≡ true → IsRun set.now }
 {

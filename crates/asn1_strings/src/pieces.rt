@@ -63,7 +63,7 @@ impl<'a> Characters for BitPieces<'a> {
     }
 }
 
-// The piece at a place.
+/// The piece at a place.
 fn piece_of(octets: &[u8], width: usize, i: usize) -> &[u8]
     requires { i < length octets.now / width }
     ensures { result.now ≡ piece width octets.now i }
@@ -74,7 +74,7 @@ fn piece_of(octets: &[u8], width: usize, i: usize) -> &[u8]
     &rest[..width]
 }
 
-// The number of at most four octets.
+/// The number of at most four octets.
 fn unsigned_of(octets: &[u8]) -> u32
     requires { length octets.now ≤ 4 }
     ensures { result ≡ unsigned octets.now }

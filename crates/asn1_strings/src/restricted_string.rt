@@ -130,7 +130,7 @@ impl<K: StringKind> RestrictedString<K> {
         self.units
     }
 
-    // Where its memory comes from.
+    /// Where its memory comes from.
     pub(crate) fn allocator(&self) -> Global {
         *self.units.allocator()
     }

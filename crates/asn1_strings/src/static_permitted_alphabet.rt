@@ -256,7 +256,7 @@ pub trait StaticPermittedAlphabet: Sized + Drop {
     ghost octets: { Self.T.OCTETS ≡ character_octets CHARACTER_SET_NAME };
 }
 
-// The string of these characters: they are examined first, then memory is asked for.
+/// The string of these characters: they are examined first, then memory is asked for.
 pub(crate) fn string_of<S: StaticPermittedAlphabet, C: Characters>(
     alloc: Global,
     source: &C,
@@ -276,7 +276,7 @@ pub(crate) fn string_of<S: StaticPermittedAlphabet, C: Characters>(
     copied::<S, C>(alloc, source)
 }
 
-// The string of characters that its set has.
+/// The string of characters that its set has.
 fn copied<S: StaticPermittedAlphabet, C: Characters>(
     alloc: Global,
     source: &C,
@@ -296,7 +296,7 @@ fn copied<S: StaticPermittedAlphabet, C: Characters>(
     Ok(string)
 }
 
-// The string of octets whose characters its set has: all at once.
+/// The string of octets whose characters its set has: all at once.
 fn copied_octets<S: StaticPermittedAlphabet>(
     alloc: Global,
     octets: &[u8],

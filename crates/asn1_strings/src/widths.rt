@@ -2,7 +2,7 @@
 ghost use Rattle.std.specs.Prelude.{◌≡◌, ◌≤◌, ◌^◌};
 ghost use Rattle.asn1_characters.specs.Widths.{IsLeastWidth, ceil_log2, align, width_for};
 
-// The least width in which so many things have codes of their own.
+/// The least width in which so many things have codes of their own.
 #[inline]
 pub(crate) fn ceil_log2(count: u64) -> u32
     requires { count ≤ 2 ^ 32 }
@@ -16,7 +16,7 @@ pub(crate) fn ceil_log2(count: u64) -> u32
     64 - (count - 1).leading_zeros()
 }
 
-// How many codes a width has.
+/// How many codes a width has.
 #[inline]
 pub(crate) fn codes_of(width: u32) -> u64
     requires { width ≤ 32 }
@@ -25,7 +25,7 @@ pub(crate) fn codes_of(width: u32) -> u64
     1 << width
 }
 
-// A width, in the aligned variant the least power of two that is not below it.
+/// A width, in the aligned variant the least power of two that is not below it.
 #[inline]
 pub(crate) fn align(aligned: bool, width: u32) -> u32
     requires { width ≤ 32 }
@@ -40,7 +40,7 @@ pub(crate) fn align(aligned: bool, width: u32) -> u32
     }
 }
 
-// The width of so many characters.
+/// The width of so many characters.
 #[inline]
 pub(crate) fn width_for(aligned: bool, count: u64) -> u32
     requires { count ≤ 2 ^ 32 }

@@ -7,10 +7,15 @@ use std::alloc::AllocError;
 pub enum Part {
     /// The bit that says whether there are children.
     Presence,
+    /// The name of the person.
     Name,
+    /// The employee's number.
     Number,
+    /// The title.
     Title,
+    /// The date of hire.
     DateOfHire,
+    /// The name of the spouse.
     NameOfSpouse,
     /// How many children there are: 1 to 127, where the record says that there are any.
     ChildCount,
