@@ -339,6 +339,15 @@ fn worked_readings(rt: HostRuntime) -> Result<(), Fail> {
         u128::try_from_unsigned_bytes(alloc, &[0xFF; 16]),
         Ok(u128::MAX)
     );
+    let mut octets = [0xFF; 17];
+    octets[0] = 0x00;
+    assert_eq!(rt; u128::try_from_signed_bytes(alloc, &octets), Ok(u128::MAX));
+    let mut octets = [0x00; 17];
+    octets[0] = 0x01;
+    let past_128 = IntegerError::Overflow {
+        max_integer_bits: 128,
+    };
+    assert_eq!(rt; u128::try_from_signed_bytes(alloc, &octets), Err(past_128));
     assert_eq!(rt; i8::try_from_bytes(alloc, &[0xFF]), Ok(-1));
     assert_eq!(rt;
         Integer::try_from_bytes(alloc, &[0xFF])?,

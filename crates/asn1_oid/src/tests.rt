@@ -10,7 +10,7 @@ mod contents;
 
 #[test]
 fn arcs_are_valid_or_not(rt: HostRuntime) -> Result<(), Fail> {
-    let valid: [&[u32]; 8] = [
+    let valid: [&[u32]; 9] = [
         &[2, 999],
         &[0, 39],
         &[1],
@@ -18,6 +18,7 @@ fn arcs_are_valid_or_not(rt: HostRuntime) -> Result<(), Fail> {
         &[2, 4294967295],
         &[2, 16, 840, 1, 101, 3, 4, 2, 3],
         &[1, 2, 840, 10040, 2],
+        &[1, 2, 840, 10040, 2, 2],
         &[1, 2, 840, 10040, 2, 3],
     ];
     for arcs in valid {

@@ -1,7 +1,7 @@
 //! Hashes of lists of bits: those of a list's length and words, wherever its bits lie.
 
 use super::plain::{pattern, plain_bits, plain_number};
-use crate::BitStr;
+use crate::{BitStr, FixedBitString, to_bitstring};
 use std::hash::{FoldHasher, Hash, Hasher};
 use std::test::Fail;
 
@@ -33,5 +33,18 @@ fn equal_lists_hash_alike(rt: HostRuntime) -> Result<(), Fail> {
             assert_eq!(rt; hash_of(view), plain_hash(&bits[first..first + len]));
         }
     }
+    Ok(())
+}
+
+#[test]
+fn owned_lists_hash_as_their_views(rt: HostRuntime) -> Result<(), Fail> {
+    let view = BitStr::new(&[0xA5, 0x5A, 0xC3], 3, 12).ok_or("within")?;
+    let mut hasher = FoldHasher::default();
+    to_bitstring(rt.alloc(), view)?.hash(&mut hasher);
+    assert_eq!(rt; hasher.finish(), hash_of(view));
+    let fixed = FixedBitString::<12>::from_bitstr(view).ok_or("as long")?;
+    let mut hasher = FoldHasher::default();
+    fixed.hash(&mut hasher);
+    assert_eq!(rt; hasher.finish(), hash_of(view));
     Ok(())
 }

@@ -135,6 +135,7 @@ fn a_buffer_appends_views_and_buffers(rt: HostRuntime) -> Result<(), Fail> {
     buffer.extend_from_bitslice(BitStr::from_octets(&[0xFF]))?;
     assert_eq!(rt; buffer.len(), 13);
     assert_eq!(rt; buffer.clone()?.as_bytes(), [0xEF, 0xF8].as_slice());
+    assert_eq!(rt; BitBuffer::new(rt.alloc()).clone()?.len(), 0);
     Ok(())
 }
 
@@ -203,6 +204,7 @@ fn a_bit_string_keeps_a_front(rt: HostRuntime) -> Result<(), Fail> {
     assert_eq!(rt; bits.len(), 3);
     assert!(rt; !bits.is_empty());
     assert!(rt; BitString::new(rt.alloc()).is_empty());
+    assert!(rt; BitString::new(rt.alloc()).clone()?.is_empty());
     assert!(rt; bits.as_bitstr() == BitStr::new(&[0xFF], 2, 3).ok_or("within")?);
     let copy = bits.clone()?;
     assert!(rt; copy == bits);

@@ -97,6 +97,13 @@ fn long_integers_are_written_and_read(rt: HostRuntime) -> Result<(), Fail> {
     let least = there_and_back(&rt, octets.as_slice())?;
     assert!(rt; most < more);
     assert!(rt; least < most);
+    // -(2^200) fills its 26 octets.
+    let mut octets = [0x00; 26];
+    octets[0] = 0xFF;
+    let mut reader = BitReader::from_octets(&octets);
+    let fields = read_fields(rt.alloc(), &mut reader, &[Shape::Integer { octets: 26 }])?;
+    assert_eq!(rt; fields.len(), 1);
+    assert_eq!(rt; reader.len(), 0);
     Ok(())
 }
 
