@@ -165,20 +165,6 @@ pub record Reads (text : List ℕ) (left : Option (Bor (List ℕ))) (count : ℕ
   pub kept : length room ≡ length initial
   pub few : 2 * count + octets_left left ≤ length text + 1
 
-pub reads_none : (text front room : List ℕ) (t : Bor (List ℕ)) → t.now ≡ text → length front ≡ 2
-    → Reads text (Some t) 0 front room room
-reads_none text front room t e l = record {
-  done = [];
-  parts = ap (slice_split (λ b. eqb b 46)) (sym e);
-  fit = All-nil (λ n. n < 2 ^ 32);
-  counted = omega arith;
-  front_two = l;
-  firsts = refl;
-  written = λ _. refl;
-  kept = refl;
-  few = omega (arith, ap length e);
-}
-
 firsts_more : (front done : List ℕ) (count n : ℕ) → count ≡ length done → length front ≡ 2
     → take (min count 2) front ≡ take 2 done
     → take (min (count + 1) 2) (set front count n) ≡ take 2 (done ++ n ∷ [])

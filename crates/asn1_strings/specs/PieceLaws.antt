@@ -1,10 +1,9 @@
--- Laws of pieces: each has its length, and one after another they are the list again.
-use Rattle.std.proofs.Common.{◌≡◌, ℕ, suc, zero, ◌+◌, ◌*◌, ◌/◌, ◌%◌, ◌<◌, ◌≤◌, List, [], ◌∷◌, ◌++◌, length, take, drop, map, refl, ap, sym, ◌∙◌, arith}
-use Rattle.std.specs.List.{flat_map, range_with_len}
+-- Laws of pieces: how many a list has, that each lies within it, and what is behind the first.
+use Rattle.std.proofs.Common.{◌≡◌, ℕ, suc, zero, ◌+◌, ◌*◌, ◌/◌, ◌<◌, ◌≤◌, List, ◌∷◌, ◌++◌, length, take, drop, map, refl, ap, sym, ◌∙◌, arith}
+use Rattle.std.specs.List.{range_with_len}
 use Rattle.std.proofs.Math.Seq.{drop-append-add, take-append_seam}
-use Rattle.std.proofs.Math.Nat.{zero-div, add-div_left, div-mul-le_self, mul-le-mul_right}
-use Rattle.std.proofs.lemmas.Nat.{div-add-mod'}
-use Rattle.std.proofs.lemmas.List.{length-append, length-take, length-drop, take-append-drop}
+use Rattle.std.proofs.Math.Nat.{add-div_left, div-mul-le_self, mul-le-mul_right}
+use Rattle.std.proofs.lemmas.List.{length-append}
 use Rattle.std.proofs.lemmas.List.FromFn.{length-map-range_with_len}
 use Rattle.asn1_strings.specs.Pieces.{piece, pieces}
 
@@ -29,6 +28,7 @@ pieces_cons w p rest some long =
     omega arith in rw none (ap (λ n. take n (p ++ rest)) (sym long) ∙ take-append_seam p rest) in
     rw count (rw (first, shifted w p rest long (length rest / w) 0) refl)
 
+-- there are as many as fit whole
 pub length-pieces : {X : Type 0} (w : ℕ) (xs : List X) → length (pieces w xs) ≡ length xs / w
 length-pieces w xs = length-map-range_with_len (piece w xs) 0 (length xs / w)
 
@@ -38,23 +38,3 @@ piece_within w n i lt =
     let up : suc i * w ≤ n / w * w = mul-le-mul_right w lt in
     let down = div-mul-le_self n w in
     omega arith
-
-joined_count : {X : Type 0} (w n : ℕ) (xs : List X) → 0 < w → length xs ≡ n * w →
-    flat_map (λ p. p) (pieces w xs) ≡ xs
-joined_count w zero [] some long = rw (zero-div w) refl
-joined_count w zero (x ∷ xs) some long = absurd (omega arith)
-joined_count w (suc n) xs some long =
-    let front : length (take w xs) ≡ w = length-take w xs ∙ omega arith in
-    let back : length (drop w xs) ≡ n * w = length-drop w xs ∙ omega arith in
-    let whole = take-append-drop w xs in
-    ap (λ l. flat_map (λ p. p) (pieces w l)) (sym whole)
-    ∙ ap (flat_map (λ p. p)) (pieces_cons w (take w xs) (drop w xs) some front)
-    ∙ ap (λ l. take w xs ++ l) (joined_count w n (drop w xs) some back)
-    ∙ whole
-
--- the pieces of a list of whole pieces, one after another, are the list
-pub joined : {X : Type 0} (w : ℕ) (xs : List X) → 0 < w → length xs % w ≡ 0 →
-    flat_map (λ p. p) (pieces w xs) ≡ xs
-joined w xs some even =
-    let count : length xs ≡ length xs / w * w =
-    omega (arith, div-add-mod' (length xs) w) in joined_count w (length xs / w) xs some count
