@@ -20,7 +20,8 @@ use crate::string_types::{DATE_CHARACTERS, NAME_CHARACTERS, StringTypes, string_
 use asn1_values::{BitReader, CharacterAlphabet, Field, Integer, ReadError, Shape, read_fields};
 use std::alloc::{AllocError, Global};
 
-/// The record of the octets in unaligned PER.
+/// The record of the octets in unaligned PER (X.691 A.2); how many bits they have fits `usize`. Refused by the first
+/// part that is wrong, or for want of memory.
 pub fn decode(alloc: Global, octets: &[u8]) -> Result<PersonnelRecord, DecodeError>
     requires { 8 * length octets.now < 2 ^ 64 }
     // The octets are the encoding of the record, and of no other.
