@@ -27,7 +27,7 @@ use Rattle.asn1_values.proofs.IntegerKind.{integer_exact}
 use Rattle.asn1_values.proofs.NumberKind.{number_exact}
 use Rattle.asn1_values.proofs.OctetsKind.{octets_exact}
 use Rattle.asn1_values.proofs.OneSpelling.{length-spelled}
-use Rattle.asn1_values.proofs.ListLemmas.{AreExact, fields_taken, fields_again, only_fields, ReadAll}
+use Rattle.asn1_values.proofs.ListLemmas.{AreExact, fields_taken, only_fields, ReadAll}
 use Rattle.asn1_values.proofs.RefusalLemmas.{fields_refused}
 
 pub is_exact : (s : Shape) → IsExact (plain_shape s) (field_at (plain_shape s))
@@ -80,14 +80,6 @@ pub can_begin : (list : List Bool) (ss : List Shape) → is_ok (fields_at (plain
     → CanBegin list (plain_shapes ss)
 can_begin list ss h = can_begin_of list (plain_shapes ss) (fields_at (plain_shapes ss) list) (are_exact ss) refl h
 
-pub none_refused : (list : List Bool) (ss : List Shape) (e : ReadError) → ss ≡ []
-    → past_all 0 (fields_at (plain_shapes ss) list) ≡ Err e → ⊥
-unfolding fields_at
-none_refused list ss e none h = let h2 : past_all 0 (fields_at [] list) ≡ Err e = rw none at h in no_error list e h2
-  where
-    no_error : (l : List Bool) (e : ReadError) → ◌≡◌ {A = Left} (Ok l) (Err e) → ⊥
-    no_error l e h = cc
-
 pub found : (list : List Bool) (ss : List Shape) (fields : List plain.Field) (rest : List Bool)
     → fields_at (plain_shapes ss) list ≡ Ok (fields, rest) → Begins list (plain_shapes ss) fields rest
 found list ss fields rest e = fields_taken (plain_shapes ss) list fields rest (are_exact ss) e
@@ -108,17 +100,6 @@ read_octets count list left octets le rest is are =
     ap (field_at (plain.OfOctets count)) whole
     ∙ (octets_exact count).again (plain.Octets octets) (take (8 * count) list) left len (are, sym is)
 
-pub accepted : (list : List Bool) (ss : List Shape) (e : ReadError)
-    → past_all 0 (fields_at (plain_shapes ss) list) ≡ Err e → CanBegin list (plain_shapes ss) → ⊥
-accepted list ss e h c =
-    let again = fields_again (plain_shapes ss) list c.0 c.1 (are_exact ss) c.2 in
-    let h2 : past_all 0 (Ok (c.0, c.1)) ≡ Err e = rw again at h in
-    no_error c.1 e h2
-  where
-    no_error : (l : List Bool) (e : ReadError) → ◌≡◌ {A = Left} (Ok l) (Err e) → ⊥
-    no_error l e h = cc
-
--- one concatenation spells one list of fields of the shapes
 pub one_list : (ss : List Shape) (xs ys : List plain.Field) (list : List Bool) → AllZip IsOfShape xs (plain_shapes ss)
     → AllZip IsOfShape ys (plain_shapes ss) → AreSpelledBy xs list → AreSpelledBy ys list → xs ≡ ys
 one_list ss xs ys list zx zy p q =

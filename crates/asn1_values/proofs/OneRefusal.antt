@@ -190,6 +190,11 @@ begun_unnamed list shapes e c ne h =
     n.first.wrong (CanBegin-front list shapes (n.place + 1) c)
 
 -- a refusal that names a field is the only one
+pub begun_is_memory : (list : List Bool) (shapes : List Shape) (e : ReadError) → CanBegin list shapes
+    → IsReadRefusal list shapes e → e ≡ reading.Memory
+begun_is_memory list shapes reading.Memory c p = refl
+begun_is_memory list shapes e c p = absurd (begun_unnamed list shapes e c (λ (m : e ≡ reading.Memory). cc) p)
+
 pub one_read_refusal : (list : List Bool) (shapes : List Shape) (d e : ReadError) → e ≢ reading.Memory
     → IsReadRefusal list shapes d → IsReadRefusal list shapes e → d ≡ e
 one_read_refusal list shapes reading.Memory e ne p q = absurd (begun_unnamed list shapes e p ne q)

@@ -1,9 +1,7 @@
 -- Fields have one spelling, where no alphabet gives a character two codes.
 use Rattle.std.proofs.Common.{inl, inr, arith, ◌≡◌, ℕ, ◌+◌, ◌*◌, List, [], ◌∷◌, ◌++◌, Bool, Option, Some, None, length, sym, ap, subst, ◌∙◌}
-use Rattle.std.specs.Prelude.{ℤ, IfSome}
-use Rattle.asn1_bits.specs.Bits.{digits, bits}
+use Rattle.std.specs.Prelude.{IfSome}
 use Rattle.asn1_strings.specs.Alphabet.{Alphabet}
-use Rattle.asn1_number.specs.Octets.{IsShortest}
 use Rattle.asn1_oid.specs.Contents.{IsContents}
 use Rattle.asn1_oid.specs.WritingLaws.{contents_only}
 use Rattle.asn1_values.specs.SpellingLaws.{same_shortest, all_one}

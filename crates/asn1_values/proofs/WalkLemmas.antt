@@ -7,7 +7,7 @@ use Rattle.std.specs.Prelude.{is_ok}
 use Rattle.asn1_values.specs.Plain.{plain_shapes, plain_shape}
 use Rattle.asn1_values.specs.Fields as plain
 use Rattle.asn1_values.specs.Wrong.{Fault}
-use Rattle.asn1_values.specs.Walk.{field_at, fields_at, in_front, first_and}
+use Rattle.asn1_values.specs.Walk.{field_at, fields_at, in_front}
 use Rattle.asn1_values.specs.Steps.{past, past_all, error_at}
 
 -- fields that were read before
@@ -119,30 +119,6 @@ read_more ss i x front list field left total lt is e so_far =
     sym (front_step front (plain_shape x) (plain_shapes (drop (i + 1) ss)) list field left e)
     ∙ ap (λ (shapes : List plain.Shape). with_front front (fields_at shapes list)) (sym (shapes_more ss i x lt is))
     ∙ so_far
-
-first_read : (others : List Bool → ReadAll) (r : ReadOne) → is_ok (first_and others r) ≡ true → is_ok r ≡ true
-first_read others (Ok x) h = refl
-first_read others (Err fault) h = absurd cc
-
-front_is_ok : (front : List plain.Field) (r : ReadAll) → is_ok (with_front front r) ≡ true → is_ok r ≡ true
-front_is_ok front (Ok x) h = refl
-front_is_ok front (Err e) h = absurd cc
-
-first_is_ok : (front : List plain.Field) (shape : plain.Shape) (shapes : List plain.Shape) (list : List Bool)
-    → is_ok (with_front front (fields_at (shape ∷ shapes) list)) ≡ true → is_ok (field_at shape list) ≡ true
-unfolding fields_at
-first_is_ok front shape shapes list h =
-    first_read (fields_at shapes) (field_at shape list)
-    (front_is_ok front (first_and (fields_at shapes) (field_at shape list)) h)
-
-pub next_is_ok : (ss : List Shape) (i : ℕ) (x : Shape) (front : List plain.Field) (list : List Bool) (total : ReadAll)
-    → i < length ss → x ≡ get_or ss i x → is_ok total ≡ true
-    → with_front front (fields_at (plain_shapes (drop i ss)) list) ≡ total
-    → is_ok (field_at (plain_shape x) list) ≡ true
-next_is_ok ss i x front list total lt is ok so_far =
-    first_is_ok front (plain_shape x) (plain_shapes (drop (i + 1) ss)) list
-    (ap is_ok (ap (λ (shapes : List plain.Shape). with_front front (fields_at shapes list))
-    (sym (shapes_more ss i x lt is)) ∙ so_far) ∙ ok)
 
 pub read_all : (ss : List Shape) (i : ℕ) (front : List plain.Field) (left : List Bool) (total : ReadAll) → length ss ≤ i
     → with_front front (fields_at (plain_shapes (drop i ss)) left) ≡ total → total ≡ Ok (front, left)

@@ -28,8 +28,9 @@ use asn1_oid::{ContentsError, ObjectIdentifier, check_contents};
 use asn1_strings::CharacterAlphabet;
 use std::alloc::{AllocError, Global};
 
-/// Reads fields of the shapes from the front of the reader, which moves past them. The whole list is examined first;
-/// where it is refused, the reader stays. Want of memory is the last refusal.
+/// Reads fields of the shapes from the front of the reader, which moves past them. Where one is refused, the reader
+/// stays. Room for all fields is asked for at first, and want of memory is the last refusal: where it is met, the list
+/// is examined to its end without memory.
 pub fn read_fields<'a, 's>(
     alloc: Global,
     reader: &mut BitReader<'a>,
@@ -85,15 +86,33 @@ pub fn read_fields<'a, 's>(
     ensures moved { OnOk result (IfSome (needs (plain_shapes shapes.now))
         (λ n. length (bits_left reader.old) ≡ n + length (bits_left reader.new))) }
 {
-    examine_all(*reader, shapes)?;
     let mut rest = *reader;
-    let fields = collect(alloc, &mut rest, shapes)?;
-    *reader = rest;
-    Ok(fields)
+    match collect(alloc, &mut rest, shapes) {
+        Ok(fields) => {
+            *reader = rest;
+            Ok(fields)
+        }
+        Err(met) => Err(refusal_of(*reader, shapes, met)),
+    }
+}
+
+/// The refusal that counts, where one was met: the first wrong field's, which want of memory may have hidden.
+#[cold]
+#[inline(never)]
+fn refusal_of(reader: BitReader<'_>, shapes: &[Shape<'_>], met: ReadError) -> ReadError
+    requires { met ≢ ReadError.Memory → IsReadRefusal (bits_left reader) (plain_shapes shapes.now) met }
+    ensures { IsReadRefusal (bits_left reader.entry) (plain_shapes shapes.now) result }
+{
+    match met {
+        ReadError::Memory => match examine_all(reader, shapes) {
+            Ok(()) => ReadError::Memory,
+            Err(wrong) => wrong,
+        },
+        wrong => wrong,
+    }
 }
 
 /// Goes past a field of each shape.
-#[inline(always)]
 fn examine_all(reader: BitReader<'_>, shapes: &[Shape<'_>]) -> Result<(), ReadError>
     ensures ok { OnOk result (IsOk (fields_at (plain_shapes shapes.now) (bits_left reader.entry))) }
     ensures err { IfErr result
@@ -254,14 +273,13 @@ fn take_bits<'a>(
         })
 }
 
-/// Reads fields that are there.
+/// Reads a field of each shape, up to the first that is wrong or for which memory is wanting.
 #[inline(always)]
 fn collect<'a, 's>(
     alloc: Global,
     reader: &mut BitReader<'a>,
     shapes: &[Shape<'s>],
-) -> Result<Vec<Field<'a, 's>>, AllocError>
-    requires { IsOk (fields_at (plain_shapes shapes.now) (bits_left reader.old)) }
+) -> Result<Vec<Field<'a, 's>>, ReadError>
     ensures fields { IfOk result (λ fields. fields_at (plain_shapes shapes.now) (bits_left reader.old)
         ≡ Ok (plain_fields fields.items, bits_left reader.new)) }
     ensures places { IfOk result (λ fields. LieFrom (view_left reader.old) fields.items) }
@@ -269,15 +287,43 @@ fn collect<'a, 's>(
         → AreSpelledBy (plain_fields fields.items) front
         → view_left reader.new ≡ part (view_left reader.old) (length front)
         ((view_left reader.old).len - length front)) }
+    ensures err { IfErr result (λ e. e ≢ ReadError.Memory
+        → past_all 0 (fields_at (plain_shapes shapes.now) (bits_left reader.old)) ≡ Err e) }
     ensures no_shapes { shapes.now ≡ [] → IsOk result }
 {
     // All the room is asked for at once; for no shapes none is.
     let mut fields = Vec::new(alloc);
     fields.reserve_exact(shapes.len())?;
-    for shape in shapes {
-        fields.push(read_field(alloc, reader, shape)?)?;
+    for (i, shape) in shapes.iter().enumerate() {
+        let field = read_next(alloc, reader, shape, i)?;
+        match fields.push(field) {
+            Ok(()) => {}
+            Err(_) => return Err(ReadError::Memory),
+        }
     }
     Ok(fields)
+}
+
+/// Examines one field, and reads it if there is one of the shape.
+#[inline(always)]
+fn read_next<'a, 's>(
+    alloc: Global,
+    reader: &mut BitReader<'a>,
+    shape: &Shape<'s>,
+    field: usize,
+) -> Result<Field<'a, 's>, ReadError>
+    ensures read { IfOk result (λ x. field_at (plain_shape shape.now) (bits_left reader.old)
+        ≡ Ok (plain_field x, bits_left reader.new)) }
+    ensures place { IfOk result (LiesAt (view_left reader.old) (view_left reader.old).first) }
+    ensures rest { IfOk result (λ x. (list : List Bool) → IsSpelledBy (plain_field x) list
+        → view_left reader.new ≡ part (view_left reader.old) (length list)
+        ((view_left reader.old).len - length list)) }
+    ensures err { IfErr result (λ e. e ≢ ReadError.Memory
+        → past field (field_at (plain_shape shape.now) (bits_left reader.old)) ≡ Err e) }
+{
+    let mut seen = *reader;
+    examine(&mut seen, shape, field)?;
+    Ok(read_field(alloc, reader, shape)?)
 }
 
 /// Reads a field that is there.

@@ -1,52 +1,62 @@
-use Rattle.std.proofs.Common.{◌≡◌, Bool, List, [], sym, ap, ◌∙◌}
+use Rattle.std.proofs.Common.{◌≡◌, Bool, List, [], refl, sym, ap, ◌∙◌}
 use Rattle.std.proofs.lemmas.List.{map_push}
+use Rattle.std.proofs.lemmas.Result.{err_from_is_err_and}
 use Rattle.asn1_bits.specs.BitReader.{view_left, bits_left}
 use Rattle.asn1_values.specs.Plain.{plain_field, plain_fields, plain_shapes}
+use Rattle.asn1_values.specs.Steps.{past_all}
 use Rattle.asn1_values.specs.Walk.{fields_at}
 use Rattle.asn1_values.proofs.LiesLemmas.{after, lie_none, lie_more, left_more, after-none, lies_there}
-use Rattle.asn1_values.proofs.WalkLemmas.{read_more, next_is_ok, read_all, from_front}
+use Rattle.asn1_values.proofs.WalkLemmas.{read_more, read_all, from_front, examined_more, examined_stop}
 use Rattle.asn1_values.proofs.bit_fields.read.collect.Goals as goal
 
-pub loop-shape-init : goal.loop-shape-init
-loop-shape-init c =
+pub loop-i-init : goal.loop-i-init
+loop-i-init c =
     let v = view_left c.args.reader.now in
     let none = c.reserve_exact.ensures.items ∙ c.new-fields.ensures.items in
     record {
       walk = rw none (from_front (fields_at (plain_shapes c.args.shapes.now) (bits_left c.args.reader.now)));
+      refused = refl;
       places = rw none (lie_none v);
       rest = λ front s. let e : front ≡ [] = rw none at s in after-none v ∙ ap (λ (l : List Bool). after v l) (sym e);
     }
 
-pub read_field-requires : goal.read_field-requires
-read_field-requires c =
-    next_is_ok c.args.shapes.now c.loop-shape.shape-index c.shape-item.result (plain_fields c.loop-shape.fields.items)
-    (bits_left c.loop-shape.reader) (fields_at (plain_shapes c.args.shapes.now) (bits_left c.args.reader.now))
-    c.loop-shape-test.true c.shape-item.is c.requires c.loop-shape.invariant.walk
-
-pub loop-shape-preserved : goal.loop-shape-preserved
-loop-shape-preserved c =
-    let inv = c.loop-shape.invariant in
-    let fs = c.loop-shape.fields.items in
-    let field = c.in_ok-read_field.field-0 in
+pub loop-i-preserved : goal.loop-i-preserved
+loop-i-preserved c =
+    let inv = c.loop-i.invariant in
+    let fs = c.loop-i.fields.items in
+    let field = c.in_ok-field.field in
     let v = view_left c.args.reader.now in
-    let now = view_left c.loop-shape.reader in
+    let now = view_left c.loop-i.reader in
+    let left = bits_left c.read_next.new.reader in
     record {
       walk =
-          rw (c.in_ok-push.ensures.items, map_push)
-          (read_more c.args.shapes.now c.loop-shape.shape-index c.shape-item.result (plain_fields fs)
-          (bits_left c.loop-shape.reader) (plain_field field) (bits_left c.read_field.new.reader)
-          (fields_at (plain_shapes c.args.shapes.now) (bits_left c.args.reader.now)) c.loop-shape-test.true
-          c.shape-item.is c.in_ok-read_field.ensures.read inv.walk);
+          rw (c.in-Ok.ensures.items, map_push)
+          (read_more c.args.shapes.now c.loop-i.i c.index-shapes-i.result (plain_fields fs)
+          (bits_left c.loop-i.reader) (plain_field field) left
+          (fields_at (plain_shapes c.args.shapes.now) (bits_left c.args.reader.now)) c.loop-i-test.true
+          c.index-shapes-i.is c.in_ok-field.ensures.read inv.walk);
+      refused =
+          examined_more c.args.shapes.now c.loop-i.i c.index-shapes-i.result (bits_left c.loop-i.reader) left
+          (past_all 0 (fields_at (plain_shapes c.args.shapes.now) (bits_left c.args.reader.now))) c.loop-i-test.true
+          c.index-shapes-i.is (rw c.in_ok-field.ensures.read refl) inv.refused;
       places =
-          rw c.in_ok-push.ensures.items (lie_more v fs field inv.places
-          (λ front s. lies_there v now front field (inv.rest front s) c.in_ok-read_field.ensures.place));
+          rw c.in-Ok.ensures.items (lie_more v fs field inv.places
+          (λ front s. lies_there v now front field (inv.rest front s) c.in_ok-field.ensures.place));
       rest =
-          λ front s. left_more v now (view_left c.read_field.new.reader) fs field inv.rest
-          c.in_ok-read_field.ensures.rest front (rw c.in_ok-push.ensures.items at s);
+          λ front s. left_more v now (view_left c.read_next.new.reader) fs field inv.rest
+          c.in_ok-field.ensures.rest front (rw c.in-Ok.ensures.items at s);
     }
+
+pub returns-in_err-field-clause-err : goal.returns-in_err-field-clause-err
+returns-in_err-field-clause-err c =
+    let p = err_from_is_err_and c.from_residual-in_err-field.result c.from_residual-in_err-field.ensures.1 in
+    rw (p.1, p.2) (λ ne.
+    examined_stop c.args.shapes.now c.loop-i.i c.index-shapes-i.result (bits_left c.loop-i.reader)
+    c.in_err-field.field-0.0 (past_all 0 (fields_at (plain_shapes c.args.shapes.now) (bits_left c.args.reader.now)))
+    c.loop-i-test.true c.index-shapes-i.is (c.in_err-field.ensures.err ne) c.loop-i.invariant.refused)
 
 pub returns-clause-fields : goal.returns-clause-fields
 returns-clause-fields c =
-    read_all c.args.shapes.now c.loop-shape.shape-index (plain_fields c.loop-shape.fields.items)
-    (bits_left c.loop-shape.reader) (fields_at (plain_shapes c.args.shapes.now) (bits_left c.args.reader.now))
-    c.loop-shape-test.false c.loop-shape.invariant.walk
+    read_all c.args.shapes.now c.loop-i.i (plain_fields c.loop-i.fields.items)
+    (bits_left c.loop-i.reader) (fields_at (plain_shapes c.args.shapes.now) (bits_left c.args.reader.now))
+    c.loop-i-test.false c.loop-i.invariant.walk
