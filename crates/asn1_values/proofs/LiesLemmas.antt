@@ -87,6 +87,6 @@ lies_there view now front (fields.Octets octets) e at =
     subst (λ (v : View). LiesAt v v.first (fields.Octets octets)) e at
 lies_there view now front (fields.Bits b) e at = subst (λ (v : View). LiesAt v v.first (fields.Bits b)) e at
 lies_there view now front (fields.Integer n) e at = tt
-lies_there view now front (fields.Character alphabet c) e at = tt
+lies_there view now front (fields.Character c alphabet) e at = tt
 lies_there view now front (fields.CountedInteger n) e at = tt
 lies_there view now front (fields.Oid arcs) e at = tt

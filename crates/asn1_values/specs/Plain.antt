@@ -16,7 +16,7 @@ plain_field (fields.Number value width) = plain.Number value width
 plain_field (fields.Octets octets) = plain.Octets (octets_in octets)
 plain_field (fields.Bits view) = plain.Bits (bits_of view)
 plain_field (fields.Integer n) = plain.Integer n
-plain_field (fields.Character alphabet c) = plain.Character (alphabet_of alphabet) c
+plain_field (fields.Character c alphabet) = plain.Character (alphabet_of alphabet) c
 plain_field (fields.CountedInteger n) = plain.CountedInteger n
 plain_field (fields.Oid arcs) = plain.Identifier arcs
 

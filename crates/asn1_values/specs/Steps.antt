@@ -1,14 +1,20 @@
 -- How the steps of the calls are stated. No public contract cites this.
-use Rattle.std.specs.Prelude.{◌≡◌, ℕ, ◌+◌, ◌-◌, ◌*◌, ◌/◌, ◌^◌, ◌<◌, ◌≤◌, Bool, List, ◌++◌, length, min, Result, Ok, Err}
+use Rattle.std.specs.Prelude.{◌≡◌, ℕ, ◌+◌, ◌-◌, ◌*◌, ◌/◌, ◌^◌, ◌<◌, ◌≤◌, Bool, List, [], ◌∷◌, ◌++◌, length, min, Result, Ok, Err}
 use Rattle.std.specs.Int.{div_ceil}
 use Rattle.asn1_bits.specs.declared.bit_appender.BitAppender.{BitAppender}
+use Rattle.asn1_bits.specs.declared.bit_reader.BitReader.{BitReader}
+use Rattle.asn1_bits.specs.BitReader.{view_left, bits_left}
+use Rattle.asn1_bits.specs.View.{part}
 use Rattle.asn1_bits.specs.Bits.{overwritten}
 use Rattle.asn1_bits.specs.BitAppender.{bits_written, room}
 use Rattle.asn1_values.specs.declared.bit_fields.error.ReadError.{ReadError}
 use Rattle.asn1_values.specs.declared.bit_fields.error.ReadError.TheVariants as reading
 use Rattle.asn1_values.specs.declared.bit_fields.error.WriteError.{WriteError}
 use Rattle.asn1_values.specs.declared.bit_fields.error.WriteError.TheVariants as writing
-use Rattle.asn1_values.specs.Fields.{Field, IsSpelledBy, AreSpelledBy}
+use Rattle.asn1_values.specs.declared.bit_fields.field.Field.{Field as InMemory}
+use Rattle.asn1_values.specs.Fields.{Field, Shape, IsSpelledBy, AreSpelledBy}
+use Rattle.asn1_values.specs.Plain.{plain_field, LiesAt}
+use Rattle.asn1_values.specs.Walk.{field_at}
 use Rattle.asn1_values.specs.Wrong.{Fault, NumberWidth, NotInteger, Short, NoCharacter, NoLength, NotIdentifier, ArcOver, WidthOver, PastWidth, NotInAlphabet, PastLength, TooFewArcs, Fits, IsMisfit, IsFirstMisfit}
 
 -- ---- reading
@@ -32,6 +38,15 @@ past i (Err fault) = Err (error_at i fault)
 abbrev pub past_all : ℕ → Result (List Field × List Bool) (ℕ × Fault) → Result (List Bool) ReadError
 past_all i (Ok x) = Ok x.1
 past_all i (Err e) = Err (error_at (i + e.0) e.1)
+
+-- a field of the shape was read from the front of the bits that were left, and stands behind the others
+pub record Appends (shape : Shape) (old new : BitReader) (before after : List InMemory) : Type 0 where
+  pub field : InMemory
+  pub appended : after ≡ before ++ field ∷ []
+  pub read : field_at shape (bits_left old) ≡ Ok (plain_field field, bits_left new)
+  pub place : LiesAt (view_left old) (view_left old).first field
+  pub rest : (list : List Bool) → IsSpelledBy (plain_field field) list
+      → view_left new ≡ part (view_left old) (length list) ((view_left old).len - length list)
 
 -- ---- writing
 

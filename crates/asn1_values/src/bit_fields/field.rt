@@ -21,8 +21,8 @@ pub enum Field<'a, 's> {
     Integer(Integer),
     /// The code of a character in the width of its alphabet (X.691 30.5).
     Character {
-        alphabet: CharacterAlphabet<'s>,
         character: u32,
+        alphabet: CharacterAlphabet<'s>,
     },
     /// One octet with the number of the integer's shortest octets, 1 to 127, and these octets.
     CountedInteger(Integer),

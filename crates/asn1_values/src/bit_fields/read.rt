@@ -1,6 +1,6 @@
 //! Reading fields.
 
-ghost use Rattle.std.specs.Prelude.{◌≡◌, ◌≢◌, ℕ, pos, ◌-ℤ◌, ◌^◌, Bool, List, [], Ok, Err, ◌+◌, ◌-◌, ◌*◌, ◌/◌, ◌%◌, ◌<◌, ◌≤◌, ◌++◌, length, take, drop, All, OnOk, IfOk, IfErr, OnErr, IfSome, IsOk, IsOkUnless, ◌↔◌};
+ghost use Rattle.std.specs.Prelude.{◌≡◌, ◌≢◌, ℕ, pos, ◌-ℤ◌, ◌^◌, Bool, List, [], Ok, Err, ◌+◌, ◌-◌, ◌*◌, ◌/◌, ◌%◌, ◌<◌, ◌≤◌, ◌∷◌, ◌++◌, length, take, drop, All, OnOk, IfOk, IfErr, OnErr, IfSome, IsOk, IsOkUnless, ◌↔◌};
 ghost use Rattle.std.specs.List.{AllZip, AllByRecursion};
 ghost use Rattle.asn1_bits.specs.BitReader.{view_left, bits_left};
 ghost use Rattle.asn1_bits.specs.Bits.{bits, number};
@@ -13,7 +13,7 @@ ghost use Rattle.asn1_values.specs.Fields as plain;
 ghost use Rattle.asn1_values.specs.Fields.{Begins, IsOfShape, IsSpelledBy, AreSpelledBy, NoSpellingBeginsAnother, NoneBeginsAnother, needs, HaveOneSpelling, GiveOneSpelling};
 ghost use Rattle.asn1_values.specs.Plain.{plain_field, plain_fields, plain_shape, plain_shapes, LiesAt, LieFrom};
 ghost use Rattle.asn1_values.specs.Refusals.{IsReadRefusal};
-ghost use Rattle.asn1_values.specs.Steps.{past, past_all};
+ghost use Rattle.asn1_values.specs.Steps.{past, past_all, Appends};
 ghost use Rattle.asn1_oid.specs.Reading.{contents_reading};
 ghost use Rattle.asn1_values.specs.Walk.{field_at, fields_at, integer_at, octets_of};
 ghost use Rattle.asn1_values.specs.Wrong.{CanBegin};
@@ -136,11 +136,7 @@ fn examine(reader: &mut BitReader<'_>, shape: &Shape<'_>, field: usize) -> Resul
 {
     match shape {
         Shape::Number { width } => {
-            let width = *width;
-            if width > 128 {
-                return Err(ReadError::NumberWidth { field, width });
-            }
-            take_bits(reader, width as u128, field)?;
+            next_number(reader, *width, field)?;
         }
         Shape::Octets { count } => {
             take_bits(reader, 8 * *count as u128, field)?;
@@ -255,6 +251,8 @@ fn take_bits<'a>(
     ensures front { IfOk result (λ front. bits_left front ≡ take need (bits_left reader.old)) }
     ensures len { IfOk result (λ front. (view_left front).len ≡ need) }
     ensures rest { OnOk result (bits_left reader.new ≡ drop need (bits_left reader.old)) }
+    ensures rest_view { OnOk result (view_left reader.new ≡ part (view_left reader.old) need
+        ((view_left reader.old).len - need)) }
     ensures short { IfErr result (λ e. (length (bits_left reader.old) < need)
         × (e ≡ ReadError.Short field (need - length (bits_left reader.old)))) }
 {
@@ -295,13 +293,71 @@ fn collect<'a, 's>(
     let mut fields = Vec::new(alloc);
     fields.reserve_exact(shapes.len())?;
     for (i, shape) in shapes.iter().enumerate() {
-        let field = read_next(alloc, reader, shape, i)?;
-        match fields.push(field) {
-            Ok(()) => {}
-            Err(_) => return Err(ReadError::Memory),
-        }
+        append_next(&mut fields, alloc, reader, shape, i)?;
     }
     Ok(fields)
+}
+
+/// Examines one field, and appends it if there is one of the shape. A number's few octets are stored by themselves, not
+/// as those of any field.
+#[inline(always)]
+fn append_next<'a, 's>(
+    fields: &mut Vec<Field<'a, 's>>,
+    alloc: Global,
+    reader: &mut BitReader<'a>,
+    shape: &Shape<'s>,
+    field: usize,
+) -> Result<(), ReadError>
+    ensures read { OnOk result
+        (Appends (plain_shape shape.now) reader.old reader.new fields.old.items fields.new.items) }
+    ensures err { IfErr result (λ e. e ≢ ReadError.Memory
+        → past field (field_at (plain_shape shape.now) (bits_left reader.old)) ≡ Err e) }
+{
+    match shape {
+        Shape::Number { width } => {
+            let width = *width;
+            let value = next_number(reader, width, field)?;
+            keep(fields, Field::Number { value, width })
+        }
+        _ => {
+            let next = read_next(alloc, reader, shape, field)?;
+            keep(fields, next)
+        }
+    }
+}
+
+/// Appends the field, for which room was made.
+#[inline(always)]
+fn keep<'a, 's>(fields: &mut Vec<Field<'a, 's>>, field: Field<'a, 's>) -> Result<(), ReadError>
+    ensures kept { OnOk result (fields.new.items ≡ fields.old.items ++ field.entry ∷ []) }
+    ensures refused { IfErr result (λ e. e ≡ ReadError.Memory) }
+{
+    match fields.push(field) {
+        Ok(()) => Ok(()),
+        Err(_) => Err(ReadError::Memory),
+    }
+}
+
+/// Examines a number, and reads it if it is there.
+#[inline(always)]
+#[tactic(auto, unfolding(crate::specs::Walk::field_at, crate::specs::Walk::cut_at))]
+fn next_number(
+    reader: &mut BitReader<'_>,
+    width: usize,
+    field: usize,
+) -> Result<u128, ReadError>
+    ensures read { IfOk result (λ n. field_at (plain.OfNumber width) (bits_left reader.old)
+        ≡ Ok (plain.Number n width, bits_left reader.new)) }
+    ensures rest { OnOk result (view_left reader.new ≡ part (view_left reader.old) width
+        ((view_left reader.old).len - width)) }
+    ensures err { IfErr result
+        (λ e. past field (field_at (plain.OfNumber width) (bits_left reader.old)) ≡ Err e) }
+{
+    if width > 128 {
+        return Err(ReadError::NumberWidth { field, width });
+    }
+    let front = take_bits(reader, width as u128, field)?;
+    Ok(front.first_u128(width))
 }
 
 /// Examines one field, and reads it if there is one of the shape.

@@ -208,10 +208,24 @@ fn push(appender: &mut BitAppender<'_>, field: &Field<'_, '_>, turns: &mut Turns
             Err(_) => unreachable!(),
         },
         Field::CountedInteger(number) => push_counted(appender, number, turns),
-        Field::Oid(oid) => match oid.as_oid().contents() {
-            Some(octets) => push_each(appender, octets, turns),
-            None => unreachable!(),
-        },
+        Field::Oid(oid) => push_identifier(appender, oid, turns),
+    }
+}
+
+/// Pushes the contents of an identifier, which fit the room.
+#[inline(never)]
+fn push_identifier(appender: &mut BitAppender<'_>, oid: &ObjectIdentifier, turns: &mut Turns)
+    requires fits { Fits (plain.Identifier oid.now) }
+    requires space { (list : List Bool) → IsSpelledBy (plain.Identifier oid.now) list
+        → length list ≤ room appender.old }
+    ensures lender { lender_of appender.new ≡ lender_of appender.old }
+    ensures pushed { Pushes (plain.Identifier oid.now) appender.old appender.new }
+    ensures counted { (list : List Bool) → IsSpelledBy (plain.Identifier oid.now) list
+        → TakesTurns (length list) turns.old.count turns.new.count }
+{
+    match oid.as_oid().contents() {
+        Some(octets) => push_each(appender, octets, turns),
+        None => unreachable!(),
     }
 }
 
@@ -249,8 +263,25 @@ fn push_shortest(appender: &mut BitAppender<'_>, number: &Integer, turns: &mut T
             // The word holds sixteen octets, of which the lowest are the shortest.
             appender.push_wide(value.cast_unsigned(), 8 * number.signed_len(), turns);
         }
-        None => appender.push_octets(number.signed_octets().as_ref(), turns),
+        None => push_long(appender, number, turns),
     }
+}
+
+/// As `push_shortest`, by the octets. It is a call of its own: few numbers take more than sixteen.
+#[inline(never)]
+fn push_long(appender: &mut BitAppender<'_>, number: &Integer, turns: &mut Turns)
+    requires { (octets : List ℕ) → IsShortest number.now octets → 8 * length octets ≤ room appender.old }
+    ensures lender { lender_of appender.new ≡ lender_of appender.old }
+    ensures written { (octets : List ℕ) → IsShortest number.now octets
+        → bits_written appender.new ≡ bits_written appender.old ++ bits octets }
+    ensures room { (octets : List ℕ) → IsShortest number.now octets
+        → room appender.new + 8 * length octets ≡ room appender.old }
+    ensures at_least { (octets : List ℕ) → IsShortest number.now octets
+        → turns.old.count + div_ceil (8 * length octets) 64 ≤ turns.new.count }
+    ensures at_most { (octets : List ℕ) → IsShortest number.now octets
+        → turns.new.count ≤ turns.old.count + turns_for (8 * length octets) }
+{
+    appender.push_octets(number.signed_octets().as_ref(), turns);
 }
 
 /// Arcs are below 2 to the power of 32. It does nothing.
@@ -259,7 +290,6 @@ fn arcs_fit(arcs: &[u32])
 {}
 
 /// Pushes octets that fit the room, sixteen at a time.
-#[inline(never)]
 fn push_each(appender: &mut BitAppender<'_>, octets: OidContents<'_>, turns: &mut Turns)
     requires { 8 * length octets ≤ room appender.old }
     ensures lender { lender_of appender.new ≡ lender_of appender.old }

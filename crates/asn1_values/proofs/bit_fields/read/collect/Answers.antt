@@ -24,36 +24,37 @@ pub loop-i-preserved : goal.loop-i-preserved
 loop-i-preserved c =
     let inv = c.loop-i.invariant in
     let fs = c.loop-i.fields.items in
-    let field = c.in_ok-field.field in
+    let one = c.in_ok-append_next.ensures.read in
     let v = view_left c.args.reader.now in
     let now = view_left c.loop-i.reader in
-    let left = bits_left c.read_next.new.reader in
+    let left = bits_left c.append_next.new.reader in
     record {
       walk =
-          rw (c.in-Ok.ensures.items, map_push)
+          rw (one.appended, map_push)
           (read_more c.args.shapes.now c.loop-i.i c.index-shapes-i.result (plain_fields fs)
-          (bits_left c.loop-i.reader) (plain_field field) left
+          (bits_left c.loop-i.reader) (plain_field one.field) left
           (fields_at (plain_shapes c.args.shapes.now) (bits_left c.args.reader.now)) c.loop-i-test.true
-          c.index-shapes-i.is c.in_ok-field.ensures.read inv.walk);
+          c.index-shapes-i.is one.read inv.walk);
       refused =
           examined_more c.args.shapes.now c.loop-i.i c.index-shapes-i.result (bits_left c.loop-i.reader) left
           (past_all 0 (fields_at (plain_shapes c.args.shapes.now) (bits_left c.args.reader.now))) c.loop-i-test.true
-          c.index-shapes-i.is (rw c.in_ok-field.ensures.read refl) inv.refused;
+          c.index-shapes-i.is (rw one.read refl) inv.refused;
       places =
-          rw c.in-Ok.ensures.items (lie_more v fs field inv.places
-          (λ front s. lies_there v now front field (inv.rest front s) c.in_ok-field.ensures.place));
+          rw one.appended (lie_more v fs one.field inv.places
+          (λ front s. lies_there v now front one.field (inv.rest front s) one.place));
       rest =
-          λ front s. left_more v now (view_left c.read_next.new.reader) fs field inv.rest
-          c.in_ok-field.ensures.rest front (rw c.in-Ok.ensures.items at s);
+          λ front s. left_more v now (view_left c.append_next.new.reader) fs one.field inv.rest
+          one.rest front (rw one.appended at s);
     }
 
-pub returns-in_err-field-clause-err : goal.returns-in_err-field-clause-err
-returns-in_err-field-clause-err c =
-    let p = err_from_is_err_and c.from_residual-in_err-field.result c.from_residual-in_err-field.ensures.1 in
+pub returns-in_err-append_next-clause-err : goal.returns-in_err-append_next-clause-err
+returns-in_err-append_next-clause-err c =
+    let p = err_from_is_err_and c.from_residual-in_err-append_next.result c.from_residual-in_err-append_next.ensures.1 in
     rw (p.1, p.2) (λ ne.
     examined_stop c.args.shapes.now c.loop-i.i c.index-shapes-i.result (bits_left c.loop-i.reader)
-    c.in_err-field.field-0.0 (past_all 0 (fields_at (plain_shapes c.args.shapes.now) (bits_left c.args.reader.now)))
-    c.loop-i-test.true c.index-shapes-i.is (c.in_err-field.ensures.err ne) c.loop-i.invariant.refused)
+    c.in_err-append_next.field-0.0
+    (past_all 0 (fields_at (plain_shapes c.args.shapes.now) (bits_left c.args.reader.now))) c.loop-i-test.true
+    c.index-shapes-i.is (c.in_err-append_next.ensures.err ne) c.loop-i.invariant.refused)
 
 pub returns-clause-fields : goal.returns-clause-fields
 returns-clause-fields c =

@@ -1,4 +1,4 @@
-use Rattle.std.proofs.Common.{ℕ, ◌*◌, length, refl, sym, subst}
+use Rattle.std.proofs.Common.{◌*◌, length, refl}
 use Rattle.asn1_bits.specs.Bits.{digits, bits}
 use Rattle.asn1_bits.specs.BitAppender.{room}
 use Rattle.asn1_bits.specs.BitStr.{view_of, bits_of}
@@ -7,9 +7,8 @@ use Rattle.asn1_bits.specs.DigitLaws.{length-digits, length-bits}
 use Rattle.asn1_bits.specs.ViewLaws.{length-list_of}
 use Rattle.asn1_number.specs.LawsHold.{one_shortest_list}
 use Rattle.asn1_strings.specs.AlphabetView.{alphabet_of}
-use Rattle.asn1_values.specs.Fields.{Number, Octets, Bits, Integer, Character, Identifier}
-use Rattle.asn1_values.specs.Steps.{TakesTurns}
-use Rattle.asn1_values.proofs.SpellingLemmas.{space_of, pushes, takes, number_fits, octets_fit, bits_fit, integer_fits, character_fits, identifier_fits}
+use Rattle.asn1_values.specs.Fields.{Number, Octets, Bits, Integer, Character}
+use Rattle.asn1_values.proofs.SpellingLemmas.{space_of, pushes, takes, number_fits, octets_fit, bits_fit, integer_fits, character_fits}
 use Rattle.asn1_values.proofs.bit_fields.write.push.Goals as goal
 
 -- ---- numbers
@@ -153,31 +152,5 @@ returns-in-Ok-clause-counted c =
 
 -- ---- identifiers
 
-pub push_each-requires : goal.push_each-requires
-push_each-requires c =
-    let arcs = c.in-Oid.oid in
-    let o = c.in-Some.octets in
-    let fits = rw c.in-Oid.is at c.requires.fits in
-    let contents = rw c.as_oid.ensures at c.in-Some.ensures in
-    space_of (Identifier arcs) (bits o) (8 * length o) (room c.args.appender.now) (o, contents, fits.1.2, refl)
-    (length-bits o) (rw c.in-Oid.is at c.requires.space)
-
-pub returns-in-Some-clause-pushed : goal.returns-in-Some-clause-pushed
-returns-in-Some-clause-pushed c =
-    let arcs = c.in-Oid.oid in
-    let o = c.in-Some.octets in
-    let fits = rw c.in-Oid.is at c.requires.fits in
-    let contents = rw c.as_oid.ensures at c.in-Some.ensures in
-    rw c.in-Oid.is
-    (pushes (Identifier arcs) (bits o) (8 * length o) c.args.appender.now c.push_each.new.appender
-    (o, contents, fits.1.2, refl) (length-bits o) c.push_each.ensures.written c.push_each.ensures.room)
-
-pub returns-in-Some-clause-counted : goal.returns-in-Some-clause-counted
-returns-in-Some-clause-counted c =
-    let arcs = c.in-Oid.oid in
-    let o = c.in-Some.octets in
-    let fits = rw c.in-Oid.is at c.requires.fits in
-    let contents = rw c.as_oid.ensures at c.in-Some.ensures in
-    let len = (identifier_fits arcs o contents fits.1.2).len in
-    rw c.in-Oid.is (λ list s. subst (λ (n : ℕ). TakesTurns n c.args.turns.now.count c.push_each.new.turns.count)
-    (sym (len list s)) c.push_each.ensures.counted)
+pub push_identifier-requires-clause-space : goal.push_identifier-requires-clause-space
+push_identifier-requires-clause-space c = rw c.in-Oid.is at c.requires.space

@@ -1,15 +1,12 @@
 use Rattle.std.proofs.Common.{ℕ, ℤ, Bool, List, ◌*◌, ◌++◌, ap, subst, ◌∙◌, arith, to_z-of_z}
 use Rattle.std.specs.Int.{w128}
 use mir.Val.{SFits, of_z, to_z}
-use Rattle.asn1_bits.specs.Bits.{digits, bits}
+use Rattle.asn1_bits.specs.Bits.{digits}
 use Rattle.asn1_bits.specs.BitAppender.{bits_written}
 use Rattle.asn1_number.specs.LawsHold.{one_shortest_list}
 use Rattle.asn1_number.specs.WidthLaws.{sixteen_fit}
-use Rattle.asn1_values.specs.SpellingLaws.{same_shortest}
 use Rattle.asn1_values.proofs.WordLemmas.{sixteen_at_most, lowest_octets}
 use Rattle.asn1_values.proofs.bit_fields.write.push_shortest.Goals as goal
-
--- ---- a word
 
 pub overflow_mul-signed_len : goal.overflow_mul-signed_len
 overflow_mul-signed_len c =
@@ -38,11 +35,3 @@ returns-in-Some-clause-written c = λ octets s.
     (ap (λ (k : ℕ). digits k (8 * c.signed_len.result)) word
     ∙ ap (λ (k : ℕ). digits (of_z w128 n) (8 * k)) (c.signed_len.ensures octets s)
     ∙ lowest_octets n octets s.octets s.value s.some few)
-
--- ---- octets
-
-pub returns-in-None-clause-written : goal.returns-in-None-clause-written
-returns-in-None-clause-written c = λ octets s.
-    let same = same_shortest c.args.number.now c.signed_octets.result octets c.signed_octets.ensures s in
-    c.push_octets.ensures.written ∙ ap (λ (l : List Bool). bits_written c.args.appender.now ++ l)
-    (ap bits (c.as_ref.ensures ∙ same))

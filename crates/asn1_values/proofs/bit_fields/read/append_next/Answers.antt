@@ -1,0 +1,21 @@
+use Rattle.std.proofs.Common.{refl}
+use Rattle.std.proofs.lemmas.Result.{on_ok_weaker}
+use Rattle.asn1_values.specs.declared.bit_fields.field.Field.TheVariants as fields
+use Rattle.asn1_values.specs.Fields as plain
+use Rattle.asn1_values.proofs.OneSpelling.{length-spelled}
+use Rattle.asn1_values.proofs.bit_fields.read.append_next.Goals as goal
+
+pub returns-in_ok-value-in-Number-clause-read : goal.returns-in_ok-value-in-Number-clause-read
+returns-in_ok-value-in-Number-clause-read c =
+    let width = c.in-Number.width in
+    let value = c.in_ok-value-in-Number.value in
+    on_ok_weaker c.keep.result (λ kept.
+    record {
+      field = fields.Number value width;
+      appended = kept;
+      read = rw c.in-Number.is c.in_ok-value-in-Number.ensures.read;
+      place = tt;
+      rest =
+          λ list s. let len = length-spelled (plain.OfNumber width) (plain.Number value width) list refl s in
+          rw len c.in_ok-value-in-Number.ensures.rest;
+    }) c.keep.ensures.kept
