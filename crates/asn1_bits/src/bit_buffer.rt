@@ -160,7 +160,7 @@ impl BitBuffer {
 
     /// Appends the lowest `width` binary digits of `value`, most significant first. Where memory is wanting, the bits
     /// stay. `width` is at most 128, and the new length fits `usize`.
-    #[inline]
+    #[inline(always)]
     pub fn push_bits(&mut self, value: u128, width: usize) -> Result<(), AllocError>
         requires width { width ≤ 128 }
         requires fits { length self.old + width < 2 ^ 64 }
@@ -173,6 +173,18 @@ impl BitBuffer {
         if width <= 56 {
             return self.push_short((value & 0xFFFF_FFFF_FFFF_FFFF) as u64, width);
         }
+        self.push_long(value, width)
+    }
+
+    /// As `push_bits`, of any width. It is a call of its own, so that short numbers are written in line.
+    #[inline(never)]
+    fn push_long(&mut self, value: u128, width: usize) -> Result<(), AllocError>
+        requires width { width ≤ 128 }
+        requires fits { length self.old + width < 2 ^ 64 }
+        ensures ok { OnOk result (self.new ≡ self.old ++ digits value width) }
+        ensures err { OnErr result (self.new ≡ self.old) }
+        ensures free { AddsNoOctet (length self.old) width → IsOk result }
+    {
         let position = self.len();
         self.grow(width)?;
         self.put_wide(position, value, width, &mut Turns::new());
@@ -180,7 +192,7 @@ impl BitBuffer {
     }
 
     /// Appends the lowest `width` binary digits of the word, which eight octets hold from any bit of the first on.
-    #[inline]
+    #[inline(always)]
     fn push_short(&mut self, word: u64, width: usize) -> Result<(), AllocError>
         requires width { width ≤ 56 }
         requires fits { length self.old + width < 2 ^ 64 }

@@ -145,7 +145,9 @@ fn examine(reader: &mut BitReader<'_>, shape: &Shape<'_>, field: usize) -> Resul
             take_bits(reader, *length as u128, field)?;
         }
         Shape::Integer { octets } => examine_integer(reader, *octets, field)?,
-        Shape::Character { alphabet } => examine_character(reader, alphabet, field)?,
+        Shape::Character { alphabet } => {
+            next_character(reader, alphabet, field)?;
+        }
         Shape::CountedInteger => examine_counted(reader, field)?,
         Shape::Oid { octets } => examine_identifier(reader, *octets, field)?,
     }
@@ -216,17 +218,19 @@ fn examine_identifier(
     }
 }
 
-/// Goes past a character, if the alphabet has one for the code.
+/// Reads a character, if the alphabet has one for the code.
 #[inline(always)]
 #[tactic(auto, unfolding(crate::specs::Walk::field_at, crate::specs::Walk::cut_at))]
-fn examine_character(
+fn next_character(
     reader: &mut BitReader<'_>,
     alphabet: &CharacterAlphabet<'_>,
     field: usize,
-) -> Result<(), ReadError>
-    ensures ok { OnOk result
-        (past field (field_at (plain.OfCharacter (alphabet_of alphabet.now)) (bits_left reader.old))
-        ≡ Ok (bits_left reader.new)) }
+) -> Result<u32, ReadError>
+    ensures read { IfOk result (λ c. field_at (plain.OfCharacter (alphabet_of alphabet.now)) (bits_left reader.old)
+        ≡ Ok (plain.Character (alphabet_of alphabet.now) c, bits_left reader.new)) }
+    ensures rest { let width = (alphabet_of alphabet.now).width in
+        OnOk result (view_left reader.new ≡ part (view_left reader.old) width
+        ((view_left reader.old).len - width)) }
     ensures err { IfErr result
         (λ e. past field (field_at (plain.OfCharacter (alphabet_of alphabet.now)) (bits_left reader.old))
         ≡ Err e) }
@@ -235,7 +239,7 @@ fn examine_character(
     let front = take_bits(reader, width as u128, field)?;
     let code = front.first_bits(width);
     match alphabet.decode(code) {
-        Ok(_) => Ok(()),
+        Ok(character) => Ok(character),
         Err(_) => Err(ReadError::Character { field, code }),
     }
 }
@@ -298,8 +302,8 @@ fn collect<'a, 's>(
     Ok(fields)
 }
 
-/// Examines one field, and appends it if there is one of the shape. A number's few octets are stored by themselves, not
-/// as those of any field.
+/// Examines one field, and appends it if there is one of the shape. Numbers and characters, of which there are most, are
+/// read as they are examined, and stored by themselves, not as any field.
 #[inline(always)]
 fn append_next<'a, 's>(
     fields: &mut Vec<Field<'a, 's>>,
@@ -318,6 +322,17 @@ fn append_next<'a, 's>(
             let width = *width;
             let value = next_number(reader, width, field)?;
             keep(fields, Field::Number { value, width })
+        }
+        Shape::Character { alphabet } => {
+            let character = next_character(reader, alphabet, field)?;
+            let alphabet = *alphabet;
+            keep(
+                fields,
+                Field::Character {
+                    character,
+                    alphabet,
+                },
+            )
         }
         _ => {
             let next = read_next(alloc, reader, shape, field)?;
@@ -341,11 +356,7 @@ fn keep<'a, 's>(fields: &mut Vec<Field<'a, 's>>, field: Field<'a, 's>) -> Result
 /// Examines a number, and reads it if it is there.
 #[inline(always)]
 #[tactic(auto, unfolding(crate::specs::Walk::field_at, crate::specs::Walk::cut_at))]
-fn next_number(
-    reader: &mut BitReader<'_>,
-    width: usize,
-    field: usize,
-) -> Result<u128, ReadError>
+fn next_number(reader: &mut BitReader<'_>, width: usize, field: usize) -> Result<u128, ReadError>
     ensures read { IfOk result (λ n. field_at (plain.OfNumber width) (bits_left reader.old)
         ≡ Ok (plain.Number n width, bits_left reader.new)) }
     ensures rest { OnOk result (view_left reader.new ≡ part (view_left reader.old) width

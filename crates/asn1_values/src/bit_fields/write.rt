@@ -5,8 +5,10 @@ ghost use Rattle.std.specs.Int.{div_ceil};
 ghost use Rattle.asn1_bits.specs.Bits.{AddsNoOctet, bits};
 ghost use Rattle.asn1_bits.specs.Turns.{turns_for};
 ghost use Rattle.asn1_bits.specs.BitAppender.{room, lender_of, bits_written};
+ghost use Rattle.asn1_bits.specs.BitStr.{view_of, bits_of};
 ghost use Rattle.asn1_number.specs.Octets.{IsShortest};
 ghost use Rattle.asn1_oid.specs.Contents.{FitU32};
+ghost use Rattle.asn1_strings.specs.AlphabetView.{alphabet_of};
 ghost use Rattle.asn1_values.specs.Fields as plain;
 ghost use Rattle.asn1_values.specs.Fields.{IsSpelledBy, AreSpelledBy, HaveOneSpelling};
 ghost use Rattle.asn1_values.specs.Plain.{plain_field, plain_fields};
@@ -16,9 +18,10 @@ ghost use Rattle.asn1_values.specs.Wrong.{Fits};
 
 use super::error::WriteError;
 use super::field::Field;
-use asn1_bits::{BitAppender, BitBuffer, Turns};
+use asn1_bits::{BitAppender, BitBuffer, BitStr, Turns};
 use asn1_integer::Integer;
 use asn1_oid::{ObjectIdentifier, OidContents};
+use asn1_strings::CharacterAlphabet;
 
 /// Appends the fields' bits to the buffer, one after another, by one growth. The whole list is examined first; where it
 /// is refused, the buffer stays. Want of memory is the last refusal.
@@ -117,15 +120,9 @@ fn fitting_len(field: &Field<'_, '_>, place: usize) -> Result<u128, WriteError>
         Field::Bits(bits) => Ok(bits.len() as u128),
         Field::Integer(number) => Ok(8 * number.signed_len() as u128),
         Field::Character {
-            alphabet,
             character,
-        } => match alphabet.encode(*character) {
-            Ok(_) => Ok(alphabet.width() as u128),
-            Err(_) => Err(WriteError::Character {
-                field: place,
-                character: *character,
-            }),
-        },
+            alphabet,
+        } => fitting_code(alphabet, *character, place),
         Field::CountedInteger(number) => {
             let octets = number.signed_len();
             if octets > 127 {
@@ -153,6 +150,22 @@ fn fitting_width(value: u128, width: usize, place: usize) -> Result<u128, WriteE
         return Err(WriteError::Number { field: place });
     }
     Ok(width as u128)
+}
+
+/// The width of a character, if its alphabet has a code for it.
+#[inline(always)]
+fn fitting_code(
+    alphabet: &CharacterAlphabet<'_>,
+    character: u32,
+    field: usize,
+) -> Result<u128, WriteError>
+    ensures ok { IfOk result (FitsIn (plain.Character (alphabet_of alphabet.now) character)) }
+    ensures err { IfErr result (NamesMisfit field (plain.Character (alphabet_of alphabet.now) character)) }
+{
+    match alphabet.encode(character) {
+        Ok(_) => Ok(alphabet.width() as u128),
+        Err(_) => Err(WriteError::Character { field, character }),
+    }
 }
 
 /// How many bits the contents of an identifier have, if it has two arcs.
@@ -198,17 +211,51 @@ fn push(appender: &mut BitAppender<'_>, field: &Field<'_, '_>, turns: &mut Turns
     match field {
         Field::Number { value, width } => appender.push_wide(*value, *width, turns),
         Field::Octets(octets) => appender.push_octets(octets.as_ref(), turns),
-        Field::Bits(bits) => appender.push_bitslice(*bits, turns),
+        Field::Bits(bits) => push_view(appender, bits, turns),
         Field::Integer(number) => push_shortest(appender, number, turns),
         Field::Character {
-            alphabet,
             character,
-        } => match alphabet.encode(*character) {
-            Ok(code) => appender.push_wide(u128::from(code), alphabet.width(), turns),
-            Err(_) => unreachable!(),
-        },
+            alphabet,
+        } => push_code(appender, alphabet, *character, turns),
         Field::CountedInteger(number) => push_counted(appender, number, turns),
         Field::Oid(oid) => push_identifier(appender, oid, turns),
+    }
+}
+
+/// Pushes bits that fit the room.
+#[inline(always)]
+fn push_view(appender: &mut BitAppender<'_>, bits: &BitStr<'_>, turns: &mut Turns)
+    requires { (view_of bits.now).len ≤ room appender.old }
+    ensures lender { lender_of appender.new ≡ lender_of appender.old }
+    ensures written { bits_written appender.new ≡ bits_written appender.old ++ bits_of bits.now }
+    ensures room { room appender.new + (view_of bits.now).len ≡ room appender.old }
+    ensures at_least { turns.old.count + div_ceil (view_of bits.now).len 64 ≤ turns.new.count }
+    ensures at_most { turns.new.count ≤ turns.old.count + turns_for (view_of bits.now).len }
+{
+    appender.push_bitslice(*bits, turns);
+}
+
+/// Pushes a code of a character, which fits the room.
+#[inline(always)]
+fn push_code(
+    appender: &mut BitAppender<'_>,
+    alphabet: &CharacterAlphabet<'_>,
+    character: u32,
+    turns: &mut Turns,
+)
+    requires fits { Fits (plain.Character (alphabet_of alphabet.now) character) }
+    requires space { (list : List Bool)
+        → IsSpelledBy (plain.Character (alphabet_of alphabet.now) character) list
+        → length list ≤ room appender.old }
+    ensures lender { lender_of appender.new ≡ lender_of appender.old }
+    ensures pushed { Pushes (plain.Character (alphabet_of alphabet.now) character) appender.old appender.new }
+    ensures counted { (list : List Bool)
+        → IsSpelledBy (plain.Character (alphabet_of alphabet.now) character) list
+        → TakesTurns (length list) turns.old.count turns.new.count }
+{
+    match alphabet.encode(character) {
+        Ok(code) => appender.push_wide(u128::from(code), alphabet.width(), turns),
+        Err(_) => unreachable!(),
     }
 }
 

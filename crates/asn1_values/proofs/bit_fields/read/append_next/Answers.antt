@@ -1,5 +1,6 @@
 use Rattle.std.proofs.Common.{refl}
 use Rattle.std.proofs.lemmas.Result.{on_ok_weaker}
+use Rattle.asn1_strings.specs.AlphabetView.{alphabet_of}
 use Rattle.asn1_values.specs.declared.bit_fields.field.Field.TheVariants as fields
 use Rattle.asn1_values.specs.Fields as plain
 use Rattle.asn1_values.proofs.OneSpelling.{length-spelled}
@@ -19,3 +20,19 @@ returns-in_ok-value-in-Number-clause-read c =
           λ list s. let len = length-spelled (plain.OfNumber width) (plain.Number value width) list refl s in
           rw len c.in_ok-value-in-Number.ensures.rest;
     }) c.keep.ensures.kept
+
+pub returns-in_ok-character-in-Character-clause-read : goal.returns-in_ok-character-in-Character-clause-read
+returns-in_ok-character-in-Character-clause-read c =
+    let alphabet = c.in-Character.alphabet in
+    let a = alphabet_of alphabet in
+    let character = c.in_ok-character-in-Character.character in
+    on_ok_weaker c.keep-in-Character.result (λ kept.
+    record {
+      field = fields.Character character alphabet;
+      appended = kept;
+      read = rw c.in-Character.is c.in_ok-character-in-Character.ensures.read;
+      place = tt;
+      rest =
+          λ list s. let len = length-spelled (plain.OfCharacter a) (plain.Character a character) list refl s in
+          rw len c.in_ok-character-in-Character.ensures.rest;
+    }) c.keep-in-Character.ensures.kept

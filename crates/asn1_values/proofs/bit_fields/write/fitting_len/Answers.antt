@@ -1,9 +1,8 @@
 use Rattle.std.proofs.Common.{refl, arith}
 use Rattle.asn1_number.specs.LawsHold.{one_shortest_list}
-use Rattle.asn1_values.proofs.SpellingLemmas.{octets_fit, bits_fit, integer_fits, character_fits, counted_fits}
+use Rattle.asn1_values.proofs.SpellingLemmas.{octets_fit, bits_fit, integer_fits, counted_fits}
 use Rattle.asn1_bits.specs.Octets.{octets_in}
 use Rattle.asn1_bits.specs.BitStr.{bits_of}
-use Rattle.asn1_strings.specs.AlphabetView.{alphabet_of}
 use Rattle.asn1_values.proofs.bit_fields.write.fitting_len.Goals as goal
 
 pub returns-in-Octets-clause-ok : goal.returns-in-Octets-clause-ok
@@ -17,11 +16,6 @@ pub returns-in-Integer-clause-ok : goal.returns-in-Integer-clause-ok
 returns-in-Integer-clause-ok c =
     let one = one_shortest_list c.in-Integer.number in
     rw (c.in-Integer.is, c.signed_len.ensures one.0 one.1) (integer_fits c.in-Integer.number one.0 one.1)
-
-pub returns-in-Ok-clause-ok : goal.returns-in-Ok-clause-ok
-returns-in-Ok-clause-ok c =
-    rw (c.in-Character.is, c.width.ensures.value)
-    (character_fits (alphabet_of c.in-Character.alphabet) c.in-Character.character c.in-Ok.field-0 c.in-Ok.ensures.0)
 
 pub returns-then-octets-gt127-clause-err : goal.returns-then-octets-gt127-clause-err
 returns-then-octets-gt127-clause-err c =

@@ -6,9 +6,8 @@ use Rattle.asn1_bits.specs.Octets.{octets_in}
 use Rattle.asn1_bits.specs.DigitLaws.{length-digits, length-bits}
 use Rattle.asn1_bits.specs.ViewLaws.{length-list_of}
 use Rattle.asn1_number.specs.LawsHold.{one_shortest_list}
-use Rattle.asn1_strings.specs.AlphabetView.{alphabet_of}
-use Rattle.asn1_values.specs.Fields.{Number, Octets, Bits, Integer, Character}
-use Rattle.asn1_values.proofs.SpellingLemmas.{space_of, pushes, takes, number_fits, octets_fit, bits_fit, integer_fits, character_fits}
+use Rattle.asn1_values.specs.Fields.{Number, Octets, Bits, Integer}
+use Rattle.asn1_values.proofs.SpellingLemmas.{space_of, pushes, takes, number_fits, octets_fit, bits_fit, integer_fits}
 use Rattle.asn1_values.proofs.bit_fields.write.push.Goals as goal
 
 -- ---- numbers
@@ -68,8 +67,8 @@ returns-in-Octets-clause-counted c =
 
 -- ---- bits
 
-pub push_bitslice-requires : goal.push_bitslice-requires
-push_bitslice-requires c =
+pub push_view-requires : goal.push_view-requires
+push_view-requires c =
     let b = c.in-Bits.bits in
     space_of (Bits (bits_of b)) (bits_of b) (view_of b).len (room c.args.appender.now) refl
     (length-list_of (view_of b) b.within) (rw c.in-Bits.is at c.requires.space)
@@ -78,17 +77,17 @@ pub returns-in-Bits-clause-pushed : goal.returns-in-Bits-clause-pushed
 returns-in-Bits-clause-pushed c =
     let b = c.in-Bits.bits in
     rw c.in-Bits.is
-    (pushes (Bits (bits_of b)) (bits_of b) (view_of b).len c.args.appender.now c.push_bitslice.new.self refl
-    (length-list_of (view_of b) b.within) c.push_bitslice.ensures.written c.push_bitslice.ensures.room)
+    (pushes (Bits (bits_of b)) (bits_of b) (view_of b).len c.args.appender.now c.push_view.new.appender refl
+    (length-list_of (view_of b) b.within) c.push_view.ensures.written c.push_view.ensures.room)
 
 pub returns-in-Bits-clause-counted : goal.returns-in-Bits-clause-counted
 returns-in-Bits-clause-counted c =
     let b = c.in-Bits.bits in
     let n = length-list_of (view_of b) b.within in
     rw c.in-Bits.is
-    (takes (Bits (bits_of b)) (length (bits_of b)) c.args.turns.now.count c.push_bitslice.new.turns.count
+    (takes (Bits (bits_of b)) (length (bits_of b)) c.args.turns.now.count c.push_view.new.turns.count
     (bits_fit (bits_of b))
-    (rw n c.push_bitslice.ensures.at_least) (rw n c.push_bitslice.ensures.at_most))
+    (rw n c.push_view.ensures.at_least) (rw n c.push_view.ensures.at_most))
 
 -- ---- integers
 
@@ -117,38 +116,11 @@ returns-in-Integer-clause-counted c =
 
 -- ---- characters
 
-pub unreachable-requires : goal.unreachable-requires
-unreachable-requires c =
-    let fits = rw c.in-Character.is at c.requires.fits in
-    c.in-Err.ensures.1 fits.1.0 fits.1.1
+pub push_code-requires-clause-fits : goal.push_code-requires-clause-fits
+push_code-requires-clause-fits c = rw c.in-Character.is at c.requires.fits
 
-pub push_wide-requires-in-Ok-clause-room : goal.push_wide-requires-in-Ok-clause-room
-push_wide-requires-in-Ok-clause-room c =
-    let a = alphabet_of c.in-Character.alphabet in
-    let k = c.in-Ok.code in
-    rw c.width.ensures.value
-    (space_of (Character a c.in-Character.character) (digits k a.width) a.width (room c.args.appender.now)
-    (k, c.in-Ok.ensures.0, refl) (length-digits k a.width) (rw c.in-Character.is at c.requires.space))
-
-pub returns-in-Ok-clause-pushed : goal.returns-in-Ok-clause-pushed
-returns-in-Ok-clause-pushed c =
-    let a = alphabet_of c.in-Character.alphabet in
-    let k = c.in-Ok.code in
-    rw c.in-Character.is
-    (pushes (Character a c.in-Character.character) (digits k a.width) a.width c.args.appender.now
-    c.push_wide-in-Ok.new.self (k, c.in-Ok.ensures.0, refl) (length-digits k a.width)
-    (rw (c.from.ensures, c.width.ensures.value) at c.push_wide-in-Ok.ensures.written)
-    (rw c.width.ensures.value at c.push_wide-in-Ok.ensures.room))
-
-pub returns-in-Ok-clause-counted : goal.returns-in-Ok-clause-counted
-returns-in-Ok-clause-counted c =
-    let a = alphabet_of c.in-Character.alphabet in
-    let k = c.in-Ok.code in
-    rw c.in-Character.is
-    (takes (Character a c.in-Character.character) a.width c.args.turns.now.count c.push_wide-in-Ok.new.turns.count
-    (character_fits a c.in-Character.character k c.in-Ok.ensures.0)
-    (rw c.width.ensures.value at c.push_wide-in-Ok.ensures.at_least)
-    (rw c.width.ensures.value at c.push_wide-in-Ok.ensures.at_most))
+pub push_code-requires-clause-space : goal.push_code-requires-clause-space
+push_code-requires-clause-space c = rw c.in-Character.is at c.requires.space
 
 -- ---- identifiers
 
