@@ -27,11 +27,14 @@ impl Words {
     }
 }
 
-/// Whether so many bits from a place on lie in so many octets.
+/// Whether so many bits from a place on lie in so many octets. Octets are compared, since bits may pass `usize`.
+#[inline(always)]
 fn lie_within(place: usize, count: usize, octets: usize) -> bool
     ensures { IsTrue result ↔ (place + count ≤ 8 * octets) }
 {
-    place as u128 + count as u128 <= 8 * (octets as u128)
+    let whole = place / 8 + count / 8;
+    let rest = (place % 8 + count % 8).div_ceil(8);
+    whole + rest <= octets
 }
 
 /// The number of `width` bits, at most 64, from bit `position` of the octets on, the first of them its highest digit.

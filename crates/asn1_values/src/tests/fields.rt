@@ -230,6 +230,6 @@ fn writing_names_the_first_wrong_field(rt: HostRuntime) -> Result<(), Fail> {
 
 #[test]
 fn fields_and_shapes_are_small(rt: HostRuntime) {
-    assert_eq!(rt; size_of::<Field<'_, '_>>(), 80);
+    assert_eq!(rt; size_of::<Field<'_, '_>>(), 64);
     assert_eq!(rt; size_of::<Shape<'_>>(), 64);
 }

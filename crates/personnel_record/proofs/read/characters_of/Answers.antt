@@ -20,9 +20,9 @@ next fs i f lt is =
     ∙ ap characters_in (map-append plain_field (take i fs) (f ∷ []))
     ∙ characters_in-append (plain_fields (take i fs)) (plain_field f ∷ [])
 
-no_character : (f : Field) → ((a : CharacterAlphabet) (c : ℕ) → f ≡ Character a c → ⊥)
+no_character : (f : Field) → ((c : ℕ) (a : CharacterAlphabet) → f ≡ Character c a → ⊥)
     → characters_in (plain_field f ∷ []) ≡ []
-no_character (Character a c) none = absurd (none a c refl)
+no_character (Character c a) none = absurd (none c a refl)
 no_character (Number v w) none = refl
 no_character (Octets v) none = refl
 no_character (Bits v) none = refl
