@@ -218,6 +218,27 @@ fn examine_identifier(
     }
 }
 
+/// Examines an integer, and reads it if it is there.
+#[inline(always)]
+#[tactic(auto, unfolding(crate::specs::Walk::field_at))]
+fn next_integer(
+    alloc: Global,
+    reader: &mut BitReader<'_>,
+    octets: usize,
+    field: usize,
+) -> Result<Integer, ReadError>
+    ensures read { IfOk result (λ n. field_at (plain.OfInteger octets) (bits_left reader.old)
+        ≡ Ok (plain.Integer n, bits_left reader.new)) }
+    ensures rest { OnOk result (view_left reader.new ≡ part (view_left reader.old) (8 * octets)
+        ((view_left reader.old).len - 8 * octets)) }
+    ensures err { IfErr result (λ e. e ≢ ReadError.Memory
+        → past field (field_at (plain.OfInteger octets) (bits_left reader.old)) ≡ Err e) }
+{
+    let mut seen = *reader;
+    examine_integer(&mut seen, octets, field)?;
+    Ok(read_integer(alloc, reader, octets)?)
+}
+
 /// Reads a character, if the alphabet has one for the code.
 #[inline(always)]
 #[tactic(auto, unfolding(crate::specs::Walk::field_at, crate::specs::Walk::cut_at))]
@@ -302,8 +323,8 @@ fn collect<'a, 's>(
     Ok(fields)
 }
 
-/// Examines one field, and appends it if there is one of the shape. Numbers and characters, of which there are most, are
-/// read as they are examined, and stored by themselves, not as any field.
+/// Examines one field, and appends it if there is one of the shape. Numbers, characters and integers, of which there are
+/// most, are stored by themselves, not as any field.
 #[inline(always)]
 fn append_next<'a, 's>(
     fields: &mut Vec<Field<'a, 's>>,
@@ -333,6 +354,10 @@ fn append_next<'a, 's>(
                     alphabet,
                 },
             )
+        }
+        Shape::Integer { octets } => {
+            let number = next_integer(alloc, reader, *octets, field)?;
+            keep(fields, Field::Integer(number))
         }
         _ => {
             let next = read_next(alloc, reader, shape, field)?;
@@ -561,7 +586,18 @@ fn integer_of(alloc: Global, reader: &BitReader<'_>) -> Result<Integer, AllocErr
     if width > 0 && width <= 128 {
         return Ok(Integer::from(signed_word(reader.first_u128(width), width)));
     }
-    long_integer_of(alloc, reader)
+    copied_integer_of(alloc, reader)
+}
+
+/// As `integer_of`, of a copy of the reader, so that the reader itself need not lie in memory.
+#[inline(always)]
+fn copied_integer_of(alloc: Global, reader: &BitReader<'_>) -> Result<Integer, AllocError>
+    requires whole { (view_left reader.now).len % 8 ≡ 0 }
+    ensures { IfOk result (λ n. (octets : List ℕ) → bits octets ≡ bits_left reader.now
+        → All (λ octet. octet < 256) octets → n ≡ signed octets) }
+{
+    let copy = *reader;
+    long_integer_of(alloc, &copy)
 }
 
 /// As `integer_of`, by octets.
@@ -587,11 +623,31 @@ fn signed_word(word: u128, width: usize) -> i128
     ensures low { word < 2 ^ (width - 1) → result ≡ pos word }
     ensures high { 2 ^ (width - 1) ≤ word → result ≡ pos word -ℤ pos (2 ^ width) }
 {
+    if width <= 64 {
+        return signed_short(word as u64, width);
+    }
     let half = 1u128 << (width - 1);
     if word < half {
         word as i128
     } else {
         -1 - (half - 1 - (word - half)) as i128
+    }
+}
+
+/// As `signed_word`, of at most 64 digits.
+#[inline(always)]
+fn signed_short(word: u64, width: usize) -> i128
+    requires some { 0 < width }
+    requires few { width ≤ 64 }
+    requires below { word < 2 ^ width }
+    ensures low { word < 2 ^ (width - 1) → result ≡ pos word }
+    ensures high { 2 ^ (width - 1) ≤ word → result ≡ pos word -ℤ pos (2 ^ width) }
+{
+    let half = 1u64 << (width - 1);
+    if word < half {
+        i128::from(word)
+    } else {
+        -1 - i128::from(half - 1 - (word - half))
     }
 }
 

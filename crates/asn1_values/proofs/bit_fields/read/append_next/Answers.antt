@@ -1,8 +1,11 @@
 use Rattle.std.proofs.Common.{refl}
 use Rattle.std.proofs.lemmas.Result.{on_ok_weaker}
+use Rattle.asn1_bits.specs.BitReader.{bits_left}
 use Rattle.asn1_strings.specs.AlphabetView.{alphabet_of}
 use Rattle.asn1_values.specs.declared.bit_fields.field.Field.TheVariants as fields
 use Rattle.asn1_values.specs.Fields as plain
+use Rattle.asn1_values.specs.Walk.{field_at}
+use Rattle.asn1_values.proofs.IntegerKind.{length-read_integer}
 use Rattle.asn1_values.proofs.OneSpelling.{length-spelled}
 use Rattle.asn1_values.proofs.bit_fields.read.append_next.Goals as goal
 
@@ -36,3 +39,21 @@ returns-in_ok-character-in-Character-clause-read c =
           λ list s. let len = length-spelled (plain.OfCharacter a) (plain.Character a character) list refl s in
           rw len c.in_ok-character-in-Character.ensures.rest;
     }) c.keep-in-Character.ensures.kept
+
+pub returns-in_ok-number-in-Integer-clause-read : goal.returns-in_ok-number-in-Integer-clause-read
+unfolding field_at
+returns-in_ok-number-in-Integer-clause-read c =
+    let octets = c.in-Integer.octets in
+    let number = c.in_ok-number-in-Integer.number in
+    on_ok_weaker c.keep-in-Integer.result (λ kept.
+    record {
+      field = fields.Integer number;
+      appended = kept;
+      read = rw c.in-Integer.is c.in_ok-number-in-Integer.ensures.read;
+      place = tt;
+      rest =
+          λ list s. let len =
+          length-read_integer octets (bits_left c.args.reader.now) (bits_left c.next_integer.new.reader) number
+          c.in_ok-number-in-Integer.ensures.read list s in
+          rw len c.in_ok-number-in-Integer.ensures.rest;
+    }) c.keep-in-Integer.ensures.kept
