@@ -198,6 +198,21 @@ impl Integer {
         self.signed_octets().without_sign()
     }
 
+    /// Two numbers within `i128` in the order of these: inline numbers themselves, so that no more
+    /// is done for `<` or `==` than `i128` does.
+    #[inline]
+    fn order_keys(&self, other: &Integer) -> (i128, i128)
+        ensures { int_cmp result.0 result.1 ≡ int_cmp self.now other.now }
+    {
+        match (&self.form, &other.form) {
+            (Form::Inline(number), Form::Inline(other)) => (*number, *other),
+            (Form::Shortest(octets), Form::Shortest(others)) => {
+                octets_keys(octets.as_slice(), others.as_slice())
+            }
+            _ => (rank(self.compare_by_octets(other)), 0),
+        }
+    }
+
     /// The order of two numbers by their octets. Two numbers in one form are compared without this
     /// call.
     #[cold]
@@ -258,20 +273,31 @@ impl Default for Integer {
     }
 }
 
-/// The order of two numbers by eight or more shortest octets each. Mostly the first eight, which
-/// hold the sign, tell two numbers of one length apart.
+/// Two numbers within `i128` in the order of those that eight or more shortest octets each spell.
+/// Mostly the first eight, which hold the sign, tell two numbers of one length apart.
 #[inline]
-fn compare_many_octets(a: &[u8], b: &[u8]) -> Ordering
+fn octets_keys(a: &[u8], b: &[u8]) -> (i128, i128)
     requires a_shortest { IsShortest (signed a.now) a.now }
     requires b_shortest { IsShortest (signed b.now) b.now }
     requires many { (8 ≤ length a.now) × (8 ≤ length b.now) }
-    ensures { result ≡ octets_cmp a.now b.now }
+    ensures { int_cmp result.0 result.1 ≡ octets_cmp a.now b.now }
 {
     let (first, other) = (first_word(a), first_word(b));
     if a.len() == b.len() && first != other {
-        return first.cmp(&other);
+        return (i128::from(first), i128::from(other));
     }
-    compare_octets(a, b)
+    (rank(compare_octets(a, b)), 0)
+}
+
+/// A number that is to 0 as the order says.
+fn rank(order: Ordering) -> i128
+    ensures { int_cmp result (pos 0) ≡ order }
+{
+    match order {
+        Ordering::Less => -1,
+        Ordering::Equal => 0,
+        Ordering::Greater => 1,
+    }
 }
 
 /// The two's complement value of the first eight octets.
@@ -279,7 +305,7 @@ fn first_word(octets: &[u8]) -> i64
     requires { 8 ≤ length octets.now }
     ensures { result ≡ signed (take 8 octets.now) }
 {
-    let Some((first, _)) = octets.split_first_chunk::<8>() else {
+    let Some((first, _)) = octets[..8].split_first_chunk::<8>() else {
         unreachable!()
     };
     u64::from_be_bytes(*first).cast_signed()
@@ -346,13 +372,8 @@ impl Ord for Integer {
         ensures octets { (a b : List ℕ) → IsShortest self.now a → IsShortest other.now b
             → result ≡ octets_cmp a b }
     {
-        match (&self.form, &other.form) {
-            (Form::Inline(number), Form::Inline(other)) => number.cmp(other),
-            (Form::Shortest(octets), Form::Shortest(others)) => {
-                compare_many_octets(octets.as_slice(), others.as_slice())
-            }
-            _ => self.compare_by_octets(other),
-        }
+        let (key, other) = self.order_keys(other);
+        key.cmp(&other)
     }
 }
 
