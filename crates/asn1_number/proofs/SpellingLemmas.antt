@@ -1,17 +1,20 @@
 -- Lemmas on the last octets of a word that are the shortest of a number.
-use Rattle.std.proofs.Common.{◌≡◌, ℕ, zero, suc, ◌+◌, ◌-◌, ◌*◌, ◌/◌, ◌%◌, ◌^◌, ◌<◌, ◌≤◌, ℤ, pos, negsuc, ◌++◌, length, drop, refl, sym, ap, subst, ◌∙◌, arith}
+use Rattle.std.proofs.Common.{◌≡◌, ℕ, zero, suc, ◌+◌, ◌-◌, ◌*◌, ◌/◌, ◌%◌, ◌^◌, ◌<◌, ◌≤◌, ℤ, pos, negsuc, ◌++◌, length, drop, refl, sym, ap, subst, ◌∙◌, arith, ⊎_elim}
 use Rattle.std.proofs.Math.Nat.{pow-suc, suc-mul, one-le-pow, pow-le-pow_right, div-add-mod', div-div-eq-div-mul}
 use Rattle.std.proofs.lemmas.Nat.{pow-add, leading_top, same_from_place, mod_below}
+use Rattle.std.specs.Prelude.{nat_le}
+use Rattle.std.specs.List.{prefix_len, range_with_len}
+use Rattle.std.proofs.lemmas.Bool.{cases_lt, lt-ltb, le-ltb}
 use Rattle.std.specs.Int.{byte_at, bytes_high_first, to_be_bytes, w64, w128}
 use Rattle.std.specs.Int.Count.{count_leading_zeros}
 use lib.Signed.{mag}
-use mir.Val.{of_z}
+use mir.Val.{SFits, of_z, to_z, sel}
 use Rattle.asn1_number.specs.Octets.{unsigned}
 use Rattle.asn1_number.specs.Shortest.{octets_past_first, residue_at, shortest_octets}
 use Rattle.asn1_number.specs.OctetLaws.{unsigned_below, unsigned_once, power_step}
 use Rattle.asn1_number.specs.WidthLaws.{byte_at_is, length-bytes, octets_of_bytes, unsigned-bytes, unsigned-bytes_and_rest}
 use Rattle.asn1_number.specs.ReadingLaws.{half_of_bits}
-use Rattle.asn1_number.specs.ShortestLaws.{past_first_only, past_first_enough}
+use Rattle.asn1_number.specs.ShortestLaws.{past_first_only, past_first_enough, past_first_few}
 
 -- ---- the bytes of a word
 
@@ -110,3 +113,53 @@ spare_octets size z h =
     omega (arith, p, e, pow-suc 2 (8 * suc i - 1), half_of_bits i, t.2, t.3) in
     let same : k ≡ octets_past_first z = past_first_only k z enough few in
     omega (arith, t.1, length-bytes (suc (octets_past_first z)) (residue_at (suc (octets_past_first z)) z))
+
+-- as many octets for numbers that are as far from 0 and -1
+same_length : (z y : ℤ) → mag z ≡ mag y → length (shortest_octets z) ≡ length (shortest_octets y)
+unfolding shortest_octets
+same_length z y e =
+    length-bytes (suc (octets_past_first z)) (residue_at (suc (octets_past_first z)) z)
+    ∙ (ap (λ m. suc (prefix_len (λ k. nat_le (128 * 256 ^ k) m) (range_with_len 0 (suc m)))) e
+    ∙ sym (length-bytes (suc (octets_past_first y)) (residue_at (suc (octets_past_first y)) y)))
+
+-- the high word of a number is as far from 0 and -1 as the number, in words
+high_word : (z : ℤ) → SFits w128 z → mag (to_z w64 (of_z w128 z / 2 ^ 64)) ≡ mag z / 2 ^ 64
+high_word (pos n) f =
+    let d = div-add-mod' n (2 ^ 64) in
+    ap (λ t. mag (sel t (pos (n / 2 ^ 64)) (negsuc (2 ^ 64 - suc (n / 2 ^ 64)))))
+    (lt-ltb (n / 2 ^ 64) (2 ^ 63) (omega (arith, f.sfits)))
+high_word (negsuc n) f =
+    let d = div-add-mod' n (2 ^ 64) in
+    let b = mod_below n (2 ^ 64) (omega arith) in
+    let d' = div-add-mod' (2 ^ 128 - suc n) (2 ^ 64) in
+    let b' = mod_below (2 ^ 128 - suc n) (2 ^ 64) (omega arith) in
+    let q : (2 ^ 128 - suc n) / 2 ^ 64 + suc (n / 2 ^ 64) ≡ 2 ^ 64 = omega (arith, f.sfits) in
+    ap (λ t. mag (sel t (pos ((2 ^ 128 - suc n) / 2 ^ 64)) (negsuc (2 ^ 64 - suc ((2 ^ 128 - suc n) / 2 ^ 64)))))
+    (le-ltb ((2 ^ 128 - suc n) / 2 ^ 64) (2 ^ 63) (omega (arith, f.sfits))) ∙ omega arith
+
+-- eight octets more than for its high word, where a number takes more than one
+pub length_past_word : (z : ℤ) → SFits w128 z → 2 ^ 63 ≤ mag z
+    → length (shortest_octets z) ≡ 8 + length (shortest_octets (to_z w64 (of_z w128 z / 2 ^ 64)))
+unfolding shortest_octets
+length_past_word z f h =
+    let y : ℤ = pos (mag z / 2 ^ 64) in
+    let k : ℕ = octets_past_first y in
+    let d = div-add-mod' (mag z) (2 ^ 64) in
+    let b = mod_below (mag z) (2 ^ 64) (omega arith) in
+    let p : 256 ^ (8 + k) ≡ 256 ^ 8 * 256 ^ k = pow-add 256 8 k in
+    let enough : mag z < 128 * 256 ^ (8 + k) = omega (arith, p, past_first_enough y) in
+    let few : (i : ℕ) → i < 8 + k → 128 * 256 ^ i ≤ mag z = λ i l.
+    ⊎_elim (λ s.
+    let q : 256 ^ i ≤ 256 ^ 7 = pow-le-pow_right (omega arith) {i = i} {j = 7} (omega arith) in omega arith)
+    (λ s.
+    let q : 256 ^ i ≡ 256 ^ 8 * 256 ^ (i - 8) =
+    ap (λ (j : ℕ). 256 ^ j) (let e : i ≡ 8 + (i - 8) = omega arith in e) ∙ pow-add 256 8 (i - 8) in
+    let r = past_first_few y (i - 8) (omega arith) in omega arith)
+    (cases_lt i 8) in
+    let same : 8 + k ≡ octets_past_first z = past_first_only (8 + k) z enough few in
+    omega (
+      arith,
+      length-bytes (suc (octets_past_first z)) (residue_at (suc (octets_past_first z)) z),
+      length-bytes (suc k) (residue_at (suc k) y),
+      same_length (to_z w64 (of_z w128 z / 2 ^ 64)) y (high_word z f),
+    )

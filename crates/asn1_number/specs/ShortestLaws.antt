@@ -60,6 +60,9 @@ past_first_enough z =
     subst (λ x. mag z < 128 * 256 ^ x) (zero-add (octets_past_first z))
     (past_first_holds (suc (mag z)) 0 z (omega arith))
 
+pub past_first_few : (z : ℤ) (i : ℕ) → i < octets_past_first z → 128 * 256 ^ i ≤ mag z
+past_first_few z i l = fewer_do_not (suc (mag z)) 0 z i (omega arith) (omega arith)
+
 -- the count is known by its bounds
 pub past_first_only : (k : ℕ) (z : ℤ) → mag z < 128 * 256 ^ k → ((i : ℕ) → i < k → 128 * 256 ^ i ≤ mag z)
     → k ≡ octets_past_first z

@@ -1,5 +1,5 @@
 //! Whole numbers of any size, and their octets (X.690 8.3).
-ghost use Rattle.std.specs.Prelude.{◌≡◌, ◌≢◌, ℕ, ◌<◌, ◌≤◌, ◌^◌, ◌↔◌, List, [], length, pos, Some};
+ghost use Rattle.std.specs.Prelude.{◌≡◌, ◌≢◌, ℕ, ◌<◌, ◌≤◌, ◌^◌, ◌↔◌, List, [], length, take, pos, Some};
 ghost use Rattle.std.specs.Prelude.{IsTrue, IfOk, IfErr, OnErr, IsErrOf, SomeIff, MatchOption};
 ghost use Rattle.std.specs.Int.{IsNonNegative};
 ghost use Rattle.std.specs.Ordering.{int_cmp, int_eq};
@@ -198,14 +198,28 @@ impl Integer {
         self.signed_octets().without_sign()
     }
 
-    /// The order of two numbers by their octets. Two inline numbers are compared without this call.
+    /// Two numbers within `i128` in the order of these: inline numbers themselves, so that no more
+    /// is done for `<` or `==` than `i128` does.
+    #[inline]
+    fn order_keys(&self, other: &Integer) -> (i128, i128)
+        ensures { int_cmp result.0 result.1 ≡ int_cmp self.now other.now }
+    {
+        match (&self.form, &other.form) {
+            (Form::Inline(number), Form::Inline(other)) => (*number, *other),
+            (Form::Shortest(octets), Form::Shortest(others)) => {
+                octets_keys(octets.as_slice(), others.as_slice())
+            }
+            _ => (rank(self.compare_by_octets(other)), 0),
+        }
+    }
+
+    /// The order of two numbers by their octets. Two numbers in one form are compared without this
+    /// call.
+    #[cold]
     #[inline(never)]
     fn compare_by_octets(&self, other: &Integer) -> Ordering
         ensures { result ≡ int_cmp self.now other.now }
     {
-        if let (Form::Shortest(octets), Form::Shortest(others)) = (&self.form, &other.form) {
-            return compare_octets(octets.as_slice(), others.as_slice());
-        }
         let octets = self.signed_octets();
         let others = other.signed_octets();
         compare_octets(octets.as_ref(), others.as_ref())
@@ -259,8 +273,47 @@ impl Default for Integer {
     }
 }
 
+/// Two numbers within `i128` in the order of those that eight or more shortest octets each spell.
+/// Mostly the first eight, which hold the sign, tell two numbers of one length apart.
+#[inline]
+fn octets_keys(a: &[u8], b: &[u8]) -> (i128, i128)
+    requires a_shortest { IsShortest (signed a.now) a.now }
+    requires b_shortest { IsShortest (signed b.now) b.now }
+    requires many { (8 ≤ length a.now) × (8 ≤ length b.now) }
+    ensures { int_cmp result.0 result.1 ≡ octets_cmp a.now b.now }
+{
+    let (first, other) = (first_word(a), first_word(b));
+    if a.len() == b.len() && first != other {
+        return (i128::from(first), i128::from(other));
+    }
+    (rank(compare_octets(a, b)), 0)
+}
+
+/// A number that is to 0 as the order says.
+fn rank(order: Ordering) -> i128
+    ensures { int_cmp result (pos 0) ≡ order }
+{
+    match order {
+        Ordering::Less => -1,
+        Ordering::Equal => 0,
+        Ordering::Greater => 1,
+    }
+}
+
+/// The two's complement value of the first eight octets.
+fn first_word(octets: &[u8]) -> i64
+    requires { 8 ≤ length octets.now }
+    ensures { result ≡ signed (take 8 octets.now) }
+{
+    let Some((first, _)) = octets[..8].split_first_chunk::<8>() else {
+        unreachable!()
+    };
+    u64::from_be_bytes(*first).cast_signed()
+}
+
 /// The order of two numbers by their shortest octets: by sign, then by length, then octet by
 /// octet.
+#[inline(never)]
 fn compare_octets(a: &[u8], b: &[u8]) -> Ordering
     requires a_shortest { IsShortest (signed a.now) a.now }
     requires b_shortest { IsShortest (signed b.now) b.now }
@@ -319,10 +372,8 @@ impl Ord for Integer {
         ensures octets { (a b : List ℕ) → IsShortest self.now a → IsShortest other.now b
             → result ≡ octets_cmp a b }
     {
-        if let (Form::Inline(number), Form::Inline(other)) = (&self.form, &other.form) {
-            return number.cmp(other);
-        }
-        self.compare_by_octets(other)
+        let (key, other) = self.order_keys(other);
+        key.cmp(&other)
     }
 }
 

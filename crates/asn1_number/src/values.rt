@@ -41,15 +41,6 @@ fn spare_of_eight(number: i64) -> usize
     ((2 * distance.cast_unsigned() + 1).leading_zeros() / 8) as usize
 }
 
-/// How many of the sixteen octets of the number only repeat its sign.
-fn spare_of_sixteen(number: i128) -> usize
-    ensures { result + length (shortest_octets number) ≡ 16 }
-{
-    let distance = if number < 0 { -1 - number } else { number };
-    // A bit more for the sign, as above.
-    ((2 * distance.cast_unsigned() + 1).leading_zeros() / 8) as usize
-}
-
 /// Two words of eight octets that end with the shortest octets of the number, and where these
 /// begin. A number within `i64` takes the work of one word.
 pub(crate) fn words_of(number: i128) -> (usize, u64, u64)
@@ -62,7 +53,9 @@ pub(crate) fn words_of(number: i128) -> (usize, u64, u64)
         Err(_) => {
             let bits = number.cast_unsigned();
             let high = (bits >> 64) as u64;
-            (spare_of_sixteen(number), high, (bits % (1 << 64)) as u64)
+            // The low word's octets are all needed: the high word's tell how many are spare.
+            let spare = spare_of_eight(high.cast_signed());
+            (spare, high, (bits % (1 << 64)) as u64)
         }
     }
 }

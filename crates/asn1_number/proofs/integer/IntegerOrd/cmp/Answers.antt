@@ -3,11 +3,7 @@ use Rattle.std.specs.Ordering.{int_cmp}
 use Rattle.asn1_number.specs.OctetLaws.{shortest_order}
 use Rattle.asn1_number.proofs.integer.IntegerOrd.cmp.Goals as goal
 
-pub returns-in-Inline-Inline-clause-octets : goal.returns-in-Inline-Inline-clause-octets
-returns-in-Inline-Inline-clause-octets c = λ a b s t.
+pub returns-clause-octets : goal.returns-clause-octets
+returns-clause-octets c = λ a b s t.
     let e : c.cmp.result ≡ int_cmp c.args.self.now c.args.other.now = search rules in
     e ∙ sym (shortest_order c.args.self.now c.args.other.now a b s t)
-
-pub returns-clause-octets : goal.returns-clause-octets
-returns-clause-octets c = λ a b s t. c.compare_by_octets.ensures
-    ∙ sym (shortest_order c.args.self.now c.args.other.now a b s t)
