@@ -1,5 +1,5 @@
 -- What is known of an alphabet in memory.
-use Rattle.std.specs.Prelude.{◌≡◌, ◌^◌, ◌<◌, ◌≤◌, ℕ, Bool, true, false, List, length, slice_index, Option, Some, None}
+use Rattle.std.specs.Prelude.{◌≡◌, ◌+◌, ◌^◌, ◌<◌, ◌≤◌, ℕ, Bool, true, false, List, length, slice_index, Option, Some, None}
 use Rattle.std.specs.List.{range_with_len}
 use Rattle.std.specs.Option.{ForSome, option_copied}
 use Rattle.std.specs.Borrow.{Bor}
@@ -24,9 +24,11 @@ pub record HasWords (set : List ℕ) (words : CharacterWords) : Type 0 where
   pub below : largest set < 256
   pub same : (c : ℕ) → c < 256 → in_words words.words c ≡ has_character set c
 
--- the characters follow one another without a gap
-abbrev pub IsRun : List ℕ → Type 0
-IsRun set = set ≡ range_with_len (slice_index set 0) (length set)
+-- some characters follow one another without a gap, and 2^32 is past the next
+pub record IsRun (set : List ℕ) : Type 0 where
+  pub some : 0 < length set
+  pub gapless : set ≡ range_with_len (slice_index set 0) (length set)
+  pub ends : slice_index set 0 + length set < 2 ^ 32
 
 -- What the fields of an alphabet say of the set that counts. `ascending` is of permitted sets alone: a
 -- base set needs no search, since none that is written by places has more than 64 characters.

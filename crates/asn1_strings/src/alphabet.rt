@@ -4,7 +4,7 @@ ghost use Rattle.std.specs.Option.{ForSome, option_copied};
 ghost use Rattle.std.specs.List.Sorted.{IsNonDecreasing};
 ghost use Rattle.asn1_characters.specs.Sets.{base_set, has_character, largest};
 ghost use Rattle.asn1_characters.specs.Widths.{ceil_log2};
-ghost use Rattle.asn1_strings.specs.Alphabet.{is_indexed, kept_set, effective, IsCode, missing_error, Encodes, Decodes, IsLongAscending};
+ghost use Rattle.asn1_strings.specs.Alphabet.{is_indexed, kept_set, alphabet_on, effective, IsCode, missing_error, uncoded_error, Encodes, Decodes, IsLongAscending};
 ghost use Rattle.asn1_strings.specs.AlphabetInMemory.{some_if, set_of, HasWords, IsKnown, IsRun};
 
 use crate::permitted_set::{
@@ -56,7 +56,7 @@ impl<'s> CharacterAlphabet<'s> {
     /// The alphabet of the string `S` with a permitted set, which is kept where the string is written by places or
     /// needs more bits than the set does. Else the base set alone counts. A kept set may hold characters that the base
     /// set lacks. The permitted set has at most 2^32 characters.
-    #[inline]
+    #[inline(always)]
     pub fn new<S: StaticPermittedAlphabet>(
         permitted: Option<&'s [u32]>,
         aligned: bool,
@@ -66,14 +66,26 @@ impl<'s> CharacterAlphabet<'s> {
             alphabet_of result ≡ effective S.CHARACTER_SET_NAME set aligned }
     {
         let name = S::CHARACTER_SET_NAME;
-        let permitted = kept_set(name, permitted, aligned);
-        let width = width_for(aligned, count_of(name, permitted));
-        let listing = listing_of(name, permitted);
+        match kept_set(name, permitted, aligned) {
+            Some(set) => CharacterAlphabet::permitted_by(name, set, aligned),
+            None => CharacterAlphabet::on(name, None, aligned),
+        }
+    }
+
+    /// The alphabet of a string and of the permitted set that was kept. A caller that names the string and keeps no set
+    /// gets a constant.
+    #[inline(always)]
+    fn on(name: CharacterSetName, kept: Option<&'s [u32]>, aligned: bool) -> CharacterAlphabet<'s>
+        requires { length (set_of name kept) ≤ 2 ^ 32 }
+        ensures { alphabet_of result ≡ alphabet_on name (option_copied kept.entry) aligned }
+    {
+        let width = width_for(aligned, count_of(name, kept));
+        let listing = listing_of(name, kept);
         let run = listing.run;
-        let largest = largest_in(name, permitted, run);
+        let largest = largest_in(name, kept, run);
         let indexed = codes_of(width) <= largest as u64;
-        let ascending = ascends_in(name, permitted, run);
-        let (worded, words) = parts_of_words(words_of(name, permitted, run, largest));
+        let ascending = ascends_in(name, kept, run);
+        let (worded, words) = parts_of_words(words_of(name, kept, run, largest));
         CharacterAlphabet {
             name,
             width: width as u8,
@@ -88,6 +100,15 @@ impl<'s> CharacterAlphabet<'s> {
         }
     }
 
+    /// The alphabet of a permitted set that was kept.
+    #[inline(never)]
+    fn permitted_by(name: CharacterSetName, set: &'s [u32], aligned: bool) -> CharacterAlphabet<'s>
+        requires { length set.now ≤ 2 ^ 32 }
+        ensures { alphabet_of result ≡ alphabet_on name (Some set.now) aligned }
+    {
+        CharacterAlphabet::on(name, Some(set), aligned)
+    }
+
     /// How many bits each character takes, at most 32.
     #[inline]
     pub fn width(&self) -> usize
@@ -100,7 +121,7 @@ impl<'s> CharacterAlphabet<'s> {
 
     /// A code of the character. Where it has none, it is `CharacterNotFound` in a permitted set,
     /// and the string's own error in a base set.
-    #[inline]
+    #[inline(always)]
     pub fn encode(&self, character: u32) -> Result<u32, PermittedAlphabetError>
         ensures { Encodes (alphabet_of self.now) character result }
     {
@@ -109,7 +130,7 @@ impl<'s> CharacterAlphabet<'s> {
 
     /// As `encode`. In an ascending set of more than 64 characters it makes at most
     /// w + 1 probes, w being the least width in which its characters have codes.
-    #[inline]
+    #[inline(always)]
     pub fn encode_counted(
         &self,
         character: u32,
@@ -123,38 +144,24 @@ impl<'s> CharacterAlphabet<'s> {
             (alphabet_of self.now).indexed ≡ true →
             OnOk result (probes.old.count + 1 ≤ probes.new.count) }
     {
-        if self.indexed {
-            match self.place_of(character, probes) {
-                Some(place) => Ok(place),
-                None => Err(self.missing(character)),
-            }
-        } else if self.contains(character, probes) {
-            Ok(character)
-        } else {
-            Err(self.missing(character))
+        match self.code_of(character, probes) {
+            Some(code) => Ok(code),
+            None => Err(self.missing(character)),
         }
     }
 
     /// The character of the code. A place past the set is `IndexNotFound`; a value that is not in
     /// the set is refused as by `encode`.
-    #[inline]
+    #[inline(always)]
     pub fn decode(&self, code: u32) -> Result<u32, PermittedAlphabetError>
         ensures character { Decodes (alphabet_of self.now) code result }
         // No code is of two characters.
         ensures of_one { let alphabet = alphabet_of self.now in
             (c d : ℕ) → IsCode alphabet c code → IsCode alphabet d code → c ≡ d }
     {
-        if self.indexed {
-            match self.character_at(code) {
-                Some(character) => Ok(character),
-                None => Err(PermittedAlphabetError::IndexNotFound {
-                    index: code as usize,
-                }),
-            }
-        } else if self.contains(code, &mut Turns::new()) {
-            Ok(code)
-        } else {
-            Err(self.missing(code))
+        match self.character_of(code) {
+            Some(character) => Ok(character),
+            None => Err(self.uncoded(code)),
         }
     }
 
@@ -193,9 +200,67 @@ impl<'s> CharacterAlphabet<'s> {
         }
     }
 
+    /// The error for a number that is no code.
+    #[cold]
+    #[inline(never)]
+    fn uncoded(&self, code: u32) -> PermittedAlphabetError
+        ensures { result ≡ uncoded_error (alphabet_of self.now) code }
+    {
+        if self.indexed {
+            PermittedAlphabetError::IndexNotFound {
+                index: code as usize,
+            }
+        } else {
+            self.missing(code)
+        }
+    }
+
+    /// A code of the character, and None where it has none.
+    #[inline(always)]
+    fn code_of(&self, character: u32, probes: &mut Turns) -> Option<u32>
+        ensures code { MatchOption result
+            (has_character (alphabet_of self.now).characters character ≡ false)
+            (λ k. IsCode (alphabet_of self.now) character k) }
+        ensures counts { probes.old.count ≤ probes.new.count }
+        ensures cost { let set = (alphabet_of self.now).characters in
+            IsLongAscending set → probes.new.count ≤ probes.old.count + ceil_log2 (length set) + 1 }
+        ensures looked { IsLongAscending (alphabet_of self.now).characters →
+            (alphabet_of self.now).indexed ≡ true →
+            OnSome result (probes.old.count + 1 ≤ probes.new.count) }
+    {
+        if self.run {
+            let place = place_in_run(self.set, character, probes)?;
+            return Some(if self.indexed { place } else { character });
+        }
+        if self.indexed {
+            return self.place_of(character, probes);
+        }
+        if self.contains(character, probes) {
+            Some(character)
+        } else {
+            None
+        }
+    }
+
+    /// The character of the code, and None where it is no code.
+    #[inline(always)]
+    fn character_of(&self, code: u32) -> Option<u32>
+        ensures { MatchOption result ((c : ℕ) → ¬ (IsCode (alphabet_of self.now) c code))
+            (λ c. IsCode (alphabet_of self.now) c code) }
+    {
+        if self.indexed {
+            return self.character_at(code);
+        }
+        if self.contains(code, &mut Turns::new()) {
+            Some(code)
+        } else {
+            None
+        }
+    }
+
     /// Whether the set has the character: by its ends where it leaves no gap, by its words where it has
     /// any.
-    #[inline]
+    #[inline(always)]
     fn contains(&self, character: u32, probes: &mut Turns) -> bool
         ensures value { result ≡ has_character (alphabet_of self.now).characters character }
         ensures counts { probes.old.count ≤ probes.new.count }
@@ -226,8 +291,8 @@ impl<'s> CharacterAlphabet<'s> {
         }
     }
 
-    /// A place of the character.
-    #[inline]
+    /// A place of the character, whether or not the set leaves a gap.
+    #[inline(always)]
     fn place_of(&self, character: u32, probes: &mut Turns) -> Option<u32>
         requires { self.now.indexed ≡ true }
         ensures place { let set = (alphabet_of self.now).characters in
@@ -240,17 +305,19 @@ impl<'s> CharacterAlphabet<'s> {
             OnSome result (probes.old.count + 1 ≤ probes.new.count) }
     {
         match self.permitted() {
-            Some(set) => place_among(set, self.run, self.ascending, character, probes),
+            Some(set) => place_by_looks(set, self.ascending, character, probes),
             None => self.name.place_of(character),
         }
     }
 
-    /// The character at a place.
-    #[inline]
+    /// The character at a place: in a set without a gap it is that far from the first.
+    #[inline(always)]
     fn character_at(&self, place: u32) -> Option<u32>
         ensures { result ≡ slice_get (alphabet_of self.now).characters place }
     {
-        if self.listed {
+        if self.run {
+            character_in_run(self.set, place)
+        } else if self.listed {
             self.set.get(place as usize).copied()
         } else {
             self.name.character_at(place)
@@ -258,52 +325,34 @@ impl<'s> CharacterAlphabet<'s> {
     }
 }
 
-/// A place of the character in a run: how far it is from the first, which is one probe.
-#[inline]
+/// A place of the character in a run: how far it is from the first, which is one probe. What lies below the first comes
+/// out further than the last.
+#[inline(always)]
 fn place_in_run(set: &[u32], character: u32, probes: &mut Turns) -> Option<u32>
-    requires few { length set.now ≤ 2 ^ 32 }
-    requires run { IsRun set.now }
+    requires { IsRun set.now }
     ensures place { MatchOption result (has_character set.now character ≡ false)
         (λ k. slice_get set.now k ≡ Some character) }
     ensures probe { probes.new.count ≡ probes.old.count + 1 }
 {
     probes.tick();
-    if set.is_empty() {
-        return None;
-    }
-    let first = set[0];
-    if first <= character && ((character - first) as usize) < set.len() {
-        Some(character - first)
+    let distance = character.wrapping_sub(set[0]);
+    if distance < set.len() as u32 {
+        Some(distance)
     } else {
         None
     }
 }
 
-/// A place of the character, by halves where the set is long and ascending.
-#[inline]
-fn place_among(
-    set: &[u32],
-    run: bool,
-    ascending: bool,
-    character: u32,
-    probes: &mut Turns,
-) -> Option<u32>
-    requires few { length set.now ≤ 2 ^ 32 }
-    requires gapless { run ≡ true → IsRun set.now }
-    requires ascends { ascending ≡ true → IsNonDecreasing set.now }
-    requires not_ascending { ascending ≡ false → ¬ (IsNonDecreasing set.now) }
-    ensures place { MatchOption result (has_character set.now character ≡ false)
-        (λ k. slice_get set.now k ≡ Some character) }
-    ensures counts { probes.old.count ≤ probes.new.count }
-    ensures cost { IsLongAscending set.now →
-        probes.new.count ≤ probes.old.count + ceil_log2 (length set.now) + 1 }
-    ensures looked { IsLongAscending set.now →
-        OnSome result (probes.old.count + 1 ≤ probes.new.count) }
+/// The character at a place of a run.
+#[inline(always)]
+fn character_in_run(set: &[u32], place: u32) -> Option<u32>
+    requires { IsRun set.now }
+    ensures { result ≡ slice_get set.now place }
 {
-    if run {
-        place_in_run(set, character, probes)
+    if place < set.len() as u32 {
+        Some(set[0] + place)
     } else {
-        place_by_looks(set, ascending, character, probes)
+        None
     }
 }
 
