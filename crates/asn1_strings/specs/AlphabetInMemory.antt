@@ -33,16 +33,14 @@ pub record IsRun (set : List ℕ) : Type 0 where
 -- What the fields of an alphabet say of the set that counts. `ascending` is of permitted sets alone: a
 -- base set needs no search, since none that is written by places has more than 64 characters.
 pub record IsKnown (name : CharacterSetName) (kept : Bool) (set : Bor (List ℕ)) (width : ℕ)
-    (indexed listed ascending run : Bool) (words : Option CharacterWords) : Type 0 where
+    (indexed ascending run : Bool) (words : Option CharacterWords) : Type 0 where
   pub narrow : width ≤ 32
   pub few : length (set_of name (some_if kept set)) ≤ 2 ^ 32
   pub room : length (set_of name (some_if kept set)) ≤ 2 ^ width
   pub by_place : indexed ≡ is_indexed width (set_of name (some_if kept set))
-  pub listing : listed ≡ true → set.now ≡ set_of name (some_if kept set)
-  pub unlisted : listed ≡ false → kept ≡ false
+  pub listing : run ≡ true → set.now ≡ set_of name (some_if kept set)
   pub ascends : ascending ≡ true → IsNonDecreasing (set_of name (some_if kept set))
   pub not_ascending : ascending ≡ false → kept ≡ true → ¬ (IsNonDecreasing (set_of name (some_if kept set)))
   pub gapless : run ≡ true → IsRun (set_of name (some_if kept set))
-  pub runs_listed : run ≡ true → listed ≡ true
   pub few_places : kept ≡ false → indexed ≡ true → length (set_of name (some_if kept set)) ≤ 64
   pub worded : ForSome words (HasWords (set_of name (some_if kept set)))

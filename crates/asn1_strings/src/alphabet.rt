@@ -37,17 +37,16 @@ pub struct CharacterAlphabet<'s> {
     indexed: bool,
     // Whether a permitted set is kept. Else the base set of `name` counts.
     kept: bool,
-    // Whether `set` lists the set that counts. Else it is empty.
-    listed: bool,
     // Whether the permitted set is ascending: no character is below the one before it.
     ascending: bool,
-    // Whether `set` lists the set that counts, and leaves no gap.
+    // Whether the set that counts leaves no gap.
     run: bool,
     // Whether the words are those of the set that counts. Then its characters are below 256.
     worded: bool,
+    // The set that counts, where it is a permitted set or leaves no gap. Else it is empty.
     set: &'s [u32],
     words: CharacterWords,
-    ghost known: { IsKnown name kept set width indexed listed ascending run (some_if worded words) },
+    ghost known: { IsKnown name kept set width indexed ascending run (some_if worded words) },
 }
 
 impl<'s> CharacterAlphabet<'s> {
@@ -66,7 +65,7 @@ impl<'s> CharacterAlphabet<'s> {
             alphabet_of result ≡ effective S.CHARACTER_SET_NAME set aligned }
     {
         let name = S::CHARACTER_SET_NAME;
-        match kept_set(name, permitted, aligned) {
+        match permitted {
             Some(set) => CharacterAlphabet::permitted_by(name, set, aligned),
             None => CharacterAlphabet::on(name, None, aligned),
         }
@@ -91,7 +90,6 @@ impl<'s> CharacterAlphabet<'s> {
             width: width as u8,
             indexed,
             kept: listing.kept,
-            listed: listing.listed,
             ascending,
             run,
             worded,
@@ -100,13 +98,13 @@ impl<'s> CharacterAlphabet<'s> {
         }
     }
 
-    /// The alphabet of a permitted set that was kept.
+    /// The alphabet of a string with this permitted set.
     #[inline(never)]
     fn permitted_by(name: CharacterSetName, set: &'s [u32], aligned: bool) -> CharacterAlphabet<'s>
         requires { length set.now ≤ 2 ^ 32 }
-        ensures { alphabet_of result ≡ alphabet_on name (Some set.now) aligned }
+        ensures { alphabet_of result ≡ effective name (Some set.now) aligned }
     {
-        CharacterAlphabet::on(name, Some(set), aligned)
+        CharacterAlphabet::on(name, kept_set(name, set, aligned), aligned)
     }
 
     /// How many bits each character takes, at most 32.
@@ -316,11 +314,11 @@ impl<'s> CharacterAlphabet<'s> {
         ensures { result ≡ slice_get (alphabet_of self.now).characters place }
     {
         if self.run {
-            character_in_run(self.set, place)
-        } else if self.listed {
-            self.set.get(place as usize).copied()
-        } else {
-            self.name.character_at(place)
+            return character_in_run(self.set, place);
+        }
+        match self.permitted() {
+            Some(set) => set.get(place as usize).copied(),
+            None => self.name.character_at(place),
         }
     }
 }
@@ -349,8 +347,9 @@ fn character_in_run(set: &[u32], place: u32) -> Option<u32>
     requires { IsRun set.now }
     ensures { result ≡ slice_get set.now place }
 {
+    let first = set[0];
     if place < set.len() as u32 {
-        Some(set[0] + place)
+        Some(first + place)
     } else {
         None
     }
@@ -380,16 +379,11 @@ fn place_by_looks(set: &[u32], ascending: bool, character: u32, probes: &mut Tur
 
 /// The permitted set, where it is kept.
 #[inline]
-fn kept_set<'s>(
-    name: CharacterSetName,
-    permitted: Option<&'s [u32]>,
-    aligned: bool,
-) -> Option<&'s [u32]>
-    requires { ForSome (option_copied permitted) (λ set. length set ≤ 2 ^ 32) }
-    ensures set { option_copied result ≡ kept_set name (option_copied permitted.entry) aligned }
+fn kept_set<'s>(name: CharacterSetName, set: &'s [u32], aligned: bool) -> Option<&'s [u32]>
+    requires { length set.now ≤ 2 ^ 32 }
+    ensures set { option_copied result ≡ kept_set name (Some set.now) aligned }
     ensures few { length (set_of name result) ≤ 2 ^ 32 }
 {
-    let set = permitted?;
     let count = (set.len() as u64).max(1);
     if name.is_indexed() || align(aligned, ceil_log2(count)) < name.width() as u32 {
         Some(set)
@@ -457,12 +451,11 @@ fn words_of(
     }
 }
 
-// How the set that counts lies in memory: whether it is a permitted set, whether `set` lists it, and
-// whether that leaves no gap.
+// How the set that counts lies in memory: whether it is a permitted set, and whether it is known to leave no gap. In
+// both cases `set` lists it.
 #[derive(Clone, Copy)]
 struct Listing<'s> {
     kept: bool,
-    listed: bool,
     run: bool,
     set: &'s [u32],
 }
@@ -471,28 +464,23 @@ struct Listing<'s> {
 #[inline]
 fn listing_of<'s>(name: CharacterSetName, kept: Option<&'s [u32]>) -> Listing<'s>
     ensures kept { some_if result.kept result.set ≡ kept.entry }
-    ensures listing { result.listed ≡ true → result.set.now ≡ set_of name kept.entry }
-    ensures unlisted { result.listed ≡ false → result.kept ≡ false }
+    ensures listing { result.run ≡ true → result.set.now ≡ set_of name kept.entry }
     ensures gapless { result.run ≡ true → IsRun (set_of name kept.entry) }
-    ensures runs_listed { result.run ≡ true → result.listed ≡ true }
 {
     match kept {
         Some(set) => Listing {
             kept: true,
-            listed: true,
             run: is_run(set),
             set,
         },
         None => match name.table() {
-            Some(set) => Listing {
+            Some(set) if leaves_no_gap(name) => Listing {
                 kept: false,
-                listed: true,
-                run: leaves_no_gap(name),
+                run: true,
                 set,
             },
-            None => Listing {
+            _ => Listing {
                 kept: false,
-                listed: false,
                 run: false,
                 set: &[],
             },

@@ -12,14 +12,12 @@ invariant_of-result c =
         room = rw is (rw c.count_of.ensures at c.width_for-width.ensures.enough);
         by_place = rw is (rw (c.codes_of.ensures, c.largest_in-largest.ensures) refl);
         listing = rw is c.listing_of-listing.ensures.listing;
-        unlisted = c.listing_of-listing.ensures.unlisted;
         ascends = rw is c.ascends_in-ascending.ensures.ascends;
         not_ascending =
             λ told kept. rw is (c.ascends_in-ascending.ensures.not_ascending told
             (is_some_if c.listing_of-listing.result.kept c.listing_of-listing.result.set c.args.kept is
             kept));
         gapless = rw is c.listing_of-listing.ensures.gapless;
-        runs_listed = c.listing_of-listing.ensures.runs_listed;
         few_places =
             λ none by. rw is (few_places c.args.name c.args.kept c.args.aligned
             (none_if c.listing_of-listing.result.kept c.listing_of-listing.result.set c.args.kept is
