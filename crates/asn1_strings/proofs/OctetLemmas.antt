@@ -1,8 +1,7 @@
 -- The characters of one octet or two, and the tests of octets.
-use Rattle.std.proofs.Common.{◌≡◌, ℕ, suc, ◌/◌, ◌%◌, ◌++◌, Bool, true, false, take, Ok, eqb, List, [], ◌∷◌, length, map, refl, ap, sym, ◌∙◌, arith}
+use Rattle.std.proofs.Common.{◌≡◌, ℕ, suc, ◌/◌, ◌%◌, Bool, true, false, Ok, eqb, leb, get_or, List, [], ◌∷◌, length, map, refl, ap, sym, ◌∙◌, arith}
 use Rattle.std.specs.Prelude.{◌≢◌}
 use Rattle.std.specs.List.{All, list_all}
-use Rattle.std.proofs.Math.Seq.{take-append_seam}
 use Rattle.std.proofs.lemmas.List.{map-id}
 use Rattle.asn1_strings.specs.Strings.{string_of_octets}
 use Rattle.asn1_strings.proofs.StringLemmas.{string_of_right}
@@ -10,7 +9,9 @@ use Rattle.std.specs.Int.{w16, from_be_bytes}
 use Rattle.std.specs.Simd.{first_chunks}
 use Rattle.std.proofs.lemmas.Bool.Decides.{nat_tests}
 use Rattle.std.proofs.lemmas.List.Sums.{AllPass-from_list_all}
-use Rattle.asn1_characters.specs.Sets.{base_set, has_character}
+use Rattle.asn1_characters.specs.Sets.{base_set, has_character, largest}
+use Rattle.asn1_characters.specs.SetLaws.{has_in_base, no_larger}
+use Rattle.asn1_characters.specs.declared.character_set.CharacterSetName.TheVariants.{IA5}
 use Rattle.asn1_strings.specs.Pieces.{pieces, unsigned}
 use Rattle.asn1_strings.specs.PieceLaws.{pieces_cons}
 use Rattle.asn1_characters.specs.declared.character_set.CharacterSetName.{CharacterSetName}
@@ -41,13 +42,17 @@ pub all_in : (set xs : List ℕ) (right : Bool) → right ≡ list_all (has_char
     → All (λ c. has_character set c ≡ true) xs
 all_in set xs right found told = AllPass-from_list_all (has_character set) xs (sym found ∙ told)
 
--- the units that were filled in are the characters
-pub filled : (n : ℕ) (units rest octets : List ℕ) → length units ≡ n
+-- the numbers of the pairs, as units, are the characters
+pub units_of_pairs : (octets units : List ℕ)
     → units ≡ map (from_be_bytes w16) (first_chunks 2 (length octets / 2) octets)
-    → map (λ (x : ℕ). x) (take n (units ++ rest)) ≡ map unsigned (pieces 2 octets)
-filled n units rest octets long is =
-    map-id (take n (units ++ rest)) ∙ ap (λ k. take k (units ++ rest)) (sym long) ∙ take-append_seam units rest ∙ is
-    ∙ sym (pairs octets)
+    → map (λ (x : ℕ). x) units ≡ map unsigned (pieces 2 octets)
+units_of_pairs octets units is = map-id units ∙ is ∙ sym (pairs octets)
+
+-- octets below 128 are characters of `IA5String`
+pub low_octets : (octets : List ℕ) → leb (largest octets) 127 ≡ true
+    → All (λ c. has_character (base_set IA5) c ≡ true) octets
+low_octets octets low k d lt =
+    let most = no_larger octets k d lt in has_in_base IA5 (get_or octets k d) ∙ grind (arith, nat_tests)
 
 -- octets whose characters the set has are a string
 pub string_of_whole : (name : CharacterSetName) (w : ℕ) (octets : List ℕ) → w ≢ 0 → length octets % w ≡ 0

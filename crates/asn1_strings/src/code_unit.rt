@@ -4,7 +4,7 @@ ghost use Rattle.std.specs.Ordering.{nat_cmp};
 ghost use Rattle.std.specs.Cmp.Lexicographic.{pointwise, slice_cmp};
 ghost use Rattle.std.specs.Int.{w16, from_be_bytes};
 ghost use Rattle.std.proofs.Common.{lit≤};
-ghost use Rattle.asn1_characters.specs.Sets.{base_set, has_character};
+ghost use Rattle.asn1_characters.specs.Sets.{base_set, has_character, largest};
 ghost use Rattle.asn1_strings.specs.Pieces.{pieces, unsigned};
 
 use asn1_characters::CharacterSetName;
@@ -76,6 +76,9 @@ impl CodeUnit for u8 {
     }
 
     fn are_in(name: CharacterSetName, octets: &[u8]) -> bool {
+        if let CharacterSetName::IA5 = name {
+            return largest_octet(octets) <= 0x7F;
+        }
         let mut right = true;
         for octet in octets {
             right = right & name.has_octet(*octet);
@@ -129,9 +132,10 @@ impl CodeUnit for u16 {
 
     fn of_octets(alloc: Global, octets: &[u8]) -> Result<Vec<u16>, AllocError> {
         let (pairs, _) = octets.as_chunks::<2>();
-        let mut units = Vec::new(alloc);
-        units.resize(pairs.len(), 0)?;
-        put_pairs(units.as_mut_slice(), pairs);
+        let mut units = Vec::with_capacity(alloc, pairs.len())?;
+        for pair in pairs {
+            units.push_reserved(u16::from_be_bytes(*pair));
+        }
         Ok(units)
     }
 
@@ -146,12 +150,13 @@ impl CodeUnit for u16 {
     ghost few_octets = { lit≤ tt };
 }
 
-/// Puts the number of each pair of octets in its unit.
-fn put_pairs(units: &mut [u16], pairs: &[[u8; 2]])
-    requires { length units.old ≡ length pairs.now }
-    ensures { units.new ≡ map (from_be_bytes w16) pairs.now }
+/// The largest octet, or 0.
+fn largest_octet(octets: &[u8]) -> u8
+    ensures { result ≡ largest octets.now }
 {
-    for (i, pair) in pairs.iter().enumerate() {
-        units[i] = u16::from_be_bytes(*pair);
+    let mut most = 0;
+    for octet in octets {
+        most = most.max(*octet);
     }
+    most
 }
