@@ -96,8 +96,10 @@ pub(crate) fn is_run(set: &[u32]) -> bool
         return false;
     }
     let mut run = true;
-    for (i, character) in set.iter().enumerate() {
-        run = run & (*character == first + i as u32);
+    let mut next = first;
+    for character in set {
+        run = run & (*character == next);
+        next += 1;
     }
     run
 }
