@@ -9,9 +9,8 @@ use Rattle.std.specs.Int.{w16, from_be_bytes}
 use Rattle.std.specs.Simd.{first_chunks}
 use Rattle.std.proofs.lemmas.Bool.Decides.{nat_tests}
 use Rattle.std.proofs.lemmas.List.Sums.{AllPass-from_list_all}
-use Rattle.asn1_characters.specs.Sets.{base_set, has_character, largest}
+use Rattle.asn1_characters.specs.Sets.{ranges_of, base_set, has_character, largest}
 use Rattle.asn1_characters.specs.SetLaws.{has_in_base, no_larger}
-use Rattle.asn1_characters.specs.declared.character_set.CharacterSetName.TheVariants.{IA5}
 use Rattle.asn1_strings.specs.Pieces.{pieces, unsigned}
 use Rattle.asn1_strings.specs.PieceLaws.{pieces_cons}
 use Rattle.asn1_characters.specs.declared.character_set.CharacterSetName.{CharacterSetName}
@@ -48,11 +47,11 @@ pub units_of_pairs : (octets units : List ℕ)
     → map (λ (x : ℕ). x) units ≡ map unsigned (pieces 2 octets)
 units_of_pairs octets units is = map-id units ∙ is ∙ sym (pairs octets)
 
--- octets below 128 are characters of `IA5String`
-pub low_octets : (octets : List ℕ) → leb (largest octets) 127 ≡ true
-    → All (λ c. has_character (base_set IA5) c ≡ true) octets
-low_octets octets low k d lt =
-    let most = no_larger octets k d lt in has_in_base IA5 (get_or octets k d) ∙ grind (arith, nat_tests)
+-- a set of one range from 0 on has what is not above its largest
+pub low_in : (name : CharacterSetName) (most : ℕ) (xs : List ℕ) → ranges_of name ≡ (0, most) ∷ []
+    → leb (largest xs) most ≡ true → All (λ c. has_character (base_set name) c ≡ true) xs
+low_in name most xs one low k d lt =
+    let top = no_larger xs k d lt in has_in_base name (get_or xs k d) ∙ rw one (grind (arith, nat_tests))
 
 -- octets whose characters the set has are a string
 pub string_of_whole : (name : CharacterSetName) (w : ℕ) (octets : List ℕ) → w ≢ 0 → length octets % w ≡ 0

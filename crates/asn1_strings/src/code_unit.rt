@@ -123,6 +123,9 @@ impl CodeUnit for u16 {
 
     fn are_in(name: CharacterSetName, octets: &[u8]) -> bool {
         let (pairs, _) = octets.as_chunks::<2>();
+        if let CharacterSetName::Bmp = name {
+            return largest_pair(pairs) <= 0xFFFD;
+        }
         let mut right = true;
         for pair in pairs {
             right = right & name.contains(u32::from(u16::from_be_bytes(*pair)));
@@ -157,6 +160,17 @@ fn largest_octet(octets: &[u8]) -> u8
     let mut most = 0;
     for octet in octets {
         most = most.max(*octet);
+    }
+    most
+}
+
+/// The largest number of a pair of octets, or 0.
+fn largest_pair(pairs: &[[u8; 2]]) -> u16
+    ensures { result ≡ largest (map (from_be_bytes w16) pairs.now) }
+{
+    let mut most = 0;
+    for pair in pairs {
+        most = most.max(u16::from_be_bytes(*pair));
     }
     most
 }
