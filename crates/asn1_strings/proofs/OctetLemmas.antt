@@ -1,5 +1,5 @@
 -- The characters of one octet or two, and the tests of octets.
-use Rattle.std.proofs.Common.{◌≡◌, ℕ, suc, ◌/◌, ◌%◌, Bool, true, false, Ok, eqb, leb, get_or, List, [], ◌∷◌, length, map, refl, ap, sym, ◌∙◌, arith}
+use Rattle.std.proofs.Common.{◌≡◌, ℕ, suc, ◌/◌, ◌%◌, ◌≤◌, Bool, true, false, Ok, eqb, leb, get_or, List, [], ◌∷◌, length, map, refl, ap, sym, ◌∙◌, arith}
 use Rattle.std.specs.Prelude.{◌≢◌}
 use Rattle.std.specs.List.{All, list_all}
 use Rattle.std.proofs.lemmas.List.{map-id}
@@ -47,11 +47,17 @@ pub units_of_pairs : (octets units : List ℕ)
     → map (λ (x : ℕ). x) units ≡ map unsigned (pieces 2 octets)
 units_of_pairs octets units is = map-id units ∙ is ∙ sym (pairs octets)
 
--- a set of one range from 0 on has what is not above its largest
-pub low_in : (name : CharacterSetName) (most : ℕ) (xs : List ℕ) → ranges_of name ≡ (0, most) ∷ []
-    → leb (largest xs) most ≡ true → All (λ c. has_character (base_set name) c ≡ true) xs
-low_in name most xs one low k d lt =
-    let top = no_larger xs k d lt in has_in_base name (get_or xs k d) ∙ rw one (grind (arith, nat_tests))
+-- a set of one range has what lies between its ends
+pub between_in : (name : CharacterSetName) (first last : ℕ) (xs : List ℕ) → ranges_of name ≡ (first, last) ∷ []
+    → All (λ c. (first ≤ c) × (c ≤ last)) xs → All (λ c. has_character (base_set name) c ≡ true) xs
+between_in name first last xs one between k d lt =
+    let ends = between k d lt in has_in_base name (get_or xs k d) ∙ rw one (grind (arith, nat_tests))
+
+-- and where it begins at 0, what is not above its last
+pub low_in : (name : CharacterSetName) (last : ℕ) (xs : List ℕ) → ranges_of name ≡ (0, last) ∷ []
+    → leb (largest xs) last ≡ true → All (λ c. has_character (base_set name) c ≡ true) xs
+low_in name last xs one low = between_in name 0 last xs one (λ k d lt.
+    let top = no_larger xs k d lt in (omega arith, grind (arith, nat_tests)))
 
 -- octets whose characters the set has are a string
 pub string_of_whole : (name : CharacterSetName) (w : ℕ) (octets : List ℕ) → w ≢ 0 → length octets % w ≡ 0

@@ -76,8 +76,10 @@ impl CodeUnit for u8 {
     }
 
     fn are_in(name: CharacterSetName, octets: &[u8]) -> bool {
-        if let CharacterSetName::IA5 = name {
-            return largest_octet(octets) <= 0x7F;
+        match name {
+            CharacterSetName::IA5 => return lie_between(octets, 0, 0x7F),
+            CharacterSetName::Visible => return lie_between(octets, 0x20, 0x7E),
+            _ => {}
         }
         let mut right = true;
         for octet in octets {
@@ -153,15 +155,17 @@ impl CodeUnit for u16 {
     ghost few_octets = { lit≤ tt };
 }
 
-/// The largest octet, or 0.
-fn largest_octet(octets: &[u8]) -> u8
-    ensures { result ≡ largest octets.now }
+/// Whether octets were seen to lie between two ends: by the least of all and the largest.
+fn lie_between(octets: &[u8], first: u8, last: u8) -> bool
+    ensures { result ≡ true → All (λ c. (first ≤ c) × (c ≤ last)) octets.now }
 {
+    let mut least = 0xFF;
     let mut most = 0;
     for octet in octets {
+        least = least.min(*octet);
         most = most.max(*octet);
     }
-    most
+    (first <= least) & (most <= last)
 }
 
 /// The largest number of a pair of octets, or 0.

@@ -2,8 +2,8 @@ use Rattle.std.proofs.Common.{refl, ap, ◌∙◌, arith}
 use Rattle.std.specs.List.{list_all}
 use Rattle.std.proofs.lemmas.List.{take_all}
 use Rattle.asn1_characters.specs.Sets.{base_set, has_character}
-use Rattle.asn1_strings.proofs.OctetLemmas.{ones, all_in, low_in}
-use Rattle.asn1_characters.specs.declared.character_set.CharacterSetName.TheVariants.{IA5}
+use Rattle.asn1_strings.proofs.OctetLemmas.{ones, all_in, between_in}
+use Rattle.asn1_characters.specs.declared.character_set.CharacterSetName.TheVariants.{IA5, Visible}
 use Rattle.asn1_strings.proofs.code_unit.U8CodeUnit.are_in.Goals as goal
 
 pub returns : goal.returns
@@ -17,5 +17,9 @@ returns c =
 pub returns-in-IA5 : goal.returns-in-IA5
 returns-in-IA5 c = λ told.
     let octets = c.args.octets.now in
-    let low = low_in IA5 127 octets refl (rw c.largest_octet.ensures at told) in
-    rw (c.in-IA5.is, ones octets) low
+    rw (c.in-IA5.is, ones octets) (between_in IA5 0 127 octets refl (c.lie_between.ensures told))
+
+pub returns-in-Visible : goal.returns-in-Visible
+returns-in-Visible c = λ told.
+    let octets = c.args.octets.now in
+    rw (c.in-Visible.is, ones octets) (between_in Visible 32 126 octets refl (c.lie_between-in-Visible.ensures told))
