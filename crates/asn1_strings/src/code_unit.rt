@@ -155,17 +155,17 @@ impl CodeUnit for u16 {
     ghost few_octets = { lit≤ tt };
 }
 
-/// Whether octets were seen to lie between two ends: by the least of all and the largest.
+/// Whether octets were seen to lie between two ends: by the largest distance from the first end. What lies below it
+/// comes out further than the last.
 fn lie_between(octets: &[u8], first: u8, last: u8) -> bool
+    requires { first ≤ last }
     ensures { result ≡ true → All (λ c. (first ≤ c) × (c ≤ last)) octets.now }
 {
-    let mut least = 0xFF;
     let mut most = 0;
     for octet in octets {
-        least = least.min(*octet);
-        most = most.max(*octet);
+        most = most.max(octet.wrapping_sub(first));
     }
-    (first <= least) & (most <= last)
+    most <= last - first
 }
 
 /// The largest number of a pair of octets, or 0.
