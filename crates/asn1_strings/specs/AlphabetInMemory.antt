@@ -1,5 +1,5 @@
 -- What is known of an alphabet in memory.
-use Rattle.std.specs.Prelude.{◌≡◌, ◌^◌, ◌<◌, ◌≤◌, ℕ, Bool, true, false, List, length, slice_index, Option, Some, None}
+use Rattle.std.specs.Prelude.{◌≡◌, ◌+◌, ◌^◌, ◌<◌, ◌≤◌, ℕ, Bool, true, false, List, length, slice_index, Option, Some, None}
 use Rattle.std.specs.List.{range_with_len}
 use Rattle.std.specs.Option.{ForSome, option_copied}
 use Rattle.std.specs.Borrow.{Bor}
@@ -24,23 +24,23 @@ pub record HasWords (set : List ℕ) (words : CharacterWords) : Type 0 where
   pub below : largest set < 256
   pub same : (c : ℕ) → c < 256 → in_words words.words c ≡ has_character set c
 
--- the characters follow one another without a gap
-abbrev pub IsRun : List ℕ → Type 0
-IsRun set = set ≡ range_with_len (slice_index set 0) (length set)
+-- some characters follow one another without a gap, and 2^32 is past the next
+pub record IsRun (set : List ℕ) : Type 0 where
+  pub some : 0 < length set
+  pub gapless : set ≡ range_with_len (slice_index set 0) (length set)
+  pub ends : slice_index set 0 + length set < 2 ^ 32
 
 -- What the fields of an alphabet say of the set that counts. `ascending` is of permitted sets alone: a
 -- base set needs no search, since none that is written by places has more than 64 characters.
 pub record IsKnown (name : CharacterSetName) (kept : Bool) (set : Bor (List ℕ)) (width : ℕ)
-    (indexed listed ascending run : Bool) (words : Option CharacterWords) : Type 0 where
+    (indexed ascending run : Bool) (words : Option CharacterWords) : Type 0 where
   pub narrow : width ≤ 32
   pub few : length (set_of name (some_if kept set)) ≤ 2 ^ 32
   pub room : length (set_of name (some_if kept set)) ≤ 2 ^ width
   pub by_place : indexed ≡ is_indexed width (set_of name (some_if kept set))
-  pub listing : listed ≡ true → set.now ≡ set_of name (some_if kept set)
-  pub unlisted : listed ≡ false → kept ≡ false
+  pub listing : run ≡ true → set.now ≡ set_of name (some_if kept set)
   pub ascends : ascending ≡ true → IsNonDecreasing (set_of name (some_if kept set))
   pub not_ascending : ascending ≡ false → kept ≡ true → ¬ (IsNonDecreasing (set_of name (some_if kept set)))
   pub gapless : run ≡ true → IsRun (set_of name (some_if kept set))
-  pub runs_listed : run ≡ true → listed ≡ true
   pub few_places : kept ≡ false → indexed ≡ true → length (set_of name (some_if kept set)) ≤ 64
   pub worded : ForSome words (HasWords (set_of name (some_if kept set)))

@@ -4,7 +4,7 @@ ghost use Rattle.std.specs.Option.{ForSome, option_copied};
 ghost use Rattle.std.specs.List.Sorted.{IsNonDecreasing};
 ghost use Rattle.asn1_characters.specs.Sets.{base_set, has_character, largest};
 ghost use Rattle.asn1_characters.specs.Widths.{ceil_log2};
-ghost use Rattle.asn1_strings.specs.Alphabet.{is_indexed, kept_set, effective, IsCode, missing_error, Encodes, Decodes, IsLongAscending};
+ghost use Rattle.asn1_strings.specs.Alphabet.{is_indexed, kept_set, alphabet_on, effective, IsCode, missing_error, uncoded_error, Encodes, Decodes, IsLongAscending};
 ghost use Rattle.asn1_strings.specs.AlphabetInMemory.{some_if, set_of, HasWords, IsKnown, IsRun};
 
 use crate::permitted_set::{
@@ -37,17 +37,16 @@ pub struct CharacterAlphabet<'s> {
     indexed: bool,
     // Whether a permitted set is kept. Else the base set of `name` counts.
     kept: bool,
-    // Whether `set` lists the set that counts. Else it is empty.
-    listed: bool,
     // Whether the permitted set is ascending: no character is below the one before it.
     ascending: bool,
-    // Whether `set` lists the set that counts, and leaves no gap.
+    // Whether the set that counts leaves no gap.
     run: bool,
     // Whether the words are those of the set that counts. Then its characters are below 256.
     worded: bool,
+    // The set that counts, where it is a permitted set or leaves no gap. Else it is empty.
     set: &'s [u32],
     words: CharacterWords,
-    ghost known: { IsKnown name kept set width indexed listed ascending run (some_if worded words) },
+    ghost known: { IsKnown name kept set width indexed ascending run (some_if worded words) },
 }
 
 impl<'s> CharacterAlphabet<'s> {
@@ -56,7 +55,7 @@ impl<'s> CharacterAlphabet<'s> {
     /// The alphabet of the string `S` with a permitted set, which is kept where the string is written by places or
     /// needs more bits than the set does. Else the base set alone counts. A kept set may hold characters that the base
     /// set lacks. The permitted set has at most 2^32 characters.
-    #[inline]
+    #[inline(always)]
     pub fn new<S: StaticPermittedAlphabet>(
         permitted: Option<&'s [u32]>,
         aligned: bool,
@@ -66,26 +65,46 @@ impl<'s> CharacterAlphabet<'s> {
             alphabet_of result ≡ effective S.CHARACTER_SET_NAME set aligned }
     {
         let name = S::CHARACTER_SET_NAME;
-        let permitted = kept_set(name, permitted, aligned);
-        let width = width_for(aligned, count_of(name, permitted));
-        let listing = listing_of(name, permitted);
+        match permitted {
+            Some(set) => CharacterAlphabet::permitted_by(name, set, aligned),
+            None => CharacterAlphabet::on(name, None, aligned),
+        }
+    }
+
+    /// The alphabet of a string and of the permitted set that was kept. A caller that names the string and keeps no set
+    /// gets a constant.
+    #[inline(always)]
+    fn on(name: CharacterSetName, kept: Option<&'s [u32]>, aligned: bool) -> CharacterAlphabet<'s>
+        requires { length (set_of name kept) ≤ 2 ^ 32 }
+        ensures { alphabet_of result ≡ alphabet_on name (option_copied kept.entry) aligned }
+    {
+        let width = width_for(aligned, count_of(name, kept));
+        let listing = listing_of(name, kept);
         let run = listing.run;
-        let largest = largest_in(name, permitted, run);
+        let largest = largest_in(name, kept, run);
         let indexed = codes_of(width) <= largest as u64;
-        let ascending = ascends_in(name, permitted, run);
-        let (worded, words) = parts_of_words(words_of(name, permitted, run, largest));
+        let ascending = ascends_in(name, kept, run);
+        let (worded, words) = parts_of_words(words_of(name, kept, run, largest));
         CharacterAlphabet {
             name,
             width: width as u8,
             indexed,
             kept: listing.kept,
-            listed: listing.listed,
             ascending,
             run,
             worded,
             set: listing.set,
             words,
         }
+    }
+
+    /// The alphabet of a string with this permitted set.
+    #[inline(never)]
+    fn permitted_by(name: CharacterSetName, set: &'s [u32], aligned: bool) -> CharacterAlphabet<'s>
+        requires { length set.now ≤ 2 ^ 32 }
+        ensures { alphabet_of result ≡ effective name (Some set.now) aligned }
+    {
+        CharacterAlphabet::on(name, kept_set(name, set, aligned), aligned)
     }
 
     /// How many bits each character takes, at most 32.
@@ -100,7 +119,7 @@ impl<'s> CharacterAlphabet<'s> {
 
     /// A code of the character. Where it has none, it is `CharacterNotFound` in a permitted set,
     /// and the string's own error in a base set.
-    #[inline]
+    #[inline(always)]
     pub fn encode(&self, character: u32) -> Result<u32, PermittedAlphabetError>
         ensures { Encodes (alphabet_of self.now) character result }
     {
@@ -109,7 +128,7 @@ impl<'s> CharacterAlphabet<'s> {
 
     /// As `encode`. In an ascending set of more than 64 characters it makes at most
     /// w + 1 probes, w being the least width in which its characters have codes.
-    #[inline]
+    #[inline(always)]
     pub fn encode_counted(
         &self,
         character: u32,
@@ -123,38 +142,24 @@ impl<'s> CharacterAlphabet<'s> {
             (alphabet_of self.now).indexed ≡ true →
             OnOk result (probes.old.count + 1 ≤ probes.new.count) }
     {
-        if self.indexed {
-            match self.place_of(character, probes) {
-                Some(place) => Ok(place),
-                None => Err(self.missing(character)),
-            }
-        } else if self.contains(character, probes) {
-            Ok(character)
-        } else {
-            Err(self.missing(character))
+        match self.code_of(character, probes) {
+            Some(code) => Ok(code),
+            None => Err(self.missing(character)),
         }
     }
 
     /// The character of the code. A place past the set is `IndexNotFound`; a value that is not in
     /// the set is refused as by `encode`.
-    #[inline]
+    #[inline(always)]
     pub fn decode(&self, code: u32) -> Result<u32, PermittedAlphabetError>
         ensures character { Decodes (alphabet_of self.now) code result }
         // No code is of two characters.
         ensures of_one { let alphabet = alphabet_of self.now in
             (c d : ℕ) → IsCode alphabet c code → IsCode alphabet d code → c ≡ d }
     {
-        if self.indexed {
-            match self.character_at(code) {
-                Some(character) => Ok(character),
-                None => Err(PermittedAlphabetError::IndexNotFound {
-                    index: code as usize,
-                }),
-            }
-        } else if self.contains(code, &mut Turns::new()) {
-            Ok(code)
-        } else {
-            Err(self.missing(code))
+        match self.character_of(code) {
+            Some(character) => Ok(character),
+            None => Err(self.uncoded(code)),
         }
     }
 
@@ -193,9 +198,67 @@ impl<'s> CharacterAlphabet<'s> {
         }
     }
 
+    /// The error for a number that is no code.
+    #[cold]
+    #[inline(never)]
+    fn uncoded(&self, code: u32) -> PermittedAlphabetError
+        ensures { result ≡ uncoded_error (alphabet_of self.now) code }
+    {
+        if self.indexed {
+            PermittedAlphabetError::IndexNotFound {
+                index: code as usize,
+            }
+        } else {
+            self.missing(code)
+        }
+    }
+
+    /// A code of the character, and None where it has none.
+    #[inline(always)]
+    fn code_of(&self, character: u32, probes: &mut Turns) -> Option<u32>
+        ensures code { MatchOption result
+            (has_character (alphabet_of self.now).characters character ≡ false)
+            (λ k. IsCode (alphabet_of self.now) character k) }
+        ensures counts { probes.old.count ≤ probes.new.count }
+        ensures cost { let set = (alphabet_of self.now).characters in
+            IsLongAscending set → probes.new.count ≤ probes.old.count + ceil_log2 (length set) + 1 }
+        ensures looked { IsLongAscending (alphabet_of self.now).characters →
+            (alphabet_of self.now).indexed ≡ true →
+            OnSome result (probes.old.count + 1 ≤ probes.new.count) }
+    {
+        if self.run {
+            let place = place_in_run(self.set, character, probes)?;
+            return Some(if self.indexed { place } else { character });
+        }
+        if self.indexed {
+            return self.place_of(character, probes);
+        }
+        if self.contains(character, probes) {
+            Some(character)
+        } else {
+            None
+        }
+    }
+
+    /// The character of the code, and None where it is no code.
+    #[inline(always)]
+    fn character_of(&self, code: u32) -> Option<u32>
+        ensures { MatchOption result ((c : ℕ) → ¬ (IsCode (alphabet_of self.now) c code))
+            (λ c. IsCode (alphabet_of self.now) c code) }
+    {
+        if self.indexed {
+            return self.character_at(code);
+        }
+        if self.contains(code, &mut Turns::new()) {
+            Some(code)
+        } else {
+            None
+        }
+    }
+
     /// Whether the set has the character: by its ends where it leaves no gap, by its words where it has
     /// any.
-    #[inline]
+    #[inline(always)]
     fn contains(&self, character: u32, probes: &mut Turns) -> bool
         ensures value { result ≡ has_character (alphabet_of self.now).characters character }
         ensures counts { probes.old.count ≤ probes.new.count }
@@ -226,8 +289,8 @@ impl<'s> CharacterAlphabet<'s> {
         }
     }
 
-    /// A place of the character.
-    #[inline]
+    /// A place of the character, whether or not the set leaves a gap.
+    #[inline(always)]
     fn place_of(&self, character: u32, probes: &mut Turns) -> Option<u32>
         requires { self.now.indexed ≡ true }
         ensures place { let set = (alphabet_of self.now).characters in
@@ -240,70 +303,55 @@ impl<'s> CharacterAlphabet<'s> {
             OnSome result (probes.old.count + 1 ≤ probes.new.count) }
     {
         match self.permitted() {
-            Some(set) => place_among(set, self.run, self.ascending, character, probes),
+            Some(set) => place_by_looks(set, self.ascending, character, probes),
             None => self.name.place_of(character),
         }
     }
 
-    /// The character at a place.
-    #[inline]
+    /// The character at a place: in a set without a gap it is that far from the first.
+    #[inline(always)]
     fn character_at(&self, place: u32) -> Option<u32>
         ensures { result ≡ slice_get (alphabet_of self.now).characters place }
     {
-        if self.listed {
-            self.set.get(place as usize).copied()
-        } else {
-            self.name.character_at(place)
+        if self.run {
+            return character_in_run(self.set, place);
+        }
+        match self.permitted() {
+            Some(set) => set.get(place as usize).copied(),
+            None => self.name.character_at(place),
         }
     }
 }
 
-/// A place of the character in a run: how far it is from the first, which is one probe.
-#[inline]
+/// A place of the character in a run: how far it is from the first, which is one probe. What lies below the first comes
+/// out further than the last.
+#[inline(always)]
 fn place_in_run(set: &[u32], character: u32, probes: &mut Turns) -> Option<u32>
-    requires few { length set.now ≤ 2 ^ 32 }
-    requires run { IsRun set.now }
+    requires { IsRun set.now }
     ensures place { MatchOption result (has_character set.now character ≡ false)
         (λ k. slice_get set.now k ≡ Some character) }
     ensures probe { probes.new.count ≡ probes.old.count + 1 }
 {
     probes.tick();
-    if set.is_empty() {
-        return None;
-    }
-    let first = set[0];
-    if first <= character && ((character - first) as usize) < set.len() {
-        Some(character - first)
+    let distance = character.wrapping_sub(set[0]);
+    if distance < set.len() as u32 {
+        Some(distance)
     } else {
         None
     }
 }
 
-/// A place of the character, by halves where the set is long and ascending.
-#[inline]
-fn place_among(
-    set: &[u32],
-    run: bool,
-    ascending: bool,
-    character: u32,
-    probes: &mut Turns,
-) -> Option<u32>
-    requires few { length set.now ≤ 2 ^ 32 }
-    requires gapless { run ≡ true → IsRun set.now }
-    requires ascends { ascending ≡ true → IsNonDecreasing set.now }
-    requires not_ascending { ascending ≡ false → ¬ (IsNonDecreasing set.now) }
-    ensures place { MatchOption result (has_character set.now character ≡ false)
-        (λ k. slice_get set.now k ≡ Some character) }
-    ensures counts { probes.old.count ≤ probes.new.count }
-    ensures cost { IsLongAscending set.now →
-        probes.new.count ≤ probes.old.count + ceil_log2 (length set.now) + 1 }
-    ensures looked { IsLongAscending set.now →
-        OnSome result (probes.old.count + 1 ≤ probes.new.count) }
+/// The character at a place of a run.
+#[inline(always)]
+fn character_in_run(set: &[u32], place: u32) -> Option<u32>
+    requires { IsRun set.now }
+    ensures { result ≡ slice_get set.now place }
 {
-    if run {
-        place_in_run(set, character, probes)
+    let first = set[0];
+    if place < set.len() as u32 {
+        Some(first + place)
     } else {
-        place_by_looks(set, ascending, character, probes)
+        None
     }
 }
 
@@ -331,16 +379,11 @@ fn place_by_looks(set: &[u32], ascending: bool, character: u32, probes: &mut Tur
 
 /// The permitted set, where it is kept.
 #[inline]
-fn kept_set<'s>(
-    name: CharacterSetName,
-    permitted: Option<&'s [u32]>,
-    aligned: bool,
-) -> Option<&'s [u32]>
-    requires { ForSome (option_copied permitted) (λ set. length set ≤ 2 ^ 32) }
-    ensures set { option_copied result ≡ kept_set name (option_copied permitted.entry) aligned }
+fn kept_set<'s>(name: CharacterSetName, set: &'s [u32], aligned: bool) -> Option<&'s [u32]>
+    requires { length set.now ≤ 2 ^ 32 }
+    ensures set { option_copied result ≡ kept_set name (Some set.now) aligned }
     ensures few { length (set_of name result) ≤ 2 ^ 32 }
 {
-    let set = permitted?;
     let count = (set.len() as u64).max(1);
     if name.is_indexed() || align(aligned, ceil_log2(count)) < name.width() as u32 {
         Some(set)
@@ -408,12 +451,11 @@ fn words_of(
     }
 }
 
-// How the set that counts lies in memory: whether it is a permitted set, whether `set` lists it, and
-// whether that leaves no gap.
+// How the set that counts lies in memory: whether it is a permitted set, and whether it is known to leave no gap. In
+// both cases `set` lists it.
 #[derive(Clone, Copy)]
 struct Listing<'s> {
     kept: bool,
-    listed: bool,
     run: bool,
     set: &'s [u32],
 }
@@ -422,28 +464,23 @@ struct Listing<'s> {
 #[inline]
 fn listing_of<'s>(name: CharacterSetName, kept: Option<&'s [u32]>) -> Listing<'s>
     ensures kept { some_if result.kept result.set ≡ kept.entry }
-    ensures listing { result.listed ≡ true → result.set.now ≡ set_of name kept.entry }
-    ensures unlisted { result.listed ≡ false → result.kept ≡ false }
+    ensures listing { result.run ≡ true → result.set.now ≡ set_of name kept.entry }
     ensures gapless { result.run ≡ true → IsRun (set_of name kept.entry) }
-    ensures runs_listed { result.run ≡ true → result.listed ≡ true }
 {
     match kept {
         Some(set) => Listing {
             kept: true,
-            listed: true,
             run: is_run(set),
             set,
         },
         None => match name.table() {
-            Some(set) => Listing {
+            Some(set) if leaves_no_gap(name) => Listing {
                 kept: false,
-                listed: true,
-                run: leaves_no_gap(name),
+                run: true,
                 set,
             },
-            None => Listing {
+            _ => Listing {
                 kept: false,
-                listed: false,
                 run: false,
                 set: &[],
             },

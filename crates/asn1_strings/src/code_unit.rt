@@ -4,7 +4,7 @@ ghost use Rattle.std.specs.Ordering.{nat_cmp};
 ghost use Rattle.std.specs.Cmp.Lexicographic.{pointwise, slice_cmp};
 ghost use Rattle.std.specs.Int.{w16, from_be_bytes};
 ghost use Rattle.std.proofs.Common.{lit≤};
-ghost use Rattle.asn1_characters.specs.Sets.{base_set, has_character};
+ghost use Rattle.asn1_characters.specs.Sets.{base_set, has_character, largest};
 ghost use Rattle.asn1_strings.specs.Pieces.{pieces, unsigned};
 
 use asn1_characters::CharacterSetName;
@@ -76,6 +76,11 @@ impl CodeUnit for u8 {
     }
 
     fn are_in(name: CharacterSetName, octets: &[u8]) -> bool {
+        match name {
+            CharacterSetName::IA5 => return lie_between(octets, 0, 0x7F),
+            CharacterSetName::Visible => return lie_between(octets, 0x20, 0x7E),
+            _ => {}
+        }
         let mut right = true;
         for octet in octets {
             right = right & name.has_octet(*octet);
@@ -120,6 +125,9 @@ impl CodeUnit for u16 {
 
     fn are_in(name: CharacterSetName, octets: &[u8]) -> bool {
         let (pairs, _) = octets.as_chunks::<2>();
+        if let CharacterSetName::Bmp = name {
+            return largest_pair(pairs) <= 0xFFFD;
+        }
         let mut right = true;
         for pair in pairs {
             right = right & name.contains(u32::from(u16::from_be_bytes(*pair)));
@@ -129,9 +137,10 @@ impl CodeUnit for u16 {
 
     fn of_octets(alloc: Global, octets: &[u8]) -> Result<Vec<u16>, AllocError> {
         let (pairs, _) = octets.as_chunks::<2>();
-        let mut units = Vec::new(alloc);
-        units.resize(pairs.len(), 0)?;
-        put_pairs(units.as_mut_slice(), pairs);
+        let mut units = Vec::with_capacity(alloc, pairs.len())?;
+        for pair in pairs {
+            units.push_reserved(u16::from_be_bytes(*pair));
+        }
         Ok(units)
     }
 
@@ -146,12 +155,26 @@ impl CodeUnit for u16 {
     ghost few_octets = { lit≤ tt };
 }
 
-/// Puts the number of each pair of octets in its unit.
-fn put_pairs(units: &mut [u16], pairs: &[[u8; 2]])
-    requires { length units.old ≡ length pairs.now }
-    ensures { units.new ≡ map (from_be_bytes w16) pairs.now }
+/// Whether octets were seen to lie between two ends: by the largest distance from the first end. What lies below it
+/// comes out further than the last.
+fn lie_between(octets: &[u8], first: u8, last: u8) -> bool
+    requires { first ≤ last }
+    ensures { result ≡ true → All (λ c. (first ≤ c) × (c ≤ last)) octets.now }
 {
-    for (i, pair) in pairs.iter().enumerate() {
-        units[i] = u16::from_be_bytes(*pair);
+    let mut most = 0;
+    for octet in octets {
+        most = most.max(octet.wrapping_sub(first));
     }
+    most <= last - first
+}
+
+/// The largest number of a pair of octets, or 0.
+fn largest_pair(pairs: &[[u8; 2]]) -> u16
+    ensures { result ≡ largest (map (from_be_bytes w16) pairs.now) }
+{
+    let mut most = 0;
+    for pair in pairs {
+        most = most.max(u16::from_be_bytes(*pair));
+    }
+    most
 }

@@ -15,17 +15,13 @@ pub(crate) fn largest_of(set: &[u32]) -> u32
     most
 }
 
-/// The largest character of a list without a gap, or 0: its last.
+/// The largest character of a list without a gap: its last.
 #[inline]
 pub(crate) fn largest_of_run(set: &[u32]) -> u32
     requires { IsRun set.now }
     ensures { result ≡ largest set.now }
 {
-    if set.is_empty() {
-        0
-    } else {
-        set[set.len() - 1]
-    }
+    set[set.len() - 1]
 }
 
 /// A place of the character.
@@ -87,21 +83,23 @@ pub(crate) fn is_ascending(set: &[u32]) -> bool
     true
 }
 
-/// Whether the characters follow one another without a gap. None of them ends the test, so that many
+/// Whether some characters follow one another without a gap. None of them ends the test, so that many
 /// are tested at once.
 pub(crate) fn is_run(set: &[u32]) -> bool
     ensures { result ≡ true → IsRun set.now }
 {
-    let Some(first) = set.first() else {
-        return true;
-    };
-    let first = *first;
-    if first as u64 + set.len() as u64 > 1 << 32 {
+    if set.is_empty() {
+        return false;
+    }
+    let first = set[0];
+    if first as u64 + set.len() as u64 >= 1 << 32 {
         return false;
     }
     let mut run = true;
-    for (i, character) in set.iter().enumerate() {
-        run = run & (*character == first + i as u32);
+    let mut next = first;
+    for character in set {
+        run = run & (*character == next);
+        next += 1;
     }
     run
 }

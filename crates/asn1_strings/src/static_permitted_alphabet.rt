@@ -135,11 +135,7 @@ pub trait StaticPermittedAlphabet: Sized + Drop {
         if width == <Self::T as CodeUnit>::OCTETS && <Self::T as CodeUnit>::are_in(name, input) {
             return copied_octets::<Self>(alloc, input);
         }
-        let octets = OctetPieces {
-            octets: input,
-            width,
-        };
-        string_of::<Self, OctetPieces<'_>>(alloc, &octets)
+        string_of_pieces::<Self>(alloc, input, width)
     }
 
     /// The string that these octets are the contents of (X.690 8.21): one octet a character, two in
@@ -274,6 +270,22 @@ pub(crate) fn string_of<S: StaticPermittedAlphabet, C: Characters>(
         }
     }
     copied::<S, C>(alloc, source)
+}
+
+/// The string of characters of `width` octets each, one by one: out of line, since mostly they are right and of the
+/// string's own width.
+#[inline(never)]
+fn string_of_pieces<S: StaticPermittedAlphabet>(
+    alloc: Global,
+    octets: &[u8],
+    width: usize,
+) -> Result<S, PermittedAlphabetError>
+    requires some { 1 ≤ width }
+    requires few { width ≤ 4 }
+    ensures { Answers S.characters result
+        (string_of_characters S.CHARACTER_SET_NAME (map unsigned (pieces width octets.now))) }
+{
+    string_of::<S, OctetPieces<'_>>(alloc, &OctetPieces { octets, width })
 }
 
 /// The string of characters that its set has.

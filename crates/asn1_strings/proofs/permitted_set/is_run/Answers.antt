@@ -1,6 +1,8 @@
 use Rattle.std.proofs.Common.{arith}
+use Rattle.std.proofs.lemmas.Bool.Decides.{nat_tests}
 use Rattle.asn1_strings.proofs.RunLemmas.{run_from_places}
 use Rattle.asn1_strings.proofs.permitted_set.is_run.Goals as goal
 
 pub returns : goal.returns
-returns c = λ told. run_from_places c.args.set.now _ (λ k lt. c.loop-i.invariant told k (omega arith))
+returns c = λ told. run_from_places c.args.set.now _ (grind (arith, nat_tests)) (omega arith)
+    (λ k lt. c.loop-character.invariant.run told k (omega arith))

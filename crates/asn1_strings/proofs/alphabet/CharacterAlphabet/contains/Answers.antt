@@ -9,7 +9,7 @@ returns-then-self-clause-value c =
     let known = c.args.self.now.known in
     c.is_some.ensures
     ∙ found_is c.args.self.now.set.now c.args.character c.place_in_run.result c.place_in_run.ensures.place
-    ∙ ap (λ set. has_character set c.args.character) (known.listing (known.runs_listed c.if-self.true))
+    ∙ ap (λ set. has_character set c.args.character) (known.listing c.if-self.true)
 
 pub returns-then-self-2-clause-value : goal.returns-then-self-2-clause-value
 returns-then-self-2-clause-value c =

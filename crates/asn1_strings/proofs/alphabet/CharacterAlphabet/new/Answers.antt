@@ -1,31 +1,5 @@
-use Rattle.std.proofs.Common.{refl}
-use Rattle.asn1_strings.proofs.AlphabetLemmas.{few_places, is_some_if, none_if}
+use Rattle.asn1_characters.specs.TableLaws.{few_in_base}
 use Rattle.asn1_strings.proofs.alphabet.CharacterAlphabet.new.Goals as goal
 
-pub invariant_of-result : goal.invariant_of-result
-invariant_of-result g c =
-    let is = c.listing_of-listing.ensures.kept in
-    record {
-      known = rw c.parts_of_words-worded.ensures (record {
-        narrow = c.width_for-width.ensures.bound;
-        few = rw is c.kept_set-permitted.ensures.few;
-        room = rw is (rw c.count_of.ensures at c.width_for-width.ensures.enough);
-        by_place = rw is (rw (c.codes_of.ensures, c.largest_in-largest.ensures) refl);
-        listing = rw is c.listing_of-listing.ensures.listing;
-        unlisted = c.listing_of-listing.ensures.unlisted;
-        ascends = rw is c.ascends_in-ascending.ensures.ascends;
-        not_ascending =
-            λ told kept. rw is (c.ascends_in-ascending.ensures.not_ascending told
-            (is_some_if c.listing_of-listing.result.kept c.listing_of-listing.result.set c.kept_set-permitted.result is
-            kept));
-        gapless = rw is c.listing_of-listing.ensures.gapless;
-        runs_listed = c.listing_of-listing.ensures.runs_listed;
-        few_places =
-            λ none by. rw is (few_places c.CHARACTER_SET_NAME-name.result c.kept_set-permitted.result c.args.aligned
-            (none_if c.listing_of-listing.result.kept c.listing_of-listing.result.set c.kept_set-permitted.result is
-            none)
-            (rw (c.codes_of.ensures, c.largest_in-largest.ensures, c.width_for-width.ensures.value, c.count_of.ensures)
-            at by));
-        worded = rw is c.words_of.ensures;
-      });
-    }
+pub on-requires : goal.on-requires
+on-requires g c = few_in_base c.CHARACTER_SET_NAME-name.result

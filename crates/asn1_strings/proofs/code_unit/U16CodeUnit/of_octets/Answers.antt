@@ -1,12 +1,12 @@
-use Rattle.std.proofs.Common.{map, length, drop, ap, ◌≡◌, ◌∙◌, arith}
+use Rattle.std.proofs.Common.{map, ap, ◌∙◌, arith}
 use Rattle.std.specs.Int.{w16, from_be_bytes}
-use Rattle.asn1_strings.proofs.OctetLemmas.{filled}
+use Rattle.std.proofs.lemmas.List.{take_all}
+use Rattle.asn1_strings.proofs.OctetLemmas.{units_of_pairs}
 use Rattle.asn1_strings.proofs.code_unit.U16CodeUnit.of_octets.Goals as goal
 
 pub returns-clause-units : goal.returns-clause-units
 returns-clause-units c =
-    let units = c.put_pairs.new.units in
-    let long : length units ≡ c.resize.new.self.len =
-    omega (arith, c.put_pairs.auto.units, c.as_mut_slice.ensures.len) in
-    filled c.resize.new.self.len units (drop (length units) c.resize.new.self.items) c.args.octets.now long
-    (c.put_pairs.ensures ∙ ap (map (from_be_bytes w16)) c.as_chunks.ensures.front)
+    let chunks = c.as_chunks.result.0.now in
+    let all = take_all c.loop-pair.pair-index chunks (omega arith) in
+    units_of_pairs c.args.octets.now c.loop-pair.units.items
+    (c.loop-pair.invariant.items ∙ ap (map (from_be_bytes w16)) (all ∙ c.as_chunks.ensures.front))
