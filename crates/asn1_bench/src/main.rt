@@ -1,17 +1,19 @@
 //! How long pieces of work take: `asn1_bench` lists them, `asn1_bench ROUNDS` times each, best of so many rounds.
 #![tactic(auto)]
 
+mod alphabets;
 mod bits;
 mod fields;
 mod numbers;
 mod row;
 mod strings;
 
+use crate::alphabets::{Codes, Set};
 use crate::bits::{Appended, Copied, Numbers};
 use crate::fields::{Characters, Integers, Message, Widths};
 use crate::numbers::{Arcs, Octets};
 use crate::row::{Row, machine, show};
-use crate::strings::{Codes, Text};
+use crate::strings::{Bits, Kind, Text};
 use std::env;
 
 fn main(rt: HostRuntime) -> anyhow::Result<()> {
@@ -29,12 +31,34 @@ fn main(rt: HostRuntime) -> anyhow::Result<()> {
     show(&rt, &mut Appended::new(), rounds)?;
     show(&rt, &mut Octets::new(), rounds)?;
     show(&rt, &mut Arcs::new(), rounds)?;
-    show(&rt, &mut Codes::new(), rounds)?;
-    show(&rt, &mut Text::new(alloc)?, rounds)?;
+    for set in [Set::Ten, Set::Twenty, Set::FiftyFour, Set::Many] {
+        show(&rt, &mut Codes::new(alloc, set)?, rounds)?;
+    }
+    show_strings(&rt, rounds)?;
     show(&rt, &mut Widths::new(alloc, 7)?, rounds)?;
     show(&rt, &mut Widths::new(alloc, 64)?, rounds)?;
     show(&rt, &mut Integers::new(alloc)?, rounds)?;
     show(&rt, &mut Characters::new(alloc)?, rounds)?;
     show(&rt, &mut Message::new(alloc)?, rounds)?;
     Ok(())
+}
+
+/// The rows of strings.
+fn show_strings(rt: &HostRuntime, rounds: u32) -> anyhow::Result<()> {
+    let alloc = rt.alloc();
+    let kinds = [
+        Kind::Bmp,
+        Kind::General,
+        Kind::Graphic,
+        Kind::Ia5,
+        Kind::Numeric,
+        Kind::Printable,
+        Kind::Teletex,
+        Kind::Visible,
+    ];
+    for kind in kinds {
+        show(rt, &mut Text::new(alloc, kind)?, rounds)?;
+    }
+    show(rt, &mut Bits::new(alloc, true)?, rounds)?;
+    show(rt, &mut Bits::new(alloc, false)?, rounds)
 }

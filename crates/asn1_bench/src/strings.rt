@@ -1,70 +1,71 @@
-//! Strings from octets, and codes of characters.
+//! Strings from octets and from bits.
 
 use crate::bits::octets_of;
 use crate::row::Row;
-use asn1_values::{CharacterAlphabet, Ia5String, StaticPermittedAlphabet};
+use asn1_values::{
+    BitStr, BmpString, GeneralString, GraphicString, Ia5String, NumericString, PrintableString,
+    StaticPermittedAlphabet, TeletexString, VisibleString,
+};
 use std::alloc::{AllocError, Global};
 
-/// The characters of an alphabet of twenty.
-const SET: [u32; 20] = [
-    45, 46, 65, 66, 67, 68, 69, 70, 71, 72, 97, 98, 99, 100, 101, 102, 103, 104, 105, 106,
-];
-
-/// Codes in an alphabet of twenty characters.
-#[derive(Drop)]
-pub struct Codes {}
-
-impl Codes {
-    /// Of an `Ia5String`.
-    pub fn new() -> Codes {
-        Codes {}
-    }
+/// The strings.
+#[derive(Clone, Copy)]
+pub enum Kind {
+    Bmp,
+    General,
+    Graphic,
+    Ia5,
+    Numeric,
+    Printable,
+    Teletex,
+    Visible,
 }
 
-impl Row for Codes {
-    fn name(&self) -> &'static str {
-        "a code in an alphabet of 20 characters, and its character"
-    }
-
-    fn pieces(&self) -> u64 {
-        1000
-    }
-
-    fn octets(&self) -> u64 {
-        0
-    }
-
-    fn round(&mut self, _alloc: Global) -> Result<u64, AllocError> {
-        let alphabet = CharacterAlphabet::new::<Ia5String>(Some(&SET), false);
-        let mut sum = 0u64;
-        for i in 0..1000usize {
-            let code = alphabet.encode(SET[i % 20]).unwrap_or(0);
-            sum = sum.wrapping_add(u64::from(alphabet.decode(code).unwrap_or(0)));
-        }
-        Ok(sum)
-    }
-}
-
-/// `Ia5String`s from octets.
+/// Strings of 1,024 digits from octets, of which two make a character of `BmpString`.
 #[derive(Drop)]
 pub struct Text {
+    kind: Kind,
     octets: Vec<u8>,
 }
 
 impl Text {
-    /// Of 1,024 octets.
-    pub fn new(alloc: Global) -> Result<Text, AllocError> {
-        let mut octets = octets_of(alloc, 1024)?;
+    /// Of one string.
+    pub fn new(alloc: Global, kind: Kind) -> Result<Text, AllocError> {
+        let count = match kind {
+            Kind::Bmp => 2048,
+            _ => 1024,
+        };
+        let mut octets = octets_of(alloc, count)?;
         for octet in octets.iter_mut() {
-            *octet = *octet % 128;
+            *octet = 48 + *octet % 10;
         }
-        Ok(Text { octets })
+        Ok(Text { kind, octets })
     }
+}
+
+/// How many characters a hundred strings of these octets have.
+fn read<S: StaticPermittedAlphabet>(alloc: Global, octets: &[u8]) -> u64 {
+    let mut sum = 0u64;
+    for _ in 0..100 {
+        if let Ok(text) = S::try_from_slice(alloc, octets) {
+            sum = sum.wrapping_add(text.len() as u64);
+        }
+    }
+    sum
 }
 
 impl Row for Text {
     fn name(&self) -> &'static str {
-        "an Ia5String from 1024 octets"
+        match self.kind {
+            Kind::Bmp => "a BmpString from 2048 octets",
+            Kind::General => "a GeneralString from 1024 octets",
+            Kind::Graphic => "a GraphicString from 1024 octets",
+            Kind::Ia5 => "an Ia5String from 1024 octets",
+            Kind::Numeric => "a NumericString from 1024 octets",
+            Kind::Printable => "a PrintableString from 1024 octets",
+            Kind::Teletex => "a TeletexString from 1024 octets",
+            Kind::Visible => "a VisibleString from 1024 octets",
+        }
     }
 
     fn pieces(&self) -> u64 {
@@ -72,16 +73,85 @@ impl Row for Text {
     }
 
     fn octets(&self) -> u64 {
-        102_400
+        match self.kind {
+            Kind::Bmp => 204_800,
+            _ => 102_400,
+        }
     }
 
     fn round(&mut self, alloc: Global) -> Result<u64, AllocError> {
-        let mut sum = 0u64;
-        for _ in 0..100 {
-            if let Ok(text) = Ia5String::try_from_slice(alloc, self.octets.as_slice()) {
-                sum = sum.wrapping_add(text.len() as u64);
+        let octets = self.octets.as_slice();
+        Ok(match self.kind {
+            Kind::Bmp => read::<BmpString>(alloc, octets),
+            Kind::General => read::<GeneralString>(alloc, octets),
+            Kind::Graphic => read::<GraphicString>(alloc, octets),
+            Kind::Ia5 => read::<Ia5String>(alloc, octets),
+            Kind::Numeric => read::<NumericString>(alloc, octets),
+            Kind::Printable => read::<PrintableString>(alloc, octets),
+            Kind::Teletex => read::<TeletexString>(alloc, octets),
+            Kind::Visible => read::<VisibleString>(alloc, octets),
+        })
+    }
+}
+
+/// Strings of 1,024 characters from the bits of their codes: of `NumericString` four a character, of `Ia5String` seven.
+#[derive(Drop)]
+pub struct Bits {
+    numeric: bool,
+    octets: Vec<u8>,
+}
+
+impl Bits {
+    /// Of one of the two strings.
+    pub fn new(alloc: Global, numeric: bool) -> Result<Bits, AllocError> {
+        let mut octets = octets_of(alloc, if numeric { 512 } else { 896 })?;
+        if numeric {
+            for octet in octets.iter_mut() {
+                *octet = *octet % 10 * 16 + *octet % 9;
             }
         }
-        Ok(sum)
+        Ok(Bits { numeric, octets })
+    }
+}
+
+/// How many characters a hundred strings of these bits have.
+fn read_bits<S: StaticPermittedAlphabet>(alloc: Global, bits: BitStr<'_>) -> u64 {
+    let mut sum = 0u64;
+    for _ in 0..100 {
+        if let Ok(text) = S::try_from_permitted_alphabet(alloc, bits, None) {
+            sum = sum.wrapping_add(text.len() as u64);
+        }
+    }
+    sum
+}
+
+impl Row for Bits {
+    fn name(&self) -> &'static str {
+        if self.numeric {
+            "a NumericString of 1024 characters from bits, four a character"
+        } else {
+            "an Ia5String of 1024 characters from bits, seven a character"
+        }
+    }
+
+    fn pieces(&self) -> u64 {
+        100
+    }
+
+    fn octets(&self) -> u64 {
+        if self.numeric { 51_200 } else { 89_600 }
+    }
+
+    fn round(&mut self, alloc: Global) -> Result<u64, AllocError> {
+        let octets = self.octets.as_slice();
+        if octets.len() > 1024 {
+            return Ok(0);
+        }
+        let bits = BitStr::from_octets(octets);
+        Ok(if self.numeric {
+            read_bits::<NumericString>(alloc, bits)
+        } else {
+            read_bits::<Ia5String>(alloc, bits)
+        })
     }
 }
