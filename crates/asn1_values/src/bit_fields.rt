@@ -2,6 +2,7 @@
 //! over those of octets, and read back from any bit of a storage.
 
 mod error;
+mod examine;
 mod field;
 mod read;
 mod shape;

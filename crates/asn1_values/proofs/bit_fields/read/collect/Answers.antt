@@ -49,7 +49,8 @@ loop-i-preserved c =
 
 pub returns-in_err-append_next-clause-err : goal.returns-in_err-append_next-clause-err
 returns-in_err-append_next-clause-err c =
-    let p = err_from_is_err_and c.from_residual-in_err-append_next.result c.from_residual-in_err-append_next.ensures.1 in
+    let from = c.from_residual-in_err-append_next in
+    let p = err_from_is_err_and from.result from.ensures.1 in
     rw (p.1, p.2) (λ ne.
     examined_stop c.args.shapes.now c.loop-i.i c.index-shapes-i.result (bits_left c.loop-i.reader)
     c.in_err-append_next.field-0.0

@@ -69,7 +69,8 @@ returns-in-Ok-clause-named c = λ e ne is.
     (can_begin (bits_left c.args.reader.now) c.args.shapes.now (rw c.in-Ok.ensures.fields refl)) ne is)
 
 pub refusal_of-requires : goal.refusal_of-requires
-refusal_of-requires c = λ ne. refusal (bits_left c.args.reader.now) c.args.shapes.now c.in-Err.met (c.in-Err.ensures.err ne)
+refusal_of-requires c = λ ne.
+    refusal (bits_left c.args.reader.now) c.args.shapes.now c.in-Err.met (c.in-Err.ensures.err ne)
 
 pub returns-in-Err-clause-accepted : goal.returns-in-Err-clause-accepted
 returns-in-Err-clause-accepted c = λ can.

@@ -3,7 +3,7 @@ use Rattle.asn1_bits.specs.BitReader.{bits_left}
 use Rattle.asn1_values.specs.Plain.{plain_shapes}
 use Rattle.asn1_values.specs.Walk.{fields_at}
 use Rattle.asn1_values.specs.Steps.{past_all}
-use Rattle.asn1_values.proofs.bit_fields.read.examine_all.Given as goal
+use Rattle.asn1_values.proofs.bit_fields.examine.examine_all.Given as goal
 
 -- what is still to be examined gives what all of it gives
 abbrev pub invariant-loop-i : goal.invariant-loop-i

@@ -4,7 +4,7 @@ use Rattle.asn1_bits.specs.BitStr.{view_of}
 use Rattle.asn1_oid.specs.declared.contents.ContentsError.{ContentsError}
 use Rattle.asn1_values.specs.Steps.{past}
 use Rattle.asn1_values.proofs.IdentifierKind.{source_is, identifier_there, identifier_large, identifier_none}
-use Rattle.asn1_values.proofs.bit_fields.read.examine_identifier.Goals as goal
+use Rattle.asn1_values.proofs.bit_fields.examine.examine_identifier.Goals as goal
 
 pub returns-in-Ok-clause-ok : goal.returns-in-Ok-clause-ok
 returns-in-Ok-clause-ok c =

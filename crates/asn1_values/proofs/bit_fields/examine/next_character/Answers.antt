@@ -4,7 +4,7 @@ use Rattle.asn1_strings.specs.AlphabetView.{alphabet_of}
 use Rattle.asn1_bits.specs.Bits.{number}
 use Rattle.asn1_values.specs.Steps.{past}
 use Rattle.asn1_values.proofs.CharacterKind.{character_refused, cut_twice}
-use Rattle.asn1_values.proofs.bit_fields.read.next_character.Goals as goal
+use Rattle.asn1_values.proofs.bit_fields.examine.next_character.Goals as goal
 
 pub returns-in-Err-clause-err : goal.returns-in-Err-clause-err
 returns-in-Err-clause-err c =

@@ -4,7 +4,7 @@ use Rattle.asn1_values.specs.Plain.{plain_shapes}
 use Rattle.asn1_values.specs.Walk.{fields_at}
 use Rattle.asn1_values.specs.Steps.{past_all}
 use Rattle.asn1_values.proofs.WalkLemmas.{examined_more, examined_stop, examined_all, is_ok_from_past}
-use Rattle.asn1_values.proofs.bit_fields.read.examine_all.Goals as goal
+use Rattle.asn1_values.proofs.bit_fields.examine.examine_all.Goals as goal
 
 pub returns-in_err-examine-clause-err : goal.returns-in_err-examine-clause-err
 returns-in_err-examine-clause-err c =
