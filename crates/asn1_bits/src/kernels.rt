@@ -1,6 +1,6 @@
 //! The kernels: bits of octets read and written at any place.
 
-ghost use Rattle.std.specs.Prelude.{◌≡◌, ◌+◌, ◌-◌, ◌*◌, ◌%◌, ◌^◌, ◌++◌, pos, ◌<◌, ◌≤◌, ◌↔◌, length, take, drop, vec_len, OnOk, OnErr, IsOk, IsSome, IfSome, All};
+ghost use Rattle.std.specs.Prelude.{◌≡◌, ◌+◌, ◌-◌, ◌*◌, ◌/◌, ◌%◌, ◌^◌, ◌++◌, pos, ◌<◌, ◌≤◌, ◌↔◌, length, take, drop, vec_len, OnOk, OnErr, IsOk, IsSome, IfSome, All};
 ghost use Rattle.std.specs.Int.{div_ceil};
 ghost use Rattle.asn1_bits.specs.Bits.{bits, digits, number, ored};
 ghost use Rattle.asn1_bits.specs.BitStr.{view_of, bits_of};
@@ -10,7 +10,7 @@ ghost use Rattle.asn1_bits.specs.View.{IsAligned};
 use crate::bit_str::BitStr;
 use crate::single_bits::from_octet;
 use crate::turns::Turns;
-use crate::window::{load, or_word, whole_word, wide_of_seventeen, word_of_nine};
+use crate::window::{load, or_word, or_words, whole_word, wide_of_seventeen, word_of_nine};
 use std::alloc::AllocError;
 
 /// ORs the first `count` bits of `src` into `dst` from bit `position` on, and leaves every other bit. Both lie within
@@ -57,22 +57,49 @@ fn write_long(dst: &mut [u8], position: usize, src: BitStr<'_>, turns: &mut Turn
     let len = src.len();
     let words = len / 64;
     let tail = len % 64;
-    let spill = position % 8;
-    // A word a turn. Off an octet boundary a word's last bits lie in the eight octets behind: they go in with the next
-    // word, and those of the last word by themselves.
-    or_word(dst, position, src.word(0, 64 - spill), 64 - spill);
-    turns.tick();
-    src.or_words(64 - spill, dst, position / 8 + 8, words - 1, turns);
-    src.or_edge(
-        64 * words - spill,
-        spill,
-        dst,
-        position + 64 * words - spill,
-    );
+    write_words(dst, position, src.slice(0, 64 * words), turns);
     if tail > 0 {
         or_word(dst, position + 64 * words, src.word(64 * words, tail), tail);
         turns.tick();
     }
+}
+
+/// ORs a view of whole words in: a word a turn.
+#[inline(always)]
+fn write_words(dst: &mut [u8], position: usize, src: BitStr<'_>, turns: &mut Turns)
+    requires some { 64 ≤ (view_of src).len }
+    requires whole { (view_of src).len % 64 ≡ 0 }
+    requires room { position + (view_of src).len ≤ 8 * length dst.old }
+    requires fits { position + (view_of src).len < 2 ^ 64 }
+    ensures bits { bits dst.new ≡ ored (bits dst.old) position (bits_of src.entry) }
+    ensures turns { turns.new.count ≡ turns.old.count + (view_of src.entry).len / 64 }
+{
+    if position % 8 == 0 {
+        if let Some(octets) = src.aligned() {
+            or_words(dst, position / 8, octets, src.len() / 64, turns);
+            return;
+        }
+    }
+    write_spilling(dst, position, src, turns);
+}
+
+/// As `write_words`, from and to any bit of an octet. Off an octet boundary a word's last bits lie in the eight octets
+/// behind: they go in with the next word, and those of the last word by themselves.
+#[inline(always)]
+fn write_spilling(dst: &mut [u8], position: usize, src: BitStr<'_>, turns: &mut Turns)
+    requires some { 64 ≤ (view_of src).len }
+    requires whole { (view_of src).len % 64 ≡ 0 }
+    requires room { position + (view_of src).len ≤ 8 * length dst.old }
+    requires fits { position + (view_of src).len < 2 ^ 64 }
+    ensures bits { bits dst.new ≡ ored (bits dst.old) position (bits_of src.entry) }
+    ensures turns { turns.new.count ≡ turns.old.count + (view_of src.entry).len / 64 }
+{
+    let len = src.len();
+    let spill = position % 8;
+    or_word(dst, position, src.word(0, 64 - spill), 64 - spill);
+    turns.tick();
+    src.or_words(64 - spill, dst, position / 8 + 8, len / 64 - 1, turns);
+    src.or_edge(len - spill, spill, dst, position + len - spill);
 }
 
 /// The number of the `width` bits from bit `position` on, the first of them its highest digit. `width` is at most 128,
