@@ -2,7 +2,8 @@
 use Rattle.std.proofs.Common.{◌≡◌, ℕ, zero, suc, ◌+◌, ◌-◌, ◌*◌, ◌/◌, ◌%◌, ◌^◌, ◌<◌, ◌≤◌, max, Bool, false, eqb, ◌||◌, List, ◌++◌, length, get_or, set, take, drop, replicate, refl, sym, ap, ◌∙◌, inl, inr, append_assoc, arith}
 use Rattle.std.specs.Prelude.{bit_or}
 use Rattle.std.specs.Int.{bit_at, bytes_high_first, from_be_bytes, w64}
-use Rattle.std.proofs.Math.Nat.{mul_assoc, mul-mod_left, div-eq_of_lt}
+use Rattle.std.proofs.Math.Nat.{mul_assoc, mul-mod_left, div-eq_of_lt, mod-eq_of_lt}
+use Rattle.std.proofs.Math.Pow.{pow_mono}
 use Rattle.std.proofs.Math.Seq.{take-add}
 use Rattle.std.proofs.lemmas.Bool.{cases_eq, cases_lt}
 use Rattle.std.proofs.lemmas.List.{length-append, length-replicate, length-set, length-take, length-drop, ext_get_or, get_or-set_same, get_or-set_other, get_or-take, get_or-drop, get_or_past, drop_at, drop-drop, drop-take, take-take, take_at, take_all, drop_more, replicate-append-replicate}
@@ -90,6 +91,23 @@ window_is n width rest shift =
     ∙ ap (λ (m : ℕ). (n % 2 ^ width) * m) (pow-add 2 rest shift)
     ∙ sym (mul_assoc (n % 2 ^ width) (2 ^ rest) (2 ^ shift)))
     ∙ shl-shr ((n % 2 ^ width) * 2 ^ rest) shift
+
+-- a number is moved to a place in a word by one shift
+pub moved : (n width shift : ℕ) → shift + width ≤ 64 → n < 2 ^ width
+    → n * 2 ^ (64 - width - shift) % 2 ^ 64 ≡ n * 2 ^ (64 - width) % 2 ^ 64 / 2 ^ shift
+moved n width shift fits small =
+    let rest = 64 - width - shift in
+    let high = shift + width in
+    let all : 64 ≡ high + rest = omega arith in
+    let whole : 64 ≡ width + (rest + shift) = omega arith in
+    let behind : 64 - width ≡ rest + shift = omega arith in
+    let wide : n < 2 ^ high = omega (arith, small, pow_mono {i = width} {j = high} (omega arith)) in
+    ap (λ (k : ℕ). n * 2 ^ rest % 2 ^ k) all
+    ∙ top-shifted n high rest
+    ∙ ap (λ (m : ℕ). m * 2 ^ rest) (mod-eq_of_lt wide ∙ sym (mod-eq_of_lt small))
+    ∙ sym (window_is n width rest shift)
+    ∙ ap (λ (k : ℕ). n * 2 ^ (rest + shift) % 2 ^ k / 2 ^ shift) (sym whole)
+    ∙ ap (λ (j : ℕ). n * 2 ^ j % 2 ^ 64 / 2 ^ shift) (sym behind)
 
 -- digits moved to a place in a window, with zeros round them
 pub window-digits : (n width rest shift : ℕ)

@@ -9,6 +9,7 @@ ghost use Rattle.asn1_bits.specs.Turns.{turns_for};
 use crate::bit_buffer::BitBuffer;
 use crate::bit_str::BitStr;
 use crate::turns::Turns;
+use crate::window::lowest;
 use std::alloc::AllocError;
 
 /// Fills the zero bits that a buffer appended for it. When it ends, the buffer holds its old bits, what was pushed in
@@ -76,8 +77,9 @@ impl<'a> BitAppender<'a> {
         let _len = self.buffer.len();
         // As in `push_wide`.
         self.position += width;
+        let number = lowest(u64::from(value), width);
         self.buffer
-            .put_at(position, u64::from(value), width, &mut Turns::new());
+            .put_at(position, number, width, &mut Turns::new());
     }
 
     /// Writes the lowest `width` binary digits of `value`, most significant first, 64 bits a turn. `width` is at most
@@ -99,6 +101,28 @@ impl<'a> BitAppender<'a> {
         // The zeros count as pushed before the digits are written, so that what lies behind stays zeros throughout.
         self.position += width;
         self.buffer.put_wide(position, value, width, turns);
+    }
+
+    /// Writes the `width` binary digits of a number that has no more, most significant first, 64 bits a turn. `width` is
+    /// at most 128, and at most the room.
+    #[inline(always)]
+    pub fn push_number(&mut self, number: u128, width: usize, turns: &mut Turns)
+        requires width { width ≤ 128 }
+        requires below { number < 2 ^ width }
+        requires room { width ≤ room self.old }
+        ensures lender { lender_of self.new ≡ lender_of self.old }
+        ensures written { bits_written self.new ≡ bits_written self.old ++ digits number width }
+        ensures room { room self.new + width ≡ room self.old }
+        ensures held { EndsInZeros self.new }
+        ensures at_least { turns.old.count + div_ceil width 64 ≤ turns.new.count }
+        ensures at_most { turns.new.count ≤ turns.old.count + turns_for width }
+    {
+        let position = self.position;
+        // A length fits `usize`.
+        let _len = self.buffer.len();
+        // As in `push_wide`.
+        self.position += width;
+        self.buffer.put_number(position, number, width, turns);
     }
 
     /// Writes the bits of the octets, 64 bits a turn. They fit the room.

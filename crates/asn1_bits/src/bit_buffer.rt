@@ -11,7 +11,7 @@ use crate::kernels::write_bitslice;
 use crate::octets::known_octets;
 use crate::single_bits::{clear_from, set_bit};
 use crate::turns::Turns;
-use crate::window::{or_within, put_word};
+use crate::window::{lowest, or_within, put_word};
 use std::alloc::{AllocError, Global};
 use std::marker::Model;
 
@@ -207,7 +207,8 @@ impl BitBuffer {
         if needed > octets {
             // For a moment eight octets stand behind the others, so that the word can be stored whole.
             self.bytes.resize(octets + 8, 0)?;
-            put_word(self.bytes.as_mut_slice(), position, word, width);
+            let number = lowest(word, width);
+            put_word(self.bytes.as_mut_slice(), position, number, width);
             self.bytes.truncate(needed);
         } else {
             or_within(self.bytes.as_mut_slice(), position, word, width);
@@ -319,10 +320,11 @@ impl BitBuffer {
         Ok(())
     }
 
-    /// Writes the lowest `width` binary digits of the word over the zeros from bit `position` on: one turn.
+    /// Writes a number of `width` binary digits over the zeros from bit `position` on: one turn.
     #[inline(always)]
     pub(crate) fn put_at(&mut self, position: usize, word: u64, width: usize, turns: &mut Turns)
         requires width { width ≤ 64 }
+        requires below { word < 2 ^ width }
         requires within { position + width ≤ length self.old }
         requires zeros { IsZeroFrom position self.old }
         ensures list { self.new ≡ ored self.old position (digits word width) }
@@ -346,7 +348,36 @@ impl BitBuffer {
         let low = (value & 0xFFFF_FFFF_FFFF_FFFF) as u64;
         if width > 64 {
             let front = width - 64;
-            self.put_at(position, (value >> 64) as u64, front, turns);
+            let high = lowest((value >> 64) as u64, front);
+            self.put_at(position, high, front, turns);
+            self.put_at(position + front, low, 64, turns);
+        } else if width > 0 {
+            self.put_at(position, lowest(low, width), width, turns);
+        }
+    }
+
+    /// As `put_wide`, of a number of `width` binary digits, which need not be cut out of it.
+    #[inline(always)]
+    pub(crate) fn put_number(
+        &mut self,
+        position: usize,
+        number: u128,
+        width: usize,
+        turns: &mut Turns,
+    )
+        requires width { width ≤ 128 }
+        requires below { number < 2 ^ width }
+        requires within { position + width ≤ length self.old }
+        requires zeros { IsZeroFrom position self.old }
+        ensures list { self.new ≡ ored self.old position (digits number width) }
+        ensures turns { turns.new.count ≡ turns.old.count + div_ceil width 64 }
+    {
+        // A length fits `usize`.
+        let _len = self.len();
+        let low = (number & 0xFFFF_FFFF_FFFF_FFFF) as u64;
+        if width > 64 {
+            let front = width - 64;
+            self.put_at(position, (number >> 64) as u64, front, turns);
             self.put_at(position + front, low, 64, turns);
         } else if width > 0 {
             self.put_at(position, low, width, turns);

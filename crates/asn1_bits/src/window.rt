@@ -154,6 +154,20 @@ fn or_short(dst: &mut [u8], position: usize, word: u64, width: usize)
     }
 }
 
+/// The number of the lowest `width` digits of the word.
+#[inline(always)]
+pub(crate) fn lowest(word: u64, width: usize) -> u64
+    requires { width ≤ 64 }
+    ensures digits { digits result width ≡ digits word width }
+    ensures below { result < 2 ^ width }
+{
+    if width < 64 {
+        word & ((1 << width) - 1)
+    } else {
+        word
+    }
+}
+
 /// Writes the digits of the word over the eight octets from one of them on.
 #[inline]
 fn set_octets(dst: &mut [u8], first: usize, word: u64)
@@ -167,11 +181,12 @@ fn set_octets(dst: &mut [u8], first: usize, word: u64)
     }
 }
 
-/// As `or_word`, where zeros stand from bit `position` on. So one octet is read, and the next call need not wait for
-/// what this one wrote.
+/// As `or_word`, of a number of `width` digits, where zeros stand from bit `position` on. So one octet is read, and the
+/// next call need not wait for what this one wrote.
 #[inline(always)]
 pub(crate) fn put_word(dst: &mut [u8], position: usize, word: u64, width: usize)
     requires width { width ≤ 64 }
+    requires below { word < 2 ^ width }
     requires fits { position + width < 2 ^ 64 }
     requires within { position + width ≤ 8 * length dst.old }
     requires zeros { IsZeroFrom position (bits dst.old) }
@@ -191,6 +206,7 @@ pub(crate) fn put_word(dst: &mut [u8], position: usize, word: u64, width: usize)
 #[inline(always)]
 fn put_near(dst: &mut [u8], position: usize, word: u64, width: usize)
     requires width { position % 8 + width ≤ 64 }
+    requires below { word < 2 ^ width }
     requires within { position + width ≤ 8 * length dst.old }
     requires zeros { IsZeroFrom position (bits dst.old) }
     ensures { bits dst.new ≡ ored (bits dst.old) position (digits word width) }
@@ -204,7 +220,7 @@ fn put_near(dst: &mut [u8], position: usize, word: u64, width: usize)
     set_octets(
         dst,
         first,
-        begun | ((word << (64 - width)) >> (position % 8)),
+        begun | (word << (64 - width - position % 8)),
     );
 }
 

@@ -13,7 +13,8 @@ invariant_of-self c =
     let z = a.zeros in
     let f =
     room-step a.buffer.now c.put_at.new.self (digits c.args.value c.args.width) a.position c.args.width z
-    (c.put_at.ensures.list ∙ ap (λ (n : ℕ). ored a.buffer.now a.position (digits n c.args.width)) c.from.ensures)
+    (c.put_at.ensures.list ∙ ap (ored a.buffer.now a.position)
+    (c.lowest-number.ensures.digits ∙ ap (λ (n : ℕ). digits n c.args.width) c.from.ensures))
     (length-digits c.args.value c.args.width) (omega (arith, z.within, c.len-len.ensures)) in
     record { zeros = f.rest }
 
@@ -23,7 +24,8 @@ returns-clause-written c =
     let z = a.zeros in
     let f =
     room-step a.buffer.now c.put_at.new.self (digits c.args.value c.args.width) a.position c.args.width z
-    (c.put_at.ensures.list ∙ ap (λ (n : ℕ). ored a.buffer.now a.position (digits n c.args.width)) c.from.ensures)
+    (c.put_at.ensures.list ∙ ap (ored a.buffer.now a.position)
+    (c.lowest-number.ensures.digits ∙ ap (λ (n : ℕ). digits n c.args.width) c.from.ensures))
     (length-digits c.args.value c.args.width) (omega (arith, z.within, c.len-len.ensures)) in
     f.taken
 
@@ -33,6 +35,7 @@ returns-clause-room c =
     let z = a.zeros in
     let f =
     room-step a.buffer.now c.put_at.new.self (digits c.args.value c.args.width) a.position c.args.width z
-    (c.put_at.ensures.list ∙ ap (λ (n : ℕ). ored a.buffer.now a.position (digits n c.args.width)) c.from.ensures)
+    (c.put_at.ensures.list ∙ ap (ored a.buffer.now a.position)
+    (c.lowest-number.ensures.digits ∙ ap (λ (n : ℕ). digits n c.args.width) c.from.ensures))
     (length-digits c.args.value c.args.width) (omega (arith, z.within, c.len-len.ensures)) in
     omega (arith, f.len, z.within, c.len-len.ensures, length-digits c.args.value c.args.width)

@@ -1,6 +1,6 @@
 use Rattle.std.proofs.Common.{◌≡◌, ℕ, ◌+◌, ◌-◌, Bool, List, ◌++◌, length, take, replicate, sym, ap, ◌∙◌, arith}
 use Rattle.std.proofs.lemmas.List.{with_items_is, take_all, append-nil}
-use Rattle.asn1_bits.specs.Bits.{digits, octets_for}
+use Rattle.asn1_bits.specs.Bits.{bits, digits, octets_for, ored}
 use Rattle.asn1_bits.specs.BitBuffer.{bits_shown, IsFilled}
 use Rattle.asn1_bits.specs.DigitLaws.{length-digits}
 use Rattle.asn1_bits.proofs.BufferLemmas.{length-bits_shown}
@@ -72,7 +72,7 @@ filled c =
           c.self.invariant
           (w.as_mut_slice.ensures.value ∙ grown items w.resize.new.self.items b.bytes.len c.len-octets.result
           w.in_ok-resize.ensures.items b.bytes.ok.0 c.len-octets.ensures)
-          w.put_word.ensures (length-digits c.args.word c.args.width) c.div_ceil-needed.ensures
+          (w.put_word.ensures ∙ ap (ored (bits w.as_mut_slice.result.now) b.len) w.lowest-number.ensures.digits) (length-digits c.args.word c.args.width) c.div_ceil-needed.ensures
           (omega (arith, c.self.invariant.count, c.div_ceil-needed.ensures, c.requires.width))
           (w.truncate.ensures.items ∙ ap (take needed) (with_items_is w.resize.new.self dst same)))
       | else-needed-octets w ↦
