@@ -375,12 +375,17 @@ impl BitBuffer {
         // A length fits `usize`.
         let _len = self.len();
         let low = (number & 0xFFFF_FFFF_FFFF_FFFF) as u64;
-        if width > 64 {
+        if width <= 57 {
+            // One look tells that the digits lie in eight octets.
+            if width > 0 {
+                self.put_at(position, low, width, turns);
+            }
+        } else if width <= 64 {
+            self.put_at(position, low, width, turns);
+        } else {
             let front = width - 64;
             self.put_at(position, (number >> 64) as u64, front, turns);
             self.put_at(position + front, low, 64, turns);
-        } else if width > 0 {
-            self.put_at(position, low, width, turns);
         }
     }
 

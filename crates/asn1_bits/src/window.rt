@@ -192,7 +192,8 @@ pub(crate) fn put_word(dst: &mut [u8], position: usize, word: u64, width: usize)
     requires zeros { IsZeroFrom position (bits dst.old) }
     ensures { bits dst.new ≡ ored (bits dst.old) position (digits word width) }
 {
-    if position % 8 + width <= 64 {
+    // Up to 57 digits lie in eight octets, from any bit of the first on.
+    if width <= 57 || position % 8 + width <= 64 {
         put_near(dst, position, word, width);
     } else {
         // The last digits lie in a ninth octet.
