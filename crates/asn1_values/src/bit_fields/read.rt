@@ -184,14 +184,7 @@ fn append_next<'a, 's>(
         }
         Shape::Character { alphabet } => {
             let character = next_character(reader, alphabet, field)?;
-            let alphabet = *alphabet;
-            keep(
-                fields,
-                Field::Character {
-                    character,
-                    alphabet,
-                },
-            )
+            Ok(keep_character(fields, character, alphabet)?)
         }
         Shape::Integer { octets } => {
             let number = next_integer(alloc, reader, *octets, field)?;
@@ -213,6 +206,26 @@ fn keep<'a, 's>(fields: &mut Vec<Field<'a, 's>>, field: Field<'a, 's>) -> Result
     match fields.push(field) {
         Ok(()) => Ok(()),
         Err(_) => Err(ReadError::Memory),
+    }
+}
+
+/// As `keep`, of a character. It is a call of its own, so that the alphabet is copied as a whole.
+#[inline(never)]
+fn keep_character<'a, 's>(
+    fields: &mut Vec<Field<'a, 's>>,
+    character: u32,
+    alphabet: &CharacterAlphabet<'s>,
+) -> Result<(), AllocError>
+    ensures { OnOk result
+        (fields.new.items ≡ fields.old.items ++ Field.Character character alphabet.now ∷ []) }
+{
+    let alphabet = *alphabet;
+    match fields.push(Field::Character {
+        character,
+        alphabet,
+    }) {
+        Ok(()) => Ok(()),
+        Err(_) => Err(AllocError),
     }
 }
 

@@ -1,6 +1,6 @@
 //! Writing fields.
 
-ghost use Rattle.std.specs.Prelude.{◌≡◌, ◌≢◌, ℕ, Bool, List, Err, ◌+◌, ◌*◌, ◌/◌, ◌^◌, ◌<◌, ◌≤◌, ◌++◌, length, OnOk, IfOk, IfErr, OnErr, IsOk, IsOkUnless};
+ghost use Rattle.std.specs.Prelude.{◌≡◌, ◌≢◌, ℕ, Bool, List, Err, ◌+◌, ◌*◌, ◌/◌, ◌^◌, ◌<◌, ◌≤◌, ◌++◌, ◌-◌, min, length, OnOk, IfOk, IfErr, OnErr, IsOk, IsOkUnless};
 ghost use Rattle.std.specs.Int.{div_ceil};
 ghost use Rattle.asn1_bits.specs.Bits.{AddsNoOctet, bits};
 ghost use Rattle.asn1_bits.specs.Turns.{turns_for};
@@ -103,9 +103,29 @@ pub(super) fn new_len(len: usize, fields: &[Field<'_, '_>]) -> Result<u128, Writ
 {
     let mut end = len as u128;
     for (i, field) in fields.iter().enumerate() {
-        end = end.saturating_add(fitting_len(field, i)?);
+        end = sum_of(end, fitting_len(field, i)?);
     }
     Ok(end)
+}
+
+/// The sum of two lengths, which stops at the greatest number.
+#[inline(always)]
+fn sum_of(one: u128, other: u128) -> u128
+    ensures { result ≡ min (one + other) (2 ^ 128 - 1) }
+{
+    match one.checked_add(other) {
+        Some(sum) => sum,
+        None => past_all_lengths(one, other),
+    }
+}
+
+/// As `sum_of`, out of the way, since lengths that lie in memory never come so far.
+#[cold]
+#[inline(never)]
+fn past_all_lengths(one: u128, other: u128) -> u128
+    ensures { result ≡ min (one + other) (2 ^ 128 - 1) }
+{
+    one.saturating_add(other)
 }
 
 /// How many bits a field has, if it fits.
@@ -130,13 +150,39 @@ fn fitting_len(field: &Field<'_, '_>, place: usize) -> Result<u128, WriteError>
             }
             Ok(8 + 8 * octets as u128)
         }
-        Field::Oid(oid) => fitting_contents(oid, place),
+        Field::Oid(oid) => fitting_identifier(oid, place),
     }
+}
+
+/// How many bits the contents of an identifier have, if it has two arcs. What the call answers lies in memory of this
+/// function, and is cleared for identifiers alone.
+#[inline(always)]
+fn fitting_identifier(oid: &ObjectIdentifier, place: usize) -> Result<u128, WriteError>
+    ensures ok { IfOk result (FitsIn (plain.Identifier oid.now)) }
+    ensures err { IfErr result (NamesMisfit place (plain.Identifier oid.now)) }
+{
+    fitting_contents(oid, place)
 }
 
 /// The width of a number, if it is at most 128 and the number is below 2 to its power.
 #[inline(always)]
 fn fitting_width(value: u128, width: usize, place: usize) -> Result<u128, WriteError>
+    ensures ok { IfOk result (FitsIn (plain.Number value width)) }
+    ensures err { IfErr result (NamesMisfit place (plain.Number value width)) }
+{
+    if width < 64 {
+        // One comparison tells it of a short number.
+        if value >= u128::from(1u64 << width) {
+            return Err(WriteError::Number { field: place });
+        }
+        return Ok(width as u128);
+    }
+    fitting_wide(value, width, place)
+}
+
+/// As `fitting_width`, of a number of any width.
+#[inline(always)]
+fn fitting_wide(value: u128, width: usize, place: usize) -> Result<u128, WriteError>
     ensures ok { IfOk result (FitsIn (plain.Number value width)) }
     ensures err { IfErr result (NamesMisfit place (plain.Number value width)) }
 {
@@ -209,7 +255,7 @@ fn push(appender: &mut BitAppender<'_>, field: &Field<'_, '_>, turns: &mut Turns
         → TakesTurns (length list) turns.old.count turns.new.count }
 {
     match field {
-        Field::Number { value, width } => appender.push_wide(*value, *width, turns),
+        Field::Number { value, width } => appender.push_number(*value, *width, turns),
         Field::Octets(octets) => appender.push_octets(octets.as_ref(), turns),
         Field::Bits(bits) => push_view(appender, bits, turns),
         Field::Integer(number) => push_shortest(appender, number, turns),
@@ -254,7 +300,7 @@ fn push_code(
         → TakesTurns (length list) turns.old.count turns.new.count }
 {
     match alphabet.encode(character) {
-        Ok(code) => appender.push_wide(u128::from(code), alphabet.width(), turns),
+        Ok(code) => appender.push_number(u128::from(code), alphabet.width(), turns),
         Err(_) => unreachable!(),
     }
 }

@@ -24,21 +24,21 @@ returns-in_ok-value-in-Number-clause-read c =
           rw len c.in_ok-value-in-Number.ensures.rest;
     }) c.keep.ensures.kept
 
-pub returns-in_ok-character-in-Character-clause-read : goal.returns-in_ok-character-in-Character-clause-read
-returns-in_ok-character-in-Character-clause-read c =
+pub returns-in_ok-keep_character-in-Character-clause-read :
+    goal.returns-in_ok-keep_character-in-Character-clause-read
+returns-in_ok-keep_character-in-Character-clause-read c =
     let alphabet = c.in-Character.alphabet in
     let a = alphabet_of alphabet in
     let character = c.in_ok-character-in-Character.character in
-    on_ok_weaker c.keep-in-Character.result (λ kept.
     record {
       field = fields.Character character alphabet;
-      appended = kept;
+      appended = c.in_ok-keep_character-in-Character.ensures;
       read = rw c.in-Character.is c.in_ok-character-in-Character.ensures.read;
       place = tt;
       rest =
           λ list s. let len = length-spelled (plain.OfCharacter a) (plain.Character a character) list refl s in
           rw len c.in_ok-character-in-Character.ensures.rest;
-    }) c.keep-in-Character.ensures.kept
+    }
 
 pub returns-in_ok-number-in-Integer-clause-read : goal.returns-in_ok-number-in-Integer-clause-read
 unfolding field_at

@@ -1,15 +1,14 @@
-use Rattle.std.proofs.Common.{◌<◌, ◌^◌, arith}
-use Rattle.asn1_values.proofs.SpellingLemmas.{number_fits, below_width, at_128}
+use Rattle.std.proofs.Common.{◌≡◌, ℕ, ◌*◌, ◌%◌, ◌^◌, ap, ◌∙◌, arith}
+use Rattle.std.proofs.Math.Nat.{mod-eq_of_lt}
+use Rattle.std.proofs.Math.Pow.{pow-lt}
+use Rattle.asn1_values.proofs.SpellingLemmas.{number_fits}
 use Rattle.asn1_values.proofs.bit_fields.write.fitting_width.Goals as goal
-use Rattle.asn1_values.proofs.bit_fields.write.fitting_width.Goals.{else-width-lt128-via-then-width-lt128+else-value-width-ne0, else-width-lt128-via-else-width-lt128}
 
-pub returns-clause-ok : goal.returns-clause-ok
-returns-clause-ok c =
-    let le = c.if-width-gt128.false in
-    let lt : c.args.value < 2 ^ c.args.width = elim c.else-width-lt128.branch [
-      | else-width-lt128-via-then-width-lt128+else-value-width-ne0 w ↦ below_width c.args.value c.args.width
-          w.if-value-width-ne0.false
-      | else-width-lt128-via-else-width-lt128 w ↦ at_128 c.args.value c.args.width le w.if-width-lt128.false
-          (omega arith)
-    ] in
-    number_fits c.args.value c.args.width le lt
+pub returns-then-width-lt64-clause-ok : goal.returns-then-width-lt64-clause-ok
+returns-then-width-lt64-clause-ok c =
+    let width = c.args.width in
+    let power : 1 * 2 ^ width ≡ 2 ^ width = omega arith in
+    let one : 1 * 2 ^ width % 2 ^ 64 ≡ 2 ^ width = ap (λ (n : ℕ). n % 2 ^ 64) power
+    ∙ mod-eq_of_lt (pow-lt c.if-width-lt64.true) in
+    number_fits c.args.value width (omega (arith, c.if-width-lt64.true))
+    (omega (arith, c.if-value-from.false, c.from.ensures, one))

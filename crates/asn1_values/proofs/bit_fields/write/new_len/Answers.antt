@@ -23,6 +23,6 @@ returns-in_err-fitting_len-clause-err c =
 pub loop-i-preserved : goal.loop-i-preserved
 loop-i-preserved c =
     rw (more_of c.args.fields.now c.loop-i.i c.index-fields-i.result c.loop-i-test.true c.index-fields-i.is)
-    (ends_more c.args.len c.loop-i.end c.in_ok-fitting_len.field-0 c.saturating_add-end.result
+    (ends_more c.args.len c.loop-i.end c.in_ok-fitting_len.field-0 c.sum_of-end.result
     (plain_fields (take c.loop-i.i c.args.fields.now)) (plain_field c.index-fields-i.result) c.loop-i.invariant
-    c.in_ok-fitting_len.ensures.ok c.saturating_add-end.ensures)
+    c.in_ok-fitting_len.ensures.ok c.sum_of-end.ensures)

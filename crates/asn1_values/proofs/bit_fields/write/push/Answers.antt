@@ -12,13 +12,16 @@ use Rattle.asn1_values.proofs.bit_fields.write.push.Goals as goal
 
 -- ---- numbers
 
-pub push_wide-requires-clause-room : goal.push_wide-requires-clause-room
-push_wide-requires-clause-room c =
+pub push_number-requires-clause-room : goal.push_number-requires-clause-room
+push_number-requires-clause-room c =
     let n = c.in-Number.value in
     let w = c.in-Number.width in
     let fits = rw c.in-Number.is at c.requires.fits in
     space_of (Number n w) (digits n w) w (room c.args.appender.now) (fits.1.0, fits.1.1, refl) (length-digits n w)
     (rw c.in-Number.is at c.requires.space)
+
+pub push_number-requires-clause-below : goal.push_number-requires-clause-below
+push_number-requires-clause-below c = let fits = rw c.in-Number.is at c.requires.fits in fits.1.1
 
 pub returns-in-Number-clause-pushed : goal.returns-in-Number-clause-pushed
 returns-in-Number-clause-pushed c =
@@ -26,8 +29,8 @@ returns-in-Number-clause-pushed c =
     let w = c.in-Number.width in
     let fits = rw c.in-Number.is at c.requires.fits in
     rw c.in-Number.is
-    (pushes (Number n w) (digits n w) w c.args.appender.now c.push_wide.new.self (fits.1.0, fits.1.1, refl)
-    (length-digits n w) c.push_wide.ensures.written c.push_wide.ensures.room)
+    (pushes (Number n w) (digits n w) w c.args.appender.now c.push_number.new.self (fits.1.0, fits.1.1, refl)
+    (length-digits n w) c.push_number.ensures.written c.push_number.ensures.room)
 
 pub returns-in-Number-clause-counted : goal.returns-in-Number-clause-counted
 returns-in-Number-clause-counted c =
@@ -35,8 +38,8 @@ returns-in-Number-clause-counted c =
     let w = c.in-Number.width in
     let fits = rw c.in-Number.is at c.requires.fits in
     rw c.in-Number.is
-    (takes (Number n w) w c.args.turns.now.count c.push_wide.new.turns.count (number_fits n w fits.1.0 fits.1.1)
-    c.push_wide.ensures.at_least c.push_wide.ensures.at_most)
+    (takes (Number n w) w c.args.turns.now.count c.push_number.new.turns.count (number_fits n w fits.1.0 fits.1.1)
+    c.push_number.ensures.at_least c.push_number.ensures.at_most)
 
 -- ---- octets
 

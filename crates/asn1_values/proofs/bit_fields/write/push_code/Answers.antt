@@ -12,8 +12,8 @@ unreachable-requires c =
     let fits = c.requires.fits in
     c.in-Err.ensures.1 fits.1.0 fits.1.1
 
-pub push_wide-requires-clause-room : goal.push_wide-requires-clause-room
-push_wide-requires-clause-room c =
+pub push_number-requires-clause-room : goal.push_number-requires-clause-room
+push_number-requires-clause-room c =
     let a = alphabet_of c.args.alphabet.now in
     let k = c.in-Ok.code in
     rw c.width.ensures.value
@@ -25,15 +25,18 @@ returns-clause-pushed c =
     let a = alphabet_of c.args.alphabet.now in
     let k = c.in-Ok.code in
     (pushes (Character a c.args.character) (digits k a.width) a.width c.args.appender.now
-    c.push_wide.new.self (k, c.in-Ok.ensures.0, refl) (length-digits k a.width)
-    (rw (c.from.ensures, c.width.ensures.value) at c.push_wide.ensures.written)
-    (rw c.width.ensures.value at c.push_wide.ensures.room))
+    c.push_number.new.self (k, c.in-Ok.ensures.0, refl) (length-digits k a.width)
+    (rw (c.from.ensures, c.width.ensures.value) at c.push_number.ensures.written)
+    (rw c.width.ensures.value at c.push_number.ensures.room))
 
 pub returns-clause-counted : goal.returns-clause-counted
 returns-clause-counted c =
     let a = alphabet_of c.args.alphabet.now in
     let k = c.in-Ok.code in
-    (takes (Character a c.args.character) a.width c.args.turns.now.count c.push_wide.new.turns.count
+    (takes (Character a c.args.character) a.width c.args.turns.now.count c.push_number.new.turns.count
     (character_fits a c.args.character k c.in-Ok.ensures.0)
-    (rw c.width.ensures.value at c.push_wide.ensures.at_least)
-    (rw c.width.ensures.value at c.push_wide.ensures.at_most))
+    (rw c.width.ensures.value at c.push_number.ensures.at_least)
+    (rw c.width.ensures.value at c.push_number.ensures.at_most))
+
+pub push_number-requires-clause-below : goal.push_number-requires-clause-below
+push_number-requires-clause-below c = rw c.from.ensures (c.width.ensures.codes c.args.character c.in-Ok.code c.in-Ok.ensures.0)
