@@ -1,6 +1,6 @@
 //! Reading fields.
 
-ghost use Rattle.std.specs.Prelude.{◌≡◌, ◌≢◌, ℕ, pos, ◌-ℤ◌, ◌^◌, Bool, List, [], Ok, Err, ◌+◌, ◌-◌, ◌*◌, ◌/◌, ◌%◌, ◌<◌, ◌≤◌, ◌∷◌, ◌++◌, length, take, drop, All, OnOk, IfOk, IfErr, OnErr, IfSome, IsOk, IsOkUnless, ◌↔◌};
+ghost use Rattle.std.specs.Prelude.{◌≡◌, ◌≢◌, ℕ, pos, ◌-ℤ◌, ◌^◌, Bool, List, [], Ok, Err, ◌+◌, ◌-◌, ◌*◌, ◌/◌, ◌%◌, ◌<◌, ◌≤◌, ◌∷◌, ◌++◌, length, take, drop, All, OnOk, IfOk, IfErr, OnErr, IfSome, IsOk, IsOkUnless, ◌↔◌, vec_len, vec_capacity};
 ghost use Rattle.std.specs.List.{AllZip, AllByRecursion};
 ghost use Rattle.asn1_bits.specs.BitReader.{view_left, bits_left};
 ghost use Rattle.asn1_bits.specs.Bits.{bits, number};
@@ -171,8 +171,11 @@ fn append_next<'a, 's>(
     shape: &Shape<'s>,
     field: usize,
 ) -> Result<(), ReadError>
+    requires { vec_len fields.old < vec_capacity fields.old }
     ensures read { OnOk result
         (Appends (plain_shape shape.now) reader.old reader.new fields.old.items fields.new.items) }
+    ensures len { OnOk result (vec_len fields.new ≡ vec_len fields.old + 1) }
+    ensures capacity { OnOk result (vec_capacity fields.new ≡ vec_capacity fields.old) }
     ensures err { IfErr result (λ e. e ≢ ReadError.Memory
         → past field (field_at (plain_shape shape.now) (bits_left reader.old)) ≡ Err e) }
 {
@@ -180,53 +183,41 @@ fn append_next<'a, 's>(
         Shape::Number { width } => {
             let width = *width;
             let value = next_number(reader, width, field)?;
-            keep(fields, Field::Number { value, width })
+            fields.push_reserved(Field::Number { value, width });
         }
         Shape::Character { alphabet } => {
             let character = next_character(reader, alphabet, field)?;
-            Ok(keep_character(fields, character, alphabet)?)
+            keep_character(fields, character, alphabet);
         }
         Shape::Integer { octets } => {
             let number = next_integer(alloc, reader, *octets, field)?;
-            keep(fields, Field::Integer(number))
+            fields.push_reserved(Field::Integer(number));
         }
         _ => {
             let next = read_next(alloc, reader, shape, field)?;
-            keep(fields, next)
+            fields.push_reserved(next);
         }
     }
+    Ok(())
 }
 
-/// Appends the field, for which room was made.
-#[inline(always)]
-fn keep<'a, 's>(fields: &mut Vec<Field<'a, 's>>, field: Field<'a, 's>) -> Result<(), ReadError>
-    ensures kept { OnOk result (fields.new.items ≡ fields.old.items ++ field.entry ∷ []) }
-    ensures refused { IfErr result (λ e. e ≡ ReadError.Memory) }
-{
-    match fields.push(field) {
-        Ok(()) => Ok(()),
-        Err(_) => Err(ReadError::Memory),
-    }
-}
-
-/// As `keep`, of a character. It is a call of its own, so that the alphabet is copied as a whole.
+/// Appends a character, for which there is room. It is a call of its own, so that the alphabet is copied as a whole.
 #[inline(never)]
 fn keep_character<'a, 's>(
     fields: &mut Vec<Field<'a, 's>>,
     character: u32,
     alphabet: &CharacterAlphabet<'s>,
-) -> Result<(), AllocError>
-    ensures { OnOk result
-        (fields.new.items ≡ fields.old.items ++ Field.Character character alphabet.now ∷ []) }
+)
+    requires { vec_len fields.old < vec_capacity fields.old }
+    ensures kept { fields.new.items ≡ fields.old.items ++ Field.Character character alphabet.now ∷ [] }
+    ensures len { vec_len fields.new ≡ vec_len fields.old + 1 }
+    ensures capacity { vec_capacity fields.new ≡ vec_capacity fields.old }
 {
     let alphabet = *alphabet;
-    match fields.push(Field::Character {
+    fields.push_reserved(Field::Character {
         character,
         alphabet,
-    }) {
-        Ok(()) => Ok(()),
-        Err(_) => Err(AllocError),
-    }
+    });
 }
 
 /// Examines one field, and reads it if there is one of the shape.

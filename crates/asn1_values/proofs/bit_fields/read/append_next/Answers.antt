@@ -1,5 +1,4 @@
 use Rattle.std.proofs.Common.{refl}
-use Rattle.std.proofs.lemmas.Result.{on_ok_weaker}
 use Rattle.asn1_bits.specs.BitReader.{bits_left}
 use Rattle.asn1_strings.specs.AlphabetView.{alphabet_of}
 use Rattle.asn1_values.specs.declared.bit_fields.field.Field.TheVariants as fields
@@ -13,26 +12,24 @@ pub returns-in_ok-value-in-Number-clause-read : goal.returns-in_ok-value-in-Numb
 returns-in_ok-value-in-Number-clause-read c =
     let width = c.in-Number.width in
     let value = c.in_ok-value-in-Number.value in
-    on_ok_weaker c.keep.result (λ kept.
     record {
       field = fields.Number value width;
-      appended = kept;
+      appended = c.push_reserved.ensures.items;
       read = rw c.in-Number.is c.in_ok-value-in-Number.ensures.read;
       place = tt;
       rest =
           λ list s. let len = length-spelled (plain.OfNumber width) (plain.Number value width) list refl s in
           rw len c.in_ok-value-in-Number.ensures.rest;
-    }) c.keep.ensures.kept
+    }
 
-pub returns-in_ok-keep_character-in-Character-clause-read :
-    goal.returns-in_ok-keep_character-in-Character-clause-read
-returns-in_ok-keep_character-in-Character-clause-read c =
+pub returns-in_ok-character-in-Character-clause-read : goal.returns-in_ok-character-in-Character-clause-read
+returns-in_ok-character-in-Character-clause-read c =
     let alphabet = c.in-Character.alphabet in
     let a = alphabet_of alphabet in
     let character = c.in_ok-character-in-Character.character in
     record {
       field = fields.Character character alphabet;
-      appended = c.in_ok-keep_character-in-Character.ensures;
+      appended = c.keep_character.ensures.kept;
       read = rw c.in-Character.is c.in_ok-character-in-Character.ensures.read;
       place = tt;
       rest =
@@ -45,10 +42,9 @@ unfolding field_at
 returns-in_ok-number-in-Integer-clause-read c =
     let octets = c.in-Integer.octets in
     let number = c.in_ok-number-in-Integer.number in
-    on_ok_weaker c.keep-in-Integer.result (λ kept.
     record {
       field = fields.Integer number;
-      appended = kept;
+      appended = c.push_reserved-in-Integer.ensures.items;
       read = rw c.in-Integer.is c.in_ok-number-in-Integer.ensures.read;
       place = tt;
       rest =
@@ -56,4 +52,4 @@ returns-in_ok-number-in-Integer-clause-read c =
           length-read_integer octets (bits_left c.args.reader.now) (bits_left c.next_integer.new.reader) number
           c.in_ok-number-in-Integer.ensures.read list s in
           rw len c.in_ok-number-in-Integer.ensures.rest;
-    }) c.keep-in-Integer.ensures.kept
+    }

@@ -1,4 +1,4 @@
-use Rattle.std.proofs.Common.{◌≡◌, Bool, List, [], refl, sym, ap, ◌∙◌}
+use Rattle.std.proofs.Common.{◌≡◌, Bool, List, [], refl, sym, ap, ◌∙◌, arith}
 use Rattle.std.proofs.lemmas.List.{map_push}
 use Rattle.std.proofs.lemmas.Result.{err_from_is_err_and}
 use Rattle.asn1_bits.specs.BitReader.{view_left, bits_left}
@@ -18,6 +18,8 @@ loop-i-init c =
       refused = refl;
       places = rw none (lie_none v);
       rest = λ front s. let e : front ≡ [] = rw none at s in after-none v ∙ ap (λ (l : List Bool). after v l) (sym e);
+      len = omega (arith, c.reserve_exact.ensures.len, c.new-fields.ensures);
+      room = omega (arith, c.in_ok-reserve_exact.ensures.ok);
     }
 
 pub loop-i-preserved : goal.loop-i-preserved
@@ -45,6 +47,8 @@ loop-i-preserved c =
       rest =
           λ front s. left_more v now (view_left c.append_next.new.reader) fs one.field inv.rest
           one.rest front (rw one.appended at s);
+      len = omega (arith, c.in_ok-append_next.ensures.len, inv.len);
+      room = omega (arith, c.in_ok-append_next.ensures.capacity, inv.room);
     }
 
 pub returns-in_err-append_next-clause-err : goal.returns-in_err-append_next-clause-err

@@ -1,4 +1,5 @@
-use Rattle.std.proofs.Common.{◌≡◌, List, Bool, drop}
+use Rattle.std.proofs.Common.{◌≡◌, ◌≤◌, List, Bool, length, drop, vec_len}
+use Rattle.std.specs.Prelude.{vec_capacity}
 use Rattle.asn1_bits.specs.BitReader.{view_left, bits_left}
 use Rattle.asn1_values.specs.Fields.{AreSpelledBy}
 use Rattle.asn1_values.specs.Plain.{plain_fields, plain_shapes, LieFrom}
@@ -18,4 +19,6 @@ invariant-loop-i l = record {
   places : LieFrom (view_left l.fn.reader) l.fields.items;
   rest : (front : List Bool) → AreSpelledBy (plain_fields l.fields.items) front
       → view_left l.reader ≡ after (view_left l.fn.reader) front;
+  len : vec_len l.fields ≡ l.i;
+  room : length l.shapes ≤ vec_capacity l.fields;
 }
