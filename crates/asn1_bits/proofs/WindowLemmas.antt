@@ -109,6 +109,15 @@ moved n width shift fits small =
     ∙ ap (λ (k : ℕ). n * 2 ^ (rest + shift) % 2 ^ k / 2 ^ shift) (sym whole)
     ∙ ap (λ (j : ℕ). n * 2 ^ j % 2 ^ 64 / 2 ^ shift) (sym behind)
 
+-- what is left of a number by a shift to the left, and one back
+pub cut_by_shifts : (n width : ℕ) → width ≤ 64 → n * 2 ^ (64 - width) % 2 ^ 64 / 2 ^ (64 - width) ≡ n % 2 ^ width
+cut_by_shifts n width h =
+    let rest = 64 - width in
+    let whole : 64 ≡ width + rest = omega arith in
+    ap (λ (k : ℕ). n * 2 ^ rest % 2 ^ k / 2 ^ rest) whole
+    ∙ ap (λ (m : ℕ). m / 2 ^ rest) (top-shifted n width rest)
+    ∙ shl-shr (n % 2 ^ width) rest
+
 -- digits moved to a place in a window, with zeros round them
 pub window-digits : (n width rest shift : ℕ)
     → digits (n * 2 ^ (rest + shift) % 2 ^ (width + (rest + shift)) / 2 ^ shift) (shift + (width + rest)) ≡ replicate

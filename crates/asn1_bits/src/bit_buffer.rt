@@ -11,7 +11,7 @@ use crate::kernels::write_bitslice;
 use crate::octets::known_octets;
 use crate::single_bits::{clear_from, set_bit};
 use crate::turns::Turns;
-use crate::window::{lowest, or_within, put_word};
+use crate::window::{cut, lowest, or_within, put_word};
 use std::alloc::{AllocError, Global};
 use std::marker::Model;
 
@@ -348,11 +348,11 @@ impl BitBuffer {
         let low = (value & 0xFFFF_FFFF_FFFF_FFFF) as u64;
         if width > 64 {
             let front = width - 64;
-            let high = lowest((value >> 64) as u64, front);
+            let high = cut((value >> 64) as u64, front);
             self.put_at(position, high, front, turns);
             self.put_at(position + front, low, 64, turns);
         } else if width > 0 {
-            self.put_at(position, lowest(low, width), width, turns);
+            self.put_at(position, cut(low, width), width, turns);
         }
     }
 

@@ -168,6 +168,17 @@ pub(crate) fn lowest(word: u64, width: usize) -> u64
     }
 }
 
+/// As `lowest`, by two shifts: fewer steps where the width is not known before.
+#[inline(always)]
+pub(crate) fn cut(word: u64, width: usize) -> u64
+    requires some { 0 < width }
+    requires width { width ≤ 64 }
+    ensures digits { digits result width ≡ digits word width }
+    ensures below { result < 2 ^ width }
+{
+    (word << (64 - width)) >> (64 - width)
+}
+
 /// Writes the digits of the word over the eight octets from one of them on.
 #[inline]
 fn set_octets(dst: &mut [u8], first: usize, word: u64)

@@ -170,17 +170,14 @@ fn fitting_width(value: u128, width: usize, place: usize) -> Result<u128, WriteE
     ensures ok { IfOk result (FitsIn (plain.Number value width)) }
     ensures err { IfErr result (NamesMisfit place (plain.Number value width)) }
 {
-    if width < 64 {
-        // One comparison tells it of a short number.
-        if value >= u128::from(1u64 << width) {
-            return Err(WriteError::Number { field: place });
-        }
+    // One comparison tells it of a short number that fits.
+    if width < 64 && value < u128::from(1u64 << width) {
         return Ok(width as u128);
     }
     fitting_wide(value, width, place)
 }
 
-/// As `fitting_width`, of a number of any width.
+/// As `fitting_width`, of any number.
 #[inline(always)]
 fn fitting_wide(value: u128, width: usize, place: usize) -> Result<u128, WriteError>
     ensures ok { IfOk result (FitsIn (plain.Number value width)) }
