@@ -160,18 +160,21 @@ fn an_appender_takes_digits_octets_and_views(rt: HostRuntime) -> Result<(), Fail
     let mut buffer = BitBuffer::new(rt.alloc());
     buffer.push_bits(0b111, 3)?;
     assert_eq!(rt; buffer.len(), 3);
-    let mut appender = buffer.appender(27)?;
-    assert_eq!(rt; appender.room(), 27);
+    let mut appender = buffer.appender(40)?;
+    assert_eq!(rt; appender.room(), 40);
     appender.push_octets(&[0xA5, 0x5A], &mut turns);
-    assert_eq!(rt; appender.room(), 11);
+    assert_eq!(rt; appender.room(), 24);
     let view = BitStr::new(&[0x5A, 0x7F], 3, 8).ok_or("within")?;
     assert_eq!(rt; view.len(), 8);
     appender.push_bitslice(view, &mut turns);
-    assert_eq!(rt; appender.room(), 3);
+    assert_eq!(rt; appender.room(), 16);
     appender.push_wide(0b1101, 3, &mut turns);
+    assert_eq!(rt; appender.room(), 13);
+    appender.push_number(0b1_0010_0011_0100, 13, &mut turns);
     assert_eq!(rt; appender.room(), 0);
     drop(appender);
-    assert_eq!(rt; buffer.as_bytes(), [0xF4, 0xAB, 0x5A, 0x74].as_slice());
+    let wanted = [0xF4, 0xAB, 0x5A, 0x76, 0x46, 0x80];
+    assert_eq!(rt; buffer.as_bytes(), wanted.as_slice());
     Ok(())
 }
 
