@@ -4,7 +4,7 @@ ghost use Rattle.std.specs.Prelude.{◌≡◌, ◌+◌, ◌*◌, ◌/◌, ◌^�
 ghost use Rattle.asn1_bits.specs.Bits.{bits, digits, number, ored};
 ghost use Rattle.asn1_bits.specs.View.{IsWithin};
 
-use crate::kernels::{read_wide, read_word, write_bitslice};
+use crate::kernels::{read_front, read_word, write_bitslice};
 use crate::single_bits::{bit_from, from_octet};
 use crate::turns::Turns;
 use crate::window::{or_shifted_words, or_within, or_words, whole_word};
@@ -155,7 +155,7 @@ impl<'a> BitStr<'a> {
         ensures digits { digits result width ≡ take width (bits_of self.now) }
         ensures below { result < 2 ^ width }
     {
-        read_wide(from_octet(self.storage, self.octet), self.shift, width)
+        read_front(from_octet(self.storage, self.octet), self.shift, width)
     }
 
     /// `width` bits from bit `at` on, as the lowest digits of a word.

@@ -112,18 +112,30 @@ pub fn read_wide(bytes: &[u8], position: usize, width: usize) -> u128
     ensures digits { digits result width ≡ take width (drop position (bits bytes.now)) }
     ensures below { result < 2 ^ width }
 {
-    read_number(bytes, position, width)
+    read_front(from_octet(bytes, position / 8), position % 8, width)
+}
+
+/// As `read_wide`, from bit `shift` of the first octet on.
+#[inline(always)]
+pub(crate) fn read_front(octets: &[u8], shift: usize, width: usize) -> u128
+    requires shift { shift < 8 }
+    requires width { width ≤ 128 }
+    requires within { shift + width ≤ 8 * length octets.now }
+    ensures number { result ≡ number (take width (drop shift (bits octets.now))) }
+    ensures digits { digits result width ≡ take width (drop shift (bits octets.now)) }
+    ensures below { result < 2 ^ width }
+{
+    read_number(octets, shift, width)
 }
 
 /// The number of `width` bits: of one window, or of two words near the end of the octets.
 #[inline(always)]
-fn read_number(bytes: &[u8], position: usize, width: usize) -> u128
+fn read_number(octets: &[u8], shift: usize, width: usize) -> u128
+    requires shift { shift < 8 }
     requires width { width ≤ 128 }
-    requires within { position + width ≤ 8 * length bytes.now }
-    ensures { result ≡ number (take width (drop position (bits bytes.now))) }
+    requires within { shift + width ≤ 8 * length octets.now }
+    ensures { result ≡ number (take width (drop shift (bits octets.now))) }
 {
-    let octets = from_octet(bytes, position / 8);
-    let shift = position % 8;
     if width <= 64 {
         return u128::from(read_word(octets, shift, width));
     }

@@ -5,7 +5,7 @@ use Rattle.asn1_bits.specs.ViewLaws.{list_of-front}
 use Rattle.asn1_bits.proofs.bit_str.BitStr.first_u128.Goals as goal
 
 -- what is read is the view's front
-front : (c : goal.After-read_wide)
+front : (c : goal.After-read_front)
     → take c.args.width (drop c.args.self.now.shift (bits c.from_octet.result.now)) ≡ take c.args.width
     (bits_of c.args.self.now)
 front c =
@@ -14,7 +14,7 @@ front c =
     ∙ list_of-front (view_of b) b.octet b.shift c.args.width refl c.requires.len
 
 pub returns-clause-number : goal.returns-clause-number
-returns-clause-number c = c.read_wide.ensures.number ∙ ap number (front c)
+returns-clause-number c = c.read_front.ensures.number ∙ ap number (front c)
 
 pub returns-clause-digits : goal.returns-clause-digits
-returns-clause-digits c = c.read_wide.ensures.digits ∙ front c
+returns-clause-digits c = c.read_front.ensures.digits ∙ front c
