@@ -207,6 +207,7 @@ fn write_by_loop(arcs: &[u32], octets: &mut Vec<u8>) -> Result<(), AllocError> {
 }
 
 /// Seven bits an octet, in as few octets as can be, of a number below 2^35.
+#[inline(always)]
 fn write_number(number: u64, octets: &mut Vec<u8>) -> Result<(), AllocError> {
     if number >= 1 << 7 {
         if number >= 1 << 14 {
