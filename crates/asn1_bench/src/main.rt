@@ -4,6 +4,7 @@
 mod alphabets;
 mod bits;
 mod fields;
+mod identifiers;
 mod numbers;
 mod row;
 mod strings;
@@ -11,7 +12,8 @@ mod strings;
 use crate::alphabets::{Codes, Set};
 use crate::bits::{Appended, Copied, Numbers};
 use crate::fields::{Characters, Integers, Message, Widths};
-use crate::numbers::{Arcs, Octets};
+use crate::identifiers::{By, Read, Size, Written};
+use crate::numbers::Octets;
 use crate::row::{Row, machine, show};
 use crate::strings::{Bits, Kind, Text};
 use std::env;
@@ -30,7 +32,7 @@ fn main(rt: HostRuntime) -> anyhow::Result<()> {
     show(&rt, &mut Numbers::new(alloc)?, rounds)?;
     show(&rt, &mut Appended::new(), rounds)?;
     show(&rt, &mut Octets::new(), rounds)?;
-    show(&rt, &mut Arcs::new(), rounds)?;
+    show_identifiers(&rt, rounds)?;
     for set in [Set::Ten, Set::Twenty, Set::FiftyFour, Set::Many] {
         show(&rt, &mut Codes::new(alloc, set)?, rounds)?;
     }
@@ -40,6 +42,20 @@ fn main(rt: HostRuntime) -> anyhow::Result<()> {
     show(&rt, &mut Integers::new(alloc)?, rounds)?;
     show(&rt, &mut Characters::new(alloc)?, rounds)?;
     show(&rt, &mut Message::new(alloc)?, rounds)?;
+    Ok(())
+}
+
+/// The rows of identifiers, each with that of a loop.
+fn show_identifiers(rt: &HostRuntime, rounds: u32) -> anyhow::Result<()> {
+    let alloc = rt.alloc();
+    for size in [Size::Seven, Size::Many] {
+        for by in [By::Values, By::Loop] {
+            show(rt, &mut Read::new(alloc, size, by)?, rounds)?;
+        }
+        for by in [By::Values, By::Loop] {
+            show(rt, &mut Written::new(alloc, size, by)?, rounds)?;
+        }
+    }
     Ok(())
 }
 

@@ -1,13 +1,12 @@
 -- The steps of reading contents.
-use Rattle.std.proofs.Common.{◌≡◌, ◌≢◌, ℕ, ◌+◌, ◌*◌, ◌%◌, ◌<◌, ◌≤◌, Bool, true, false, cond, ltb, leb, List, [], ◌∷◌, ◌++◌, length, drop, get_or, min, Option, Some, None, Result, Ok, Err, refl, sym, ap, ◌∙◌, append_assoc, arith, inl, inr}
+use Rattle.std.proofs.Common.{◌≡◌, ◌≢◌, ℕ, ◌+◌, ◌*◌, ◌%◌, ◌<◌, ◌≤◌, Bool, true, false, ltb, leb, List, [], ◌∷◌, ◌++◌, length, drop, get_or, min, Option, Some, None, Ok, Err, refl, sym, ap, subst, ◌∙◌, append_assoc, arith}
 use Rattle.std.specs.Prelude.{◌&&◌, is_ok}
 use Rattle.std.specs.List.{list_all}
-use Rattle.std.proofs.lemmas.Bool.{ltb-false, lt-ltb, leb-true, leb-false, cases_lt, and_parts}
-use Rattle.std.proofs.lemmas.List.{append-nil, nil_from_length, drop_more, drop_all}
+use Rattle.std.proofs.lemmas.Bool.{ltb-false, lt-ltb, le-ltb, le-leb, leb-true, leb-false, and_parts}
+use Rattle.std.proofs.lemmas.List.{append-nil, drop_more, drop_all}
 use Rattle.std.proofs.lemmas.List.Folds.{list_all-append}
-use Rattle.asn1_oid.specs.declared.contents.ContentsError.{ContentsError}
 use Rattle.asn1_oid.specs.declared.contents.ContentsError.TheVariants.{Malformed, ArcTooLarge}
-use Rattle.asn1_oid.specs.Reading.{behind, numbers_from, numbers_of, first_arc, second_arc, largest_first, other_fits, arcs_of_numbers, contents_reading, Stands}
+use Rattle.asn1_oid.specs.Reading.{behind, numbers_from, numbers_of, first_arc, second_arc, largest_first, other_fits, contents_reading, Stands}
 use Rattle.asn1_oid.specs.ReadingLaws.{ends, goes_on}
 
 -- ---- one octet
@@ -33,6 +32,17 @@ pub record Gathers (octets : List ℕ) (place i told cap : ℕ) : Type 0 where
   pub as_told : told ≡ min number cap
   pub since : place ≤ i
   pub read : numbers_of (drop place octets) ≡ numbers_from (ltb place i) number (drop i octets)
+
+-- nothing is gathered where the first octet stands
+gathers_none : (octets : List ℕ) (place cap : ℕ) → Gathers octets place place 0 cap
+gathers_none octets place cap = record {
+  number = 0;
+  as_told = omega arith;
+  since = omega arith;
+  read =
+      let begun : ltb place place ≡ false = le-ltb place place (omega arith) in
+      ap (λ (b : Bool). numbers_from b 0 (drop place octets)) (sym begun);
+}
 
 pub gathers_more : (octets : List ℕ) (place i told octet cap : ℕ) → 1 ≤ cap → Gathers octets place i told cap
     → i < length octets → octet ≡ get_or octets i 0 → 128 ≤ octet
@@ -62,6 +72,22 @@ stands octets place i told octet cap some g lt is small = record {
   read = g.read ∙ ap (numbers_from (ltb place i) g.number) (next_octet octets i octet lt is)
       ∙ ends (ltb place i) g.number octet (drop (i + 1) octets) small;
 }
+
+-- the first octet, which is the last, or stands before others
+pub one_stands : (octets : List ℕ) (place octet : ℕ) → place < length octets → octet ≡ get_or octets place 0
+    → octet < 128 → Stands octets place octet (place + 1) 4294967376
+one_stands octets place octet lt is small =
+    let same : min (128 * 0 + octet % 128) 4294967376 ≡ octet = omega arith in
+    subst (λ (told : ℕ). Stands octets place told (place + 1) 4294967376) same
+    (stands octets place place 0 octet 4294967376 (omega arith) (gathers_none octets place 4294967376) lt is small)
+
+pub one_gathered : (octets : List ℕ) (place octet : ℕ) → place < length octets → octet ≡ get_or octets place 0
+    → 128 ≤ octet → octet ≢ 128 → Gathers octets place (place + 1) (octet % 128) 4294967376
+one_gathered octets place octet lt is ge other =
+    let same : min (128 * 0 + octet % 128) 4294967376 ≡ octet % 128 = omega arith in
+    subst (λ (told : ℕ). Gathers octets place (place + 1) told 4294967376) same
+    (gathers_more octets place place 0 octet 4294967376 (omega arith) (gathers_none octets place 4294967376) lt is ge
+    (λ _. other))
 
 -- nothing is read where the first octet is 80
 pub none_from_80 : (octets : List ℕ) (place octet : ℕ) → place < length octets → octet ≡ get_or octets place 0
@@ -126,22 +152,24 @@ walks_more octets place told next fit w s = record {
       ∙ behind_more (w.first ∷ w.others) s.number (numbers_of (drop next octets));
 }
 
-numbers_at_end : (octets : List ℕ) (place : ℕ) (fit : Bool) (w : Walks octets place fit) → length octets ≤ place
-    → numbers_of octets ≡ Some (w.first ∷ w.others)
+-- no octets are left
+numbers_at_end : (octets : List ℕ) (place first : ℕ) (others : List ℕ)
+    → numbers_of octets ≡ behind (first ∷ others) (numbers_of (drop place octets)) → length octets ≤ place
+    → numbers_of octets ≡ Some (first ∷ others)
 unfolding numbers_from
-numbers_at_end octets place fit w le =
-    w.read ∙ ap (λ (l : List ℕ). behind (w.first ∷ w.others) (numbers_of l)) (drop_all place octets le)
-    ∙ ap (λ (l : List ℕ). Some l) (append-nil (w.first ∷ w.others))
+numbers_at_end octets place first others read le =
+    read ∙ ap (λ (l : List ℕ). behind (first ∷ others) (numbers_of l)) (drop_all place octets le)
+    ∙ ap (λ (l : List ℕ). Some l) (append-nil (first ∷ others))
 
 pub reads_all : (octets : List ℕ) (place : ℕ) → Walks octets place true → length octets ≤ place
     → is_ok (contents_reading octets) ≡ true
 unfolding contents_reading
-reads_all octets place w le = rw (numbers_at_end octets place true w le, sym w.tested) refl
+reads_all octets place w le = rw (numbers_at_end octets place w.first w.others w.read le, sym w.tested) refl
 
 pub reads_large : (octets : List ℕ) (place : ℕ) → Walks octets place false → length octets ≤ place
     → contents_reading octets ≡ Err ArcTooLarge
 unfolding contents_reading
-reads_large octets place w le = rw (numbers_at_end octets place false w le, sym w.tested) refl
+reads_large octets place w le = rw (numbers_at_end octets place w.first w.others w.read le, sym w.tested) refl
 
 pub reads_none : (octets : List ℕ) → numbers_of octets ≡ None → contents_reading octets ≡ Err Malformed
 unfolding contents_reading
@@ -157,133 +185,51 @@ stops octets place fit w e = reads_none octets (w.read ∙ ap (behind (w.first �
 
 -- ---- arcs that are gathered
 
-test_of : Option (List ℕ) → Bool
-test_of None = false
-test_of (Some []) = false
-test_of (Some (n ∷ numbers)) = leb n largest_first && list_all other_fits numbers
-
-tested : (r : Option (List ℕ)) → is_ok (arcs_of_numbers r) ≡ true → test_of r ≡ true
-unfolding test_of
-tested None e = absurd cc
-tested (Some []) e = absurd cc
-tested (Some (n ∷ numbers)) e = by_test (leb n largest_first && list_all other_fits numbers) e
-  where
-    arcs : List ℕ
-    arcs = first_arc n ∷ second_arc n ∷ numbers
-
-    by_test : (b : Bool) → is_ok (cond b (Ok arcs) (Err ArcTooLarge)) ≡ true → b ≡ true
-    by_test true h = refl
-    by_test false h = absurd cc
-
--- the first number fits, and one behind others
-first_fits : (n : ℕ) (front : List ℕ) (r : Option (List ℕ)) → test_of (behind (n ∷ front) r) ≡ true → n ≤ largest_first
-unfolding test_of
-first_fits n front (Some ns) e =
-    leb-true n largest_first (and_parts (leb n largest_first) (list_all other_fits (front ++ ns)) e).0
-first_fits n front None e = absurd cc
-
-next_fits : (first : ℕ) (others : List ℕ) (n : ℕ) (r : Option (List ℕ))
-    → test_of (behind (first ∷ others) (behind (n ∷ []) r)) ≡ true → n ≤ 4294967295
-unfolding test_of
-next_fits first others n (Some ns) e =
-    let p = and_parts (leb first largest_first) (list_all other_fits (others ++ n ∷ ns)) e in
-    let q =
-    and_parts (list_all other_fits others) (list_all other_fits (n ∷ ns))
-    (sym (list_all-append other_fits others (n ∷ ns)) ∙ p.1) in
-    leb-true n 4294967295 (and_parts (other_fits n) (list_all other_fits ns) q.1).0
-next_fits first others n None e = absurd cc
-
--- the arcs up to a place
+-- the arcs up to a place, which all fit
 pub record Gathered (octets : List ℕ) (place : ℕ) (items : List ℕ) : Type 0 where
   pub first : ℕ
   pub others : List ℕ
   pub arcs : items ≡ first_arc first ∷ second_arc first ∷ others
+  pub tested : (leb first largest_first && list_all other_fits others) ≡ true
   pub within : place ≤ length octets
   pub read : numbers_of octets ≡ behind (first ∷ others) (numbers_of (drop place octets))
 
-pub first_told : (octets : List ℕ) (told next : ℕ) → is_ok (contents_reading octets) ≡ true
-    → (s : Stands octets 0 told next 4294967376) → (told ≡ s.number) × (told ≤ largest_first)
-unfolding contents_reading
-first_told octets told next ok s =
-    let fits =
-    first_fits s.number [] (numbers_of (drop next octets))
-    (sym (ap test_of s.read) ∙ tested (numbers_of octets) ok) in
-    let t = s.as_told in
-    (omega arith, omega arith)
-
-pub next_told : (octets : List ℕ) (place told next : ℕ) (items : List ℕ) → is_ok (contents_reading octets) ≡ true
-    → (w : Gathered octets place items) (s : Stands octets place told next 4294967376) → (told ≡ s.number)
-    × (told ≤ 4294967295)
-unfolding contents_reading
-next_told octets place told next items ok w s =
-    let read = w.read ∙ ap (behind (w.first ∷ w.others)) s.read in
-    let fits =
-    next_fits w.first w.others s.number (numbers_of (drop next octets))
-    (sym (ap test_of read) ∙ tested (numbers_of octets) ok) in
-    let t = s.as_told in
-    (omega arith, omega arith)
-
-pub gathered_first : (octets : List ℕ) (told next : ℕ) (items : List ℕ) → is_ok (contents_reading octets) ≡ true
-    → Stands octets 0 told next 4294967376
-    → items ≡ first_arc told ∷ second_arc told ∷ [] → Gathered octets next items
-gathered_first octets told next items ok s is =
-    let p = first_told octets told next ok s in
+pub gathered_first : (octets : List ℕ) (told next : ℕ) (items : List ℕ) → Stands octets 0 told next 4294967376
+    → told ≤ 4294967375 → items ≡ first_arc told ∷ second_arc told ∷ [] → Gathered octets next items
+gathered_first octets told next items s le is =
+    let same : told ≡ s.number = let t = s.as_told in omega arith in
     record {
       first = s.number;
       others = [];
-      arcs = is ∙ ap (λ (k : ℕ). first_arc k ∷ second_arc k ∷ []) p.0;
+      arcs = is ∙ ap (λ (k : ℕ). first_arc k ∷ second_arc k ∷ []) same;
+      tested = rw (le-leb s.number largest_first (omega arith)) refl;
       within = s.within;
       read = s.read;
     }
 
-pub gathered_more : (octets : List ℕ) (place told next : ℕ) (items more : List ℕ)
-    → is_ok (contents_reading octets) ≡ true → Gathered octets place items → Stands octets place told next 4294967376
-    → more ≡ items ++ told ∷ [] → Gathered octets next more
-gathered_more octets place told next items more ok w s is =
-    let p = next_told octets place told next items ok w s in
+pub gathered_more : (octets : List ℕ) (place told next : ℕ) (items more : List ℕ) → Gathered octets place items
+    → Stands octets place told next 4294967376 → told ≤ 4294967295 → more ≡ items ++ told ∷ []
+    → Gathered octets next more
+gathered_more octets place told next items more w s le is =
+    let same : told ≡ s.number = let t = s.as_told in omega arith in
+    let p = and_parts (leb w.first largest_first) (list_all other_fits w.others) w.tested in
     record {
       first = w.first;
       others = w.others ++ s.number ∷ [];
       arcs = is ∙ ap (λ (l : List ℕ). l ++ told ∷ []) w.arcs
-          ∙ ap (λ (k : ℕ). first_arc w.first ∷ second_arc w.first ∷ (w.others ++ k ∷ [])) p.0;
+          ∙ ap (λ (k : ℕ). first_arc w.first ∷ second_arc w.first ∷ (w.others ++ k ∷ [])) same;
+      tested =
+          rw (p.0, list_all-append other_fits w.others (s.number ∷ []), p.1, le-leb s.number 4294967295 (omega arith))
+          refl;
       within = s.within;
       read = w.read ∙ ap (behind (w.first ∷ w.others)) s.read
           ∙ behind_more (w.first ∷ w.others) s.number (numbers_of (drop next octets));
     }
 
-reads_arcs_of : (r : Option (List ℕ)) (first : ℕ) (others : List ℕ) → is_ok (arcs_of_numbers r) ≡ true
-    → r ≡ Some (first ∷ others) → arcs_of_numbers r ≡ Ok (first_arc first ∷ second_arc first ∷ others)
-unfolding test_of
-reads_arcs_of r first others ok e =
-    let t : (leb first largest_first && list_all other_fits others) ≡ true = sym (ap test_of e) ∙ tested r ok in
-    rw (e, t) refl
-
-pub gathers_all : (octets : List ℕ) (place : ℕ) (items : List ℕ) → is_ok (contents_reading octets) ≡ true
-    → Gathered octets place items → length octets ≤ place → contents_reading octets ≡ Ok items
-unfolding contents_reading numbers_from
-gathers_all octets place items ok w le =
-    let all : numbers_of octets ≡ Some (w.first ∷ w.others) =
-    w.read ∙ ap (λ (l : List ℕ). behind (w.first ∷ w.others) (numbers_of l)) (drop_all place octets le)
-    ∙ ap (λ (l : List ℕ). Some l) (append-nil (w.first ∷ w.others)) in
-    reads_arcs_of (numbers_of octets) w.first w.others ok all ∙ ap (λ (l : List ℕ). Ok l) (sym w.arcs)
-
--- a subidentifier stands where one is expected
-no_reading : (octets : List ℕ) (x : ContentsError) → is_ok (contents_reading octets) ≡ true
-    → contents_reading octets ≡ Err x → ⊥
-no_reading octets x ok e = err_is_not_ok (contents_reading octets) x ok e
-  where
-    err_is_not_ok : (r : Result (List ℕ) ContentsError) (x : ContentsError) → is_ok r ≡ true → r ≡ Err x → ⊥
-    err_is_not_ok (Ok arcs) x ok e = cc
-    err_is_not_ok (Err y) x ok e = absurd cc
-
-pub some_stands : (octets : List ℕ) → is_ok (contents_reading octets) ≡ true
-    → (0 < length octets → numbers_of octets ≡ None) → ⊥
-some_stands octets ok none = elim (cases_lt 0 (length octets)) [
-  | inl lt ↦ no_reading octets Malformed ok (reads_none octets (none lt))
-  | inr le ↦ no_reading octets Malformed ok (reads_empty octets (nil_from_length octets (omega arith)))
-]
-
-pub next_stands : (octets : List ℕ) (place : ℕ) (items : List ℕ) → is_ok (contents_reading octets) ≡ true
-    → Gathered octets place items → numbers_of (drop place octets) ≡ None → ⊥
-next_stands octets place items ok w none =
-    no_reading octets Malformed ok (reads_none octets (w.read ∙ ap (behind (w.first ∷ w.others)) none))
+pub gathers_all : (octets : List ℕ) (place : ℕ) (items : List ℕ) → Gathered octets place items
+    → length octets ≤ place → contents_reading octets ≡ Ok items
+unfolding contents_reading
+gathers_all octets place items w le =
+    let read : contents_reading octets ≡ Ok (first_arc w.first ∷ second_arc w.first ∷ w.others) =
+    rw (numbers_at_end octets place w.first w.others w.read le, w.tested) refl in
+    read ∙ ap (λ (l : List ℕ). Ok l) (sym w.arcs)

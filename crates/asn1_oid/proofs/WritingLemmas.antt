@@ -1,12 +1,11 @@
 -- The octets that are given one after another, and their number.
 use Rattle.std.proofs.Common.{◌≡◌, ℕ, zero, suc, ◌+◌, ◌-◌, ◌*◌, ◌/◌, ◌%◌, ◌^◌, ◌<◌, List, [], ◌∷◌, ◌++◌, length, take, get_or, refl, sym, ap, subst, ◌∙◌, arith}
 use Rattle.std.specs.List.{flat_map}
-use Rattle.std.proofs.lemmas.Nat.{pow-add}
 use Rattle.std.proofs.lemmas.List.{length-append, take_more, flat_map_more}
 use Rattle.asn1_oid.specs.Arcs.{IsValidArcs}
 use Rattle.asn1_oid.specs.Contents.{AreSubidentifiers, subidentifiers, IsContents}
-use Rattle.asn1_oid.specs.Writing.{last_octets, HasDigits, digit_count, subidentifier_octets, octets_left}
-use Rattle.asn1_oid.specs.WritingLaws.{next_power, digits_of, same_digits, length-last_octets, last_octet, octet_before, left_are}
+use Rattle.asn1_oid.specs.Writing.{last_octets, low_octets, HasDigits, digit_count, subidentifier_octets, octets_left, word_left}
+use Rattle.asn1_oid.specs.WritingLaws.{digits_of, same_digits, length-last_octets, last_octet, octet_before, left_are}
 
 -- ---- what is left, and how many octets there are
 
@@ -59,54 +58,92 @@ contents_counted arcs rest n k more valid numbers two h e = (
   length-octets_left n k more rest e,
 )
 
+-- ---- octets in a word
+
+-- one octet more, before the others
+low_more : (word octet k : ℕ) → octet < 256 → low_octets (256 * word + octet) (suc k) ≡ octet ∷ low_octets word k
+unfolding low_octets
+low_more word octet k lt =
+    let low : (256 * word + octet) % 256 ≡ octet = omega arith in
+    let high : (256 * word + octet) / 256 ≡ word = omega arith in
+    ap (λ (x : ℕ). x ∷ low_octets ((256 * word + octet) / 256) k) low
+    ∙ ap (λ (w : ℕ). octet ∷ low_octets w k) high
+
+pub one_in_word : (n : ℕ) → low_octets (n % 128) 1 ≡ last_octets n 1
+unfolding low_octets
+one_in_word n =
+    let e : n % 128 % 256 ≡ n % 128 = omega arith in
+    ap (λ (x : ℕ). x ∷ []) e ∙ sym (last_octet n)
+
+pub more_in_word : (n word digit k : ℕ) → low_octets word (suc k) ≡ last_octets n (suc k)
+    → digit ≡ n / 128 ^ suc k % 128
+    → low_octets (256 * word + 128 + digit) (suc (suc k)) ≡ last_octets n (suc (suc k))
+more_in_word n word digit k e is =
+    let small : 128 + digit < 256 = omega arith in
+    let sum : 256 * word + 128 + digit ≡ 256 * word + (128 + digit) = omega arith in
+    ap (λ (w : ℕ). low_octets w (suc (suc k))) sum
+    ∙ low_more word (128 + digit) (suc k) small
+    ∙ ap (λ (l : List ℕ). (128 + digit) ∷ l) e
+    ∙ ap (λ (d : ℕ). (128 + d) ∷ last_octets n (suc k)) is
+    ∙ sym (octet_before n k)
+
+length-low_octets : (word k : ℕ) → length (low_octets word k) ≡ k
+unfolding low_octets
+length-low_octets word zero = refl
+length-low_octets word (suc k) = ap suc (length-low_octets (word / 256) k)
+
+pub length-word_left : (word k more : ℕ) (arcs : List ℕ) → more ≡ length (flat_map subidentifier_octets arcs)
+    → k + more ≡ length (word_left word k arcs)
+unfolding word_left
+length-word_left word k more arcs e =
+    let sum = length-append (low_octets word k) (flat_map subidentifier_octets arcs) in
+    let first = length-low_octets word k in
+    omega arith
+
 -- ---- one octet after another
 
--- where no octets are left of a subidentifier, the next arc is begun
-pub next_arc : (n arc k : ℕ) (arcs others : List ℕ) → arcs ≡ arc ∷ others → HasDigits arc k
-    → octets_left n 0 arcs ≡ octets_left arc k others
-unfolding octets_left subidentifier_octets last_octets
-next_arc n arc k arcs others e h =
+-- the first subidentifier, and those of further arcs
+pub word_is : (n word k left : ℕ) (arcs : List ℕ) → HasDigits n left → HasDigits n k
+    → low_octets word left ≡ last_octets n left → word_left word left arcs ≡ octets_left n k arcs
+unfolding word_left octets_left
+word_is n word k left arcs g h e =
+    ap (λ (l : List ℕ). l ++ flat_map subidentifier_octets arcs) e
+    ∙ ap (λ (j : ℕ). last_octets n j ++ flat_map subidentifier_octets arcs) (same_digits n left k g h)
+
+-- where no octets are left in the word, the next arc is begun
+pub next_arc : (word now arc k : ℕ) (arcs others : List ℕ) → arcs ≡ arc ∷ others → HasDigits arc k
+    → low_octets now k ≡ last_octets arc k → word_left word 0 arcs ≡ word_left now k others
+unfolding word_left subidentifier_octets low_octets
+next_arc word now arc k arcs others e h is =
     ap (λ (l : List ℕ). flat_map subidentifier_octets l) e
     ∙ ap (λ (j : ℕ). last_octets arc j ++ flat_map subidentifier_octets others)
     (same_digits arc (digit_count arc) k (digits_of arc) h)
+    ∙ ap (λ (l : List ℕ). l ++ flat_map subidentifier_octets others) (sym is)
 
-pub none_left : (n : ℕ) (arcs : List ℕ) → length arcs ≡ 0 → octets_left n 0 arcs ≡ []
-unfolding octets_left last_octets
-none_left n [] e = refl
-none_left n (arc ∷ arcs) e = absurd (omega arith)
+-- or it is given whole
+pub small_arc : (word arc : ℕ) (arcs others : List ℕ) → arcs ≡ arc ∷ others → arc < 128
+    → word_left word 0 arcs ≡ arc ∷ word_left word 0 others
+unfolding word_left subidentifier_octets low_octets
+small_arc word arc arcs others e lt =
+    let one : HasDigits arc 1 =
+    record { some = omega arith; enough = omega arith; fewest = λ more. absurd (omega arith) } in
+    let octet : arc % 128 ≡ arc = omega arith in
+    ap (λ (l : List ℕ). flat_map subidentifier_octets l) e
+    ∙ ap (λ (j : ℕ). last_octets arc j ++ flat_map subidentifier_octets others)
+    (same_digits arc (digit_count arc) 1 (digits_of arc) one)
+    ∙ ap (λ (l : List ℕ). l ++ flat_map subidentifier_octets others) (last_octet arc)
+    ∙ ap (λ (x : ℕ). x ∷ flat_map subidentifier_octets others) octet
 
-sevens : (k : ℕ) → 2 ^ (7 * k) ≡ 128 ^ k
-sevens zero = refl
-sevens (suc k) =
-    let e : 7 * suc k ≡ 7 + 7 * k = omega arith in
-    ap (λ (j : ℕ). 2 ^ j) e ∙ pow-add 2 7 (7 * k) ∙ ap (λ (x : ℕ). 128 * x) (sevens k) ∙ sym (next_power k)
+pub none_left : (word : ℕ) (arcs : List ℕ) → length arcs ≡ 0 → word_left word 0 arcs ≡ []
+unfolding word_left low_octets
+none_left word [] e = refl
+none_left word (arc ∷ arcs) e = absurd (omega arith)
 
-none_of : (n j : ℕ) → j ≡ 0 → [] ≡ last_octets n j
-unfolding last_octets
-none_of n j e = sym (ap (last_octets n) e)
-
--- the last octet of a subidentifier, and one before others
-pub gives_last : (n left digit : ℕ) (arcs : List ℕ) → 0 < left → left - 1 ≡ 0 → digit ≡ n / 2 ^ (7 * (left - 1)) % 128
-    → octets_left n left arcs ≡ digit ∷ octets_left n (left - 1) arcs
-unfolding octets_left
-gives_last n zero digit arcs some last is = absurd (omega arith)
-gives_last n (suc k) digit arcs some last is =
-    let z : k ≡ 0 = omega arith in
-    let d : digit ≡ n % 128 = is ∙ ap (λ (j : ℕ). n / 2 ^ (7 * j) % 128) last ∙ omega arith in
-    ap (λ (j : ℕ). last_octets n (suc j) ++ flat_map subidentifier_octets arcs) z
-    ∙ ap (λ (l : List ℕ). l ++ flat_map subidentifier_octets arcs) (last_octet n)
-    ∙ ap (λ (x : ℕ). x ∷ flat_map subidentifier_octets arcs) (sym d)
-    ∙ ap (λ (l : List ℕ). digit ∷ (l ++ flat_map subidentifier_octets arcs)) (none_of n (suc k - 1) last)
-
-pub gives_more : (n left digit : ℕ) (arcs : List ℕ) → 0 < left → (left - 1 ≡ 0 → ⊥)
-    → digit ≡ n / 2 ^ (7 * (left - 1)) % 128 → octets_left n left arcs ≡ (128 + digit) ∷ octets_left n (left - 1) arcs
-unfolding octets_left
-gives_more n zero digit arcs some more is = absurd (omega arith)
-gives_more n (suc zero) digit arcs some more is = absurd (more (omega arith))
-gives_more n (suc (suc k)) digit arcs some more is =
-    let e : suc (suc k) - 1 ≡ suc k = omega arith in
-    let d : digit ≡ n / 128 ^ suc k % 128 = is ∙ ap (λ (j : ℕ). n / 2 ^ (7 * j) % 128) e
-    ∙ ap (λ (p : ℕ). n / p % 128) (sevens (suc k)) in
-    ap (λ (l : List ℕ). l ++ flat_map subidentifier_octets arcs) (octet_before n k)
-    ∙ ap (λ (x : ℕ). (128 + x) ∷ (last_octets n (suc k) ++ flat_map subidentifier_octets arcs)) (sym d)
-    ∙ ap (λ (j : ℕ). (128 + digit) ∷ (last_octets n j ++ flat_map subidentifier_octets arcs)) (sym e)
+-- the lowest octet of the word
+pub gives_octet : (word left : ℕ) (arcs : List ℕ) → 0 < left
+    → word_left word left arcs ≡ word % 256 ∷ word_left (word / 256) (left - 1) arcs
+unfolding word_left low_octets
+gives_octet word zero arcs some = absurd (omega arith)
+gives_octet word (suc k) arcs some =
+    let e : k ≡ suc k - 1 = omega arith in
+    ap (λ (j : ℕ). word % 256 ∷ (low_octets (word / 256) j ++ flat_map subidentifier_octets arcs)) e

@@ -27,3 +27,12 @@ subidentifier_octets n = last_octets n (digit_count n)
 -- k octets of a subidentifier of n, and the subidentifiers of further arcs
 unfoldable pub octets_left : ℕ → ℕ → List ℕ → List ℕ
 octets_left n k arcs = last_octets n k ++ flat_map subidentifier_octets arcs
+
+-- the lowest k octets of a word, the lowest first
+unfoldable pub low_octets : ℕ → ℕ → List ℕ
+low_octets word zero = []
+low_octets word (suc k) = word % 256 ∷ low_octets (word / 256) k
+
+-- k octets of a word, and the subidentifiers of further arcs
+unfoldable pub word_left : ℕ → ℕ → List ℕ → List ℕ
+word_left word k arcs = low_octets word k ++ flat_map subidentifier_octets arcs

@@ -1,6 +1,6 @@
 //! The contents of identifiers (X.690 8.19), read.
 
-ghost use Rattle.std.specs.Prelude.{◌≡◌, ◌≢◌, ◌↔◌, ◌<◌, ◌≤◌, ℕ, List, Ok, Err, None, length, drop, slice_index, All, IsOk, IfOk, IfSome, IfNone, MatchResult};
+ghost use Rattle.std.specs.Prelude.{◌≡◌, ◌≢◌, ◌↔◌, ◌<◌, ◌≤◌, ◌+◌, ℕ, List, [], Ok, Err, None, length, drop, slice_index, vec_len, vec_capacity, All, IsOk, IfSome, IfNone, MatchResult};
 ghost use Rattle.asn1_oid.specs.Contents.{IsContents, FitU32};
 ghost use Rattle.asn1_oid.specs.Reading.{Stands, contents_reading, numbers_of};
 
@@ -108,27 +108,45 @@ pub(crate) fn examine<S: OctetSource>(source: &S) -> Result<(), ContentsError>
     }
 }
 
-/// The arcs of contents.
-pub(crate) fn arcs_in<S: OctetSource>(alloc: Global, source: &S) -> Result<Vec<u32>, AllocError>
-    requires { IsOk (contents_reading (S.list source.now)) }
-    ensures { IfOk result (λ arcs. contents_reading (S.list source.now) ≡ Ok arcs.items) }
+/// The arcs of contents. None where the octets are contents of no arcs that fit, or memory is wanting.
+pub(crate) fn arcs_in<S: OctetSource>(alloc: Global, source: &S) -> Option<Vec<u32>>
+    ensures arcs { IfSome result (λ arcs. contents_reading (S.list source.now) ≡ Ok arcs.items) }
+    ensures octets { All (λ octet. octet < 256) (S.list source.now) }
 {
     let count = source.count();
-    let mut arcs = Vec::new(alloc);
-    let Some((first, mut at)) = subidentifier_at(source, 0) else {
-        unreachable!()
-    };
+    let mut arcs = room_for(alloc, count)?;
+    let (first, mut at) = fitting_at(source, 0, LARGEST_FIRST)?;
     let x = (first / 40).min(2);
-    arcs.push(x as u32)?;
-    arcs.push((first - 40 * x) as u32)?;
+    arcs.push_reserved(x as u32);
+    arcs.push_reserved((first - 40 * x) as u32);
     while at < count {
-        let Some((number, next)) = subidentifier_at(source, at) else {
-            unreachable!()
-        };
-        arcs.push(number as u32)?;
+        let (number, next) = fitting_at(source, at, LARGEST_OTHER)?;
+        arcs.push_reserved(number as u32);
         at = next;
     }
-    Ok(arcs)
+    Some(arcs)
+}
+
+/// Room for the arcs of so many octets: one more than these, of which the first may have two.
+fn room_for(alloc: Global, count: usize) -> Option<Vec<u32>>
+    ensures empty { IfSome result (λ arcs. arcs.items ≡ []) }
+    ensures room { IfSome result (λ arcs. (vec_len arcs ≡ 0) × (count + 1 ≤ vec_capacity arcs)) }
+{
+    Vec::with_capacity(alloc, count.checked_add(1)?).ok()
+}
+
+/// The number of the subidentifier at a place, and the place behind it; None where none stands there, or a larger one.
+fn fitting_at<S: OctetSource>(source: &S, at: usize, largest: u64) -> Option<(u64, usize)>
+    requires { at ≤ length (S.list source.now) }
+    ensures stands { IfSome result (λ r. Stands (S.list source.now) at r.0 r.1 4294967376) }
+    ensures fits { IfSome result (λ r. r.0 ≤ largest) }
+{
+    let (number, next) = subidentifier_at(source, at)?;
+    if number <= largest {
+        Some((number, next))
+    } else {
+        None
+    }
 }
 
 /// The number of the subidentifier at a place, which stops growing where no arc can be so large, and the place behind it;
@@ -139,12 +157,20 @@ fn subidentifier_at<S: OctetSource>(source: &S, at: usize) -> Option<(u64, usize
     ensures none { IfNone result (at < length (S.list source.now)
         → numbers_of (drop at (S.list source.now)) ≡ None) }
 {
-    let mut number = 0u64;
-    for i in at..source.count() {
+    let count = source.count();
+    if at == count {
+        return None;
+    }
+    let first = source.octet(at);
+    if first < 128 {
+        return Some((u64::from(first), at + 1));
+    }
+    if first == 0x80 {
+        return None;
+    }
+    let mut number = u64::from(first % 128);
+    for i in at + 1..count {
         let octet = source.octet(i);
-        if i == at && octet == 0x80 {
-            return None;
-        }
         number = (128 * number + u64::from(octet % 128)).min(LARGEST_FIRST + 1);
         if octet < 128 {
             return Some((number, i + 1));

@@ -77,8 +77,8 @@ impl ObjectIdentifier {
         })
     }
 
-    /// The identifier of which the octets are the contents (X.690 8.19). They are examined whole before any memory is
-    /// asked for.
+    /// The identifier of which the octets are the contents (X.690 8.19). Want of memory is told of octets alone that
+    /// would be read.
     pub fn from_contents<S: OctetSource>(
         alloc: Global,
         source: &S,
@@ -96,8 +96,10 @@ impl ObjectIdentifier {
         ensures memory { result ≡ Err ContentsError.Memory
             → (arcs : List ℕ) × IsContents arcs (S.list source.now) × FitU32 arcs }
     {
-        examine(source)?;
-        let arcs = arcs_in(alloc, source)?;
+        let Some(arcs) = arcs_in(alloc, source) else {
+            examine(source)?;
+            return Err(ContentsError::Memory);
+        };
         Ok(ObjectIdentifier {
             arcs: CowSlice::Owned(arcs),
         })

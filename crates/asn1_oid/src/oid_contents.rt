@@ -3,15 +3,16 @@
 ghost use Rattle.std.specs.Prelude.{◌≡◌, ◌<◌, ◌≤◌, ◌*◌, ◌^◌, ℕ, List, length};
 ghost use Rattle.std.specs.List.{flat_map};
 ghost use Rattle.std.specs.Iterator.{YieldsFirst, item_count};
-ghost use Rattle.asn1_oid.specs.Writing.{HasDigits, octets_left, subidentifier_octets};
+ghost use Rattle.asn1_oid.specs.Writing.{HasDigits, last_octets, low_octets, octets_left, subidentifier_octets, word_left};
 
 use std::marker::Model;
 
 /// An iterator over the octets of an identifier's contents that are left, in their order.
 #[derive(Debug, Drop)]
 pub struct OidContents<'a> {
-    // The subidentifier that is being given, how many of its octets are left, and the arcs behind it.
-    number: u64,
+    // The octets of a subidentifier that are left, the first in the lowest eight bits, how many they are, and the arcs
+    // behind them.
+    octets: u64,
     left: u32,
     arcs: &'a [u32],
 }
@@ -19,7 +20,7 @@ pub struct OidContents<'a> {
 impl<'a> Model for OidContents<'a> {
     ghost Value = { List ℕ };
 
-    ghost view = { λ s. octets_left s.number s.left s.arcs.now };
+    ghost view = { λ s. word_left s.octets s.left s.arcs.now };
 
     ghost invariant = { λ s. s.left ≤ 5 };
 }
@@ -43,6 +44,32 @@ pub(crate) fn octet_count(number: u64) -> u32
     }
 }
 
+/// The octets of the subidentifier of a number, the first in the lowest eight bits, and how many they are.
+fn octets_in_word(number: u64) -> (u64, u32)
+    requires { number < 2 ^ 35 }
+    ensures digits { HasDigits number result.1 }
+    ensures few { result.1 ≤ 5 }
+    ensures octets { low_octets result.0 result.1 ≡ last_octets number result.1 }
+{
+    let one = number % 128;
+    if number < 1 << 7 {
+        return (one, 1);
+    }
+    let two = 256 * one + 128 + (number >> 7) % 128;
+    if number < 1 << 14 {
+        return (two, 2);
+    }
+    let three = 256 * two + 128 + (number >> 14) % 128;
+    if number < 1 << 21 {
+        return (three, 3);
+    }
+    let four = 256 * three + 128 + (number >> 21) % 128;
+    if number < 1 << 28 {
+        return (four, 4);
+    }
+    (256 * four + 128 + (number >> 28) % 128, 5)
+}
+
 /// How many octets the subidentifiers of further arcs have.
 pub(crate) fn octets_of_arcs(arcs: &[u32]) -> u128
     ensures len { result ≡ length (flat_map subidentifier_octets arcs.now) }
@@ -61,11 +88,8 @@ impl<'a> OidContents<'a> {
         requires { number < 2 ^ 35 }
         ensures { (k : ℕ) → HasDigits number k → result ≡ octets_left number k arcs.now }
     {
-        OidContents {
-            number,
-            left: octet_count(number),
-            arcs,
-        }
+        let (octets, left) = octets_in_word(number);
+        OidContents { octets, left, arcs }
     }
 }
 
@@ -83,13 +107,16 @@ impl<'a> Iterator for OidContents<'a> {
     fn next(&mut self) -> Option<u8> {
         if self.left == 0 {
             let (arc, others) = self.arcs.split_first()?;
-            self.number = u64::from(*arc);
-            self.left = octet_count(self.number);
             self.arcs = others;
+            if *arc < 128 {
+                return Some(*arc as u8);
+            }
+            (self.octets, self.left) = octets_in_word(u64::from(*arc));
         }
+        let octet = (self.octets % 256) as u8;
+        self.octets /= 256;
         self.left -= 1;
-        let digit = ((self.number >> (7 * self.left)) % 128) as u8;
-        Some(if self.left == 0 { digit } else { 128 + digit })
+        Some(octet)
     }
     /// How many octets are left: twice that number, unless it passes `usize::MAX`.
     fn size_hint(&self) -> (usize, Option<usize>)

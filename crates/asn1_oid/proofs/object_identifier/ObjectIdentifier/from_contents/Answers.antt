@@ -1,9 +1,11 @@
-use Rattle.std.proofs.Common.{◌≡◌, Result, Ok, Err}
+use Rattle.std.proofs.Common.{◌≡◌, true, Result, Ok, Err, ap}
+use Rattle.std.specs.Prelude.{is_ok}
 use Rattle.std.proofs.lemmas.Result.{err_from_is_err_and}
 use Rattle.asn1_oid.specs.declared.contents.ContentsError.{ContentsError}
 use Rattle.asn1_oid.specs.declared.contents.ContentsError.TheVariants.{Malformed, ArcTooLarge, Memory}
 use Rattle.asn1_oid.specs.declared.object_identifier.ObjectIdentifier.{ObjectIdentifier}
 use Rattle.asn1_oid.proofs.ReadingLemmas.{large_iff, none_iff, some_arcs, none_large, not_malformed, not_refused}
+use Rattle.asn1_oid.specs.Reading.{contents_reading}
 use Rattle.asn1_oid.specs.ReadingLaws.{no_want_of_memory, arcs_from_reading, one_list_of_arcs}
 use Rattle.asn1_oid.proofs.object_identifier.ObjectIdentifier.from_contents.Goals as goal
 
@@ -46,55 +48,49 @@ returns-in_err-examine-clause-memory g c = λ is.
     absurd (no_want_of_memory (g.S.OctetSource.list c.args.source.now) c.in_err-examine.ensures.octets
     (rw same at c.in_err-examine.ensures.reading))
 
-pub returns-in_err-arcs-clause-arc_too_large : goal.returns-in_err-arcs-clause-arc_too_large
-returns-in_err-arcs-clause-arc_too_large g c =
-    let p = err_from_is_err_and c.from_residual-in_err-arcs.result c.from_residual-in_err-arcs.ensures.1 in
-    rw (p.1, p.2) (
-      λ is. absurd (not_large (refusal_is Memory ArcTooLarge is)),
-      λ some. absurd (none_large (g.S.OctetSource.list c.args.source.now) c.in_ok-examine.ensures.octets
-          c.in_ok-examine.ensures.reading some),
-    )
+pub returns-in_default-clause-arc_too_large : goal.returns-in_default-clause-arc_too_large
+returns-in_default-clause-arc_too_large g c = (
+  λ is. absurd (not_large (refusal_is Memory ArcTooLarge is)),
+  λ some. absurd (none_large (g.S.OctetSource.list c.args.source.now) c.in_ok-examine.ensures.octets
+      c.in_ok-examine.ensures.reading some),
+)
 
-pub returns-in_err-arcs-clause-malformed : goal.returns-in_err-arcs-clause-malformed
-returns-in_err-arcs-clause-malformed g c =
-    let p = err_from_is_err_and c.from_residual-in_err-arcs.result c.from_residual-in_err-arcs.ensures.1 in
-    rw (p.1, p.2) (
-      λ is. absurd (not_none (refusal_is Memory Malformed is)),
-      λ none. absurd (not_malformed (g.S.OctetSource.list c.args.source.now) c.in_ok-examine.ensures.octets
-          c.in_ok-examine.ensures.reading none),
-    )
+pub returns-in_default-clause-malformed : goal.returns-in_default-clause-malformed
+returns-in_default-clause-malformed g c = (
+  λ is. absurd (not_none (refusal_is Memory Malformed is)),
+  λ none. absurd (not_malformed (g.S.OctetSource.list c.args.source.now) c.in_ok-examine.ensures.octets
+      c.in_ok-examine.ensures.reading none),
+)
 
-pub returns-in_err-arcs-clause-memory : goal.returns-in_err-arcs-clause-memory
-returns-in_err-arcs-clause-memory g c =
+pub returns-in_default-clause-memory : goal.returns-in_default-clause-memory
+returns-in_default-clause-memory g c =
     λ is. some_arcs (g.S.OctetSource.list c.args.source.now) c.in_ok-examine.ensures.octets
     c.in_ok-examine.ensures.reading
 
 pub invariant_of-result : goal.invariant_of-result
 invariant_of-result g c =
-    (arcs_from_reading c.in_ok-arcs.arcs.items (g.S.OctetSource.list c.args.source.now) c.in_ok-examine.ensures.octets
-    c.in_ok-arcs.ensures).0.valid
+    (arcs_from_reading c.in-Some.arcs.items (g.S.OctetSource.list c.args.source.now) c.in-Some.ensures.octets
+    c.in-Some.ensures.arcs).0.valid
 
 pub returns-clause-contents : goal.returns-clause-contents
 returns-clause-contents g c =
-    arcs_from_reading c.in_ok-arcs.arcs.items (g.S.OctetSource.list c.args.source.now) c.in_ok-examine.ensures.octets
-    c.in_ok-arcs.ensures
+    arcs_from_reading c.in-Some.arcs.items (g.S.OctetSource.list c.args.source.now) c.in-Some.ensures.octets
+    c.in-Some.ensures.arcs
 
 pub returns-clause-only : goal.returns-clause-only
 returns-clause-only g c = λ arcs is.
     let octets = g.S.OctetSource.list c.args.source.now in
-    let read = arcs_from_reading c.in_ok-arcs.arcs.items octets c.in_ok-examine.ensures.octets c.in_ok-arcs.ensures in
-    one_list_of_arcs c.in_ok-arcs.arcs.items arcs octets read.0 is
+    let read = arcs_from_reading c.in-Some.arcs.items octets c.in-Some.ensures.octets c.in-Some.ensures.arcs in
+    one_list_of_arcs c.in-Some.arcs.items arcs octets read.0 is
 
 pub returns-clause-arc_too_large : goal.returns-clause-arc_too_large
-returns-clause-arc_too_large g c = (
-  λ is. absurd (no_refusal _ ArcTooLarge is),
-  λ some. absurd (none_large (g.S.OctetSource.list c.args.source.now) c.in_ok-examine.ensures.octets
-      c.in_ok-examine.ensures.reading some),
-)
+returns-clause-arc_too_large g c =
+    let octets = g.S.OctetSource.list c.args.source.now in
+    let ok : is_ok (contents_reading octets) ≡ true = ap is_ok c.in-Some.ensures.arcs in
+    (λ is. absurd (no_refusal _ ArcTooLarge is), λ some. absurd (none_large octets c.in-Some.ensures.octets ok some))
 
 pub returns-clause-malformed : goal.returns-clause-malformed
-returns-clause-malformed g c = (
-  λ is. absurd (no_refusal _ Malformed is),
-  λ none. absurd (not_malformed (g.S.OctetSource.list c.args.source.now) c.in_ok-examine.ensures.octets
-      c.in_ok-examine.ensures.reading none),
-)
+returns-clause-malformed g c =
+    let octets = g.S.OctetSource.list c.args.source.now in
+    let ok : is_ok (contents_reading octets) ≡ true = ap is_ok c.in-Some.ensures.arcs in
+    (λ is. absurd (no_refusal _ Malformed is), λ none. absurd (not_malformed octets c.in-Some.ensures.octets ok none))
