@@ -22,7 +22,7 @@ use std::collections::BTreeMap;
 
 /// A restricted character string (X.680 41): a list of characters, each in the string's base set.
 ///
-/// The calls that read a string examine the whole input first, without memory. They refuse it by
+/// The calls that read a string examine the whole input, whatever memory there is. They refuse it by
 /// `Other`, `InvalidData` or the first wrong character, in this order, and by `Memory` only what would
 /// else be a string that is not empty.
 pub trait StaticPermittedAlphabet: Sized + Drop {
