@@ -9,8 +9,9 @@ pub mod Strings
 pub mod Maps
 pub mod Alphabet
 pub mod AlphabetView
--- How an alphabet lies in memory; no public contract cites this.
+-- How an alphabet lies in memory, and how far a walk has come; no public contract cites these.
 pub mod AlphabetInMemory
+pub mod KeyWalk
 -- Laws of these words, for the proofs of this crate and of those above it; no contract cites them.
 pub use Rattle.asn1_characters.specs.WidthLaws
 pub use Rattle.asn1_characters.specs.SetLaws

@@ -1,13 +1,15 @@
 //! Maps from keys to characters, by which strings are read.
-ghost use Rattle.std.specs.Prelude.{◌≡◌, ◌≤◌, ◌^◌, length, map as map_of, unwrap_or};
+ghost use Rattle.std.specs.Prelude.{◌≡◌, ◌≤◌, ◌^◌, map as map_of};
 ghost use Rattle.asn1_bits.specs.BitStr.{bits_of};
 ghost use Rattle.asn1_bits.specs.Bits.{number};
 ghost use Rattle.asn1_strings.specs.Pieces.{pieces};
-ghost use Rattle.asn1_strings.specs.Strings.{Answers};
-ghost use Rattle.asn1_strings.specs.Maps.{KeyMap, base_map, map_of_entries, string_of_keys, string_of_map};
+ghost use Rattle.asn1_strings.specs.Strings.{Answers, string_of_characters};
+ghost use Rattle.asn1_strings.specs.Maps.{KeyMap, base_map, map_of_entries, string_of_map};
+ghost use Rattle.asn1_strings.specs.KeyWalk.{itself};
 
-use crate::pieces::{BitPieces, Characters};
-use crate::static_permitted_alphabet::{StaticPermittedAlphabet, string_of};
+use crate::key_walk::string_at_keys;
+use crate::pieces::BitPieces;
+use crate::static_permitted_alphabet::StaticPermittedAlphabet;
 use crate::widths::{ceil_log2, codes_of};
 use asn1_bits::BitStr;
 use asn1_characters::{CharacterSetName, PermittedAlphabetError};
@@ -66,53 +68,39 @@ impl Keys for &BTreeMap<u32, u32> {
     }
 }
 
-// The characters at the keys that bits spell, `width` bits each.
-#[derive(Drop)]
-struct KeyedPieces<'a, M: Keys> {
-    keys: BitPieces<'a>,
-    map: &'a M,
-}
+// Each number as its own key, for bits that spell the characters themselves.
+struct Itself;
 
-impl<'a, M: Keys> Characters for KeyedPieces<'a, M> {
-    ghost list = { λ s. map_of (λ k. unwrap_or ((M.key_map s.map.now).get k) 0)
-        (map_of number (pieces s.keys.width (bits_of s.keys.bits))) };
+impl Keys for Itself {
+    ghost key_map = { λ numbers. itself };
 
-    fn count(&self) -> usize {
-        self.keys.count()
+    fn count(&self) -> u64 {
+        1 << 32
     }
 
-    fn character(&self, i: usize) -> u32 {
-        self.map.get(self.keys.character(i)).unwrap_or(0)
+    fn largest(&self) -> u32 {
+        u32::MAX
+    }
+
+    fn get(&self, key: u32) -> Option<u32> {
+        Some(key)
     }
 }
 
-/// The string of the characters at these keys.
-fn string_at_keys<'a, S: StaticPermittedAlphabet, M: Keys>(
+/// The string of the characters that bits spell, `width` bits each.
+#[inline(always)]
+pub(crate) fn string_of_numbers<'a, S: StaticPermittedAlphabet>(
     alloc: Global,
-    keys: BitPieces<'a>,
-    map: &'a M,
+    characters: BitPieces<'a>,
 ) -> Result<S, PermittedAlphabetError>
-    ensures { let numbers = map_of number (pieces keys.entry.width (bits_of keys.entry.bits)) in
-        Answers S.characters result
-        (string_of_keys S.CHARACTER_SET_NAME (M.key_map map.now).get numbers) }
+    ensures { let numbers = map_of number (pieces characters.entry.width (bits_of characters.entry.bits)) in
+        Answers S.characters result (string_of_characters S.CHARACTER_SET_NAME numbers) }
 {
-    for i in 0..keys.count() {
-        let key = keys.character(i);
-        let Some(character) = map.get(key) else {
-            return Err(PermittedAlphabetError::IndexNotFound {
-                index: key as usize,
-            });
-        };
-        if !S::contains_char(character) {
-            return Err(PermittedAlphabetError::InvalidRestrictedString {
-                source: S::invalid_restricted_string(character),
-            });
-        }
-    }
-    string_of::<S, KeyedPieces<'_, M>>(alloc, &KeyedPieces { keys, map })
+    string_at_keys::<S, Itself>(alloc, characters, &Itself)
 }
 
 /// The string of bits in a map: by keys where its largest character needs more bits than a key has.
+#[inline(always)]
 pub(crate) fn string_of_bits_in<'a, S: StaticPermittedAlphabet, M: Keys>(
     alloc: Global,
     input: BitStr<'a>,
@@ -136,6 +124,6 @@ pub(crate) fn string_of_bits_in<'a, S: StaticPermittedAlphabet, M: Keys>(
     if codes_of(width) <= map.largest() as u64 {
         string_at_keys::<S, M>(alloc, pieces, map)
     } else {
-        string_of::<S, BitPieces<'_>>(alloc, &pieces)
+        string_of_numbers::<S>(alloc, pieces)
     }
 }

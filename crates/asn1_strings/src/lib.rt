@@ -14,6 +14,7 @@ mod general_string;
 mod graphic_string;
 mod ia5_string;
 mod key_maps;
+mod key_walk;
 mod numeric_string;
 mod octet_kinds;
 mod permitted_set;

@@ -1,10 +1,10 @@
 //! Lists of characters that are read by their places in octets and bits.
-ghost use Rattle.std.specs.Prelude.{◌≡◌, ◌≤◌, ◌/◌, ◌<◌, ℕ, List, length, map, slice_index};
+ghost use Rattle.std.specs.Prelude.{◌≡◌, ◌≤◌, ◌+◌, ◌*◌, ◌/◌, ◌<◌, ℕ, List, length, map, slice_index, take, drop};
 ghost use Rattle.asn1_bits.specs.BitStr.{bits_of};
-ghost use Rattle.asn1_bits.specs.Bits.{number};
+ghost use Rattle.asn1_bits.specs.Bits.{digits, number};
 ghost use Rattle.asn1_strings.specs.Pieces.{piece, pieces, unsigned};
 
-use asn1_bits::{BitStr, read_u128};
+use asn1_bits::{BitReader, BitStr, read_u128};
 
 // A list of characters.
 pub(crate) trait Characters {
@@ -60,6 +60,21 @@ impl<'a> Characters for BitPieces<'a> {
         let _len = self.bits.len();
         let piece = self.bits.slice(i * self.width, self.width);
         read_u128(piece) as u32
+    }
+}
+
+impl<'a> BitPieces<'a> {
+    /// The number that `count` characters from one of them on spell together.
+    #[inline(always)]
+    pub(crate) fn word(&self, at: usize, count: usize) -> u64
+        requires word { count * self.now.width ≤ 64 }
+        requires within { (at + count) * self.now.width ≤ length (bits_of self.now.bits) }
+        ensures { let len = count * self.now.width in
+            digits result len ≡ take len (drop (at * self.now.width) (bits_of self.now.bits)) }
+    {
+        let _len = self.bits.len();
+        let part = self.bits.slice(at * self.width, count * self.width);
+        BitReader::new(part).first_u128(count * self.width) as u64
     }
 }
 

@@ -111,6 +111,8 @@ impl<K: StringKind> StaticPermittedAlphabet for RestrictedString<K> {
     ghost indexed = { refl };
 
     ghost octets = { K.octets };
+
+    ghost fits = { K.fits };
 }
 
 impl<K: StringKind> RestrictedString<K> {

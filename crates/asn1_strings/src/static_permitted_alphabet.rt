@@ -1,5 +1,5 @@
 //! What the eight strings have in common.
-ghost use Rattle.std.specs.Prelude.{◌≡◌, ◌≢◌, ◌≤◌, ◌^◌, ◌⊎◌, ℕ, Bool, true, List, [], ◌∷◌, ◌++◌, length, map, All, Ok, None, OnOk, OnErr, string_bytes};
+ghost use Rattle.std.specs.Prelude.{◌≡◌, ◌≢◌, ◌≤◌, ◌<◌, ◌^◌, ◌⊎◌, ℕ, Bool, true, List, [], ◌∷◌, ◌++◌, length, map, All, Ok, None, OnOk, OnErr, string_bytes};
 ghost use Rattle.asn1_bits.specs.BitStr.{bits_of};
 ghost use Rattle.asn1_characters.specs.Sets.{base_set, base_count, base_largest, base_width, base_indexed, has_character};
 ghost use Rattle.std.specs.Option.{ForSome, option_copied};
@@ -11,7 +11,7 @@ ghost use Rattle.asn1_strings.specs.Strings.{Answers, character_octets, string_o
 
 use crate::chars::Chars;
 use crate::code_unit::CodeUnit;
-use crate::key_maps::string_of_bits_in;
+use crate::key_maps::{string_of_bits_in, string_of_numbers};
 use crate::pieces::{BitPieces, Characters, OctetPieces};
 use asn1_bits::{BitStr, BitString};
 use asn1_characters::{
@@ -22,7 +22,7 @@ use std::collections::BTreeMap;
 
 /// A restricted character string (X.680 41): a list of characters, each in the string's base set.
 ///
-/// The calls that read a string examine the whole input first, without memory. They refuse it by
+/// The calls that read a string examine the whole input, whatever memory there is. They refuse it by
 /// `Other`, `InvalidData` or the first wrong character, in this order, and by `Memory` only what would
 /// else be a string that is not empty.
 pub trait StaticPermittedAlphabet: Sized + Drop {
@@ -200,7 +200,7 @@ pub trait StaticPermittedAlphabet: Sized + Drop {
                 width,
             });
         }
-        string_of::<Self, BitPieces<'_>>(alloc, &BitPieces { bits: input, width })
+        string_of_numbers::<Self>(alloc, BitPieces { bits: input, width })
     }
 
     /// The string of bits that an alphabet spells (X.691 30.5): a map takes keys to characters, and
@@ -250,6 +250,10 @@ pub trait StaticPermittedAlphabet: Sized + Drop {
 
     // A character has as many octets as the standard gives it.
     ghost octets: { Self.T.OCTETS ≡ character_octets CHARACTER_SET_NAME };
+
+    // Every character of the set can be kept.
+    ghost fits: { (c : ℕ) → has_character (base_set CHARACTER_SET_NAME) c ≡ true →
+        c < Self.T.limit };
 }
 
 /// The string of these characters: they are examined first, then memory is asked for.

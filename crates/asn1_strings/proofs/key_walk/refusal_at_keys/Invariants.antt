@@ -3,7 +3,7 @@ use Rattle.asn1_bits.specs.BitStr.{bits_of}
 use Rattle.asn1_bits.specs.Bits.{number}
 use Rattle.asn1_strings.specs.Pieces.{pieces}
 use Rattle.asn1_strings.specs.Maps.{is_wrong_key}
-use Rattle.asn1_strings.proofs.key_maps.string_at_keys.Given as goal
+use Rattle.asn1_strings.proofs.key_walk.refusal_at_keys.Given as goal
 
 abbrev pub invariant-loop-i : goal.invariant-loop-i
 invariant-loop-i g l =

@@ -2,8 +2,8 @@ use Rattle.std.proofs.Common.{◌≡◌, ℕ, Option, map, get_or, Some, None, s
 use Rattle.asn1_bits.specs.BitStr.{bits_of}
 use Rattle.asn1_bits.specs.Bits.{number}
 use Rattle.asn1_strings.specs.Pieces.{pieces}
-use Rattle.asn1_strings.proofs.KeyLemmas.{keyed_missing, keyed_outside, keyed_right}
-use Rattle.asn1_strings.proofs.key_maps.string_at_keys.Goals as goal
+use Rattle.asn1_strings.proofs.KeyLemmas.{keyed_missing, keyed_outside, keyed_wanting}
+use Rattle.asn1_strings.proofs.key_walk.refusal_at_keys.Goals as goal
 
 pub returns-in_default : goal.returns-in_default
 returns-in_default g c =
@@ -26,8 +26,6 @@ returns-then-not-contains_char g c =
 
 pub returns : goal.returns
 returns g c =
-    let right =
-    keyed_right g.S.StaticPermittedAlphabet.CHARACTER_SET_NAME (g.M.Keys.key_map c.args.map.now).get
-    (map number (pieces c.args.keys.width (bits_of c.args.keys.bits)))
-    (λ k h. c.loop-i.invariant k (omega arith)) in
-    rw right at c.string_of.ensures
+    let keys = map number (pieces c.args.keys.width (bits_of c.args.keys.bits)) in
+    keyed_wanting g.S.StaticPermittedAlphabet.CHARACTER_SET_NAME (g.M.Keys.key_map c.args.map.now).get keys c.requires
+    (λ k h. c.loop-i.invariant k (omega arith))
