@@ -1,4 +1,4 @@
-//! Contents of identifiers (X.690 8.19), read and written by the crate, and by loops of which nothing is proved but that
+//! Contents of identifiers (X.690 8.19), read and written by the crate, and by loops of which it is proved alone that
 //! they stay in range and end.
 
 ghost use Rattle.std.specs.Prelude.{◌<◌, ◌≤◌, length, IfSome};

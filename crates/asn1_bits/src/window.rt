@@ -229,11 +229,7 @@ fn put_near(dst: &mut [u8], position: usize, word: u64, width: usize)
         return;
     }
     let begun = u64::from(dst[first]) << 56;
-    set_octets(
-        dst,
-        first,
-        begun | (word << (64 - width - position % 8)),
-    );
+    set_octets(dst, first, begun | (word << (64 - width - position % 8)));
 }
 
 /// ORs the lowest `width` digits of the word in from bit `position` on, where they lie in one octet.

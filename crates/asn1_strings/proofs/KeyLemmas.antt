@@ -104,7 +104,8 @@ read_next name get keys cs n key c long read at found has = λ k h. elim (cases_
   | inl lt ↦ rw (get_or_append_left cs (c ∷ []) 0 k (omega arith)) (read k lt)
   | inr ge ↦
       let e : k ≡ n = omega arith in
-      rw (get_or_push cs c 0 k (omega arith)) ((let a : get_or keys k 0 ≡ key = ap (λ (i : ℕ). get_or keys i 0) e ∙ at in cc), has)
+      rw (get_or_push cs c 0 k (omega arith))
+      ((let a : get_or keys k 0 ≡ key = ap (λ (i : ℕ). get_or keys i 0) e ∙ at in cc), has)
 ]
 
 -- ---- keys in a word
@@ -133,7 +134,8 @@ key_of_word bits w n j m count word e within read =
     let seen : drop (j * w) (take (count * w) all) ≡ take (w + w * m) (drop (j * w) all) =
     ap (λ (k : ℕ). drop (j * w) (take k all)) whole ∙ drop-take (j * w) (w + w * m) all in
     let here : take w (drop (j * w) all) ≡ digits (word / 2 ^ (w * m)) w =
-    sym (take-take w (w + w * m) (drop (j * w) all) (omega arith)) ∙ ap (take w) (sym seen ∙ ap (drop (j * w)) (sym read))
+    sym (take-take w (w + w * m) (drop (j * w) all) (omega arith))
+    ∙ ap (take w) (sym seen ∙ ap (drop (j * w)) (sym read))
     ∙ ap (take w) behind ∙ own in
     let piece_is : piece w bits (n + j) ≡ digits (word / 2 ^ (w * m)) w =
     ap (λ (k : ℕ). take w (drop k bits)) place ∙ ap (take w) (sym (drop-drop (j * w) (n * w) bits)) ∙ here in

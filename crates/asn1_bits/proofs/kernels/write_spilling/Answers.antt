@@ -20,7 +20,8 @@ returns-clause-bits c =
     (omega (arith, c.requires.some, all.len)) (omega arith) (omega (arith, all.list))
     (omega (arith, length-bits c.args.dst.now, all.len, c.requires.room))
     (c.or_word.ensures ∙ ap (ored old place) c.word.ensures) c.or_words.ensures.bits (omega arith)
-    (c.or_edge.ensures ∙ ap (λ (k : ℕ). ored (bits c.or_words.new.dst) (place + len - spill) (take spill (drop (k - spill) src)))
+    (c.or_edge.ensures
+    ∙ ap (λ (k : ℕ). ored (bits c.or_words.new.dst) (place + len - spill) (take spill (drop (k - spill) src)))
     (omega (arith, c.requires.whole, all.len)))
     (omega (arith, c.requires.some, c.requires.whole, all.len))
     ∙ ap (ored old place) (take_all (64 * count) src (omega (arith, all.list, all.len, c.requires.whole)))

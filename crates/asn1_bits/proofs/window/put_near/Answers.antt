@@ -13,7 +13,8 @@ returns c =
     put-digits c.args.dst.now c.set_octets.new.dst c.args.position c.args.word c.args.width c.requires.zeros
     (omega arith) c.requires.width (omega arith)
     (c.set_octets.ensures
-    ∙ ap (λ (n : ℕ). take (8 * q) old ++ (digits (bit_or (c.from-begun.result * 2 ^ 56 % 2 ^ 64) n) 64 ++ drop (8 * q + 64) old))
+    ∙ ap (λ (n : ℕ). take (8 * q) old ++ (digits (bit_or (c.from-begun.result * 2 ^ 56 % 2 ^ 64) n) 64
+    ++ drop (8 * q + 64) old))
     (moved c.args.word c.args.width (c.args.position % 8) (omega (arith, c.requires.width)) c.requires.below)
     ∙ ap (λ (n : ℕ). take (8 * q) old ++ (digits (bit_or (n * 2 ^ 56 % 2 ^ 64) w) 64 ++ drop (8 * q + 64) old))
     c.from-begun.ensures)

@@ -72,7 +72,8 @@ filled c =
           c.self.invariant
           (w.as_mut_slice.ensures.value ∙ grown items w.resize.new.self.items b.bytes.len c.len-octets.result
           w.in_ok-resize.ensures.items b.bytes.ok.0 c.len-octets.ensures)
-          (w.put_word.ensures ∙ ap (ored (bits w.as_mut_slice.result.now) b.len) w.lowest-number.ensures.digits) (length-digits c.args.word c.args.width) c.div_ceil-needed.ensures
+          (w.put_word.ensures ∙ ap (ored (bits w.as_mut_slice.result.now) b.len) w.lowest-number.ensures.digits)
+          (length-digits c.args.word c.args.width) c.div_ceil-needed.ensures
           (omega (arith, c.self.invariant.count, c.div_ceil-needed.ensures, c.requires.width))
           (w.truncate.ensures.items ∙ ap (take needed) (with_items_is w.resize.new.self dst same)))
       | else-needed-octets w ↦

@@ -39,4 +39,5 @@ returns-clause-counted c =
     (rw c.width.ensures.value at c.push_number.ensures.at_most))
 
 pub push_number-requires-clause-below : goal.push_number-requires-clause-below
-push_number-requires-clause-below c = rw c.from.ensures (c.width.ensures.codes c.args.character c.in-Ok.code c.in-Ok.ensures.0)
+push_number-requires-clause-below c =
+    rw c.from.ensures (c.width.ensures.codes c.args.character c.in-Ok.code c.in-Ok.ensures.0)
