@@ -15,7 +15,7 @@ use Rattle.asn1_bits.proofs.RoomLemmas.{room-step, ored-room}
 use Rattle.asn1_bits.specs.BitBuffer.{bits_shown, IsFilled}
 use Rattle.asn1_bits.proofs.BufferLemmas.{length-bits_shown, spelled, bits-zeros, filled_by}
 use Rattle.asn1_bits.proofs.ZeroLemmas.{zero_from}
-use Rattle.asn1_bits.proofs.WindowLemmas.{is_odd-or, shifted-digits, bits-octet, or-near, low-part}
+use Rattle.asn1_bits.proofs.WindowLemmas.{is_odd-or, shifted-digits, bits-octet, moved, or-near, low-part}
 
 -- one octet more is written
 pub set-more : (old octets : List ℕ) (q k : ℕ) → q + k < length old → k < length octets
@@ -70,17 +70,18 @@ or-digits a b width i h =
     ∙ ap (λ (x : Bool). get_or (digits a width) i false || x) (sym (get_or-digits b width i k (omega arith)))
 
 -- a word written over the one that stands there, with its digits too
-pub put-over : (old : List Bool) (p a b : ℕ) → digits a 64 ≡ take 64 (drop p old) → p + 64 ≤ length old
-    → take p old ++ (digits (bit_or a b) 64 ++ drop (p + 64) old) ≡ ored old p (digits b 64)
-put-over old p a b e h =
+pub put-over : (size : ℕ) (old : List Bool) (p a b : ℕ) → digits a size ≡ take size (drop p old)
+    → p + size ≤ length old
+    → take p old ++ (digits (bit_or a b) size ++ drop (p + size) old) ≡ ored old p (digits b size)
+put-over size old p a b e h =
     let front = take p old in
-    let mid = digits (bit_or a b) 64 in
-    let back = drop (p + 64) old in
-    let src = digits b 64 in
+    let mid = digits (bit_or a b) size in
+    let back = drop (p + size) old in
+    let src = digits b size in
     let lf : length front ≡ p = omega (arith, length-take p old) in
-    let lm = length-digits (bit_or a b) 64 in
-    let lb = length-drop (p + 64) old in
-    let ls = length-digits b 64 in
+    let lm = length-digits (bit_or a b) size in
+    let lb = length-drop (p + size) old in
+    let ls = length-digits b size in
     ext_get_or false (front ++ (mid ++ back)) (ored old p src)
     (omega (arith, length-ored old p src, length-append front (mid ++ back), length-append mid back, lf, lm, lb))
     (λ i lt.
@@ -93,62 +94,99 @@ put-over old p a b e h =
           ∙ sym (get_or-ored_outside old p src i within (inl below))
       | inr from ↦
           get_or-append_right front (mid ++ back) p i false lf from
-          ∙ (elim (cases_lt i (p + 64)) [
+          ∙ (elim (cases_lt i (p + size)) [
             | inl inside ↦
                 let there : p + (i - p) ≡ i = omega arith in
                 get_or_append_left mid back false (i - p) (omega (arith, lm))
-                ∙ or-digits a b 64 (i - p) (omega arith)
+                ∙ or-digits a b size (i - p) (omega arith)
                 ∙ ap (λ (x : Bool). x || get_or src (i - p) false)
                 (ap (λ (l : List Bool). get_or l (i - p) false) e
-                ∙ get_or-take 64 (drop p old) (i - p) false (omega arith) ∙ get_or-drop p old (i - p) false
+                ∙ get_or-take size (drop p old) (i - p) false (omega arith) ∙ get_or-drop p old (i - p) false
                 ∙ ap (λ (k : ℕ). get_or old k false) there)
                 ∙ sym (get_or-ored_inside old p src i (i - p) within (omega arith))
             | inr past ↦
-                let there : p + 64 + (i - p - 64) ≡ i = omega arith in
-                get_or-append_right mid back 64 (i - p) false lm (omega arith)
-                ∙ get_or-drop (p + 64) old (i - p - 64) false
+                let there : p + size + (i - p - size) ≡ i = omega arith in
+                get_or-append_right mid back size (i - p) false lm (omega arith)
+                ∙ get_or-drop (p + size) old (i - p - size) false
                 ∙ ap (λ (k : ℕ). get_or old k false) there
                 ∙ sym (get_or-ored_outside old p src i within (inr (omega (arith, ls))))
           ])
     ])
 
--- the word of the octet where the zeros begin
-begun-digits : (octets : List ℕ) (place : ℕ) → IsZeroFrom place (bits octets) → place / 8 + 8 ≤ length octets
-    → digits (get_or octets (place / 8) 0 * 2 ^ 56 % 2 ^ 64) 64 ≡ take 64 (drop (8 * (place / 8)) (bits octets))
-begun-digits octets place z h =
+-- the octet where the zeros begin, as the first of m octets of a window
+begun-digits : (m : ℕ) (octets : List ℕ) (place : ℕ) → 0 < m → IsZeroFrom place (bits octets)
+    → place / 8 + m ≤ length octets
+    → digits (get_or octets (place / 8) 0 * 2 ^ (8 * m - 8) % 2 ^ (8 * m)) (8 * m) ≡ take (8 * m)
+    (drop (8 * (place / 8)) (bits octets))
+begun-digits m octets place some z h =
     let q = place / 8 in
     let o = get_or octets q 0 in
     let all = bits octets in
     let rest = drop (8 * q) all in
+    let more = 8 * m - 8 in
     let n = length-bits octets in
+    let whole : 8 * m ≡ 8 + more = omega (arith, some) in
     let next : place + (8 * q + 8 - place) ≡ 8 * q + 8 = omega arith in
     let behind : drop (8 * q + 8) all ≡ replicate (length all - place - (8 * q + 8 - place)) false =
     sym (drop-drop (8 * q + 8 - place) place all ∙ ap (λ (k : ℕ). drop k all) next)
     ∙ ap (drop (8 * q + 8 - place)) z.zero ∙ drop-replicate (8 * q + 8 - place) (length all - place) false in
-    digits-mod (o * 2 ^ 56) 64
-    ∙ shifted-digits o 8 56
-    ∙ ap (λ (l : List Bool). l ++ replicate 56 false) (sym (bits-octet octets q (omega arith)))
+    digits-mod (o * 2 ^ more) (8 * m)
+    ∙ ap (digits (o * 2 ^ more)) whole
+    ∙ shifted-digits o 8 more
+    ∙ ap (λ (l : List Bool). l ++ replicate more false) (sym (bits-octet octets q (omega (arith, some, h))))
     ∙ ap (λ (l : List Bool). take 8 rest ++ l)
-    (sym (ap (take 56) (drop-drop 8 (8 * q) all ∙ behind)
-    ∙ take-replicate 56 (length all - place - (8 * q + 8 - place)) false (omega (arith, n))))
-    ∙ sym (take-add 8 56 rest)
+    (sym (ap (take more) (drop-drop 8 (8 * q) all ∙ behind)
+    ∙ take-replicate more (length all - place - (8 * q + 8 - place)) false (omega (arith, n, h, z.within))))
+    ∙ sym (ap (λ (k : ℕ). take k rest) whole ∙ take-add 8 more rest)
 
--- the digits of the word, shifted to where they stand, written over zeros
-pub put-digits : (octets new : List ℕ) (place word width : ℕ) → IsZeroFrom place (bits octets) → 0 < width
-    → place % 8 + width ≤ 64 → place / 8 + 8 ≤ length octets
+-- the digits of a number, shifted to where they stand in a window of m octets, written over zeros
+pub put-digits : (m : ℕ) (octets new : List ℕ) (place n width : ℕ) → IsZeroFrom place (bits octets) → 0 < width
+    → place % 8 + width ≤ 8 * m → place / 8 + m ≤ length octets → n < 2 ^ width
     → bits new ≡ take (8 * (place / 8)) (bits octets) ++
-    (digits (bit_or (get_or octets (place / 8) 0 * 2 ^ 56 % 2 ^ 64)
-    (word * 2 ^ (64 - width) % 2 ^ 64 / 2 ^ (place % 8))) 64 ++ drop (8 * (place / 8) + 64) (bits octets))
-    → bits new ≡ ored (bits octets) place (digits word width)
-put-digits octets new place word width z some fits room e =
+    (digits (bit_or (get_or octets (place / 8) 0 * 2 ^ (8 * m - 8) % 2 ^ (8 * m))
+    (n * 2 ^ (8 * m - width - place % 8) % 2 ^ (8 * m))) (8 * m) ++ drop (8 * (place / 8) + 8 * m) (bits octets))
+    → bits new ≡ ored (bits octets) place (digits n width)
+put-digits m octets new place n width z some fits room small e =
     let q = place / 8 in
     let shift = place % 8 in
     let old = bits octets in
-    let w = word * 2 ^ (64 - width) % 2 ^ 64 / 2 ^ shift in
-    let n = length-bits octets in
+    let w = n * 2 ^ (8 * m - width - shift) % 2 ^ (8 * m) in
+    let len = length-bits octets in
     e
-    ∙ put-over old (8 * q) (get_or octets q 0 * 2 ^ 56 % 2 ^ 64) w (begun-digits octets place z room) (omega (arith, n))
-    ∙ or-near old (ored old (8 * q) (digits w 64)) place word width some fits (omega (arith, n)) refl
+    ∙ put-over (8 * m) old (8 * q) (get_or octets q 0 * 2 ^ (8 * m - 8) % 2 ^ (8 * m)) w
+    (begun-digits m octets place (omega (arith, some, fits)) z room) (omega (arith, len, room))
+    ∙ or-near m old (ored old (8 * q) (digits w (8 * m))) place n width some fits (omega (arith, len, room))
+    (ap (λ (k : ℕ). ored old (8 * q) (digits k (8 * m))) (moved (8 * m) n width shift fits small))
+
+-- two words that were written, one behind the other
+pub set-two : (old one two : List Bool) (p n high low : ℕ)
+    → one ≡ take p old ++ (digits high 64 ++ drop (p + 64) old)
+    → two ≡ take (p + 64) one ++ (digits low 64 ++ drop (p + 128) one)
+    → p + 128 ≤ length old → high ≡ n / 2 ^ 64 → digits low 64 ≡ digits n 64
+    → two ≡ take p old ++ (digits n 128 ++ drop (p + 128) old)
+set-two old one two p n high low e f h is lowest =
+    let front = take p old ++ digits high 64 in
+    let shape : one ≡ front ++ drop (p + 64) old = e ∙ sym (append_assoc (take p old) (digits high 64) (drop (p + 64) old)) in
+    let len : length front ≡ p + 64 =
+    omega (arith, length-append (take p old) (digits high 64), length-take p old, length-digits high 64, h) in
+    let behind : drop (p + 128) one ≡ drop (p + 128) old =
+    (let next : p + 64 + 64 ≡ p + 128 = omega arith in
+    sym (ap (λ (k : ℕ). drop k one) next)
+    ∙ sym (drop-drop 64 (p + 64) one)
+    ∙ ap (drop 64) (ap (drop (p + 64)) shape ∙ drop_at front (drop (p + 64) old) (p + 64) len)
+    ∙ drop-drop 64 (p + 64) old
+    ∙ ap (λ (k : ℕ). drop k old) next) in
+    f
+    ∙ ap (λ (l : List Bool). l ++ (digits low 64 ++ drop (p + 128) one))
+    (ap (take (p + 64)) shape ∙ take_at front (drop (p + 64) old) (p + 64) len)
+    ∙ ap (λ (l : List Bool). front ++ (digits low 64 ++ l)) behind
+    ∙ append_assoc (take p old) (digits high 64) (digits low 64 ++ drop (p + 128) old)
+    ∙ ap (λ (l : List Bool). take p old ++ l)
+    (sym (append_assoc (digits high 64) (digits low 64) (drop (p + 128) old))
+    ∙ ap (λ (l : List Bool). l ++ drop (p + 128) old)
+    (ap (λ (k : ℕ). digits k 64 ++ digits low 64) is
+    ∙ ap (λ (l : List Bool). digits (n / 2 ^ 64) 64 ++ l) lowest
+    ∙ sym (digits-append n 64 64)))
 
 -- a number's digits that are ORed in by two pieces, one behind the other
 pub placed-two : (old one two : List Bool) (place next n front back width : ℕ)

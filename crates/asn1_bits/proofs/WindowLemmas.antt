@@ -93,30 +93,21 @@ window_is n width rest shift =
     ∙ shl-shr ((n % 2 ^ width) * 2 ^ rest) shift
 
 -- a number is moved to a place in a word by one shift
-pub moved : (n width shift : ℕ) → shift + width ≤ 64 → n < 2 ^ width
-    → n * 2 ^ (64 - width - shift) % 2 ^ 64 ≡ n * 2 ^ (64 - width) % 2 ^ 64 / 2 ^ shift
-moved n width shift fits small =
-    let rest = 64 - width - shift in
+pub moved : (size n width shift : ℕ) → shift + width ≤ size → n < 2 ^ width
+    → n * 2 ^ (size - width - shift) % 2 ^ size ≡ n * 2 ^ (size - width) % 2 ^ size / 2 ^ shift
+moved size n width shift fits small =
+    let rest = size - width - shift in
     let high = shift + width in
-    let all : 64 ≡ high + rest = omega arith in
-    let whole : 64 ≡ width + (rest + shift) = omega arith in
-    let behind : 64 - width ≡ rest + shift = omega arith in
+    let all : size ≡ high + rest = omega arith in
+    let whole : size ≡ width + (rest + shift) = omega arith in
+    let behind : size - width ≡ rest + shift = omega arith in
     let wide : n < 2 ^ high = omega (arith, small, pow_mono {i = width} {j = high} (omega arith)) in
     ap (λ (k : ℕ). n * 2 ^ rest % 2 ^ k) all
     ∙ top-shifted n high rest
     ∙ ap (λ (m : ℕ). m * 2 ^ rest) (mod-eq_of_lt wide ∙ sym (mod-eq_of_lt small))
     ∙ sym (window_is n width rest shift)
     ∙ ap (λ (k : ℕ). n * 2 ^ (rest + shift) % 2 ^ k / 2 ^ shift) (sym whole)
-    ∙ ap (λ (j : ℕ). n * 2 ^ j % 2 ^ 64 / 2 ^ shift) (sym behind)
-
--- what is left of a number by a shift to the left, and one back
-pub cut_by_shifts : (n width : ℕ) → width ≤ 64 → n * 2 ^ (64 - width) % 2 ^ 64 / 2 ^ (64 - width) ≡ n % 2 ^ width
-cut_by_shifts n width h =
-    let rest = 64 - width in
-    let whole : 64 ≡ width + rest = omega arith in
-    ap (λ (k : ℕ). n * 2 ^ rest % 2 ^ k / 2 ^ rest) whole
-    ∙ ap (λ (m : ℕ). m / 2 ^ rest) (top-shifted n width rest)
-    ∙ shl-shr (n % 2 ^ width) rest
+    ∙ ap (λ (j : ℕ). n * 2 ^ j % 2 ^ size / 2 ^ shift) (sym behind)
 
 -- digits moved to a place in a window, with zeros round them
 pub window-digits : (n width rest shift : ℕ)
@@ -219,23 +210,23 @@ pub ored-no_digits : (old : List Bool) (place n : ℕ) → old ≡ ored old plac
 unfolding digits
 ored-no_digits old place n = sym (ored-none old place)
 
--- ---- eight octets at a time
+-- ---- several octets at a time
 
--- the digits of a word, shifted to where they stand, where eight octets hold them
-pub or-near : (old new : List Bool) (place n width : ℕ) → 0 < width → place % 8 + width ≤ 64
-    → 8 * (place / 8) + 64 ≤ length old
-    → new ≡ ored old (8 * (place / 8)) (digits (n * 2 ^ (64 - width) % 2 ^ 64 / 2 ^ (place % 8)) 64)
+-- the digits of a number, shifted to where they stand, where m octets hold them
+pub or-near : (m : ℕ) (old new : List Bool) (place n width : ℕ) → 0 < width → place % 8 + width ≤ 8 * m
+    → 8 * (place / 8) + 8 * m ≤ length old
+    → new ≡ ored old (8 * (place / 8)) (digits (n * 2 ^ (8 * m - width) % 2 ^ (8 * m) / 2 ^ (place % 8)) (8 * m))
     → new ≡ ored old place (digits n width)
-or-near old new place n width some fits room e =
+or-near m old new place n width some fits room e =
     let q = place / 8 in
     let shift = place % 8 in
-    let w = n * 2 ^ (64 - width) % 2 ^ 64 / 2 ^ shift in
-    let octets = bytes_high_first 8 w in
-    let whole : take 64 (bits octets) ≡ digits w 64 = ap (take 64) (bits-bytes 8 w)
-    ∙ take_all 64 (digits w 64) (omega (arith, length-digits w 64)) in
+    let w = n * 2 ^ (8 * m - width) % 2 ^ (8 * m) / 2 ^ shift in
+    let octets = bytes_high_first m w in
+    let whole : take (8 * m) (bits octets) ≡ digits w (8 * m) = ap (take (8 * m)) (bits-bytes m w)
+    ∙ take_all (8 * m) (digits w (8 * m)) (omega (arith, length-digits w (8 * m))) in
     e
-    ∙ ap (ored old (8 * q)) (sym whole ∙ window-front 8 n width shift 8 octets fits (omega arith) refl)
-    ∙ ored-within old (digits n width) (8 * q) shift (64 - shift - width) (omega (arith, length-digits n width))
+    ∙ ap (ored old (8 * q)) (sym whole ∙ window-front m n width shift m octets fits (omega arith) refl)
+    ∙ ored-within old (digits n width) (8 * q) shift (8 * m - shift - width) (omega (arith, length-digits n width))
     ∙ (let p : 8 * q + shift ≡ place = omega arith in ap (λ (k : ℕ). ored old k (digits n width)) p)
 
 -- ---- a word that is read

@@ -9,7 +9,7 @@ ghost use Rattle.asn1_bits.specs.Turns.{turns_for};
 use crate::bit_buffer::BitBuffer;
 use crate::bit_str::BitStr;
 use crate::turns::Turns;
-use crate::window::lowest;
+use crate::window::{lowest, lowest_wide};
 use std::alloc::AllocError;
 
 /// Fills the zero bits that a buffer appended for it. When it ends, the buffer holds its old bits, what was pushed in
@@ -75,11 +75,11 @@ impl<'a> BitAppender<'a> {
         let position = self.position;
         // A length fits `usize`.
         let _len = self.buffer.len();
-        // As in `push_wide`.
+        // As in `push_number`.
         self.position += width;
-        let number = lowest(u64::from(value), width);
+        let number = u128::from(lowest(u64::from(value), width));
         self.buffer
-            .put_at(position, number, width, &mut Turns::new());
+            .put_number(position, number, width, &mut Turns::new());
     }
 
     /// Writes the lowest `width` binary digits of `value`, most significant first, 64 bits a turn. `width` is at most
@@ -95,12 +95,7 @@ impl<'a> BitAppender<'a> {
         ensures at_least { turns.old.count + div_ceil width 64 ≤ turns.new.count }
         ensures at_most { turns.new.count ≤ turns.old.count + turns_for width }
     {
-        let position = self.position;
-        // A length fits `usize`.
-        let _len = self.buffer.len();
-        // The zeros count as pushed before the digits are written, so that what lies behind stays zeros throughout.
-        self.position += width;
-        self.buffer.put_wide(position, value, width, turns);
+        self.push_number(lowest_wide(value, width), width, turns);
     }
 
     /// Writes the `width` binary digits of a number that has no more, most significant first, 64 bits a turn. `width` is
@@ -120,7 +115,7 @@ impl<'a> BitAppender<'a> {
         let position = self.position;
         // A length fits `usize`.
         let _len = self.buffer.len();
-        // As in `push_wide`.
+        // The zeros count as pushed before the digits are written, so that what lies behind stays zeros throughout.
         self.position += width;
         self.buffer.put_number(position, number, width, turns);
     }
@@ -153,7 +148,7 @@ impl<'a> BitAppender<'a> {
         let position = self.position;
         // A length fits `usize`.
         let _len = self.buffer.len();
-        // The zeros count as pushed before the bits are ORed in, so that what lies behind stays zeros throughout.
+        // As in `push_number`.
         self.position += src.len();
         self.buffer.write_at(position, src, turns);
     }

@@ -11,7 +11,7 @@ use crate::kernels::write_bitslice;
 use crate::octets::known_octets;
 use crate::single_bits::{clear_from, set_bit};
 use crate::turns::Turns;
-use crate::window::{cut, lowest, or_within, put_word};
+use crate::window::{lowest, lowest_wide, or_within, put_digits, put_word};
 use std::alloc::{AllocError, Global};
 use std::marker::Model;
 
@@ -187,7 +187,8 @@ impl BitBuffer {
     {
         let position = self.len();
         self.grow(width)?;
-        self.put_wide(position, value, width, &mut Turns::new());
+        let number = lowest_wide(value, width);
+        self.put_number(position, number, width, &mut Turns::new());
         Ok(())
     }
 
@@ -320,43 +321,7 @@ impl BitBuffer {
         Ok(())
     }
 
-    /// Writes a number of `width` binary digits over the zeros from bit `position` on: one turn.
-    #[inline(always)]
-    pub(crate) fn put_at(&mut self, position: usize, word: u64, width: usize, turns: &mut Turns)
-        requires width { width ≤ 64 }
-        requires below { word < 2 ^ width }
-        requires within { position + width ≤ length self.old }
-        requires zeros { IsZeroFrom position self.old }
-        ensures list { self.new ≡ ored self.old position (digits word width) }
-        ensures turn { turns.new.count ≡ turns.old.count + 1 }
-    {
-        put_word(self.bytes.as_mut_slice(), position, word, width);
-        turns.tick();
-    }
-
-    /// Writes the lowest `width` binary digits of the value over the zeros from bit `position` on, 64 bits a turn.
-    #[inline(always)]
-    pub(crate) fn put_wide(&mut self, position: usize, value: u128, width: usize, turns: &mut Turns)
-        requires width { width ≤ 128 }
-        requires within { position + width ≤ length self.old }
-        requires zeros { IsZeroFrom position self.old }
-        ensures list { self.new ≡ ored self.old position (digits value width) }
-        ensures turns { turns.new.count ≡ turns.old.count + div_ceil width 64 }
-    {
-        // A length fits `usize`.
-        let _len = self.len();
-        let low = (value & 0xFFFF_FFFF_FFFF_FFFF) as u64;
-        if width > 64 {
-            let front = width - 64;
-            let high = cut((value >> 64) as u64, front);
-            self.put_at(position, high, front, turns);
-            self.put_at(position + front, low, 64, turns);
-        } else if width > 0 {
-            self.put_at(position, cut(low, width), width, turns);
-        }
-    }
-
-    /// As `put_wide`, of a number of `width` binary digits, which need not be cut out of it.
+    /// Writes a number of `width` binary digits over the zeros from bit `position` on, 64 bits a turn.
     #[inline(always)]
     pub(crate) fn put_number(
         &mut self,
@@ -372,21 +337,7 @@ impl BitBuffer {
         ensures list { self.new ≡ ored self.old position (digits number width) }
         ensures turns { turns.new.count ≡ turns.old.count + div_ceil width 64 }
     {
-        // A length fits `usize`.
-        let _len = self.len();
-        let low = (number & 0xFFFF_FFFF_FFFF_FFFF) as u64;
-        if width <= 57 {
-            // One look tells that the digits lie in eight octets.
-            if width > 0 {
-                self.put_at(position, low, width, turns);
-            }
-        } else if width <= 64 {
-            self.put_at(position, low, width, turns);
-        } else {
-            let front = width - 64;
-            self.put_at(position, (number >> 64) as u64, front, turns);
-            self.put_at(position + front, low, 64, turns);
-        }
+        put_digits(self.bytes.as_mut_slice(), position, number, width, turns);
     }
 
     /// ORs the view in from bit `position` on.

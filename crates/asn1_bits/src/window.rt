@@ -1,7 +1,7 @@
 //! A word of bits, at any place of octets.
 
 ghost use Rattle.std.specs.Prelude.{◌≡◌, ◌+◌, ◌*◌, ◌/◌, ◌%◌, ◌^◌, ◌<◌, ◌≤◌, ◌++◌, length, take, drop};
-ghost use Rattle.std.specs.Int.{to_le_bytes, w64};
+ghost use Rattle.std.specs.Int.{div_ceil, to_le_bytes, w64};
 ghost use Rattle.asn1_bits.specs.Bits.{bits, digits, ored, IsZeroFrom};
 
 use crate::single_bits::from_octet;
@@ -168,15 +168,20 @@ pub(crate) fn lowest(word: u64, width: usize) -> u64
     }
 }
 
-/// As `lowest`, by two shifts: fewer steps where the width is not known before.
+/// As `lowest`, of a number of up to 128 digits.
 #[inline(always)]
-pub(crate) fn cut(word: u64, width: usize) -> u64
-    requires some { 0 < width }
-    requires width { width ≤ 64 }
-    ensures digits { digits result width ≡ digits word width }
+pub(crate) fn lowest_wide(value: u128, width: usize) -> u128
+    requires { width ≤ 128 }
+    ensures digits { digits result width ≡ digits value width }
     ensures below { result < 2 ^ width }
 {
-    (word << (64 - width)) >> (64 - width)
+    if width <= 57 {
+        u128::from(lowest((value & 0xFFFF_FFFF_FFFF_FFFF) as u64, width))
+    } else if width < 128 {
+        value & ((1 << width) - 1)
+    } else {
+        value
+    }
 }
 
 /// Writes the digits of the word over the eight octets from one of them on.
@@ -192,8 +197,8 @@ fn set_octets(dst: &mut [u8], first: usize, word: u64)
     }
 }
 
-/// As `or_word`, of a number of `width` digits, where zeros stand from bit `position` on. So one octet is read, and the
-/// next call need not wait for what this one wrote.
+/// As `or_word`, of a number of `width` digits, where zeros stand from bit `position` on. So one octet is read, and eight
+/// are stored.
 #[inline(always)]
 pub(crate) fn put_word(dst: &mut [u8], position: usize, word: u64, width: usize)
     requires width { width ≤ 64 }
@@ -230,6 +235,78 @@ fn put_near(dst: &mut [u8], position: usize, word: u64, width: usize)
     }
     let begun = u64::from(dst[first]) << 56;
     set_octets(dst, first, begun | (word << (64 - width - position % 8)));
+}
+
+/// As `put_word`, of up to 128 digits, where sixteen octets hold them from any bit of the first on.
+#[inline(always)]
+fn put_pair(dst: &mut [u8], position: usize, number: u128, width: usize)
+    requires some { 0 < width }
+    requires width { position % 8 + width ≤ 128 }
+    requires below { number < 2 ^ width }
+    requires within { position / 8 + 16 ≤ length dst.old }
+    requires zeros { IsZeroFrom position (bits dst.old) }
+    ensures { bits dst.new ≡ ored (bits dst.old) position (digits number width) }
+{
+    let first = position / 8;
+    let begun = u128::from(dst[first]) << 120;
+    let pair = begun | (number << (128 - width - position % 8));
+    set_octets(dst, first, (pair >> 64) as u64);
+    set_octets(dst, first + 8, (pair & 0xFFFF_FFFF_FFFF_FFFF) as u64);
+}
+
+/// As `put_word`, of up to 128 digits: 64 of them a turn.
+#[inline(always)]
+pub(crate) fn put_digits(
+    dst: &mut [u8],
+    position: usize,
+    number: u128,
+    width: usize,
+    turns: &mut Turns,
+)
+    requires width { width ≤ 128 }
+    requires below { number < 2 ^ width }
+    requires fits { position + width < 2 ^ 64 }
+    requires within { position + width ≤ 8 * length dst.old }
+    requires zeros { IsZeroFrom position (bits dst.old) }
+    ensures bits { bits dst.new ≡ ored (bits dst.old) position (digits number width) }
+    ensures turns { turns.new.count ≡ turns.old.count + div_ceil width 64 }
+{
+    if width <= 57 {
+        // One look tells that the digits lie in eight octets.
+        let low = (number & 0xFFFF_FFFF_FFFF_FFFF) as u64;
+        put_word(dst, position, low, width);
+    } else if position % 8 + width <= 128 && dst.len() - position / 8 >= 16 {
+        put_pair(dst, position, number, width);
+    } else {
+        put_apart(dst, position, number, width);
+    }
+    // A turn for each word of 64 digits, and for what is left.
+    if width > 0 {
+        turns.tick();
+    }
+    if width > 64 {
+        turns.tick();
+    }
+}
+
+/// As `put_digits`, of more than 57 digits that reach the last octets, or a seventeenth.
+#[inline(never)]
+fn put_apart(dst: &mut [u8], position: usize, number: u128, width: usize)
+    requires width { width ≤ 128 }
+    requires below { number < 2 ^ width }
+    requires fits { position + width < 2 ^ 64 }
+    requires within { position + width ≤ 8 * length dst.old }
+    requires zeros { IsZeroFrom position (bits dst.old) }
+    ensures { bits dst.new ≡ ored (bits dst.old) position (digits number width) }
+{
+    let low = (number & 0xFFFF_FFFF_FFFF_FFFF) as u64;
+    if width <= 64 {
+        put_word(dst, position, low, width);
+    } else {
+        let front = width - 64;
+        put_word(dst, position, (number >> 64) as u64, front);
+        put_word(dst, position + front, low, 64);
+    }
 }
 
 /// ORs the lowest `width` digits of the word in from bit `position` on, where they lie in one octet.

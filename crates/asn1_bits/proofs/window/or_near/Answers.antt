@@ -6,6 +6,6 @@ use Rattle.asn1_bits.proofs.window.or_near.Goals as goal
 
 pub returns : goal.returns
 returns c =
-    or-near (bits c.args.dst.now) (bits c.or_octets.new.dst) c.args.position c.args.word c.args.width (omega arith)
+    or-near 8 (bits c.args.dst.now) (bits c.or_octets.new.dst) c.args.position c.args.word c.args.width (omega arith)
     c.requires.width
     (omega (arith, length-bits c.args.dst.now)) c.or_octets.ensures

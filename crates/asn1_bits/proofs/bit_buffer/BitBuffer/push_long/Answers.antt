@@ -7,6 +7,8 @@ use Rattle.asn1_bits.proofs.bit_buffer.BitBuffer.push_long.Goals as goal
 pub returns-clause-ok : goal.returns-clause-ok
 returns-clause-ok c =
     let src = digits c.args.value c.args.width in
-    ored-onto c.args.self.now c.put_wide.new.self src c.len-position.result c.args.width
-    (c.put_wide.ensures.list ∙ ap (λ (l : List Bool). ored l c.len-position.result src) c.in_ok-grow.ensures.ok)
+    ored-onto c.args.self.now c.put_number.new.self src c.len-position.result c.args.width
+    (c.put_number.ensures.list
+    ∙ ap (ored c.grow.new.self c.len-position.result) c.lowest_wide-number.ensures.digits
+    ∙ ap (λ (l : List Bool). ored l c.len-position.result src) c.in_ok-grow.ensures.ok)
     c.len-position.ensures (length-digits c.args.value c.args.width)

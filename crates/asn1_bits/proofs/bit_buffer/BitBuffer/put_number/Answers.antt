@@ -1,55 +1,60 @@
-use Rattle.std.proofs.Common.{◌≡◌, ℕ, ◌+◌, ◌-◌, ◌/◌, ◌^◌, ◌<◌, ap, ◌∙◌, arith}
-use Rattle.std.proofs.lemmas.Nat.{shr_below}
-use Rattle.asn1_bits.specs.Bits.{digits, ored}
+use Rattle.std.proofs.Common.{◌≡◌, ℕ, ◌^◌, ◌<◌, Bool, List, length, ap, ◌∙◌, arith}
+use Rattle.std.proofs.lemmas.List.{with_items_is}
+use Rattle.asn1_bits.specs.Bits.{bits, digits, ored}
 use Rattle.asn1_bits.specs.DigitLaws.{length-digits}
-use Rattle.asn1_bits.proofs.OredLemmas.{length-ored}
-use Rattle.asn1_bits.proofs.PutLemmas.{placed-two, put-left, digits-lowest}
-use Rattle.asn1_bits.proofs.WindowLemmas.{ored-no_digits}
+use Rattle.asn1_bits.specs.BitBuffer.{bits_shown, IsFilled}
+use Rattle.asn1_bits.proofs.BufferLemmas.{length-bits_shown, len_fits, filled-ored, zeros-shown}
 use Rattle.asn1_bits.proofs.bit_buffer.BitBuffer.put_number.Goals as goal
 
-pub put_at-requires-else-width-le64-clause-below : goal.put_at-requires-else-width-le64-clause-below
-put_at-requires-else-width-le64-clause-below c =
-    let front = c.args.width - 64 in
-    let parts : c.args.width ≡ front + 64 = omega (arith, c.if-width-le64.false) in
-    let below : c.args.number < 2 ^ (front + 64) =
-    omega (arith, c.requires.below, ap (λ (k : ℕ). 2 ^ k) parts) in
-    shr_below c.args.number front 64 below
+pub put_digits-requires-clause-fits : goal.put_digits-requires-clause-fits
+put_digits-requires-clause-fits c =
+    let b = c.self.inside in
+    let shows = ap (λ (l : List Bool). length l) c.self.view_is in
+    let h : b.len < 2 ^ 64 = omega (arith, c.self.ranges) in
+    omega (arith, length-bits_shown b.bytes.items b.len c.self.invariant, shows)
 
-pub put_at-requires-else-width-le64-2-clause-within : goal.put_at-requires-else-width-le64-2-clause-within
-put_at-requires-else-width-le64-2-clause-within c =
-    rw c.put_at-else-width-le64.ensures.list
-    (rw length-ored (omega (arith, c.requires.within, c.if-width-le64.false)))
+pub put_digits-requires-clause-zeros : goal.put_digits-requires-clause-zeros
+put_digits-requires-clause-zeros c =
+    let b = c.self.inside in
+    rw c.as_mut_slice.ensures.value
+    (zeros-shown b.bytes.items b.len c.args.position c.args.self.now c.self.invariant c.self.view_is
+    c.requires.zeros)
 
-pub put_at-requires-else-width-le64-2-clause-zeros : goal.put_at-requires-else-width-le64-2-clause-zeros
-put_at-requires-else-width-le64-2-clause-zeros c =
-    let front = c.args.width - 64 in
-    put-left c.args.self.now c.put_at-else-width-le64.new.self (digits (c.args.number / 2 ^ 64) front) c.args.position
-    (c.args.position + front) front
-    c.requires.zeros c.put_at-else-width-le64.ensures.list (length-digits (c.args.number / 2 ^ 64) front)
-    (omega arith) (omega arith)
+pub put_digits-requires-clause-within : goal.put_digits-requires-clause-within
+put_digits-requires-clause-within c =
+    let b = c.self.inside in
+    let shows = ap (λ (l : List Bool). length l) c.self.view_is in
+    omega (
+      arith,
+      length-bits_shown b.bytes.items b.len c.self.invariant,
+      len_fits b.bytes.items b.len c.self.invariant,
+      ap (λ (l : List ℕ). length l) c.as_mut_slice.ensures.value,
+      shows,
+    )
 
-pub returns-then-width-gt0-clause-list : goal.returns-then-width-gt0-clause-list
-returns-then-width-gt0-clause-list c =
-    c.put_at.ensures.list
-    ∙ ap (ored c.args.self.now c.args.position) (digits-lowest c.args.number c.args.width (omega arith))
+filled : (c : goal.After-self-1) → IsFilled c.put_digits.new.dst c.self.inside.len
+    × (bits_shown c.put_digits.new.dst c.self.inside.len ≡ ored c.args.self.now c.args.position
+    (digits c.args.number c.args.width))
+filled c =
+    let b = c.self.inside in
+    let src = digits c.args.number c.args.width in
+    let shows = ap (λ (l : List Bool). length l) c.self.view_is in
+    let f = filled-ored b.bytes.items c.put_digits.new.dst b.len c.args.position src c.self.invariant
+    (c.put_digits.ensures.bits ∙ ap (λ (l : List ℕ). ored (bits l) c.args.position src) c.as_mut_slice.ensures.value)
+    (omega (arith, c.put_digits.auto.dst, c.as_mut_slice.ensures.len, b.bytes.ok.0))
+    (omega (
+      arith,
+      length-bits_shown b.bytes.items b.len c.self.invariant,
+      shows,
+      length-digits c.args.number c.args.width,
+    )) in
+    (f.0, f.1 ∙ ap (λ (l : List Bool). ored l c.args.position src) c.self.view_is)
 
-pub returns-else-width-gt0-clause-list : goal.returns-else-width-gt0-clause-list
-returns-else-width-gt0-clause-list c =
-    let none : c.args.width ≡ 0 = omega arith in
-    rw none (ored-no_digits c.args.self.now c.args.position c.args.number)
+same_len : (c : goal.After-self-1) → length c.put_digits.new.dst ≡ c.self.inside.bytes.len
+same_len c = omega (arith, c.put_digits.auto.dst, c.as_mut_slice.ensures.len)
 
-pub returns-then-width-le64-clause-list : goal.returns-then-width-le64-clause-list
-returns-then-width-le64-clause-list c =
-    c.put_at-then-width-le64.ensures.list
-    ∙ ap (ored c.args.self.now c.args.position) (digits-lowest c.args.number c.args.width (omega arith))
+pub invariant_of-self : goal.invariant_of-self
+invariant_of-self c = rw (with_items_is c.self.inside.bytes c.put_digits.new.dst (same_len c)) (filled c).0
 
-pub returns-else-width-le64-clause-list : goal.returns-else-width-le64-clause-list
-returns-else-width-le64-clause-list c =
-    let front = c.args.width - 64 in
-    placed-two c.args.self.now c.put_at-else-width-le64.new.self c.put_at-else-width-le64-2.new.self c.args.position
-    (c.args.position + front) c.args.number front 64 c.args.width
-    c.put_at-else-width-le64.ensures.list
-    (c.put_at-else-width-le64-2.ensures.list
-    ∙ ap (ored c.put_at-else-width-le64.new.self (c.args.position + front))
-    (digits-lowest c.args.number 64 (omega arith)))
-    (omega arith) (omega arith) (omega arith)
+pub returns-clause-list : goal.returns-clause-list
+returns-clause-list c = rw (with_items_is c.self.inside.bytes c.put_digits.new.dst (same_len c)) (filled c).1
