@@ -1,6 +1,6 @@
 -- Room at the end of a list, as it is filled.
-use Rattle.std.proofs.Common.{◌≡◌, ℕ, ◌+◌, ◌-◌, ◌<◌, ◌≤◌, Bool, false, List, ◌++◌, length, take, set, replicate, refl, sym, ap, ◌∙◌, append_assoc, arith}
-use Rattle.std.proofs.lemmas.List.{take-replicate, length-set, set-append_left, length-append, length-take, length-replicate, take_at, replicate-append-replicate}
+use Rattle.std.proofs.Common.{◌≡◌, ℕ, ◌+◌, ◌-◌, ◌<◌, ◌≤◌, Bool, false, List, ◌++◌, length, take, set, replicate, refl, sym, ap, ◌∙◌, append_assoc, drop, arith}
+use Rattle.std.proofs.lemmas.List.{take-replicate, drop-drop, drop-replicate, length-set, set-append_left, length-append, length-take, length-replicate, take_at, replicate-append-replicate}
 use Rattle.std.proofs.Math.Seq.{take-set-lt}
 use Rattle.asn1_bits.specs.Bits.{ored, IsZeroFrom}
 use Rattle.asn1_bits.proofs.OredLemmas.{length-ored, ored-append_left, ored-zeros}
@@ -26,6 +26,21 @@ ored-room list src place z h =
     ∙ ored-append_left (front ++ zeros) tail place src
     (omega (arith, length-append front zeros, length-replicate n false))
     ∙ ap (λ (l : List Bool). l ++ tail) (ap (λ (k : ℕ). ored (front ++ zeros) k src) at ∙ ored-zeros front src n refl)
+
+-- bits written over room are bits ORed into it
+pub room-over : (list src : List Bool) (place : ℕ) → IsZeroFrom place list → place + length src ≤ length list
+    → take place list ++ (src ++ drop (place + length src) list) ≡ ored list place src
+room-over list src place z h =
+    let n = length src in
+    let rest = length list - (place + n) in
+    let front = take place list in
+    let left : length list - place - n ≡ rest = omega arith in
+    let behind : drop (place + n) list ≡ replicate rest false =
+    sym (drop-drop n place list) ∙ ap (drop n) z.zero ∙ drop-replicate n (length list - place) false
+    ∙ ap (λ (k : ℕ). replicate k false) left in
+    ap (λ (l : List Bool). front ++ (src ++ l)) behind
+    ∙ sym (append_assoc front src (replicate rest false))
+    ∙ sym (ored-room list src place z h)
 
 -- so the front is the old front and they
 pub room-taken : (list src : List Bool) (place : ℕ) → IsZeroFrom place list → place + length src ≤ length list

@@ -7,7 +7,7 @@ ghost use Rattle.asn1_bits.specs.BitStr.{view_of, bits_of};
 ghost use Rattle.asn1_bits.specs.Turns.{turns_for};
 
 use crate::bit_str::BitStr;
-use crate::kernels::write_bitslice;
+use crate::kernels::put_bitslice;
 use crate::octets::known_octets;
 use crate::single_bits::{clear_from, set_bit};
 use crate::turns::Turns;
@@ -340,13 +340,14 @@ impl BitBuffer {
         put_digits(self.bytes.as_mut_slice(), position, number, width, turns);
     }
 
-    /// ORs the view in from bit `position` on.
+    /// Writes the view over the zeros from bit `position` on.
     pub(crate) fn write_at(&mut self, position: usize, src: BitStr<'_>, turns: &mut Turns)
-        requires { position + (view_of src).len ≤ length self.old }
+        requires room { position + (view_of src).len ≤ length self.old }
+        requires zeros { IsZeroFrom position self.old }
         ensures list { self.new ≡ ored self.old position (bits_of src.entry) }
         ensures at_least { turns.old.count + div_ceil (view_of src.entry).len 64 ≤ turns.new.count }
         ensures at_most { turns.new.count ≤ turns.old.count + turns_for (view_of src.entry).len }
     {
-        write_bitslice(self.bytes.as_mut_slice(), position, src, turns);
+        put_bitslice(self.bytes.as_mut_slice(), position, src, turns);
     }
 }

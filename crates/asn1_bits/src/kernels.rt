@@ -2,7 +2,7 @@
 
 ghost use Rattle.std.specs.Prelude.{◌≡◌, ◌+◌, ◌-◌, ◌*◌, ◌/◌, ◌%◌, ◌^◌, ◌++◌, pos, ◌<◌, ◌≤◌, ◌↔◌, length, take, drop, vec_len, OnOk, OnErr, IsOk, IsSome, IfSome, All};
 ghost use Rattle.std.specs.Int.{div_ceil};
-ghost use Rattle.asn1_bits.specs.Bits.{bits, digits, number, ored};
+ghost use Rattle.asn1_bits.specs.Bits.{bits, digits, number, ored, IsZeroFrom};
 ghost use Rattle.asn1_bits.specs.BitStr.{view_of, bits_of};
 ghost use Rattle.asn1_bits.specs.Turns.{turns_for};
 ghost use Rattle.asn1_bits.specs.View.{IsAligned};
@@ -10,7 +10,9 @@ ghost use Rattle.asn1_bits.specs.View.{IsAligned};
 use crate::bit_str::BitStr;
 use crate::single_bits::from_octet;
 use crate::turns::Turns;
-use crate::window::{load, or_word, or_words, whole_word, wide_of_seventeen, word_of_nine};
+use crate::window::{
+    copy_words, load, or_word, or_words, whole_word, wide_of_seventeen, word_of_nine,
+};
 use std::alloc::AllocError;
 
 /// ORs the first `count` bits of `src` into `dst` from bit `position` on, and leaves every other bit. Both lie within
@@ -100,6 +102,27 @@ fn write_spilling(dst: &mut [u8], position: usize, src: BitStr<'_>, turns: &mut 
     turns.tick();
     src.or_words(64 - spill, dst, position / 8 + 8, len / 64 - 1, turns);
     src.or_edge(len - spill, spill, dst, position + len - spill);
+}
+
+/// As `write_bitslice`, where zeros stand from bit `position` on: whole words on octet boundaries are copied.
+pub(crate) fn put_bitslice(dst: &mut [u8], position: usize, src: BitStr<'_>, turns: &mut Turns)
+    requires room { position + (view_of src).len ≤ 8 * length dst.old }
+    requires fits { position + (view_of src).len < 2 ^ 64 }
+    requires zeros { IsZeroFrom position (bits dst.old) }
+    ensures bits { bits dst.new ≡ ored (bits dst.old) position (bits_of src.entry) }
+    ensures at_least { turns.old.count + div_ceil (view_of src.entry).len 64 ≤ turns.new.count }
+    ensures at_most { turns.new.count ≤ turns.old.count + turns_for (view_of src.entry).len }
+{
+    if src.len() > 64 && position % 8 == 0 {
+        if let Some(octets) = src.aligned() {
+            let words = octets.len() / 8;
+            let (_, tail) = src.split_at(64 * words);
+            copy_words(dst, position / 8, octets, words, turns);
+            write_bitslice(dst, position + 64 * words, tail, turns);
+            return;
+        }
+    }
+    write_bitslice(dst, position, src, turns);
 }
 
 /// The number of the `width` bits from bit `position` on, the first of them its highest digit. `width` is at most 128,

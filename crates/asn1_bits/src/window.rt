@@ -336,6 +336,21 @@ pub(crate) fn or_words(dst: &mut [u8], first: usize, src: &[u8], count: usize, t
     }
 }
 
+/// As `or_words`, where zeros stand from octet `first` on: the words are copied.
+pub(crate) fn copy_words(dst: &mut [u8], first: usize, src: &[u8], count: usize, turns: &mut Turns)
+    requires room { first + 8 * count ≤ length dst.old }
+    requires source { 8 * count ≤ length src.now }
+    requires zeros { IsZeroFrom (8 * first) (bits dst.old) }
+    ensures bits { bits dst.new ≡ ored (bits dst.old) (8 * first) (take (64 * count) (bits src.now)) }
+    ensures turns { turns.new.count ≡ turns.old.count + count }
+{
+    for k in 0..count {
+        let at = first + 8 * k;
+        dst[at..at + 8].copy_from_slice(&src[8 * k..8 * k + 8]);
+        turns.tick();
+    }
+}
+
 /// As `or_words`, where the source's bits begin at bit `shift` of its first word: each word is put together of two.
 pub(crate) fn or_shifted_words(
     dst: &mut [u8],

@@ -1,5 +1,5 @@
-use Rattle.std.proofs.Common.{◌≡◌, ℕ, ap, ◌∙◌, arith}
-use Rattle.asn1_bits.specs.Bits.{bits, digits, ored}
+use Rattle.std.proofs.Common.{ap, ◌∙◌, arith}
+use Rattle.asn1_bits.specs.Bits.{bits, ored}
 use Rattle.asn1_bits.proofs.PutLemmas.{digits-lowest}
 use Rattle.asn1_bits.proofs.window.put_digits.Goals as goal
 use Rattle.asn1_bits.proofs.window.put_digits.Goals.{then-width-le57, else-width-le57+then-position-width-le128+then-dst-position-ge16, else-width-le57+else-position-width-le128}

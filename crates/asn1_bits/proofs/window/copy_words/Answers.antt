@@ -1,0 +1,62 @@
+use Rattle.std.proofs.Common.{◌≡◌, ℕ, ◌+◌, ◌-◌, ◌*◌, length, take, drop, sym, ap, ◌∙◌, arith}
+use borrow.Rule.Slice.PartMut.{put_mid}
+use Rattle.std.proofs.lemmas.List.{length-take, length-drop}
+use Rattle.asn1_bits.specs.Bits.{bits, ored}
+use Rattle.asn1_bits.specs.DigitLaws.{length-bits}
+use Rattle.asn1_bits.proofs.OredLemmas.{ored-none}
+use Rattle.asn1_bits.proofs.PutLemmas.{put-left}
+use Rattle.asn1_bits.proofs.RunLemmas.{more-placed, eight-copied}
+use Rattle.asn1_bits.proofs.window.copy_words.Goals as goal
+
+pub loop-k-init : goal.loop-k-init
+loop-k-init c =
+    let here : 8 * (c.args.first + 8 * 0) ≡ 8 * c.args.first = omega arith in
+    record {
+      zeros = rw here c.requires.zeros;
+      placed = sym (ored-none (bits c.args.dst.now) (8 * c.args.first));
+      turns = omega arith;
+    }
+
+pub loop-k-preserved : goal.loop-k-preserved
+loop-k-preserved c =
+    let old = bits c.args.dst.now in
+    let src = bits c.args.src.now in
+    let k = c.loop-k.k in
+    let at = c.args.first + 8 * k in
+    let dst = c.loop-k.dst in
+    let new = put_mid at (at + 8 - at) dst c.copy_from_slice.new.self in
+    let piece = take 64 (drop (64 * k) src) in
+    let n : length piece ≡ 64 =
+    omega (
+      arith,
+      length-take 64 (drop (64 * k) src),
+      length-drop (64 * k) src,
+      length-bits c.args.src.now,
+      c.requires.source,
+      c.loop-k-test.true,
+    ) in
+    let eight : 8 * k + 8 - 8 * k ≡ 8 = omega arith in
+    let copied : bits new ≡ ored (bits dst) (8 * at) piece =
+    eight-copied dst c.copy_from_slice.new.self c.args.src.now at (at + 8 - at) k c.loop-k.invariant.zeros (omega arith)
+    (c.copy_from_slice.ensures.after ∙ ap (λ (m : ℕ). take m (drop (8 * k) c.args.src.now)) eight)
+    (omega (arith, c.requires.source, c.loop-k-test.true))
+    (omega (arith, c.requires.room, c.loop-k-test.true, c.loop-k.auto.dst)) in
+    record {
+      zeros =
+          put-left (bits dst) (bits new) piece (8 * at) (8 * (c.args.first + 8 * (k + 1))) 64 c.loop-k.invariant.zeros
+          copied n (omega arith)
+          (omega (arith, length-bits dst, c.requires.room, c.loop-k-test.true, c.loop-k.auto.dst));
+      placed =
+          more-placed old (bits dst) (bits new) src (8 * c.args.first) (64 * k) 64 (8 * at) (64 * (k + 1))
+          c.loop-k.invariant.placed copied
+          (omega arith) (omega arith)
+          (omega (arith, length-bits c.args.src.now, c.requires.source))
+          (omega (arith, length-bits c.args.dst.now, c.requires.room));
+      turns = omega (arith, c.tick.ensures, c.loop-k.invariant.turns);
+    }
+
+pub returns-clause-bits : goal.returns-clause-bits
+returns-clause-bits c =
+    let done : c.loop-k.k ≡ c.args.count = omega arith in
+    c.loop-k.invariant.placed
+    ∙ ap (λ (k : ℕ). ored (bits c.args.dst.now) (8 * c.args.first) (take (64 * k) (bits c.args.src.now))) done
