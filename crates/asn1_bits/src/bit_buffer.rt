@@ -227,24 +227,13 @@ impl BitBuffer {
         // Where no octet is added, no memory is asked for.
         ensures free { AddsNoOctet (length self.old) (8 * length src.now) → IsOk result }
     {
-        if self.len() % 8 == 0 {
-            return self.extend_whole(src);
+        if self.len % 8 == 0 {
+            // Behind whole octets no zeros are written first.
+            self.bytes.extend_from_slice(src)?;
+            self.len += 8 * src.len();
+            return Ok(());
         }
         self.extend_from_bitslice(BitStr::from_octets(src))
-    }
-
-    /// As `extend_from_bytes`, behind whole octets: no zeros are written first.
-    fn extend_whole(&mut self, src: &[u8]) -> Result<(), AllocError>
-        requires whole { length self.old % 8 ≡ 0 }
-        requires fits { length self.old + 8 * length src.now < 2 ^ 64 }
-        ensures ok { OnOk result (self.new ≡ self.old ++ bits src.now) }
-        ensures len { OnOk result (length self.new ≡ length self.old + 8 * length src.now) }
-        ensures err { OnErr result (self.new ≡ self.old) }
-        ensures free { length src.now ≡ 0 → IsOk result }
-    {
-        self.bytes.extend_from_slice(src)?;
-        self.len += 8 * src.len();
-        Ok(())
     }
 
     /// Appends the bits of the view. Where memory is wanting, the bits stay. The new length fits `usize`.

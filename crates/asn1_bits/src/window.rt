@@ -197,31 +197,10 @@ fn set_octets(dst: &mut [u8], first: usize, word: u64)
     }
 }
 
-/// As `or_word`, of a number of `width` digits, where zeros stand from bit `position` on. So one octet is read, and eight
-/// are stored.
+/// As `or_word`, of a number of `width` digits that lie in eight octets, where zeros stand from bit `position` on. So one
+/// octet is read, and eight are stored.
 #[inline(always)]
 pub(crate) fn put_word(dst: &mut [u8], position: usize, word: u64, width: usize)
-    requires width { width ≤ 64 }
-    requires below { word < 2 ^ width }
-    requires fits { position + width < 2 ^ 64 }
-    requires within { position + width ≤ 8 * length dst.old }
-    requires zeros { IsZeroFrom position (bits dst.old) }
-    ensures { bits dst.new ≡ ored (bits dst.old) position (digits word width) }
-{
-    // Up to 57 digits lie in eight octets, from any bit of the first on.
-    if width <= 57 || position % 8 + width <= 64 {
-        put_near(dst, position, word, width);
-    } else {
-        // The last digits lie in a ninth octet.
-        let past = position % 8 + width - 64;
-        put_near(dst, position, word >> past, width - past);
-        or_within(dst, position + (width - past), word, past);
-    }
-}
-
-/// As `put_word`, where the digits lie in eight octets.
-#[inline(always)]
-fn put_near(dst: &mut [u8], position: usize, word: u64, width: usize)
     requires width { position % 8 + width ≤ 64 }
     requires below { word < 2 ^ width }
     requires within { position + width ≤ 8 * length dst.old }
@@ -237,13 +216,13 @@ fn put_near(dst: &mut [u8], position: usize, word: u64, width: usize)
     set_octets(dst, first, begun | (word << (64 - width - position % 8)));
 }
 
-/// As `put_word`, of up to 128 digits, where sixteen octets hold them from any bit of the first on.
+/// As `put_word`, of a number whose digits lie in sixteen octets, all of which are there.
 #[inline(always)]
 fn put_pair(dst: &mut [u8], position: usize, number: u128, width: usize)
     requires some { 0 < width }
     requires width { position % 8 + width ≤ 128 }
     requires below { number < 2 ^ width }
-    requires within { position / 8 + 16 ≤ length dst.old }
+    requires sixteen { position / 8 + 16 ≤ length dst.old }
     requires zeros { IsZeroFrom position (bits dst.old) }
     ensures { bits dst.new ≡ ored (bits dst.old) position (digits number width) }
 {
@@ -254,7 +233,7 @@ fn put_pair(dst: &mut [u8], position: usize, number: u128, width: usize)
     set_octets(dst, first + 8, (pair & 0xFFFF_FFFF_FFFF_FFFF) as u64);
 }
 
-/// As `put_word`, of up to 128 digits: 64 of them a turn.
+/// As `put_word`, of up to 128 digits, wherever they lie: 64 of them a turn.
 #[inline(always)]
 pub(crate) fn put_digits(
     dst: &mut [u8],
@@ -272,7 +251,7 @@ pub(crate) fn put_digits(
     ensures turns { turns.new.count ≡ turns.old.count + div_ceil width 64 }
 {
     if width <= 57 {
-        // One look tells that the digits lie in eight octets.
+        // So few lie in eight octets, from any bit of the first on.
         let low = (number & 0xFFFF_FFFF_FFFF_FFFF) as u64;
         put_word(dst, position, low, width);
     } else if position % 8 + width <= 128 && dst.len() - position / 8 >= 16 {
@@ -289,23 +268,22 @@ pub(crate) fn put_digits(
     }
 }
 
-/// As `put_digits`, of more than 57 digits that reach the last octets, or a seventeenth.
+/// As `put_digits`, by words that are ORed in. It is a call of its own: only digits that reach the last octets, or a
+/// seventeenth, need it.
 #[inline(never)]
 fn put_apart(dst: &mut [u8], position: usize, number: u128, width: usize)
     requires width { width ≤ 128 }
-    requires below { number < 2 ^ width }
     requires fits { position + width < 2 ^ 64 }
     requires within { position + width ≤ 8 * length dst.old }
-    requires zeros { IsZeroFrom position (bits dst.old) }
     ensures { bits dst.new ≡ ored (bits dst.old) position (digits number width) }
 {
     let low = (number & 0xFFFF_FFFF_FFFF_FFFF) as u64;
     if width <= 64 {
-        put_word(dst, position, low, width);
+        or_word(dst, position, low, width);
     } else {
         let front = width - 64;
-        put_word(dst, position, (number >> 64) as u64, front);
-        put_word(dst, position + front, low, 64);
+        or_word(dst, position, (number >> 64) as u64, front);
+        or_word(dst, position + front, low, 64);
     }
 }
 

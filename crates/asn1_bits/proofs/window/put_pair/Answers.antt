@@ -24,7 +24,7 @@ returns c =
     let next : 8 * (c.args.position / 8 + 8) ≡ p + 64 = omega arith in
     let past : 8 * (c.args.position / 8 + 8) + 64 ≡ p + 128 = omega arith in
     put-digits 16 c.args.dst.now c.set_octets-2.new.dst c.args.position c.args.number c.args.width c.requires.zeros
-    c.requires.some c.requires.width c.requires.within c.requires.below
+    c.requires.some c.requires.width c.requires.sixteen c.requires.below
     (set-two old (bits c.set_octets.new.dst) (bits c.set_octets-2.new.dst) p pair (pair / 2 ^ 64)
     (bit_and pair 0xFFFF_FFFF_FFFF_FFFF)
     c.set_octets.ensures
@@ -34,6 +34,6 @@ returns c =
     (bits c.set_octets.new.dst))) next
     ∙ ap (λ (k : ℕ). take (p + 64) (bits c.set_octets.new.dst)
     ++ (digits (bit_and pair 0xFFFF_FFFF_FFFF_FFFF) 64 ++ drop k (bits c.set_octets.new.dst))) past)
-    (omega (arith, length-bits c.args.dst.now, c.requires.within)) refl (digits-lowest pair 64 (omega arith))
+    (omega (arith, length-bits c.args.dst.now, c.requires.sixteen)) refl (digits-lowest pair 64 (omega arith))
     ∙ ap (λ (n : ℕ). take p old ++ (digits (bit_or (n * 2 ^ 120 % 2 ^ 128) moved) 128 ++ drop (p + 128) old))
     c.from-begun.ensures)

@@ -1,26 +1,16 @@
-use Rattle.std.proofs.Common.{◌≡◌, ℕ, ◌+◌, ◌-◌, ◌%◌, ◌^◌, ◌<◌, ap, arith}
-use Rattle.std.proofs.lemmas.Nat.{shr_below}
-use Rattle.asn1_bits.specs.Bits.{bits}
-use Rattle.asn1_bits.specs.DigitLaws.{length-bits}
-use Rattle.asn1_bits.proofs.PutLemmas.{placed-two}
+use Rattle.std.proofs.Common.{ℕ, ◌+◌, ◌-◌, ◌*◌, ◌/◌, ◌%◌, ◌^◌, ◌++◌, take, drop, ap, ◌∙◌, arith}
+use Rattle.std.specs.Prelude.{bit_or}
+use Rattle.asn1_bits.specs.Bits.{bits, digits}
+use Rattle.asn1_bits.proofs.PutLemmas.{put-digits}
 use Rattle.asn1_bits.proofs.window.put_word.Goals as goal
 
-pub returns-else-position-width-le64 : goal.returns-else-position-width-le64
-returns-else-position-width-le64 c =
-    let place = c.args.position in
-    let past = place % 8 + c.args.width - 64 in
-    let front = c.args.width - past in
-    placed-two (bits c.args.dst.now) (bits c.put_near-else-position-width-le64.new.dst) (bits c.or_within.new.dst)
-    place (place + front) c.args.word front past c.args.width
-    c.put_near-else-position-width-le64.ensures c.or_within.ensures (omega arith) (omega arith)
-    (omega (arith, length-bits c.args.dst.now))
-
-pub put_near-requires-else-position-width-le64-clause-below :
-    goal.put_near-requires-else-position-width-le64-clause-below
-put_near-requires-else-position-width-le64-clause-below c =
-    let width = c.args.width in
-    let past = c.args.position % 8 + width - 64 in
-    let parts : width ≡ (width - past) + past = omega (arith, c.requires.width) in
-    let below : c.args.word < 2 ^ ((width - past) + past) =
-    omega (arith, c.requires.below, ap (λ (k : ℕ). 2 ^ k) parts) in
-    shr_below c.args.word (width - past) past below
+pub returns : goal.returns
+returns c =
+    let old = bits c.args.dst.now in
+    let q = c.args.position / 8 in
+    let w = c.args.word * 2 ^ (64 - c.args.width - c.args.position % 8) % 2 ^ 64 in
+    put-digits 8 c.args.dst.now c.set_octets.new.dst c.args.position c.args.word c.args.width c.requires.zeros
+    (omega arith) c.requires.width (omega arith) c.requires.below
+    (c.set_octets.ensures
+    ∙ ap (λ (n : ℕ). take (8 * q) old ++ (digits (bit_or (n * 2 ^ 56 % 2 ^ 64) w) 64 ++ drop (8 * q + 64) old))
+    c.from-begun.ensures)

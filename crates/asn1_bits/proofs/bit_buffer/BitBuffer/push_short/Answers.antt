@@ -27,17 +27,6 @@ returns-in_err-resize-clause-free c = λ same.
     let held : octets_for b.len ≡ length b.bytes.items = sym c.self.invariant.count in
     absurd (omega (arith, b.bytes.ok.0, c.len-octets.ensures, rw (← len) at same, held))
 
-pub put_word-requires-clause-fits : goal.put_word-requires-clause-fits
-put_word-requires-clause-fits c =
-    let b = c.self.inside in
-    omega (
-      arith,
-      length-bits_shown b.bytes.items b.len c.self.invariant,
-      ap (λ (l : List Bool). length l)
-          c.self.view_is,
-      c.requires.fits,
-    )
-
 -- the octets and eight zeros
 grown : (items after : List ℕ) (len octets : ℕ) → after ≡ take (octets + 8) items ++ replicate (octets + 8 - len) 0
     → len ≡ length items → octets ≡ len → after ≡ items ++ replicate 8 0

@@ -2,7 +2,7 @@ use Rattle.std.proofs.Common.{◌≡◌, ℕ, ◌+◌, ◌*◌, Bool, List, ◌+
 use Rattle.asn1_bits.specs.Bits.{bits}
 use Rattle.asn1_bits.specs.BitBuffer.{bits_shown, IsFilled}
 use Rattle.asn1_bits.proofs.BufferLemmas.{length-bits_shown, whole-filled}
-use Rattle.asn1_bits.proofs.bit_buffer.BitBuffer.extend_whole.Goals as goal
+use Rattle.asn1_bits.proofs.bit_buffer.BitBuffer.extend_from_bytes.Goals as goal
 
 pub overflow_add-self : goal.overflow_add-self
 overflow_add-self c =
@@ -12,7 +12,7 @@ overflow_add-self c =
       length-bits_shown b.bytes.items b.len c.self.invariant,
       ap (λ (l : List Bool). length l)
           c.self.view_is,
-      c.requires.fits,
+      c.requires,
     )
 
 filled : (c : goal.After-self-1)
@@ -28,17 +28,17 @@ filled c =
       length-bits_shown b.bytes.items b.len c.self.invariant,
       ap (λ (l : List Bool). length l)
           c.self.view_is,
-      c.requires.whole,
+      c.if-self-eq0.true,
     )))
 
-pub invariant_of-self-2 : goal.invariant_of-self-2
-invariant_of-self-2 c = (filled c).0
+pub invariant_of-self-then-self-eq0 : goal.invariant_of-self-then-self-eq0
+invariant_of-self-then-self-eq0 c = (filled c).0
 
-pub returns-clause-ok : goal.returns-clause-ok
-returns-clause-ok c = (filled c).1 ∙ ap (λ (l : List Bool). l ++ bits c.args.src.now) c.self.view_is
+pub returns-then-self-eq0-clause-ok : goal.returns-then-self-eq0-clause-ok
+returns-then-self-eq0-clause-ok c = (filled c).1 ∙ ap (λ (l : List Bool). l ++ bits c.args.src.now) c.self.view_is
 
-pub returns-clause-len : goal.returns-clause-len
-returns-clause-len c =
+pub returns-then-self-eq0-clause-len : goal.returns-then-self-eq0-clause-len
+returns-then-self-eq0-clause-len c =
     let f = filled c in
     length-bits_shown c.extend_from_slice.new.self.items (c.self.inside.len + 8 * length c.args.src.now) f.0
     ∙ (let n : c.self.inside.len ≡ length c.args.self.now =
