@@ -6,7 +6,7 @@ use Rattle.std.proofs.lemmas.Bool.{cases_lt}
 use Rattle.std.proofs.lemmas.List.{length-append, length-take, length-drop, ext_get_or, get_or_append_left, get_or-append_right}
 use Rattle.std.proofs.lemmas.Nat.{shr-shr, le_bytes_8}
 use Rattle.asn1_bits.specs.Bits.{is_odd, bits, ored}
-use Rattle.asn1_bits.specs.DigitLaws.{length-bits, get_or-digits, get_or-bits, bits-append}
+use Rattle.asn1_bits.specs.DigitLaws.{length-bits, get_or-digits, get_or-bits, bits-append, bits-take, bits-drop}
 use Rattle.asn1_bits.specs.ByteLaws.{digits-mod, byte_at_is}
 use Rattle.asn1_bits.proofs.OredLemmas.{length-ored, get_or-ored_inside, get_or-ored_outside, ored-append_left}
 use Rattle.asn1_bits.proofs.WindowLemmas.{is_odd-or, eight-small}
@@ -90,6 +90,18 @@ ored-behind front list src place e =
           ∙ get_or-ored_inside list 0 src (i - place) (i - place) (omega (arith, length-append front list))
           (omega arith))
     ])
+
+-- eight octets that were stored
+pub eight-stored : (old new octets : List ℕ) (q : ℕ) → new ≡ take q old ++ (octets ++ drop (q + 8) old)
+    → length octets ≡ 8
+    → bits new ≡ take (8 * q) (bits old) ++ (bits octets ++ drop (8 * q + 64) (bits old))
+eight-stored old new octets q e n =
+    let past : 8 * (q + 8) ≡ 8 * q + 64 = omega arith in
+    ap bits e
+    ∙ bits-append (take q old) (octets ++ drop (q + 8) old)
+    ∙ ap (λ (l : List Bool). l ++ bits (octets ++ drop (q + 8) old)) (bits-take q old)
+    ∙ ap (λ (l : List Bool). take (8 * q) (bits old) ++ l) (bits-append octets (drop (q + 8) old)
+    ∙ ap (λ (l : List Bool). bits octets ++ l) (bits-drop (q + 8) old ∙ ap (λ (m : ℕ). drop m (bits old)) past))
 
 -- eight octets between others
 pub eight-ored : (old front mid back new octets : List ℕ) (first : ℕ) → old ≡ front ++ (mid ++ back)

@@ -1,13 +1,12 @@
 -- Words that are ORed in one after another.
-use Rattle.std.proofs.Common.{◌≡◌, ℕ, ◌+◌, ◌-◌, ◌*◌, ◌/◌, ◌%◌, ◌^◌, ◌<◌, ◌≤◌, Bool, List, length, take, drop, append_assoc, sym, ap, ◌∙◌, arith, ◌++◌}
-use borrow.Rule.Slice.PartMut.{put_mid}
+use Rattle.std.proofs.Common.{◌≡◌, ℕ, ◌+◌, ◌-◌, ◌*◌, ◌/◌, ◌%◌, ◌^◌, ◌<◌, ◌≤◌, Bool, List, length, take, drop, sym, ap, ◌∙◌, arith, ◌++◌}
 use Rattle.std.specs.Prelude.{bit_or}
 use Rattle.std.proofs.Math.Seq.{take-add}
-use Rattle.std.proofs.lemmas.List.{length-take, length-drop, drop-drop, take-append-drop}
-use Rattle.std.proofs.lemmas.Slice.{take-put_mid, drop-put_mid}
+use Rattle.std.proofs.lemmas.List.{length-take, length-drop, drop-drop}
 use Rattle.asn1_bits.specs.Bits.{digits, bits, ored, IsZeroFrom}
-use Rattle.asn1_bits.specs.DigitLaws.{length-bits, bits-append, bits-take, bits-drop}
+use Rattle.asn1_bits.specs.DigitLaws.{length-bits, bits-take, bits-drop}
 use Rattle.asn1_bits.proofs.OredLemmas.{ored-append}
+use Rattle.asn1_bits.proofs.EightLemmas.{eight-stored}
 use Rattle.asn1_bits.proofs.RoomLemmas.{room-over}
 use Rattle.asn1_bits.proofs.WindowLemmas.{joined}
 
@@ -32,28 +31,18 @@ bits-eight octets k =
     ∙ ap (take 64) (bits-drop (8 * k) octets ∙ ap (λ (n : ℕ). drop n (bits octets)) place)
 
 -- eight octets that are copied over zeros
-pub eight-copied : (old piece src : List ℕ) (at n k : ℕ) → IsZeroFrom (8 * at) (bits old) → n ≡ 8
-    → piece ≡ take 8 (drop (8 * k) src) → 8 * k + 8 ≤ length src → at + 8 ≤ length old
-    → bits (put_mid at n old piece) ≡ ored (bits old) (8 * at) (take 64 (drop (64 * k) (bits src)))
-eight-copied old piece src at n k z w e h room =
-    let new = put_mid at n old piece in
-    let len : length piece ≡ 8 = ap (λ (l : List ℕ). length l) e
+pub eight-copied : (old new piece src : List ℕ) (at k : ℕ) → IsZeroFrom (8 * at) (bits old)
+    → new ≡ take at old ++ (piece ++ drop (at + 8) old) → piece ≡ take 8 (drop (8 * k) src)
+    → 8 * k + 8 ≤ length src → at + 8 ≤ length old
+    → bits new ≡ ored (bits old) (8 * at) (take 64 (drop (64 * k) (bits src)))
+eight-copied old new piece src at k z e is h room =
+    let len : length piece ≡ 8 = ap (λ (l : List ℕ). length l) is
     ∙ omega (arith, length-take 8 (drop (8 * k) src), length-drop (8 * k) src, h) in
-    let is : bits piece ≡ take 64 (drop (64 * k) (bits src)) = ap bits e ∙ bits-eight src k in
     let many : length (bits piece) ≡ 64 = omega (arith, length-bits piece, len) in
-    let past : 8 * (at + 8) ≡ 8 * at + length (bits piece) = omega (arith, many) in
-    ap bits (sym (take-append-drop (at + 8) new)
-    ∙ ap (λ (l : List ℕ). l ++ drop (at + 8) new) (take-put_mid at n old piece (at + 8) (omega (arith, len)) (omega arith))
-    ∙ ap (λ (l : List ℕ). (take at old ++ piece) ++ l)
-    (drop-put_mid at n old piece (at + 8) (omega (arith, w)) (omega arith) (omega (arith, len, w)))
-    ∙ append_assoc (take at old) piece (drop (at + 8) old))
-    ∙ bits-append (take at old) (piece ++ drop (at + 8) old)
-    ∙ ap (λ (l : List Bool). l ++ bits (piece ++ drop (at + 8) old)) (bits-take at old)
-    ∙ ap (λ (l : List Bool). take (8 * at) (bits old) ++ l)
-    (bits-append piece (drop (at + 8) old) ∙ ap (λ (l : List Bool). bits piece ++ l)
-    (bits-drop (at + 8) old ∙ ap (λ (m : ℕ). drop m (bits old)) past))
+    eight-stored old new piece at e len
+    ∙ ap (λ (n : ℕ). take (8 * at) (bits old) ++ (bits piece ++ drop (8 * at + n) (bits old))) (sym many)
     ∙ room-over (bits old) (bits piece) (8 * at) z (omega (arith, many, length-bits old))
-    ∙ ap (ored (bits old) (8 * at)) is
+    ∙ ap (ored (bits old) (8 * at)) (ap bits is ∙ bits-eight src k)
 
 -- a word of the end of one and the front of the next
 pub word-of_two : (list : List Bool) (k shift a b : ℕ) → shift < 64 → b < 2 ^ 64

@@ -1,5 +1,4 @@
-use Rattle.std.proofs.Common.{◌≡◌, ℕ, ◌+◌, ◌-◌, ◌*◌, length, take, drop, sym, ap, ◌∙◌, arith}
-use borrow.Rule.Slice.PartMut.{put_mid}
+use Rattle.std.proofs.Common.{◌≡◌, ℕ, ◌+◌, ◌*◌, length, take, drop, sym, ap, ◌∙◌, arith}
 use Rattle.std.proofs.lemmas.List.{length-take, length-drop}
 use Rattle.asn1_bits.specs.Bits.{bits, ored}
 use Rattle.asn1_bits.specs.DigitLaws.{length-bits}
@@ -24,7 +23,7 @@ loop-k-preserved c =
     let k = c.loop-k.k in
     let at = c.args.first + 8 * k in
     let dst = c.loop-k.dst in
-    let new = put_mid at (at + 8 - at) dst c.copy_from_slice.new.self in
+    let new = c.store_eight.new.dst in
     let piece = take 64 (drop (64 * k) src) in
     let n : length piece ≡ 64 =
     omega (
@@ -35,10 +34,8 @@ loop-k-preserved c =
       c.requires.source,
       c.loop-k-test.true,
     ) in
-    let eight : 8 * k + 8 - 8 * k ≡ 8 = omega arith in
     let copied : bits new ≡ ored (bits dst) (8 * at) piece =
-    eight-copied dst c.copy_from_slice.new.self c.args.src.now at (at + 8 - at) k c.loop-k.invariant.zeros (omega arith)
-    (c.copy_from_slice.ensures.after ∙ ap (λ (m : ℕ). take m (drop (8 * k) c.args.src.now)) eight)
+    eight-copied dst new c.eight.result c.args.src.now at k c.loop-k.invariant.zeros c.store_eight.ensures c.eight.ensures
     (omega (arith, c.requires.source, c.loop-k-test.true))
     (omega (arith, c.requires.room, c.loop-k-test.true, c.loop-k.auto.dst)) in
     record {
