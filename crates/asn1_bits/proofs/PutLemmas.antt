@@ -1,13 +1,13 @@
 -- Words that are written over zeros.
-use Rattle.std.proofs.Common.{◌≡◌, ℕ, ◌+◌, ◌-◌, ◌*◌, ◌/◌, ◌%◌, ◌^◌, ◌<◌, ◌≤◌, Bool, false, ◌||◌, List, ◌++◌, length, get_or, take, drop, replicate, sym, ap, ◌∙◌, inl, inr, append_assoc, arith}
+use Rattle.std.proofs.Common.{◌≡◌, ℕ, ◌+◌, ◌-◌, ◌*◌, ◌/◌, ◌%◌, ◌^◌, ◌<◌, ◌≤◌, Bool, false, ◌||◌, List, [], ◌∷◌, ◌++◌, length, get_or, set, take, drop, replicate, sym, ap, ◌∙◌, inl, inr, append_assoc, arith}
 use Rattle.std.specs.Prelude.{bit_and, bit_or}
 use Rattle.std.specs.Int.{bytes_high_first}
 use Rattle.std.proofs.Math.Seq.{take-add}
 use Rattle.std.proofs.lemmas.Bool.{cases_lt}
 use Rattle.std.proofs.lemmas.Nat.{and_mask}
-use Rattle.std.proofs.lemmas.List.{length-append, length-take, length-drop, length-replicate, take_at, drop_at, replicate-append-replicate, drop-drop, drop-replicate, take-replicate, ext_get_or, get_or-take, get_or-drop, get_or_append_left, get_or-append_right}
+use Rattle.std.proofs.lemmas.List.{length-append, length-take, length-drop, length-replicate, take_more, take_all, take_at, drop_at, replicate-append-replicate, drop_more, drop-drop, drop-replicate, take-replicate, set_at, ext_get_or, get_or-take, get_or-drop, get_or_append_left, get_or-append_right}
 use Rattle.asn1_bits.specs.Bits.{is_odd, digits, bits, octets_for, ored, IsZeroFrom}
-use Rattle.asn1_bits.specs.DigitLaws.{length-digits, length-bits, get_or-digits, bits-append, bits-take}
+use Rattle.asn1_bits.specs.DigitLaws.{length-digits, length-bits, get_or-digits, bits-append, bits-drop, bits-take}
 use Rattle.asn1_bits.specs.ByteLaws.{digits-mod, bits-bytes}
 use Rattle.asn1_bits.specs.NumberLaws.{digits-append}
 use Rattle.asn1_bits.proofs.OredLemmas.{length-ored, get_or-ored_inside, get_or-ored_outside, ored-append}
@@ -15,18 +15,50 @@ use Rattle.asn1_bits.proofs.RoomLemmas.{room-step, ored-room}
 use Rattle.asn1_bits.specs.BitBuffer.{bits_shown, IsFilled}
 use Rattle.asn1_bits.proofs.BufferLemmas.{length-bits_shown, spelled, bits-zeros, filled_by}
 use Rattle.asn1_bits.proofs.ZeroLemmas.{zero_from}
-use Rattle.asn1_bits.proofs.EightLemmas.{eight-stored}
 use Rattle.asn1_bits.proofs.WindowLemmas.{is_odd-or, shifted-digits, bits-octet, moved, or-near, low-part}
 
--- a word whose octets were stored
-pub word-stored : (old new octets : List ℕ) (q word : ℕ) → new ≡ take q old ++ (octets ++ drop (q + 8) old)
+-- one octet more is written
+pub set-more : (old octets : List ℕ) (q k : ℕ) → q + k < length old → k < length octets
+    → set (take q old ++ (take k octets ++ drop (q + k) old)) (q + k) (get_or octets k 0) ≡ take q old ++
+    (take (k + 1) octets ++ drop (q + (k + 1)) old)
+set-more old octets q k h lt =
+    let front = take q old in
+    let done = take k octets in
+    let o = get_or octets k 0 in
+    let rest = drop (q + k + 1) old in
+    let here : length (front ++ done) ≡ q + k =
+    omega (arith, length-append front done, length-take q old, length-take k octets) in
+    let next : q + k + 1 ≡ q + (k + 1) = omega arith in
+    ap (λ (l : List ℕ). set l (q + k) o)
+    (sym (append_assoc front done (drop (q + k) old))
+    ∙ ap (λ (l : List ℕ). (front ++ done) ++ l) (drop_more old (q + k) 0 h))
+    ∙ set_at (front ++ done) (get_or old (q + k) 0) rest o (q + k) here
+    ∙ append_assoc front done (o ∷ rest)
+    ∙ ap (λ (l : List ℕ). front ++ l)
+    (sym (append_assoc done (o ∷ []) rest) ∙ ap (λ (l : List ℕ). l ++ rest) (sym (take_more octets k 0 lt)))
+    ∙ ap (λ (n : ℕ). front ++ (take (k + 1) octets ++ drop n old)) next
+
+-- eight octets that were written
+pub set-all : (old new octets : List ℕ) (q k word : ℕ) → new ≡ take q old ++ (take k octets ++ drop (q + k) old) → k ≡ 8
     → octets ≡ bytes_high_first 8 word
     → bits new ≡ take (8 * q) (bits old) ++ (digits word 64 ++ drop (8 * q + 64) (bits old))
-word-stored old new octets q word e is =
-    let whole : bits octets ≡ digits word 64 = ap bits is ∙ bits-bytes 8 word in
-    eight-stored old new octets q e
-    (omega (arith, length-bits octets, ap (λ (l : List Bool). length l) whole, length-digits word 64))
-    ∙ ap (λ (l : List Bool). take (8 * q) (bits old) ++ (l ++ drop (8 * q + 64) (bits old))) whole
+set-all old new octets q k word e n is =
+    let len : length octets ≡ 8 =
+    omega (
+      arith,
+      length-bits octets,
+      ap (λ (l : List Bool). length l) (ap bits is ∙ bits-bytes 8 word),
+      length-digits word 64,
+    ) in
+    let whole : bits (take k octets) ≡ digits word 64 = ap bits (take_all k octets (omega (arith, len))) ∙ ap bits is
+    ∙ bits-bytes 8 word in
+    let past : 8 * (q + k) ≡ 8 * q + 64 = omega (arith, n) in
+    ap bits e
+    ∙ bits-append (take q old) (take k octets ++ drop (q + k) old)
+    ∙ ap (λ (l : List Bool). l ++ bits (take k octets ++ drop (q + k) old)) (bits-take q old)
+    ∙ ap (λ (l : List Bool). take (8 * q) (bits old) ++ l) (bits-append (take k octets) (drop (q + k) old)
+    ∙ ap (λ (l : List Bool). l ++ bits (drop (q + k) old)) whole
+    ∙ ap (λ (l : List Bool). digits word 64 ++ l) (bits-drop (q + k) old ∙ ap (λ (m : ℕ). drop m (bits old)) past))
 
 or-digits : (a b width i : ℕ) → i < width
     → get_or (digits (bit_or a b) width) i false ≡ (get_or (digits a width) i false || get_or (digits b width) i false)

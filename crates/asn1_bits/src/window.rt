@@ -77,20 +77,6 @@ fn load_native(octets: &[u8], first: usize) -> u64
     u64::from_ne_bytes(eight(octets, first))
 }
 
-/// Stores eight octets from octet `first` on.
-#[inline(always)]
-fn store_eight(dst: &mut [u8], first: usize, octets: [u8; 8])
-    requires { first + 8 ≤ length dst.old }
-    ensures { dst.new ≡ take first dst.old ++ (octets ++ drop (first + 8) dst.old) }
-{
-    let (_, rest) = dst.split_at_mut(first);
-    let (room, _) = rest.split_at_mut(8);
-    // The room has eight octets, so no test is made.
-    if let Some(target) = room.as_mut_array::<8>() {
-        *target = octets;
-    }
-}
-
 /// ORs eight octets of `src`, from octet `at` on, into those of `dst` from octet `first` on.
 #[inline]
 fn or_eight(dst: &mut [u8], first: usize, src: &[u8], at: usize)
@@ -99,7 +85,12 @@ fn or_eight(dst: &mut [u8], first: usize, src: &[u8], at: usize)
     ensures { bits dst.new ≡ ored (bits dst.old) (8 * first) (bits (take 8 (drop at src.now))) }
 {
     let word = load_native(dst, first) | load_native(src, at);
-    store_eight(dst, first, word.to_ne_bytes());
+    let (_, rest) = dst.split_at_mut(first);
+    let (room, _) = rest.split_at_mut(8);
+    // The room has eight octets, so no test is made.
+    if let Some(target) = room.as_mut_array::<8>() {
+        *target = word.to_ne_bytes();
+    }
 }
 
 /// ORs the digits of the word into the eight octets from one of them on.
@@ -193,6 +184,19 @@ pub(crate) fn lowest_wide(value: u128, width: usize) -> u128
     }
 }
 
+/// Writes the digits of the word over the eight octets from one of them on.
+#[inline]
+fn set_octets(dst: &mut [u8], first: usize, word: u64)
+    requires { first + 8 ≤ length dst.old }
+    ensures { bits dst.new ≡ take (8 * first) (bits dst.old)
+        ++ (digits word 64 ++ drop (8 * first + 64) (bits dst.old)) }
+{
+    let octets = word.to_be_bytes();
+    for k in 0..8 {
+        dst[first + k] = octets[k];
+    }
+}
+
 /// As `or_word`, of a number of `width` digits that lie in eight octets, where zeros stand from bit `position` on. So one
 /// octet is read, and eight are stored.
 #[inline(always)]
@@ -209,8 +213,7 @@ pub(crate) fn put_word(dst: &mut [u8], position: usize, word: u64, width: usize)
         return;
     }
     let begun = u64::from(dst[first]) << 56;
-    let window = begun | (word << (64 - width - position % 8));
-    store_eight(dst, first, window.to_be_bytes());
+    set_octets(dst, first, begun | (word << (64 - width - position % 8)));
 }
 
 /// As `put_word`, of a number whose digits lie in sixteen octets, all of which are there.
@@ -226,10 +229,8 @@ fn put_pair(dst: &mut [u8], position: usize, number: u128, width: usize)
     let first = position / 8;
     let begun = u128::from(dst[first]) << 120;
     let pair = begun | (number << (128 - width - position % 8));
-    let high = (pair >> 64) as u64;
-    let low = (pair & 0xFFFF_FFFF_FFFF_FFFF) as u64;
-    store_eight(dst, first, high.to_be_bytes());
-    store_eight(dst, first + 8, low.to_be_bytes());
+    set_octets(dst, first, (pair >> 64) as u64);
+    set_octets(dst, first + 8, (pair & 0xFFFF_FFFF_FFFF_FFFF) as u64);
 }
 
 /// As `put_word`, of up to 128 digits, wherever they lie: 64 of them a turn.
@@ -322,7 +323,13 @@ pub(crate) fn copy_words(dst: &mut [u8], first: usize, src: &[u8], count: usize,
     ensures turns { turns.new.count ≡ turns.old.count + count }
 {
     for k in 0..count {
-        store_eight(dst, first + 8 * k, eight(src, 8 * k));
+        let (_, rest) = dst.split_at_mut(first + 8 * k);
+        let (room, _) = rest.split_at_mut(8);
+        // The room has eight octets, so no test is made.
+        let Some(target) = room.as_mut_array::<8>() else {
+            unreachable!()
+        };
+        *target = eight(src, 8 * k);
         turns.tick();
     }
 }
