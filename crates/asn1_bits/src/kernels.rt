@@ -10,9 +10,7 @@ ghost use Rattle.asn1_bits.specs.View.{IsAligned};
 use crate::bit_str::BitStr;
 use crate::single_bits::from_octet;
 use crate::turns::Turns;
-use crate::window::{
-    copy_words, load, or_word, or_words, whole_word, wide_of_seventeen, word_of_nine,
-};
+use crate::window::{eight, load, or_word, or_words, whole_word, wide_of_seventeen, word_of_nine};
 use std::alloc::AllocError;
 
 /// ORs the first `count` bits of `src` into `dst` from bit `position` on, and leaves every other bit. Both lie within
@@ -104,7 +102,8 @@ fn write_spilling(dst: &mut [u8], position: usize, src: BitStr<'_>, turns: &mut 
     src.or_edge(len - spill, spill, dst, position + len - spill);
 }
 
-/// As `write_bitslice`, where zeros stand from bit `position` on: whole words on octet boundaries are copied.
+/// As `write_bitslice`, where zeros stand from bit `position` on: octets on octet boundaries are copied.
+#[inline(always)]
 pub(crate) fn put_bitslice(dst: &mut [u8], position: usize, src: BitStr<'_>, turns: &mut Turns)
     requires room { position + (view_of src).len ≤ 8 * length dst.old }
     requires fits { position + (view_of src).len < 2 ^ 64 }
@@ -115,14 +114,37 @@ pub(crate) fn put_bitslice(dst: &mut [u8], position: usize, src: BitStr<'_>, tur
 {
     if src.len() > 64 && position % 8 == 0 {
         if let Some(octets) = src.aligned() {
-            let words = octets.len() / 8;
-            let (_, tail) = src.split_at(64 * words);
-            copy_words(dst, position / 8, octets, words, turns);
-            write_bitslice(dst, position + 64 * words, tail, turns);
+            copy_octets(dst, position / 8, octets, turns);
             return;
         }
     }
     write_bitslice(dst, position, src, turns);
+}
+
+/// Copies octets over the zeros from octet `first` on: a word a turn, and their last ones in another. It is a call of its
+/// own, so that short views are written in line.
+#[inline(never)]
+fn copy_octets(dst: &mut [u8], first: usize, src: &[u8], turns: &mut Turns)
+    requires room { first + length src.now ≤ length dst.old }
+    requires fits { 8 * (first + length src.now) < 2 ^ 64 }
+    requires zeros { IsZeroFrom (8 * first) (bits dst.old) }
+    ensures bits { bits dst.new ≡ ored (bits dst.old) (8 * first) (bits src.now) }
+    ensures at_least { turns.old.count + div_ceil (8 * length src.now) 64 ≤ turns.new.count }
+    ensures at_most { turns.new.count ≤ turns.old.count + turns_for (8 * length src.now) }
+{
+    let words = src.len() / 8;
+    for k in 0..words {
+        let (_, rest) = dst.split_at_mut(first + 8 * k);
+        let (room, _) = rest.split_at_mut(8);
+        // The room has eight octets, so no test is made.
+        let Some(target) = room.as_mut_array::<8>() else {
+            unreachable!()
+        };
+        *target = eight(src, 8 * k);
+        turns.tick();
+    }
+    let tail = BitStr::from_octets(from_octet(src, 8 * words));
+    write_bitslice(dst, 8 * (first + 8 * words), tail, turns);
 }
 
 /// The number of the `width` bits from bit `position` on, the first of them its highest digit. `width` is at most 128,

@@ -9,7 +9,7 @@ use crate::turns::Turns;
 
 /// Eight octets from one of them on.
 #[inline(always)]
-fn eight(octets: &[u8], first: usize) -> [u8; 8]
+pub(crate) fn eight(octets: &[u8], first: usize) -> [u8; 8]
     requires { first + 8 ≤ length octets.now }
     ensures { result ≡ take 8 (drop first octets.now) }
 {
@@ -310,26 +310,6 @@ pub(crate) fn or_words(dst: &mut [u8], first: usize, src: &[u8], count: usize, t
 {
     for k in 0..count {
         or_eight(dst, first + 8 * k, src, 8 * k);
-        turns.tick();
-    }
-}
-
-/// As `or_words`, where zeros stand from octet `first` on: the words are copied.
-pub(crate) fn copy_words(dst: &mut [u8], first: usize, src: &[u8], count: usize, turns: &mut Turns)
-    requires room { first + 8 * count ≤ length dst.old }
-    requires source { 8 * count ≤ length src.now }
-    requires zeros { IsZeroFrom (8 * first) (bits dst.old) }
-    ensures bits { bits dst.new ≡ ored (bits dst.old) (8 * first) (take (64 * count) (bits src.now)) }
-    ensures turns { turns.new.count ≡ turns.old.count + count }
-{
-    for k in 0..count {
-        let (_, rest) = dst.split_at_mut(first + 8 * k);
-        let (room, _) = rest.split_at_mut(8);
-        // The room has eight octets, so no test is made.
-        let Some(target) = room.as_mut_array::<8>() else {
-            unreachable!()
-        };
-        *target = eight(src, 8 * k);
         turns.tick();
     }
 }

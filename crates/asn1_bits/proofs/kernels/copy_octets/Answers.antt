@@ -1,11 +1,12 @@
-use Rattle.std.proofs.Common.{◌≡◌, ℕ, List, ◌++◌, ◌+◌, ◌*◌, length, take, drop, sym, ap, ◌∙◌, arith}
-use Rattle.std.proofs.lemmas.List.{length-take, length-drop, drop-drop}
+use Rattle.std.proofs.Common.{◌≡◌, ℕ, List, ◌++◌, ◌+◌, ◌-◌, ◌*◌, ◌/◌, length, take, drop, sym, ap, ◌∙◌, arith}
+use Rattle.std.proofs.lemmas.List.{length-take, length-drop, drop-drop, take_all}
 use Rattle.asn1_bits.specs.Bits.{bits, ored}
-use Rattle.asn1_bits.specs.DigitLaws.{length-bits}
+use Rattle.asn1_bits.specs.BitStr.{bits_of}
+use Rattle.asn1_bits.specs.DigitLaws.{length-bits, bits-drop}
 use Rattle.asn1_bits.proofs.OredLemmas.{ored-none}
 use Rattle.asn1_bits.proofs.PutLemmas.{put-left}
 use Rattle.asn1_bits.proofs.RunLemmas.{more-placed, eight-copied}
-use Rattle.asn1_bits.proofs.window.copy_words.Goals as goal
+use Rattle.asn1_bits.proofs.kernels.copy_octets.Goals as goal
 
 pub loop-k-init : goal.loop-k-init
 loop-k-init c =
@@ -31,7 +32,6 @@ loop-k-preserved c =
       length-take 64 (drop (64 * k) src),
       length-drop (64 * k) src,
       length-bits c.args.src.now,
-      c.requires.source,
       c.loop-k-test.true,
     ) in
     let copied : bits new ≡ ored (bits dst) (8 * at) piece =
@@ -40,7 +40,7 @@ loop-k-preserved c =
     ∙ ap (λ (l : List ℕ). take at dst ++ (c.eight.result ++ l))
     (c.split_at_mut-room.ensures.back ∙ ap (drop 8) c.split_at_mut-rest.ensures.back ∙ drop-drop 8 at dst))
     c.eight.ensures
-    (omega (arith, c.requires.source, c.loop-k-test.true))
+    (omega (arith, c.loop-k-test.true))
     (omega (arith, c.requires.room, c.loop-k-test.true, c.loop-k.auto.dst)) in
     record {
       zeros =
@@ -51,13 +51,28 @@ loop-k-preserved c =
           more-placed old (bits dst) (bits new) src (8 * c.args.first) (64 * k) 64 (8 * at) (64 * (k + 1))
           c.loop-k.invariant.placed copied
           (omega arith) (omega arith)
-          (omega (arith, length-bits c.args.src.now, c.requires.source))
+          (omega (arith, length-bits c.args.src.now))
           (omega (arith, length-bits c.args.dst.now, c.requires.room));
       turns = omega (arith, c.tick.ensures, c.loop-k.invariant.turns);
     }
 
 pub returns-clause-bits : goal.returns-clause-bits
 returns-clause-bits c =
-    let done : c.loop-k.k ≡ c.args.count = omega arith in
-    c.loop-k.invariant.placed
-    ∙ ap (λ (k : ℕ). ored (bits c.args.dst.now) (8 * c.args.first) (take (64 * k) (bits c.args.src.now))) done
+    let src = bits c.args.src.now in
+    let old = bits c.args.dst.now in
+    let words = length c.args.src.now / 8 in
+    let n = 64 * words in
+    let len = length src in
+    let place = 8 * c.args.first in
+    let next = 8 * (c.args.first + 8 * words) in
+    let done : c.loop-k.k ≡ words = omega arith in
+    let at : 8 * (8 * words) ≡ n = omega arith in
+    let tail : bits_of c.from_octets-tail.result ≡ take (len - n) (drop n src) =
+    c.from_octets-tail.ensures.list ∙ ap bits c.from_octet.ensures ∙ bits-drop (8 * words) c.args.src.now
+    ∙ ap (λ (k : ℕ). drop k src) at ∙ sym (take_all (len - n) (drop n src) (omega (arith, length-drop n src))) in
+    more-placed old (bits c.loop-k.dst) (bits c.write_bitslice.new.dst) src place n (len - n) next len
+    (c.loop-k.invariant.placed ∙ ap (λ (k : ℕ). ored old place (take (64 * k) src)) done)
+    (c.write_bitslice.ensures.bits ∙ ap (ored (bits c.loop-k.dst) next) tail)
+    (omega arith) (omega (arith, length-bits c.args.src.now)) (omega arith)
+    (omega (arith, length-bits c.args.src.now, length-bits c.args.dst.now, c.requires.room))
+    ∙ ap (ored old place) (take_all len src (omega arith))

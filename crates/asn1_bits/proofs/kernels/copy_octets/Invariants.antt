@@ -1,6 +1,6 @@
 use Rattle.std.proofs.Common.{◌≡◌, ◌+◌, ◌*◌, take}
 use Rattle.asn1_bits.specs.Bits.{bits, ored, IsZeroFrom}
-use Rattle.asn1_bits.proofs.window.copy_words.Given as goal
+use Rattle.asn1_bits.proofs.kernels.copy_octets.Given as goal
 
 abbrev pub invariant-loop-k : goal.invariant-loop-k
 invariant-loop-k l = record {
