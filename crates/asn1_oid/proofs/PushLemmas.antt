@@ -1,7 +1,6 @@
 -- Octets appended to a vector's octets.
-use Rattle.std.proofs.Common.{◌≡◌, ℕ, zero, suc, ◌+◌, ◌-◌, ◌*◌, ◌/◌, ◌%◌, ◌^◌, ◌<◌, ◌≤◌, List, [], ◌∷◌, ◌++◌, length, take, get_or, refl, sym, ap, ◌∙◌, append_assoc, append-nil, arith}
+use Rattle.std.proofs.Common.{◌≡◌, ℕ, zero, suc, ◌+◌, ◌-◌, ◌*◌, ◌/◌, ◌%◌, ◌^◌, ◌<◌, List, [], ◌∷◌, ◌++◌, length, take, get_or, refl, sym, ap, ◌∙◌, append_assoc, append-nil, arith}
 use Rattle.std.specs.List.{flat_map}
-use Rattle.std.proofs.Math.Seq.{take_all}
 use Rattle.std.proofs.lemmas.List.{length-append, take_more, flat_map_more}
 use Rattle.asn1_oid.specs.Writing.{last_octets, low_octets, HasDigits, digit_count, subidentifier_octets, word_left}
 use Rattle.asn1_oid.specs.WritingLaws.{digits_of, same_digits, length-last_octets, last_octet, octet_before}
@@ -88,10 +87,6 @@ arc_pushed old between new arcs word k i arc lt is so_far pushed =
     pushed ∙ ap (λ (l : List ℕ). l ++ one) so_far ∙ append_assoc old (low ++ behind) one
     ∙ ap (λ (l : List ℕ). old ++ l) (append_assoc low behind one)
     ∙ ap (λ (l : List ℕ). old ++ (low ++ l)) (sym whole)
-
-pub all_arcs_pushed : (old new arcs : List ℕ) (word k i : ℕ) → length arcs ≤ i
-    → new ≡ old ++ word_left word k (take i arcs) → new ≡ old ++ word_left word k arcs
-all_arcs_pushed old new arcs word k i le e = e ∙ ap (λ (l : List ℕ). old ++ word_left word k l) (take_all i arcs le)
 
 -- no octets are left only where there are none in the word, and no arcs
 pub none_are_left : (word k : ℕ) (arcs : List ℕ) → word_left word k arcs ≡ [] → 5 * length arcs + k ≡ 0

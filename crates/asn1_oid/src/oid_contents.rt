@@ -94,8 +94,8 @@ impl<'a> OidContents<'a> {
         OidContents { octets, left, arcs }
     }
 
-    /// Appends the octets that are left to the vector: faster than pushing one after another. It asks for room once, for
-    /// five octets an arc at most; where memory is wanting, the vector's octets stay.
+    /// Appends the octets that are left to the vector, faster than if each is pushed. It makes room once, for five octets
+    /// an arc, which may be more than they take; where memory is wanting, the vector's octets stay.
     pub fn append_to(self, octets: &mut Vec<u8>) -> Result<(), AllocError>
         ensures ok { OnOk result (octets.new.items ≡ octets.old.items ++ self.entry) }
         ensures err { OnErr result (octets.new.items ≡ octets.old.items) }
