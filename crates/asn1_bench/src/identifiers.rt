@@ -16,11 +16,22 @@ pub enum Size {
     Many,
 }
 
-/// Who reads and writes.
+/// Who reads.
 #[derive(Clone, Copy)]
 pub enum By {
     /// The crate.
     Values,
+    /// A loop.
+    Loop,
+}
+
+/// Who writes, and how.
+#[derive(Clone, Copy)]
+pub enum Way {
+    /// The crate gives octet by octet, and each is pushed.
+    Octets,
+    /// The crate appends them all by one call.
+    Call,
     /// A loop.
     Loop,
 }
@@ -166,17 +177,17 @@ impl Row for Read {
 #[derive(Drop)]
 pub struct Written {
     size: Size,
-    by: By,
+    way: Way,
     arcs: Vec<u32>,
     octets: Vec<u8>,
 }
 
 impl Written {
     /// Of one identifier.
-    pub fn new(alloc: Global, size: Size, by: By) -> Result<Written, AllocError> {
+    pub fn new(alloc: Global, size: Size, way: Way) -> Result<Written, AllocError> {
         Ok(Written {
             size,
-            by,
+            way,
             arcs: arcs_of(alloc, size)?,
             octets: Vec::new(alloc),
         })
@@ -189,6 +200,15 @@ fn write(arcs: &[u32], octets: &mut Vec<u8>) -> Result<(), AllocError> {
             for octet in contents {
                 octets.push(octet)?;
             }
+        }
+    }
+    Ok(())
+}
+
+fn append(arcs: &[u32], octets: &mut Vec<u8>) -> Result<(), AllocError> {
+    if let Some(oid) = Oid::new(arcs) {
+        if let Some(contents) = oid.contents() {
+            contents.append_to(octets)?;
         }
     }
     Ok(())
@@ -227,11 +247,11 @@ fn write_number(number: u64, octets: &mut Vec<u8>) -> Result<(), AllocError> {
 
 impl Row for Written {
     fn name(&self) -> &'static str {
-        match (self.size, self.by) {
-            (Size::Seven, By::Values) => "nine octets of contents written",
-            (Size::Seven, By::Loop) => "    the same by a loop",
-            (Size::Many, By::Values) => "73 octets of contents written",
-            (Size::Many, By::Loop) => "    the same by a loop",
+        match (self.size, self.way) {
+            (Size::Seven, Way::Octets) => "nine octets of contents written",
+            (Size::Many, Way::Octets) => "73 octets of contents written",
+            (_, Way::Call) => "    the same appended by one call",
+            (_, Way::Loop) => "    the same by a loop",
         }
     }
 
@@ -253,9 +273,10 @@ impl Row for Written {
                 *last = i % 128;
             }
             self.octets.clear();
-            match self.by {
-                By::Values => write(self.arcs.as_slice(), &mut self.octets)?,
-                By::Loop => write_by_loop(self.arcs.as_slice(), &mut self.octets)?,
+            match self.way {
+                Way::Octets => write(self.arcs.as_slice(), &mut self.octets)?,
+                Way::Call => append(self.arcs.as_slice(), &mut self.octets)?,
+                Way::Loop => write_by_loop(self.arcs.as_slice(), &mut self.octets)?,
             }
             let last = self
                 .octets
