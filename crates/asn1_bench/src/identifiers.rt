@@ -194,6 +194,8 @@ impl Written {
     }
 }
 
+// Each way is a call of its own, so that none is compiled into the code of another.
+#[inline(never)]
 fn write(arcs: &[u32], octets: &mut Vec<u8>) -> Result<(), AllocError> {
     if let Some(oid) = Oid::new(arcs) {
         if let Some(contents) = oid.contents() {
@@ -205,6 +207,7 @@ fn write(arcs: &[u32], octets: &mut Vec<u8>) -> Result<(), AllocError> {
     Ok(())
 }
 
+#[inline(never)]
 fn append(arcs: &[u32], octets: &mut Vec<u8>) -> Result<(), AllocError> {
     if let Some(oid) = Oid::new(arcs) {
         if let Some(contents) = oid.contents() {
@@ -214,6 +217,7 @@ fn append(arcs: &[u32], octets: &mut Vec<u8>) -> Result<(), AllocError> {
     Ok(())
 }
 
+#[inline(never)]
 fn write_by_loop(arcs: &[u32], octets: &mut Vec<u8>) -> Result<(), AllocError> {
     if let [x, y, others @ ..] = arcs {
         if *x == 2 || *x < 2 && *y <= 39 {
