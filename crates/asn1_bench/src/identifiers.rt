@@ -16,11 +16,22 @@ pub enum Size {
     Many,
 }
 
-/// Who reads and writes.
+/// Who reads.
 #[derive(Clone, Copy)]
 pub enum By {
     /// The crate.
     Values,
+    /// A loop.
+    Loop,
+}
+
+/// Who writes, and how.
+#[derive(Clone, Copy)]
+pub enum Way {
+    /// The crate gives octet by octet, and each is pushed.
+    Octets,
+    /// The crate appends them all by one call.
+    Call,
     /// A loop.
     Loop,
 }
@@ -166,23 +177,25 @@ impl Row for Read {
 #[derive(Drop)]
 pub struct Written {
     size: Size,
-    by: By,
+    way: Way,
     arcs: Vec<u32>,
     octets: Vec<u8>,
 }
 
 impl Written {
     /// Of one identifier.
-    pub fn new(alloc: Global, size: Size, by: By) -> Result<Written, AllocError> {
+    pub fn new(alloc: Global, size: Size, way: Way) -> Result<Written, AllocError> {
         Ok(Written {
             size,
-            by,
+            way,
             arcs: arcs_of(alloc, size)?,
             octets: Vec::new(alloc),
         })
     }
 }
 
+// Each way is a call of its own, so that none is compiled into the code of another.
+#[inline(never)]
 fn write(arcs: &[u32], octets: &mut Vec<u8>) -> Result<(), AllocError> {
     if let Some(oid) = Oid::new(arcs) {
         if let Some(contents) = oid.contents() {
@@ -194,6 +207,17 @@ fn write(arcs: &[u32], octets: &mut Vec<u8>) -> Result<(), AllocError> {
     Ok(())
 }
 
+#[inline(never)]
+fn append(arcs: &[u32], octets: &mut Vec<u8>) -> Result<(), AllocError> {
+    if let Some(oid) = Oid::new(arcs) {
+        if let Some(contents) = oid.contents() {
+            contents.append_to(octets)?;
+        }
+    }
+    Ok(())
+}
+
+#[inline(never)]
 fn write_by_loop(arcs: &[u32], octets: &mut Vec<u8>) -> Result<(), AllocError> {
     if let [x, y, others @ ..] = arcs {
         if *x == 2 || *x < 2 && *y <= 39 {
@@ -227,11 +251,11 @@ fn write_number(number: u64, octets: &mut Vec<u8>) -> Result<(), AllocError> {
 
 impl Row for Written {
     fn name(&self) -> &'static str {
-        match (self.size, self.by) {
-            (Size::Seven, By::Values) => "nine octets of contents written",
-            (Size::Seven, By::Loop) => "    the same by a loop",
-            (Size::Many, By::Values) => "73 octets of contents written",
-            (Size::Many, By::Loop) => "    the same by a loop",
+        match (self.size, self.way) {
+            (Size::Seven, Way::Octets) => "nine octets of contents written",
+            (Size::Many, Way::Octets) => "73 octets of contents written",
+            (_, Way::Call) => "    the same appended by one call",
+            (_, Way::Loop) => "    the same by a loop",
         }
     }
 
@@ -253,9 +277,10 @@ impl Row for Written {
                 *last = i % 128;
             }
             self.octets.clear();
-            match self.by {
-                By::Values => write(self.arcs.as_slice(), &mut self.octets)?,
-                By::Loop => write_by_loop(self.arcs.as_slice(), &mut self.octets)?,
+            match self.way {
+                Way::Octets => write(self.arcs.as_slice(), &mut self.octets)?,
+                Way::Call => append(self.arcs.as_slice(), &mut self.octets)?,
+                Way::Loop => write_by_loop(self.arcs.as_slice(), &mut self.octets)?,
             }
             let last = self
                 .octets

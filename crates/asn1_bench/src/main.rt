@@ -12,7 +12,7 @@ mod strings;
 use crate::alphabets::{Codes, Set};
 use crate::bits::{Appended, Copied, Numbers};
 use crate::fields::{Characters, Integers, Message, Widths};
-use crate::identifiers::{By, Read, Size, Written};
+use crate::identifiers::{By, Read, Size, Way, Written};
 use crate::numbers::Octets;
 use crate::row::{Row, machine, show};
 use crate::strings::{Bits, Kind, Text};
@@ -52,8 +52,8 @@ fn show_identifiers(rt: &HostRuntime, rounds: u32) -> anyhow::Result<()> {
         for by in [By::Values, By::Loop] {
             show(rt, &mut Read::new(alloc, size, by)?, rounds)?;
         }
-        for by in [By::Values, By::Loop] {
-            show(rt, &mut Written::new(alloc, size, by)?, rounds)?;
+        for way in [Way::Octets, Way::Call, Way::Loop] {
+            show(rt, &mut Written::new(alloc, size, way)?, rounds)?;
         }
     }
     Ok(())

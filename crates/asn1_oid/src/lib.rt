@@ -9,6 +9,7 @@ mod laws;
 mod object_identifier;
 mod oid;
 mod oid_contents;
+mod pushes;
 
 pub use contents::{ContentsError, OctetSource, check_contents};
 pub use laws::laws_of_contents;

@@ -1,10 +1,12 @@
 //! The contents of identifiers (X.690 8.19), octet by octet.
 
-ghost use Rattle.std.specs.Prelude.{◌≡◌, ◌<◌, ◌≤◌, ◌*◌, ◌^◌, ℕ, List, length};
+ghost use Rattle.std.specs.Prelude.{◌≡◌, ◌<◌, ◌≤◌, ◌*◌, ◌^◌, ℕ, List, [], ◌++◌, length, OnOk, OnErr, IsOk};
 ghost use Rattle.std.specs.List.{flat_map};
 ghost use Rattle.std.specs.Iterator.{YieldsFirst, item_count};
 ghost use Rattle.asn1_oid.specs.Writing.{HasDigits, last_octets, low_octets, octets_left, subidentifier_octets, word_left};
 
+use crate::pushes::{push_arc, push_word};
+use std::alloc::AllocError;
 use std::marker::Model;
 
 /// An iterator over the octets of an identifier's contents that are left, in their order.
@@ -90,6 +92,27 @@ impl<'a> OidContents<'a> {
     {
         let (octets, left) = octets_in_word(number);
         OidContents { octets, left, arcs }
+    }
+
+    /// Appends the octets that are left to the vector, faster than if each is pushed. It makes room once, for five octets
+    /// an arc, which may be more than they take; where memory is wanting, the vector's octets stay.
+    pub fn append_to(self, octets: &mut Vec<u8>) -> Result<(), AllocError>
+        ensures ok { OnOk result (octets.new.items ≡ octets.old.items ++ self.entry) }
+        ensures err { OnErr result (octets.new.items ≡ octets.old.items) }
+        // Of no octets it asks for no memory.
+        ensures free { self.entry ≡ [] → IsOk result }
+    {
+        let OidContents {
+            octets: word,
+            left,
+            arcs,
+        } = self;
+        octets.reserve(5 * arcs.len() + left as usize)?;
+        push_word(octets, word, left);
+        for arc in arcs {
+            push_arc(octets, *arc);
+        }
+        Ok(())
     }
 }
 

@@ -50,6 +50,48 @@ fn contents_are_written_and_read(rt: HostRuntime) -> Result<(), Fail> {
 }
 
 #[test]
+fn the_octets_that_are_left_are_appended(rt: HostRuntime) -> Result<(), Fail> {
+    let rsa = Oid::new(&[1, 2, 840, 113549, 1, 1, 11]).ok_or("valid")?;
+    let octets: [u8; 9] = [0x2A, 0x86, 0x48, 0x86, 0xF7, 0x0D, 0x01, 0x01, 0x0B];
+    for read in 0..=9usize {
+        let mut contents = rsa.contents().ok_or("two arcs")?;
+        for octet in &octets[..read] {
+            assert_eq!(rt; contents.next(), Some(*octet));
+        }
+        let mut written = [0x06, 0x09].to_vec(rt.alloc())?;
+        contents.append_to(&mut written)?;
+        assert!(rt; written.starts_with(&[0x06, 0x09]));
+        assert_eq!(rt; &written[2..], &octets[read..], "{read}");
+    }
+    Ok(())
+}
+
+#[test]
+fn subidentifiers_of_each_length_are_appended(rt: HostRuntime) -> Result<(), Fail> {
+    let rows: [(u32, &[u8]); 10] = [
+        (0, &[0x00]),
+        (127, &[0x7F]),
+        (128, &[0x81, 0x00]),
+        (16383, &[0xFF, 0x7F]),
+        (16384, &[0x81, 0x80, 0x00]),
+        (2097151, &[0xFF, 0xFF, 0x7F]),
+        (2097152, &[0x81, 0x80, 0x80, 0x00]),
+        (268435455, &[0xFF, 0xFF, 0xFF, 0x7F]),
+        (268435456, &[0x81, 0x80, 0x80, 0x80, 0x00]),
+        (4294967295, &[0x8F, 0xFF, 0xFF, 0xFF, 0x7F]),
+    ];
+    for (arc, octets) in rows {
+        let arcs = [2, 999, arc];
+        let oid = Oid::new(&arcs).ok_or("valid")?;
+        let mut written = Vec::new(rt.alloc());
+        oid.contents().ok_or("three arcs")?.append_to(&mut written)?;
+        assert!(rt; written.starts_with(&[0x88, 0x37]));
+        assert_eq!(rt; &written[2..], octets, "{arc}");
+    }
+    Ok(())
+}
+
+#[test]
 fn other_octets_are_refused(rt: HostRuntime) -> Result<(), Fail> {
     let rows: [(&[u8], ContentsError); 9] = [
         (&[], ContentsError::Malformed),

@@ -1,0 +1,34 @@
+use Rattle.std.proofs.Common.{ℕ, List, ◌++◌, get_or, refl, ap, ◌∙◌, arith}
+use Rattle.asn1_oid.specs.Writing.{low_octets}
+use Rattle.asn1_oid.proofs.PushLemmas.{none_are_left, word_pushed, arc_pushed}
+use Rattle.asn1_oid.proofs.oid_contents.OidContents.append_to.Goals as goal
+
+pub returns-in_err-reserve-clause-free : goal.returns-in_err-reserve-clause-free
+returns-in_err-reserve-clause-free c = λ empty.
+    let inside = c.self.inside in
+    let none = none_are_left inside.octets inside.left inside.arcs.now (c.self.view_is ∙ empty) in
+    let full = c.in_err-reserve.ensures.full in
+    absurd (omega arith)
+
+pub loop-arc-init : goal.loop-arc-init
+loop-arc-init c =
+    let inside = c.self.inside in
+    let pushed = c.push_word.ensures in
+    let room = c.in_ok-reserve.ensures.ok in
+    record {
+      items = word_pushed c.args.octets.now.items c.push_word.new.octets.items inside.octets inside.left
+          (pushed.items ∙ ap (λ (l : List ℕ). l ++ low_octets inside.octets inside.left) c.in_ok-reserve.ensures.items);
+      room = let len = pushed.len in let same = pushed.capacity in omega arith;
+    }
+
+pub loop-arc-preserved : goal.loop-arc-preserved
+loop-arc-preserved c =
+    let inside = c.self.inside in
+    let pushed = c.push_arc.ensures in
+    let so_far = c.loop-arc.invariant in
+    record {
+      items = arc_pushed c.args.octets.now.items c.loop-arc.octets.items c.push_arc.new.octets.items inside.arcs.now
+          inside.octets inside.left c.loop-arc.arc-index (get_or inside.arcs.now c.loop-arc.arc-index 0)
+          c.loop-arc-test.true refl so_far.items pushed.items;
+      room = let len = pushed.len in let same = pushed.capacity in let here = so_far.room in omega arith;
+    }
