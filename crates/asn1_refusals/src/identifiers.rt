@@ -58,6 +58,24 @@ fn object_identifier_from_contents(rt: HostRuntime) -> Result<(), Fail> {
 }
 
 #[test]
+fn oid_contents_append_to(rt: HostRuntime) -> Result<(), Fail> {
+    let oid = Oid::new(&ARCS).ok_or("valid")?;
+    let contents = oid.contents().ok_or("two arcs")?;
+    let Ok(mut octets) = [0x06, 0x09].to_vec(rt.alloc()) else {
+        return met_before(&rt, "OidContents::append_to");
+    };
+    match contents.append_to(&mut octets) {
+        Ok(()) => assert_eq!(rt; &octets[2..], CONTENTS.as_slice()),
+        Err(_) => {
+            met(&rt, "OidContents::append_to")?;
+            assert_eq!(rt; octets.len(), 2);
+        }
+    }
+    assert!(rt; octets.starts_with(&[0x06, 0x09]));
+    Ok(())
+}
+
+#[test]
 fn wrong_contents_keep_their_names(rt: HostRuntime) -> Result<(), Fail> {
     let malformed: &[u8] = &[0x2A, 0x80, 0x01];
     let refused = ObjectIdentifier::from_contents(rt.alloc(), &malformed).err();
