@@ -3,7 +3,7 @@ use Rattle.std.proofs.Common.{◌≡◌, ℕ, ◌+◌, ◌-◌, ◌*◌, ◌/◌
 use Rattle.std.specs.Int.{to_be_bytes, w128}
 use Rattle.std.proofs.Math.Nat.{mod-eq_of_lt, div-eq_of_lt, pow-le-pow_right}
 use Rattle.std.proofs.Math.Seq.{take-append-add, drop-append-add}
-use Rattle.std.proofs.lemmas.Nat.{pow-add, pow_pos, div-add-mod', mul-add-lt, mod_below, shr_below, shr_high}
+use Rattle.std.proofs.lemmas.Nat.{one_shl, pow-add, pow_pos, div-add-mod', mul-add-lt, mod_below, shr_below, shr_high}
 use Rattle.std.proofs.lemmas.List.{length-append, length-take, length-replicate, take-append-drop, take-append-le, drop-append-le, take_at, take_all, drop_more, replicate-append-replicate, set_at}
 use Rattle.asn1_bits.specs.Bits.{digits, bits, ored, overwritten}
 use Rattle.asn1_bits.specs.DigitLaws.{length-digits, length-bits, bits-append, bits-drop, bits-take}
@@ -60,14 +60,13 @@ octet-cleared o s c small h =
     let whole : 8 ≡ s + k = omega arith in
     let part : k ≡ c + j = omega arith in
     let tail : 8 ≡ s + c + j = omega arith in
-    let p8 : 2 ^ k ≤ 2 ^ 8 = pow-le-pow_right {n = 2} (omega arith) {i = k} {j = 8} (omega arith) in
     let pk : 2 ^ j ≤ 2 ^ k = pow-le-pow_right {n = 2} (omega arith) {i = j} {j = k} (omega arith) in
     let below : low < 2 ^ j = mod_below o (2 ^ j) (pow_pos j) in
     let inside : o < 2 ^ (s + k) = rw (ap (λ (m : ℕ). 2 ^ m) (sym whole)) small in
     let high : a < 2 ^ s = shr_below o s k inside in
     let sum : a * 2 ^ k + o % 2 ^ k ≡ o = div-add-mod' o (2 ^ k) in
     let first : a * 2 ^ k % 65536 ≡ a * 2 ^ k = mod-eq_of_lt (omega (arith, sum, small)) in
-    let second : 1 * 2 ^ j % 65536 ≡ 2 ^ j = mod-eq_of_lt (omega (arith, p8, pk)) ∙ omega arith in
+    let second : 1 * 2 ^ j % 65536 ≡ 2 ^ j = one_shl j 16 (omega arith) in
     let n = a * 2 ^ k + low in
     let is : a * 2 ^ k % 65536 + o % (1 * 2 ^ j % 65536) ≡ n = ap (λ (m : ℕ). m + o % (1 * 2 ^ j % 65536)) first
     ∙ ap (λ (m : ℕ). a * 2 ^ k + o % m) second in
