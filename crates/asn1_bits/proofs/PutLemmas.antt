@@ -7,7 +7,7 @@ use Rattle.std.proofs.lemmas.Bool.{cases_lt}
 use Rattle.std.proofs.lemmas.Nat.{and_mask}
 use Rattle.std.proofs.lemmas.List.{length-append, length-take, length-drop, length-replicate, take_more, take_all, take_at, drop_at, replicate-append-replicate, drop_more, drop-drop, drop-replicate, take-replicate, set_at, ext_get_or, get_or-take, get_or-drop, get_or_append_left, get_or-append_right}
 use Rattle.asn1_bits.specs.Bits.{is_odd, digits, bits, octets_for, ored, IsZeroFrom}
-use Rattle.asn1_bits.specs.DigitLaws.{length-digits, length-bits, get_or-digits, bits-append, bits-drop, bits-take}
+use Rattle.asn1_bits.specs.DigitLaws.{length-digits, length-bits, get_or-digits, bits-append, bits-take}
 use Rattle.asn1_bits.specs.ByteLaws.{digits-mod, bits-bytes}
 use Rattle.asn1_bits.specs.NumberLaws.{digits-append}
 use Rattle.asn1_bits.proofs.OredLemmas.{length-ored, get_or-ored_inside, get_or-ored_outside, ored-append}
@@ -15,6 +15,7 @@ use Rattle.asn1_bits.proofs.RoomLemmas.{room-step, ored-room}
 use Rattle.asn1_bits.specs.BitBuffer.{bits_shown, IsFilled}
 use Rattle.asn1_bits.proofs.BufferLemmas.{length-bits_shown, spelled, bits-zeros, filled_by}
 use Rattle.asn1_bits.proofs.ZeroLemmas.{zero_from}
+use Rattle.asn1_bits.proofs.EightLemmas.{eight-stored}
 use Rattle.asn1_bits.proofs.WindowLemmas.{is_odd-or, shifted-digits, bits-octet, moved, or-near, low-part}
 
 -- one octet more is written
@@ -43,22 +44,15 @@ pub set-all : (old new octets : List ℕ) (q k word : ℕ) → new ≡ take q ol
     → octets ≡ bytes_high_first 8 word
     → bits new ≡ take (8 * q) (bits old) ++ (digits word 64 ++ drop (8 * q + 64) (bits old))
 set-all old new octets q k word e n is =
+    let whole : bits octets ≡ digits word 64 = ap bits is ∙ bits-bytes 8 word in
     let len : length octets ≡ 8 =
-    omega (
-      arith,
-      length-bits octets,
-      ap (λ (l : List Bool). length l) (ap bits is ∙ bits-bytes 8 word),
-      length-digits word 64,
-    ) in
-    let whole : bits (take k octets) ≡ digits word 64 = ap bits (take_all k octets (omega (arith, len))) ∙ ap bits is
-    ∙ bits-bytes 8 word in
-    let past : 8 * (q + k) ≡ 8 * q + 64 = omega (arith, n) in
-    ap bits e
-    ∙ bits-append (take q old) (take k octets ++ drop (q + k) old)
-    ∙ ap (λ (l : List Bool). l ++ bits (take k octets ++ drop (q + k) old)) (bits-take q old)
-    ∙ ap (λ (l : List Bool). take (8 * q) (bits old) ++ l) (bits-append (take k octets) (drop (q + k) old)
-    ∙ ap (λ (l : List Bool). l ++ bits (drop (q + k) old)) whole
-    ∙ ap (λ (l : List Bool). digits word 64 ++ l) (bits-drop (q + k) old ∙ ap (λ (m : ℕ). drop m (bits old)) past))
+    omega (arith, length-bits octets, ap (λ (l : List Bool). length l) whole, length-digits word 64) in
+    let past : q + k ≡ q + 8 = omega (arith, n) in
+    eight-stored old new octets q
+    (e ∙ ap (λ (l : List ℕ). take q old ++ (l ++ drop (q + k) old)) (take_all k octets (omega (arith, len, n)))
+    ∙ ap (λ (m : ℕ). take q old ++ (octets ++ drop m old)) past)
+    len
+    ∙ ap (λ (l : List Bool). take (8 * q) (bits old) ++ (l ++ drop (8 * q + 64) (bits old))) whole
 
 or-digits : (a b width i : ℕ) → i < width
     → get_or (digits (bit_or a b) width) i false ≡ (get_or (digits a width) i false || get_or (digits b width) i false)
