@@ -69,6 +69,18 @@ impl BitBuffer {
         self.len = 0;
     }
 
+    /// Keeps the first `len` bits, and drops the others, if there are any. The allocation stays.
+    pub fn truncate(&mut self, len: usize)
+        ensures { self.new ≡ take len self.old }
+    {
+        if len >= self.len {
+            return;
+        }
+        self.bytes.truncate(len.div_ceil(8));
+        clear_from(self.bytes.as_mut_slice(), len);
+        self.len = len;
+    }
+
     /// A copy. It is refused for want of memory alone.
     pub fn clone(&self) -> Result<BitBuffer, AllocError>
         ensures list { IfOk result (λ b. b ≡ self.now) }
@@ -280,18 +292,6 @@ impl BitBuffer {
     {
         let len = bytes.len() * 8;
         BitBuffer { bytes, len }
-    }
-
-    /// Keeps the first `len` bits, and clears the rest of the last octet.
-    pub(crate) fn truncate(&mut self, len: usize)
-        ensures { self.new ≡ take len self.old }
-    {
-        if len >= self.len {
-            return;
-        }
-        self.bytes.truncate(len.div_ceil(8));
-        clear_from(self.bytes.as_mut_slice(), len);
-        self.len = len;
     }
 
     /// Appends zeros.

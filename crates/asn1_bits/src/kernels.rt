@@ -64,7 +64,8 @@ fn write_long(dst: &mut [u8], position: usize, src: BitStr<'_>, turns: &mut Turn
     }
 }
 
-/// ORs a view of whole words in: a word a turn.
+/// ORs a view of whole words in: a word a turn. Off an octet boundary a word's last bits lie in the eight octets behind:
+/// they go in with the next word, and those of the last word by themselves.
 #[inline(always)]
 fn write_words(dst: &mut [u8], position: usize, src: BitStr<'_>, turns: &mut Turns)
     requires some { 64 ≤ (view_of src).len }
@@ -74,28 +75,14 @@ fn write_words(dst: &mut [u8], position: usize, src: BitStr<'_>, turns: &mut Tur
     ensures bits { bits dst.new ≡ ored (bits dst.old) position (bits_of src.entry) }
     ensures turns { turns.new.count ≡ turns.old.count + (view_of src.entry).len / 64 }
 {
-    if position % 8 == 0 {
+    let len = src.len();
+    let spill = position % 8;
+    if spill == 0 {
         if let Some(octets) = src.aligned() {
-            or_words(dst, position / 8, octets, src.len() / 64, turns);
+            or_words(dst, position / 8, octets, len / 64, turns);
             return;
         }
     }
-    write_spilling(dst, position, src, turns);
-}
-
-/// As `write_words`, from and to any bit of an octet. Off an octet boundary a word's last bits lie in the eight octets
-/// behind: they go in with the next word, and those of the last word by themselves.
-#[inline(always)]
-fn write_spilling(dst: &mut [u8], position: usize, src: BitStr<'_>, turns: &mut Turns)
-    requires some { 64 ≤ (view_of src).len }
-    requires whole { (view_of src).len % 64 ≡ 0 }
-    requires room { position + (view_of src).len ≤ 8 * length dst.old }
-    requires fits { position + (view_of src).len < 2 ^ 64 }
-    ensures bits { bits dst.new ≡ ored (bits dst.old) position (bits_of src.entry) }
-    ensures turns { turns.new.count ≡ turns.old.count + (view_of src.entry).len / 64 }
-{
-    let len = src.len();
-    let spill = position % 8;
     or_word(dst, position, src.word(0, 64 - spill), 64 - spill);
     turns.tick();
     src.or_words(64 - spill, dst, position / 8 + 8, len / 64 - 1, turns);

@@ -30,11 +30,18 @@ impl Turns {
     pub fn tick(&mut self)
         ensures { self.new.count ≡ self.old.count + 1 }
     {
-        self.set();
+        self.add(&Turns::counting());
     }
 
-    /// Makes its number the one that the caller's proof names.
-    fn set(&mut self)
+    /// Counts the other's turns as well. As in `tick`, nothing happens at run time.
+    pub fn add(&mut self, other: &Turns)
+        ensures { self.new.count ≡ self.old.count + other.now.count }
+    {
+        self.set(other);
+    }
+
+    /// Makes its number the one that the caller's proof names, which may speak of another counter.
+    fn set(&mut self, _other: &Turns)
         ghost number: { ℕ }
         ensures { self.new.count ≡ number }
     {

@@ -197,26 +197,23 @@ fn set_octets(dst: &mut [u8], first: usize, word: u64)
     }
 }
 
-/// As `or_word`, of a number of `width` digits that lie in eight octets, where zeros stand from bit `position` on. So one
-/// octet is read, and eight are stored.
+/// As `or_word`, of a number of `width` digits that lie in eight octets, all of which are there, where zeros stand from
+/// bit `position` on. So one octet is read, and eight are stored.
 #[inline(always)]
 pub(crate) fn put_word(dst: &mut [u8], position: usize, word: u64, width: usize)
+    requires some { 0 < width }
     requires width { position % 8 + width ≤ 64 }
     requires below { word < 2 ^ width }
-    requires within { position + width ≤ 8 * length dst.old }
+    requires eight { position / 8 + 8 ≤ length dst.old }
     requires zeros { IsZeroFrom position (bits dst.old) }
     ensures { bits dst.new ≡ ored (bits dst.old) position (digits word width) }
 {
     let first = position / 8;
-    if width == 0 || dst.len() - first < 8 {
-        or_short(dst, position, word, width);
-        return;
-    }
     let begun = u64::from(dst[first]) << 56;
     set_octets(dst, first, begun | (word << (64 - width - position % 8)));
 }
 
-/// As `put_word`, of a number whose digits lie in sixteen octets, all of which are there.
+/// As `put_word`, of a number whose digits lie in sixteen octets.
 #[inline(always)]
 fn put_pair(dst: &mut [u8], position: usize, number: u128, width: usize)
     requires some { 0 < width }
@@ -253,7 +250,11 @@ pub(crate) fn put_digits(
     if width <= 57 {
         // So few lie in eight octets, from any bit of the first on.
         let low = (number & 0xFFFF_FFFF_FFFF_FFFF) as u64;
-        put_word(dst, position, low, width);
+        if width == 0 || dst.len() - position / 8 < 8 {
+            or_short(dst, position, low, width);
+        } else {
+            put_word(dst, position, low, width);
+        }
     } else if position % 8 + width <= 128 && dst.len() - position / 8 >= 16 {
         put_pair(dst, position, number, width);
     } else {

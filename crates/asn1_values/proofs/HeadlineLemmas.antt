@@ -2,7 +2,7 @@
 use Rattle.std.proofs.Common.{◌≡◌, ℕ, ◌+◌, ◌*◌, ◌<◌, ◌≤◌, Bool, true, List, [], ◌∷◌, ◌++◌, length, take, drop, Result, Ok, Err, refl, sym, ap, subst, ◌∙◌, arith}
 use Rattle.std.specs.Prelude.{is_ok}
 use Rattle.std.specs.List.{AllZip, AllByRecursion}
-use Rattle.std.proofs.lemmas.List.{length-take, take-append-drop, append-nil, length-append}
+use Rattle.std.proofs.lemmas.List.{length-take, take-append-drop, append-nil}
 use Rattle.asn1_values.specs.declared.bit_fields.error.ReadError.{ReadError}
 use Rattle.asn1_values.specs.declared.bit_fields.shape.Shape.{Shape}
 use Rattle.asn1_values.specs.declared.bit_fields.shape.Shape.TheVariants as shapes
@@ -26,7 +26,6 @@ use Rattle.asn1_values.proofs.IdentifierKind.{identifier_exact}
 use Rattle.asn1_values.proofs.IntegerKind.{integer_exact}
 use Rattle.asn1_values.proofs.NumberKind.{number_exact}
 use Rattle.asn1_values.proofs.OctetsKind.{octets_exact}
-use Rattle.asn1_values.proofs.OneSpelling.{length-spelled}
 use Rattle.asn1_values.proofs.ListLemmas.{AreExact, fields_taken, only_fields, ReadAll}
 use Rattle.asn1_values.proofs.RefusalLemmas.{fields_refused}
 
@@ -100,6 +99,14 @@ read_octets count list left octets le rest is are =
     ap (field_at (plain.OfOctets count)) whole
     ∙ (octets_exact count).again (plain.Octets octets) (take (8 * count) list) left len (are, sym is)
 
+pub read_bits : (len : ℕ) (list left front : List Bool) → len ≤ length list → left ≡ drop len list
+    → front ≡ take len list → field_at (plain.OfBits len) list ≡ Ok (plain.Bits front, left)
+read_bits len list left front le rest is =
+    let n : length front ≡ len = omega (arith, ap length is, length-take len list) in
+    let whole : list ≡ front ++ left = sym (take-append-drop len list)
+    ∙ ap (λ (l : List Bool). l ++ drop len list) (sym is) ∙ ap (λ (l : List Bool). front ++ l) (sym rest) in
+    ap (field_at (plain.OfBits len)) whole ∙ (bits_exact len).again (plain.Bits front) front left n refl
+
 pub one_list : (ss : List Shape) (xs ys : List plain.Field) (list : List Bool) → AllZip IsOfShape xs (plain_shapes ss)
     → AllZip IsOfShape ys (plain_shapes ss) → AreSpelledBy xs list → AreSpelledBy ys list → xs ≡ ys
 one_list ss xs ys list zx zy p q =
@@ -129,16 +136,3 @@ each_alone_of shape exact x y front rest sx sy p q =
 pub each_alone : (ss : List Shape) → AllByRecursion NoSpellingBeginsAnother (plain_shapes ss)
 each_alone [] = tt
 each_alone (s ∷ ss) = (each_alone_of (plain_shape s) (is_exact s), each_alone ss)
-
--- octets that can be read are there
-pub octets_there : (count : ℕ) (list : List Bool) → is_ok (field_at (plain.OfOctets count) list) ≡ true
-    → 8 * count ≤ length list
-octets_there count list ok = there (field_at (plain.OfOctets count) list) refl ok
-  where
-    there : (r : Result (plain.Field × List Bool) Fault) → field_at (plain.OfOctets count) list ≡ r → is_ok r ≡ true
-        → 8 * count ≤ length list
-    there (Ok x) e h =
-        let t = (octets_exact count).taken list x.0 x.1 e in
-        let front = length-spelled (plain.OfOctets count) x.0 t.front t.of_shape t.spelled in
-        omega (arith, ap length t.parts, length-append t.front x.1)
-    there (Err fault) e h = absurd cc

@@ -12,6 +12,7 @@ use Rattle.std.specs.Option.{option_map}
 use Rattle.std.proofs.lemmas.List.{length-append, map_more, map-append, take-map, take-append-drop, drop_more, append-nil}
 use Rattle.std.proofs.lemmas.Nat.{pow_pos}
 use Rattle.std.proofs.Math.Nat.{lt-div-mul-add}
+use Rattle.std.proofs.Math.Seq.{take-append_seam}
 use Rattle.std.proofs.lemmas.Option.{same_Some, slice_get_read, slice_get-map}
 use Rattle.asn1_bits.specs.Bits.{digits, bits}
 use Rattle.asn1_bits.specs.declared.bit_appender.BitAppender.{BitAppender}
@@ -23,36 +24,37 @@ use Rattle.asn1_values.specs.declared.bit_fields.field.Field.{Field as Program}
 use Rattle.asn1_values.specs.Plain.{plain_field, plain_fields}
 use Rattle.asn1_values.specs.Fields.{Field, IsSpelledBy, AreSpelledBy, Number, Octets, Bits, Integer, Character, CountedInteger, Identifier}
 use Rattle.asn1_values.specs.Wrong.{Misfit, WidthOver, PastWidth, NotInAlphabet, PastLength, TooFewArcs, Fits, IsMisfit, IsFirstMisfit}
-use Rattle.asn1_values.specs.Steps.{NamesMisfit, NamesFirstMisfit, FitsIn, EndsAt, Pushes, PushesAll, HasRoom, TakesTurns, TakeTurns}
+use Rattle.asn1_values.specs.Steps.{NamesMisfit, NamesFirstMisfit, Spelling, TakesBits, HasLength, FitsIn, EndsAt, Pushes, PushesAll, HasRoomFor, HaveRoom, TakesTurns, TakeTurns}
+use Rattle.asn1_values.specs.Joined.{AreJoined}
 use Rattle.asn1_values.proofs.JoinedLemmas.{joins_push, joins_append, joins_split, one_joined, each_joined, slice_get_take, some_at, Split}
 
 -- ---- one field
 
 pub number_fits : (value width : ℕ) → width ≤ 128 → value < 2 ^ width → FitsIn (Number value width) width
 number_fits value width le lt =
-    record { fits = (digits value width, (le, lt, refl)); len = λ list s. ap length s.2 ∙ length-digits value width }
+    record { some = (digits value width, (le, lt, refl)); len = λ list s. ap length s.2 ∙ length-digits value width }
 
 pub octets_fit : (octets : List ℕ) → All (λ octet. octet < 256) octets → FitsIn (Octets octets) (8 * length octets)
-octets_fit octets are = record { fits = (bits octets, (are, refl)); len = λ list s. ap length s.1 ∙ length-bits octets }
+octets_fit octets are = record { some = (bits octets, (are, refl)); len = λ list s. ap length s.1 ∙ length-bits octets }
 
 pub bits_fit : (view : List Bool) → FitsIn (Bits view) (length view)
-bits_fit view = record { fits = (view, refl); len = λ list s. ap length s }
+bits_fit view = record { some = (view, refl); len = λ list s. ap length s }
 
 pub integer_fits : (n : ℤ) (octets : List ℕ) → IsShortest n octets → FitsIn (Integer n) (8 * length octets)
 integer_fits n octets shortest = record {
-  fits = (bits octets, (octets, shortest, refl));
+  some = (bits octets, (octets, shortest, refl));
   len = λ list s. ap length s.2 ∙ length-bits s.0
       ∙ ap (λ (o : List ℕ). 8 * length o) (same_shortest n s.0 octets s.1 shortest);
 }
 
 pub character_fits : (a : Alphabet) (c k : ℕ) → IsCode a c k → FitsIn (Character a c) a.width
 character_fits a c k code =
-    record { fits = (digits k a.width, (k, code, refl)); len = λ list s. ap length s.2 ∙ length-digits s.0 a.width }
+    record { some = (digits k a.width, (k, code, refl)); len = λ list s. ap length s.2 ∙ length-digits s.0 a.width }
 
 pub counted_fits : (n : ℤ) (octets : List ℕ) → IsShortest n octets → length octets ≤ 127
     → FitsIn (CountedInteger n) (8 + 8 * length octets)
 counted_fits n octets shortest le = record {
-  fits = (bits (length octets ∷ octets), (octets, shortest, le, refl));
+  some = (bits (length octets ∷ octets), (octets, shortest, le, refl));
   len = λ list s.
       let same : list ≡ bits (length octets ∷ octets) = s.3
       ∙ ap (λ (o : List ℕ). bits (length o ∷ o)) (same_shortest n s.0 octets s.1 shortest) in
@@ -62,7 +64,7 @@ counted_fits n octets shortest le = record {
 pub identifier_fits : (arcs octets : List ℕ) → IsContents arcs octets → FitU32 arcs
     → FitsIn (Identifier arcs) (8 * length octets)
 identifier_fits arcs octets contents fit = record {
-  fits = (bits octets, (octets, contents, fit, refl));
+  some = (bits octets, (octets, contents, fit, refl));
   len = λ list s. ap length s.3 ∙ length-bits s.0
       ∙ ap (λ (o : List ℕ). 8 * length o) (contents_only arcs s.0 octets s.1 contents);
 }
@@ -135,34 +137,56 @@ names_none fields (errors.ArcCount at) list h s = none_misfit fields at TooFewAr
 names_none fields errors.TooLong list h s = h
 names_none fields errors.Memory list h s = h
 
+-- ---- fields that take bits, whether or not they are spelled
+
+-- what spells a field, it takes
+spelled_taken : (field : Field) (list : List Bool) → IsSpelledBy field list → TakesBits field list
+spelled_taken (Number value width) list s = s
+spelled_taken (Octets octets) list s = s
+spelled_taken (Bits view) list s = s
+spelled_taken (Integer n) list s = s
+spelled_taken (Character a c) list s = ap length s.2 ∙ length-digits s.0 a.width
+spelled_taken (CountedInteger n) list s = s
+spelled_taken (Identifier arcs) list s = s
+
+pub all_taken : (fields : List Field) (list : List Bool) → AreSpelledBy fields list → AreJoined TakesBits fields list
+all_taken [] list s = s
+all_taken (field ∷ fields) list s =
+    (s.0, s.1, spelled_taken field s.0 s.2, all_taken fields s.1 s.3, s.4)
+
+-- a character takes as many bits as its alphabet's width
+pub character_taken : (a : Alphabet) (c : ℕ) → HasLength TakesBits (Character a c) a.width
+character_taken a c = record { some = (digits 0 a.width, length-digits 0 a.width); len = λ list s. s }
+
 -- ---- the length that fields lead to
 
-pub ends_none : (start : ℕ) → start < 2 ^ 64 → EndsAt start [] start
-ends_none start lt =
-    record {
-      end = start;
-      list = [];
-      spelled = refl;
-      each = λ others s. let e : length others ≡ 0 =
-          ap length s in omega arith;
-      capped = omega arith;
-    }
+module _ (P : Spelling) where
+  pub ends_none : (start : ℕ) → start < 2 ^ 64 → EndsAt P start [] start
+  ends_none start lt =
+      record {
+        end = start;
+        list = [];
+        joined = refl;
+        each = λ others s. let e : length others ≡ 0 =
+            ap length s in omega arith;
+        capped = omega arith;
+      }
 
-pub ends_more : (start n k m : ℕ) (fields : List Field) (field : Field) → EndsAt start fields n → FitsIn field k
-    → m ≡ min (n + k) (2 ^ 128 - 1) → EndsAt start (fields ++ field ∷ []) m
-ends_more start n k m fields field e f sum =
-    record {
-      end = e.end + k;
-      list = e.list ++ f.fits.0;
-      spelled = joins_push IsSpelledBy fields field e.list f.fits.0 e.spelled f.fits.1;
-      each = λ others s.
-          let p : Split IsSpelledBy fields (field ∷ []) others = joins_split IsSpelledBy fields (field ∷ []) others s in
-          let a = e.each p.front p.of_front in
-          let b = f.len p.back (one_joined IsSpelledBy field p.back p.of_back) in
-          let l : length others ≡ length p.front + length p.back = ap length p.parts ∙ length-append p.front p.back in
-          omega arith;
-      capped = let c = e.capped in omega arith;
-    }
+  pub ends_more : (start n k m : ℕ) (fields : List Field) (field : Field) → EndsAt P start fields n
+      → HasLength P field k → m ≡ min (n + k) (2 ^ 128 - 1) → EndsAt P start (fields ++ field ∷ []) m
+  ends_more start n k m fields field e f sum =
+      record {
+        end = e.end + k;
+        list = e.list ++ f.some.0;
+        joined = joins_push P fields field e.list f.some.0 e.joined f.some.1;
+        each = λ others s.
+            let p : Split P fields (field ∷ []) others = joins_split P fields (field ∷ []) others s in
+            let a = e.each p.front p.of_front in
+            let b = f.len p.back (one_joined P field p.back p.of_back) in
+            let l : length others ≡ length p.front + length p.back = ap length p.parts ∙ length-append p.front p.back in
+            omega arith;
+        capped = let c = e.capped in omega arith;
+      }
 
 pub below_width : (value width : ℕ) → value / 2 ^ width ≡ 0 → value < 2 ^ width
 below_width value width e = let p =
@@ -174,10 +198,10 @@ at_128 value width le ge lt = let e : width ≡ 128 = omega arith in rw e lt
 
 -- ---- pushing one field, and fields one after another
 
--- a field that fits the room has no more bits than that
-pub space_of : (field : Field) (list : List Bool) (n space : ℕ) → IsSpelledBy field list → length list ≡ n
-    → ((others : List Bool) → IsSpelledBy field others → length others ≤ space) → n ≤ space
-space_of field list n space s len enough = let r = enough list s in omega arith
+-- a field for which there is room has no more bits than that
+pub space_of : (field : Field) (list : List Bool) (n space : ℕ) → TakesBits field list → length list ≡ n
+    → HasRoomFor field space → n ≤ space
+space_of field list n space s len enough = let r = enough.each list s in omega arith
 
 pub pushes : (field : Field) (list : List Bool) (n : ℕ) (old new : BitAppender) → IsSpelledBy field list
     → length list ≡ n → bits_written new ≡ bits_written old ++ list → room new + n ≡ room old → Pushes field old new
@@ -192,15 +216,15 @@ takes field n old new fits low high list s =
 -- ---- a counted integer: an octet, and octets behind it
 
 -- all of it fits the room
-pub counted_space : (n : ℤ) (octets : List ℕ) (space : ℕ) → IsShortest n octets → Fits (CountedInteger n)
-    → ((list : List Bool) → IsSpelledBy (CountedInteger n) list → length list ≤ space) → (length octets ≤ 127)
-    × (8 + 8 * length octets ≤ space)
-counted_space n octets space shortest fits enough =
+pub counted_space : (n : ℤ) (octets : List ℕ) (space : ℕ) → IsShortest n octets → HasRoomFor (CountedInteger n) space
+    → (length octets ≤ 127) × (8 + 8 * length octets ≤ space)
+counted_space n octets space shortest enough =
+    let fits = enough.some in
     let same : length fits.1.0 ≡ length octets = ap length (same_shortest n fits.1.0 octets fits.1.1 shortest) in
     let small = fits.1.2 in
     let le : length octets ≤ 127 = omega arith in
     let len = length-bits (length octets ∷ octets) in
-    let r = enough (bits (length octets ∷ octets)) (octets, shortest, le, refl) in
+    let r = enough.each (bits (length octets ∷ octets)) (octets, shortest, le, refl) in
     (le, omega arith)
 
 pub counted_pushes : (n : ℤ) (octets : List ℕ) (old now new : BitAppender) → IsShortest n octets → length octets ≤ 127
@@ -221,6 +245,13 @@ counted_pushes n octets old now new shortest le first before second after =
 pub counted_turns : (n old now new : ℕ) → old + div_ceil 8 64 ≤ now → now ≤ old + turns_for 8
     → now + div_ceil (8 * n) 64 ≤ new → new ≤ now + turns_for (8 * n) → TakesTurns (8 + 8 * n) old new
 counted_turns n old now new low high low_2 high_2 = record { at_least = omega arith; at_most = omega arith }
+
+-- bits that were pushed are cut off again
+pub cut_back : (bits old pushed : List Bool) (n : ℕ) → take n bits ≡ old ++ pushed → take (length old) bits ≡ old
+cut_back bits old pushed n e =
+    let parts : bits ≡ old ++ (pushed ++ drop n bits) = sym (take-append-drop n bits)
+    ∙ ap (λ (l : List Bool). l ++ drop n bits) e ∙ append_assoc old pushed (drop n bits) in
+    ap (take (length old)) parts ∙ take-append_seam old (pushed ++ drop n bits)
 
 pub pushed_none : (old : BitAppender) → PushesAll [] old old
 pushed_none old =
@@ -274,6 +305,7 @@ more_turns before field old now new all one = record { at_least = at_least; at_m
         omega (arith, length-append before (field ∷ []))
 
 module _ (fields before after : List Field) (field : Field) (cut : fields ≡ before ++ field ∷ after) where
+  -- the fields are spelled, and so is each
   pub field_fits : (list : List Bool) → AreSpelledBy fields list → Fits field
   field_fits list s =
       let p : Split IsSpelledBy before (field ∷ after) list =
@@ -281,20 +313,25 @@ module _ (fields before after : List Field) (field : Field) (cut : fields ≡ be
       (subst (λ (fs : List Field). AreSpelledBy fs list) cut s) in
       (p.of_back.0, p.of_back.2)
 
-  pub space_now : (old now : BitAppender) → HasRoom fields (room old) → PushesAll before old now → (list : List Bool)
-      → IsSpelledBy field list → length list ≤ room now
-  space_now old now h w list l =
-      let p : Split IsSpelledBy before (field ∷ after) h.list =
-      joins_split IsSpelledBy before (field ∷ after) h.list
-      (subst (λ (fs : List Field). AreSpelledBy fs h.list) cut h.spelled) in
+  -- behind those that were pushed is room for this one
+  pub room_now : (old now : BitAppender) → HaveRoom fields (room old) → PushesAll before old now
+      → HasRoomFor field (room now)
+  room_now old now h w =
+      let p : Split TakesBits before (field ∷ after) h.list =
+      joins_split TakesBits before (field ∷ after) h.list
+      (subst (λ (fs : List Field). AreJoined TakesBits fs h.list) cut h.joined) in
       let rest : List Bool = p.of_back.1 in
-      let whole : AreSpelledBy (before ++ field ∷ after) (w.list ++ (list ++ rest)) =
-      joins_append IsSpelledBy before (field ∷ after) w.list (list ++ rest) w.spelled
-      (list, rest, l, p.of_back.3, refl) in
-      let r =
-      h.space_for (w.list ++ (list ++ rest))
-      (subst (λ (fs : List Field). AreSpelledBy fs (w.list ++ (list ++ rest))) (sym cut) whole) in
-      omega (arith, w.left, length-append w.list (list ++ rest), length-append list rest)
+      record {
+        some = (p.of_back.0, p.of_back.2);
+        each = λ list l.
+            let whole : AreJoined TakesBits (before ++ field ∷ after) (w.list ++ (list ++ rest)) =
+            joins_append TakesBits before (field ∷ after) w.list (list ++ rest) (all_taken before w.list w.spelled)
+            (list, rest, l, p.of_back.3, refl) in
+            let r =
+            h.each (w.list ++ (list ++ rest))
+            (subst (λ (fs : List Field). AreJoined TakesBits fs (w.list ++ (list ++ rest))) (sym cut) whole) in
+            omega (arith, w.left, length-append w.list (list ++ rest), length-append list rest);
+      }
 
 -- ---- fields of the program, by their places
 

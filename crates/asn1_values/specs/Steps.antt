@@ -5,17 +5,18 @@ use Rattle.asn1_bits.specs.declared.bit_appender.BitAppender.{BitAppender}
 use Rattle.asn1_bits.specs.declared.bit_reader.BitReader.{BitReader}
 use Rattle.asn1_bits.specs.BitReader.{view_left, bits_left}
 use Rattle.asn1_bits.specs.View.{part}
-use Rattle.asn1_bits.specs.Bits.{overwritten}
+use Rattle.asn1_bits.specs.Bits.{overwritten, octets_for}
 use Rattle.asn1_bits.specs.BitAppender.{bits_written, room}
 use Rattle.asn1_values.specs.declared.bit_fields.error.ReadError.{ReadError}
 use Rattle.asn1_values.specs.declared.bit_fields.error.ReadError.TheVariants as reading
 use Rattle.asn1_values.specs.declared.bit_fields.error.WriteError.{WriteError}
 use Rattle.asn1_values.specs.declared.bit_fields.error.WriteError.TheVariants as writing
 use Rattle.asn1_values.specs.declared.bit_fields.field.Field.{Field as InMemory}
-use Rattle.asn1_values.specs.Fields.{Field, Shape, IsSpelledBy, AreSpelledBy}
+use Rattle.asn1_values.specs.Fields.{Field, Shape, IsSpelledBy, AreSpelledBy, Character}
+use Rattle.asn1_values.specs.Joined.{AreJoined}
 use Rattle.asn1_values.specs.Plain.{plain_field, LiesAt}
 use Rattle.asn1_values.specs.Walk.{field_at}
-use Rattle.asn1_values.specs.Wrong.{Fault, NumberWidth, NotInteger, Short, NoCharacter, NoLength, NotIdentifier, ArcOver, WidthOver, PastWidth, NotInAlphabet, PastLength, TooFewArcs, Fits, IsMisfit, IsFirstMisfit}
+use Rattle.asn1_values.specs.Wrong.{Fault, NumberWidth, NotInteger, Short, NoCharacter, NoLength, NotIdentifier, ArcOver, WidthOver, PastWidth, NotInAlphabet, PastLength, TooFewArcs, IsMisfit, IsFirstMisfit}
 
 -- ---- reading
 
@@ -70,24 +71,48 @@ NamesFirstMisfit fields (writing.ArcCount at) = IsFirstMisfit fields at TooFewAr
 NamesFirstMisfit fields writing.TooLong = ⊥
 NamesFirstMisfit fields writing.Memory = ⊥
 
--- the field fits, in n bits
-pub record FitsIn (field : Field) (n : ℕ) : Type 0 where
-  pub fits : Fits field
-  pub len : (list : List Bool) → IsSpelledBy field list → length list ≡ n
+-- how a field is spelled, or takes bits
+abbrev pub Spelling : Type 1
+Spelling = Field → List Bool → Type 0
 
--- the fields all fit, with them the start becomes an end, and n is the end, or the greatest number that the sum takes
-pub record EndsAt (start : ℕ) (fields : List Field) (n : ℕ) : Type 0 where
+-- the field takes the bits: they spell it, or they are as many as spell a character of its alphabet, which may lack it
+abbrev pub TakesBits : Spelling
+TakesBits (Character alphabet c) list = length list ≡ alphabet.width
+TakesBits field list = IsSpelledBy field list
+
+-- the field has bits of such a kind, n of them
+pub record HasLength (P : Spelling) (field : Field) (n : ℕ) : Type 0 where
+  pub some : (list : List Bool) × P field list
+  pub len : (list : List Bool) → P field list → length list ≡ n
+
+-- the field fits, in n bits
+abbrev pub FitsIn : Field → ℕ → Type 0
+FitsIn field n = HasLength IsSpelledBy field n
+
+-- the fields all have bits of such a kind, with them the start becomes an end, and n is the end, or the greatest number
+-- that the sum takes
+pub record EndsAt (P : Spelling) (start : ℕ) (fields : List Field) (n : ℕ) : Type 0 where
   pub end : ℕ
   pub list : List Bool
-  pub spelled : AreSpelledBy fields list
-  pub each : (others : List Bool) → AreSpelledBy fields others → start + length others ≡ end
+  pub joined : AreJoined P fields list
+  pub each : (others : List Bool) → AreJoined P fields others → start + length others ≡ end
   pub capped : n ≡ min end (2 ^ 128 - 1)
 
--- there is room for the fields
-pub record HasRoom (fields : List Field) (space : ℕ) : Type 0 where
+-- there is room for the bits of one field, which has some
+pub record HasRoomFor (field : Field) (space : ℕ) : Type 0 where
+  pub some : (list : List Bool) × TakesBits field list
+  pub each : (list : List Bool) → TakesBits field list → length list ≤ space
+
+-- there is room for the bits of the fields, which all have some
+pub record HaveRoom (fields : List Field) (space : ℕ) : Type 0 where
   pub list : List Bool
-  pub spelled : AreSpelledBy fields list
-  pub space_for : (others : List Bool) → AreSpelledBy fields others → length others ≤ space
+  pub joined : AreJoined TakesBits fields list
+  pub each : (others : List Bool) → AreJoined TakesBits fields others → length others ≤ space
+
+-- if the fields are spelled, and the new length fits, then an octet is added to n bits
+abbrev pub CanBeRefused : ℕ → List Field → Type 0
+CanBeRefused n fields = (list : List Bool) → AreSpelledBy fields list → n + length list < 2 ^ 64
+    → octets_for n < octets_for (n + length list)
 
 -- the spelling of the field was pushed
 pub record Pushes (field : Field) (old new : BitAppender) : Type 0 where

@@ -198,6 +198,20 @@ fn an_appender_fills_its_room_with_octets_and_bits(rt: HostRuntime) -> Result<()
 }
 
 #[test]
+fn a_buffer_keeps_a_front(rt: HostRuntime) -> Result<(), Fail> {
+    let mut buffer = BitBuffer::new(rt.alloc());
+    buffer.push_bits(0x1FFF, 13)?;
+    buffer.truncate(14);
+    assert_eq!(rt; buffer.as_bytes(), [0xFF, 0xF8].as_slice());
+    buffer.truncate(3);
+    assert_eq!(rt; buffer.len(), 3);
+    assert_eq!(rt; buffer.as_bytes(), [0xE0].as_slice());
+    buffer.push_bits(1, 6)?;
+    assert_eq!(rt; buffer.as_bytes(), [0xE0, 0x80].as_slice());
+    Ok(())
+}
+
+#[test]
 fn a_bit_string_keeps_a_front(rt: HostRuntime) -> Result<(), Fail> {
     let mut bits = BitString::from_vec([0xFF].to_vec(rt.alloc())?);
     bits.truncate(3);

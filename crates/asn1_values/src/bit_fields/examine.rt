@@ -33,11 +33,7 @@ pub(super) fn examine_all(reader: BitReader<'_>, shapes: &[Shape<'_>]) -> Result
 /// Goes past one field, if there is one of the shape.
 #[inline(always)]
 #[tactic(auto, unfolding(crate::specs::Walk::field_at, crate::specs::Walk::cut_at))]
-pub(super) fn examine(
-    reader: &mut BitReader<'_>,
-    shape: &Shape<'_>,
-    field: usize,
-) -> Result<(), ReadError>
+fn examine(reader: &mut BitReader<'_>, shape: &Shape<'_>, field: usize) -> Result<(), ReadError>
     ensures ok { OnOk result
         (past field (field_at (plain_shape shape.now) (bits_left reader.old)) ≡ Ok (bits_left reader.new)) }
     ensures err { IfErr result
@@ -93,7 +89,7 @@ pub(super) fn examine_integer(
 /// Goes past a counted integer, if its first octet is 1 to 127, and so many octets are the shortest of a number.
 #[inline(always)]
 #[tactic(auto, unfolding(crate::specs::Walk::field_at, crate::specs::Walk::counted_at))]
-fn examine_counted(reader: &mut BitReader<'_>, field: usize) -> Result<(), ReadError>
+pub(super) fn examine_counted(reader: &mut BitReader<'_>, field: usize) -> Result<(), ReadError>
     ensures ok { OnOk result
         (past field (field_at plain.OfCountedInteger (bits_left reader.old)) ≡ Ok (bits_left reader.new)) }
     ensures err { IfErr result
@@ -109,7 +105,7 @@ fn examine_counted(reader: &mut BitReader<'_>, field: usize) -> Result<(), ReadE
 /// Goes past an identifier, if the octets are its contents.
 #[inline(always)]
 #[tactic(auto, unfolding(crate::specs::Walk::field_at, crate::specs::Walk::cut_at))]
-fn examine_identifier(
+pub(super) fn examine_identifier(
     reader: &mut BitReader<'_>,
     octet_count: usize,
     field: usize,
@@ -181,17 +177,18 @@ pub(super) fn next_character(
 
 /// Takes the bits of one field.
 #[inline(always)]
-fn take_bits<'a>(
+pub(super) fn take_bits<'a>(
     reader: &mut BitReader<'a>,
     need: u128,
     field: usize,
 ) -> Result<BitReader<'a>, ReadError>
     ensures enough { OnOk result (need ≤ length (bits_left reader.old)) }
-    ensures front { IfOk result (λ front. bits_left front ≡ take need (bits_left reader.old)) }
+    ensures front { IfOk result (λ front. view_left front ≡ part (view_left reader.old) 0 need) }
+    ensures front_list { IfOk result (λ front. bits_left front ≡ take need (bits_left reader.old)) }
     ensures len { IfOk result (λ front. (view_left front).len ≡ need) }
-    ensures rest { OnOk result (bits_left reader.new ≡ drop need (bits_left reader.old)) }
-    ensures rest_view { OnOk result (view_left reader.new ≡ part (view_left reader.old) need
+    ensures rest { OnOk result (view_left reader.new ≡ part (view_left reader.old) need
         ((view_left reader.old).len - need)) }
+    ensures rest_list { OnOk result (bits_left reader.new ≡ drop need (bits_left reader.old)) }
     ensures short { IfErr result (λ e. (length (bits_left reader.old) < need)
         × (e ≡ ReadError.Short field (need - length (bits_left reader.old)))) }
 {

@@ -7,8 +7,6 @@ ghost use Rattle.asn1_bits.specs.Bits.{bits, number};
 ghost use Rattle.asn1_bits.specs.Octets.{octets_in, IsBorrowed};
 ghost use Rattle.asn1_bits.specs.View.{part};
 ghost use Rattle.asn1_number.specs.Octets.{signed};
-ghost use Rattle.asn1_strings.specs.Alphabet.{IsCode};
-ghost use Rattle.asn1_strings.specs.AlphabetView.{alphabet_of};
 ghost use Rattle.asn1_values.specs.Fields as plain;
 ghost use Rattle.asn1_values.specs.Fields.{Begins, IsOfShape, IsSpelledBy, AreSpelledBy, NoSpellingBeginsAnother, NoneBeginsAnother, needs, HaveOneSpelling, GiveOneSpelling};
 ghost use Rattle.asn1_values.specs.Plain.{plain_field, plain_fields, plain_shape, plain_shapes, LiesAt, LieFrom};
@@ -19,7 +17,10 @@ ghost use Rattle.asn1_values.specs.Walk.{field_at, fields_at, integer_at, octets
 ghost use Rattle.asn1_values.specs.Wrong.{CanBegin};
 
 use super::error::ReadError;
-use super::examine::{examine, examine_all, examine_integer, next_character, next_number};
+use super::examine::{
+    examine_all, examine_counted, examine_identifier, examine_integer, next_character, next_number,
+    take_bits,
+};
 use super::field::Field;
 use super::shape::Shape;
 use super::view_octets::ViewOctets;
@@ -161,8 +162,7 @@ fn collect<'a, 's>(
     Ok(fields)
 }
 
-/// Examines one field, and appends it if there is one of the shape. Numbers, characters and integers, of which there are
-/// most, are stored by themselves, not as any field.
+/// Examines one field, and appends it if there is one of the shape.
 #[inline(always)]
 fn append_next<'a, 's>(
     fields: &mut Vec<Field<'a, 's>>,
@@ -193,11 +193,125 @@ fn append_next<'a, 's>(
             let number = next_integer(alloc, reader, *octets, field)?;
             fields.push_reserved(Field::Integer(number));
         }
-        _ => {
-            let next = read_next(alloc, reader, shape, field)?;
-            fields.push_reserved(next);
-        }
+        Shape::Octets { count } => append_octets(fields, alloc, reader, *count, field)?,
+        Shape::Bits { length } => append_bits(fields, reader, *length, field)?,
+        Shape::CountedInteger => append_counted(fields, alloc, reader, field)?,
+        Shape::Oid { octets } => append_identifier(fields, alloc, reader, *octets, field)?,
     }
+    Ok(())
+}
+
+/// Appends octets, if so many are there.
+#[inline(always)]
+fn append_octets<'a>(
+    fields: &mut Vec<Field<'a, '_>>,
+    alloc: Global,
+    reader: &mut BitReader<'a>,
+    count: usize,
+    field: usize,
+) -> Result<(), ReadError>
+    requires { vec_len fields.old < vec_capacity fields.old }
+    ensures read { OnOk result
+        (Appends (plain.OfOctets count) reader.old reader.new fields.old.items fields.new.items) }
+    ensures len { OnOk result (vec_len fields.new ≡ vec_len fields.old + 1) }
+    ensures capacity { OnOk result (vec_capacity fields.new ≡ vec_capacity fields.old) }
+    ensures err { IfErr result (λ e. e ≢ ReadError.Memory
+        → past field (field_at (plain.OfOctets count) (bits_left reader.old)) ≡ Err e) }
+{
+    let octets = next_octets(alloc, reader, count, field)?;
+    fields.push_reserved(Field::Octets(octets));
+    Ok(())
+}
+
+/// Takes octets, if so many are there.
+#[inline(always)]
+#[tactic(auto, unfolding(crate::specs::Walk::field_at, crate::specs::Walk::cut_at))]
+fn next_octets<'a>(
+    alloc: Global,
+    reader: &mut BitReader<'a>,
+    count: usize,
+    field: usize,
+) -> Result<Octets<'a>, ReadError>
+    ensures enough { OnOk result (8 * count ≤ length (bits_left reader.old)) }
+    ensures bits { IfOk result (λ o. bits (octets_in o) ≡ take (8 * count) (bits_left reader.old)) }
+    ensures octets { IfOk result (λ o. All (λ octet. octet < 256) (octets_in o)) }
+    ensures place { IfOk result (λ o. IsBorrowed o ↔ ((view_left reader.old).first % 8 ≡ 0)) }
+    ensures rest { OnOk result (view_left reader.new ≡ part (view_left reader.old) (8 * count)
+        ((view_left reader.old).len - 8 * count)) }
+    ensures rest_list { OnOk result (bits_left reader.new ≡ drop (8 * count) (bits_left reader.old)) }
+    ensures err { IfErr result (λ e. e ≢ ReadError.Memory
+        → past field (field_at (plain.OfOctets count) (bits_left reader.old)) ≡ Err e) }
+{
+    let front = take_bits(reader, 8 * count as u128, field)?;
+    Ok(front.octets(alloc)?)
+}
+
+/// Appends a view of bits, if so many are there.
+#[inline(always)]
+#[tactic(auto, unfolding(crate::specs::Walk::field_at, crate::specs::Walk::cut_at))]
+fn append_bits<'a>(
+    fields: &mut Vec<Field<'a, '_>>,
+    reader: &mut BitReader<'a>,
+    length: usize,
+    field: usize,
+) -> Result<(), ReadError>
+    requires { vec_len fields.old < vec_capacity fields.old }
+    ensures read { OnOk result
+        (Appends (plain.OfBits length) reader.old reader.new fields.old.items fields.new.items) }
+    ensures len { OnOk result (vec_len fields.new ≡ vec_len fields.old + 1) }
+    ensures capacity { OnOk result (vec_capacity fields.new ≡ vec_capacity fields.old) }
+    ensures err { IfErr result (λ e. e ≢ ReadError.Memory
+        → past field (field_at (plain.OfBits length) (bits_left reader.old)) ≡ Err e) }
+{
+    let front = take_bits(reader, length as u128, field)?;
+    fields.push_reserved(Field::Bits(front.bits()));
+    Ok(())
+}
+
+/// Appends a counted integer, if there is one.
+#[inline(always)]
+#[tactic(auto, unfolding(crate::specs::Walk::field_at))]
+fn append_counted<'a>(
+    fields: &mut Vec<Field<'a, '_>>,
+    alloc: Global,
+    reader: &mut BitReader<'a>,
+    field: usize,
+) -> Result<(), ReadError>
+    requires { vec_len fields.old < vec_capacity fields.old }
+    ensures read { OnOk result
+        (Appends plain.OfCountedInteger reader.old reader.new fields.old.items fields.new.items) }
+    ensures len { OnOk result (vec_len fields.new ≡ vec_len fields.old + 1) }
+    ensures capacity { OnOk result (vec_capacity fields.new ≡ vec_capacity fields.old) }
+    ensures err { IfErr result (λ e. e ≢ ReadError.Memory
+        → past field (field_at plain.OfCountedInteger (bits_left reader.old)) ≡ Err e) }
+{
+    let mut seen = *reader;
+    examine_counted(&mut seen, field)?;
+    fields.push_reserved(read_counted(alloc, reader)?);
+    Ok(())
+}
+
+/// Appends an identifier, if the octets are its contents.
+#[inline(always)]
+#[tactic(auto, unfolding(crate::specs::Walk::field_at))]
+fn append_identifier<'a>(
+    fields: &mut Vec<Field<'a, '_>>,
+    alloc: Global,
+    reader: &mut BitReader<'a>,
+    octets: usize,
+    field: usize,
+) -> Result<(), ReadError>
+    requires { vec_len fields.old < vec_capacity fields.old }
+    ensures read { OnOk result
+        (Appends (plain.OfIdentifier octets) reader.old reader.new fields.old.items fields.new.items) }
+    ensures len { OnOk result (vec_len fields.new ≡ vec_len fields.old + 1) }
+    ensures capacity { OnOk result (vec_capacity fields.new ≡ vec_capacity fields.old) }
+    ensures err { IfErr result (λ e. e ≢ ReadError.Memory
+        → past field (field_at (plain.OfIdentifier octets) (bits_left reader.old)) ≡ Err e) }
+{
+    let mut seen = *reader;
+    examine_identifier(&mut seen, octets, field)?;
+    fields.push_reserved(read_identifier(alloc, reader, octets)?);
     Ok(())
 }
 
@@ -218,61 +332,6 @@ fn keep_character<'a, 's>(
         character,
         alphabet,
     });
-}
-
-/// Examines one field, and reads it if there is one of the shape.
-#[inline(always)]
-fn read_next<'a, 's>(
-    alloc: Global,
-    reader: &mut BitReader<'a>,
-    shape: &Shape<'s>,
-    field: usize,
-) -> Result<Field<'a, 's>, ReadError>
-    ensures read { IfOk result (λ x. field_at (plain_shape shape.now) (bits_left reader.old)
-        ≡ Ok (plain_field x, bits_left reader.new)) }
-    ensures place { IfOk result (LiesAt (view_left reader.old) (view_left reader.old).first) }
-    ensures rest { IfOk result (λ x. (list : List Bool) → IsSpelledBy (plain_field x) list
-        → view_left reader.new ≡ part (view_left reader.old) (length list)
-        ((view_left reader.old).len - length list)) }
-    ensures err { IfErr result (λ e. e ≢ ReadError.Memory
-        → past field (field_at (plain_shape shape.now) (bits_left reader.old)) ≡ Err e) }
-{
-    let mut seen = *reader;
-    examine(&mut seen, shape, field)?;
-    Ok(read_field(alloc, reader, shape)?)
-}
-
-/// Reads a field that is there.
-#[inline(always)]
-#[tactic(auto, unfolding(crate::specs::Walk::field_at, crate::specs::Walk::cut_at))]
-fn read_field<'a, 's>(
-    alloc: Global,
-    reader: &mut BitReader<'a>,
-    shape: &Shape<'s>,
-) -> Result<Field<'a, 's>, AllocError>
-    requires { IsOk (field_at (plain_shape shape.now) (bits_left reader.old)) }
-    ensures read { IfOk result (λ field. field_at (plain_shape shape.now) (bits_left reader.old)
-        ≡ Ok (plain_field field, bits_left reader.new)) }
-    ensures place { IfOk result (LiesAt (view_left reader.old) (view_left reader.old).first) }
-    ensures rest { IfOk result (λ field. (list : List Bool) → IsSpelledBy (plain_field field) list
-        → view_left reader.new ≡ part (view_left reader.old) (length list)
-        ((view_left reader.old).len - length list)) }
-{
-    match shape {
-        Shape::Number { width } => Ok(Field::Number {
-            value: take_number(reader, *width),
-            width: *width,
-        }),
-        Shape::Octets { count } => Ok(Field::Octets(read_octets(alloc, reader, *count)?)),
-        Shape::Bits { length } => Ok(Field::Bits(take_front(reader, *length).bits())),
-        Shape::Integer { octets } => Ok(Field::Integer(read_integer(alloc, reader, *octets)?)),
-        Shape::Character { alphabet } => Ok(Field::Character {
-            alphabet: *alphabet,
-            character: read_character(reader, alphabet),
-        }),
-        Shape::CountedInteger => Ok(read_counted(alloc, reader)?),
-        Shape::Oid { octets } => Ok(read_identifier(alloc, reader, *octets)?),
-    }
 }
 
 /// Takes so many bits that are there.
@@ -303,40 +362,6 @@ fn take_number(reader: &mut BitReader<'_>, width: usize) -> u128
     ensures rest_list { bits_left reader.new ≡ drop width (bits_left reader.old) }
 {
     take_front(reader, width).first_u128(width)
-}
-
-/// Reads so many octets that are there.
-#[inline(always)]
-fn read_octets<'a>(
-    alloc: Global,
-    reader: &mut BitReader<'a>,
-    count: usize,
-) -> Result<Octets<'a>, AllocError>
-    requires { 8 * count ≤ length (bits_left reader.old) }
-    ensures bits { IfOk result (λ o. bits (octets_in o) ≡ take (8 * count) (bits_left reader.old)) }
-    ensures octets { IfOk result (λ o. All (λ octet. octet < 256) (octets_in o)) }
-    ensures place { IfOk result (λ o. IsBorrowed o ↔ ((view_left reader.old).first % 8 ≡ 0)) }
-    ensures rest { OnOk result (view_left reader.new ≡ part (view_left reader.old) (8 * count)
-        ((view_left reader.old).len - 8 * count)) }
-    ensures rest_list { OnOk result (bits_left reader.new ≡ drop (8 * count) (bits_left reader.old)) }
-{
-    // A length fits `usize`, and so do the bits of octets that are there.
-    let _len = reader.len();
-    take_front(reader, 8 * count).octets(alloc)
-}
-
-/// Reads a character that is there.
-#[inline(always)]
-#[tactic(auto, unfolding(crate::specs::Walk::field_at, crate::specs::Walk::cut_at))]
-fn read_character(reader: &mut BitReader<'_>, alphabet: &CharacterAlphabet<'_>) -> u32
-    requires { IsOk (field_at (plain.OfCharacter (alphabet_of alphabet.now)) (bits_left reader.old)) }
-    ensures read { field_at (plain.OfCharacter (alphabet_of alphabet.now)) (bits_left reader.old)
-        ≡ Ok (plain.Character (alphabet_of alphabet.now) result, bits_left reader.new) }
-    ensures rest { let width = (alphabet_of alphabet.now).width in
-        view_left reader.new ≡ part (view_left reader.old) width ((view_left reader.old).len - width) }
-{
-    let code = take_number(reader, alphabet.width());
-    character_of(alphabet, code as u32)
 }
 
 /// Reads a counted integer that is there.
@@ -488,16 +513,4 @@ fn identifier_of(alloc: Global, reader: &BitReader<'_>) -> Result<ObjectIdentifi
         return Err(AllocError);
     };
     Ok(oid)
-}
-
-/// The character of a code that is one.
-#[inline(always)]
-fn character_of(alphabet: &CharacterAlphabet<'_>, code: u32) -> u32
-    requires { (c : ℕ) × IsCode (alphabet_of alphabet.now) c code }
-    ensures { IsCode (alphabet_of alphabet.now) result code }
-{
-    match alphabet.decode(code) {
-        Ok(character) => character,
-        Err(_) => unreachable!(),
-    }
 }

@@ -1,6 +1,6 @@
 //! Writing fields.
 
-ghost use Rattle.std.specs.Prelude.{◌≡◌, ◌≢◌, ℕ, Bool, List, Err, ◌+◌, ◌*◌, ◌/◌, ◌^◌, ◌<◌, ◌≤◌, ◌++◌, ◌-◌, min, length, OnOk, IfOk, IfErr, OnErr, IsOk, IsOkUnless};
+ghost use Rattle.std.specs.Prelude.{◌≡◌, ◌≢◌, ℕ, Bool, List, Err, ◌+◌, ◌*◌, ◌/◌, ◌^◌, ◌<◌, ◌≤◌, ◌++◌, ◌-◌, min, length, OnOk, IfOk, IfErr, OnErr, OnSome, IfSome, IfNone, IsOk, IsOkUnless};
 ghost use Rattle.std.specs.Int.{div_ceil};
 ghost use Rattle.asn1_bits.specs.Bits.{AddsNoOctet, bits};
 ghost use Rattle.asn1_bits.specs.Turns.{turns_for};
@@ -13,7 +13,7 @@ ghost use Rattle.asn1_values.specs.Fields as plain;
 ghost use Rattle.asn1_values.specs.Fields.{IsSpelledBy, AreSpelledBy, HaveOneSpelling};
 ghost use Rattle.asn1_values.specs.Plain.{plain_field, plain_fields};
 ghost use Rattle.asn1_values.specs.Refusals.{IsWriteRefusal};
-ghost use Rattle.asn1_values.specs.Steps.{NamesMisfit, NamesFirstMisfit, FitsIn, EndsAt, HasRoom, Pushes, PushesAll, TakesTurns, TakeTurns};
+ghost use Rattle.asn1_values.specs.Steps.{NamesMisfit, NamesFirstMisfit, TakesBits, HasLength, FitsIn, EndsAt, CanBeRefused, HasRoomFor, HaveRoom, Pushes, PushesAll, TakesTurns, TakeTurns};
 ghost use Rattle.asn1_values.specs.Wrong.{Fits};
 
 use super::error::WriteError;
@@ -23,8 +23,8 @@ use asn1_integer::Integer;
 use asn1_oid::{ObjectIdentifier, OidContents};
 use asn1_strings::CharacterAlphabet;
 
-/// Appends the fields' bits to the buffer, one after another, by one growth. The whole list is examined first; where it
-/// is refused, the buffer stays. Want of memory is the last refusal.
+/// Appends the fields' bits to the buffer, one after another, by one growth. Where a field doesn't fit, or memory is
+/// wanting, the buffer stays; want of memory is the last refusal.
 pub fn write_fields(buffer: &mut BitBuffer, fields: &[Field<'_, '_>]) -> Result<(), WriteError>
     // The old bits are followed by a concatenation of the fields' spellings.
     ensures written { OnOk result ((list : List Bool) × AreSpelledBy (plain_fields fields.now) list
@@ -84,21 +84,119 @@ pub fn write_fields_counted(
         → OnOk result (turns.new.count ≤ turns.old.count + length list / 64 + 8 * length fields.now) }
     ensures turns_unchanged { OnErr result (turns.new.count ≡ turns.old.count) }
 {
-    let len = buffer.len();
-    let end = new_len(len, fields)?;
-    if end > usize::MAX as u128 {
-        return Err(WriteError::TooLong);
+    match append_all(buffer, fields, turns) {
+        Some(()) => Ok(()),
+        None => Err(refusal_of(buffer.len(), fields)),
     }
-    let mut appender = buffer.appender(end as usize - len)?;
-    push_all(&mut appender, fields, turns);
-    Ok(())
+}
+
+/// Appends the fields' bits. None where a field doesn't fit, or the new length, or memory is wanting; then nothing has
+/// changed. Whether an alphabet has a character is found as its code is pushed, so that it is looked up once.
+#[inline(always)]
+fn append_all(buffer: &mut BitBuffer, fields: &[Field<'_, '_>], turns: &mut Turns) -> Option<()>
+    ensures written { OnSome result ((list : List Bool) × AreSpelledBy (plain_fields fields.now) list
+        × (buffer.new ≡ buffer.old ++ list)) }
+    ensures fits { OnSome result ((list : List Bool) → AreSpelledBy (plain_fields fields.now) list
+        → length buffer.old + length list < 2 ^ 64) }
+    ensures counted { OnSome result (TakeTurns (plain_fields fields.now) turns.old.count turns.new.count) }
+    ensures refused { IfNone result (CanBeRefused (length buffer.old) (plain_fields fields.now)) }
+    ensures unchanged { IfNone result (buffer.new ≡ buffer.old) }
+    ensures uncounted { IfNone result (turns.new.count ≡ turns.old.count) }
+{
+    let len = buffer.len();
+    let end = end_of(len, fields)?;
+    if end > usize::MAX as u128 {
+        return None;
+    }
+    push_or_back(buffer, end as usize - len, fields, turns)
+}
+
+/// Appends the fields' bits, for which so many are needed. None where a character is not in its alphabet, or memory is
+/// wanting; then nothing has changed.
+#[inline(always)]
+fn push_or_back(
+    buffer: &mut BitBuffer,
+    additional: usize,
+    fields: &[Field<'_, '_>],
+    turns: &mut Turns,
+) -> Option<()>
+    requires room { HaveRoom (plain_fields fields.now) additional }
+    requires all { (list : List Bool) → AreSpelledBy (plain_fields fields.now) list → length list ≡ additional }
+    requires fits { length buffer.old + additional < 2 ^ 64 }
+    ensures written { OnSome result ((list : List Bool) × AreSpelledBy (plain_fields fields.now) list
+        × (buffer.new ≡ buffer.old ++ list)) }
+    ensures counted { OnSome result (TakeTurns (plain_fields fields.now) turns.old.count turns.new.count) }
+    ensures refused { IfNone result (CanBeRefused (length buffer.old) (plain_fields fields.now)) }
+    ensures unchanged { IfNone result (buffer.new ≡ buffer.old) }
+    ensures uncounted { IfNone result (turns.new.count ≡ turns.old.count) }
+{
+    let len = buffer.len();
+    let mut taken = Turns::new();
+    let Ok(mut appender) = buffer.appender(additional) else {
+        return None;
+    };
+    match push_all(&mut appender, fields, &mut taken) {
+        Some(()) => {
+            turns.add(&taken);
+            Some(())
+        }
+        None => {
+            buffer.truncate(len);
+            None
+        }
+    }
+}
+
+/// The refusal that counts: the first misfit, else the new length, else want of memory.
+#[cold]
+#[inline(never)]
+fn refusal_of(len: usize, fields: &[Field<'_, '_>]) -> WriteError
+    requires { CanBeRefused len (plain_fields fields.now) }
+    ensures refusal { IsWriteRefusal len (plain_fields fields.now) result }
+    ensures named { (e : WriteError) → e ≢ WriteError.Memory
+        → IsWriteRefusal len (plain_fields fields.now) e → result ≡ e }
+    ensures too_long { (list : List Bool) → AreSpelledBy (plain_fields fields.now) list
+        → 2 ^ 64 ≤ len + length list → result ≡ WriteError.TooLong }
+    ensures memory { (list : List Bool) → AreSpelledBy (plain_fields fields.now) list
+        → len + length list < 2 ^ 64 → result ≡ WriteError.Memory }
+{
+    match new_len(len, fields) {
+        Err(misfit) => misfit,
+        Ok(end) if end > usize::MAX as u128 => WriteError::TooLong,
+        Ok(_) => WriteError::Memory,
+    }
+}
+
+/// The length that the fields lead to, characters of whatever code: None where a field of another kind doesn't fit.
+#[inline(always)]
+fn end_of(len: usize, fields: &[Field<'_, '_>]) -> Option<u128>
+    ensures some { IfSome result (EndsAt TakesBits len (plain_fields fields.now)) }
+    ensures none { IfNone result ((list : List Bool) → AreSpelledBy (plain_fields fields.now) list → ⊥) }
+{
+    let mut end = len as u128;
+    for field in fields {
+        end = sum_of(end, len_of(field)?);
+    }
+    Some(end)
+}
+
+/// How many bits a field takes: a character its alphabet's width, another field as many as spell it, if it fits.
+#[inline(always)]
+fn len_of(field: &Field<'_, '_>) -> Option<u128>
+    ensures some { IfSome result (HasLength TakesBits (plain_field field.now)) }
+    ensures none { IfNone result (Fits (plain_field field.now) → ⊥) }
+{
+    match field {
+        Field::Character { alphabet, .. } => Some(alphabet.width() as u128),
+        other => fitting_len(other, 0).ok(),
+    }
 }
 
 /// The length that the fields lead to, if they all fit. The sum stops growing at `u128::MAX`, and later fields are still
 /// examined.
 #[inline(always)]
 pub(super) fn new_len(len: usize, fields: &[Field<'_, '_>]) -> Result<u128, WriteError>
-    ensures ok { IfOk result (EndsAt len (plain_fields fields.now)) }
+    ensures ok { IfOk result (EndsAt IsSpelledBy len (plain_fields fields.now)) }
     ensures err { IfErr result (NamesFirstMisfit (plain_fields fields.now)) }
 {
     let mut end = len as u128;
@@ -227,41 +325,66 @@ fn fitting_contents(oid: &ObjectIdentifier, place: usize) -> Result<u128, WriteE
     }
 }
 
-/// Pushes fields that fit the room.
+/// Pushes fields whose bits fit the room, up to the first character that its alphabet lacks.
 #[inline(always)]
-fn push_all(appender: &mut BitAppender<'_>, fields: &[Field<'_, '_>], turns: &mut Turns)
-    requires { HasRoom (plain_fields fields.now) (room appender.old) }
+fn push_all(
+    appender: &mut BitAppender<'_>,
+    fields: &[Field<'_, '_>],
+    turns: &mut Turns,
+) -> Option<()>
+    requires { HaveRoom (plain_fields fields.now) (room appender.old) }
     ensures lender { lender_of appender.new ≡ lender_of appender.old }
-    ensures pushed { PushesAll (plain_fields fields.now) appender.old appender.new }
-    ensures counted { TakeTurns (plain_fields fields.now) turns.old.count turns.new.count }
+    ensures kept { (list : List Bool) × (bits_written appender.new ≡ bits_written appender.old ++ list) }
+    ensures pushed { OnSome result (PushesAll (plain_fields fields.now) appender.old appender.new) }
+    ensures counted { OnSome result (TakeTurns (plain_fields fields.now) turns.old.count turns.new.count) }
+    ensures lacking { IfNone result ((list : List Bool) → AreSpelledBy (plain_fields fields.now) list → ⊥) }
 {
     for field in fields {
-        push(appender, field, turns);
+        push(appender, field, turns)?;
     }
+    Some(())
 }
 
-/// Pushes a field that fits the room.
+/// Pushes a field whose bits fit the room; a character only if its alphabet has it.
 #[inline(always)]
-fn push(appender: &mut BitAppender<'_>, field: &Field<'_, '_>, turns: &mut Turns)
-    requires fits { Fits (plain_field field.now) }
-    requires space { (list : List Bool) → IsSpelledBy (plain_field field.now) list
-        → length list ≤ room appender.old }
+fn push(appender: &mut BitAppender<'_>, field: &Field<'_, '_>, turns: &mut Turns) -> Option<()>
+    requires { HasRoomFor (plain_field field.now) (room appender.old) }
     ensures lender { lender_of appender.new ≡ lender_of appender.old }
-    ensures pushed { Pushes (plain_field field.now) appender.old appender.new }
-    ensures counted { (list : List Bool) → IsSpelledBy (plain_field field.now) list
-        → TakesTurns (length list) turns.old.count turns.new.count }
+    ensures pushed { OnSome result (Pushes (plain_field field.now) appender.old appender.new) }
+    ensures counted { OnSome result ((list : List Bool) → IsSpelledBy (plain_field field.now) list
+        → TakesTurns (length list) turns.old.count turns.new.count) }
+    ensures kept { IfNone result (bits_written appender.new ≡ bits_written appender.old) }
+    ensures lacking { IfNone result (Fits (plain_field field.now) → ⊥) }
 {
     match field {
-        Field::Number { value, width } => appender.push_number(*value, *width, turns),
-        Field::Octets(octets) => appender.push_octets(octets.as_ref(), turns),
-        Field::Bits(bits) => push_view(appender, bits, turns),
-        Field::Integer(number) => push_shortest(appender, number, turns),
+        Field::Number { value, width } => {
+            appender.push_number(*value, *width, turns);
+            Some(())
+        }
+        Field::Octets(octets) => {
+            appender.push_octets(octets.as_ref(), turns);
+            Some(())
+        }
+        Field::Bits(bits) => {
+            push_view(appender, bits, turns);
+            Some(())
+        }
+        Field::Integer(number) => {
+            push_shortest(appender, number, turns);
+            Some(())
+        }
         Field::Character {
             character,
             alphabet,
         } => push_code(appender, alphabet, *character, turns),
-        Field::CountedInteger(number) => push_counted(appender, number, turns),
-        Field::Oid(oid) => push_identifier(appender, oid, turns),
+        Field::CountedInteger(number) => {
+            push_counted(appender, number, turns);
+            Some(())
+        }
+        Field::Oid(oid) => {
+            push_identifier(appender, oid, turns);
+            Some(())
+        }
     }
 }
 
@@ -278,36 +401,37 @@ fn push_view(appender: &mut BitAppender<'_>, bits: &BitStr<'_>, turns: &mut Turn
     appender.push_bitslice(*bits, turns);
 }
 
-/// Pushes a code of a character, which fits the room.
+/// Pushes a code of a character, if its alphabet has it. As many bits fit the room.
 #[inline(always)]
 fn push_code(
     appender: &mut BitAppender<'_>,
     alphabet: &CharacterAlphabet<'_>,
     character: u32,
     turns: &mut Turns,
-)
-    requires fits { Fits (plain.Character (alphabet_of alphabet.now) character) }
-    requires space { (list : List Bool)
-        → IsSpelledBy (plain.Character (alphabet_of alphabet.now) character) list
-        → length list ≤ room appender.old }
+) -> Option<()>
+    requires { (alphabet_of alphabet.now).width ≤ room appender.old }
     ensures lender { lender_of appender.new ≡ lender_of appender.old }
-    ensures pushed { Pushes (plain.Character (alphabet_of alphabet.now) character) appender.old appender.new }
-    ensures counted { (list : List Bool)
+    ensures pushed { OnSome result
+        (Pushes (plain.Character (alphabet_of alphabet.now) character) appender.old appender.new) }
+    ensures counted { OnSome result ((list : List Bool)
         → IsSpelledBy (plain.Character (alphabet_of alphabet.now) character) list
-        → TakesTurns (length list) turns.old.count turns.new.count }
+        → TakesTurns (length list) turns.old.count turns.new.count) }
+    ensures kept { IfNone result (bits_written appender.new ≡ bits_written appender.old) }
+    ensures lacking { IfNone result (Fits (plain.Character (alphabet_of alphabet.now) character) → ⊥) }
 {
     match alphabet.encode(character) {
-        Ok(code) => appender.push_number(u128::from(code), alphabet.width(), turns),
-        Err(_) => unreachable!(),
+        Ok(code) => {
+            appender.push_number(u128::from(code), alphabet.width(), turns);
+            Some(())
+        }
+        Err(_) => None,
     }
 }
 
 /// Pushes the contents of an identifier, which fit the room.
 #[inline(never)]
 fn push_identifier(appender: &mut BitAppender<'_>, oid: &ObjectIdentifier, turns: &mut Turns)
-    requires fits { Fits (plain.Identifier oid.now) }
-    requires space { (list : List Bool) → IsSpelledBy (plain.Identifier oid.now) list
-        → length list ≤ room appender.old }
+    requires { HasRoomFor (plain.Identifier oid.now) (room appender.old) }
     ensures lender { lender_of appender.new ≡ lender_of appender.old }
     ensures pushed { Pushes (plain.Identifier oid.now) appender.old appender.new }
     ensures counted { (list : List Bool) → IsSpelledBy (plain.Identifier oid.now) list
@@ -322,9 +446,7 @@ fn push_identifier(appender: &mut BitAppender<'_>, oid: &ObjectIdentifier, turns
 /// Pushes a counted integer that fits the room: the number of its octets, and these.
 #[inline(always)]
 fn push_counted(appender: &mut BitAppender<'_>, number: &Integer, turns: &mut Turns)
-    requires fits { Fits (plain.CountedInteger number.now) }
-    requires space { (list : List Bool) → IsSpelledBy (plain.CountedInteger number.now) list
-        → length list ≤ room appender.old }
+    requires { HasRoomFor (plain.CountedInteger number.now) (room appender.old) }
     ensures lender { lender_of appender.new ≡ lender_of appender.old }
     ensures pushed { Pushes (plain.CountedInteger number.now) appender.old appender.new }
     ensures counted { (list : List Bool) → IsSpelledBy (plain.CountedInteger number.now) list

@@ -111,6 +111,44 @@ fn no_character_is_in_an_empty_alphabet(rt: HostRuntime) -> Result<(), Fail> {
 }
 
 #[test]
+fn what_was_pushed_before_a_wrong_character_is_taken_back(rt: HostRuntime) -> Result<(), Fail> {
+    let alphabet = CharacterAlphabet::new::<NumericString>(None, false);
+    let fields = [
+        Field::Number {
+            value: 0xFFFF_FFFF,
+            width: 32,
+        },
+        Field::Character {
+            alphabet,
+            character: 0x37,
+        },
+        Field::Character {
+            alphabet,
+            character: 120,
+        },
+        Field::Number { value: 8, width: 3 },
+    ];
+    let mut buffer = BitBuffer::new(rt.alloc());
+    buffer.push_bits(5, 3)?;
+    // The first wrong field is named, not the one that the first pass finds.
+    let wanted = WriteError::Character {
+        field: 2,
+        character: 120,
+    };
+    assert_eq!(rt; write_fields(&mut buffer, &fields).err(), Some(wanted));
+    assert_eq!(rt; write_fields(&mut buffer, &fields[..3]).err(), Some(wanted));
+    assert_eq!(rt; buffer.len(), 3);
+    assert_eq!(rt; buffer.as_bytes(), [0xA0].as_slice());
+    write_fields(&mut buffer, &fields[..2])?;
+    assert_eq!(rt; buffer.len(), 39);
+    assert_eq!(rt;
+        buffer.as_bytes(),
+        [0xBF, 0xFF, 0xFF, 0xFF, 0xF0].as_slice()
+    );
+    Ok(())
+}
+
+#[test]
 fn long_alphabets_go_by_place(rt: HostRuntime) -> Result<(), Fail> {
     let mut rising = [0u32; 65];
     let mut falling = [0u32; 65];

@@ -13,10 +13,10 @@ returns-in-Ok-clause-ok c =
     let front = c.in_ok-front.ensures in
     let source =
     source_is (view_of b) (view_left c.in_ok-front.front) c.args.octet_count list c.bits.ensures front.len
-    front.front in
+    front.front_list in
     let some = c.in-Ok.ensures.ok.0 refl in
     ap (past c.args.field) (identifier_there c.args.octet_count list _ c.if-octet_count-eq0.false front.enough source
-    some.0 some.1 some.2) ∙ ap (λ (l : List Bool). Ok l) (sym front.rest)
+    some.0 some.1 some.2) ∙ ap (λ (l : List Bool). Ok l) (sym front.rest_list)
 
 pub returns-in-Err-Malformed-clause-err : goal.returns-in-Err-Malformed-clause-err
 returns-in-Err-Malformed-clause-err c =
@@ -25,7 +25,7 @@ returns-in-Err-Malformed-clause-err c =
     let front = c.in_ok-front.ensures in
     let source =
     source_is (view_of b) (view_left c.in_ok-front.front) c.args.octet_count list c.bits.ensures front.len
-    front.front in
+    front.front_list in
     let none =
     c.in-Err-Malformed.ensures.malformed.0 (ap (λ (e : ContentsError). Err e) c.in-Err-Malformed.field-0-is) in
     ap (past c.args.field) (identifier_none c.args.octet_count list _ c.if-octet_count-eq0.false front.enough source
@@ -38,7 +38,7 @@ returns-in-Err-ArcTooLarge-clause-err c =
     let front = c.in_ok-front.ensures in
     let source =
     source_is (view_of b) (view_left c.in_ok-front.front) c.args.octet_count list c.bits.ensures front.len
-    front.front in
+    front.front_list in
     let large =
     c.in-Err-ArcTooLarge.ensures.arc_too_large.0
     (ap (λ (e : ContentsError). Err e) c.in-Err-ArcTooLarge.field-0-is) in

@@ -14,4 +14,4 @@ returns-in-Err-clause-err c =
     (rw w at c.in_ok-front.ensures.enough)
     (rw w at (c.first_bits-code.ensures.number
     ∙ ap number (cut_twice c.width-width.result (bits_left c.args.reader.now) (bits_left c.in_ok-front.front)
-    c.in_ok-front.ensures.front))) c.in-Err.ensures.character.1)
+    c.in_ok-front.ensures.front_list))) c.in-Err.ensures.character.1)

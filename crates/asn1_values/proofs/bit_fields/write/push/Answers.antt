@@ -6,7 +6,8 @@ use Rattle.asn1_bits.specs.Octets.{octets_in}
 use Rattle.asn1_bits.specs.DigitLaws.{length-digits, length-bits}
 use Rattle.asn1_bits.specs.ViewLaws.{length-list_of}
 use Rattle.asn1_number.specs.LawsHold.{one_shortest_list}
-use Rattle.asn1_values.specs.Fields.{Number, Octets, Bits, Integer}
+use Rattle.asn1_strings.specs.AlphabetView.{alphabet_of}
+use Rattle.asn1_values.specs.Fields.{Number, Octets, Bits, Integer, Character}
 use Rattle.asn1_values.proofs.SpellingLemmas.{space_of, pushes, takes, number_fits, octets_fit, bits_fit, integer_fits}
 use Rattle.asn1_values.proofs.bit_fields.write.push.Goals as goal
 
@@ -16,18 +17,18 @@ pub push_number-requires-clause-room : goal.push_number-requires-clause-room
 push_number-requires-clause-room c =
     let n = c.in-Number.value in
     let w = c.in-Number.width in
-    let fits = rw c.in-Number.is at c.requires.fits in
+    let fits = (rw c.in-Number.is at c.requires).some in
     space_of (Number n w) (digits n w) w (room c.args.appender.now) (fits.1.0, fits.1.1, refl) (length-digits n w)
-    (rw c.in-Number.is at c.requires.space)
+    (rw c.in-Number.is at c.requires)
 
 pub push_number-requires-clause-below : goal.push_number-requires-clause-below
-push_number-requires-clause-below c = let fits = rw c.in-Number.is at c.requires.fits in fits.1.1
+push_number-requires-clause-below c = let fits = (rw c.in-Number.is at c.requires).some in fits.1.1
 
 pub returns-in-Number-clause-pushed : goal.returns-in-Number-clause-pushed
 returns-in-Number-clause-pushed c =
     let n = c.in-Number.value in
     let w = c.in-Number.width in
-    let fits = rw c.in-Number.is at c.requires.fits in
+    let fits = (rw c.in-Number.is at c.requires).some in
     rw c.in-Number.is
     (pushes (Number n w) (digits n w) w c.args.appender.now c.push_number.new.self (fits.1.0, fits.1.1, refl)
     (length-digits n w) c.push_number.ensures.written c.push_number.ensures.room)
@@ -36,7 +37,7 @@ pub returns-in-Number-clause-counted : goal.returns-in-Number-clause-counted
 returns-in-Number-clause-counted c =
     let n = c.in-Number.value in
     let w = c.in-Number.width in
-    let fits = rw c.in-Number.is at c.requires.fits in
+    let fits = (rw c.in-Number.is at c.requires).some in
     rw c.in-Number.is
     (takes (Number n w) w c.args.turns.now.count c.push_number.new.turns.count (number_fits n w fits.1.0 fits.1.1)
     c.push_number.ensures.at_least c.push_number.ensures.at_most)
@@ -48,7 +49,7 @@ push_octets-requires c =
     let o = octets_in c.in-Octets.octets in
     rw c.as_ref.ensures.list
     (space_of (Octets o) (bits o) (8 * length o) (room c.args.appender.now) (c.as_ref.ensures.octets, refl)
-    (length-bits o) (rw c.in-Octets.is at c.requires.space))
+    (length-bits o) (rw c.in-Octets.is at c.requires))
 
 pub returns-in-Octets-clause-pushed : goal.returns-in-Octets-clause-pushed
 returns-in-Octets-clause-pushed c =
@@ -74,7 +75,7 @@ pub push_view-requires : goal.push_view-requires
 push_view-requires c =
     let b = c.in-Bits.bits in
     space_of (Bits (bits_of b)) (bits_of b) (view_of b).len (room c.args.appender.now) refl
-    (length-list_of (view_of b) b.within) (rw c.in-Bits.is at c.requires.space)
+    (length-list_of (view_of b) b.within) (rw c.in-Bits.is at c.requires)
 
 pub returns-in-Bits-clause-pushed : goal.returns-in-Bits-clause-pushed
 returns-in-Bits-clause-pushed c =
@@ -97,7 +98,7 @@ returns-in-Bits-clause-counted c =
 pub push_shortest-requires : goal.push_shortest-requires
 push_shortest-requires c = λ octets s.
     space_of (Integer c.in-Integer.number) (bits octets) (8 * length octets) (room c.args.appender.now)
-    (octets, s, refl) (length-bits octets) (rw c.in-Integer.is at c.requires.space)
+    (octets, s, refl) (length-bits octets) (rw c.in-Integer.is at c.requires)
 
 pub returns-in-Integer-clause-pushed : goal.returns-in-Integer-clause-pushed
 returns-in-Integer-clause-pushed c =
@@ -119,13 +120,8 @@ returns-in-Integer-clause-counted c =
 
 -- ---- characters
 
-pub push_code-requires-clause-fits : goal.push_code-requires-clause-fits
-push_code-requires-clause-fits c = rw c.in-Character.is at c.requires.fits
-
-pub push_code-requires-clause-space : goal.push_code-requires-clause-space
-push_code-requires-clause-space c = rw c.in-Character.is at c.requires.space
-
--- ---- identifiers
-
-pub push_identifier-requires-clause-space : goal.push_identifier-requires-clause-space
-push_identifier-requires-clause-space c = rw c.in-Oid.is at c.requires.space
+pub push_code-requires : goal.push_code-requires
+push_code-requires c =
+    let a = alphabet_of c.in-Character.alphabet in
+    space_of (Character a c.in-Character.character) (digits 0 a.width) a.width (room c.args.appender.now)
+    (length-digits 0 a.width) (length-digits 0 a.width) (rw c.in-Character.is at c.requires)

@@ -7,19 +7,19 @@ use Rattle.asn1_values.proofs.bit_fields.write.push_counted.Goals as goal
 pub push_wide-requires-clause-room : goal.push_wide-requires-clause-room
 push_wide-requires-clause-room c =
     let one = one_shortest_list c.args.number.now in
-    let p = counted_space c.args.number.now one.0 (room c.args.appender.now) one.1 c.requires.fits c.requires.space in
+    let p = counted_space c.args.number.now one.0 (room c.args.appender.now) one.1 c.requires in
     omega (arith, p.1)
 
 pub push_shortest-requires : goal.push_shortest-requires
 push_shortest-requires c = λ octets s.
-    let p = counted_space c.args.number.now octets (room c.args.appender.now) s c.requires.fits c.requires.space in
+    let p = counted_space c.args.number.now octets (room c.args.appender.now) s c.requires in
     omega (arith, p.1, c.push_wide.ensures.room)
 
 pub returns-clause-pushed : goal.returns-clause-pushed
 returns-clause-pushed c =
     let n = c.args.number.now in
     let one = one_shortest_list n in
-    let p = counted_space n one.0 (room c.args.appender.now) one.1 c.requires.fits c.requires.space in
+    let p = counted_space n one.0 (room c.args.appender.now) one.1 c.requires in
     counted_pushes n one.0 c.args.appender.now c.push_wide.new.self c.push_shortest.new.appender one.1 p.0
     (rw (c.signed_len.ensures one.0 one.1) at c.push_wide.ensures.written) c.push_wide.ensures.room
     (c.push_shortest.ensures.written one.0 one.1) (c.push_shortest.ensures.room one.0 one.1)
@@ -28,7 +28,7 @@ pub returns-clause-counted : goal.returns-clause-counted
 returns-clause-counted c = λ list s.
     let n = c.args.number.now in
     let one = one_shortest_list n in
-    let p = counted_space n one.0 (room c.args.appender.now) one.1 c.requires.fits c.requires.space in
+    let p = counted_space n one.0 (room c.args.appender.now) one.1 c.requires in
     let len = (counted_fits n one.0 one.1 p.0).len list s in
     rw len
     (counted_turns (length one.0) c.args.turns.now.count c.push_wide.new.turns.count c.push_shortest.new.turns.count

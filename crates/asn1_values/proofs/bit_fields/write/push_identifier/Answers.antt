@@ -11,16 +11,16 @@ pub push_each-requires : goal.push_each-requires
 push_each-requires c =
     let arcs = c.args.oid.now in
     let o = c.in-Some.octets in
-    let fits = c.requires.fits in
+    let fits = c.requires.some in
     let contents = rw c.as_oid.ensures at c.in-Some.ensures in
     space_of (Identifier arcs) (bits o) (8 * length o) (room c.args.appender.now) (o, contents, fits.1.2, refl)
-    (length-bits o) c.requires.space
+    (length-bits o) c.requires
 
 pub returns-clause-pushed : goal.returns-clause-pushed
 returns-clause-pushed c =
     let arcs = c.args.oid.now in
     let o = c.in-Some.octets in
-    let fits = c.requires.fits in
+    let fits = c.requires.some in
     let contents = rw c.as_oid.ensures at c.in-Some.ensures in
     pushes (Identifier arcs) (bits o) (8 * length o) c.args.appender.now c.push_each.new.appender
     (o, contents, fits.1.2, refl) (length-bits o) c.push_each.ensures.written c.push_each.ensures.room
@@ -29,7 +29,7 @@ pub returns-clause-counted : goal.returns-clause-counted
 returns-clause-counted c =
     let arcs = c.args.oid.now in
     let o = c.in-Some.octets in
-    let fits = c.requires.fits in
+    let fits = c.requires.some in
     let contents = rw c.as_oid.ensures at c.in-Some.ensures in
     let len = (identifier_fits arcs o contents fits.1.2).len in
     λ list s. subst (λ (n : ℕ). TakesTurns n c.args.turns.now.count c.push_each.new.turns.count)

@@ -31,7 +31,7 @@ returns-then-end-clause-named c = λ e is.
     let ends = c.in_ok-end.ensures.ok in
     let past =
     only_past (8 * length c.args.octets.now) c.args.position (plain_fields c.args.fields.now) ends.list e
-    ends.spelled is in
+    ends.joined is in
     ap (λ (x : WriteError). Err x) (sym past.3)
 
 pub returns-clause-one : goal.returns-clause-one
@@ -45,7 +45,7 @@ returns-clause-named c = λ e is.
     let ends = c.in_ok-end.ensures.ok in
     let past =
     only_past (8 * length c.args.octets.now) c.args.position (plain_fields c.args.fields.now) ends.list e
-    ends.spelled is in
+    ends.joined is in
     let end : c.args.position + length past.0 ≡ ends.end = ends.each past.0 past.1 in
     let capped = ends.capped in
     elim past.2 [ inl lt ↦ absurd (omega arith) | inr le ↦ absurd (omega arith) ]

@@ -4,7 +4,7 @@ use Rattle.asn1_bits.specs.Bits.{bits, ored}
 use Rattle.asn1_bits.specs.BitStr.{bits_of}
 use Rattle.asn1_bits.specs.DigitLaws.{length-bits}
 use Rattle.asn1_bits.proofs.RunLemmas.{words-placed}
-use Rattle.asn1_bits.proofs.kernels.write_spilling.Goals as goal
+use Rattle.asn1_bits.proofs.kernels.write_words.Goals as goal
 
 pub returns-clause-bits : goal.returns-clause-bits
 returns-clause-bits c =
@@ -15,13 +15,13 @@ returns-clause-bits c =
     let src = bits_of c.args.src in
     let old = bits c.args.dst.now in
     let all = c.len-len.ensures in
-    words-placed old (bits c.or_word.new.dst) (bits c.or_words.new.dst) (bits c.or_edge.new.dst) src place count spill
+    words-placed old (bits c.or_word.new.dst) (bits c.or_words-2.new.dst) (bits c.or_edge.new.dst) src place count spill
     (8 * (place / 8 + 8)) (place + len - spill)
     (omega (arith, c.requires.some, all.len)) (omega arith) (omega (arith, all.list))
     (omega (arith, length-bits c.args.dst.now, all.len, c.requires.room))
-    (c.or_word.ensures ∙ ap (ored old place) c.word.ensures) c.or_words.ensures.bits (omega arith)
+    (c.or_word.ensures ∙ ap (ored old place) c.word.ensures) c.or_words-2.ensures.bits (omega arith)
     (c.or_edge.ensures
-    ∙ ap (λ (k : ℕ). ored (bits c.or_words.new.dst) (place + len - spill) (take spill (drop (k - spill) src)))
+    ∙ ap (λ (k : ℕ). ored (bits c.or_words-2.new.dst) (place + len - spill) (take spill (drop (k - spill) src)))
     (omega (arith, c.requires.whole, all.len)))
     (omega (arith, c.requires.some, c.requires.whole, all.len))
     ∙ ap (ored old place) (take_all (64 * count) src (omega (arith, all.list, all.len, c.requires.whole)))
