@@ -1,6 +1,7 @@
 -- The octets of a buffer, through its changes.
-use Rattle.std.proofs.Common.{◌≡◌, ℕ, zero, suc, ◌+◌, ◌-◌, ◌*◌, ◌%◌, ◌<◌, ◌≤◌, Bool, true, false, List, [], ◌∷◌, ◌++◌, length, get_or, set, take, drop, replicate, refl, sym, ap, ◌∙◌, append_assoc, arith}
-use Rattle.std.proofs.lemmas.List.{length-append, length-take, length-set, length-replicate, take_all, drop_all, drop_at, take_at, take-take, take-append-le, drop_more, set_at, set-append_left, replicate_more, replicate-append-replicate}
+use Rattle.std.proofs.Common.{◌≡◌, ℕ, zero, suc, ◌+◌, ◌-◌, ◌*◌, ◌/◌, ◌%◌, ◌<◌, ◌≤◌, Bool, true, false, List, [], ◌∷◌, ◌++◌, length, get_or, set, take, drop, replicate, refl, sym, ap, ◌∙◌, append_assoc, arith}
+use Rattle.std.proofs.Math.Seq.{take-add}
+use Rattle.std.proofs.lemmas.List.{length-append, length-take, length-set, length-replicate, take_all, drop_all, drop_at, take_at, take-take, take-append-le, take-replicate, drop_more, set_at, set-append_left, replicate_more, replicate-append-replicate}
 use Rattle.asn1_bits.specs.Bits.{digits, bits, octets_for, ored, padded, IsZeroFrom}
 use Rattle.asn1_bits.specs.BitBuffer.{bits_shown, IsFilled}
 use Rattle.asn1_bits.specs.DigitLaws.{length-bits, bits-append, bits-take}
@@ -36,7 +37,7 @@ len_fits octets len f = omega (arith, f.count)
 
 -- octets whose bits are a list and then zeros
 pub filled_by : (octets : List ℕ) (len : ℕ) (list : List Bool) (z : ℕ) → bits octets ≡ list ++ replicate z false
-    → length list ≡ len → length octets ≡ octets_for len
+    → length list ≡ len → octets_for len ≤ length octets
     → IsFilled octets len × (bits_shown octets len ≡ list)
 unfolding bits_shown
 filled_by octets len list z e l n =
@@ -52,30 +53,68 @@ filled_by octets len list z e l n =
 
 -- the octets' bits are those that they show, and zeros
 pub spelled : (octets : List ℕ) (len : ℕ) → IsFilled octets len
-    → bits octets ≡ bits_shown octets len ++ replicate (8 * octets_for len - len) false
+    → bits octets ≡ bits_shown octets len ++ replicate (8 * length octets - len) false
 unfolding bits_shown
 spelled octets len f =
-    let n : length (bits octets) - len ≡ 8 * octets_for len - len = omega (arith, length-bits octets, f.count) in
+    let n : length (bits octets) - len ≡ 8 * length octets - len = omega (arith, length-bits octets) in
     zeros_behind len (bits octets) f.rest ∙ ap (λ (k : ℕ). take len (bits octets) ++ replicate k false) n
 
 -- no octets are filled by no bits
 pub filled-none : IsFilled [] 0 × (bits_shown [] 0 ≡ [])
 unfolding bits
-filled-none = filled_by [] 0 [] 0 refl refl refl
+filled-none = filled_by [] 0 [] 0 refl refl (omega arith)
 
--- the octets are the bits that are shown, and zeros to the octet's end
-pub padded-bits_shown : (octets : List ℕ) (len : ℕ) → IsFilled octets len → bits octets ≡ padded (bits_shown octets len)
+-- a list and the first of the zeros behind it
+pub take-zeros : (list : List Bool) (n k z : ℕ) → length list ≡ n → k ≤ z
+    → take (n + k) (list ++ replicate z false) ≡ list ++ replicate k false
+take-zeros list n k z e h =
+    let zeros = replicate z false in
+    take-add n k (list ++ zeros)
+    ∙ ap (λ (l : List Bool). l ++ take k (drop n (list ++ zeros))) (take_at list zeros n e)
+    ∙ ap (λ (l : List Bool). list ++ take k l) (drop_at list zeros n e)
+    ∙ ap (λ (l : List Bool). list ++ l) (take-replicate k z false h)
+
+-- the octets that the list fills are the bits that are shown, and zeros to the octet's end
+pub padded-bits_shown : (octets : List ℕ) (len : ℕ) → IsFilled octets len
+    → bits (take (octets_for len) octets) ≡ padded (bits_shown octets len)
 padded-bits_shown octets len f =
-    (spelled octets len f) ∙ ap (λ (n : ℕ). bits_shown octets len ++ replicate (8 * octets_for n - n) false)
-    (sym (length-bits_shown octets len f))
+    let shown = bits_shown octets len in
+    let n = length-bits_shown octets len f in
+    let z = 8 * octets_for len - len in
+    let sum : 8 * octets_for len ≡ len + z = omega arith in
+    bits-take (octets_for len) octets
+    ∙ ap (λ (l : List Bool). take (8 * octets_for len) l) (spelled octets len f)
+    ∙ ap (λ (k : ℕ). take k (shown ++ replicate (8 * length octets - len) false)) sum
+    ∙ take-zeros shown len z (8 * length octets - len) n (omega (arith, f.count))
+    ∙ ap (λ (k : ℕ). shown ++ replicate (8 * octets_for k - k) false) (sym n)
+
+-- they are as many as the list fills
+pub length-filled : (octets : List ℕ) (len : ℕ) → IsFilled octets len
+    → length (take (octets_for len) octets) ≡ octets_for (length (bits_shown octets len))
+length-filled octets len f =
+    length-take (octets_for len) octets
+    ∙ (let n : octets_for len ≡ octets_for (length (bits_shown octets len)) =
+    ap octets_for (sym (length-bits_shown octets len f)) in omega (arith, f.count, n))
+
+-- and they show the same
+pub filled-front : (octets : List ℕ) (len : ℕ) → IsFilled octets len
+    → IsFilled (take (octets_for len) octets) len
+    × (bits_shown (take (octets_for len) octets) len ≡ bits_shown octets len)
+filled-front octets len f =
+    let n = length-bits_shown octets len f in
+    let size = ap (λ (k : ℕ). 8 * octets_for k - k) n in
+    filled_by (take (octets_for len) octets) len (bits_shown octets len) (8 * octets_for len - len)
+    (padded-bits_shown octets len f ∙ ap (λ (k : ℕ). bits_shown octets len ++ replicate k false) size)
+    n
+    (omega (arith, length-take (octets_for len) octets, f.count))
 
 -- octets of zeros behind them show that many zeros more
-pub filled-grow : (octets : List ℕ) (len d k : ℕ) → IsFilled octets len → length octets + k ≡ octets_for (len + d)
+pub filled-grow : (octets : List ℕ) (len d k : ℕ) → IsFilled octets len → octets_for (len + d) ≤ length octets + k
     → IsFilled (octets ++ replicate k 0) (len + d)
     × (bits_shown (octets ++ replicate k 0) (len + d) ≡ bits_shown octets len ++ replicate d false)
 filled-grow octets len d k f e =
-    let z = 8 * octets_for len - len in
-    let z' = 8 * octets_for (len + d) - (len + d) in
+    let z = 8 * length octets - len in
+    let z' = 8 * (length octets + k) - (len + d) in
     let shape : bits (octets ++ replicate k 0) ≡ (bits_shown octets len ++ replicate d false) ++ replicate z' false =
     bits-append octets (replicate k 0)
     ∙ ap (λ (l : List Bool). l ++ bits (replicate k 0)) (spelled octets len f)
@@ -100,13 +139,13 @@ pub filled-set : (octets after : List ℕ) (len i : ℕ) (bit : Bool) → IsFill
     → bits after ≡ set (bits octets) i bit → length after ≡ length octets → i < len
     → IsFilled after len × (bits_shown after len ≡ set (bits_shown octets len) i bit)
 filled-set octets after len i bit f e n h =
-    let z = 8 * octets_for len - len in
+    let z = 8 * length octets - len in
     filled_by after len (set (bits_shown octets len) i bit) z
     (e ∙ ap (λ (l : List Bool). set l i bit) (spelled octets len f)
     ∙ set-append_left (bits_shown octets len) (replicate z false) i bit
     (omega (arith, length-bits_shown octets len f)))
     (length-set (bits_shown octets len) i bit ∙ length-bits_shown octets len f)
-    (n ∙ f.count)
+    (omega (arith, n, f.count))
 
 -- bits that are ORed into the octets are ORed into those that are shown
 pub filled-ored : (octets after : List ℕ) (len place : ℕ) (src : List Bool) → IsFilled octets len
@@ -114,20 +153,20 @@ pub filled-ored : (octets after : List ℕ) (len place : ℕ) (src : List Bool) 
     → place + length src ≤ len
     → IsFilled after len × (bits_shown after len ≡ ored (bits_shown octets len) place src)
 filled-ored octets after len place src f e n h =
-    let z = 8 * octets_for len - len in
+    let z = 8 * length octets - len in
     filled_by after len (ored (bits_shown octets len) place src) z
     (e ∙ ap (λ (l : List Bool). ored l place src) (spelled octets len f)
     ∙ ored-append_left (bits_shown octets len) (replicate z false) place src
     (omega (arith, length-bits_shown octets len f)))
     (length-ored (bits_shown octets len) place src ∙ length-bits_shown octets len f)
-    (n ∙ f.count)
+    (omega (arith, n, f.count))
 
 -- octets that were filled up with zeros to hold d bits more
-pub filled-grow_to : (octets after : List ℕ) (len d needed : ℕ) → IsFilled octets len → needed ≡ octets_for (len + d)
-    → after ≡ octets ++ replicate (needed - length octets) 0
+pub filled-grow_to : (octets after : List ℕ) (len d count : ℕ) → IsFilled octets len
+    → octets_for (len + d) ≤ length octets + (count - length octets)
+    → after ≡ octets ++ replicate (count - length octets) 0
     → IsFilled after (len + d) × (bits_shown after (len + d) ≡ bits_shown octets len ++ replicate d false)
-filled-grow_to octets after len d needed f n e =
-    rw e (filled-grow octets len d (needed - length octets) f (omega (arith, f.count)))
+filled-grow_to octets after len d count f n e = rw e (filled-grow octets len d (count - length octets) f n)
 
 -- one zero more becomes a one
 pub set-zeros : (list : List Bool) (place i n : ℕ) → length list ≡ place → place ≤ i → i < n
@@ -177,12 +216,12 @@ filled-cut octets cut after old len f h c e n =
     ∙ ap (take len) (bits-take (octets_for len) octets)
     ∙ take-take len (8 * octets_for len) (bits octets) (omega arith)
     ∙ ap (take len) (spelled octets old f)
-    ∙ take-append-le len (bits_shown octets old) (replicate (8 * octets_for old - old) false)
+    ∙ take-append-le len (bits_shown octets old) (replicate (8 * length octets - old) false)
     (omega (arith, length-bits_shown octets old f)) in
     filled_by after len (take len (bits_shown octets old)) (8 * length cut - len)
     (e ∙ ap (λ (l : List Bool). l ++ replicate (8 * length cut - len) false) front)
     (omega (arith, length-take len (bits_shown octets old), length-bits_shown octets old f))
-    (n ∙ count)
+    (omega (arith, n, count))
 
 -- octets that were lengthened with zeros, into which a list was ORed
 pub bits-lengthened : (octets grown front room dst : List ℕ) (list : List Bool) (n needed count : ℕ)
@@ -207,7 +246,7 @@ pub zeros-shown : (octets : List ℕ) (len place : ℕ) (list : List Bool) → I
     → bits_shown octets len ≡ list → IsZeroFrom place list
     → IsZeroFrom place (bits octets)
 zeros-shown octets len place list f e z =
-    let rest = 8 * octets_for len - len in
+    let rest = 8 * length octets - len in
     let front = take place list in
     let shape : bits octets ≡ list ++ replicate rest false = spelled octets len f
     ∙ ap (λ (l : List Bool). l ++ replicate rest false) e in
@@ -224,18 +263,37 @@ zeros-shown octets len place list f e z =
     (replicate-append-replicate (length list - place) rest false ∙ ap (λ (k : ℕ). replicate k false) n)
     ∙ ap (λ (l : List Bool). l ++ replicate (length (bits octets) - place) false) (sym same))
 
+-- the octets of whole octets of bits
+pub whole-front : (octets front : List ℕ) (len : ℕ) → IsFilled octets len → len % 8 ≡ 0 → front ≡ take (len / 8) octets
+    → IsFilled front len × (bits_shown front len ≡ bits_shown octets len) × (length front * 8 ≡ len)
+whole-front octets front len f whole e =
+    let n : len / 8 ≡ octets_for len = omega (arith, whole) in
+    let same : front ≡ take (octets_for len) octets = e ∙ ap (λ (k : ℕ). take k octets) n in
+    let g = filled-front octets len f in
+    (
+      rw same g.0,
+      rw same g.1,
+      omega (
+        arith,
+        ap (λ (l : List ℕ). length l) same,
+        length-take (octets_for len) octets,
+        f.count,
+        whole,
+      ),
+    )
+
 -- octets behind whole octets
-pub whole-filled : (items src : List ℕ) (len : ℕ) → IsFilled items len → len % 8 ≡ 0
+pub whole-filled : (items src : List ℕ) (len : ℕ) → length items * 8 ≡ len
     → IsFilled (items ++ src) (len + 8 * length src)
     × (bits_shown (items ++ src) (len + 8 * length src) ≡ bits_shown items len ++ bits src)
 unfolding bits_shown
-whole-filled items src len f whole =
+whole-filled items src len whole =
     let end = len + 8 * length src in
     let all = bits (items ++ src) in
-    let n : end ≡ length all = omega (arith, f.count, length-bits (items ++ src), length-append items src) in
+    let n : end ≡ length all = omega (arith, length-bits (items ++ src), length-append items src) in
     let none : 0 ≡ length all - end = omega (arith, n) in (
       record {
-        count = omega (arith, f.count, length-append items src);
+        count = omega (arith, length-append items src);
         rest =
             record {
               within = omega (arith, n);
@@ -245,5 +303,5 @@ whole-filled items src len f whole =
       },
       take_all end all (omega (arith, n)) ∙ bits-append items src
           ∙ ap (λ (l : List Bool). l ++ bits src)
-          (sym (take_all len (bits items) (omega (arith, f.count, length-bits items)))),
+          (sym (take_all len (bits items) (omega (arith, length-bits items)))),
     )

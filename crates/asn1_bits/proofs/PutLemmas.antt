@@ -5,16 +5,15 @@ use Rattle.std.specs.Int.{bytes_high_first}
 use Rattle.std.proofs.Math.Seq.{take-add}
 use Rattle.std.proofs.lemmas.Bool.{cases_lt}
 use Rattle.std.proofs.lemmas.Nat.{and_mask}
-use Rattle.std.proofs.lemmas.List.{length-append, length-take, length-drop, length-replicate, take_more, take_all, take_at, drop_at, replicate-append-replicate, drop_more, drop-drop, drop-replicate, take-replicate, set_at, ext_get_or, get_or-take, get_or-drop, get_or_append_left, get_or-append_right}
-use Rattle.asn1_bits.specs.Bits.{is_odd, digits, bits, octets_for, ored, IsZeroFrom}
-use Rattle.asn1_bits.specs.DigitLaws.{length-digits, length-bits, get_or-digits, bits-append, bits-take}
+use Rattle.std.proofs.lemmas.List.{length-append, length-take, length-drop, take_more, take_all, take_at, drop_at, drop_more, drop-drop, drop-replicate, take-replicate, set_at, ext_get_or, get_or-take, get_or-drop, get_or_append_left, get_or-append_right}
+use Rattle.asn1_bits.specs.Bits.{is_odd, digits, bits, ored, IsZeroFrom}
+use Rattle.asn1_bits.specs.DigitLaws.{length-digits, length-bits, get_or-digits}
 use Rattle.asn1_bits.specs.ByteLaws.{digits-mod, bits-bytes}
 use Rattle.asn1_bits.specs.NumberLaws.{digits-append}
 use Rattle.asn1_bits.proofs.OredLemmas.{length-ored, get_or-ored_inside, get_or-ored_outside, ored-append}
 use Rattle.asn1_bits.proofs.RoomLemmas.{room-step, ored-room}
 use Rattle.asn1_bits.specs.BitBuffer.{bits_shown, IsFilled}
-use Rattle.asn1_bits.proofs.BufferLemmas.{length-bits_shown, spelled, bits-zeros, filled_by}
-use Rattle.asn1_bits.proofs.ZeroLemmas.{zero_from}
+use Rattle.asn1_bits.proofs.BufferLemmas.{length-bits_shown, filled_by}
 use Rattle.asn1_bits.proofs.EightLemmas.{eight-stored}
 use Rattle.asn1_bits.proofs.WindowLemmas.{is_odd-or, shifted-digits, bits-octet, moved, or-near, low-part}
 
@@ -212,57 +211,22 @@ digits-lowest n width h =
     ∙ ap (drop spare) (digits-mod n 64)
     ∙ ap (λ (k : ℕ). drop spare (digits n k)) s ∙ low-part n spare width
 
--- the zeros behind what a buffer shows, and behind its octets
-pub zeros-grown : (octets grown : List ℕ) (len k : ℕ) → IsFilled octets len → grown ≡ octets ++ replicate k 0
-    → IsZeroFrom len (bits grown) × (take len (bits grown) ≡ bits_shown octets len)
-    × (length (bits grown) ≡ 8 * length octets + 8 * k)
-zeros-grown octets grown len k f g =
+-- a buffer's octets after bits were ORed into the zeros behind what it shows
+pub filled-pushed : (octets after : List ℕ) (len width : ℕ) (src : List Bool) → IsFilled octets len
+    → bits after ≡ ored (bits octets) len src → length src ≡ width → len + width ≤ 8 * length octets
+    → IsFilled after (len + width) × (bits_shown after (len + width) ≡ bits_shown octets len ++ src)
+unfolding bits_shown
+filled-pushed octets after len width src f e n room =
+    let all = bits octets in
     let shown = bits_shown octets len in
-    let z = 8 * octets_for len - len in
-    let n = length-bits_shown octets len f in
-    let shape : bits grown ≡ shown ++ replicate (z + 8 * k) false =
-    ap bits g ∙ bits-append octets (replicate k 0)
-    ∙ ap (λ (l : List Bool). l ++ bits (replicate k 0)) (spelled octets len f)
-    ∙ append_assoc shown (replicate z false) (bits (replicate k 0))
-    ∙ ap (λ (l : List Bool). shown ++ l)
-    (ap (λ (l : List Bool). replicate z false ++ l) (bits-zeros k) ∙ replicate-append-replicate z (8 * k) false) in
-    let front : take len (bits grown) ≡ shown = ap (take len) shape
-    ∙ take_at shown (replicate (z + 8 * k) false) len n in
-    let total : length (bits grown) ≡ len + (z + 8 * k) = ap (λ (l : List Bool). length l) shape
-    ∙ omega (arith, length-append shown (replicate (z + 8 * k) false), length-replicate (z + 8 * k) false, n) in
-    let rest : z + 8 * k ≡ length (bits grown) - len = omega (arith, total) in (
-      zero_from len (bits grown) (omega (arith, total))
-          (shape ∙ ap (λ (j : ℕ). shown ++ replicate j false) rest
-          ∙ ap (λ (l : List Bool). l ++ replicate (length (bits grown) - len) false) (sym front)),
-      front,
-      omega (arith, total, f.count),
-    )
-
--- a buffer's octets after zeros were appended, bits were ORed in and the octets that are not needed were dropped
-pub filled-pushed : (octets grown after cut : List ℕ) (len k width needed : ℕ) (src : List Bool) → IsFilled octets len
-    → grown ≡ octets ++ replicate k 0
-    → bits after ≡ ored (bits grown) len src → length src ≡ width → needed ≡ octets_for (len + width)
-    → needed ≤ length octets + k → cut ≡ take needed after
-    → IsFilled cut (len + width) × (bits_shown cut (len + width) ≡ bits_shown octets len ++ src)
-filled-pushed octets grown after cut len k width needed src f g e n is room c =
-    let shown = bits_shown octets len in
-    let z = zeros-grown octets grown len k f g in
-    let all = bits grown in
-    let rest = length all - (len + length src) in
-    let spare = 8 * needed - (len + width) in
-    let front = shown ++ src in
-    let past = replicate rest false in
-    let whole : bits after ≡ front ++ past =
-    e ∙ ored-room all src len z.0 (omega (arith, z.2, n, is, room)) ∙ ap (λ (l : List Bool). (l ++ src) ++ past) z.1 in
-    let m : length front ≡ len + width = omega (arith, length-append shown src, length-bits_shown octets len f, n) in
-    let sum : 8 * needed ≡ (len + width) + spare = omega (arith, is) in
-    let total : length after ≡ length octets + k =
-    omega (arith, length-bits after, ap (λ (l : List Bool). length l) e, length-ored all len src, z.2) in
-    let shape : bits cut ≡ front ++ replicate spare false =
-    ap bits c ∙ bits-take needed after ∙ ap (λ (l : List Bool). take (8 * needed) l) whole
-    ∙ ap (λ (j : ℕ). take j (front ++ past)) sum ∙ take-add (len + width) spare (front ++ past)
-    ∙ ap (λ (l : List Bool). l ++ take spare (drop (len + width) (front ++ past))) (take_at front past (len + width) m)
-    ∙ ap (λ (l : List Bool). front ++ take spare l) (drop_at front past (len + width) m)
-    ∙ ap (λ (l : List Bool). front ++ l) (take-replicate spare rest false (omega (arith, z.2, n, room))) in
-    filled_by cut (len + width) front spare shape m
-    (ap (λ (l : List ℕ). length l) c ∙ length-take needed after ∙ omega (arith, total, room, is))
+    filled_by after (len + width) (shown ++ src) (length all - (len + length src))
+    (e ∙ ored-room all src len f.rest (omega (arith, length-bits octets, n, room)))
+    (omega (arith, length-append shown src, length-bits_shown octets len f, n))
+    (omega (
+      arith,
+      length-bits after,
+      length-bits octets,
+      ap (λ (l : List Bool). length l) e,
+      length-ored all len src,
+      room,
+    ))

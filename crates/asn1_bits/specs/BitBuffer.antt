@@ -1,12 +1,12 @@
 -- The octets of a buffer.
-use Rattle.std.specs.Prelude.{◌≡◌, ℕ, Bool, List, take, length}
+use Rattle.std.specs.Prelude.{◌≤◌, ℕ, Bool, List, take, length}
 use Rattle.asn1_bits.specs.Bits.{bits, octets_for, IsZeroFrom}
 
 -- the first len bits of the octets
 unfoldable pub bits_shown : List ℕ → ℕ → List Bool
 bits_shown octets len = take len (bits octets)
 
--- The octets are as many as hold len bits, and their other bits are zero.
+-- The octets hold len bits, and their other bits are zero.
 pub record IsFilled (octets : List ℕ) (len : ℕ) : Type 0 where
-  pub count : length octets ≡ octets_for len
+  pub count : octets_for len ≤ length octets
   pub rest : IsZeroFrom len (bits octets)

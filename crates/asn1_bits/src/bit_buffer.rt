@@ -11,12 +11,12 @@ use crate::kernels::put_bitslice;
 use crate::octets::known_octets;
 use crate::single_bits::{clear_from, set_bit};
 use crate::turns::Turns;
-use crate::window::{lowest, lowest_wide, or_within, put_digits, put_word};
+use crate::window::{lowest, lowest_wide, put_digits, put_word};
 use std::alloc::{AllocError, Global};
 use std::marker::Model;
 
-/// A list of bits. Its octets are exactly those that the list fills, and the bits of the last one past the list are
-/// zero.
+/// A list of bits. Zeros follow them to the octet's end, and in octets that stand ready behind, so that a short number is
+/// stored as one word.
 #[derive(Debug, Drop)]
 pub struct BitBuffer {
     bytes: Vec<u8>,
@@ -32,6 +32,14 @@ impl Model for BitBuffer {
     ghost view = { λ b. bits_shown b.bytes.items b.len };
 
     ghost invariant = { λ b. IsFilled b.bytes.items b.len };
+}
+
+/// How many octets of zeros stand ready behind so many bits, where numbers are pushed: half as many as the bits fill, so
+/// that few growths fill many.
+fn ready_behind(len: usize) -> usize
+    ensures { result < 2 ^ 62 }
+{
+    64 + len / 16
 }
 
 impl BitBuffer {
@@ -102,7 +110,8 @@ impl BitBuffer {
         ensures count { length result.now ≡ octets_for (length self.now) }
         ensures octets { All (λ octet. octet < 256) result.now }
     {
-        known_octets(self.bytes.as_slice())
+        let (octets, _) = self.bytes.as_slice().split_at(self.len.div_ceil(8));
+        known_octets(octets)
     }
 
     /// The octets of the list: its bits, then zeros to the octet's end.
@@ -111,7 +120,8 @@ impl BitBuffer {
         ensures count { vec_len result ≡ octets_for (length self) }
         ensures octets { All (λ octet. octet < 256) result.items }
     {
-        let BitBuffer { bytes, len: _ } = self;
+        let BitBuffer { mut bytes, len } = self;
+        bytes.truncate(len.div_ceil(8));
         known_octets(&bytes);
         bytes
     }
@@ -147,7 +157,7 @@ impl BitBuffer {
         ensures free { AddsNoOctet (length self.old) (new_len - length self.old) → IsOk result }
     {
         let position = self.len();
-        self.grow(new_len - position)?;
+        self.grow(new_len - position, 0)?;
         if bit {
             for index in position..new_len {
                 self.set(index, true);
@@ -165,7 +175,7 @@ impl BitBuffer {
         ensures free { AddsNoOctet (length self.old) 1 → IsOk result }
     {
         let position = self.len();
-        self.grow(1)?;
+        self.grow(1, ready_behind(position))?;
         self.set(position, bit);
         Ok(())
     }
@@ -182,15 +192,20 @@ impl BitBuffer {
         // Where no octet is added, no memory is asked for.
         ensures free { AddsNoOctet (length self.old) width → IsOk result }
     {
-        if width <= 56 {
-            return self.push_short((value & 0xFFFF_FFFF_FFFF_FFFF) as u64, width);
+        let position = self.len;
+        if width > 0 && width <= 56 && self.bytes.len() - position / 8 >= 8 {
+            // Eight octets stand there, which hold the digits from any bit of the first on.
+            let number = lowest((value & 0xFFFF_FFFF_FFFF_FFFF) as u64, width);
+            put_word(self.bytes.as_mut_slice(), position, number, width);
+            self.len = position + width;
+            return Ok(());
         }
-        self.push_long(value, width)
+        self.push_digits(value, width)
     }
 
-    /// As `push_bits`, of any width. It is a call of its own, so that short numbers are written in line.
+    /// As `push_bits`, wherever the digits lie. It is a call of its own, so that short numbers are written in line.
     #[inline(never)]
-    fn push_long(&mut self, value: u128, width: usize) -> Result<(), AllocError>
+    fn push_digits(&mut self, value: u128, width: usize) -> Result<(), AllocError>
         requires width { width ≤ 128 }
         requires fits { length self.old + width < 2 ^ 64 }
         ensures ok { OnOk result (self.new ≡ self.old ++ digits value width) }
@@ -198,35 +213,9 @@ impl BitBuffer {
         ensures free { AddsNoOctet (length self.old) width → IsOk result }
     {
         let position = self.len();
-        self.grow(width)?;
+        self.grow(width, ready_behind(position))?;
         let number = lowest_wide(value, width);
         self.put_number(position, number, width, &mut Turns::new());
-        Ok(())
-    }
-
-    /// Appends the lowest `width` binary digits of the word, which eight octets hold from any bit of the first on.
-    #[inline(always)]
-    fn push_short(&mut self, word: u64, width: usize) -> Result<(), AllocError>
-        requires width { width ≤ 56 }
-        requires fits { length self.old + width < 2 ^ 64 }
-        ensures ok { OnOk result (self.new ≡ self.old ++ digits word width) }
-        ensures err { OnErr result (self.new ≡ self.old) }
-        ensures free { AddsNoOctet (length self.old) width → IsOk result }
-    {
-        let position = self.len;
-        let end = position + width;
-        let needed = end.div_ceil(8);
-        let octets = self.bytes.len();
-        if needed > octets {
-            // For a moment eight octets stand behind the others, so that the word can be stored whole.
-            self.bytes.resize(octets + 8, 0)?;
-            let number = lowest(word, width);
-            put_word(self.bytes.as_mut_slice(), position, number, width);
-            self.bytes.truncate(needed);
-        } else {
-            or_within(self.bytes.as_mut_slice(), position, word, width);
-        }
-        self.len = end;
         Ok(())
     }
 
@@ -241,6 +230,7 @@ impl BitBuffer {
     {
         if self.len % 8 == 0 {
             // Behind whole octets no zeros are written first.
+            self.bytes.truncate(self.len / 8);
             self.bytes.extend_from_slice(src)?;
             self.len += 8 * src.len();
             return Ok(());
@@ -258,7 +248,7 @@ impl BitBuffer {
         ensures free { AddsNoOctet (length self.old) (view_of src.entry).len → IsOk result }
     {
         let position = self.len();
-        self.grow(src.len())?;
+        self.grow(src.len(), 0)?;
         self.write_at(position, src, &mut Turns::new());
         Ok(())
     }
@@ -294,9 +284,10 @@ impl BitBuffer {
         BitBuffer { bytes, len }
     }
 
-    /// Appends zeros.
-    pub(crate) fn grow(&mut self, count: usize) -> Result<(), AllocError>
-        requires { length self.old + count < 2 ^ 64 }
+    /// Appends zeros. Where octets are added, so many more stand ready behind them.
+    pub(crate) fn grow(&mut self, count: usize, ready: usize) -> Result<(), AllocError>
+        requires fits { length self.old + count < 2 ^ 64 }
+        requires ready { ready < 2 ^ 62 }
         ensures ok { OnOk result (self.new ≡ self.old ++ replicate count false) }
         ensures err { OnErr result (self.new ≡ self.old) }
         ensures free { AddsNoOctet (length self.old) count → IsOk result }
@@ -304,7 +295,7 @@ impl BitBuffer {
         let len = self.len + count;
         let needed = len.div_ceil(8);
         if needed > self.bytes.len() {
-            self.bytes.resize(needed, 0)?;
+            self.bytes.resize(needed + ready, 0)?;
         }
         self.len = len;
         Ok(())

@@ -1,6 +1,5 @@
 use Rattle.std.proofs.Common.{◌≡◌, ℕ, ◌+◌, ◌-◌, Bool, false, List, ◌++◌, length, replicate, sym, ap, ◌∙◌, arith}
 use Rattle.std.proofs.lemmas.List.{take_all, append-nil}
-use Rattle.asn1_bits.specs.Bits.{octets_for}
 use Rattle.asn1_bits.specs.BitBuffer.{bits_shown, IsFilled}
 use Rattle.asn1_bits.proofs.BufferLemmas.{length-bits_shown, filled-grow_to}
 use Rattle.asn1_bits.proofs.bit_buffer.BitBuffer.grow.Goals as goal
@@ -21,30 +20,32 @@ returns-in_err-resize-clause-free c = λ same.
     let b = c.self.inside in
     let len : b.len ≡ length c.args.self.now = sym (length-bits_shown b.bytes.items b.len c.self.invariant)
     ∙ ap (λ (l : List Bool). length l) c.self.view_is in
-    let held : octets_for b.len ≡ length b.bytes.items = sym c.self.invariant.count in
-    absurd (omega (arith, b.bytes.ok.0, rw (← len) at same, held))
+    absurd (omega (arith, b.bytes.ok.0, rw (← len) at same, c.self.invariant.count))
 
 filled : (c : goal.After-self-1) → IsFilled c.if-needed-len.self-inside.bytes.items (c.self.inside.len + c.args.count)
     × (bits_shown c.if-needed-len.self-inside.bytes.items (c.self.inside.len + c.args.count) ≡ bits_shown
     c.self.inside.bytes.items c.self.inside.len ++ replicate c.args.count false)
 filled c =
     let b = c.self.inside in
-    filled-grow_to b.bytes.items c.if-needed-len.self-inside.bytes.items b.len c.args.count c.div_ceil-needed.result
-    c.self.invariant c.div_ceil-needed.ensures
-    (elim c.if-needed-len.branch [
+    let items = b.bytes.items in
+    let needed = c.div_ceil-needed.result in
+    elim c.if-needed-len.branch [
       | then-needed-len+in_ok-resize w ↦
-          let items = b.bytes.items in
-          let needed = c.div_ceil-needed.result in
+          let count = needed + c.args.ready in
           rw w.self-inside-is
+          (filled-grow_to items w.resize.new.self.items b.len c.args.count count c.self.invariant
+          (omega (arith, b.bytes.ok.0, c.div_ceil-needed.ensures))
           (w.in_ok-resize.ensures.items
-          ∙ ap (λ (l : List ℕ). l ++ replicate (needed - b.bytes.len) 0)
-          (take_all needed items (omega (arith, b.bytes.ok.0)))
-          ∙ ap (λ (n : ℕ). items ++ replicate (needed - n) 0) b.bytes.ok.0)
+          ∙ ap (λ (l : List ℕ). l ++ replicate (count - b.bytes.len) 0)
+          (take_all count items (omega (arith, b.bytes.ok.0)))
+          ∙ ap (λ (n : ℕ). items ++ replicate (count - n) 0) b.bytes.ok.0))
       | else-needed-len w ↦
-          let items = b.bytes.items in
-          let none : c.div_ceil-needed.result - length items ≡ 0 = omega (arith, b.bytes.ok.0) in
-          rw w.self-inside-is (sym (ap (λ (n : ℕ). items ++ replicate n 0) none ∙ append-nil items))
-    ])
+          let none : needed - length items ≡ 0 = omega (arith, b.bytes.ok.0) in
+          rw w.self-inside-is
+          (filled-grow_to items items b.len c.args.count needed c.self.invariant
+          (omega (arith, b.bytes.ok.0, c.div_ceil-needed.ensures))
+          (sym (ap (λ (n : ℕ). items ++ replicate n 0) none ∙ append-nil items)))
+    ]
 
 pub invariant_of-self-2 : goal.invariant_of-self-2
 invariant_of-self-2 c = (filled c).0

@@ -2,7 +2,7 @@ use Rattle.std.proofs.Common.{Bool, List, ap, ◌∙◌}
 use Rattle.asn1_bits.specs.Bits.{digits, ored}
 use Rattle.asn1_bits.specs.DigitLaws.{length-digits}
 use Rattle.asn1_bits.proofs.OredLemmas.{ored-onto}
-use Rattle.asn1_bits.proofs.bit_buffer.BitBuffer.push_long.Goals as goal
+use Rattle.asn1_bits.proofs.bit_buffer.BitBuffer.push_digits.Goals as goal
 
 pub returns-clause-ok : goal.returns-clause-ok
 returns-clause-ok c =
