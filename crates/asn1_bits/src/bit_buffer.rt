@@ -295,6 +295,9 @@ impl BitBuffer {
         let len = self.len + count;
         let needed = len.div_ceil(8);
         if needed > self.bytes.len() {
+            let room = self.bytes.capacity();
+            // For octets that only stand ready no memory is asked, where there is enough without them.
+            let ready = if needed <= room { ready.min(room - needed) } else { ready };
             self.bytes.resize(needed + ready, 0)?;
         }
         self.len = len;

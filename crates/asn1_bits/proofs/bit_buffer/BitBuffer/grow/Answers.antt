@@ -31,7 +31,7 @@ filled c =
     let needed = c.div_ceil-needed.result in
     elim c.if-needed-len.branch [
       | then-needed-len+in_ok-resize w ↦
-          let count = needed + c.args.ready in
+          let count = needed + w.if-needed-room.ready in
           rw w.self-inside-is
           (filled-grow_to items w.resize.new.self.items b.len c.args.count count c.self.invariant
           (omega (arith, b.bytes.ok.0, c.div_ceil-needed.ensures))
