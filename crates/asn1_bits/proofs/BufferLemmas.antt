@@ -269,8 +269,7 @@ pub whole-front : (octets front : List ℕ) (len : ℕ) → IsFilled octets len 
 whole-front octets front len f whole e =
     let n : len / 8 ≡ octets_for len = omega (arith, whole) in
     let same : front ≡ take (octets_for len) octets = e ∙ ap (λ (k : ℕ). take k octets) n in
-    let g = filled-front octets len f in
-    (
+    let g = filled-front octets len f in (
       rw same g.0,
       rw same g.1,
       omega (

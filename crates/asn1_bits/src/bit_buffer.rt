@@ -15,8 +15,8 @@ use crate::window::{lowest, lowest_wide, put_digits, put_word};
 use std::alloc::{AllocError, Global};
 use std::marker::Model;
 
-/// A list of bits. Zeros follow them to the octet's end, and in octets that stand ready behind, so that a short number is
-/// stored as one word.
+/// A list of bits. Zeros follow them to the octet's end, and in octets that stand ready behind, so that a short number
+/// is stored as one word.
 #[derive(Debug, Drop)]
 pub struct BitBuffer {
     bytes: Vec<u8>,
@@ -34,8 +34,8 @@ impl Model for BitBuffer {
     ghost invariant = { λ b. IsFilled b.bytes.items b.len };
 }
 
-/// How many octets of zeros stand ready behind so many bits, where numbers are pushed: half as many as the bits fill, so
-/// that few growths fill many.
+/// How many octets of zeros stand ready behind so many bits, where numbers are pushed: half as many as the bits fill,
+/// so that growths stay few.
 fn ready_behind(len: usize) -> usize
     ensures { result < 2 ^ 62 }
 {
@@ -297,7 +297,11 @@ impl BitBuffer {
         if needed > self.bytes.len() {
             let room = self.bytes.capacity();
             // For octets that only stand ready no memory is asked, where there is enough without them.
-            let ready = if needed <= room { ready.min(room - needed) } else { ready };
+            let ready = if needed <= room {
+                ready.min(room - needed)
+            } else {
+                ready
+            };
             self.bytes.resize(needed + ready, 0)?;
         }
         self.len = len;

@@ -4,7 +4,8 @@ use Rattle.asn1_bits.proofs.BufferLemmas.{padded-bits_shown, length-filled}
 use Rattle.asn1_bits.proofs.bit_buffer.BitBuffer.as_bytes.Goals as goal
 
 -- the octets that the list fills
-front : (c : goal.After-known_octets) → c.known_octets.result.now ≡ take (octets_for c.self.inside.len) c.self.inside.bytes.items
+front : (c : goal.After-known_octets)
+    → c.known_octets.result.now ≡ take (octets_for c.self.inside.len) c.self.inside.bytes.items
 front c =
     c.known_octets.ensures.list ∙ c.split_at.ensures.front
     ∙ ap (take c.div_ceil.result) c.as_slice.ensures.value

@@ -4,7 +4,8 @@ use Rattle.asn1_bits.proofs.BufferLemmas.{padded-bits_shown, length-filled}
 use Rattle.asn1_bits.proofs.bit_buffer.BitBuffer.into_vec.Goals as goal
 
 -- the octets that the list fills
-front : (c : goal.After-known_octets) → c.truncate.new.self.items ≡ take (octets_for c.self.inside.len) c.self.inside.bytes.items
+front : (c : goal.After-known_octets)
+    → c.truncate.new.self.items ≡ take (octets_for c.self.inside.len) c.self.inside.bytes.items
 front c = c.truncate.ensures.items ∙ ap (λ (n : ℕ). take n c.self.inside.bytes.items) c.div_ceil.ensures
 
 pub returns-clause-spelled : goal.returns-clause-spelled

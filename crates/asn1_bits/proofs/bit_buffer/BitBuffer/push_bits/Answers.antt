@@ -23,7 +23,8 @@ same_len : (c : goal.After-self-then-len-position-ge8-1) → length c.put_word.n
 same_len c = omega (arith, c.put_word.auto.dst, c.as_mut_slice.ensures.len)
 
 filled : (c : goal.After-self-then-len-position-ge8-1) → IsFilled c.put_word.new.dst (c.self.inside.len + c.args.width)
-    × (bits_shown c.put_word.new.dst (c.self.inside.len + c.args.width) ≡ c.args.self.now ++ digits c.args.value c.args.width)
+    × (bits_shown c.put_word.new.dst (c.self.inside.len + c.args.width) ≡ c.args.self.now
+    ++ digits c.args.value c.args.width)
 filled c =
     let b = c.self.inside in
     let src = digits c.args.value c.args.width in
