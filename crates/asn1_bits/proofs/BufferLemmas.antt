@@ -1,7 +1,7 @@
 -- The octets of a buffer, through its changes.
 use Rattle.std.proofs.Common.{◌≡◌, ℕ, zero, suc, ◌+◌, ◌-◌, ◌*◌, ◌/◌, ◌%◌, ◌<◌, ◌≤◌, Bool, true, false, List, [], ◌∷◌, ◌++◌, length, get_or, set, take, drop, replicate, refl, sym, ap, ◌∙◌, append_assoc, arith}
 use Rattle.std.proofs.Math.Seq.{take-add}
-use Rattle.std.proofs.lemmas.List.{length-append, length-take, length-set, length-replicate, take_all, drop_all, drop_at, take_at, take-take, take-append-le, take-replicate, drop_more, set_at, set-append_left, replicate_more, replicate-append-replicate}
+use Rattle.std.proofs.lemmas.List.{append-nil, length-append, length-take, length-set, length-replicate, take_all, drop_all, drop_at, take_at, take-take, take-append-le, take-replicate, drop_more, set_at, set-append_left, replicate_more, replicate-append-replicate}
 use Rattle.asn1_bits.specs.Bits.{digits, bits, octets_for, ored, padded, IsZeroFrom}
 use Rattle.asn1_bits.specs.BitBuffer.{bits_shown, IsFilled}
 use Rattle.asn1_bits.specs.DigitLaws.{length-bits, bits-append, bits-take}
@@ -167,6 +167,19 @@ pub filled-grow_to : (octets after : List ℕ) (len d count : ℕ) → IsFilled 
     → after ≡ octets ++ replicate (count - length octets) 0
     → IsFilled after (len + d) × (bits_shown after (len + d) ≡ bits_shown octets len ++ replicate d false)
 filled-grow_to octets after len d count f n e = rw e (filled-grow octets len d (count - length octets) f n)
+
+-- octets of zeros behind them show the same
+pub filled-ready : (octets after : List ℕ) (len n count : ℕ) → IsFilled octets len → n ≡ length octets → n ≤ count
+    → after ≡ take count octets ++ replicate (count - n) 0
+    → IsFilled after len × (bits_shown after len ≡ bits_shown octets len)
+filled-ready octets after len n count f size h e =
+    let k = count - n in
+    let g = filled-grow octets len 0 k f (omega (arith, f.count)) in
+    let none : len + 0 ≡ len = omega arith in
+    let same = rw none at g in
+    let all : after ≡ octets ++ replicate k 0 =
+    e ∙ ap (λ (l : List ℕ). l ++ replicate k 0) (take_all count octets (omega (arith, size, h))) in
+    rw all (same.0, same.1 ∙ append-nil (bits_shown octets len))
 
 -- one zero more becomes a one
 pub set-zeros : (list : List Bool) (place i n : ℕ) → length list ≡ place → place ≤ i → i < n

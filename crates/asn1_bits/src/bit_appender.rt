@@ -42,7 +42,7 @@ impl BitBuffer {
         ensures free { AddsNoOctet (length self.old) additional → IsOk result }
     {
         let position = self.len();
-        self.grow(additional, 0)?;
+        self.grow(additional)?;
         Ok(BitAppender {
             buffer: self,
             position,

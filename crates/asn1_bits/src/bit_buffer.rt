@@ -15,6 +15,9 @@ use crate::window::{lowest, lowest_wide, put_digits, put_word};
 use std::alloc::{AllocError, Global};
 use std::marker::Model;
 
+/// So many octets of zeros are added at once where numbers are pushed, and stand ready for the next ones.
+const READY: usize = 32;
+
 /// A list of bits. Zeros follow them to the octet's end, and in octets that stand ready behind, so that a short number
 /// is stored as one word.
 #[derive(Debug, Drop)]
@@ -32,14 +35,6 @@ impl Model for BitBuffer {
     ghost view = { λ b. bits_shown b.bytes.items b.len };
 
     ghost invariant = { λ b. IsFilled b.bytes.items b.len };
-}
-
-/// How many octets of zeros stand ready behind so many bits, where numbers are pushed: half as many as the bits fill,
-/// so that growths stay few.
-fn ready_behind(len: usize) -> usize
-    ensures { result < 2 ^ 62 }
-{
-    64 + len / 16
 }
 
 impl BitBuffer {
@@ -157,7 +152,7 @@ impl BitBuffer {
         ensures free { AddsNoOctet (length self.old) (new_len - length self.old) → IsOk result }
     {
         let position = self.len();
-        self.grow(new_len - position, 0)?;
+        self.grow(new_len - position)?;
         if bit {
             for index in position..new_len {
                 self.set(index, true);
@@ -175,7 +170,7 @@ impl BitBuffer {
         ensures free { AddsNoOctet (length self.old) 1 → IsOk result }
     {
         let position = self.len();
-        self.grow(1, ready_behind(position))?;
+        self.grow(1)?;
         self.set(position, bit);
         Ok(())
     }
@@ -193,14 +188,22 @@ impl BitBuffer {
         ensures free { AddsNoOctet (length self.old) width → IsOk result }
     {
         let position = self.len;
-        if width > 0 && width <= 56 && self.bytes.len() - position / 8 >= 8 {
-            // Eight octets stand there, which hold the digits from any bit of the first on.
-            let number = lowest((value & 0xFFFF_FFFF_FFFF_FFFF) as u64, width);
-            put_word(self.bytes.as_mut_slice(), position, number, width);
-            self.len = position + width;
-            return Ok(());
+        let octets = self.bytes.len();
+        if width == 0 || width > 56 {
+            return self.push_digits(value, width);
         }
-        self.push_digits(value, width)
+        if octets - position / 8 < 8 {
+            if (position + width).div_ceil(8) <= octets && self.bytes.capacity() - octets < READY {
+                // No octet is added, so no memory is asked for.
+                return self.push_digits(value, width);
+            }
+            self.bytes.resize(octets + READY, 0)?;
+        }
+        // Eight octets hold the digits, from any bit of the first on.
+        let number = lowest((value & 0xFFFF_FFFF_FFFF_FFFF) as u64, width);
+        put_word(self.bytes.as_mut_slice(), position, number, width);
+        self.len = position + width;
+        Ok(())
     }
 
     /// As `push_bits`, wherever the digits lie. It is a call of its own, so that short numbers are written in line.
@@ -209,11 +212,12 @@ impl BitBuffer {
         requires width { width ≤ 128 }
         requires fits { length self.old + width < 2 ^ 64 }
         ensures ok { OnOk result (self.new ≡ self.old ++ digits value width) }
+        ensures len { OnOk result (length self.new ≡ length self.old + width) }
         ensures err { OnErr result (self.new ≡ self.old) }
         ensures free { AddsNoOctet (length self.old) width → IsOk result }
     {
         let position = self.len();
-        self.grow(width, ready_behind(position))?;
+        self.grow(width)?;
         let number = lowest_wide(value, width);
         self.put_number(position, number, width, &mut Turns::new());
         Ok(())
@@ -248,7 +252,7 @@ impl BitBuffer {
         ensures free { AddsNoOctet (length self.old) (view_of src.entry).len → IsOk result }
     {
         let position = self.len();
-        self.grow(src.len(), 0)?;
+        self.grow(src.len())?;
         self.write_at(position, src, &mut Turns::new());
         Ok(())
     }
@@ -284,10 +288,9 @@ impl BitBuffer {
         BitBuffer { bytes, len }
     }
 
-    /// Appends zeros. Where octets are added, so many more stand ready behind them.
-    pub(crate) fn grow(&mut self, count: usize, ready: usize) -> Result<(), AllocError>
-        requires fits { length self.old + count < 2 ^ 64 }
-        requires ready { ready < 2 ^ 62 }
+    /// Appends zeros.
+    pub(crate) fn grow(&mut self, count: usize) -> Result<(), AllocError>
+        requires { length self.old + count < 2 ^ 64 }
         ensures ok { OnOk result (self.new ≡ self.old ++ replicate count false) }
         ensures err { OnErr result (self.new ≡ self.old) }
         ensures free { AddsNoOctet (length self.old) count → IsOk result }
@@ -295,14 +298,7 @@ impl BitBuffer {
         let len = self.len + count;
         let needed = len.div_ceil(8);
         if needed > self.bytes.len() {
-            let room = self.bytes.capacity();
-            // For octets that only stand ready no memory is asked, where there is enough without them.
-            let ready = if needed <= room {
-                ready.min(room - needed)
-            } else {
-                ready
-            };
-            self.bytes.resize(needed + ready, 0)?;
+            self.bytes.resize(needed, 0)?;
         }
         self.len = len;
         Ok(())

@@ -31,14 +31,13 @@ filled c =
     let needed = c.div_ceil-needed.result in
     elim c.if-needed-len.branch [
       | then-needed-len+in_ok-resize w ↦
-          let count = needed + w.if-needed-room.ready in
           rw w.self-inside-is
-          (filled-grow_to items w.resize.new.self.items b.len c.args.count count c.self.invariant
+          (filled-grow_to items w.resize.new.self.items b.len c.args.count needed c.self.invariant
           (omega (arith, b.bytes.ok.0, c.div_ceil-needed.ensures))
           (w.in_ok-resize.ensures.items
-          ∙ ap (λ (l : List ℕ). l ++ replicate (count - b.bytes.len) 0)
-          (take_all count items (omega (arith, b.bytes.ok.0)))
-          ∙ ap (λ (n : ℕ). items ++ replicate (count - n) 0) b.bytes.ok.0))
+          ∙ ap (λ (l : List ℕ). l ++ replicate (needed - b.bytes.len) 0)
+          (take_all needed items (omega (arith, b.bytes.ok.0)))
+          ∙ ap (λ (n : ℕ). items ++ replicate (needed - n) 0) b.bytes.ok.0))
       | else-needed-len w ↦
           let none : needed - length items ≡ 0 = omega (arith, b.bytes.ok.0) in
           rw w.self-inside-is
