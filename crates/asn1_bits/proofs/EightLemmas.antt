@@ -1,15 +1,17 @@
 -- Eight octets that are ORed in as one word.
-use Rattle.std.proofs.Common.{◌≡◌, ℕ, zero, suc, ◌+◌, ◌-◌, ◌*◌, ◌/◌, ◌%◌, ◌^◌, ◌<◌, ◌≤◌, Bool, false, ◌||◌, List, ◌++◌, length, get_or, take, drop, sym, ap, ◌∙◌, inl, inr, arith}
+use Rattle.std.proofs.Common.{◌≡◌, ℕ, zero, suc, ◌+◌, ◌-◌, ◌*◌, ◌/◌, ◌%◌, ◌^◌, ◌<◌, ◌≤◌, Bool, false, ◌||◌, List, ◌∷◌, ◌++◌, length, get_or, take, drop, replicate, sym, ap, ◌∙◌, inl, inr, arith}
+use Rattle.std.proofs.Math.Seq.{take-add}
 use Rattle.std.specs.Prelude.{bit_or}
-use Rattle.std.specs.Int.{byte_at, bytes_low_first, to_le_bytes, from_le_bytes, w64}
+use Rattle.std.specs.Int.{byte_at, bytes_low_first, bytes_high_first, to_le_bytes, from_le_bytes, w64}
 use Rattle.std.proofs.lemmas.Bool.{cases_lt}
-use Rattle.std.proofs.lemmas.List.{length-append, length-take, length-drop, ext_get_or, get_or_append_left, get_or-append_right}
-use Rattle.std.proofs.lemmas.Nat.{shr-shr, le_bytes_8}
-use Rattle.asn1_bits.specs.Bits.{is_odd, bits, ored}
+use Rattle.std.proofs.lemmas.List.{length-append, length-take, length-drop, take-append-drop, drop-drop, take-replicate, length-replicate, ext_get_or, get_or-replicate, get_or_past, get_or_append_left, get_or-append_right}
+use Rattle.std.proofs.lemmas.Nat.{shr-shr, le_bytes_8, mod_below}
+use Rattle.asn1_bits.specs.Bits.{is_odd, digits, bits, ored, IsZeroFrom}
 use Rattle.asn1_bits.specs.DigitLaws.{length-bits, get_or-digits, get_or-bits, bits-append, bits-take, bits-drop}
 use Rattle.asn1_bits.specs.ByteLaws.{digits-mod, byte_at_is}
 use Rattle.asn1_bits.proofs.OredLemmas.{length-ored, get_or-ored_inside, get_or-ored_outside, ored-append_left}
-use Rattle.asn1_bits.proofs.WindowLemmas.{is_odd-or, eight-small}
+use Rattle.asn1_bits.proofs.BufferLemmas.{bits-zeros}
+use Rattle.asn1_bits.proofs.WindowLemmas.{is_odd-or, bits-octet, eight-small}
 
 octet-low_first : (from k n q at : ℕ) → q < k → at ≡ from + q → get_or (bytes_low_first from k n) q 0 ≡ byte_at at n
 octet-low_first from zero n q at h e = absurd (omega arith)
@@ -103,17 +105,60 @@ eight-stored old new octets q e n =
     ∙ ap (λ (l : List Bool). take (8 * q) (bits old) ++ l) (bits-append octets (drop (q + 8) old)
     ∙ ap (λ (l : List Bool). bits octets ++ l) (bits-drop (q + 8) old ∙ ap (λ (m : ℕ). drop m (bits old)) past))
 
--- eight octets between others
-pub eight-ored : (old front mid back new octets : List ℕ) (first : ℕ) → old ≡ front ++ (mid ++ back)
-    → first ≡ length front → length octets ≤ length mid
-    → bits new ≡ ored (bits mid) 0 (bits octets)
-    → bits (front ++ (new ++ back)) ≡ ored (bits old) (8 * first) (bits octets)
-eight-ored old front mid back new octets first e n fits is =
-    bits-append front (new ++ back)
-    ∙ ap (λ (l : List Bool). bits front ++ l) (bits-append new back ∙ ap (λ (l : List Bool). l ++ bits back) is
-    ∙ sym (ored-append_left (bits mid) (bits back) 0 (bits octets)
-    (omega (arith, length-bits mid, length-bits octets))))
-    ∙ sym (ap (λ (l : List ℕ). ored (bits l) (8 * first) (bits octets)) e
-    ∙ ap (λ (l : List Bool). ored l (8 * first) (bits octets))
-    (bits-append front (mid ++ back) ∙ ap (λ (l : List Bool). bits front ++ l) (bits-append mid back))
-    ∙ ored-behind (bits front) (bits mid ++ bits back) (bits octets) (8 * first) (omega (arith, n, length-bits front)))
+-- eight octets that were stored for those that stood there, with bits ORed in
+pub eight-ored : (old new octets : List ℕ) (src : List Bool) (q : ℕ)
+    → new ≡ take q old ++ (octets ++ drop (q + 8) old) → q + 8 ≤ length old → length src ≤ 64
+    → bits octets ≡ ored (bits (take 8 (drop q old))) 0 src
+    → bits new ≡ ored (bits old) (8 * q) src
+eight-ored old new octets src q e room fits is =
+    let front = take q old in
+    let mid = take 8 (drop q old) in
+    let back = drop (q + 8) old in
+    let whole : front ++ (mid ++ back) ≡ old =
+    ap (λ (l : List ℕ). front ++ (mid ++ l)) (sym (drop-drop 8 q old))
+    ∙ ap (λ (l : List ℕ). front ++ l) (take-append-drop 8 (drop q old)) ∙ take-append-drop q old in
+    let spelled : bits front ++ (bits mid ++ bits back) ≡ bits old =
+    ap (λ (l : List Bool). bits front ++ l) (sym (bits-append mid back)) ∙ sym (bits-append front (mid ++ back))
+    ∙ ap bits whole in
+    let len : length mid ≡ 8 = omega (arith, length-take 8 (drop q old), length-drop q old, room) in
+    ap bits e
+    ∙ bits-append front (octets ++ back)
+    ∙ ap (λ (l : List Bool). bits front ++ l) (bits-append octets back ∙ ap (λ (l : List Bool). l ++ bits back) is
+    ∙ sym (ored-append_left (bits mid) (bits back) 0 src (omega (arith, length-bits mid, len, fits))))
+    ∙ sym (ap (λ (l : List Bool). ored l (8 * q) src) (sym spelled)
+    ∙ ored-behind (bits front) (bits mid ++ bits back) src (8 * q)
+    (omega (arith, length-bits front, length-take q old, room)))
+
+-- the octets of a number are octets
+pub high_first-small : (k n i : ℕ) → get_or (bytes_high_first k n) i 0 < 256
+high_first-small zero n i = omega arith
+high_first-small (suc k) n zero = rw (byte_at_is k n) (mod_below (n / 2 ^ (8 * k)) 256 (omega arith))
+high_first-small (suc k) n (suc i) = high_first-small k n i
+
+-- so are one octet and seven zeros
+pub begun-small : (o : ℕ) → o < 256 → (i : ℕ) → get_or (o ∷ replicate 7 0) i 0 < 256
+begun-small o h zero = h
+begun-small o h (suc i) =
+    elim (cases_lt i 7) [
+      | inl lt ↦ rw (get_or-replicate {A = ℕ} 7 i 0 0 lt) (omega arith)
+      | inr past ↦ rw (get_or_past {X = ℕ} (replicate 7 0) i 0 (omega (arith, length-replicate {A = ℕ} 7 0))) (omega arith)
+    ]
+
+-- one octet and seven zeros spell the octets from a place on, where zeros stand behind the first of them
+pub begun-bits : (octets begun : List ℕ) (q : ℕ) → begun ≡ get_or octets q 0 ∷ replicate 7 0
+    → IsZeroFrom (8 * q + 8) (bits octets) → q + 8 ≤ length octets
+    → bits begun ≡ bits (take 8 (drop q octets))
+unfolding bits
+begun-bits octets begun q e z room =
+    let o = get_or octets q 0 in
+    let all = bits octets in
+    let n = length-bits octets in
+    ap bits e
+    ∙ ap (λ (l : List Bool). digits o 8 ++ l) (bits-zeros 7)
+    ∙ ap (λ (l : List Bool). l ++ replicate 56 false) (sym (bits-octet octets q (omega (arith, room))))
+    ∙ ap (λ (l : List Bool). take 8 (drop (8 * q) all) ++ l)
+    (sym (ap (take 56) (drop-drop 8 (8 * q) all ∙ z.zero)
+    ∙ take-replicate 56 (length all - (8 * q + 8)) false (omega (arith, n, room))))
+    ∙ sym (take-add 8 56 (drop (8 * q) all))
+    ∙ ap (take 64) (sym (bits-drop q octets))
+    ∙ sym (bits-take 8 (drop q octets))

@@ -1,6 +1,6 @@
 -- A list that is zeros from a place on.
-use Rattle.std.proofs.Common.{◌≡◌, ℕ, ◌-◌, ◌≤◌, Bool, false, List, ◌++◌, length, take, drop, replicate, sym, ap, ◌∙◌, arith}
-use Rattle.std.proofs.lemmas.List.{length-take, take-append-drop, drop_at}
+use Rattle.std.proofs.Common.{◌≡◌, ℕ, ◌+◌, ◌-◌, ◌≤◌, Bool, false, List, ◌++◌, length, take, drop, replicate, sym, ap, ◌∙◌, arith}
+use Rattle.std.proofs.lemmas.List.{length-take, take-append-drop, drop_at, drop-drop, drop-replicate}
 use Rattle.asn1_bits.specs.Bits.{IsZeroFrom}
 
 -- what comes before the place, and the zeros
@@ -16,4 +16,17 @@ zero_from place list h e = record {
   zero =
       ap (drop place) e ∙ drop_at (take place list) (replicate (length list - place) false) place
       (omega (arith, length-take place list));
+}
+
+-- and so are those behind a later place
+pub zeros-later : (place next : ℕ) (list : List Bool) → IsZeroFrom place list → place ≤ next → next ≤ length list
+    → IsZeroFrom next list
+zeros-later place next list z from h = record {
+  within = h;
+  zero =
+      (let there : place + (next - place) ≡ next = omega arith in
+      let left : length list - place - (next - place) ≡ length list - next = omega arith in
+      sym (drop-drop (next - place) place list ∙ ap (λ (k : ℕ). drop k list) there)
+      ∙ ap (drop (next - place)) z.zero ∙ drop-replicate (next - place) (length list - place) false
+      ∙ ap (λ (k : ℕ). replicate k false) left);
 }

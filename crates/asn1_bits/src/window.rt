@@ -77,6 +77,20 @@ fn load_native(octets: &[u8], first: usize) -> u64
     u64::from_ne_bytes(eight(octets, first))
 }
 
+/// Writes eight octets over those from one of them on.
+#[inline(always)]
+fn set_octets(dst: &mut [u8], first: usize, octets: [u8; 8])
+    requires { first + 8 ≤ length dst.old }
+    ensures { dst.new ≡ take first dst.old ++ (octets ++ drop (first + 8) dst.old) }
+{
+    let (_, rest) = dst.split_at_mut(first);
+    let (room, _) = rest.split_at_mut(8);
+    // The room has eight octets, so no test is made.
+    if let Some(target) = room.as_mut_array::<8>() {
+        *target = octets;
+    }
+}
+
 /// ORs eight octets of `src`, from octet `at` on, into those of `dst` from octet `first` on.
 #[inline]
 fn or_eight(dst: &mut [u8], first: usize, src: &[u8], at: usize)
@@ -85,12 +99,7 @@ fn or_eight(dst: &mut [u8], first: usize, src: &[u8], at: usize)
     ensures { bits dst.new ≡ ored (bits dst.old) (8 * first) (bits (take 8 (drop at src.now))) }
 {
     let word = load_native(dst, first) | load_native(src, at);
-    let (_, rest) = dst.split_at_mut(first);
-    let (room, _) = rest.split_at_mut(8);
-    // The room has eight octets, so no test is made.
-    if let Some(target) = room.as_mut_array::<8>() {
-        *target = word.to_ne_bytes();
-    }
+    set_octets(dst, first, word.to_ne_bytes());
 }
 
 /// ORs the digits of the word into the eight octets from one of them on.
@@ -184,17 +193,17 @@ pub(crate) fn lowest_wide(value: u128, width: usize) -> u128
     }
 }
 
-/// Writes the digits of the word over the eight octets from one of them on.
-#[inline]
-fn set_octets(dst: &mut [u8], first: usize, word: u64)
-    requires { first + 8 ≤ length dst.old }
-    ensures { bits dst.new ≡ take (8 * first) (bits dst.old)
-        ++ (digits word 64 ++ drop (8 * first + 64) (bits dst.old)) }
+/// As `or_octets`, where zeros stand behind the first of the octets. It alone is read, and ORed in behind the turn of the
+/// word's octets, so that a number waits no longer than it must for the one that was stored before it.
+#[inline(always)]
+fn or_begun(dst: &mut [u8], first: usize, word: u64)
+    requires room { first + 8 ≤ length dst.old }
+    requires zeros { IsZeroFrom (8 * first + 8) (bits dst.old) }
+    ensures { bits dst.new ≡ ored (bits dst.old) (8 * first) (digits word 64) }
 {
-    let octets = word.to_be_bytes();
-    for k in 0..8 {
-        dst[first + k] = octets[k];
-    }
+    let begun = u64::from(dst[first]);
+    let turned = u64::from_le_bytes(word.to_be_bytes());
+    set_octets(dst, first, (begun | turned).to_le_bytes());
 }
 
 /// As `or_word`, of a number of `width` digits that lie in eight octets, all of which are there, where zeros stand from
@@ -208,9 +217,7 @@ pub(crate) fn put_word(dst: &mut [u8], position: usize, word: u64, width: usize)
     requires zeros { IsZeroFrom position (bits dst.old) }
     ensures { bits dst.new ≡ ored (bits dst.old) position (digits word width) }
 {
-    let first = position / 8;
-    let begun = u64::from(dst[first]) << 56;
-    set_octets(dst, first, begun | (word << (64 - width - position % 8)));
+    or_begun(dst, position / 8, word << (64 - width - position % 8));
 }
 
 /// As `put_word`, of a number whose digits lie in sixteen octets.
@@ -224,10 +231,10 @@ fn put_pair(dst: &mut [u8], position: usize, number: u128, width: usize)
     ensures { bits dst.new ≡ ored (bits dst.old) position (digits number width) }
 {
     let first = position / 8;
-    let begun = u128::from(dst[first]) << 120;
-    let pair = begun | (number << (128 - width - position % 8));
-    set_octets(dst, first, (pair >> 64) as u64);
-    set_octets(dst, first + 8, (pair & 0xFFFF_FFFF_FFFF_FFFF) as u64);
+    let pair = number << (128 - width - position % 8);
+    let low = (pair & 0xFFFF_FFFF_FFFF_FFFF) as u64;
+    or_begun(dst, first, (pair >> 64) as u64);
+    set_octets(dst, first + 8, low.to_be_bytes());
 }
 
 /// As `put_word`, of up to 128 digits, wherever they lie: 64 of them a turn.
