@@ -10,7 +10,9 @@ ghost use Rattle.asn1_bits.specs.View.{IsAligned};
 use crate::bit_str::BitStr;
 use crate::single_bits::from_octet;
 use crate::turns::Turns;
-use crate::window::{eight, load, or_word, or_words, whole_word, wide_of_seventeen, word_of_nine};
+use crate::window::{
+    eight, load, or_word, or_words, set_octets, whole_word, wide_of_seventeen, word_of_nine,
+};
 use std::alloc::AllocError;
 
 /// ORs the first `count` bits of `src` into `dst` from bit `position` on, and leaves every other bit. Both lie within
@@ -121,13 +123,7 @@ fn copy_octets(dst: &mut [u8], first: usize, src: &[u8], turns: &mut Turns)
 {
     let words = src.len() / 8;
     for k in 0..words {
-        let (_, rest) = dst.split_at_mut(first + 8 * k);
-        let (room, _) = rest.split_at_mut(8);
-        // The room has eight octets, so no test is made.
-        let Some(target) = room.as_mut_array::<8>() else {
-            unreachable!()
-        };
-        *target = eight(src, 8 * k);
+        set_octets(dst, first + 8 * k, eight(src, 8 * k));
         turns.tick();
     }
     let tail = BitStr::from_octets(from_octet(src, 8 * words));

@@ -79,7 +79,7 @@ fn load_native(octets: &[u8], first: usize) -> u64
 
 /// Writes eight octets over those from one of them on.
 #[inline(always)]
-fn set_octets(dst: &mut [u8], first: usize, octets: [u8; 8])
+pub(crate) fn set_octets(dst: &mut [u8], first: usize, octets: [u8; 8])
     requires { first + 8 ≤ length dst.old }
     ensures { dst.new ≡ take first dst.old ++ (octets ++ drop (first + 8) dst.old) }
 {

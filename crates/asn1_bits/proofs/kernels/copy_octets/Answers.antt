@@ -1,5 +1,5 @@
-use Rattle.std.proofs.Common.{◌≡◌, ℕ, List, ◌++◌, ◌+◌, ◌-◌, ◌*◌, ◌/◌, length, take, drop, sym, ap, ◌∙◌, arith}
-use Rattle.std.proofs.lemmas.List.{length-take, length-drop, drop-drop, take_all}
+use Rattle.std.proofs.Common.{◌≡◌, ℕ, ◌+◌, ◌-◌, ◌*◌, ◌/◌, length, take, drop, sym, ap, ◌∙◌, arith}
+use Rattle.std.proofs.lemmas.List.{length-take, length-drop, take_all}
 use Rattle.asn1_bits.specs.Bits.{bits, ored}
 use Rattle.asn1_bits.specs.BitStr.{bits_of}
 use Rattle.asn1_bits.specs.DigitLaws.{length-bits, bits-drop}
@@ -24,7 +24,7 @@ loop-k-preserved c =
     let k = c.loop-k.k in
     let at = c.args.first + 8 * k in
     let dst = c.loop-k.dst in
-    let new = c.split_at_mut-rest.result.0.now ++ (c.eight.result ++ c.split_at_mut-room.result.1.now) in
+    let new = c.set_octets.new.dst in
     let piece = take 64 (drop (64 * k) src) in
     let n : length piece ≡ 64 =
     omega (
@@ -35,11 +35,7 @@ loop-k-preserved c =
       c.loop-k-test.true,
     ) in
     let copied : bits new ≡ ored (bits dst) (8 * at) piece =
-    eight-copied dst new c.eight.result c.args.src.now at k c.loop-k.invariant.zeros
-    (ap (λ (l : List ℕ). l ++ (c.eight.result ++ c.split_at_mut-room.result.1.now)) c.split_at_mut-rest.ensures.front
-    ∙ ap (λ (l : List ℕ). take at dst ++ (c.eight.result ++ l))
-    (c.split_at_mut-room.ensures.back ∙ ap (drop 8) c.split_at_mut-rest.ensures.back ∙ drop-drop 8 at dst))
-    c.eight.ensures
+    eight-copied dst new c.eight.result c.args.src.now at k c.loop-k.invariant.zeros c.set_octets.ensures c.eight.ensures
     (omega (arith, c.loop-k-test.true))
     (omega (arith, c.requires.room, c.loop-k-test.true, c.loop-k.auto.dst)) in
     record {
