@@ -1,16 +1,18 @@
 -- Eight octets that are ORed in as one word.
-use Rattle.std.proofs.Common.{◌≡◌, ℕ, zero, suc, ◌+◌, ◌-◌, ◌*◌, ◌/◌, ◌%◌, ◌^◌, ◌<◌, ◌≤◌, Bool, false, ◌||◌, List, ◌∷◌, ◌++◌, length, get_or, take, drop, replicate, sym, ap, ◌∙◌, inl, inr, arith}
+use Rattle.std.proofs.Common.{◌≡◌, ℕ, zero, suc, ◌+◌, ◌-◌, ◌*◌, ◌/◌, ◌%◌, ◌^◌, ◌<◌, ◌≤◌, min, Bool, false, ◌||◌, List, ◌∷◌, ◌++◌, length, get_or, take, drop, replicate, sym, ap, ◌∙◌, inl, inr, arith}
 use Rattle.std.proofs.Math.Seq.{take-add}
-use Rattle.std.specs.Prelude.{bit_or}
-use Rattle.std.specs.Int.{byte_at, bytes_low_first, bytes_high_first, to_le_bytes, from_le_bytes, w64}
+use Rattle.std.specs.Prelude.{bit_and, bit_or}
+use Rattle.std.specs.Int.{bit_at, byte_at, bytes_low_first, bytes_high_first, to_le_bytes, from_le_bytes, w64}
 use Rattle.std.proofs.lemmas.Bool.{cases_lt}
 use Rattle.std.proofs.lemmas.List.{length-append, length-take, length-drop, take-append-drop, drop-drop, take-replicate, length-replicate, ext_get_or, get_or-replicate, get_or_past, get_or_append_left, get_or-append_right}
-use Rattle.std.proofs.lemmas.Nat.{shr-shr, le_bytes_8, mod_below}
-use Rattle.asn1_bits.specs.Bits.{is_odd, digits, bits, ored, IsZeroFrom}
-use Rattle.asn1_bits.specs.DigitLaws.{length-bits, get_or-digits, get_or-bits, bits-append, bits-take, bits-drop}
+use Rattle.std.proofs.lemmas.Nat.{shr-shr, shr_below, pow_pos, or_disjoint, le_bytes_8, mod_below}
+use Rattle.std.proofs.lemmas.Nat.Bits.{bit_at_and, bit_at-zero, bit_at_above, bit_at_cat_low, same_from_bits}
+use Rattle.asn1_bits.specs.Bits.{is_odd, digits, number, bits, ored, IsZeroFrom}
+use Rattle.asn1_bits.specs.NumberLaws.{number-append, number_of-digits}
+use Rattle.asn1_bits.specs.DigitLaws.{length-digits, length-bits, get_or-digits, get_or-bits, bits-append, bits-take, bits-drop}
 use Rattle.asn1_bits.specs.ByteLaws.{digits-mod, byte_at_is}
 use Rattle.asn1_bits.proofs.OredLemmas.{length-ored, get_or-ored_inside, get_or-ored_outside, ored-append_left}
-use Rattle.asn1_bits.proofs.BufferLemmas.{bits-zeros}
+use Rattle.asn1_bits.proofs.BufferLemmas.{bits-zeros, digits-zero}
 use Rattle.asn1_bits.proofs.WindowLemmas.{is_odd-or, bits-octet, eight-small}
 
 octet-low_first : (from k n q at : ℕ) → q < k → at ≡ from + q → get_or (bytes_low_first from k n) q 0 ≡ byte_at at n
@@ -162,3 +164,73 @@ begun-bits octets begun q e z room =
     ∙ sym (take-add 8 56 (drop (8 * q) all))
     ∙ ap (take 64) (sym (bits-drop q octets))
     ∙ sym (bits-take 8 (drop q octets))
+
+-- the octet in which zeros begin, as a number
+pub begun-octet : (octets : List ℕ) (o place : ℕ) → o ≡ get_or octets (place / 8) 0 → o < 256
+    → IsZeroFrom place (bits octets) → place / 8 < length octets
+    → o ≡ number (take (place % 8) (drop (8 * (place / 8)) (bits octets))) * 2 ^ (8 - place % 8)
+begun-octet octets o place is small z room =
+    let q = place / 8 in
+    let s = place % 8 in
+    let k = 8 - s in
+    let all = bits octets in
+    let rest = drop (8 * q) all in
+    let whole : 8 ≡ s + k = omega arith in
+    let at : 8 * q + s ≡ place = omega arith in
+    let zeros : take k (drop s rest) ≡ digits 0 k =
+    ap (take k) (drop-drop s (8 * q) all ∙ ap (λ (n : ℕ). drop n all) at ∙ z.zero)
+    ∙ take-replicate k (length all - place) false (omega (arith, length-bits octets, room)) ∙ sym (digits-zero k) in
+    sym (number_of-digits o 8 small)
+    ∙ ap number (ap (λ (n : ℕ). digits n 8) is ∙ sym (bits-octet octets q room)
+    ∙ ap (λ (n : ℕ). take n rest) whole ∙ take-add s k rest ∙ ap (λ (l : List Bool). take s rest ++ l) zeros)
+    ∙ number-append (take s rest) (digits 0 k)
+    ∙ ap (λ (n : ℕ). number (take s rest) * 2 ^ n + number (digits 0 k)) (length-digits 0 k)
+    ∙ ap (λ (n : ℕ). number (take s rest) * 2 ^ k + n) (number_of-digits 0 k (pow_pos k))
+    ∙ omega arith
+
+-- it meets no digit of a number whose lowest octet is below its zeros
+pub begun-apart : (o a k t : ℕ) → o ≡ a * 2 ^ k → o < 256 → t % 256 < 2 ^ k → bit_or o t ≡ o + t
+begun-apart o a k t is small below =
+    let none : (b : ℕ) → min 0 b ≡ 0 = λ b. omega arith in
+    or_disjoint o t
+    (same_from_bits (bit_and o t) 0
+    (λ i.
+    bit_at_and o t i
+    ∙ (elim (cases_lt i k) [
+      | inl lt ↦
+          ap (λ (b : ℕ). min b (bit_at t i))
+          ((let e : o ≡ a * 2 ^ k + 0 = omega (arith, is) in ap (λ (n : ℕ). bit_at n i) e)
+          ∙ bit_at_cat_low a k 0 i lt ∙ bit_at-zero i)
+          ∙ none (bit_at t i)
+      | inr past ↦
+          (elim (cases_lt i 8) [
+            | inl inside ↦
+                ap (λ (b : ℕ). min (bit_at o i) b)
+                ((let e : t ≡ t / 256 * 2 ^ 8 + t % 256 = omega arith in ap (λ (n : ℕ). bit_at n i) e)
+                ∙ bit_at_cat_low (t / 256) 8 (t % 256) i inside ∙ bit_at_above (t % 256) k i below past)
+                ∙ omega arith
+            | inr far ↦ ap (λ (b : ℕ). min b (bit_at t i)) (bit_at_above o 8 i small far) ∙ none (bit_at t i)
+          ])
+    ])
+    ∙ sym (bit_at-zero i)))
+
+-- a word whose octets were turned has them
+pub turned-octets : (octets : List ℕ) (word t : ℕ) → octets ≡ bytes_high_first 8 word → t ≡ from_le_bytes w64 octets
+    → to_le_bytes w64 t ≡ octets
+turned-octets octets word t e is =
+    le_bytes_8 octets t (ap (λ (l : List ℕ). length l) e) (λ i. rw e (high_first-small 8 word i)) is
+
+-- it has no digit where the octet in which zeros begin has one
+pub begun-sum : (dst octets : List ℕ) (o t word place : ℕ) → o ≡ get_or dst (place / 8) 0 → o < 256
+    → IsZeroFrom place (bits dst) → place / 8 + 8 ≤ length dst → octets ≡ bytes_high_first 8 word
+    → t ≡ from_le_bytes w64 octets → word < 2 ^ (64 - place % 8)
+    → bit_or o t ≡ o + t
+begun-sum dst octets o t word place is small z room e f below =
+    let k = 8 - place % 8 in
+    let n : 64 - place % 8 ≡ k + 56 = omega arith in
+    let first : t % 256 ≡ byte_at 7 word =
+    ap (λ (l : List ℕ). get_or l 0 0) (turned-octets octets word t e f ∙ e) in
+    let high : word / 2 ^ 56 < 2 ^ k = shr_below word k 56 (rw (sym (ap (λ (m : ℕ). 2 ^ m) n)) below) in
+    begun-apart o (number (take (place % 8) (drop (8 * (place / 8)) (bits dst)))) k t
+    (begun-octet dst o place is small z (omega (arith, room))) small
+    (rw (first ∙ byte_at_is 7 word) (omega (arith, high)))

@@ -2,7 +2,9 @@
 use Rattle.std.proofs.Common.{◌≡◌, ℕ, ◌+◌, ◌-◌, ◌*◌, ◌/◌, ◌%◌, ◌^◌, ◌<◌, ◌≤◌, Bool, false, List, ◌++◌, length, take, drop, replicate, sym, ap, ◌∙◌, arith}
 use Rattle.std.specs.Prelude.{bit_and}
 use Rattle.std.specs.Int.{bytes_high_first}
-use Rattle.std.proofs.lemmas.Nat.{and_mask}
+use Rattle.std.proofs.Math.Nat.{mod-eq_of_lt}
+use Rattle.std.proofs.Math.Pow.{pow_mono}
+use Rattle.std.proofs.lemmas.Nat.{and_mask, shl_below}
 use Rattle.std.proofs.lemmas.List.{length-append, length-take, drop_at}
 use Rattle.asn1_bits.specs.Bits.{digits, bits, ored, IsZeroFrom}
 use Rattle.asn1_bits.specs.DigitLaws.{length-digits, length-bits}
@@ -24,6 +26,16 @@ pub put-moved : (m : ℕ) (old new : List Bool) (place n width : ℕ) → 0 < wi
 put-moved m old new place n width some fits room small e =
     or-near m old new place n width some fits room
     (e ∙ ap (λ (k : ℕ). ored old (8 * (place / 8)) (digits k (8 * m))) (moved (8 * m) n width (place % 8) fits small))
+
+-- there it has no digit before its place
+pub moved-below : (size n width shift : ℕ) → shift + width ≤ size → n < 2 ^ width
+    → n * 2 ^ (size - width - shift) % 2 ^ size < 2 ^ (size - shift)
+moved-below size n width shift fits small =
+    let rest = size - width - shift in
+    let all : width + rest ≡ size - shift = omega arith in
+    let below : n * 2 ^ rest < 2 ^ (size - shift) = rw (sym (ap (λ (k : ℕ). 2 ^ k) all)) (shl_below n width rest small) in
+    let within : n * 2 ^ rest < 2 ^ size = omega (arith, below, pow_mono {i = size - shift} {j = size} (omega arith)) in
+    rw (mod-eq_of_lt within) below
 
 -- the place of the octet behind the one where zeros begin
 pub zeros-behind_begun : (place : ℕ) (list : List Bool) → IsZeroFrom place list → 8 * (place / 8) + 8 ≤ length list

@@ -1,6 +1,6 @@
 //! A word of bits, at any place of octets.
 
-ghost use Rattle.std.specs.Prelude.{◌≡◌, ◌+◌, ◌*◌, ◌/◌, ◌%◌, ◌^◌, ◌<◌, ◌≤◌, ◌++◌, length, take, drop};
+ghost use Rattle.std.specs.Prelude.{◌≡◌, ◌+◌, ◌-◌, ◌*◌, ◌/◌, ◌%◌, ◌^◌, ◌<◌, ◌≤◌, ◌++◌, length, take, drop};
 ghost use Rattle.std.specs.Int.{div_ceil, to_le_bytes, w64};
 ghost use Rattle.asn1_bits.specs.Bits.{bits, digits, ored, IsZeroFrom};
 
@@ -193,17 +193,20 @@ pub(crate) fn lowest_wide(value: u128, width: usize) -> u128
     }
 }
 
-/// As `or_octets`, where zeros stand behind the first of the octets. It alone is read, and ORed in behind the turn of the
-/// word's octets, so that a number waits no longer than it must for the one that was stored before it.
+/// As `or_octets`, from the octet of bit `position` on, where zeros stand from that bit on, and the word has no digit
+/// before it. That octet alone is read. It is added behind the turn of the word's octets, whose digits it does not meet:
+/// so a number waits for what was stored before it by one load and one sum.
 #[inline(always)]
-fn or_begun(dst: &mut [u8], first: usize, word: u64)
-    requires room { first + 8 ≤ length dst.old }
-    requires zeros { IsZeroFrom (8 * first + 8) (bits dst.old) }
-    ensures { bits dst.new ≡ ored (bits dst.old) (8 * first) (digits word 64) }
+fn add_octets(dst: &mut [u8], position: usize, word: u64)
+    requires below { word < 2 ^ (64 - position % 8) }
+    requires eight { position / 8 + 8 ≤ length dst.old }
+    requires zeros { IsZeroFrom position (bits dst.old) }
+    ensures { bits dst.new ≡ ored (bits dst.old) (8 * (position / 8)) (digits word 64) }
 {
+    let first = position / 8;
     let begun = u64::from(dst[first]);
     let turned = u64::from_le_bytes(word.to_be_bytes());
-    set_octets(dst, first, (begun | turned).to_le_bytes());
+    set_octets(dst, first, (begun + turned).to_le_bytes());
 }
 
 /// As `or_word`, of a number of `width` digits that lie in eight octets, all of which are there, where zeros stand from
@@ -217,7 +220,7 @@ pub(crate) fn put_word(dst: &mut [u8], position: usize, word: u64, width: usize)
     requires zeros { IsZeroFrom position (bits dst.old) }
     ensures { bits dst.new ≡ ored (bits dst.old) position (digits word width) }
 {
-    or_begun(dst, position / 8, word << (64 - width - position % 8));
+    add_octets(dst, position, word << (64 - width - position % 8));
 }
 
 /// As `put_word`, of a number whose digits lie in sixteen octets.
@@ -230,11 +233,10 @@ fn put_pair(dst: &mut [u8], position: usize, number: u128, width: usize)
     requires zeros { IsZeroFrom position (bits dst.old) }
     ensures { bits dst.new ≡ ored (bits dst.old) position (digits number width) }
 {
-    let first = position / 8;
     let pair = number << (128 - width - position % 8);
     let low = (pair & 0xFFFF_FFFF_FFFF_FFFF) as u64;
-    or_begun(dst, first, (pair >> 64) as u64);
-    set_octets(dst, first + 8, low.to_be_bytes());
+    add_octets(dst, position, (pair >> 64) as u64);
+    set_octets(dst, position / 8 + 8, low.to_be_bytes());
 }
 
 /// As `put_word`, of up to 128 digits, wherever they lie: 64 of them a turn.
