@@ -78,7 +78,7 @@ fn load_native(octets: &[u8], first: usize) -> u64
 }
 
 /// Writes eight octets over those from one of them on.
-#[inline(always)]
+#[inline]
 pub(crate) fn set_octets(dst: &mut [u8], first: usize, octets: [u8; 8])
     requires { first + 8 ≤ length dst.old }
     ensures { dst.new ≡ take first dst.old ++ (octets ++ drop (first + 8) dst.old) }
@@ -196,7 +196,7 @@ pub(crate) fn lowest_wide(value: u128, width: usize) -> u128
 /// As `or_octets`, from the octet of bit `position` on, where zeros stand from that bit on, and the word has no digit
 /// before it. That octet alone is read. It is added behind the turn of the word's octets, whose digits it does not meet:
 /// so a number waits for what was stored before it by one load and one sum.
-#[inline(always)]
+#[inline]
 fn add_octets(dst: &mut [u8], position: usize, word: u64)
     requires below { word < 2 ^ (64 - position % 8) }
     requires eight { position / 8 + 8 ≤ length dst.old }
