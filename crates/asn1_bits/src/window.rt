@@ -145,6 +145,7 @@ fn or_near(dst: &mut [u8], position: usize, word: u64, width: usize)
 }
 
 /// As `or_near`, octet by octet. It is a call of its own: only the last octets of a slice need it.
+#[cold]
 #[inline(never)]
 fn or_short(dst: &mut [u8], position: usize, word: u64, width: usize)
     requires width { position % 8 + width ≤ 64 }
