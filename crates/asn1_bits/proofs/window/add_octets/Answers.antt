@@ -16,7 +16,7 @@ overflow_add-begun c =
     omega (
       arith,
       begun-sum c.args.dst.now c.to_be_bytes.result o turned c.args.word c.args.position c.from-begun.ensures small
-      c.requires.zeros c.requires.eight c.to_be_bytes.ensures c.from_le_bytes-turned.ensures c.requires.below,
+          c.requires.zeros c.requires.eight c.to_be_bytes.ensures c.from_le_bytes-turned.ensures c.requires.below,
       or_lt 64 o turned (omega (arith, small)) (omega arith),
     )
 
