@@ -9,7 +9,7 @@ use Rattle.asn1_number.specs.declared.error.IntegerError.{IntegerError}
 use Rattle.asn1_number.specs.Octets.{IsOctets, unsigned, signed}
 use Rattle.asn1_number.specs.Readings.{IntegerKind, SignedOf, UnsignedOf, Unbounded, IsInRange, signed_reading, unsigned_reading, counted_length, FitsI128, Answers}
 use Rattle.asn1_number.specs.OctetLaws.{signed_low, signed_range, unsigned-zero_first, unsigned_below}
-use Rattle.asn1_number.specs.ReadingLaws.{power_of_bits, half_of_bits}
+use Rattle.asn1_number.specs.ReadingLaws.{power_of_bits, half_of_bits, signed_is_read, unsigned_is_read}
 
 pub reading_empty : (kind : IntegerKind) (o : List ℕ) → length o ≡ 0 → signed_reading kind o ≡ Err UnexpectedEmptyInput
 unfolding signed_reading
@@ -21,11 +21,6 @@ pub signed_too_long : (size b : ℕ) (bs : List ℕ) → size < length (b ∷ bs
 unfolding signed_reading
 signed_too_long size b bs h = cond-true (ltb size (length (b ∷ bs))) _ _ (lt-ltb _ _ h)
 
-pub signed_is_read : (size b : ℕ) (bs : List ℕ) → length (b ∷ bs) ≤ size
-    → signed_reading (SignedOf size) (b ∷ bs) ≡ Ok (signed (b ∷ bs))
-unfolding signed_reading
-signed_is_read size b bs h = cond-false (ltb size (length (b ∷ bs))) _ _ (le-ltb _ _ h)
-
 pub unsigned_below_zero : (size b : ℕ) (bs : List ℕ) → 128 ≤ b
     → signed_reading (UnsignedOf size) (b ∷ bs) ≡ Err (TypeConversionFailed (8 * size))
 unfolding signed_reading
@@ -36,12 +31,6 @@ pub unsigned_too_long : (size b : ℕ) (bs : List ℕ) → b < 128 → size < co
 unfolding signed_reading
 unsigned_too_long size b bs h l = cond-false (leb 128 b) _ _ (lt-leb 128 b h)
     ∙ cond-true (ltb size (counted_length (b ∷ bs))) _ _ (lt-ltb _ _ l)
-
-pub unsigned_is_read : (size b : ℕ) (bs : List ℕ) → b < 128 → counted_length (b ∷ bs) ≤ size
-    → signed_reading (UnsignedOf size) (b ∷ bs) ≡ Ok (signed (b ∷ bs))
-unfolding signed_reading
-unsigned_is_read size b bs h l = cond-false (leb 128 b) _ _ (lt-leb 128 b h)
-    ∙ cond-false (ltb size (counted_length (b ∷ bs))) _ _ (le-ltb _ _ l)
 
 pub signed_too_long_at : (size : ℕ) (o : List ℕ) → 0 < length o → size < length o
     → signed_reading (SignedOf size) o ≡ Err (Overflow (8 * size))

@@ -305,7 +305,7 @@ fn first_word(octets: &[u8]) -> i64
     requires { 8 ≤ length octets.now }
     ensures { result ≡ signed (take 8 octets.now) }
 {
-    let Some((first, _)) = octets[..8].split_first_chunk::<8>() else {
+    let Some(first) = octets.first_chunk::<8>() else {
         unreachable!()
     };
     u64::from_be_bytes(*first).cast_signed()

@@ -78,7 +78,7 @@ impl ObjectIdentifier {
     }
 
     /// The identifier of which the octets are the contents (X.690 8.19). Want of memory is told of octets alone that
-    /// would be read.
+    /// would be read. Room for one arc more than there are octets is asked for before they are read, and is kept.
     pub fn from_contents<S: OctetSource>(
         alloc: Global,
         source: &S,

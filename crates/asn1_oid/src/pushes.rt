@@ -26,74 +26,17 @@ pub(crate) fn push_arc(octets: &mut Vec<u8>, arc: u32)
     ensures len { vec_len octets.new ≤ vec_len octets.old + 5 }
     ensures capacity { vec_capacity octets.new ≡ vec_capacity octets.old }
 {
-    if arc < 1 << 7 {
-        octets.push_reserved(arc as u8);
-    } else if arc < 1 << 14 {
-        push_two(octets, arc);
-    } else if arc < 1 << 21 {
-        push_three(octets, arc);
-    } else if arc < 1 << 28 {
-        push_four(octets, arc);
-    } else {
-        push_five(octets, arc);
+    if arc >= 1 << 7 {
+        if arc >= 1 << 14 {
+            if arc >= 1 << 21 {
+                if arc >= 1 << 28 {
+                    octets.push_reserved((128 + (arc >> 28) % 128) as u8);
+                }
+                octets.push_reserved((128 + (arc >> 21) % 128) as u8);
+            }
+            octets.push_reserved((128 + (arc >> 14) % 128) as u8);
+        }
+        octets.push_reserved((128 + (arc >> 7) % 128) as u8);
     }
-}
-
-/// Appends the last octet of the arc's subidentifier.
-#[inline(always)]
-fn push_one(octets: &mut Vec<u8>, arc: u32)
-    requires { vec_len octets.old + 1 ≤ vec_capacity octets.old }
-    ensures items { octets.new.items ≡ octets.old.items ++ last_octets arc 1 }
-    ensures len { vec_len octets.new ≡ vec_len octets.old + 1 }
-    ensures capacity { vec_capacity octets.new ≡ vec_capacity octets.old }
-{
     octets.push_reserved((arc % 128) as u8);
-}
-
-/// Appends the last two octets of the arc's subidentifier.
-#[inline(always)]
-fn push_two(octets: &mut Vec<u8>, arc: u32)
-    requires { vec_len octets.old + 2 ≤ vec_capacity octets.old }
-    ensures items { octets.new.items ≡ octets.old.items ++ last_octets arc 2 }
-    ensures len { vec_len octets.new ≡ vec_len octets.old + 2 }
-    ensures capacity { vec_capacity octets.new ≡ vec_capacity octets.old }
-{
-    octets.push_reserved((128 + (arc >> 7) % 128) as u8);
-    push_one(octets, arc);
-}
-
-/// Appends the last three octets of the arc's subidentifier.
-#[inline(always)]
-fn push_three(octets: &mut Vec<u8>, arc: u32)
-    requires { vec_len octets.old + 3 ≤ vec_capacity octets.old }
-    ensures items { octets.new.items ≡ octets.old.items ++ last_octets arc 3 }
-    ensures len { vec_len octets.new ≡ vec_len octets.old + 3 }
-    ensures capacity { vec_capacity octets.new ≡ vec_capacity octets.old }
-{
-    octets.push_reserved((128 + (arc >> 14) % 128) as u8);
-    push_two(octets, arc);
-}
-
-/// Appends the last four octets of the arc's subidentifier.
-#[inline(always)]
-fn push_four(octets: &mut Vec<u8>, arc: u32)
-    requires { vec_len octets.old + 4 ≤ vec_capacity octets.old }
-    ensures items { octets.new.items ≡ octets.old.items ++ last_octets arc 4 }
-    ensures len { vec_len octets.new ≡ vec_len octets.old + 4 }
-    ensures capacity { vec_capacity octets.new ≡ vec_capacity octets.old }
-{
-    octets.push_reserved((128 + (arc >> 21) % 128) as u8);
-    push_three(octets, arc);
-}
-
-/// Appends the last five octets of the arc's subidentifier.
-#[inline(always)]
-fn push_five(octets: &mut Vec<u8>, arc: u32)
-    requires { vec_len octets.old + 5 ≤ vec_capacity octets.old }
-    ensures items { octets.new.items ≡ octets.old.items ++ last_octets arc 5 }
-    ensures len { vec_len octets.new ≡ vec_len octets.old + 5 }
-    ensures capacity { vec_capacity octets.new ≡ vec_capacity octets.old }
-{
-    octets.push_reserved((128 + (arc >> 28) % 128) as u8);
-    push_four(octets, arc);
 }

@@ -24,7 +24,8 @@ use std::collections::BTreeMap;
 ///
 /// The calls that read a string examine the whole input, whatever memory there is. They refuse it by
 /// `Other`, `InvalidData` or the first wrong character, in this order, and by `Memory` only what would
-/// else be a string that is not empty.
+/// else be a string that is not empty. Those that read bits ask for room for all characters before they
+/// look at the first.
 pub trait StaticPermittedAlphabet: Sized + Drop {
     ghost use Rattle.asn1_characters.specs.declared.character_set.CharacterSetName.{CharacterSetName};
     ghost use Rattle.asn1_characters.specs.declared.character_set.CharacterRanges.{CharacterRanges};

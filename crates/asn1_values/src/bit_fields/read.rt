@@ -31,8 +31,8 @@ use asn1_strings::CharacterAlphabet;
 use std::alloc::{AllocError, Global};
 
 /// Reads fields of the shapes from the front of the reader, which moves past them. Where one is refused, the reader
-/// stays. Room for all fields is asked for at first, and want of memory is the last refusal: where it is met, the list
-/// is examined to its end without memory.
+/// stays. Room for as many fields as there are shapes is asked for first, and octets that are copied take their own. Want
+/// of memory is the last refusal: where it is met, the list is examined to its end without memory.
 pub fn read_fields<'a, 's>(
     alloc: Global,
     reader: &mut BitReader<'a>,

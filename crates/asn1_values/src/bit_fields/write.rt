@@ -24,7 +24,8 @@ use asn1_oid::{ObjectIdentifier, OidContents};
 use asn1_strings::CharacterAlphabet;
 
 /// Appends the fields' bits to the buffer, one after another, by one growth. Where a field doesn't fit, or memory is
-/// wanting, the buffer stays; want of memory is the last refusal.
+/// wanting, the buffer's bits stay; want of memory is the last refusal. The codes of characters are looked up after the
+/// growth, so a list that is refused for a character may leave the buffer with more capacity.
 pub fn write_fields(buffer: &mut BitBuffer, fields: &[Field<'_, '_>]) -> Result<(), WriteError>
     // The old bits are followed by a concatenation of the fields' spellings.
     ensures written { OnOk result ((list : List Bool) × AreSpelledBy (plain_fields fields.now) list
