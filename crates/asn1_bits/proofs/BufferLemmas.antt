@@ -37,10 +37,10 @@ len_fits octets len f = omega (arith, f.count)
 
 -- octets whose bits are a list and then zeros
 pub filled_by : (octets : List ℕ) (len : ℕ) (list : List Bool) (z : ℕ) → bits octets ≡ list ++ replicate z false
-    → length list ≡ len → octets_for len ≤ length octets
+    → length list ≡ len → octets_for len ≤ length octets → length octets ≤ len / 8 + 39
     → IsFilled octets len × (bits_shown octets len ≡ list)
 unfolding bits_shown
-filled_by octets len list z e l n =
+filled_by octets len list z e l n m =
     let front : take len (bits octets) ≡ list = ap (take len) e ∙ take_at list (replicate z false) len l in
     let total : length (bits octets) ≡ len + z = ap (λ (l : List Bool). length l) e
     ∙ omega (arith, length-append list (replicate z false), length-replicate z false) in
@@ -49,7 +49,7 @@ filled_by octets len list z e l n =
     zero_from len (bits octets) (omega arith)
     (e ∙ ap (λ (k : ℕ). list ++ replicate k false) rest
     ∙ ap (λ (l : List Bool). l ++ replicate (length (bits octets) - len) false) (sym front)) in
-    (record { count = n; rest = zeros }, front)
+    (record { count = n; few = m; rest = zeros }, front)
 
 -- the octets' bits are those that they show, and zeros
 pub spelled : (octets : List ℕ) (len : ℕ) → IsFilled octets len
@@ -62,7 +62,7 @@ spelled octets len f =
 -- no octets are filled by no bits
 pub filled-none : IsFilled [] 0 × (bits_shown [] 0 ≡ [])
 unfolding bits
-filled-none = filled_by [] 0 [] 0 refl refl (omega arith)
+filled-none = filled_by [] 0 [] 0 refl refl (omega arith) (omega arith)
 
 -- a list and the first of the zeros behind it
 pub take-zeros : (list : List Bool) (n k z : ℕ) → length list ≡ n → k ≤ z
@@ -107,12 +107,14 @@ filled-front octets len f =
     (padded-bits_shown octets len f ∙ ap (λ (k : ℕ). bits_shown octets len ++ replicate k false) size)
     n
     (omega (arith, length-take (octets_for len) octets, f.count))
+    (omega (arith, length-take (octets_for len) octets, f.count))
 
 -- octets of zeros behind them show that many zeros more
 pub filled-grow : (octets : List ℕ) (len d k : ℕ) → IsFilled octets len → octets_for (len + d) ≤ length octets + k
+    → length octets + k ≤ (len + d) / 8 + 39
     → IsFilled (octets ++ replicate k 0) (len + d)
     × (bits_shown (octets ++ replicate k 0) (len + d) ≡ bits_shown octets len ++ replicate d false)
-filled-grow octets len d k f e =
+filled-grow octets len d k f e m =
     let z = 8 * length octets - len in
     let z' = 8 * (length octets + k) - (len + d) in
     let shape : bits (octets ++ replicate k 0) ≡ (bits_shown octets len ++ replicate d false) ++ replicate z' false =
@@ -133,6 +135,7 @@ filled-grow octets len d k f e =
       length-replicate d false,
     ))
     (omega (arith, length-append octets (replicate k 0), length-replicate {A = ℕ} k 0))
+    (omega (arith, length-append octets (replicate k 0), length-replicate {A = ℕ} k 0))
 
 -- a bit that is set in the octets is set among those that are shown
 pub filled-set : (octets after : List ℕ) (len i : ℕ) (bit : Bool) → IsFilled octets len
@@ -145,7 +148,7 @@ filled-set octets after len i bit f e n h =
     ∙ set-append_left (bits_shown octets len) (replicate z false) i bit
     (omega (arith, length-bits_shown octets len f)))
     (length-set (bits_shown octets len) i bit ∙ length-bits_shown octets len f)
-    (omega (arith, n, f.count))
+    (omega (arith, n, f.count)) (omega (arith, n, f.few))
 
 -- bits that are ORed into the octets are ORed into those that are shown
 pub filled-ored : (octets after : List ℕ) (len place : ℕ) (src : List Bool) → IsFilled octets len
@@ -159,22 +162,25 @@ filled-ored octets after len place src f e n h =
     ∙ ored-append_left (bits_shown octets len) (replicate z false) place src
     (omega (arith, length-bits_shown octets len f)))
     (length-ored (bits_shown octets len) place src ∙ length-bits_shown octets len f)
-    (omega (arith, n, f.count))
+    (omega (arith, n, f.count)) (omega (arith, n, f.few))
 
 -- octets that were filled up with zeros to hold d bits more
 pub filled-grow_to : (octets after : List ℕ) (len d count : ℕ) → IsFilled octets len
-    → octets_for (len + d) ≤ length octets + (count - length octets)
+    → count ≡ octets_for (len + d)
     → after ≡ octets ++ replicate (count - length octets) 0
     → IsFilled after (len + d) × (bits_shown after (len + d) ≡ bits_shown octets len ++ replicate d false)
-filled-grow_to octets after len d count f n e = rw e (filled-grow octets len d (count - length octets) f n)
+filled-grow_to octets after len d count f n e =
+    rw e
+    (filled-grow octets len d (count - length octets) f (omega (arith, n)) (omega (arith, n, f.few)))
 
 -- octets of zeros behind them show the same
 pub filled-ready : (octets after : List ℕ) (len n count : ℕ) → IsFilled octets len → n ≡ length octets → n ≤ count
+    → count ≤ len / 8 + 39
     → after ≡ take count octets ++ replicate (count - n) 0
     → IsFilled after len × (bits_shown after len ≡ bits_shown octets len)
-filled-ready octets after len n count f size h e =
+filled-ready octets after len n count f size h m e =
     let k = count - n in
-    let g = filled-grow octets len 0 k f (omega (arith, f.count)) in
+    let g = filled-grow octets len 0 k f (omega (arith, f.count)) (omega (arith, size, h, m)) in
     let none : len + 0 ≡ len = omega arith in
     let same = rw none at g in
     let all : after ≡ octets ++ replicate k 0 =
@@ -234,7 +240,7 @@ filled-cut octets cut after old len f h c e n =
     filled_by after len (take len (bits_shown octets old)) (8 * length cut - len)
     (e ∙ ap (λ (l : List Bool). l ++ replicate (8 * length cut - len) false) front)
     (omega (arith, length-take len (bits_shown octets old), length-bits_shown octets old f))
-    (omega (arith, n, count))
+    (omega (arith, n, count)) (omega (arith, n, count))
 
 -- octets that were lengthened with zeros, into which a list was ORed
 pub bits-lengthened : (octets grown front room dst : List ℕ) (list : List Bool) (n needed count : ℕ)
@@ -306,6 +312,7 @@ whole-filled items src len whole =
     let none : 0 ≡ length all - end = omega (arith, n) in (
       record {
         count = omega (arith, length-append items src);
+        few = omega (arith, length-append items src);
         rest =
             record {
               within = omega (arith, n);

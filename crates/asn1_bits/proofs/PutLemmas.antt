@@ -114,14 +114,15 @@ unfolding bits_shown
 filled-pushed octets after len width src f e n room =
     let all = bits octets in
     let shown = bits_shown octets len in
-    filled_by after (len + width) (shown ++ src) (length all - (len + length src))
-    (e ∙ ored-room all src len f.rest (omega (arith, length-bits octets, n, room)))
-    (omega (arith, length-append shown src, length-bits_shown octets len f, n))
-    (omega (
+    let length-pushed : length after ≡ length octets =
+    omega (
       arith,
       length-bits after,
       length-bits octets,
       ap (λ (l : List Bool). length l) e,
       length-ored all len src,
-      room,
-    ))
+    ) in
+    filled_by after (len + width) (shown ++ src) (length all - (len + length src))
+    (e ∙ ored-room all src len f.rest (omega (arith, length-bits octets, n, room)))
+    (omega (arith, length-append shown src, length-bits_shown octets len f, n))
+    (omega (arith, length-pushed, room)) (omega (arith, length-pushed, f.few))

@@ -129,7 +129,8 @@ impl BitBuffer {
         set_bit(self.bytes.as_mut_slice(), index, bit);
     }
 
-    /// Makes room for `additional` octets more, or is refused for want of memory. The bits stay.
+    /// Makes room for `additional` octets more, or is refused for want of memory. The bits stay. So many octets may then
+    /// be appended without a request for memory, which no clause says.
     pub fn reserve_bytes(&mut self, additional: usize) -> Result<(), AllocError>
         ensures same { self.new ≡ self.old }
         // For no octet it asks for no memory.
@@ -193,8 +194,9 @@ impl BitBuffer {
             return self.push_digits(value, width);
         }
         if octets - position / 8 < 8 {
-            if (position + width).div_ceil(8) <= octets && self.bytes.capacity() - octets < READY {
-                // No octet is added, so no memory is asked for.
+            let capacity = self.bytes.capacity();
+            if (position + width).div_ceil(8) <= capacity && capacity - octets < READY {
+                // The capacity holds the digits, so no memory is asked for.
                 return self.push_digits(value, width);
             }
             self.bytes.resize(octets + READY, 0)?;

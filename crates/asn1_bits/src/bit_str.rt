@@ -6,8 +6,9 @@ ghost use Rattle.asn1_bits.specs.View.{IsWithin};
 
 use crate::kernels::{read_front, read_word, write_bitslice};
 use crate::single_bits::{bit_from, from_octet};
+use crate::target::{Rest, Target};
 use crate::turns::Turns;
-use crate::window::{or_shifted_words, or_within, or_words, whole_word};
+use crate::window::{or_shifted_words, or_words, whole_word};
 use std::alloc::AllocError;
 use std::cmp::Ordering;
 use std::hash::{Hash, Hasher};
@@ -170,16 +171,28 @@ impl<'a> BitStr<'a> {
         read_word(octets, low % 8, width)
     }
 
-    /// ORs `width` bits of it, from bit `at` on, into the octet of `dst` that bit `position` lies in.
+    /// ORs `width` bits of it, from bit `at` on, into the front of an octet of the target, as the rest of a begun word.
     #[inline]
-    pub(crate) fn or_edge(&self, at: usize, width: usize, dst: &mut [u8], position: usize)
+    pub(crate) fn or_edge(
+        &self,
+        at: usize,
+        width: usize,
+        dst: &mut Target<'_>,
+        rest: Rest,
+        octet: usize,
+    )
         requires source { at + width ≤ (view_of self.now).len }
-        requires octet { position % 8 + width ≤ 8 }
-        requires within { position + width ≤ 8 * length dst.old }
-        ensures { bits dst.new ≡ ored (bits dst.old) position (take width (drop at (bits_of self.now))) }
+        requires left { width ≤ rest.left }
+        requires width { width ≤ 8 }
+        requires within { 8 * octet + width ≤ 8 * length dst.old.octets.now }
+        ensures bits { bits dst.new.octets.now
+            ≡ ored (bits dst.old.octets.now) (8 * octet) (take width (drop at (bits_of self.now))) }
+        ensures same_reference { dst.new.octets.ghost_name ≡ dst.old.octets.ghost_name }
+        ensures length { length dst.new.octets.now ≡ length dst.old.octets.now }
+        ensures placed { dst.new.placed.count ≡ dst.old.placed.count }
     {
         if width > 0 {
-            or_within(dst, position, self.word(at, width), width);
+            dst.or_rest(rest, octet, self.word(at, width), width);
         }
     }
 
@@ -212,16 +225,20 @@ impl<'a> BitStr<'a> {
     pub(crate) fn or_words(
         &self,
         at: usize,
-        dst: &mut [u8],
+        dst: &mut Target<'_>,
         first: usize,
         count: usize,
         turns: &mut Turns,
     )
         requires behind { 56 ≤ at }
         requires within { at + 64 * count ≤ (view_of self.now).len }
-        requires room { first + 8 * count ≤ length dst.old }
-        ensures bits { bits dst.new
-            ≡ ored (bits dst.old) (8 * first) (take (64 * count) (drop at (bits_of self.now))) }
+        requires room { first + 8 * count ≤ length dst.old.octets.now }
+        ensures bits { bits dst.new.octets.now
+            ≡ ored (bits dst.old.octets.now) (8 * first) (take (64 * count) (drop at (bits_of self.now))) }
+        ensures same_reference { dst.new.octets.ghost_name ≡ dst.old.octets.ghost_name }
+        ensures length { length dst.new.octets.now ≡ length dst.old.octets.now }
+        ensures each_turn_places { turns.new.count + dst.old.placed.count
+            ≡ turns.old.count + dst.new.placed.count }
         ensures turns { turns.new.count ≡ turns.old.count + count }
     {
         let low = self.shift + at % 8;

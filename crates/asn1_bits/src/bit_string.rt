@@ -1,6 +1,6 @@
 //! An owned list of bits.
 
-ghost use Rattle.std.specs.Prelude.{◌≡◌, ◌+◌, ◌*◌, ◌^◌, ◌<◌, ◌↔◌, [], ◌++◌, length, take, IsTrue, IsOk, IfOk, OnOk, OnErr, vec_len};
+ghost use Rattle.std.specs.Prelude.{◌≡◌, ◌+◌, ◌*◌, ◌^◌, ◌<◌, ◌↔◌, [], ◌++◌, All, length, take, IsTrue, IsOk, IfOk, OnOk, OnErr, vec_len};
 ghost use Rattle.asn1_bits.specs.Bits.{bits, octets_for, padded, AddsNoOctet};
 ghost use Rattle.asn1_bits.specs.BitStr.{view_of, bits_of};
 
@@ -81,6 +81,7 @@ impl BitString {
     pub fn as_raw_slice(&self) -> &[u8]
         ensures spelled { bits result.now ≡ padded self.now }
         ensures count { length result.now ≡ octets_for (length self.now) }
+        ensures octets { All (λ octet. octet < 256) result.now }
     {
         self.buffer.as_bytes()
     }
@@ -89,6 +90,7 @@ impl BitString {
     pub fn into_vec(self) -> Vec<u8>
         ensures spelled { bits result.items ≡ padded self }
         ensures count { vec_len result ≡ octets_for (length self) }
+        ensures octets { All (λ octet. octet < 256) result.items }
     {
         let BitString { buffer } = self;
         buffer.into_vec()

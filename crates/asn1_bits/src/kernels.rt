@@ -8,11 +8,11 @@ ghost use Rattle.asn1_bits.specs.Turns.{turns_for};
 ghost use Rattle.asn1_bits.specs.View.{IsAligned};
 
 use crate::bit_str::BitStr;
+use crate::places::place_word;
 use crate::single_bits::from_octet;
+use crate::target::Target;
 use crate::turns::Turns;
-use crate::window::{
-    eight, load, or_word, or_words, set_octets, whole_word, wide_of_seventeen, word_of_nine,
-};
+use crate::window::{eight, load, or_words, whole_word, wide_of_seventeen, word_of_nine};
 use std::alloc::AllocError;
 
 /// ORs the first `count` bits of `src` into `dst` from bit `position` on, and leaves every other bit. Both lie within
@@ -30,6 +30,8 @@ pub fn or_bits(dst: &mut [u8], position: usize, src: &[u8], count: usize, turns:
 
 /// ORs the view into `dst` from bit `position` on, and leaves every other bit. It ends within `dst`, at a bit that
 /// `usize` counts.
+// The counted work is `or_view`, whose clause `each_turn_places` ties each store to a turn. It can't see a walk that only
+// reads, nor a store that would stand here, before the target is made: so this is one line, as is `put_bitslice`.
 #[inline(always)]
 pub fn write_bitslice(dst: &mut [u8], position: usize, src: BitStr<'_>, turns: &mut Turns)
     requires room { position + (view_of src).len ≤ 8 * length dst.old }
@@ -38,43 +40,71 @@ pub fn write_bitslice(dst: &mut [u8], position: usize, src: BitStr<'_>, turns: &
     ensures at_least { turns.old.count + div_ceil (view_of src.entry).len 64 ≤ turns.new.count }
     ensures at_most { turns.new.count ≤ turns.old.count + turns_for (view_of src.entry).len }
 {
-    let len = src.len();
-    if len > 64 {
-        write_long(dst, position, src, turns);
-    } else if len > 0 {
-        or_word(dst, position, src.word(0, len), len);
-        turns.tick();
+    or_view(&mut Target::new(dst), position, src, turns);
+}
+
+/// As `write_bitslice`, into a target.
+#[inline(always)]
+fn or_view(dst: &mut Target<'_>, position: usize, src: BitStr<'_>, turns: &mut Turns)
+    requires room { position + (view_of src).len ≤ 8 * length dst.old.octets.now }
+    requires fits { position + (view_of src).len < 2 ^ 64 }
+    ensures bits { bits dst.new.octets.now
+        ≡ ored (bits dst.old.octets.now) position (bits_of src.entry) }
+    ensures same_reference { dst.new.octets.ghost_name ≡ dst.old.octets.ghost_name }
+    ensures length { length dst.new.octets.now ≡ length dst.old.octets.now }
+    ensures each_turn_places { turns.new.count + dst.old.placed.count
+        ≡ turns.old.count + dst.new.placed.count }
+    ensures turns { turns.new.count ≡ turns.old.count + div_ceil (view_of src.entry).len 64 }
+{
+    if src.len() > 64 {
+        or_long(dst, position, src, turns);
+    } else {
+        place_word(dst, position, src, turns);
     }
 }
 
-/// As `write_bitslice`, for more than a word. It is a call of its own, so that short views are written in line.
+/// As `or_view`, for more than a word. It is a call of its own, so that short views are written in line.
 #[inline(never)]
-fn write_long(dst: &mut [u8], position: usize, src: BitStr<'_>, turns: &mut Turns)
+fn or_long(dst: &mut Target<'_>, position: usize, src: BitStr<'_>, turns: &mut Turns)
     requires long { 64 < (view_of src).len }
-    requires room { position + (view_of src).len ≤ 8 * length dst.old }
+    requires room { position + (view_of src).len ≤ 8 * length dst.old.octets.now }
     requires fits { position + (view_of src).len < 2 ^ 64 }
-    ensures bits { bits dst.new ≡ ored (bits dst.old) position (bits_of src.entry) }
+    ensures bits { bits dst.new.octets.now
+        ≡ ored (bits dst.old.octets.now) position (bits_of src.entry) }
+    ensures same_reference { dst.new.octets.ghost_name ≡ dst.old.octets.ghost_name }
+    ensures length { length dst.new.octets.now ≡ length dst.old.octets.now }
+    ensures each_turn_places { turns.new.count + dst.old.placed.count
+        ≡ turns.old.count + dst.new.placed.count }
     ensures turns { turns.new.count ≡ turns.old.count + div_ceil (view_of src.entry).len 64 }
 {
     let len = src.len();
     let words = len / 64;
     let tail = len % 64;
-    write_words(dst, position, src.slice(0, 64 * words), turns);
+    or_whole_words(dst, position, src.slice(0, 64 * words), turns);
     if tail > 0 {
-        or_word(dst, position + 64 * words, src.word(64 * words, tail), tail);
-        turns.tick();
+        dst.or_word(
+            position + 64 * words,
+            src.word(64 * words, tail),
+            tail,
+            turns,
+        );
     }
 }
 
 /// ORs a view of whole words in: a word a turn. Off an octet boundary a word's last bits lie in the eight octets behind:
-/// they go in with the next word, and those of the last word by themselves.
+/// they go in with the next word, and those of the last word complete the first, of which so many bits were left.
 #[inline(always)]
-fn write_words(dst: &mut [u8], position: usize, src: BitStr<'_>, turns: &mut Turns)
+fn or_whole_words(dst: &mut Target<'_>, position: usize, src: BitStr<'_>, turns: &mut Turns)
     requires some { 64 ≤ (view_of src).len }
     requires whole { (view_of src).len % 64 ≡ 0 }
-    requires room { position + (view_of src).len ≤ 8 * length dst.old }
+    requires room { position + (view_of src).len ≤ 8 * length dst.old.octets.now }
     requires fits { position + (view_of src).len < 2 ^ 64 }
-    ensures bits { bits dst.new ≡ ored (bits dst.old) position (bits_of src.entry) }
+    ensures bits { bits dst.new.octets.now
+        ≡ ored (bits dst.old.octets.now) position (bits_of src.entry) }
+    ensures same_reference { dst.new.octets.ghost_name ≡ dst.old.octets.ghost_name }
+    ensures length { length dst.new.octets.now ≡ length dst.old.octets.now }
+    ensures each_turn_places { turns.new.count + dst.old.placed.count
+        ≡ turns.old.count + dst.new.placed.count }
     ensures turns { turns.new.count ≡ turns.old.count + (view_of src.entry).len / 64 }
 {
     let len = src.len();
@@ -85,10 +115,9 @@ fn write_words(dst: &mut [u8], position: usize, src: BitStr<'_>, turns: &mut Tur
             return;
         }
     }
-    or_word(dst, position, src.word(0, 64 - spill), 64 - spill);
-    turns.tick();
+    let rest = dst.or_begun(position, src.word(0, 64 - spill), 64 - spill, turns);
     src.or_words(64 - spill, dst, position / 8 + 8, len / 64 - 1, turns);
-    src.or_edge(len - spill, spill, dst, position + len - spill);
+    src.or_edge(len - spill, spill, dst, rest, position / 8 + len / 8);
 }
 
 /// As `write_bitslice`, where zeros stand from bit `position` on: octets on octet boundaries are copied.
@@ -101,33 +130,53 @@ pub(crate) fn put_bitslice(dst: &mut [u8], position: usize, src: BitStr<'_>, tur
     ensures at_least { turns.old.count + div_ceil (view_of src.entry).len 64 ≤ turns.new.count }
     ensures at_most { turns.new.count ≤ turns.old.count + turns_for (view_of src.entry).len }
 {
+    put_view(&mut Target::new(dst), position, src, turns);
+}
+
+/// As `put_bitslice`, into a target.
+#[inline(always)]
+fn put_view(dst: &mut Target<'_>, position: usize, src: BitStr<'_>, turns: &mut Turns)
+    requires room { position + (view_of src).len ≤ 8 * length dst.old.octets.now }
+    requires fits { position + (view_of src).len < 2 ^ 64 }
+    requires zeros { IsZeroFrom position (bits dst.old.octets.now) }
+    ensures bits { bits dst.new.octets.now
+        ≡ ored (bits dst.old.octets.now) position (bits_of src.entry) }
+    ensures same_reference { dst.new.octets.ghost_name ≡ dst.old.octets.ghost_name }
+    ensures length { length dst.new.octets.now ≡ length dst.old.octets.now }
+    ensures each_turn_places { turns.new.count + dst.old.placed.count
+        ≡ turns.old.count + dst.new.placed.count }
+    ensures turns { turns.new.count ≡ turns.old.count + div_ceil (view_of src.entry).len 64 }
+{
     if src.len() > 64 && position % 8 == 0 {
         if let Some(octets) = src.aligned() {
             copy_octets(dst, position / 8, octets, turns);
             return;
         }
     }
-    write_bitslice(dst, position, src, turns);
+    or_view(dst, position, src, turns);
 }
 
 /// Copies octets over the zeros from octet `first` on: a word a turn, and their last ones in another. It is a call of its
 /// own, so that short views are written in line.
 #[inline(never)]
-fn copy_octets(dst: &mut [u8], first: usize, src: &[u8], turns: &mut Turns)
-    requires room { first + length src.now ≤ length dst.old }
+fn copy_octets(dst: &mut Target<'_>, first: usize, src: &[u8], turns: &mut Turns)
+    requires room { first + length src.now ≤ length dst.old.octets.now }
     requires fits { 8 * (first + length src.now) < 2 ^ 64 }
-    requires zeros { IsZeroFrom (8 * first) (bits dst.old) }
-    ensures bits { bits dst.new ≡ ored (bits dst.old) (8 * first) (bits src.now) }
-    ensures at_least { turns.old.count + div_ceil (8 * length src.now) 64 ≤ turns.new.count }
-    ensures at_most { turns.new.count ≤ turns.old.count + turns_for (8 * length src.now) }
+    requires zeros { IsZeroFrom (8 * first) (bits dst.old.octets.now) }
+    ensures bits { bits dst.new.octets.now
+        ≡ ored (bits dst.old.octets.now) (8 * first) (bits src.now) }
+    ensures same_reference { dst.new.octets.ghost_name ≡ dst.old.octets.ghost_name }
+    ensures length { length dst.new.octets.now ≡ length dst.old.octets.now }
+    ensures each_turn_places { turns.new.count + dst.old.placed.count
+        ≡ turns.old.count + dst.new.placed.count }
+    ensures turns { turns.new.count ≡ turns.old.count + div_ceil (8 * length src.now) 64 }
 {
     let words = src.len() / 8;
     for k in 0..words {
-        set_octets(dst, first + 8 * k, eight(src, 8 * k));
-        turns.tick();
+        dst.put_eight(first + 8 * k, eight(src, 8 * k), turns);
     }
     let tail = BitStr::from_octets(from_octet(src, 8 * words));
-    write_bitslice(dst, 8 * (first + 8 * words), tail, turns);
+    or_view(dst, 8 * (first + 8 * words), tail, turns);
 }
 
 /// The number of the `width` bits from bit `position` on, the first of them its highest digit. `width` is at most 128,
@@ -260,6 +309,7 @@ pub fn extend_vec_from_bitslice(dst: &mut Vec<u8>, src: BitStr<'_>) -> Result<()
     requires { (view_of src).len % 8 ≡ 0 }
     ensures ok { OnOk result (bits dst.new.items ≡ bits dst.old.items ++ bits_of src.entry) }
     ensures front { OnOk result (take (vec_len dst.old) dst.new.items ≡ dst.old.items) }
+    ensures octets { All (λ octet. octet < 256) dst.new.items }
     ensures err { OnErr result (dst.new.items ≡ dst.old.items) }
     // Where no octet is added, no memory is asked for.
     ensures free { (view_of src.entry).len ≡ 0 → IsOk result }

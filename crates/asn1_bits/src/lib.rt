@@ -16,6 +16,7 @@ mod octets;
 mod overwrite;
 mod places;
 mod single_bits;
+mod target;
 mod turns;
 mod window;
 

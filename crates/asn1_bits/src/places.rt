@@ -2,11 +2,12 @@
 
 ghost use Rattle.std.specs.Prelude.{◌≡◌, ℕ, ◌+◌, ◌^◌, ◌<◌, ◌≤◌, List, Bool, length};
 ghost use Rattle.std.specs.Int.{div_ceil};
-ghost use Rattle.asn1_bits.specs.Bits.{digits, ored};
+ghost use Rattle.asn1_bits.specs.Bits.{bits, digits, ored};
 ghost use Rattle.asn1_bits.specs.BitStr.{view_of, bits_of};
 ghost use Rattle.asn1_bits.specs.Turns.{turns_for};
 
 use crate::bit_str::BitStr;
+use crate::target::Target;
 use crate::turns::Turns;
 
 /// A list of bits into which words are ORed, at any place.
@@ -35,6 +36,24 @@ pub trait Places {
         ensures turn { turns.new.count ≡ turns.old.count + 1 };
 }
 
+impl Places for Target<'_> {
+    ghost list = { λ t. bits t.octets.now };
+
+    ghost placements = { λ t. t.placed.count };
+
+    ghost reference = { λ t. t.octets.ghost_name };
+
+    #[inline(always)]
+    fn len(&self) -> u128 {
+        8 * self.octet_count() as u128
+    }
+
+    #[inline(always)]
+    fn place(&mut self, position: usize, word: u64, width: usize, turns: &mut Turns) {
+        self.or_word(position, word, width, turns);
+    }
+}
+
 /// ORs the view into the target from bit `position` on: a turn for each word of 64 bits, and one for the tail. It ends
 /// within the target, at a bit that `usize` counts.
 pub fn place_bits<D: Places>(target: &mut D, position: usize, src: BitStr<'_>, turns: &mut Turns)
@@ -53,20 +72,24 @@ pub fn place_bits<D: Places>(target: &mut D, position: usize, src: BitStr<'_>, t
         target.place(position + 64 * k, src.word_of_64(64 * k), 64, turns);
     }
     let (_, tail) = src.split_at(64 * words);
-    place_tail(target, position + 64 * words, tail, turns);
+    place_word(target, position + 64 * words, tail, turns);
 }
 
-/// ORs a view shorter than a word into the target from bit `position` on, in one turn.
-fn place_tail<D: Places>(target: &mut D, position: usize, src: BitStr<'_>, turns: &mut Turns)
-    requires short { (view_of src).len < 64 }
-    requires fits { position + (view_of src).len < 2 ^ 64 }
+/// ORs a view of at most a word into the target from bit `position` on, in one turn.
+#[inline(always)]
+pub(crate) fn place_word<D: Places>(
+    target: &mut D,
+    position: usize,
+    src: BitStr<'_>,
+    turns: &mut Turns,
+)
+    requires short { (view_of src).len ≤ 64 }
     requires within { position + (view_of src).len ≤ length (D.list target.old) }
     ensures list { D.list target.new ≡ ored (D.list target.old) position (bits_of src.entry) }
     ensures same_reference { D.reference target.new ≡ D.reference target.old }
     ensures each_turn_places { turns.new.count + D.placements target.old
         ≡ turns.old.count + D.placements target.new }
-    ensures at_least { turns.old.count + div_ceil (view_of src.entry).len 64 ≤ turns.new.count }
-    ensures at_most { turns.new.count ≤ turns.old.count + turns_for (view_of src.entry).len }
+    ensures turns { turns.new.count ≡ turns.old.count + div_ceil (view_of src.entry).len 64 }
 {
     let len = src.len();
     if len > 0 {

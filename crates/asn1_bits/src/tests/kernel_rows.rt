@@ -3,7 +3,6 @@
 ghost use Rattle.std.specs.Prelude.{◌≤◌};
 ghost use Rattle.asn1_bits.specs.Bits.{bits};
 
-use crate::window::or_word;
 use crate::{BitStr, Places, Turns, or_bits, place_bits, read_wide, write_bitslice};
 use std::test::Fail;
 
@@ -25,7 +24,9 @@ impl Places for Counted {
     }
 
     fn place(&mut self, position: usize, word: u64, width: usize, turns: &mut Turns) {
-        or_word(&mut self.octets, position, word, width);
+        let octets = word.to_be_bytes();
+        let lowest = BitStr::from_octets(&octets).slice(64 - width, width);
+        write_bitslice(&mut self.octets, position, lowest, &mut Turns::new());
         self.calls = self.calls.wrapping_add(1);
         self.placed.tick();
         turns.tick();

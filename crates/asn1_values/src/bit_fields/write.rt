@@ -55,7 +55,7 @@ pub fn write_fields(buffer: &mut BitBuffer, fields: &[Field<'_, '_>]) -> Result<
     write_fields_counted(buffer, fields, &mut Turns::new())
 }
 
-/// As `write_fields`, and counts the turns: one for each word of 64 bits, each octet and each tail that is written.
+/// As `write_fields`, and counts the turns: one for each word of at most 64 bits that is written.
 pub fn write_fields_counted(
     buffer: &mut BitBuffer,
     fields: &[Field<'_, '_>],

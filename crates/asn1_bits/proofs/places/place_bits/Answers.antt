@@ -52,8 +52,8 @@ loop-k-preserved g c =
       turns = omega (arith, c.place.ensures.turn, c.loop-k.invariant.turns);
     }
 
-pub place_tail-requires-clause-within : goal.place_tail-requires-clause-within
-place_tail-requires-clause-within g c =
+pub place_word-requires-clause-within : goal.place_word-requires-clause-within
+place_word-requires-clause-within g c =
     let old = g.D.Places.list c.args.target.now in
     let src = bits_of c.args.src in
     let n = ap (λ (l : List Bool). length l) c.loop-k.invariant.bits
@@ -77,7 +77,7 @@ returns-clause-list g c =
     let p : place + 64 * (c.len-words.result / 64) ≡ place + at = omega (arith, words) in
     let rest : part v (64 * (c.len-words.result / 64)) (len - 64 * (c.len-words.result / 64)) ≡ part v at (len - at) =
     ap (λ (m : ℕ). part v (64 * m) (len - 64 * m)) words in
-    c.place_tail.ensures.list
+    c.place_word.ensures.list
     ∙ ap (λ (m : ℕ). ored (g.D.Places.list c.loop-k.target) m (bits_of c.split_at.result.1)) p
     ∙ ap (λ (w : View). ored (g.D.Places.list c.loop-k.target) (place + at) (list_of w))
     (c.split_at.ensures.back ∙ rest)

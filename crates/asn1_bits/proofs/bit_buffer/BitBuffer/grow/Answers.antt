@@ -33,7 +33,7 @@ filled c =
       | then-needed-len+in_ok-resize w ↦
           rw w.self-inside-is
           (filled-grow_to items w.resize.new.self.items b.len c.args.count needed c.self.invariant
-          (omega (arith, b.bytes.ok.0, c.div_ceil-needed.ensures))
+          c.div_ceil-needed.ensures
           (w.in_ok-resize.ensures.items
           ∙ ap (λ (l : List ℕ). l ++ replicate (needed - b.bytes.len) 0)
           (take_all needed items (omega (arith, b.bytes.ok.0)))
@@ -42,7 +42,7 @@ filled c =
           let none : needed - length items ≡ 0 = omega (arith, b.bytes.ok.0) in
           rw w.self-inside-is
           (filled-grow_to items items b.len c.args.count needed c.self.invariant
-          (omega (arith, b.bytes.ok.0, c.div_ceil-needed.ensures))
+          c.div_ceil-needed.ensures
           (sym (ap (λ (n : ℕ). items ++ replicate n 0) none ∙ append-nil items)))
     ]
 

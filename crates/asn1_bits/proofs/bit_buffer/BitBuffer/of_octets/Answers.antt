@@ -10,7 +10,7 @@ filled : (octets : List ℕ) (len : ℕ) → len ≡ length octets * 8 → IsFil
     × (bits_shown octets len ≡ bits octets)
 filled octets len e =
     filled_by octets len (bits octets) 0 (sym (append-nil (bits octets))) (omega (arith, length-bits octets))
-    (omega arith)
+    (omega arith) (omega arith)
 
 pub invariant_of-result : goal.invariant_of-result
 invariant_of-result c = let v =

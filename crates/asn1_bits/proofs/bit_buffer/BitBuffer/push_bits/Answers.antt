@@ -6,7 +6,7 @@ use Rattle.asn1_bits.specs.DigitLaws.{length-digits}
 use Rattle.asn1_bits.proofs.BufferLemmas.{length-bits_shown, filled-ready}
 use Rattle.asn1_bits.proofs.PutLemmas.{digits-lowest, filled-pushed}
 use Rattle.asn1_bits.proofs.bit_buffer.BitBuffer.push_bits.Goals as goal
-use Rattle.asn1_bits.proofs.bit_buffer.BitBuffer.push_bits.Goals.{After-lowest-number, then-octets-position-lt8+else-div_ceil-octets+in_ok-resize, else-octets-position-lt8, else-div_ceil-octets-via-then-div_ceil-octets+else-capacity-octets-lt-READY, else-div_ceil-octets-via-else-div_ceil-octets}
+use Rattle.asn1_bits.proofs.bit_buffer.BitBuffer.push_bits.Goals.{After-lowest-number, then-octets-position-lt8+else-div_ceil-capacity+in_ok-resize, else-octets-position-lt8, else-div_ceil-capacity-via-then-div_ceil-capacity+else-capacity-octets-lt-READY, else-div_ceil-capacity-via-else-div_ceil-capacity}
 
 pub overflow_add-position : goal.overflow_add-position
 overflow_add-position c =
@@ -35,11 +35,11 @@ returns-in_err-resize-clause-free c = λ same.
     let b = c.self.inside in
     let len : b.len ≡ length c.args.self.now = sym (length-bits_shown b.bytes.items b.len c.self.invariant)
     ∙ ap (λ (l : List Bool). length l) c.self.view_is in
-    elim c.else-div_ceil-octets.branch [
-      | else-div_ceil-octets-via-then-div_ceil-octets+else-capacity-octets-lt-READY w ↦
-          absurd (omega (arith, c.in_err-resize.ensures.full, w.capacity.ensures))
-      | else-div_ceil-octets-via-else-div_ceil-octets w ↦
-          absurd (omega (arith, b.bytes.ok.0, rw (← len) at same, c.self.invariant.count))
+    elim c.else-div_ceil-capacity.branch [
+      | else-div_ceil-capacity-via-then-div_ceil-capacity+else-capacity-octets-lt-READY w ↦
+          absurd (omega (arith, c.in_err-resize.ensures.full, c.capacity-capacity.ensures))
+      | else-div_ceil-capacity-via-else-div_ceil-capacity w ↦
+          absurd (omega (arith, b.bytes.ok.0, rw (← len) at same, c.self.invariant.count, c.capacity-capacity.ensures))
     ]
 
 -- octets of zeros behind the list change nothing, and eight octets stand from the last one that is begun on
@@ -50,9 +50,10 @@ ready : (c : After-lowest-number)
 ready c =
     let b = c.self.inside in
     elim c.if-octets-position-lt8.branch [
-      | then-octets-position-lt8+else-div_ceil-octets+in_ok-resize w ↦
-          let f = filled-ready b.bytes.items w.resize.new.self.items b.len b.bytes.len (c.len-octets.result + 32)
-          c.self.invariant b.bytes.ok.0 (omega (arith, c.len-octets.ensures)) w.in_ok-resize.ensures.items in
+      | then-octets-position-lt8+else-div_ceil-capacity+in_ok-resize w ↦
+          let f = filled-ready b.bytes.items w.resize.new.self.items b.len b.bytes.len _
+          c.self.invariant b.bytes.ok.0 (omega (arith, c.len-octets.ensures))
+          (omega (arith, w.if-octets-position-lt8.true, c.len-octets.ensures)) w.in_ok-resize.ensures.items in
           rw w.self-inside-is (
             f.0,
             f.1 ∙ c.self.view_is,

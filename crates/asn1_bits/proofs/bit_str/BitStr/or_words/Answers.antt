@@ -10,7 +10,7 @@ returns-then-low-eq0-clause-bits c =
     let at = c.args.at in
     let octet = b.octet + at / 8 + (b.shift + at % 8) / 8 in
     c.or_words.ensures.bits
-    ∙ ap (ored (bits c.args.dst.now) (8 * c.args.first))
+    ∙ ap (ored (bits c.args.dst.now.octets.now) (8 * c.args.first))
     (list_of-run (view_of b) at octet 0 (64 * c.args.count) c.from_octet.result.now c.from_octet.ensures
     (omega (arith, c.if-low-eq0.true)) c.requires.within)
 
@@ -21,6 +21,6 @@ returns-else-low-eq0-clause-bits c =
     let low = b.shift + at % 8 in
     let octet = b.octet + at / 8 + low / 8 in
     c.or_shifted_words.ensures.bits
-    ∙ ap (ored (bits c.args.dst.now) (8 * c.args.first))
+    ∙ ap (ored (bits c.args.dst.now.octets.now) (8 * c.args.first))
     (list_of-run (view_of b) at (octet - 7) (56 + low % 8) (64 * c.args.count) c.from_octet-src.result.now
     c.from_octet-src.ensures (omega (arith, c.requires.behind)) c.requires.within)

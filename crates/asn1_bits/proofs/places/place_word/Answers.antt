@@ -1,0 +1,13 @@
+use Rattle.std.proofs.Common.{◌≡◌, [], ◌∙◌, sym, ap, arith}
+use Rattle.std.proofs.lemmas.List.{nil_from_length}
+use Rattle.asn1_bits.specs.Bits.{ored}
+use Rattle.asn1_bits.specs.BitStr.{bits_of}
+use Rattle.asn1_bits.proofs.OredLemmas.{ored-none}
+use Rattle.asn1_bits.proofs.places.place_word.Goals as goal
+
+pub returns-else-len-gt0-clause-list : goal.returns-else-len-gt0-clause-list
+returns-else-len-gt0-clause-list g c =
+    let old = g.D.Places.list c.args.target.now in
+    let none : bits_of c.args.src ≡ [] =
+    nil_from_length (bits_of c.args.src) (omega (arith, c.if-len-gt0.false, c.len-len.ensures.list)) in
+    sym (ap (ored old c.args.position) none ∙ ored-none old c.args.position)
