@@ -181,6 +181,9 @@ pub extern "C" fn asn1_read_fields(
     ensures rest { drop (length shapes.now) fields.new ≡ drop (length shapes.now) fields.old }
     ensures kept_end { result ≢ 0 → end.new ≡ end.old }
     ensures kept_refusal { result ≡ 0 → refusal.new ≡ refusal.old }
+    // Where nothing was read, the refusal and the fields are as before.
+    ensures same_refusal { (result ≡ 1) ⊎ ((result ≡ 3) ⊎ (result ≡ 5)) → refusal.new ≡ refusal.old }
+    ensures same_fields { (result ≡ 1) ⊎ ((result ≡ 3) ⊎ (result ≡ 5)) → fields.new ≡ fields.old }
 {
     let Some(bits) = octets.len().checked_mul(8) else {
         return OVERFLOW;

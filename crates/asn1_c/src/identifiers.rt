@@ -51,6 +51,7 @@ pub extern "C" fn asn1_oid_contents(arcs: &[u32], room: &mut [u8], count: &mut u
         → length room.old < length octets }
     ensures codes { result ≢ 0 → result ≢ 8 → result ≢ 9 → result ≡ 3 }
     ensures unchanged { result ≢ 0 → room.new ≡ room.old }
+    ensures kept { result ≢ 0 → count.new ≡ count.old }
 {
     let Some(oid) = Oid::new(arcs) else {
         return ARCS;
@@ -82,6 +83,7 @@ pub extern "C" fn asn1_oid_arcs(octets: &[u8], room: &mut [u32], count: &mut usi
         → length room.old < length arcs }
     ensures codes { result ≢ 0 → result ≢ 7 → result ≢ 6 → result ≡ 3 }
     ensures same_length { length room.new ≡ length room.old }
+    ensures unchanged { result ≢ 0 → result ≢ 3 → room.new ≡ room.old }
     ensures kept { result ≢ 0 → count.new ≡ count.old }
 {
     match check_contents(&octets) {
