@@ -11,8 +11,6 @@ mod laws;
 mod native;
 mod readings;
 mod signed;
-#[cfg(test)]
-mod tests;
 mod unsigned;
 
 pub use asn1_number::{

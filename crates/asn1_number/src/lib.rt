@@ -13,8 +13,6 @@ mod integer;
 mod integer_bytes;
 mod laws;
 mod sign_octets;
-#[cfg(test)]
-mod tests;
 mod try_from_integer;
 mod values;
 

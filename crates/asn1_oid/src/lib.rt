@@ -16,6 +16,3 @@ pub use laws::laws_of_contents;
 pub use object_identifier::ObjectIdentifier;
 pub use oid::Oid;
 pub use oid_contents::OidContents;
-
-#[cfg(test)]
-mod tests;

@@ -6,8 +6,6 @@
 #![tactic(auto)]
 
 pub mod bit_fields;
-#[cfg(test)]
-mod tests;
 
 pub use asn1_bits::{
     BitAppender, BitBuffer, BitReader, BitStr, BitString, FixedBitString, Octets, Places, Turns,

@@ -1,9 +1,10 @@
 //! Characters of many alphabets as fields.
 
+use super::calls::{read_fields, write_fields};
 use super::same::all_same;
-use crate::{
+use asn1_values::{
     BitBuffer, BitReader, BitStr, BmpString, CharacterAlphabet, Field, Ia5String, NumericString,
-    ReadError, Shape, WriteError, read_fields, write_fields,
+    ReadError, Shape, WriteError,
 };
 use std::process::Abort;
 use std::test::Fail;

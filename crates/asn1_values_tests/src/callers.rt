@@ -5,7 +5,7 @@ ghost use Rattle.asn1_bits.specs.BitReader.{bits_left};
 ghost use Rattle.asn1_values.specs.Fields.{GiveOneSpelling};
 ghost use Rattle.asn1_values.specs.Plain.{plain_shapes};
 
-use crate::{BitBuffer, BitReader, Shape, WriteError, read_fields, write_fields};
+use asn1_values::{BitBuffer, BitReader, Shape, WriteError, read_fields, write_fields};
 use std::alloc::Global;
 use std::test::Fail;
 

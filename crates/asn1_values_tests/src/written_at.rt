@@ -1,6 +1,6 @@
 //! Fields written over the bits of octets.
 
-use crate::{
+use asn1_values::{
     BitStr, CharacterAlphabet, Field, Ia5String, Integer, ObjectIdentifier, Octets, WriteError,
     write_fields_at,
 };

@@ -1,9 +1,9 @@
 //! Integers as fields.
 
+use super::calls::{long, read_fields, write_fields};
 use super::same::all_same;
-use crate::{
-    BitBuffer, BitReader, Field, Integer, ReadError, Shape, read_fields,
-    without_redundant_sign_octets, write_fields,
+use asn1_values::{
+    BitBuffer, BitReader, BitStr, Field, Integer, ReadError, Shape, without_redundant_sign_octets,
 };
 use std::alloc::Global;
 use std::process::Abort;
@@ -14,7 +14,7 @@ fn read_integer(alloc: Global, octets: &[u8]) -> Result<Integer, ReadError> {
     let Some(bits) = octets.len().checked_mul(8) else {
         return Err(ReadError::Memory);
     };
-    let Some(view) = crate::BitStr::new(octets, 0, bits) else {
+    let Some(view) = BitStr::new(octets, 0, bits) else {
         return Err(ReadError::Memory);
     };
     let shapes = [Shape::Integer {
@@ -62,15 +62,6 @@ fn integers_of_no_octets_are_refused(rt: HostRuntime) -> Result<(), Fail> {
     assert_eq!(rt; refused, Some(ReadError::Integer { field: 0 }));
     assert_eq!(rt; reader.len(), 16);
     Ok(())
-}
-
-/// Octets that begin with these, and go on with `count` equal ones.
-fn long(alloc: Global, front: &[u8], rest: u8, count: usize) -> Result<Vec<u8>, Fail> {
-    let mut octets = Vec::from_slice(alloc, front)?;
-    for _ in 0..count {
-        octets.push(rest)?;
-    }
-    Ok(octets)
 }
 
 /// Writes the integer of the octets to an empty buffer, compares its octets, and reads it back.

@@ -1,9 +1,9 @@
-//! Callers that are proved from the contracts alone: none of their proofs names a lemma of this crate.
+//! Callers that are proved from the contracts alone: none of their proofs names a lemma of the library.
 
 ghost use Rattle.std.specs.Prelude.{◌≡◌, pos, ◌↔◌, IsTrue};
 ghost use Rattle.asn1_number.specs.Readings.{UnsignedOf, Answers, signed_reading};
 
-use crate::IntegerType;
+use asn1_integer::IntegerType;
 use asn1_number::IntegerError;
 use std::alloc::Global;
 use std::test::Fail;

@@ -1,6 +1,6 @@
 //! Worked rows on identifiers.
 
-use crate::{ObjectIdentifier, Oid};
+use asn1_oid::{ObjectIdentifier, Oid};
 use std::borrow::CowSlice;
 use std::collections::HashSet;
 use std::test::Fail;

@@ -1,9 +1,10 @@
 //! Rows on the calls.
 
+use super::calls::{read_fields, write_fields};
 use super::same::all_same;
-use crate::{
+use asn1_values::{
     BitBuffer, BitReader, BitStr, CharacterAlphabet, Field, Ia5String, Integer, Octets, ReadError,
-    Shape, Turns, WriteError, read_fields, shape_of, write_fields, write_fields_counted,
+    Shape, Turns, WriteError, shape_of, write_fields_counted,
 };
 use std::mem::size_of;
 use std::test::Fail;

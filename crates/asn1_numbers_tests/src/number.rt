@@ -1,4 +1,9 @@
-use super::*;
+//! Whole numbers: worked rows, octets, conversions, order and texts.
+
+use asn1_number::{
+    ConstrainedInteger, Integer, IntegerBytes, IntegerError, laws_of_shortest_octets, signed_value,
+    unsigned_value, without_redundant_sign_octets,
+};
 use std::hash::{FoldHasher, Hash, Hasher};
 use std::test::Fail;
 

@@ -1,8 +1,9 @@
 //! The worked example of the README.
 
-use crate::{
+use super::calls::{read_fields, write_fields};
+use asn1_values::{
     BitBuffer, BitReader, BitStr, CharacterAlphabet, Field, Ia5String, Integer, Octets, ReadError,
-    Shape, read_fields, write_fields,
+    Shape,
 };
 use std::test::Fail;
 

@@ -1,10 +1,10 @@
-//! Callers that are proved from the contracts alone: none of their proofs names a lemma of this crate.
+//! Callers that are proved from the contracts alone: none of their proofs names a lemma of the library.
 
 ghost use Rattle.std.specs.Prelude.{◌≡◌, ◌+◌, ℕ, List, length, OnErr, IfOk, IfSome};
 ghost use Rattle.asn1_number.specs.Octets.{IsShortest};
 ghost use Rattle.asn1_number.specs.Readings.{FitsI128};
 
-use crate::{Integer, IntegerError};
+use asn1_number::{Integer, IntegerError};
 use std::alloc::Global;
 use std::test::Fail;
 

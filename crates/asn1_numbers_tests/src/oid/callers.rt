@@ -1,10 +1,10 @@
-//! Callers that are proved from the contracts alone: none of their proofs names a lemma of this crate.
+//! Callers that are proved from the contracts alone: none of their proofs names a lemma of the library.
 
 ghost use Rattle.std.specs.Prelude.{◌≡◌, ◌++◌, ◌↔◌, ℕ, List, IfOk, IsTrue};
 ghost use Rattle.asn1_oid.specs.Contents.{IsContents};
 ghost use Rattle.asn1_oid.specs.Oid.{arcs_of};
 
-use crate::{ContentsError, ObjectIdentifier, Oid};
+use asn1_oid::{ContentsError, ObjectIdentifier, Oid};
 use std::alloc::{AllocError, Global};
 use std::test::Fail;
 

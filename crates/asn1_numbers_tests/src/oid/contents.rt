@@ -1,6 +1,6 @@
 //! Contents of identifiers (X.690 8.19): worked rows, and all lists of one and two octets.
 
-use crate::{ContentsError, ObjectIdentifier, Oid, check_contents, laws_of_contents};
+use asn1_oid::{ContentsError, ObjectIdentifier, Oid, check_contents, laws_of_contents};
 use std::alloc::Global;
 use std::process::Abort;
 use std::test::Fail;

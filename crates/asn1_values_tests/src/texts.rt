@@ -1,6 +1,6 @@
 //! The texts of errors.
 
-use crate::{ReadError, WriteError};
+use asn1_values::{ReadError, WriteError};
 use std::test::Fail;
 
 #[test]

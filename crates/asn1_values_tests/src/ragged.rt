@@ -1,9 +1,10 @@
 //! Messages that are cut off, moved to other bits, or hold numbers at the edge of their widths.
 
+use super::calls::{read_fields, write_fields};
 use super::same::all_same;
-use crate::{
+use asn1_values::{
     BitBuffer, BitReader, BitStr, CharacterAlphabet, Field, Ia5String, Integer, Octets, ReadError,
-    Shape, WriteError, read_fields, write_fields,
+    Shape, WriteError,
 };
 use std::test::Fail;
 

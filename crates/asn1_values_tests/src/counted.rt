@@ -1,25 +1,14 @@
 //! Counted integers as fields.
 
+use super::calls::{long, read_fields, write_fields};
 use super::same::all_same;
-use crate::{
-    BitBuffer, BitReader, BitStr, Field, Integer, ReadError, Shape, WriteError, read_fields,
-    write_fields,
-};
+use asn1_values::{BitBuffer, BitReader, BitStr, Field, Integer, ReadError, Shape, WriteError};
 use std::alloc::Global;
 use std::test::Fail;
 
 /// A counted integer of these octets.
 fn counted(alloc: Global, octets: &[u8]) -> Result<[Field<'static, 'static>; 1], Fail> {
     Ok([Field::CountedInteger(Integer::from_signed_octets(alloc, octets)?)])
-}
-
-/// Octets that begin with these, and go on with `count` equal ones.
-fn long(alloc: Global, front: &[u8], rest: u8, count: usize) -> Result<Vec<u8>, Fail> {
-    let mut octets = Vec::from_slice(alloc, front)?;
-    for _ in 0..count {
-        octets.push(rest)?;
-    }
-    Ok(octets)
 }
 
 /// Reads one counted integer, and gives the octets that are left behind it.

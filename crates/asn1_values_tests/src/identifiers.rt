@@ -1,9 +1,9 @@
 //! Identifiers as fields.
 
+use super::calls::{read_fields, write_fields};
 use super::same::all_same;
-use crate::{
+use asn1_values::{
     BitBuffer, BitReader, BitStr, Field, ObjectIdentifier, ReadError, Shape, WriteError,
-    read_fields, write_fields,
 };
 use std::alloc::Global;
 use std::test::Fail;
