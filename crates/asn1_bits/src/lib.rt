@@ -34,6 +34,3 @@ pub use octets::Octets;
 pub use overwrite::{overwrite_bitslice, overwrite_number};
 pub use places::{Places, place_bits};
 pub use turns::Turns;
-
-#[cfg(test)]
-mod tests;

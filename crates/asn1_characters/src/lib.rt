@@ -21,6 +21,3 @@ pub use error::{
 };
 pub use fixed_octet_string::FixedOctetString;
 pub use octet_string::OctetString;
-
-#[cfg(test)]
-mod tests;

@@ -52,6 +52,3 @@ pub use string_kind::StringKind;
 pub use teletex_string::{Teletex, TeletexString};
 pub use utf8_string::Utf8String;
 pub use visible_string::{Visible, VisibleString};
-
-#[cfg(test)]
-mod tests;

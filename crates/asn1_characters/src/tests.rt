@@ -1,3 +1,0 @@
-//! Rows with answers from outside, and each public call once.
-mod octet_strings;
-mod texts;

@@ -1,7 +1,0 @@
-//! Rows with answers from outside, and each public call once.
-mod alphabets;
-mod callers;
-mod every_call;
-mod maps;
-mod sets;
-mod strings;

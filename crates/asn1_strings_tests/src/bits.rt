@@ -1,0 +1,10 @@
+//! Bits: worked rows, comparisons with a plain definition on lists of truth values, and callers that stand on the
+//! contracts alone.
+
+mod callers;
+mod comparisons;
+mod hashes;
+mod kernel_rows;
+mod overwritten;
+mod plain;
+mod rows;
