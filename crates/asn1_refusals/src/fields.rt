@@ -71,21 +71,42 @@ fn is_three_ones(buffer: &BitBuffer) -> bool {
     buffer.len() == 3 && buffer.as_bytes() == [0xE0].as_slice()
 }
 
+/// `write_fields`, without its contract: what goes through it is quick to prove.
+fn write(buffer: &mut BitBuffer, fields: &[Field<'_, '_>]) -> Result<(), WriteError> {
+    write_fields(buffer, fields)
+}
+
+/// `read_fields`, without its contract.
+fn read<'a, 's>(
+    alloc: Global,
+    reader: &mut BitReader<'a>,
+    shapes: &[Shape<'s>],
+) -> Result<Vec<Field<'a, 's>>, ReadError> {
+    read_fields(alloc, reader, shapes)
+}
+
+/// A call wrote the message behind 111, or met want of memory and left 111; another answer fails the test.
+fn answers(
+    rt: &HostRuntime,
+    call: &str,
+    answer: Result<(), WriteError>,
+    buffer: &BitBuffer,
+) -> Result<(), Fail> {
+    match answer {
+        Ok(()) if holds_message(buffer) => Ok(()),
+        Err(WriteError::Memory) if is_three_ones(buffer) => met(rt, call),
+        _ => Err("another answer".into()),
+    }
+}
+
 #[test]
 fn fields_are_written(rt: HostRuntime) -> Result<(), Fail> {
     let fields = message()?;
     let Some(mut buffer) = three_ones(rt.alloc()) else {
         return met_before(&rt, "write_fields");
     };
-    match write_fields(&mut buffer, &fields) {
-        Ok(()) => assert!(rt; holds_message(&buffer)),
-        Err(error) => {
-            met(&rt, "write_fields")?;
-            assert_eq!(rt; error, WriteError::Memory);
-            assert!(rt; is_three_ones(&buffer));
-        }
-    }
-    Ok(())
+    let answer = write(&mut buffer, &fields);
+    answers(&rt, "write_fields", answer, &buffer)
 }
 
 #[test]
@@ -94,15 +115,8 @@ fn fields_are_written_and_counted(rt: HostRuntime) -> Result<(), Fail> {
     let Some(mut buffer) = three_ones(rt.alloc()) else {
         return met_before(&rt, "write_fields_counted");
     };
-    match write_fields_counted(&mut buffer, &fields, &mut Turns::new()) {
-        Ok(()) => assert!(rt; holds_message(&buffer)),
-        Err(error) => {
-            met(&rt, "write_fields_counted")?;
-            assert_eq!(rt; error, WriteError::Memory);
-            assert!(rt; is_three_ones(&buffer));
-        }
-    }
-    Ok(())
+    let answer = write_fields_counted(&mut buffer, &fields, &mut Turns::new());
+    answers(&rt, "write_fields_counted", answer, &buffer)
 }
 
 #[test]
@@ -114,7 +128,7 @@ fn a_field_within_an_octet_asks_for_nothing(rt: HostRuntime) -> Result<(), Fail>
         value: 31,
         width: 5,
     };
-    write_fields(&mut buffer, &[five])?;
+    write(&mut buffer, &[five])?;
     assert!(rt; buffer.len() == 8 && buffer.as_bytes() == [0xFF].as_slice());
     Ok(())
 }
@@ -128,7 +142,7 @@ fn a_wrong_field_keeps_its_name_in_writing(rt: HostRuntime) -> Result<(), Fail> 
         Field::Octets(Octets::Borrowed(&ZEROS)),
         Field::Number { value: 2, width: 1 },
     ];
-    let refused = write_fields(&mut buffer, &fields).err();
+    let refused = write(&mut buffer, &fields).err();
     assert_eq!(rt; refused, Some(WriteError::Number { field: 1 }));
     assert!(rt; is_three_ones(&buffer));
     Ok(())
@@ -146,7 +160,7 @@ fn bits_to_read(alloc: Global) -> Option<BitBuffer> {
         Field::Integer(Integer::from_signed_octets(alloc, &POWER).ok()?),
         Field::Octets(Octets::Borrowed(&MIDDLE)),
     ];
-    write_fields(&mut buffer, &fields).ok()?;
+    write(&mut buffer, &fields).ok()?;
     Some(buffer)
 }
 
@@ -184,7 +198,7 @@ fn fields_are_read(rt: HostRuntime) -> Result<(), Fail> {
     // 6 bits and 80 octets, from bit 3 on.
     let view = BitStr::new(buffer.as_bytes(), 3, 646).ok_or("there")?;
     let mut reader = BitReader::new(view);
-    match read_fields(rt.alloc(), &mut reader, &shapes) {
+    match read(rt.alloc(), &mut reader, &shapes) {
         Ok(fields) => {
             assert!(rt; are_those(fields.as_slice()));
             assert_eq!(rt; reader.len(), 0);
@@ -234,7 +248,7 @@ fn a_wrong_field_keeps_its_name_in_reading(rt: HostRuntime) -> Result<(), Fail> 
         let bits = octets.len().checked_mul(8).ok_or("fits")?;
         let view = BitStr::new(octets, 0, bits).ok_or("there")?;
         let mut reader = BitReader::new(view);
-        let refused = read_fields(rt.alloc(), &mut reader, &shapes).err();
+        let refused = read(rt.alloc(), &mut reader, &shapes).err();
         assert_eq!(rt; refused, Some(error));
         assert!(rt; reader.bits() == view);
     }
@@ -244,7 +258,7 @@ fn a_wrong_field_keeps_its_name_in_reading(rt: HostRuntime) -> Result<(), Fail> 
 #[test]
 fn no_shapes_ask_for_nothing(rt: HostRuntime) -> Result<(), Fail> {
     let mut reader = BitReader::from_octets(&[0xFF]);
-    let fields = read_fields(rt.alloc(), &mut reader, &[])?;
+    let fields = read(rt.alloc(), &mut reader, &[])?;
     assert!(rt; fields.is_empty());
     assert_eq!(rt; reader.len(), 8);
     Ok(())

@@ -1,9 +1,15 @@
 //! Rows on the program, over memory.
 
 use crate::run::{RunError, run};
+use std::alloc::Global;
 use std::io::{self, Read, Write};
 use std::process::Abort;
 use std::test::Fail;
+
+/// `run`, without its contract: what goes through it is quick to prove.
+fn runs<R: Read, W: Write>(alloc: Global, input: &mut R, output: &mut W) -> Result<u8, RunError> {
+    run(alloc, input, output)
+}
 
 /// Runs on the text, and compares what is written and the status.
 fn answers<R: Abort + AllocGlobal>(
@@ -13,7 +19,7 @@ fn answers<R: Abort + AllocGlobal>(
     status: u8,
 ) -> Result<(), Fail> {
     let mut written = Vec::new(rt.alloc());
-    let answered = run(rt.alloc(), &mut input.as_bytes(), &mut written);
+    let answered = runs(rt.alloc(), &mut input.as_bytes(), &mut written);
     assert_eq!(rt; answered, Ok(status), "{input:?}");
     assert_eq!(rt; written.as_slice(), output.as_bytes(), "{input:?}");
     Ok(())
@@ -191,10 +197,10 @@ fn reading_and_writing_may_fail(rt: HostRuntime) -> Result<(), Fail> {
     let mut input = Failing {
         text: b"n3\n00\n0\n",
     };
-    let answered = run(rt.alloc(), &mut input, &mut written);
+    let answered = runs(rt.alloc(), &mut input, &mut written);
     assert_eq!(rt; answered, Err(RunError::Read));
     assert_eq!(rt; written.len(), 0);
-    let answered = run(rt.alloc(), &mut b"n3\n00\n0\n".as_slice(), &mut Full);
+    let answered = runs(rt.alloc(), &mut b"n3\n00\n0\n".as_slice(), &mut Full);
     assert_eq!(rt; answered, Err(RunError::Write));
     Ok(())
 }
@@ -246,7 +252,7 @@ fn long_inputs_are_read_to_their_end_and_answered_at_once(rt: HostRuntime) -> Re
     let mut reader = OctetByOctet {
         text: input.as_bytes(),
     };
-    let answered = run(rt.alloc(), &mut reader, &mut written);
+    let answered = runs(rt.alloc(), &mut reader, &mut written);
     assert_eq!(rt; answered, Ok(0));
     assert_eq!(rt; written.octets.as_slice(), output.as_bytes());
     assert_eq!(rt; written.writes, 1);
@@ -276,7 +282,7 @@ fn each_read_may_fail(rt: HostRuntime) -> Result<(), Fail> {
     for k in 0..=text.len() {
         let front = text.get(..k).ok_or("within")?;
         let mut written = Vec::new(rt.alloc());
-        let answered = run(rt.alloc(), &mut Failing { text: front }, &mut written);
+        let answered = runs(rt.alloc(), &mut Failing { text: front }, &mut written);
         assert_eq!(rt; answered, Err(RunError::Read));
         assert_eq!(rt; written.len(), 0);
     }
@@ -287,7 +293,7 @@ fn each_read_may_fail(rt: HostRuntime) -> Result<(), Fail> {
 fn an_input_without_end_is_given_up(rt: HostRuntime) -> Result<(), Fail> {
     let mut input = Endless { reads: 0 };
     let mut written = Vec::new(rt.alloc());
-    let answered = run(rt.alloc(), &mut input, &mut written);
+    let answered = runs(rt.alloc(), &mut input, &mut written);
     assert_eq!(rt; answered, Err(RunError::Read));
     assert_eq!(rt; input.reads, 1_048_576);
     assert_eq!(rt; written.len(), 0);
@@ -320,12 +326,51 @@ fn each_write_may_fail(rt: HostRuntime) -> Result<(), Fail> {
     // The answer: `n 0`, `rest 5` and `again 00`, each with its LF, are 20 octets.
     for most in 0..20usize {
         let mut output = FullAfter { taken: 0, most };
-        let answered = run(rt.alloc(), &mut b"n3\n00\n0\n".as_slice(), &mut output);
+        let answered = runs(rt.alloc(), &mut b"n3\n00\n0\n".as_slice(), &mut output);
         assert_eq!(rt; answered, Err(RunError::Write));
         assert_eq!(rt; output.taken, most);
     }
     let mut output = FullAfter { taken: 0, most: 20 };
-    let answered = run(rt.alloc(), &mut b"n3\n00\n0\n".as_slice(), &mut output);
+    let answered = runs(rt.alloc(), &mut b"n3\n00\n0\n".as_slice(), &mut output);
     assert_eq!(rt; answered, Ok(0));
+    Ok(())
+}
+
+/// Keeps what is written back until it is flushed. Where it `fails`, it loses that.
+#[derive(Drop)]
+struct Buffered {
+    fails: bool,
+    kept: usize,
+    flushed: usize,
+}
+
+impl Write for Buffered {
+    fn write(&mut self, buf: &[u8]) -> io::Result<usize> {
+        self.kept = self.kept.saturating_add(buf.len());
+        Ok(buf.len())
+    }
+
+    fn flush(&mut self) -> io::Result<()> {
+        if self.fails {
+            return Err(io::Error::other("lost"));
+        }
+        self.flushed = self.flushed.saturating_add(self.kept);
+        self.kept = 0;
+        Ok(())
+    }
+}
+
+#[test]
+fn an_answer_is_flushed(rt: HostRuntime) -> Result<(), Fail> {
+    for fails in [false, true] {
+        let mut output = Buffered {
+            fails,
+            kept: 0,
+            flushed: 0,
+        };
+        let answered = runs(rt.alloc(), &mut b"n3\n00\n0\n".as_slice(), &mut output);
+        assert_eq!(rt; answered, if fails { Err(RunError::Write) } else { Ok(0) });
+        assert_eq!(rt; output.flushed, if fails { 0 } else { 20 });
+    }
     Ok(())
 }

@@ -43,8 +43,8 @@ returns-clause-list c =
     c.write_bitslice.ensures.bits
     ∙ ap (λ (l : List Bool). ored (bits c.args.self.now.octets) c.args.position l)
     (
-        c.split_at.ensures.back_list
-        ∙ ap (λ (l : List Bool). drop (64 - width) l)
-        (c.from_octets.ensures.list ∙ ap bits c.to_be_bytes-octets.ensures ∙ bits-bytes 8 word)
-        ∙ lowest word width c.requires.width
+    c.split_at.ensures.back_list
+    ∙ ap (λ (l : List Bool). drop (64 - width) l)
+    (c.from_octets.ensures.list ∙ ap bits c.to_be_bytes-octets.ensures ∙ bits-bytes 8 word)
+    ∙ lowest word width c.requires.width
     )
