@@ -19,4 +19,6 @@ mod octet_strings;
 #[cfg(test)]
 mod refusal;
 #[cfg(test)]
+mod reserved;
+#[cfg(test)]
 mod strings;
