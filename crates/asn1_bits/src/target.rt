@@ -1,5 +1,5 @@
 //! Octets that words are stored in. The stores of this file are private to it: a body elsewhere that holds a `Target`
-//! stores by its methods alone, and each of them counts one word and takes its turn.
+//! stores by its methods alone, which count each word and take its turn.
 
 ghost use Rattle.std.specs.Prelude.{◌≡◌, ◌+◌, ◌-◌, ◌*◌, ◌++◌, ◌/◌, ◌%◌, ◌≤◌, ◌<◌, ◌^◌, length, take, drop};
 ghost use Rattle.std.specs.Int.{div_ceil, to_le_bytes, w64};
@@ -8,10 +8,10 @@ ghost use Rattle.asn1_bits.specs.Bits.{bits, digits, ored, IsZeroFrom};
 use crate::turns::Turns;
 use crate::window::eight;
 
-/// Octets in which only these methods store. Each of them places one word of at most 64 bits, counts it in `placed` and
-/// takes one turn for it: in at most two stores, or octet by octet where fewer than eight octets are left. So where
-/// `turns` and `placed` grow alike, no word was stored without a turn, and no turn was taken without a word. `placed`
-/// takes no bytes.
+/// Octets in which only these methods store. A method that places a word of at most 64 bits counts it in `placed` and
+/// takes one turn for it: in at most two stores, or octet by octet where fewer than eight octets are left. `put_pair`
+/// places up to two words so, and `or_rest` completes a word that `or_begun` has counted. So where `turns` and `placed`
+/// grow alike, no word was stored without a turn, and no turn was taken without a word. `placed` takes no bytes.
 #[derive(Drop)]
 pub(crate) struct Target<'a> {
     octets: &'a mut [u8],
