@@ -1,18 +1,19 @@
 -- Bits that are cleared, and then ORed in.
-use Rattle.std.proofs.Common.{◌≡◌, ℕ, ◌+◌, ◌-◌, ◌*◌, ◌/◌, ◌%◌, ◌^◌, ◌<◌, ◌≤◌, Bool, false, List, ◌∷◌, ◌++◌, length, get_or, set, take, drop, replicate, sym, ap, ◌∙◌, append_assoc, arith}
-use Rattle.std.specs.Int.{to_be_bytes, w128}
+use Rattle.std.proofs.Common.{◌≡◌, ℕ, ◌+◌, ◌-◌, ◌*◌, ◌/◌, ◌%◌, ◌^◌, ◌<◌, ◌≤◌, Bool, false, List, ◌∷◌, ◌++◌, length, get_or, set, take, drop, replicate, sym, ap, ◌∙◌, append_assoc, zero-add, arith}
 use Rattle.std.proofs.Math.Nat.{mod-eq_of_lt, div-eq_of_lt, pow-le-pow_right}
 use Rattle.std.proofs.Math.Seq.{take-append-add, drop-append-add}
-use Rattle.std.proofs.lemmas.Nat.{one_shl, pow-add, pow_pos, div-add-mod', mul-add-lt, mod_below, shr_below, shr_high}
-use Rattle.std.proofs.lemmas.List.{length-append, length-take, length-replicate, take-append-drop, take-append-le, drop-append-le, take_at, take_all, drop_more, replicate-append-replicate, set_at}
-use Rattle.asn1_bits.specs.Bits.{digits, bits, ored, overwritten}
+use Rattle.std.proofs.lemmas.Nat.{one_shl, pow-add, pow_pos, div-add-mod', mul-add-lt, mod_below, shl_below, shr_below, shr_high}
+use Rattle.std.proofs.lemmas.List.{length-append, length-take, length-replicate, take-append-drop, take-append-le, drop-append-le, take_at, take_all, drop-drop, length-drop, drop_more, replicate-append-replicate, set_at}
+use Rattle.asn1_bits.specs.Bits.{digits, number, bits, ored, overwritten}
 use Rattle.asn1_bits.specs.DigitLaws.{length-digits, length-bits, bits-append, bits-drop, bits-take}
-use Rattle.asn1_bits.specs.ByteLaws.{digits-mod, bits-bytes}
-use Rattle.asn1_bits.specs.NumberLaws.{digits-append, digits-low}
+use Rattle.asn1_bits.specs.ByteLaws.{digits-mod}
+use Rattle.asn1_bits.specs.NumberLaws.{number-append, number-below, number-digits, number_of-digits, digits_of-number, digits-append, digits-low}
 use Rattle.asn1_bits.specs.OverwrittenLaws.{overwritten-append}
 use Rattle.asn1_bits.proofs.BufferLemmas.{digits-zero, bits-zeros}
 use Rattle.asn1_bits.proofs.OredLemmas.{ored-append_left, ored-zeros}
-use Rattle.asn1_bits.proofs.WindowLemmas.{low-part}
+use Rattle.asn1_bits.proofs.EightLemmas.{eight-stored}
+use Rattle.asn1_bits.proofs.ReadWideLemmas.{read-word}
+use Rattle.asn1_bits.proofs.WindowLemmas.{low-part, window_is}
 
 -- bits that are ORed into zeros are written over what was there
 pub overwritten-ored : (old src : List Bool) (place n : ℕ) → length src ≡ n → place + n ≤ length old
@@ -148,17 +149,110 @@ octets-cleared octets q n =
     ∙ ap (λ (l : List Bool). l ++ bits (drop (q + n) octets)) (bits-zeros n)
     ∙ ap (λ (l : List Bool). replicate (8 * n) false ++ l) (bits-drop (q + n) octets ∙ ap (λ (k : ℕ). drop k all) past))
 
--- ---- a number's lowest digits
+-- ---- in a word
 
--- the last bits of the sixteen octets of a number are its lowest digits
-pub lowest-digits : (octets : List ℕ) (front list : List Bool) (n width : ℕ) → width ≤ 128 → octets ≡ to_be_bytes w128 n
-    → front ≡ take 128 (bits octets)
-    → list ≡ take width (drop (128 - width) front) → list ≡ digits n width
-lowest-digits octets front list n width le o f e =
-    let sum : 128 ≡ 128 - width + width = omega arith in
-    let whole : front ≡ digits n 128 = f ∙ ap (take 128) (ap bits o ∙ bits-bytes 16 n)
-    ∙ take_all 128 (digits n 128) (omega (arith, length-digits n 128)) in
-    e
-    ∙ ap (λ (l : List Bool). take width (drop (128 - width) l)) (whole ∙ ap (digits n) sum)
-    ∙ ap (take width) (low-part n (128 - width) width)
-    ∙ take_all width (digits n width) (omega (arith, length-digits n width))
+-- a number moved within a word
+below_word : (n width rest : ℕ) → n < 2 ^ width → width + rest ≤ 64 → n * 2 ^ rest < 2 ^ 64
+below_word n width rest h fits =
+    let top : 2 ^ (width + rest) ≤ 2 ^ 64 = pow-le-pow_right {n = 2} (omega arith) {i = width + rest} {j = 64} fits in
+    omega (arith, shl_below n width rest h, top)
+
+-- a word in which the lowest digits of another stand from one of its digits on
+pub word-replaced : (old word shift width there moved : ℕ) → shift + width ≤ 64 → old < 2 ^ 64
+    → there ≡ old * 2 ^ shift % 2 ^ 64 / 2 ^ (64 - width) * 2 ^ (64 - shift - width) % 2 ^ 64
+    → moved ≡ word * 2 ^ (64 - width) % 2 ^ 64 / 2 ^ shift
+    → (there ≤ old) × (old - there + moved < 2 ^ 64)
+    × (digits (old - there + moved) 64 ≡ overwritten (digits old 64) shift (digits word width))
+unfolding overwritten
+word-replaced old word shift width there moved fits small t m =
+    let b = 64 - shift - width in
+    let all = digits old 64 in
+    let front = take shift all in
+    let mid = take width (drop shift all) in
+    let back = drop (shift + width) all in
+    let list = digits word width in
+    let n = length-digits old 64 in
+    let up : 64 - width ≡ b + shift = omega arith in
+    let size_is : 64 ≡ width + (b + shift) = omega arith in
+    let of_mid : length mid ≡ width = omega (arith, n, length-take width (drop shift all), length-drop shift all) in
+    let of_back : length back ≡ b = omega (arith, n, length-drop (shift + width) all) in
+    let of_list : length list ≡ width = length-digits word width in
+    let split : all ≡ front ++ (mid ++ back) = sym
+    (ap (λ (l : List Bool). front ++ (mid ++ l)) (sym (drop-drop width shift all))
+    ∙ ap (λ (l : List Bool). front ++ l) (take-append-drop width (drop shift all)) ∙ take-append-drop shift all) in
+    let value : (x : List Bool) → length x ≡ width
+    → number (front ++ (x ++ back)) ≡ number front * 2 ^ (width + b) + (number x * 2 ^ b + number back) =
+    λ x e. let both : length (x ++ back) ≡ width + b = omega (arith, length-append x back, e, of_back) in
+    number-append front (x ++ back)
+    ∙ ap (λ (k : ℕ). number front * 2 ^ k + number (x ++ back)) both
+    ∙ ap (λ (k : ℕ). number front * 2 ^ (width + b) + k)
+    (number-append x back ∙ ap (λ (k : ℕ). number x * 2 ^ k + number back) of_back) in
+    let whole : old ≡ number front * 2 ^ (width + b) + (number mid * 2 ^ b + number back) =
+    sym (number_of-digits old 64 small) ∙ ap number split ∙ value mid of_mid in
+    let there_is : there ≡ number mid * 2 ^ b =
+    t
+    ∙ ap (λ (k : ℕ). k * 2 ^ b % 2 ^ 64)
+    (read-word all 0 shift width old fits (sym (take_all 64 all (omega (arith, n))))
+    ∙ ap (λ (k : ℕ). number (take width (drop k all))) (zero-add shift))
+    ∙ mod-eq_of_lt (below_word (number mid) width b (number-below mid width (omega (arith, of_mid))) (omega arith)) in
+    let moved_is : moved ≡ number list * 2 ^ b =
+    m
+    ∙ ap (λ (k : ℕ). word * 2 ^ k % 2 ^ 64 / 2 ^ shift) up
+    ∙ ap (λ (k : ℕ). word * 2 ^ (b + shift) % 2 ^ k / 2 ^ shift) size_is
+    ∙ window_is word width b shift
+    ∙ ap (λ (k : ℕ). k * 2 ^ b) (sym (number-digits word width)) in
+    let new = front ++ (list ++ back) in
+    let sum : old - there + moved ≡ number new = omega (arith, whole, there_is, moved_is, value list of_list) in
+    let size : length new ≡ 64 = omega (
+      arith,
+      length-append front (list ++ back),
+      length-append list back,
+      of_list,
+      of_back,
+      length-take shift all,
+      n,
+    ) in
+    let past : shift + length list ≡ shift + width = omega (arith, of_list) in (
+      omega (arith, whole, there_is),
+      omega (arith, sum, number-below new 64 (omega (arith, size))),
+      ap (λ (k : ℕ). digits k 64) sum ∙ digits_of-number new 64 size
+          ∙ ap (λ (k : ℕ). front ++ (list ++ drop k all)) (sym past),
+    )
+
+-- a word that was stored for the eight octets that stood there
+pub word-written : (octets new eight : List ℕ) (old word q place width : ℕ)
+    → new ≡ take q octets ++ (eight ++ drop (q + 8) octets) → length eight ≡ 8 → q + 8 ≤ length octets
+    → place / 8 ≡ q → place % 8 + width ≤ 64
+    → digits old 64 ≡ take 64 (drop (8 * q) (bits octets))
+    → bits eight ≡ overwritten (digits old 64) (place % 8) (digits word width)
+    → bits new ≡ overwritten (bits octets) place (digits word width)
+word-written octets new eight old word q place width e n room at fits is w =
+    let all = bits octets in
+    let front = take (8 * q) all in
+    let mid = digits old 64 in
+    let back = drop (8 * q + 64) all in
+    let split : all ≡ front ++ (mid ++ back) = sym
+    (ap (λ (l : List Bool). front ++ (l ++ back)) is
+    ∙ ap (λ (l : List Bool). front ++ (take 64 (drop (8 * q) all) ++ l)) (sym (drop-drop 64 (8 * q) all))
+    ∙ ap (λ (l : List Bool). front ++ l) (take-append-drop 64 (drop (8 * q) all)) ∙ take-append-drop (8 * q) all) in
+    eight-stored octets new eight q e n
+    ∙ ap (λ (l : List Bool). front ++ (l ++ back)) w
+    ∙ sym (ap (λ (l : List Bool). overwritten l place (digits word width)) split
+    ∙ overwritten-inside front mid back (digits word width) place (place % 8)
+    (omega (arith, length-take (8 * q) all, length-bits octets)) (omega (arith, length-digits word width, length-digits old 64)))
+
+-- ---- two words
+
+-- the digits of a number, written as those of two words
+pub two-written : (old one two : List Bool) (place next n high low rest width : ℕ) → width ≡ high + low → next ≡ place + high
+    → place ≤ length old → one ≡ overwritten old place (digits (n / 2 ^ low) high)
+    → digits rest low ≡ digits n low → two ≡ overwritten one next (digits rest low)
+    → two ≡ overwritten old place (digits n width)
+two-written old one two place next n high low rest width w at h e r f =
+    f
+    ∙ ap (λ (l : List Bool). overwritten l next (digits rest low)) e
+    ∙ overwritten-append old place next (digits (n / 2 ^ low) high) (digits rest low)
+    (omega (arith, at, length-digits (n / 2 ^ low) high)) h
+    ∙ ap (λ (l : List Bool). overwritten old place (digits (n / 2 ^ low) high ++ l))
+    r
+    ∙ ap (overwritten old place) (sym (ap (digits n) w ∙ digits-append n high low))

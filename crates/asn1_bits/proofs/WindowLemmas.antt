@@ -84,7 +84,8 @@ top-shifted n width j =
     ∙ ap (λ (m : ℕ). (m % 2 ^ width) * 2 ^ j + (n * 2 ^ j) % 2 ^ j) (shl-shr n j)
     ∙ omega (arith, mul-mod_left n (2 ^ j))
 
-window_is : (n width rest shift : ℕ)
+-- a number moved up in a word, and down again
+pub window_is : (n width rest shift : ℕ)
     → n * 2 ^ (rest + shift) % 2 ^ (width + (rest + shift)) / 2 ^ shift ≡ (n % 2 ^ width) * 2 ^ rest
 window_is n width rest shift =
     ap (λ (m : ℕ). m / 2 ^ shift) (top-shifted n width (rest + shift)

@@ -8,6 +8,7 @@ ghost use Rattle.asn1_bits.specs.Turns.{turns_for};
 
 use crate::bit_str::BitStr;
 use crate::kernels::write_bitslice;
+use crate::target::Target;
 use crate::turns::Turns;
 
 /// Writes the view over the bits of `dst` from bit `position` on, and leaves every other bit. It clears the bits first,
@@ -25,8 +26,8 @@ pub fn overwrite_bitslice(dst: &mut [u8], position: usize, src: BitStr<'_>, turn
 }
 
 /// Writes the lowest `width` binary digits of `value`, most significant first, over the bits of `dst` from bit
-/// `position` on, and leaves every other bit. It clears the bits first and takes no turns for that. `width` is at most
-/// 128, and they end within `dst`, at a bit that `usize` counts.
+/// `position` on, and leaves every other bit. `width` is at most 128, and they end within `dst`, at a bit that `usize`
+/// counts.
 #[inline]
 pub fn overwrite_number(
     dst: &mut [u8],
@@ -42,14 +43,45 @@ pub fn overwrite_number(
     ensures at_least { turns.old.count + div_ceil width 64 ≤ turns.new.count }
     ensures at_most { turns.new.count ≤ turns.old.count + turns_for width }
 {
-    let octets = value.to_be_bytes();
-    let lowest = BitStr::front_of(&octets, 128).slice(128 - width, width);
-    overwrite_bitslice(dst, position, lowest, turns);
+    overwrite_digits(&mut Target::new(dst), position, value, width, turns);
+}
+
+/// As `overwrite_number`, in a target: a word, or two.
+#[inline(always)]
+fn overwrite_digits(
+    dst: &mut Target<'_>,
+    position: usize,
+    value: u128,
+    width: usize,
+    turns: &mut Turns,
+)
+    requires width { width ≤ 128 }
+    requires room { position + width ≤ 8 * length dst.old.octets.now }
+    requires fits { position + width < 2 ^ 64 }
+    ensures bits { bits dst.new.octets.now
+        ≡ overwritten (bits dst.old.octets.now) position (digits value width) }
+    ensures same_reference { dst.new.octets.ghost_name ≡ dst.old.octets.ghost_name }
+    ensures length { length dst.new.octets.now ≡ length dst.old.octets.now }
+    ensures each_turn_places { turns.new.count + dst.old.placed.count
+        ≡ turns.old.count + dst.new.placed.count }
+    ensures at_least { turns.old.count + div_ceil width 64 ≤ turns.new.count }
+    ensures at_most { turns.new.count ≤ turns.old.count + turns_for width }
+{
+    let low = (value & 0xFFFF_FFFF_FFFF_FFFF) as u64;
+    if width == 0 {
+        return;
+    }
+    if width <= 64 {
+        dst.set_word(position, low, width, turns);
+    } else {
+        dst.set_word(position, (value >> 64) as u64, width - 64, turns);
+        dst.set_word(position + (width - 64), low, 64, turns);
+    }
 }
 
 /// Makes zeros of the `count` bits from bit `position` on: those before the first whole octet, whole octets, and those
 /// behind the last.
-fn clear_bits(dst: &mut [u8], position: usize, count: usize)
+pub(crate) fn clear_bits(dst: &mut [u8], position: usize, count: usize)
     requires room { position + count ≤ 8 * length dst.old }
     requires fits { position + count < 2 ^ 64 }
     ensures { bits dst.new ≡ overwritten (bits dst.old) position (replicate count false) }
