@@ -128,6 +128,7 @@ IsRecord r list =
 abbrev pub IsPadding : List Bool → Type 0
 IsPadding list = (length list < 8) × (list ≡ replicate (length list) false)
 
--- the octets are the record's encoding: the bits that are written of it, up to the octet's end (X.691 11.1)
+-- the octets are the record's encoding in CANONICAL-PER: the bits that are written of it, up to the octet's end
+-- (X.691 11.1)
 abbrev pub IsEncoding : Record → List ℕ → Type 0
 IsEncoding r octets = Then (IsRecord r) IsPadding (bits octets)

@@ -28,10 +28,10 @@ pub enum Part {
 /// Why a record was not written.
 #[derive(Clone, Copy, Debug, PartialEq, Eq)]
 pub enum EncodeError {
-    /// The first part that has no encoding: a string has a character too many or too few, or one that its type doesn't
+    /// A part that has no encoding: a string has a character too many or too few, or one that its type doesn't
     /// permit; the number has more than 127 octets; the children are more than 127.
     Wrong { part: Part },
-    /// No part is wrong, and memory is wanting.
+    /// Memory is wanting.
     Memory,
 }
 

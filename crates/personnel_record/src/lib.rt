@@ -1,4 +1,5 @@
-//! The worked example of X.691 A.2 on the value layer: a personnel record, with its subtypes, in unaligned PER.
+//! The worked example of X.691 A.2 on the value layer: a personnel record, with its subtypes, in CANONICAL-PER,
+//! unaligned.
 //!
 //! [`encode`] and [`decode`] are made of `write_fields` and `read_fields`, part by part: [`PersonnelRecord`] says which
 //! parts there are.

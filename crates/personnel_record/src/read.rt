@@ -1,6 +1,6 @@
 //! Reading a record.
 
-ghost use Rattle.std.specs.Prelude.{◌≡◌, ◌+◌, ◌*◌, ◌^◌, ◌<◌, ◌↔◌, Bool, List, length, replicate, IfOk, IfErr, IsOkUnless, IsTrue};
+ghost use Rattle.std.specs.Prelude.{◌≡◌, ◌+◌, ◌*◌, ◌^◌, ◌<◌, ◌≤◌, ◌↔◌, Bool, List, length, replicate, IfOk, IfErr, IsOkUnless, IsTrue};
 ghost use Rattle.asn1_values.specs.Fields as bit_fields;
 ghost use Rattle.asn1_values.specs.Fields.{Begins, OfCharacter};
 ghost use Rattle.asn1_values.specs.Plain.{plain_field, plain_fields, plain_shape, plain_shapes};
@@ -20,8 +20,9 @@ use crate::string_types::{DATE_CHARACTERS, NAME_CHARACTERS, StringTypes, string_
 use asn1_values::{BitReader, CharacterAlphabet, Field, Integer, ReadError, Shape, read_fields};
 use std::alloc::{AllocError, Global};
 
-/// The record of the octets in unaligned PER (X.691 A.2); how many bits they have fits `usize`. Refused by the first
-/// part that is wrong, or for want of memory.
+/// The record of the octets in CANONICAL-PER, unaligned (X.691 A.2); how many bits they have fits `usize`. Refused by
+/// the first part that is wrong, or for want of memory. An empty list of children is the default, so octets in which it
+/// is written are refused: BASIC-PER allows them (X.691 19.5).
 pub fn decode(alloc: Global, octets: &[u8]) -> Result<PersonnelRecord, DecodeError>
     requires { 8 * length octets.now < 2 ^ 64 }
     // The octets are the encoding of the record, and of no other.
@@ -99,7 +100,7 @@ fn read_children(
         return Ok(children);
     }
     let count = read_number(alloc, reader, 8, Part::ChildCount)?;
-    if count == 0 || count > 127 {
+    if !is_child_count(count) {
         return Err(DecodeError::Wrong {
             part: Part::ChildCount,
         });
@@ -111,6 +112,13 @@ fn read_children(
         }
     }
     Ok(children)
+}
+
+/// Whether a record whose children are there may have so many.
+fn is_child_count(count: u128) -> bool
+    ensures { IsTrue result ↔ (1 ≤ count) × (count ≤ 127) }
+{
+    count > 0 && count < 128
 }
 
 /// Reads a child.

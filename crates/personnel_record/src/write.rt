@@ -16,8 +16,8 @@ use crate::string_types::{DATE_CHARACTERS, NAME_CHARACTERS, StringTypes, string_
 use asn1_values::{BitBuffer, CharacterAlphabet, Field, WriteError, write_fields};
 use std::alloc::{AllocError, Global};
 
-/// The octets of the record in unaligned PER (X.691 A.2). Refused by a part that has no encoding, or for want of
-/// memory.
+/// The octets of the record in CANONICAL-PER, unaligned (X.691 A.2). Refused by a part that has no encoding, or for
+/// want of memory.
 pub fn encode(alloc: Global, personnel: &PersonnelRecord) -> Result<Vec<u8>, EncodeError>
     // The octets are the record's encoding.
     ensures written { IfOk result (λ octets. IsEncoding (plain_record personnel.now) octets.items) }

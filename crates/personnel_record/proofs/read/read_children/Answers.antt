@@ -1,4 +1,4 @@
-use Rattle.std.proofs.Common.{◌≡◌, ◌∷◌, [], ◌++◌, ◌+◌, ℕ, List, sym, ap, subst, ◌∙◌, arith}
+use Rattle.std.proofs.Common.{◌≡◌, ◌∷◌, [], ◌++◌, ◌+◌, ℕ, true, false, List, refl, sym, ap, subst, ◌∙◌, arith}
 use Rattle.std.proofs.lemmas.Result.{err_from_is_err_and}
 use Rattle.std.proofs.lemmas.List.{map-append}
 use Rattle.asn1_values.specs.Words.{bits_left}
@@ -10,7 +10,6 @@ use Rattle.personnel_record.specs.Types.{plain_child, plain_children}
 use Rattle.personnel_record.proofs.ChildrenLemmas.{one_more, children_read, count_read}
 use Rattle.personnel_record.proofs.RefusalLemmas.{count_wrong, child_wrong}
 use Rattle.personnel_record.proofs.read.read_children.Goals as goal
-use Rattle.personnel_record.proofs.read.read_children.Goals.{then-count-eq0-via-then-count-eq0, then-count-eq0-via-else-count-eq0+then-count-gt127}
 
 pub returns-in_err-count-clause-refused : goal.returns-in_err-count-clause-refused
 returns-in_err-count-clause-refused c =
@@ -20,23 +19,20 @@ returns-in_err-count-clause-refused c =
     rw (p.1, p.2) (subst (λ (v : ℕ). IsChildrenRefusal v old c.in_err-count.field-0.0) one
     (count_wrong old _ c.in_err-count.ensures.refused))
 
-pub returns-then-count-eq0-clause-refused : goal.returns-then-count-eq0-clause-refused
-returns-then-count-eq0-clause-refused c =
-    let old = bits_left c.args.reader.now in (
-      omega (arith, c.requires, c.if-present-eq0.false),
-      λ can.
-          let o = c.in_ok-count.ensures.read.only can.value can.rest (record {
-            front = can.starts.front;
-            holds = can.starts.holds.0;
-            parts = can.starts.parts;
-          }) in
-          let some = can.starts.holds.1 in
-          let few = can.starts.holds.2 in
-          elim c.then-count-eq0.branch [
-            | then-count-eq0-via-then-count-eq0 w ↦ omega (arith, o.0, some, w.if-count-eq0.true)
-            | then-count-eq0-via-else-count-eq0+then-count-gt127 w ↦ omega (arith, o.0, few, w.if-count-gt127.true)
-          ],
-    )
+pub returns-then-not-is_child_count-clause-refused : goal.returns-then-not-is_child_count-clause-refused
+returns-then-not-is_child_count-clause-refused c = (
+  omega (arith, c.requires, c.if-present-eq0.false),
+  λ can.
+      let o = c.in_ok-count.ensures.read.only can.value can.rest (record {
+        front = can.starts.front;
+        holds = can.starts.holds.0;
+        parts = can.starts.parts;
+      }) in
+      let some = can.starts.holds.1 in
+      let few = can.starts.holds.2 in
+      let no : false ≡ true = c.if-not-is_child_count.ensures.1 (omega (arith, o.0, some), omega (arith, o.0, few)) in
+      cc,
+)
 
 pub returns-in_err-child-clause-refused : goal.returns-in_err-child-clause-refused
 returns-in_err-child-clause-refused c =
@@ -45,7 +41,7 @@ returns-in_err-child-clause-refused c =
     let old = bits_left c.args.reader.now in
     let index = c.loop-index.index in
     let count = count_read c.in_ok-count.count old (bits_left c.read_number.new.reader) c.in_ok-count.ensures.read
-    (omega (arith, c.if-count-eq0.false)) c.if-count-gt127.false in
+    (c.if-not-is_child_count.ensures.0 refl).0 (c.if-not-is_child_count.ensures.0 refl).1 in
     rw (p.1, p.2) (subst (λ (v : ℕ). IsChildrenRefusal v old c.in_err-child.field-0.0) one
     (child_wrong index old _ _ (λ not. (
       c.in_ok-count.count,
@@ -86,7 +82,8 @@ returns-clause-read c =
     let children = plain_children c.loop-index.children.items in
     subst (λ (v : ℕ). IsRead (AreChildren v) old children (bits_left c.loop-index.reader)) one
     (children_read c.in_ok-count.count children old (bits_left c.read_number.new.reader) (bits_left c.loop-index.reader)
-    c.in_ok-count.ensures.read (omega (arith, c.if-count-eq0.false)) c.if-count-gt127.false
+    c.in_ok-count.ensures.read (c.if-not-is_child_count.ensures.0 refl).0
+    (c.if-not-is_child_count.ensures.0 refl).1
     (subst (λ (n : ℕ). IsRead (AreSoMany n) (bits_left c.read_number.new.reader) children
     (bits_left c.loop-index.reader))
     all c.loop-index.invariant.so_far))
