@@ -184,7 +184,7 @@ fn reading_names_the_first_wrong_field(rt: HostRuntime) -> Result<(), Fail> {
     let shapes = [Shape::Number { width: 3 }, Shape::Octets { count: 2 }];
     let refused = read_fields(rt.alloc(), &mut reader, &shapes).err();
     assert_eq!(rt; refused, Some(ReadError::Short { field: 1, bits: 3 }));
-    assert_eq!(rt; reader.len(), 16);
+    assert!(rt; reader.bits() == BitStr::from_octets(&octets));
     let mut none = BitReader::from_octets(&[]);
     let most = [Shape::Octets { count: usize::MAX }];
     let refused = read_fields(rt.alloc(), &mut none, &most).err();
@@ -205,13 +205,15 @@ fn reading_names_the_first_wrong_field(rt: HostRuntime) -> Result<(), Fail> {
 #[test]
 fn writing_names_the_first_wrong_field(rt: HostRuntime) -> Result<(), Fail> {
     let mut buffer = BitBuffer::new(rt.alloc());
+    buffer.push_bits(0b101, 3)?;
     let fields = [
         Field::Octets(Octets::Borrowed(&[1])),
         Field::Number { value: 8, width: 3 },
     ];
     let refused = write_fields(&mut buffer, &fields).err();
     assert_eq!(rt; refused, Some(WriteError::Number { field: 1 }));
-    assert_eq!(rt; buffer.len(), 0);
+    assert_eq!(rt; buffer.len(), 3);
+    assert_eq!(rt; buffer.as_bytes(), [0xA0].as_slice());
     let refused = write_fields(&mut buffer, &[Field::Number { value: 1, width: 0 }]).err();
     assert_eq!(rt; refused, Some(WriteError::Number { field: 0 }));
     let wide = [Field::Number {
@@ -225,7 +227,8 @@ fn writing_names_the_first_wrong_field(rt: HostRuntime) -> Result<(), Fail> {
     };
     assert_eq!(rt; refused, Some(wanted));
     write_fields(&mut buffer, &[Field::Number { value: 0, width: 0 }])?;
-    assert_eq!(rt; buffer.len(), 0);
+    assert_eq!(rt; buffer.len(), 3);
+    assert_eq!(rt; buffer.as_bytes(), [0xA0].as_slice());
     Ok(())
 }
 

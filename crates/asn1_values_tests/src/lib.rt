@@ -21,6 +21,8 @@ mod identifiers;
 #[cfg(test)]
 mod integers;
 #[cfg(test)]
+mod long_inputs;
+#[cfg(test)]
 mod ragged;
 #[cfg(test)]
 mod same;
