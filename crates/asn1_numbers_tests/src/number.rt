@@ -4,6 +4,7 @@ use asn1_number::{
     ConstrainedInteger, Integer, IntegerBytes, IntegerError, laws_of_shortest_octets, signed_value,
     unsigned_value, without_redundant_sign_octets,
 };
+use std::alloc::Global;
 use std::hash::{FoldHasher, Hash, Hasher};
 use std::test::Fail;
 
@@ -38,6 +39,21 @@ fn small_numbers_have_their_shortest_signed_octets(rt: HostRuntime) {
     }
 }
 
+/// Whether these are the octets of the number, with its sign and without.
+fn has_octets(number: &Integer, signed: &[u8], unsigned: &[u8]) -> bool {
+    number.signed_octets().as_ref() == signed && number.unsigned_octets().as_ref() == unsigned
+}
+
+/// The number that octets with a sign spell.
+fn with_sign(alloc: Global, octets: &[u8]) -> Result<Integer, IntegerError> {
+    Integer::from_signed_octets(alloc, octets)
+}
+
+/// The number that octets without a sign spell.
+fn without_sign(alloc: Global, octets: &[u8]) -> Result<Integer, IntegerError> {
+    Integer::from_unsigned_octets(alloc, octets)
+}
+
 #[test]
 fn numbers_are_read_back_from_both_forms_of_octets(rt: HostRuntime) -> Result<(), Fail> {
     let rows: [(u64, &[u8], &[u8]); 8] = [
@@ -60,13 +76,9 @@ fn numbers_are_read_back_from_both_forms_of_octets(rt: HostRuntime) -> Result<()
     ];
     for (number, signed, unsigned) in rows {
         let integer = Integer::from(number);
-        assert_eq!(rt; integer.signed_octets().as_ref(), signed, "of {number}");
-        assert_eq!(rt; integer.unsigned_octets().as_ref(), unsigned, "of {number}");
-        assert_eq!(rt; Integer::from_signed_octets(rt.alloc(), signed)?, integer);
-        assert_eq!(rt;
-            Integer::from_unsigned_octets(rt.alloc(), unsigned)?,
-            integer
-        );
+        assert!(rt; has_octets(&integer, signed, unsigned), "of {number}");
+        assert_eq!(rt; with_sign(rt.alloc(), signed)?, integer);
+        assert_eq!(rt; without_sign(rt.alloc(), unsigned)?, integer);
     }
     Ok(())
 }
@@ -85,36 +97,24 @@ fn sign_octets_that_say_nothing_are_left_out(rt: HostRuntime) -> Result<(), Fail
     for (octets, shortest) in rows {
         assert_eq!(rt; without_redundant_sign_octets(octets), shortest);
     }
-    assert_eq!(rt;
-        Integer::from_signed_octets(rt.alloc(), &[0xFF; 40])?,
-        Integer::from(-1i8)
-    );
-    assert_eq!(rt;
-        Integer::from_signed_octets(rt.alloc(), &[0x00, 0x05])?,
-        Integer::from(5u8)
-    );
+    assert_eq!(rt; with_sign(rt.alloc(), &[0xFF; 40])?, Integer::from(-1i8));
+    assert_eq!(rt; with_sign(rt.alloc(), &[0x00, 0x05])?, Integer::from(5u8));
     Ok(())
 }
 
 #[test]
 fn empty_octets_are_no_integer(rt: HostRuntime) {
     let empty = IntegerError::UnexpectedEmptyInput;
-    assert_eq!(rt;
-        Integer::from_signed_octets(rt.alloc(), &[]).err(),
-        Some(empty)
-    );
-    assert_eq!(rt;
-        Integer::from_unsigned_octets(rt.alloc(), &[]).err(),
-        Some(empty)
-    );
+    assert_eq!(rt; with_sign(rt.alloc(), &[]).err(), Some(empty));
+    assert_eq!(rt; without_sign(rt.alloc(), &[]).err(), Some(empty));
 }
 
 #[test]
 fn octets_of_many_lengths_have_their_values(rt: HostRuntime) -> Result<(), Fail> {
     let octets = [0x80, 0, 0, 0, 0, 0, 0, 0, 0];
-    let below = Integer::from_signed_octets(rt.alloc(), &octets)?;
+    let below = with_sign(rt.alloc(), &octets)?;
     assert_eq!(rt; below.to_i128(), Some(-2361183241434822606848));
-    let above = Integer::from_unsigned_octets(rt.alloc(), &octets)?;
+    let above = without_sign(rt.alloc(), &octets)?;
     assert_eq!(rt; above.to_i128(), Some(2361183241434822606848));
     let longer = [0, 0x80, 0, 0, 0, 0, 0, 0, 0, 0];
     assert_eq!(rt; above.signed_octets().as_ref(), longer.as_slice());
@@ -124,10 +124,10 @@ fn octets_of_many_lengths_have_their_values(rt: HostRuntime) -> Result<(), Fail>
     assert_eq!(rt; next.signed_octets().as_ref(), longer.as_slice());
 
     let octets = [0xFF, 0, 0, 0, 0, 0, 0, 0, 0];
-    let number = Integer::from_signed_octets(rt.alloc(), &octets)?;
+    let number = with_sign(rt.alloc(), &octets)?;
     assert_eq!(rt; number.to_i128(), Some(-18446744073709551616));
     let octets = [0, 0x80, 0, 0, 0, 0, 0, 0, 0];
-    let number = Integer::from_signed_octets(rt.alloc(), &octets)?;
+    let number = with_sign(rt.alloc(), &octets)?;
     assert_eq!(rt; number.to_i128(), Some(9223372036854775808));
     Ok(())
 }
@@ -140,12 +140,12 @@ fn the_greatest_u128_takes_seventeen_signed_octets(rt: HostRuntime) -> Result<()
     signed[0] = 0;
     assert_eq!(rt; most.signed_octets().as_ref(), signed.as_slice());
     assert_eq!(rt; u128::try_from(most).ok(), Some(u128::MAX));
-    let same = Integer::from_signed_octets(rt.alloc(), &signed)?;
+    let same = with_sign(rt.alloc(), &signed)?;
     assert_eq!(rt; u128::try_from(same).ok(), Some(u128::MAX));
 
     let mut next = [0; 17];
     next[0] = 0x01;
-    let above = Integer::from_signed_octets(rt.alloc(), &next)?;
+    let above = with_sign(rt.alloc(), &next)?;
     assert_eq!(rt; above.signed_octets().as_ref(), next.as_slice());
     assert!(rt; u128::try_from(above).is_err());
     Ok(())
@@ -156,7 +156,7 @@ fn numbers_of_66_octets_are_kept(rt: HostRuntime) -> Result<(), Fail> {
     for first in [0x01, 0xFF] {
         let mut octets = [0; 66];
         octets[0] = first;
-        let number = Integer::from_signed_octets(rt.alloc(), &octets)?;
+        let number = with_sign(rt.alloc(), &octets)?;
         assert_eq!(rt; number.signed_octets().as_ref(), octets.as_slice());
         assert_eq!(rt; number.signed_len(), 66);
         assert_eq!(rt; number < Integer::zero(), first == 0xFF);
@@ -172,8 +172,8 @@ fn a_number_past_i128_is_one_number_however_it_was_spelled(rt: HostRuntime) -> R
     let mut longer = [0; 27];
     longer[0] = 0xFF;
     longer[1] = 0xFF;
-    let number = Integer::from_signed_octets(rt.alloc(), &shortest)?;
-    let same = Integer::from_signed_octets(rt.alloc(), &longer)?;
+    let number = with_sign(rt.alloc(), &shortest)?;
+    let same = with_sign(rt.alloc(), &longer)?;
     assert!(rt; number < Integer::zero());
     assert_eq!(rt; number, same);
     assert_eq!(rt; hash_of(&number), hash_of(&same));
@@ -199,9 +199,9 @@ fn the_order_is_that_of_the_numbers_at_every_length(rt: HostRuntime) -> Result<(
     below_i128[1] = 0x7F;
     let mut above_i128 = [0; 17];
     above_i128[1] = 0x80;
-    let far_below = Integer::from_signed_octets(rt.alloc(), &far_below)?;
-    let below = Integer::from_signed_octets(rt.alloc(), &below_i128)?;
-    let above = Integer::from_signed_octets(rt.alloc(), &above_i128)?;
+    let far_below = with_sign(rt.alloc(), &far_below)?;
+    let below = with_sign(rt.alloc(), &below_i128)?;
+    let above = with_sign(rt.alloc(), &above_i128)?;
     let far_above = Integer::from_u128(rt.alloc(), u128::MAX)?;
     let ascending = [
         far_below,
@@ -278,7 +278,7 @@ where
 fn a_number_past_i128_is_given_out_by_a_wider_type_alone(rt: HostRuntime) -> Result<(), Fail> {
     let mut above = [0; 17];
     above[1] = 0x80;
-    let above = Integer::from_signed_octets(rt.alloc(), &above)?;
+    let above = with_sign(rt.alloc(), &above)?;
     assert!(rt; is_given_out(&above, None, None, None));
     assert_eq!(rt;
         as_type::<u128>(above),
@@ -286,7 +286,7 @@ fn a_number_past_i128_is_given_out_by_a_wider_type_alone(rt: HostRuntime) -> Res
     );
     let mut below = [0xFF; 17];
     below[1] = 0x7F;
-    let below = Integer::from_signed_octets(rt.alloc(), &below)?;
+    let below = with_sign(rt.alloc(), &below)?;
     assert!(rt; is_given_out(&below, None, None, None));
     assert_eq!(rt; as_type::<i128>(below), None);
     Ok(())
@@ -351,24 +351,38 @@ fn a_number_past_a_bound_is_refused(rt: HostRuntime) {
     assert!(rt; is_refused::<isize>(Integer::from(9223372036854775808u64)));
 }
 
+/// The number as a bounded one, if it lies within the bounds.
+fn bounded<T>(number: T) -> Option<Bounded>
+where
+    Bounded: TryFrom<T>,
+    <Bounded as TryFrom<T>>::Error: Drop,
+{
+    Bounded::try_from(number).ok()
+}
+
 #[test]
 fn constrained_integers_lie_within_both_bounds(rt: HostRuntime) -> Result<(), Fail> {
-    let most = Bounded::try_from(360i32)?;
+    let most = bounded(360i32).ok_or("the greatest")?;
     assert_eq!(rt; most.to_i128(), Some(360));
+    let least = bounded(-8i64).ok_or("the least")?;
+    assert_eq!(rt; least.to_i128(), Some(-8));
+    assert!(rt; bounded(-9isize).is_none());
+    assert!(rt; bounded(i128::MAX).is_none());
+    assert!(rt; least < most);
+    let copy = most.clone()?;
+    assert!(rt; copy == most);
+    Ok(())
+}
+
+#[test]
+fn a_number_past_the_bounds_is_handed_back(rt: HostRuntime) -> Result<(), Fail> {
     let Err(refused) = Bounded::try_from(361i32) else {
         return Err("361 was accepted")?;
     };
     assert_eq!(rt; refused.into_original().to_i128(), Some(361));
-    let least = Bounded::try_from(-8i64)?;
-    assert_eq!(rt; least.to_i128(), Some(-8));
-    assert!(rt; Bounded::try_from(-9isize).is_err());
-    assert!(rt; Bounded::try_from(i128::MAX).is_err());
-    assert!(rt; least < most);
     for number in 2i32..7 {
         assert!(rt; ConstrainedInteger::<5, 3>::try_from(number).is_err());
     }
-    let copy = most.clone()?;
-    assert!(rt; copy == most);
     Ok(())
 }
 
@@ -404,6 +418,11 @@ fn errors_have_their_texts(rt: HostRuntime) -> Result<(), Fail> {
         let written = format!(in rt.alloc(); "{error}")?;
         assert_eq!(rt; written.as_str(), text);
     }
+    Ok(())
+}
+
+#[test]
+fn a_refused_number_has_its_text(rt: HostRuntime) -> Result<(), Fail> {
     let Err(refused) = u8::try_from(Integer::from(-1i8)) else {
         return Err("a u8 holds no -1")?;
     };
