@@ -20,24 +20,30 @@ fn check_signed<T: IntegerType + Drop>(
     number: i128,
     octets: &[u8],
 ) {
+    assert!(rt; is_written::<T>(number, octets), "of {number}");
+    assert_eq!(rt; read::<T>(alloc, octets, true), Ok(Some(number)));
+    assert_eq!(rt; given_out::<T>(number), Some(number));
+    assert_eq!(rt; taken_in::<T>(alloc, number), Some(Integer::from(number)));
+}
+
+/// Whether the type holds the number, and these are its octets.
+fn is_written<T: IntegerType + Drop>(number: i128, octets: &[u8]) -> bool {
     let Some(value) = T::try_from_i128(number) else {
-        return assert!(rt; false, "the type does not hold {number}");
+        return false;
     };
-    assert_eq!(rt; value.to_signed_bytes_be().as_ref(), octets, "of {number}");
-    assert_eq!(rt; value.to_i128(), Some(number));
-    assert_eq!(rt; value.is_negative(), number < 0);
-    let Ok(back) = T::try_from_signed_bytes(alloc, octets) else {
-        return assert!(rt; false, "{number} is not read back");
-    };
-    assert_eq!(rt; back.to_i128(), Some(number));
-    let Some(same) = T::from_integer(&Integer::from(number)) else {
-        return assert!(rt; false, "{number} is not given out");
-    };
-    assert_eq!(rt; same.to_i128(), Some(number));
-    let Ok(integer) = same.to_integer(alloc) else {
-        return assert!(rt; false, "{number} takes no memory");
-    };
-    assert_eq!(rt; integer, Integer::from(number));
+    value.to_signed_bytes_be().as_ref() == octets
+        && value.to_i128() == Some(number)
+        && value.is_negative() == (number < 0)
+}
+
+/// The number, as the type takes it from an `Integer`.
+fn given_out<T: IntegerType + Drop>(number: i128) -> Option<i128> {
+    T::from_integer(&Integer::from(number))?.to_i128()
+}
+
+/// The number of the type as an `Integer`.
+fn taken_in<T: IntegerType + Drop>(alloc: Global, number: i128) -> Option<Integer> {
+    T::try_from_i128(number)?.to_integer(alloc).ok()
 }
 
 #[test]
@@ -77,15 +83,15 @@ fn check_sums<T: IntegerType + Drop>(rt: &impl Abort, most: i128, width: u32, is
         return assert!(rt; false, "the type does not hold {most}");
     };
     assert_eq!(rt; greatest.is_signed(), is_signed);
-    assert!(rt; greatest.checked_add(&one).is_none());
-    let Some(below) = greatest.checked_sub(&one) else {
+    assert!(rt; sum(&greatest, &one).is_none());
+    let Some(below) = difference(&greatest, &one) else {
         return assert!(rt; false, "{most} has one below");
     };
-    let Some(same) = below.checked_add(&one) else {
+    let Some(same) = sum(&below, &one) else {
         return assert!(rt; false, "{most} is one above");
     };
     assert_eq!(rt; same.to_i128(), Some(most));
-    assert_eq!(rt; T::zero().checked_sub(&one).is_none(), !is_signed);
+    assert_eq!(rt; difference(&T::zero(), &one).is_none(), !is_signed);
     assert!(rt; T::try_from_i128(-1).is_some() == is_signed);
 }
 
@@ -103,98 +109,85 @@ fn sums_and_differences_stay_within_the_type(rt: HostRuntime) {
     check_sums::<isize>(&rt, 9223372036854775807, 64, true);
     check_sums::<i128>(&rt, i128::MAX, 128, true);
     check_sums::<Integer>(&rt, i128::MAX, 4294967295, true);
-    assert_eq!(rt; IntegerType::checked_add(&u128::MAX, &1), None);
-    assert_eq!(rt; IntegerType::checked_sub(&0u128, &1), None);
+    assert_eq!(rt; sum(&u128::MAX, &1), None);
+    assert_eq!(rt; difference(&0u128, &1), None);
+}
+
+/// Whether these are the octets of the number without a sign.
+fn has_residue<T: IntegerType + Drop>(number: T, octets: &[u8]) -> bool {
+    number.to_unsigned_bytes_be().as_ref() == octets
+}
+
+/// Whether these are the octets of the number with its sign.
+fn has_octets<T: IntegerType + Drop>(number: T, octets: &[u8]) -> bool {
+    number.to_signed_bytes_be().as_ref() == octets
 }
 
 #[test]
 fn residues_have_their_shortest_octets(rt: HostRuntime) {
-    assert_eq!(rt; 128i32.to_unsigned_bytes_be().as_ref(), [0x80].as_slice());
-    assert_eq!(rt; 0u8.to_unsigned_bytes_be().as_ref(), [0].as_slice());
-    assert_eq!(rt;
-        Integer::zero().to_unsigned_bytes_be().as_ref(),
-        [0].as_slice()
-    );
-    assert_eq!(rt;
-        (-1i8).to_unsigned_bytes_be().as_ref(),
-        [0xFF; 1].as_slice()
-    );
-    assert_eq!(rt;
-        (-1i16).to_unsigned_bytes_be().as_ref(),
-        [0xFF; 2].as_slice()
-    );
-    assert_eq!(rt;
-        (-1i32).to_unsigned_bytes_be().as_ref(),
-        [0xFF; 4].as_slice()
-    );
-    assert_eq!(rt;
-        (-1i64).to_unsigned_bytes_be().as_ref(),
-        [0xFF; 8].as_slice()
-    );
-    assert_eq!(rt;
-        (-1i128).to_unsigned_bytes_be().as_ref(),
-        [0xFF; 16].as_slice()
-    );
-    assert_eq!(rt;
-        (-1isize).to_unsigned_bytes_be().as_ref(),
-        [0xFF; 8].as_slice()
-    );
-    assert_eq!(rt;
-        u16::MAX.to_unsigned_bytes_be().as_ref(),
-        [0xFF; 2].as_slice()
-    );
-    assert_eq!(rt;
-        u32::MAX.to_unsigned_bytes_be().as_ref(),
-        [0xFF; 4].as_slice()
-    );
-    assert_eq!(rt;
-        u64::MAX.to_unsigned_bytes_be().as_ref(),
-        [0xFF; 8].as_slice()
-    );
-    assert_eq!(rt;
-        usize::MAX.to_unsigned_bytes_be().as_ref(),
-        [0xFF; 8].as_slice()
-    );
-    assert_eq!(rt;
-        u128::MAX.to_unsigned_bytes_be().as_ref(),
-        [0xFF; 16].as_slice()
-    );
+    assert!(rt; has_residue(128i32, &[0x80]));
+    assert!(rt; has_residue(0u8, &[0]));
+    assert!(rt; has_residue(Integer::zero(), &[0]));
+    assert!(rt; has_residue(-1i8, &[0xFF; 1]));
+    assert!(rt; has_residue(-1i16, &[0xFF; 2]));
+    assert!(rt; has_residue(-1i32, &[0xFF; 4]));
+    assert!(rt; has_residue(-1i64, &[0xFF; 8]));
+    assert!(rt; has_residue(-1i128, &[0xFF; 16]));
+    assert!(rt; has_residue(-1isize, &[0xFF; 8]));
+    assert!(rt; has_residue(u16::MAX, &[0xFF; 2]));
+    assert!(rt; has_residue(u32::MAX, &[0xFF; 4]));
+    assert!(rt; has_residue(u64::MAX, &[0xFF; 8]));
+    assert!(rt; has_residue(usize::MAX, &[0xFF; 8]));
+    assert!(rt; has_residue(u128::MAX, &[0xFF; 16]));
     let mut signed = [0xFF; 17];
     signed[0] = 0;
-    assert_eq!(rt; u128::MAX.to_signed_bytes_be().as_ref(), signed.as_slice());
+    assert!(rt; has_octets(u128::MAX, &signed));
     let mut least = [0; 16];
     least[0] = 0x80;
-    assert_eq!(rt; i128::MIN.to_signed_bytes_be().as_ref(), least.as_slice());
-    assert_eq!(rt; i128::MIN.to_unsigned_bytes_be().as_ref(), least.as_slice());
+    assert!(rt; has_octets(i128::MIN, &least));
+    assert!(rt; has_residue(i128::MIN, &least));
+}
+
+/// The sum of a number with one of its unsigned pair.
+fn wrapped<T: IntegerType>(number: T, other: T::UnsignedPair) -> Option<T> {
+    number.wrapping_unsigned_add(other)
+}
+
+/// The sum, where the type holds it.
+fn sum<T: IntegerType>(number: &T, other: &T) -> Option<T> {
+    number.checked_add(other)
+}
+
+/// The difference, where the type holds it.
+fn difference<T: IntegerType>(number: &T, other: &T) -> Option<T> {
+    number.checked_sub(other)
 }
 
 #[test]
-fn native_sums_wrap_and_integers_do_not(rt: HostRuntime) {
-    assert_eq!(rt; (-128i8).wrapping_unsigned_add(255), Some(127));
-    assert_eq!(rt; 127i8.wrapping_unsigned_add(255), Some(126));
-    assert_eq!(rt; 255u8.wrapping_unsigned_add(1), Some(0));
-    assert_eq!(rt;
-        u128::MAX.wrapping_unsigned_add(u128::MAX),
-        Some(u128::MAX - 1)
-    );
-    let most = Integer::from(i128::MAX);
-    assert!(rt; IntegerType::checked_add(&most, &Integer::one()).is_none());
-    assert!(rt; most.wrapping_unsigned_add(Integer::one()).is_none());
-    let sum = Integer::from(isize::MAX).wrapping_unsigned_add(Integer::one());
-    assert_eq!(rt; sum, Some(Integer::from(9223372036854775808i128)));
-    let least = Integer::from(isize::MIN);
-    let difference = IntegerType::checked_sub(&least, &Integer::one());
-    assert_eq!(rt; difference, Some(Integer::from(-9223372036854775809i128)));
-    let five = Integer::from(5u8);
-    let sum = five.wrapping_unsigned_add(Integer::from(-7i8));
-    assert_eq!(rt; sum, Some(Integer::from(-2i8)));
-    let most = Integer::from(isize::MAX);
-    let sum = IntegerType::checked_add(&most, &Integer::one());
-    assert_eq!(rt; sum, Some(Integer::from(9223372036854775808i128)));
-    assert_eq!(rt; IntegerType::checked_add(&isize::MAX, &1), None);
-    let least = Integer::from(i128::MIN);
-    assert!(rt; IntegerType::checked_sub(&Integer::zero(), &least).is_none());
+fn native_sums_wrap(rt: HostRuntime) {
+    assert_eq!(rt; wrapped(-128i8, 255), Some(127));
+    assert_eq!(rt; wrapped(127i8, 255), Some(126));
+    assert_eq!(rt; wrapped(255u8, 1), Some(0));
+    assert_eq!(rt; wrapped(u128::MAX, u128::MAX), Some(u128::MAX - 1));
+    assert_eq!(rt; sum(&isize::MAX, &1), None);
     assert_eq!(rt; u8::from_integer(&Integer::from(256u16)), None);
+}
+
+#[test]
+fn integers_do_not_wrap(rt: HostRuntime) {
+    let most = Integer::from(i128::MAX);
+    assert!(rt; sum(&most, &Integer::one()).is_none());
+    assert!(rt; wrapped(most, Integer::one()).is_none());
+    let next = wrapped(Integer::from(isize::MAX), Integer::one());
+    assert_eq!(rt; next, Some(Integer::from(9223372036854775808i128)));
+    let below = difference(&Integer::from(isize::MIN), &Integer::one());
+    assert_eq!(rt; below, Some(Integer::from(-9223372036854775809i128)));
+    let minus_two = wrapped(Integer::from(5u8), Integer::from(-7i8));
+    assert_eq!(rt; minus_two, Some(Integer::from(-2i8)));
+    let next = sum(&Integer::from(isize::MAX), &Integer::one());
+    assert_eq!(rt; next, Some(Integer::from(9223372036854775808i128)));
+    let least = Integer::from(i128::MIN);
+    assert!(rt; difference(&Integer::zero(), &least).is_none());
 }
 
 #[test]
@@ -224,44 +217,56 @@ fn integers_past_i128_are_out_of_reach(rt: HostRuntime) -> Result<(), Fail> {
     Ok(())
 }
 
+/// The number that the type reads from octets with a sign.
+fn with_sign<T: IntegerType>(alloc: Global, octets: &[u8]) -> Result<T, IntegerError> {
+    T::try_from_signed_bytes(alloc, octets)
+}
+
+/// The number that the type reads from octets without a sign.
+fn without_sign<T: IntegerType>(alloc: Global, octets: &[u8]) -> Result<T, IntegerError> {
+    T::try_from_unsigned_bytes(alloc, octets)
+}
+
+/// The number that the type reads from octets as its own.
+fn as_its_own<T: IntegerType>(alloc: Global, octets: &[u8]) -> Result<T, IntegerError> {
+    T::try_from_bytes(alloc, octets)
+}
+
 #[test]
-fn worked_readings(rt: HostRuntime) -> Result<(), Fail> {
+fn worked_readings(rt: HostRuntime) {
     let alloc = rt.alloc();
     let overflow = IntegerError::Overflow {
         max_integer_bits: 8,
     };
     let no_value = IntegerError::TypeConversionFailed { bits: 8 };
     let empty = IntegerError::UnexpectedEmptyInput;
-    assert_eq!(rt; i8::try_from_signed_bytes(alloc, &[0, 5]), Err(overflow));
-    assert_eq!(rt; u8::try_from_signed_bytes(alloc, &[0, 0, 5]), Err(overflow));
-    assert_eq!(rt; u8::try_from_signed_bytes(alloc, &[0x80]), Err(no_value));
-    assert_eq!(rt;
-        u8::try_from_signed_bytes(alloc, &[0x80, 0, 0]),
-        Err(no_value)
-    );
-    assert_eq!(rt; u8::try_from_signed_bytes(alloc, &[]), Err(empty));
-    assert_eq!(rt; i8::try_from_unsigned_bytes(alloc, &[0x80]), Err(no_value));
-    assert_eq!(rt; u8::try_from_signed_bytes(alloc, &[0, 0xFF]), Ok(255));
-    assert_eq!(rt; u8::try_from_bytes(alloc, &[0xFF]), Ok(255));
-    assert_eq!(rt;
-        u128::try_from_unsigned_bytes(alloc, &[0xFF; 16]),
-        Ok(u128::MAX)
-    );
+    assert_eq!(rt; with_sign::<i8>(alloc, &[0, 5]), Err(overflow));
+    assert_eq!(rt; with_sign::<u8>(alloc, &[0, 0, 5]), Err(overflow));
+    assert_eq!(rt; with_sign::<u8>(alloc, &[0x80]), Err(no_value));
+    assert_eq!(rt; with_sign::<u8>(alloc, &[0x80, 0, 0]), Err(no_value));
+    assert_eq!(rt; with_sign::<u8>(alloc, &[]), Err(empty));
+    assert_eq!(rt; without_sign::<i8>(alloc, &[0x80]), Err(no_value));
+    assert_eq!(rt; with_sign::<u8>(alloc, &[0, 0xFF]), Ok(255));
+    assert_eq!(rt; as_its_own::<u8>(alloc, &[0xFF]), Ok(255));
+    assert_eq!(rt; as_its_own::<i8>(alloc, &[0xFF]), Ok(-1));
+    laws_of_wrapping();
+}
+
+#[test]
+fn worked_readings_of_128_bits(rt: HostRuntime) -> Result<(), Fail> {
+    let alloc = rt.alloc();
+    assert_eq!(rt; without_sign::<u128>(alloc, &[0xFF; 16]), Ok(u128::MAX));
     let mut octets = [0xFF; 17];
     octets[0] = 0x00;
-    assert_eq!(rt; u128::try_from_signed_bytes(alloc, &octets), Ok(u128::MAX));
+    assert_eq!(rt; with_sign::<u128>(alloc, &octets), Ok(u128::MAX));
     let mut octets = [0x00; 17];
     octets[0] = 0x01;
     let past_128 = IntegerError::Overflow {
         max_integer_bits: 128,
     };
-    assert_eq!(rt; u128::try_from_signed_bytes(alloc, &octets), Err(past_128));
-    assert_eq!(rt; i8::try_from_bytes(alloc, &[0xFF]), Ok(-1));
-    assert_eq!(rt;
-        Integer::try_from_bytes(alloc, &[0xFF])?,
-        Integer::from(-1i8)
-    );
-    laws_of_wrapping();
+    assert_eq!(rt; with_sign::<u128>(alloc, &octets), Err(past_128));
+    let minus_one = as_its_own::<Integer>(alloc, &[0xFF])?;
+    assert_eq!(rt; minus_one, Integer::from(-1i8));
     Ok(())
 }
 

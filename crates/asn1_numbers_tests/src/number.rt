@@ -4,6 +4,7 @@ use asn1_number::{
     ConstrainedInteger, Integer, IntegerBytes, IntegerError, laws_of_shortest_octets, signed_value,
     unsigned_value, without_redundant_sign_octets,
 };
+use std::alloc::Global;
 use std::hash::{FoldHasher, Hash, Hasher};
 use std::test::Fail;
 
@@ -38,6 +39,21 @@ fn small_numbers_have_their_shortest_signed_octets(rt: HostRuntime) {
     }
 }
 
+/// Whether these are the octets of the number, with its sign and without.
+fn has_octets(number: &Integer, signed: &[u8], unsigned: &[u8]) -> bool {
+    number.signed_octets().as_ref() == signed && number.unsigned_octets().as_ref() == unsigned
+}
+
+/// The number that octets with a sign spell.
+fn with_sign(alloc: Global, octets: &[u8]) -> Result<Integer, IntegerError> {
+    Integer::from_signed_octets(alloc, octets)
+}
+
+/// The number that octets without a sign spell.
+fn without_sign(alloc: Global, octets: &[u8]) -> Result<Integer, IntegerError> {
+    Integer::from_unsigned_octets(alloc, octets)
+}
+
 #[test]
 fn numbers_are_read_back_from_both_forms_of_octets(rt: HostRuntime) -> Result<(), Fail> {
     let rows: [(u64, &[u8], &[u8]); 8] = [
@@ -60,13 +76,9 @@ fn numbers_are_read_back_from_both_forms_of_octets(rt: HostRuntime) -> Result<()
     ];
     for (number, signed, unsigned) in rows {
         let integer = Integer::from(number);
-        assert_eq!(rt; integer.signed_octets().as_ref(), signed, "of {number}");
-        assert_eq!(rt; integer.unsigned_octets().as_ref(), unsigned, "of {number}");
-        assert_eq!(rt; Integer::from_signed_octets(rt.alloc(), signed)?, integer);
-        assert_eq!(rt;
-            Integer::from_unsigned_octets(rt.alloc(), unsigned)?,
-            integer
-        );
+        assert!(rt; has_octets(&integer, signed, unsigned), "of {number}");
+        assert_eq!(rt; with_sign(rt.alloc(), signed)?, integer);
+        assert_eq!(rt; without_sign(rt.alloc(), unsigned)?, integer);
     }
     Ok(())
 }
@@ -85,36 +97,24 @@ fn sign_octets_that_say_nothing_are_left_out(rt: HostRuntime) -> Result<(), Fail
     for (octets, shortest) in rows {
         assert_eq!(rt; without_redundant_sign_octets(octets), shortest);
     }
-    assert_eq!(rt;
-        Integer::from_signed_octets(rt.alloc(), &[0xFF; 40])?,
-        Integer::from(-1i8)
-    );
-    assert_eq!(rt;
-        Integer::from_signed_octets(rt.alloc(), &[0x00, 0x05])?,
-        Integer::from(5u8)
-    );
+    assert_eq!(rt; with_sign(rt.alloc(), &[0xFF; 40])?, Integer::from(-1i8));
+    assert_eq!(rt; with_sign(rt.alloc(), &[0x00, 0x05])?, Integer::from(5u8));
     Ok(())
 }
 
 #[test]
 fn empty_octets_are_no_integer(rt: HostRuntime) {
     let empty = IntegerError::UnexpectedEmptyInput;
-    assert_eq!(rt;
-        Integer::from_signed_octets(rt.alloc(), &[]).err(),
-        Some(empty)
-    );
-    assert_eq!(rt;
-        Integer::from_unsigned_octets(rt.alloc(), &[]).err(),
-        Some(empty)
-    );
+    assert_eq!(rt; with_sign(rt.alloc(), &[]).err(), Some(empty));
+    assert_eq!(rt; without_sign(rt.alloc(), &[]).err(), Some(empty));
 }
 
 #[test]
 fn octets_of_many_lengths_have_their_values(rt: HostRuntime) -> Result<(), Fail> {
     let octets = [0x80, 0, 0, 0, 0, 0, 0, 0, 0];
-    let below = Integer::from_signed_octets(rt.alloc(), &octets)?;
+    let below = with_sign(rt.alloc(), &octets)?;
     assert_eq!(rt; below.to_i128(), Some(-2361183241434822606848));
-    let above = Integer::from_unsigned_octets(rt.alloc(), &octets)?;
+    let above = without_sign(rt.alloc(), &octets)?;
     assert_eq!(rt; above.to_i128(), Some(2361183241434822606848));
     let longer = [0, 0x80, 0, 0, 0, 0, 0, 0, 0, 0];
     assert_eq!(rt; above.signed_octets().as_ref(), longer.as_slice());
@@ -124,10 +124,10 @@ fn octets_of_many_lengths_have_their_values(rt: HostRuntime) -> Result<(), Fail>
     assert_eq!(rt; next.signed_octets().as_ref(), longer.as_slice());
 
     let octets = [0xFF, 0, 0, 0, 0, 0, 0, 0, 0];
-    let number = Integer::from_signed_octets(rt.alloc(), &octets)?;
+    let number = with_sign(rt.alloc(), &octets)?;
     assert_eq!(rt; number.to_i128(), Some(-18446744073709551616));
     let octets = [0, 0x80, 0, 0, 0, 0, 0, 0, 0];
-    let number = Integer::from_signed_octets(rt.alloc(), &octets)?;
+    let number = with_sign(rt.alloc(), &octets)?;
     assert_eq!(rt; number.to_i128(), Some(9223372036854775808));
     Ok(())
 }
@@ -140,12 +140,12 @@ fn the_greatest_u128_takes_seventeen_signed_octets(rt: HostRuntime) -> Result<()
     signed[0] = 0;
     assert_eq!(rt; most.signed_octets().as_ref(), signed.as_slice());
     assert_eq!(rt; u128::try_from(most).ok(), Some(u128::MAX));
-    let same = Integer::from_signed_octets(rt.alloc(), &signed)?;
+    let same = with_sign(rt.alloc(), &signed)?;
     assert_eq!(rt; u128::try_from(same).ok(), Some(u128::MAX));
 
     let mut next = [0; 17];
     next[0] = 0x01;
-    let above = Integer::from_signed_octets(rt.alloc(), &next)?;
+    let above = with_sign(rt.alloc(), &next)?;
     assert_eq!(rt; above.signed_octets().as_ref(), next.as_slice());
     assert!(rt; u128::try_from(above).is_err());
     Ok(())
@@ -156,7 +156,7 @@ fn numbers_of_66_octets_are_kept(rt: HostRuntime) -> Result<(), Fail> {
     for first in [0x01, 0xFF] {
         let mut octets = [0; 66];
         octets[0] = first;
-        let number = Integer::from_signed_octets(rt.alloc(), &octets)?;
+        let number = with_sign(rt.alloc(), &octets)?;
         assert_eq!(rt; number.signed_octets().as_ref(), octets.as_slice());
         assert_eq!(rt; number.signed_len(), 66);
         assert_eq!(rt; number < Integer::zero(), first == 0xFF);
@@ -172,8 +172,8 @@ fn a_number_past_i128_is_one_number_however_it_was_spelled(rt: HostRuntime) -> R
     let mut longer = [0; 27];
     longer[0] = 0xFF;
     longer[1] = 0xFF;
-    let number = Integer::from_signed_octets(rt.alloc(), &shortest)?;
-    let same = Integer::from_signed_octets(rt.alloc(), &longer)?;
+    let number = with_sign(rt.alloc(), &shortest)?;
+    let same = with_sign(rt.alloc(), &longer)?;
     assert!(rt; number < Integer::zero());
     assert_eq!(rt; number, same);
     assert_eq!(rt; hash_of(&number), hash_of(&same));
@@ -199,9 +199,9 @@ fn the_order_is_that_of_the_numbers_at_every_length(rt: HostRuntime) -> Result<(
     below_i128[1] = 0x7F;
     let mut above_i128 = [0; 17];
     above_i128[1] = 0x80;
-    let far_below = Integer::from_signed_octets(rt.alloc(), &far_below)?;
-    let below = Integer::from_signed_octets(rt.alloc(), &below_i128)?;
-    let above = Integer::from_signed_octets(rt.alloc(), &above_i128)?;
+    let far_below = with_sign(rt.alloc(), &far_below)?;
+    let below = with_sign(rt.alloc(), &below_i128)?;
+    let above = with_sign(rt.alloc(), &above_i128)?;
     let far_above = Integer::from_u128(rt.alloc(), u128::MAX)?;
     let ascending = [
         far_below,
@@ -224,8 +224,24 @@ fn the_order_is_that_of_the_numbers_at_every_length(rt: HostRuntime) -> Result<(
     Ok(())
 }
 
+/// What the number is given out as.
+fn given_out(number: &Integer) -> (Option<i128>, Option<i64>, Option<u64>) {
+    (number.to_i128(), number.to_i64(), number.to_u64())
+}
+
+/// Whether the number is given out as these.
+fn is_given_out(
+    number: &Integer,
+    wide: Option<i128>,
+    signed: Option<i64>,
+    unsigned: Option<u64>,
+) -> bool {
+    let (in_128_bits, with_sign, without_sign) = given_out(number);
+    in_128_bits == wide && with_sign == signed && without_sign == unsigned
+}
+
 #[test]
-fn a_number_is_given_out_exactly_where_the_type_holds_it(rt: HostRuntime) -> Result<(), Fail> {
+fn a_number_is_given_out_exactly_where_the_type_holds_it(rt: HostRuntime) {
     let rows: [(i128, Option<i64>, Option<u64>); 9] = [
         (0, Some(0), Some(0)),
         (42, Some(42), Some(42)),
@@ -243,103 +259,130 @@ fn a_number_is_given_out_exactly_where_the_type_holds_it(rt: HostRuntime) -> Res
     ];
     for (number, signed, unsigned) in rows {
         let integer = Integer::from(number);
-        assert_eq!(rt; integer.to_i64(), signed, "of {number}");
-        assert_eq!(rt; integer.to_u64(), unsigned, "of {number}");
-        assert_eq!(rt; integer.to_i128(), Some(number));
+        assert!(rt;
+            is_given_out(&integer, Some(number), signed, unsigned),
+            "of {number}"
+        );
     }
+}
+
+/// The number as a type that may hold it.
+fn as_type<T: TryFrom<Integer>>(number: Integer) -> Option<T>
+where
+    T::Error: Drop,
+{
+    T::try_from(number).ok()
+}
+
+#[test]
+fn a_number_past_i128_is_given_out_by_a_wider_type_alone(rt: HostRuntime) -> Result<(), Fail> {
     let mut above = [0; 17];
     above[1] = 0x80;
-    let above = Integer::from_signed_octets(rt.alloc(), &above)?;
-    assert_eq!(rt; above.to_i128(), None);
-    assert_eq!(rt; above.to_i64(), None);
-    assert_eq!(rt; above.to_u64(), None);
+    let above = with_sign(rt.alloc(), &above)?;
+    assert!(rt; is_given_out(&above, None, None, None));
     assert_eq!(rt;
-        u128::try_from(above).ok(),
+        as_type::<u128>(above),
         Some(170141183460469231731687303715884105728)
     );
     let mut below = [0xFF; 17];
     below[1] = 0x7F;
-    let below = Integer::from_signed_octets(rt.alloc(), &below)?;
-    assert_eq!(rt; below.to_i128(), None);
-    assert!(rt; i128::try_from(below).is_err());
+    let below = with_sign(rt.alloc(), &below)?;
+    assert!(rt; is_given_out(&below, None, None, None));
+    assert_eq!(rt; as_type::<i128>(below), None);
     Ok(())
 }
 
 #[test]
 fn each_native_type_is_kept_and_given_back(rt: HostRuntime) {
-    assert_eq!(rt; u8::try_from(Integer::from(u8::MAX)).ok(), Some(255));
-    assert_eq!(rt; i8::try_from(Integer::from(i8::MIN)).ok(), Some(-128));
-    assert_eq!(rt; u16::try_from(Integer::from(u16::MAX)).ok(), Some(65535));
-    assert_eq!(rt; i16::try_from(Integer::from(i16::MIN)).ok(), Some(-32768));
+    assert_eq!(rt; as_type::<u8>(Integer::from(u8::MAX)), Some(255));
+    assert_eq!(rt; as_type::<i8>(Integer::from(i8::MIN)), Some(-128));
+    assert_eq!(rt; as_type::<u16>(Integer::from(u16::MAX)), Some(65535));
+    assert_eq!(rt; as_type::<i16>(Integer::from(i16::MIN)), Some(-32768));
+    assert_eq!(rt; as_type::<u32>(Integer::from(u32::MAX)), Some(4294967295));
+    assert_eq!(rt; as_type::<i32>(Integer::from(i32::MIN)), Some(-2147483648));
     assert_eq!(rt;
-        u32::try_from(Integer::from(u32::MAX)).ok(),
-        Some(4294967295)
-    );
-    assert_eq!(rt;
-        i32::try_from(Integer::from(i32::MIN)).ok(),
-        Some(-2147483648)
-    );
-    assert_eq!(rt;
-        u64::try_from(Integer::from(u64::MAX)).ok(),
+        as_type::<u64>(Integer::from(u64::MAX)),
         Some(18446744073709551615)
     );
     assert_eq!(rt;
-        i64::try_from(Integer::from(i64::MIN)).ok(),
+        as_type::<i64>(Integer::from(i64::MIN)),
         Some(-9223372036854775808)
     );
     assert_eq!(rt;
-        usize::try_from(Integer::from(usize::MAX)).ok(),
+        as_type::<usize>(Integer::from(usize::MAX)),
         Some(18446744073709551615)
     );
     assert_eq!(rt;
-        isize::try_from(Integer::from(isize::MIN)).ok(),
+        as_type::<isize>(Integer::from(isize::MIN)),
         Some(-9223372036854775808)
     );
-    assert_eq!(rt;
-        i128::try_from(Integer::from(i128::MIN)).ok(),
-        Some(i128::MIN)
-    );
-    assert_eq!(rt; u128::try_from(Integer::from(7u8)).ok(), Some(7));
+    assert_eq!(rt; as_type::<i128>(Integer::from(i128::MIN)), Some(i128::MIN));
+    assert_eq!(rt; as_type::<u128>(Integer::from(7u8)), Some(7));
     assert_eq!(rt; Integer::default(), Integer::zero());
+}
+
+/// Whether the type refuses the number.
+fn is_refused<T: TryFrom<Integer> + Drop>(number: Integer) -> bool
+where
+    T::Error: Drop,
+{
+    as_type::<T>(number).is_none()
 }
 
 #[test]
 fn a_number_past_a_bound_is_handed_back(rt: HostRuntime) {
-    let minus_one = Integer::from(-1i8);
     let Err(refused) = u8::try_from(Integer::from(256i16)) else {
         return assert!(rt; false, "a u8 holds no 256");
     };
     assert_eq!(rt; refused.into_original().to_i128(), Some(256));
-    assert!(rt; i8::try_from(Integer::from(128u8)).is_err());
-    assert!(rt; u16::try_from(Integer::from(-1i8)).is_err());
-    assert!(rt; i16::try_from(Integer::from(-32769i32)).is_err());
-    assert!(rt; u32::try_from(Integer::from(4294967296u64)).is_err());
-    assert!(rt; i32::try_from(Integer::from(2147483648u32)).is_err());
-    assert!(rt; u64::try_from(Integer::from(-1i8)).is_err());
-    assert!(rt; i64::try_from(Integer::from(9223372036854775808u64)).is_err());
-    assert!(rt; u128::try_from(minus_one).is_err());
-    assert!(rt; usize::try_from(Integer::from(-1i8)).is_err());
-    assert!(rt; isize::try_from(Integer::from(9223372036854775808u64)).is_err());
+}
+
+#[test]
+fn a_number_past_a_bound_is_refused(rt: HostRuntime) {
+    assert!(rt; is_refused::<i8>(Integer::from(128u8)));
+    assert!(rt; is_refused::<u16>(Integer::from(-1i8)));
+    assert!(rt; is_refused::<i16>(Integer::from(-32769i32)));
+    assert!(rt; is_refused::<u32>(Integer::from(4294967296u64)));
+    assert!(rt; is_refused::<i32>(Integer::from(2147483648u32)));
+    assert!(rt; is_refused::<u64>(Integer::from(-1i8)));
+    assert!(rt; is_refused::<i64>(Integer::from(9223372036854775808u64)));
+    assert!(rt; is_refused::<u128>(Integer::from(-1i8)));
+    assert!(rt; is_refused::<usize>(Integer::from(-1i8)));
+    assert!(rt; is_refused::<isize>(Integer::from(9223372036854775808u64)));
+}
+
+/// The number as a bounded one, if it lies within the bounds.
+fn bounded<T>(number: T) -> Option<Bounded>
+where
+    Bounded: TryFrom<T>,
+    <Bounded as TryFrom<T>>::Error: Drop,
+{
+    Bounded::try_from(number).ok()
 }
 
 #[test]
 fn constrained_integers_lie_within_both_bounds(rt: HostRuntime) -> Result<(), Fail> {
-    let most = Bounded::try_from(360i32)?;
+    let most = bounded(360i32).ok_or("the greatest")?;
     assert_eq!(rt; most.to_i128(), Some(360));
+    let least = bounded(-8i64).ok_or("the least")?;
+    assert_eq!(rt; least.to_i128(), Some(-8));
+    assert!(rt; bounded(-9isize).is_none());
+    assert!(rt; bounded(i128::MAX).is_none());
+    assert!(rt; least < most);
+    let copy = most.clone()?;
+    assert!(rt; copy == most);
+    Ok(())
+}
+
+#[test]
+fn a_number_past_the_bounds_is_handed_back(rt: HostRuntime) -> Result<(), Fail> {
     let Err(refused) = Bounded::try_from(361i32) else {
         return Err("361 was accepted")?;
     };
     assert_eq!(rt; refused.into_original().to_i128(), Some(361));
-    let least = Bounded::try_from(-8i64)?;
-    assert_eq!(rt; least.to_i128(), Some(-8));
-    assert!(rt; Bounded::try_from(-9isize).is_err());
-    assert!(rt; Bounded::try_from(i128::MAX).is_err());
-    assert!(rt; least < most);
     for number in 2i32..7 {
         assert!(rt; ConstrainedInteger::<5, 3>::try_from(number).is_err());
     }
-    let copy = most.clone()?;
-    assert!(rt; copy == most);
     Ok(())
 }
 
@@ -375,6 +418,11 @@ fn errors_have_their_texts(rt: HostRuntime) -> Result<(), Fail> {
         let written = format!(in rt.alloc(); "{error}")?;
         assert_eq!(rt; written.as_str(), text);
     }
+    Ok(())
+}
+
+#[test]
+fn a_refused_number_has_its_text(rt: HostRuntime) -> Result<(), Fail> {
     let Err(refused) = u8::try_from(Integer::from(-1i8)) else {
         return Err("a u8 holds no -1")?;
     };

@@ -10,12 +10,17 @@ pub fn read<T: IntegerType + Drop>(
     octets: &[u8],
     has_sign: bool,
 ) -> Result<Option<i128>, IntegerError> {
-    let number = if has_sign {
-        T::try_from_signed_bytes(alloc, octets)?
-    } else {
-        T::try_from_unsigned_bytes(alloc, octets)?
-    };
-    Ok(number.to_i128())
+    if has_sign {
+        return value_read(T::try_from_signed_bytes(alloc, octets));
+    }
+    value_read(T::try_from_unsigned_bytes(alloc, octets))
+}
+
+/// The value of a number that was read, where it lies within `i128`.
+fn value_read<T: IntegerType + Drop>(
+    number: Result<T, IntegerError>,
+) -> Result<Option<i128>, IntegerError> {
+    Ok(number?.to_i128())
 }
 
 /// Why a native type refuses so many octets that begin with this one, all of them alike.

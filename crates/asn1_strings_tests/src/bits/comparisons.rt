@@ -1,10 +1,13 @@
 //! Calls compared with the plain definition, at many places and lengths.
 
-use super::plain::{behind_ones, pattern, plain_bits, plain_number, push_digits, shows, spells};
+use super::plain::{
+    behind_ones, pattern, plain_bits, plain_number, push_digits, shows, shows_part, spells,
+};
 use asn1_bits::{
     BitBuffer, BitReader, BitStr, BitString, Turns, extend_bitstring, extend_vec_from_bitslice,
     or_bits, read_bits, read_u128, read_wide, to_bitstring, write_bitslice,
 };
+use std::alloc::{AllocError, Global};
 use std::process::Abort;
 use std::test::Fail;
 
@@ -12,28 +15,52 @@ const LENGTHS: [usize; 15] = [0, 1, 2, 7, 8, 9, 13, 16, 17, 63, 64, 65, 72, 100,
 
 const ONES: [usize; 12] = [0, 1, 3, 7, 8, 9, 15, 16, 17, 63, 64, 65];
 
+/// Whether each call that looks at the next bits tells of these.
+fn looks_like(reader: &BitReader<'_>, wanted: &[bool]) -> bool {
+    let width = wanted.len();
+    if width > 128 || width > reader.len() {
+        return false;
+    }
+    if reader.first_u128(width) != plain_number(wanted) {
+        return false;
+    }
+    if width > 32 {
+        return true;
+    }
+    u128::from(reader.first_bits(width)) == plain_number(wanted)
+}
+
+/// Whether the next bit is this one.
+fn begins_with(reader: &BitReader<'_>, wanted: Option<&bool>) -> bool {
+    reader.len() > 0 && wanted.is_some_and(|bit| *bit == reader.first_bit())
+}
+
+/// Takes so many bits off the reader, if they are there.
+fn taken<'a>(reader: &mut BitReader<'a>, count: usize) -> Option<BitStr<'a>> {
+    let front = reader.split(count).ok()?;
+    Some(front.bits())
+}
+
+/// The reader of all bits from bit `first` of the octets on.
+fn reader_from(octets: &[u8], first: usize) -> Option<BitReader<'_>> {
+    let len = octets.len().min(64) * 8;
+    let view = BitStr::new(octets, first, len.saturating_sub(first))?;
+    Some(BitReader::new(view))
+}
+
 /// Takes so many bits in turn from bit `first` of the octets, by each call that fits.
 fn takes_in_turn(rt: &impl Abort, octets: &[u8], bits: &[bool], first: usize) -> Result<(), Fail> {
-    let len = (octets.len().min(64) * 8).saturating_sub(first);
-    let view = BitStr::new(octets, first, len).ok_or("within")?;
-    let mut reader = BitReader::new(view);
-    let mut at = first;
+    let mut reader = reader_from(octets, first).ok_or("within")?;
+    let mut wanted = bits.get(first..).ok_or("so many")?;
     for width in [1, 5, 7, 8, 9, 31, 32, 33, 64, 100, 128, 3] {
-        assert!(rt; width <= 128 && width <= reader.len() && at <= 512 && at + width <= bits.len());
-        let wanted = &bits[at..at + width];
-        assert_eq!(rt; reader.first_u128(width), plain_number(wanted));
-        if width <= 32 {
-            assert_eq!(rt; u128::from(reader.first_bits(width)), plain_number(wanted));
-        }
-        if width > 0 {
-            assert_eq!(rt; reader.first_bit(), wanted[0]);
-        }
-        let front = reader.split(width).map_err(|_| "short")?;
-        assert!(rt; shows(front.bits(), wanted));
-        at += width;
+        let (front, rest) = wanted.split_at_checked(width).ok_or("so many")?;
+        assert!(rt; looks_like(&reader, front));
+        assert!(rt; begins_with(&reader, front.first()));
+        let view = taken(&mut reader, width).ok_or("short")?;
+        assert!(rt; shows(view, front));
+        wanted = rest;
     }
-    assert!(rt; at <= bits.len());
-    assert!(rt; shows(reader.bits(), &bits[at..]));
+    assert!(rt; shows(reader.bits(), wanted));
     Ok(())
 }
 
@@ -102,6 +129,34 @@ fn digits_are_appended_at_each_width(rt: HostRuntime) -> Result<(), Fail> {
     Ok(())
 }
 
+/// So many ones in a buffer.
+fn ones_in_a_buffer(alloc: Global, ones: usize) -> Result<BitBuffer, AllocError> {
+    let mut buffer = BitBuffer::new(alloc);
+    buffer.resize(ones, true)?;
+    Ok(buffer)
+}
+
+/// So many ones, and then the bits of the view, in a buffer.
+fn view_in_a_buffer(alloc: Global, ones: usize, view: BitStr<'_>) -> Result<BitBuffer, Fail> {
+    let mut buffer = ones_in_a_buffer(alloc, ones)?;
+    if buffer.len() > 1000 || view.len() > 1000 {
+        return Err("few")?;
+    }
+    buffer.extend_from_bitslice(view)?;
+    Ok(buffer)
+}
+
+/// So many bits of the octets, and then the bits of the view, in a bit string.
+fn view_in_a_string(octets: Vec<u8>, ones: usize, view: BitStr<'_>) -> Result<BitString, Fail> {
+    let mut string = BitString::from_vec(octets);
+    string.truncate(ones);
+    if string.len() > 1000 || view.len() > 1000 {
+        return Err("few")?;
+    }
+    extend_bitstring(&mut string, view)?;
+    Ok(string)
+}
+
 /// Copies and appends the bits from bit `first` on, behind so many ones.
 fn extends<R: Abort + AllocGlobal>(
     rt: &R,
@@ -112,17 +167,12 @@ fn extends<R: Abort + AllocGlobal>(
     len: usize,
 ) -> Result<(), Fail> {
     let view = BitStr::new(octets, first, len).ok_or("within")?;
-    assert!(rt; first <= 8 && len <= 250 && first + len <= bits.len() && ones <= 65);
-    let wanted = behind_ones(rt.alloc(), ones, &bits[first..first + len])?;
-    let mut buffer = BitBuffer::new(rt.alloc());
-    buffer.resize(ones, true)?;
-    assert!(rt; buffer.len() == ones);
-    buffer.extend_from_bitslice(view)?;
+    let rest = bits.get(first..).ok_or("so many")?;
+    let part = rest.get(..len).ok_or("so many")?;
+    let wanted = behind_ones(rt.alloc(), ones, part)?;
+    let buffer = view_in_a_buffer(rt.alloc(), ones, view)?;
     assert!(rt; spells(rt.alloc(), buffer.as_bytes(), wanted.as_slice())?);
-    let mut string = BitString::from_vec(buffer.into_vec());
-    string.truncate(ones);
-    assert!(rt; string.len() == ones);
-    extend_bitstring(&mut string, view)?;
+    let string = view_in_a_string(buffer.into_vec(), ones, view)?;
     assert!(rt; spells(rt.alloc(), string.as_raw_slice(), wanted.as_slice())?);
     assert!(rt; shows(string.as_bitstr(), wanted.as_slice()));
     Ok(())
@@ -142,17 +192,28 @@ fn strings_are_extended_behind_ones(rt: HostRuntime) -> Result<(), Fail> {
     Ok(())
 }
 
+/// Whether a copy of so many bits from bit `first` on shows these bits, and is equal to them.
+fn is_copied(
+    alloc: Global,
+    octets: &[u8],
+    bits: &[bool],
+    first: usize,
+    len: usize,
+) -> Result<bool, AllocError> {
+    let Some(view) = BitStr::new(octets, first, len) else {
+        return Ok(false);
+    };
+    let copy = to_bitstring(alloc, view)?;
+    Ok(shows_part(copy.as_bitstr(), bits, first, len) && copy.as_bitstr() == view)
+}
+
 #[test]
 fn views_are_copied(rt: HostRuntime) -> Result<(), Fail> {
     let octets = pattern(rt.alloc(), 40)?;
     let bits = plain_bits(rt.alloc(), octets.as_slice())?;
     for first in 0..9 {
         for len in LENGTHS {
-            let view = BitStr::new(octets.as_slice(), first, len).ok_or("within")?;
-            assert!(rt; len <= 250 && first + len <= bits.len());
-            let copy = to_bitstring(rt.alloc(), view)?;
-            assert!(rt; shows(copy.as_bitstr(), &bits[first..first + len]));
-            assert!(rt; copy.as_bitstr() == view);
+            assert!(rt; is_copied(rt.alloc(), octets.as_slice(), bits.as_slice(), first, len)?);
         }
     }
     Ok(())
@@ -174,46 +235,125 @@ fn octets_are_appended_behind_ones(rt: HostRuntime) -> Result<(), Fail> {
     Ok(())
 }
 
+/// Whether so many octets from bit `first` on are appended behind FF 00.
+fn is_taken(
+    alloc: Global,
+    octets: &[u8],
+    bits: &[bool],
+    first: usize,
+    count: usize,
+) -> Result<bool, AllocError> {
+    let Some(view) = BitStr::new(octets, first, count.min(64) * 8) else {
+        return Ok(false);
+    };
+    let mut vector = [0xFF, 0x00].to_vec(alloc)?;
+    if view.len() % 8 != 0 {
+        return Ok(false);
+    }
+    extend_vec_from_bitslice(&mut vector, view)?;
+    let begins = vector.as_slice().starts_with(&[0xFF, 0x00]);
+    let Some(rest) = vector.as_slice().get(2..) else {
+        return Ok(false);
+    };
+    Ok(
+        begins
+            && shows_part(
+                BitStr::from_octets(rest),
+                bits,
+                first,
+                rest.len().min(64) * 8,
+            ),
+    )
+}
+
 #[test]
 fn vectors_take_octets_from_any_bit(rt: HostRuntime) -> Result<(), Fail> {
     let octets = pattern(rt.alloc(), 40)?;
     let bits = plain_bits(rt.alloc(), octets.as_slice())?;
     for first in 0..9 {
         for count in [0, 1, 2, 8, 9, 17] {
-            let mut wanted = plain_bits(rt.alloc(), &[0xFF, 0x00])?;
-            let view = BitStr::new(octets.as_slice(), first, 8 * count).ok_or("within")?;
-            assert!(rt; count <= 17 && view.len() % 8 == 0 && first + 8 * count <= bits.len());
-            wanted.extend_from_slice(&bits[first..first + 8 * count])?;
-            let mut vector = [0xFF, 0x00].to_vec(rt.alloc())?;
-            extend_vec_from_bitslice(&mut vector, view)?;
-            assert!(rt; spells(rt.alloc(), vector.as_slice(), wanted.as_slice())?);
+            assert!(rt; is_taken(rt.alloc(), octets.as_slice(), bits.as_slice(), first, count)?);
         }
     }
     Ok(())
+}
+
+/// Sixteen octets of zeros, in which the view was written from bit `position` on, if it ends there.
+fn written(view: BitStr<'_>, position: usize) -> Option<[u8; 16]> {
+    let mut target = [0u8; 16];
+    if position > 17 || view.len() > 100 {
+        return None;
+    }
+    write_bitslice(&mut target, position, view, &mut Turns::new());
+    Some(target)
+}
+
+/// Whether the octets show so many of the bits from bit `position` on, and zeros elsewhere.
+fn shows_among_zeros(
+    octets: &[u8],
+    position: usize,
+    bits: &[bool],
+    first: usize,
+    len: usize,
+) -> bool {
+    let Some(part) = BitStr::new(octets, position, len) else {
+        return false;
+    };
+    let Some(front) = BitStr::new(octets, 0, position) else {
+        return false;
+    };
+    let end = position.saturating_add(len);
+    let Some(back) = BitStr::new(octets, end, 128usize.saturating_sub(end)) else {
+        return false;
+    };
+    shows_part(part, bits, first, len)
+        && shows_part(front, &[false; 17], 0, position)
+        && shows_part(back, &[false; 128], 0, back.len())
 }
 
 #[test]
 fn views_are_written_into_zeros(rt: HostRuntime) -> Result<(), Fail> {
     let octets = pattern(rt.alloc(), 20)?;
     let bits = plain_bits(rt.alloc(), octets.as_slice())?;
-    assert!(rt; bits.len() == 160);
     for first in 0..9 {
         for len in [1, 5, 8, 9, 64, 70] {
             let view = BitStr::new(octets.as_slice(), first, len).ok_or("within")?;
-            assert!(rt; view.len() == len && len <= 70);
             for position in 0..17 {
-                let mut target = [0u8; 16];
-                write_bitslice(&mut target, position, view, &mut Turns::new());
-                let written = BitStr::from_octets(&target);
-                let (front, rest) = written.split_at(position);
-                let (middle, back) = rest.split_at(len);
-                assert!(rt; shows(middle, &bits[first..first + len]));
-                assert!(rt; shows(front, &[false; 17][..position]));
-                assert!(rt; shows(back, &[false; 128][..128 - position - len]));
+                let target = written(view, position).ok_or("room")?;
+                assert!(rt; shows_among_zeros(&target, position, bits.as_slice(), first, len));
             }
         }
     }
     Ok(())
+}
+
+/// A copy of `old` with the first bits of `src` ORed in, if there are so many.
+fn ored(
+    alloc: Global,
+    old: &[u8],
+    src: &[u8],
+    position: usize,
+    count: usize,
+) -> Result<Vec<u8>, Fail> {
+    let mut target = old.to_vec(alloc)?;
+    if position > 17 || count > 200 || target.len() != 32 || src.len() != 32 {
+        return Err("room")?;
+    }
+    let mut turns = Turns::new();
+    or_bits(target.as_mut_slice(), position, src, count, &mut turns);
+    Ok(target)
+}
+
+/// Whether each bit is that of before, or that of the bits whose place counts from `position` on.
+fn is_ored(after: &[bool], before: &[bool], bits: &[bool], position: usize) -> bool {
+    let mut is_right = after.len() == before.len();
+    for (place, (bit, old)) in after.iter().zip(before).enumerate() {
+        let placed = place
+            .checked_sub(position)
+            .is_some_and(|at| bits.get(at) == Some(&true));
+        is_right = is_right && *bit == (*old || placed);
+    }
+    is_right
 }
 
 /// ORs the first bits of `src` into a copy of `old`, and compares each bit.
@@ -224,24 +364,13 @@ fn ors<R: Abort + AllocGlobal>(
     position: usize,
     count: usize,
 ) -> Result<(), Fail> {
-    assert!(rt; old.len() == 32 && src.len() == 32 && position <= 17 && count <= 200);
     let before = plain_bits(rt.alloc(), old)?;
     let bits = plain_bits(rt.alloc(), src)?;
-    let mut target = old.to_vec(rt.alloc())?;
-    assert!(rt; target.len() == 32);
-    or_bits(
-        target.as_mut_slice(),
-        position,
-        src,
-        count,
-        &mut Turns::new(),
-    );
+    let target = ored(rt.alloc(), old, src, position, count)?;
     let after = plain_bits(rt.alloc(), target.as_slice())?;
-    assert!(rt; before.len() == 256 && bits.len() == 256 && after.len() == 256);
-    for i in 0..256 {
-        let placed = i >= position && i - position < count && bits[i - position];
-        assert_eq!(rt; after[i], before[i] || placed);
-    }
+    let front = bits.as_slice().get(..count).ok_or("so many")?;
+    assert!(rt; after.len() == 256);
+    assert!(rt; is_ored(after.as_slice(), before.as_slice(), front, position));
     Ok(())
 }
 

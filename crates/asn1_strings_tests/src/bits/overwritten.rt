@@ -1,5 +1,6 @@
 //! Worked rows on bits that are written over others.
 
+use super::plain::{plain_bits, push_digits};
 use asn1_bits::{BitStr, Turns, overwrite_bitslice, overwrite_number};
 use std::test::Fail;
 
@@ -46,5 +47,44 @@ fn numbers_leave_the_bits_round_them(rt: HostRuntime) -> Result<(), Fail> {
     overwrite_number(&mut octets, 1, 0x101, 7, &mut Turns::new());
     wanted[0] = 0x81;
     assert_eq!(rt; octets.as_slice(), wanted.as_slice());
+    Ok(())
+}
+
+/// The octets with the number's digits over the bits from bit `position` on, if they end there.
+fn overwritten(old: &[u8; 40], position: usize, value: u128, width: usize) -> Option<[u8; 40]> {
+    let mut octets = *old;
+    if position > 100 || width > 128 {
+        return None;
+    }
+    overwrite_number(&mut octets, position, value, width, &mut Turns::new());
+    Some(octets)
+}
+
+/// Whether each bit is that of before, or that of the bits whose place counts from `position` on.
+fn is_overwritten(after: &[bool], before: &[bool], bits: &[bool], position: usize) -> bool {
+    let mut is_right = after.len() == before.len();
+    for (place, (bit, old)) in after.iter().zip(before).enumerate() {
+        let new = place.checked_sub(position).and_then(|at| bits.get(at));
+        is_right = is_right && *bit == *new.unwrap_or(old);
+    }
+    is_right
+}
+
+#[test]
+fn numbers_are_written_over_any_bits(rt: HostRuntime) -> Result<(), Fail> {
+    let value = 0x0123_4567_89AB_CDEF_FEDC_BA98_7654_3210;
+    for old in [[0x00; 40], [0xFF; 40], [0xA5; 40]] {
+        let before = plain_bits(rt.alloc(), &old)?;
+        for position in 0..17 {
+            for width in 0..129 {
+                let mut digits = Vec::new(rt.alloc());
+                push_digits(&mut digits, value, width)?;
+                let octets = overwritten(&old, position, value, width).ok_or("room")?;
+                let after = plain_bits(rt.alloc(), &octets)?;
+                let (before, digits) = (before.as_slice(), digits.as_slice());
+                assert!(rt; is_overwritten(after.as_slice(), before, digits, position));
+            }
+        }
+    }
     Ok(())
 }

@@ -8,8 +8,10 @@ use std::alloc::{AllocError, Global};
 /// Octets that look like noise: octet i is 37 i modulo 256, exclusive or 0x5A.
 pub fn pattern(alloc: Global, count: usize) -> Result<Vec<u8>, AllocError> {
     let mut octets = Vec::new(alloc);
-    for i in 0..count {
-        octets.push((37 * (i % 256) % 256) as u8 ^ 0x5A)?;
+    let mut next = 0u8;
+    for _ in 0..count {
+        octets.push(next ^ 0x5A)?;
+        next = next.wrapping_add(37);
     }
     Ok(octets)
 }
@@ -48,17 +50,30 @@ pub fn plain_number(bits: &[bool]) -> u128 {
     bits.iter().fold(0, |n, bit| (n << 1) | u128::from(*bit))
 }
 
+/// The bit at this place of the view, and false where it has no such place.
+fn bit_at(view: BitStr<'_>, place: usize) -> bool {
+    place < view.len() && view.get(place)
+}
+
 /// Whether the view shows the bits.
 pub fn shows(view: BitStr<'_>, bits: &[bool]) -> bool {
-    if view.len() != bits.len() {
+    let count = view.len();
+    let mut is_shown = count == bits.len();
+    for (place, bit) in bits.iter().enumerate() {
+        is_shown = is_shown && bit_at(view, place) == *bit;
+    }
+    is_shown
+}
+
+/// Whether the view shows so many of the bits, from one of them on.
+pub fn shows_part(view: BitStr<'_>, bits: &[bool], first: usize, count: usize) -> bool {
+    let Some(rest) = bits.get(first..) else {
         return false;
-    }
-    for i in 0..bits.len() {
-        if view.get(i) != bits[i] {
-            return false;
-        }
-    }
-    true
+    };
+    let Some(part) = rest.get(..count) else {
+        return false;
+    };
+    shows(view, part)
 }
 
 /// Whether the octets are those of the bits, with zeros to the octet's end.
