@@ -4,7 +4,7 @@ ghost use Rattle.std.specs.Prelude.{ℤ};
 ghost use Rattle.std.specs.Int.{IsNonNegative};
 ghost use Rattle.asn1_integer.specs.Calls.{IsNonNegativeUnlessNative};
 
-use asn1_integer::{Integer, IntegerError, IntegerType, laws_of_wrapping};
+use asn1_integer::{Integer, IntegerBytes, IntegerError, IntegerType, laws_of_wrapping};
 use readings::read;
 use std::alloc::Global;
 use std::process::Abort;
@@ -107,65 +107,34 @@ fn sums_and_differences_stay_within_the_type(rt: HostRuntime) {
     assert_eq!(rt; IntegerType::checked_sub(&0u128, &1), None);
 }
 
+fn compare(rt: &impl Abort, octets: IntegerBytes<'_>, wanted: &[u8]) {
+    assert_eq!(rt; octets.as_ref(), wanted);
+}
+
 #[test]
 fn residues_have_their_shortest_octets(rt: HostRuntime) {
-    assert_eq!(rt; 128i32.to_unsigned_bytes_be().as_ref(), [0x80].as_slice());
-    assert_eq!(rt; 0u8.to_unsigned_bytes_be().as_ref(), [0].as_slice());
-    assert_eq!(rt;
-        Integer::zero().to_unsigned_bytes_be().as_ref(),
-        [0].as_slice()
-    );
-    assert_eq!(rt;
-        (-1i8).to_unsigned_bytes_be().as_ref(),
-        [0xFF; 1].as_slice()
-    );
-    assert_eq!(rt;
-        (-1i16).to_unsigned_bytes_be().as_ref(),
-        [0xFF; 2].as_slice()
-    );
-    assert_eq!(rt;
-        (-1i32).to_unsigned_bytes_be().as_ref(),
-        [0xFF; 4].as_slice()
-    );
-    assert_eq!(rt;
-        (-1i64).to_unsigned_bytes_be().as_ref(),
-        [0xFF; 8].as_slice()
-    );
-    assert_eq!(rt;
-        (-1i128).to_unsigned_bytes_be().as_ref(),
-        [0xFF; 16].as_slice()
-    );
-    assert_eq!(rt;
-        (-1isize).to_unsigned_bytes_be().as_ref(),
-        [0xFF; 8].as_slice()
-    );
-    assert_eq!(rt;
-        u16::MAX.to_unsigned_bytes_be().as_ref(),
-        [0xFF; 2].as_slice()
-    );
-    assert_eq!(rt;
-        u32::MAX.to_unsigned_bytes_be().as_ref(),
-        [0xFF; 4].as_slice()
-    );
-    assert_eq!(rt;
-        u64::MAX.to_unsigned_bytes_be().as_ref(),
-        [0xFF; 8].as_slice()
-    );
-    assert_eq!(rt;
-        usize::MAX.to_unsigned_bytes_be().as_ref(),
-        [0xFF; 8].as_slice()
-    );
-    assert_eq!(rt;
-        u128::MAX.to_unsigned_bytes_be().as_ref(),
-        [0xFF; 16].as_slice()
-    );
+    let ones = [0xFF; 16];
+    compare(&rt, 128i32.to_unsigned_bytes_be(), &[0x80]);
+    compare(&rt, 0u8.to_unsigned_bytes_be(), &[0]);
+    compare(&rt, Integer::zero().to_unsigned_bytes_be(), &[0]);
+    compare(&rt, (-1i8).to_unsigned_bytes_be(), &ones[..1]);
+    compare(&rt, (-1i16).to_unsigned_bytes_be(), &ones[..2]);
+    compare(&rt, (-1i32).to_unsigned_bytes_be(), &ones[..4]);
+    compare(&rt, (-1i64).to_unsigned_bytes_be(), &ones[..8]);
+    compare(&rt, (-1i128).to_unsigned_bytes_be(), &ones);
+    compare(&rt, (-1isize).to_unsigned_bytes_be(), &ones[..8]);
+    compare(&rt, u16::MAX.to_unsigned_bytes_be(), &ones[..2]);
+    compare(&rt, u32::MAX.to_unsigned_bytes_be(), &ones[..4]);
+    compare(&rt, u64::MAX.to_unsigned_bytes_be(), &ones[..8]);
+    compare(&rt, usize::MAX.to_unsigned_bytes_be(), &ones[..8]);
+    compare(&rt, u128::MAX.to_unsigned_bytes_be(), &ones);
     let mut signed = [0xFF; 17];
     signed[0] = 0;
-    assert_eq!(rt; u128::MAX.to_signed_bytes_be().as_ref(), signed.as_slice());
+    compare(&rt, u128::MAX.to_signed_bytes_be(), &signed);
     let mut least = [0; 16];
     least[0] = 0x80;
-    assert_eq!(rt; i128::MIN.to_signed_bytes_be().as_ref(), least.as_slice());
-    assert_eq!(rt; i128::MIN.to_unsigned_bytes_be().as_ref(), least.as_slice());
+    compare(&rt, i128::MIN.to_signed_bytes_be(), &least);
+    compare(&rt, i128::MIN.to_unsigned_bytes_be(), &least);
 }
 
 #[test]
