@@ -1,5 +1,5 @@
 //! Strings at the keys that bits spell: one walk over words of several keys.
-ghost use Rattle.std.specs.Prelude.{◌≡◌, ◌≢◌, ◌≤◌, ◌+◌, ◌*◌, ◌/◌, true, [], Some, length, map as map_of, vec_len, vec_capacity, IfSome, IsNone};
+ghost use Rattle.std.specs.Prelude.{◌≡◌, ◌≢◌, ◌≤◌, ◌<◌, ◌+◌, ◌*◌, ◌/◌, true, [], Some, length, map as map_of, vec_len, vec_capacity, IfSome, IsNone};
 ghost use Rattle.asn1_bits.specs.BitStr.{bits_of};
 ghost use Rattle.asn1_bits.specs.Bits.{number};
 ghost use Rattle.asn1_characters.specs.Sets.{base_set, has_character};
@@ -124,6 +124,7 @@ fn keys_in_word(width: usize) -> usize
     requires few { width ≤ 64 }
     ensures some { 1 ≤ result }
     ensures fits { result * width ≤ 64 }
+    ensures most { 64 < (result + 8) * width }
 {
     let most = 64 / width;
     if most >= 8 { most / 8 * 8 } else { most }
