@@ -61,8 +61,10 @@ between_in name first last xs one = (to, from)
   where
     is : (c : ℕ) → has_character (base_set name) c ≡ ((leb first c && leb c last) || false)
     is c = has_in_base name c ∙ rw one refl
+
     to : All (λ c. (first ≤ c) × (c ≤ last)) xs → All (λ c. has_character (base_set name) c ≡ true) xs
     to between k d lt = let ends = between k d lt in is (get_or xs k d) ∙ grind (arith, nat_tests)
+
     from : All (λ c. has_character (base_set name) c ≡ true) xs → All (λ c. (first ≤ c) × (c ≤ last)) xs
     from held k d lt =
         let here : ((leb first (get_or xs k d) && leb (get_or xs k d) last) || false) ≡ true = sym (is (get_or xs k d))
@@ -76,6 +78,7 @@ low_in name last xs one = both (low, high) (between_in name 0 last xs one)
   where
     low : leb (largest xs) last ≡ true → All (λ c. (0 ≤ c) × (c ≤ last)) xs
     low told k d lt = let top = no_larger xs k d lt in (omega arith, grind (arith, nat_tests))
+
     high : All (λ c. (0 ≤ c) × (c ≤ last)) xs → leb (largest xs) last ≡ true
     high between =
         let within = largest_within xs last (λ i lt. (between i 0 lt).1) in grind (arith, nat_tests)
@@ -94,6 +97,7 @@ near_is_between octets first last small ordered fits = (near, between)
     at : (k : ℕ) → k < length octets → get_or (map (distance_from first) octets) k 0
         ≡ distance_from first (get_or octets k 0)
     at k lt = get_or-map (distance_from first) octets k 0 0 lt
+
     near : leb (largest (map (distance_from first) octets)) (last - first) ≡ true
         → All (λ c. (first ≤ c) × (c ≤ last)) octets
     near told k d lt =
@@ -103,6 +107,7 @@ near_is_between octets first last small ordered fits = (near, between)
         let fit = small k in
         let low : largest (map (distance_from first) octets) ≤ last - first = grind (arith, nat_tests) in
         rw (get_or_default octets k d 0 lt) (omega arith, omega arith)
+
     between : All (λ c. (first ≤ c) × (c ≤ last)) octets
         → leb (largest (map (distance_from first) octets)) (last - first) ≡ true
     between ends =

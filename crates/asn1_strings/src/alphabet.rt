@@ -7,9 +7,7 @@ ghost use Rattle.asn1_characters.specs.Widths.{ceil_log2};
 ghost use Rattle.asn1_strings.specs.Alphabet.{is_indexed, kept_set, alphabet_on, effective, IsCode, missing_error, uncoded_error, Encodes, Decodes, IsLongAscending};
 ghost use Rattle.asn1_strings.specs.AlphabetInMemory.{some_if, set_of, HasWords, IsKnown, IsRun, IsSeenRun};
 
-use crate::permitted_set::{
-    is_ascending, is_run, largest_of, largest_of_run, repeats_in,
-};
+use crate::permitted_set::{is_ascending, is_run, largest_of, largest_of_run, repeats_in};
 use crate::run::Run;
 use crate::search::{Entries, Looks, find_ascending, find_one_by_one};
 use crate::static_permitted_alphabet::StaticPermittedAlphabet;

@@ -1,5 +1,4 @@
-use Rattle.std.proofs.Common.{◌≡◌, ◌≤◌, ℕ, ap, sym, ◌∙◌, lit≤, rules}
-use Rattle.asn1_characters.specs.Sets.{largest}
+use Rattle.std.proofs.Common.{lit≤}
 use Rattle.asn1_characters.specs.TableLaws.{largest-base_set}
 use Rattle.asn1_characters.specs.declared.character_set.CharacterSetName.TheVariants.{Bmp}
 use Rattle.asn1_strings.specs.AlphabetInMemory.{set_of}

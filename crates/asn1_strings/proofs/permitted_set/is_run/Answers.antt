@@ -1,6 +1,5 @@
-use Rattle.std.proofs.Common.{◌≡◌, ◌≤◌, ◌+◌, ◌^◌, ◌<◌, true, false, ℕ, length, get_or, arith}
+use Rattle.std.proofs.Common.{arith}
 use Rattle.std.proofs.lemmas.Bool.Decides.{nat_tests}
-use Rattle.asn1_strings.specs.AlphabetInMemory.{IsRun}
 use Rattle.asn1_strings.proofs.RunLemmas.{run_from_places, run_entry, told_true}
 use Rattle.asn1_strings.proofs.permitted_set.is_run.Goals as goal
 

@@ -1,4 +1,4 @@
-use Rattle.std.proofs.Common.{◌≡◌, ℕ, refl, sym, map}
+use Rattle.std.proofs.Common.{◌≡◌, refl, map}
 use Rattle.std.specs.Int.{w16, from_be_bytes}
 use Rattle.asn1_strings.specs.Strings.{character_octets}
 use Rattle.asn1_strings.proofs.OctetLemmas.{pairs, low_in}
@@ -20,5 +20,9 @@ two_is_bmp Visible two = cc
 pub returns : goal.returns
 returns c =
     let numbers = map (from_be_bytes w16) c.as_chunks.result.0.now in
-    rw (two_is_bmp c.args._name c.requires, pairs c.args.octets.now, ← c.as_chunks.ensures.front,
-    c.largest_pair.ensures) (low_in Bmp 65533 numbers refl)
+    rw (
+      two_is_bmp c.args._name c.requires,
+      pairs c.args.octets.now,
+      ← c.as_chunks.ensures.front,
+      c.largest_pair.ensures,
+    ) (low_in Bmp 65533 numbers refl)

@@ -1,4 +1,4 @@
-use Rattle.std.proofs.Common.{sym, arith, length}
+use Rattle.std.proofs.Common.{sym, arith}
 use Rattle.std.specs.List.{range_with_len}
 use Rattle.std.proofs.lemmas.Option.{slice_get_past}
 use Rattle.std.proofs.lemmas.List.FromFn.{length-range_with_len}

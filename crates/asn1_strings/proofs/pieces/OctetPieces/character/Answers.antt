@@ -3,7 +3,7 @@ use Rattle.std.proofs.lemmas.List.{length-map, length-take}
 use Rattle.asn1_strings.specs.Pieces.{pieces, unsigned}
 use Rattle.asn1_strings.specs.PieceLaws.{length-pieces}
 use Rattle.asn1_strings.proofs.PieceLemmas.{get_or-pieces}
-use Rattle.asn1_strings.proofs.pieces.OctetPiecesCharacters.character.Goals as goal
+use Rattle.asn1_strings.proofs.pieces.OctetPieces.character.Goals as goal
 
 pub piece_of-requires : goal.piece_of-requires
 piece_of-requires c =

@@ -3,7 +3,7 @@ use Rattle.asn1_bits.specs.BitStr.{bits_of}
 use Rattle.asn1_bits.specs.Bits.{number}
 use Rattle.asn1_strings.specs.PieceLaws.{piece_within}
 use Rattle.asn1_strings.proofs.PieceLemmas.{get_or-pieces, length-numbers}
-use Rattle.asn1_strings.proofs.pieces.BitPiecesCharacters.character.Goals as goal
+use Rattle.asn1_strings.proofs.pieces.BitPieces.character.Goals as goal
 
 pub overflow_mul-i : goal.overflow_mul-i
 overflow_mul-i c =
