@@ -8,7 +8,7 @@ use Rattle.std.proofs.lemmas.List.{append-nil, drop_more, drop_all, length-appen
 use Rattle.std.proofs.lemmas.List.Folds.{list_all-append}
 use Rattle.asn1_oid.specs.declared.contents.ContentsError.{ContentsError}
 use Rattle.asn1_oid.specs.declared.contents.ContentsError.TheVariants.{ArcTooLarge}
-use Rattle.asn1_oid.specs.Reading.{behind, numbers_from, numbers_of, first_arc, second_arc, largest_first, other_fits, arcs_of_numbers, contents_reading}
+use Rattle.asn1_oid.specs.Reading.{with_front as behind, numbers_from, numbers_of, first_arc, second_arc, largest_first, other_fits, arcs_of_numbers, contents_reading}
 use Rattle.asn1_oid.specs.ReadingLaws.{ends, goes_on}
 use Rattle.asn1_c.specs.Arcs.{more_arcs}
 

@@ -71,6 +71,16 @@ below_fold (x ∷ set) m (suc i) d lt = below_fold set (max m x) i d (omega arit
 pub no_larger : (set : List ℕ) → All (λ c. c ≤ largest set) set
 no_larger set i d lt = below_fold set 0 i d lt
 
+fold_within : (set : List ℕ) (m n : ℕ) → m ≤ n → ((i : ℕ) → i < length set → get_or set i 0 ≤ n) → fold max m set ≤ n
+fold_within [] m n le each = le
+fold_within (x ∷ set) m n le each =
+    let here : x ≤ n = each 0 (omega arith) in
+    fold_within set (max m x) n (omega arith) (λ i lt. each (suc i) (omega arith))
+
+-- where no character is above a bound, the largest is not
+pub largest_within : (set : List ℕ) (n : ℕ) → ((i : ℕ) → i < length set → get_or set i 0 ≤ n) → largest set ≤ n
+largest_within set n each = fold_within set 0 n (omega arith) each
+
 has_below : (set : List ℕ) (m c : ℕ) → has_character set c ≡ true → c ≤ fold max m set
 has_below [] m c has = cc
 has_below (x ∷ set) m c has =

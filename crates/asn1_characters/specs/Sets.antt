@@ -1,5 +1,5 @@
 -- The base sets of the eight restricted strings (X.680 41), by their ranges.
-use Rattle.std.specs.Prelude.{◌+◌, ◌-◌, ◌^◌, ◌==◌, ◌≤◌, ◌<◌, ℕ, Bool, List, [], ◌∷◌, length, fold, max, nat_le}
+use Rattle.std.specs.Prelude.{◌+◌, ◌-◌, ◌^◌, ◌==◌, ◌≤◌, ◌<◌, ℕ, Bool, true, false, List, [], ◌∷◌, length, fold, max, nat_le}
 use Rattle.std.specs.List.{list_any, flat_map, range_with_len}
 use Rattle.asn1_characters.specs.Widths.{ceil_log2}
 use Rattle.asn1_characters.specs.declared.character_set.CharacterSetName.{CharacterSetName}
@@ -49,6 +49,12 @@ base_largest name = largest (base_set name)
 -- whether its characters are written by their places, since the largest does not fit the width
 abbrev pub base_indexed : CharacterSetName → Bool
 base_indexed name = nat_le (2 ^ base_width name) (base_largest name)
+
+-- whether the set lies in memory, character by character
+abbrev pub is_listed : CharacterSetName → Bool
+is_listed IA5 = true
+is_listed Visible = true
+is_listed name = false
 
 -- a range of the table: its ends are in order, and below 65534
 pub record IsRange (r : ℕ × ℕ) : Type 0 where

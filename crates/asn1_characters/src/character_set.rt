@@ -58,7 +58,7 @@ impl CharacterSetName {
         }
     }
 
-    /// How many characters the set has, at most 65,534.
+    /// How many characters the set has.
     #[inline]
     pub const fn count(self) -> u32
         ensures { result ≡ base_count self }

@@ -1,16 +1,17 @@
 //! Base sets that lie in memory, character by character.
-ghost use Rattle.std.specs.Prelude.{◌≡◌};
+ghost use Rattle.std.specs.Prelude.{◌≡◌, is_some};
 ghost use Rattle.std.specs.Option.{ForSome, option_copied};
-ghost use Rattle.asn1_characters.specs.Sets.{base_set};
+ghost use Rattle.asn1_characters.specs.Sets.{base_set, is_listed};
 
 use crate::character_set::CharacterSetName;
 
 impl CharacterSetName {
-    /// The characters of `IA5String`, `NumericString` and `VisibleString`, in the set's order. The
-    /// other sets have no table.
+    /// The characters of `IA5String` and `VisibleString`, in the set's order. The other sets have no
+    /// table.
     #[inline]
     pub fn table(self) -> Option<&'static [u32]>
-        ensures { ForSome (option_copied result) (λ table. table ≡ base_set self) }
+        ensures lists { ForSome (option_copied result) (λ table. table ≡ base_set self) }
+        ensures listed { is_some result ≡ is_listed self }
     {
         match self {
             CharacterSetName::IA5 => Some(&[
@@ -24,9 +25,6 @@ impl CharacterSetName {
                 0x62, 0x63, 0x64, 0x65, 0x66, 0x67, 0x68, 0x69, 0x6A, 0x6B, 0x6C, 0x6D, 0x6E, 0x6F,
                 0x70, 0x71, 0x72, 0x73, 0x74, 0x75, 0x76, 0x77, 0x78, 0x79, 0x7A, 0x7B, 0x7C, 0x7D,
                 0x7E, 0x7F,
-            ]),
-            CharacterSetName::Numeric => Some(&[
-                0x20, 0x30, 0x31, 0x32, 0x33, 0x34, 0x35, 0x36, 0x37, 0x38, 0x39,
             ]),
             CharacterSetName::Visible => Some(&[
                 0x20, 0x21, 0x22, 0x23, 0x24, 0x25, 0x26, 0x27, 0x28, 0x29, 0x2A, 0x2B, 0x2C, 0x2D,

@@ -57,8 +57,7 @@ impl IntegerType for Integer {
     }
 
     fn wrapping_unsigned_add(self, other: Integer) -> Option<Integer> {
-        let sum = self.to_i128()?.checked_add(other.to_i128()?)?;
-        Some(Integer::from(sum))
+        IntegerType::checked_add(&self, &other)
     }
 
     fn is_negative(&self) -> bool {

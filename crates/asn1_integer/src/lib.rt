@@ -15,7 +15,8 @@ mod unsigned;
 
 pub use asn1_number::{
     ConstrainedInteger, Integer, IntegerBytes, IntegerError, TryFromIntegerError,
-    laws_of_shortest_octets, signed_value, unsigned_value, without_redundant_sign_octets,
+    laws_of_shortest_octets, shortest_of, signed_value, unsigned_value,
+    without_redundant_sign_octets,
 };
 pub use integer_type::IntegerType;
 pub use laws::laws_of_wrapping;

@@ -1,6 +1,6 @@
 //! Numbers of native types read from octets, and octets written of them (X.690 8.3).
-ghost use Rattle.std.specs.Prelude.{◌≡◌, ℤ, pos, ◌*◌, ◌%◌, ◌^◌, ◌&&◌, nat_le, length};
-ghost use Rattle.std.specs.Prelude.{SomeIff};
+ghost use Rattle.std.specs.Prelude.{◌≡◌, ℤ, pos, ◌*◌, ◌%◌, ◌^◌, ◌≤◌, ◌&&◌, nat_le, length};
+ghost use Rattle.std.specs.Prelude.{SomeIff, IsNone};
 ghost use Rattle.asn1_number.specs.Octets.{IsShortest, IsShortestUnsigned, unsigned};
 ghost use Rattle.asn1_number.specs.Readings.{SignedOf, UnsignedOf, FitsI128, counted_length};
 ghost use Rattle.asn1_number.specs.Readings.{signed_reading, unsigned_reading};
@@ -128,15 +128,16 @@ pub(crate) fn signed_octets_of<'a>(bits: u128, is_signed: bool) -> IntegerBytes<
     }
 }
 
-/// The shortest two's complement octets of the bits as a number: seventeen where it is above
-/// `i128`'s.
+/// The shortest two's complement octets of a number above `i128`'s: a zero octet and the sixteen of
+/// its bits.
 #[inline(never)]
 fn octets_behind_zero<'a>(bits: u128) -> IntegerBytes<'a>
+    requires { 2 ^ 127 ≤ bits }
     ensures { IsShortest (pos bits) result }
 {
     let mut octets = [0; 17];
     octets[1..].copy_from_slice(&bits.to_be_bytes());
-    IntegerBytes::from_octets(without_redundant_sign_octets(&octets))
+    IntegerBytes::from_octets(&octets)
 }
 
 /// The shortest octets without a sign of the bits of so many low octets.
@@ -168,7 +169,8 @@ pub(crate) fn is_below_zero(bits: u128, is_signed: bool) -> bool
 
 /// The number of a native type that has these bits, where it lies within `i128`.
 pub(crate) fn i128_of(bits: u128, is_signed: bool) -> Option<i128>
-    ensures { (n : ℤ) → AreBitsOf is_signed n bits → SomeIff result (FitsI128 n) n }
+    ensures some { (n : ℤ) → AreBitsOf is_signed n bits → SomeIff result (FitsI128 n) n }
+    ensures none { IsNone result → 2 ^ 127 ≤ bits }
 {
     if is_signed {
         return Some(bits.cast_signed());

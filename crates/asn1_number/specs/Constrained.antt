@@ -4,7 +4,7 @@ use Rattle.asn1_number.specs.declared.constrained.ConstrainedInteger.{Constraine
 
 -- the number that it holds; its bounds are part of its type
 abbrev pub constrained_number : {START END : ℕ} → ConstrainedInteger START END → ℤ
-constrained_number c = c.number
+constrained_number c = c.kept.number
 
 -- n lies from start to end, both included
 abbrev pub IsWithin : ℤ → ℤ → ℤ → Type 0

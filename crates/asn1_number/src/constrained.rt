@@ -1,5 +1,5 @@
 //! Whole numbers within bounds that a type names.
-ghost use Rattle.std.specs.Prelude.{◌≡◌, IfOk, OnErr};
+ghost use Rattle.std.specs.Prelude.{◌≡◌, IfOk, IsOk};
 ghost use Rattle.asn1_number.specs.Readings.{FitsI128};
 
 use crate::integer::Integer;
@@ -10,19 +10,45 @@ use std::ops::Deref;
 /// A whole number that was accepted because it lies from `START` to `END`, both included.
 #[derive(Debug, Drop, PartialEq, Eq, PartialOrd, Ord, Hash)]
 pub struct ConstrainedInteger<const START: i64, const END: i64> {
+    kept: KeptInline,
+}
+
+/// A number within `i128`, which takes no memory.
+#[derive(Debug, Drop, PartialEq, Eq, PartialOrd, Ord, Hash)]
+struct KeptInline {
     number: Integer,
+    ghost inline: { FitsI128 number },
+}
+
+impl KeptInline {
+    fn of(number: i128) -> KeptInline
+        ensures { result.number ≡ number }
+    {
+        KeptInline {
+            number: Integer::inline(number),
+        }
+    }
+
+    fn clone(&self) -> KeptInline
+        ensures { result.number ≡ self.now.number }
+    {
+        match self.number.to_i128() {
+            Some(number) => KeptInline::of(number),
+            None => unreachable!(),
+        }
+    }
 }
 
 impl<const START: i64, const END: i64> ConstrainedInteger<START, END> {
     ghost use Rattle.asn1_number.specs.Constrained.{constrained_number};
 
-    /// The same number. Memory is asked for only where it lies outside `i128`.
+    /// The same number. No memory is asked for.
     pub fn clone(&self) -> Result<ConstrainedInteger<START, END>, AllocError>
         ensures value { IfOk result (λ c. constrained_number c ≡ constrained_number self.now) }
-        ensures memory { OnErr result (¬ (FitsI128 (constrained_number self.now))) }
+        ensures free { IsOk result }
     {
-        let number = self.number.clone()?;
-        Ok(ConstrainedInteger { number })
+        let kept = self.kept.clone();
+        Ok(ConstrainedInteger { kept })
     }
 }
 
@@ -35,7 +61,7 @@ impl<const START: i64, const END: i64> Deref for ConstrainedInteger<START, END> 
     ghost deref_gives = { λ c n. n ≡ constrained_number c };
 
     fn deref(&self) -> &Integer {
-        &self.number
+        &self.kept.number
     }
 }
 
@@ -49,7 +75,7 @@ impl<const START: i64, const END: i64> TryFrom<i128> for ConstrainedInteger<STAR
     fn try_from(number: i128) -> Result<ConstrainedInteger<START, END>, TryFromIntegerError> {
         if i128::from(START) <= number && number <= i128::from(END) {
             Ok(ConstrainedInteger {
-                number: Integer::from(number),
+                kept: KeptInline::of(number),
             })
         } else {
             Err(TryFromIntegerError::new(Integer::from(number)))

@@ -118,8 +118,8 @@ impl Integer {
         Integer::from_many_octets(alloc, octets)
     }
 
-    /// The same of one octet or more. Up to sixteen octets are read where they stand, without this
-    /// call.
+    /// The two's complement value of one octet or more. Up to sixteen octets are read where they
+    /// stand, without this call.
     #[inline(never)]
     fn from_many_octets(alloc: Global, octets: &[u8]) -> Result<Integer, IntegerError>
         requires { 0 < length octets.now }
@@ -209,7 +209,7 @@ impl Integer {
             (Form::Shortest(octets), Form::Shortest(others)) => {
                 octets_keys(octets.as_slice(), others.as_slice())
             }
-            _ => (rank(self.compare_by_octets(other)), 0),
+            _ => (sign_of(self.compare_by_octets(other)), 0),
         }
     }
 
@@ -286,11 +286,11 @@ fn octets_keys(a: &[u8], b: &[u8]) -> (i128, i128)
     if a.len() == b.len() && first != other {
         return (i128::from(first), i128::from(other));
     }
-    (rank(compare_octets(a, b)), 0)
+    (sign_of(compare_octets(a, b)), 0)
 }
 
-/// A number that is to 0 as the order says.
-fn rank(order: Ordering) -> i128
+/// The number -1, 0 or 1 that is to 0 as the order says.
+fn sign_of(order: Ordering) -> i128
     ensures { int_cmp result (pos 0) ≡ order }
 {
     match order {

@@ -1,8 +1,8 @@
 //! Whole numbers: worked rows, octets, conversions, order and texts.
 
 use asn1_number::{
-    ConstrainedInteger, Integer, IntegerBytes, IntegerError, laws_of_shortest_octets, signed_value,
-    unsigned_value, without_redundant_sign_octets,
+    ConstrainedInteger, Integer, IntegerBytes, IntegerError, laws_of_shortest_octets, shortest_of,
+    signed_value, unsigned_value, without_redundant_sign_octets,
 };
 use std::alloc::Global;
 use std::hash::{FoldHasher, Hash, Hasher};
@@ -21,12 +21,19 @@ fn hash_of(number: &Integer) -> u64 {
 
 #[test]
 fn small_numbers_have_their_shortest_signed_octets(rt: HostRuntime) {
-    let rows: [(i128, &[u8]); 6] = [
+    let rows: [(i128, &[u8]); 9] = [
         (0, &[0x00]),
         (127, &[0x7F]),
         (128, &[0x00, 0x80]),
         (-128, &[0x80]),
         (-129, &[0xFF, 0x7F]),
+        // The numbers at which one word of eight octets becomes two.
+        (-9223372036854775808, &[0x80, 0, 0, 0, 0, 0, 0, 0]),
+        (9223372036854775808, &[0x00, 0x80, 0, 0, 0, 0, 0, 0, 0]),
+        (
+            -9223372036854775809,
+            &[0xFF, 0x7F, 0xFF, 0xFF, 0xFF, 0xFF, 0xFF, 0xFF, 0xFF],
+        ),
         (
             i128::MIN,
             &[0x80, 0, 0, 0, 0, 0, 0, 0, 0, 0, 0, 0, 0, 0, 0, 0],
@@ -36,6 +43,7 @@ fn small_numbers_have_their_shortest_signed_octets(rt: HostRuntime) {
         let integer = Integer::from(number);
         assert_eq!(rt; integer.signed_octets().as_ref(), octets, "of {number}");
         assert_eq!(rt; integer.signed_len(), octets.len(), "of {number}");
+        assert_eq!(rt; shortest_of(number).as_ref(), octets, "of {number}");
     }
 }
 
@@ -166,6 +174,29 @@ fn numbers_of_66_octets_are_kept(rt: HostRuntime) -> Result<(), Fail> {
 }
 
 #[test]
+fn numbers_of_4096_octets_are_read_and_written(rt: HostRuntime) -> Result<(), Fail> {
+    for (first, others) in [(0xFF, 0xFF), (0x80, 0x00), (0xFF, 0x00)] {
+        let mut octets = [first].to_vec(rt.alloc())?;
+        octets.resize(4096, others)?;
+        let number = Integer::from_unsigned_octets(rt.alloc(), octets.as_slice())?;
+        assert!(rt; number > Integer::zero());
+        assert_eq!(rt; number.signed_len(), 4097);
+        assert_eq!(rt; number.unsigned_octets().as_ref(), octets.as_slice());
+        let copy = number.clone()?;
+        assert_eq!(rt; copy.unsigned_octets().as_ref(), octets.as_slice());
+    }
+    for (first, others) in [(0x01, 0xFF), (0x80, 0x00), (0xFF, 0x00)] {
+        let mut octets = [first].to_vec(rt.alloc())?;
+        octets.resize(4096, others)?;
+        let number = Integer::from_signed_octets(rt.alloc(), octets.as_slice())?;
+        assert_eq!(rt; number < Integer::zero(), first >= 0x80);
+        assert_eq!(rt; number.signed_len(), 4096);
+        assert_eq!(rt; number.signed_octets().as_ref(), octets.as_slice());
+    }
+    Ok(())
+}
+
+#[test]
 fn a_number_past_i128_is_one_number_however_it_was_spelled(rt: HostRuntime) -> Result<(), Fail> {
     let mut shortest = [0; 26];
     shortest[0] = 0xFF;
@@ -242,8 +273,9 @@ fn is_given_out(
 
 #[test]
 fn a_number_is_given_out_exactly_where_the_type_holds_it(rt: HostRuntime) {
-    let rows: [(i128, Option<i64>, Option<u64>); 9] = [
+    let rows: [(i128, Option<i64>, Option<u64>); 10] = [
         (0, Some(0), Some(0)),
+        (-1, Some(-1), None),
         (42, Some(42), Some(42)),
         (-42, Some(-42), None),
         (-9223372036854775808, Some(-9223372036854775808), None),

@@ -1,5 +1,5 @@
 -- Octets appended to a vector's octets.
-use Rattle.std.proofs.Common.{◌≡◌, ℕ, zero, suc, ◌+◌, ◌-◌, ◌*◌, ◌/◌, ◌%◌, ◌^◌, ◌<◌, List, [], ◌∷◌, ◌++◌, length, take, get_or, refl, sym, ap, ◌∙◌, append_assoc, append-nil, arith}
+use Rattle.std.proofs.Common.{◌≡◌, ℕ, zero, suc, ◌+◌, ◌-◌, ◌*◌, ◌/◌, ◌%◌, ◌^◌, ◌<◌, ◌≤◌, List, [], ◌∷◌, ◌++◌, length, take, get_or, refl, sym, ap, ◌∙◌, append_assoc, append-nil, arith}
 use Rattle.std.specs.List.{flat_map}
 use Rattle.std.proofs.lemmas.List.{length-append, take_more, flat_map_more}
 use Rattle.asn1_oid.specs.Writing.{last_octets, low_octets, HasDigits, digit_count, subidentifier_octets, word_left}
@@ -88,19 +88,22 @@ arc_pushed old between new arcs word k i arc lt is so_far pushed =
     ∙ ap (λ (l : List ℕ). old ++ l) (append_assoc low behind one)
     ∙ ap (λ (l : List ℕ). old ++ (low ++ l)) (sym whole)
 
--- no octets are left only where there are none in the word, and no arcs
-pub none_are_left : (word k : ℕ) (arcs : List ℕ) → word_left word k arcs ≡ [] → 5 * length arcs + k ≡ 0
+-- each arc has an octet
+arcs_have_octets : (arcs : List ℕ) → length arcs ≤ length (flat_map subidentifier_octets arcs)
 unfolding subidentifier_octets
-none_are_left word k [] e =
-    let sum = length-word_left word k (length (flat_map subidentifier_octets [])) [] refl in
-    let none = ap length e in
-    omega arith
-none_are_left word k (arc ∷ arcs) e =
+arcs_have_octets [] = omega arith
+arcs_have_octets (arc ∷ arcs) =
     let others : List ℕ = flat_map subidentifier_octets arcs in
-    let sum = length-word_left word k (length (flat_map subidentifier_octets (arc ∷ arcs))) (arc ∷ arcs) refl in
     let parts = length-append (subidentifier_octets arc) others in
     let one = length-last_octets arc (digit_count arc) in
     let digits = digits_of arc in
     let some = digits.some in
-    let none = ap length e in
-    absurd (omega arith)
+    let more = arcs_have_octets arcs in
+    omega arith
+
+-- the room that is asked for is at most five times the octets that are left
+pub room_is_within : (word k : ℕ) (arcs : List ℕ) → 5 * length arcs + k ≤ 5 * length (word_left word k arcs)
+room_is_within word k arcs =
+    let sum = length-word_left word k (length (flat_map subidentifier_octets arcs)) arcs refl in
+    let some = arcs_have_octets arcs in
+    omega arith

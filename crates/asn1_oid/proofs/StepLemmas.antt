@@ -6,7 +6,7 @@ use Rattle.std.proofs.lemmas.Bool.{ltb-false, lt-ltb, le-ltb, le-leb, leb-true, 
 use Rattle.std.proofs.lemmas.List.{append-nil, drop_more, drop_all}
 use Rattle.std.proofs.lemmas.List.Folds.{list_all-append}
 use Rattle.asn1_oid.specs.declared.contents.ContentsError.TheVariants.{Malformed, ArcTooLarge}
-use Rattle.asn1_oid.specs.Reading.{behind, numbers_from, numbers_of, first_arc, second_arc, largest_first, other_fits, contents_reading, Stands}
+use Rattle.asn1_oid.specs.Reading.{with_front, numbers_from, numbers_of, first_arc, second_arc, largest_first, other_fits, contents_reading, Stands}
 use Rattle.asn1_oid.specs.ReadingLaws.{ends, goes_on}
 
 -- ---- one octet
@@ -106,10 +106,10 @@ none_from_end octets place i told cap g lt le =
 
 -- ---- subidentifiers one after another
 
-behind_more : (front : List ℕ) (n : ℕ) (r : Option (List ℕ))
-    → behind front (behind (n ∷ []) r) ≡ behind (front ++ n ∷ []) r
-behind_more front n (Some ns) = ap (λ (l : List ℕ). Some l) (sym (append_assoc front (n ∷ []) ns))
-behind_more front n None = refl
+front_more : (front : List ℕ) (n : ℕ) (r : Option (List ℕ))
+    → with_front front (with_front (n ∷ []) r) ≡ with_front (front ++ n ∷ []) r
+front_more front n (Some ns) = ap (λ (l : List ℕ). Some l) (sym (append_assoc front (n ∷ []) ns))
+front_more front n None = refl
 
 same_test : (a b m : ℕ) → (a ≤ m → b ≤ m) → (b ≤ m → a ≤ m) → leb a m ≡ leb b m
 same_test a b m to from = by_cases (leb a m) (leb b m) refl refl
@@ -132,7 +132,7 @@ pub record Walks (octets : List ℕ) (place : ℕ) (fit : Bool) : Type 0 where
   pub others : List ℕ
   pub tested : fit ≡ (leb first largest_first && list_all other_fits others)
   pub within : place ≤ length octets
-  pub read : numbers_of octets ≡ behind (first ∷ others) (numbers_of (drop place octets))
+  pub read : numbers_of octets ≡ with_front (first ∷ others) (numbers_of (drop place octets))
 
 pub walks_more : (octets : List ℕ) (place told next : ℕ) (fit : Bool) → Walks octets place fit
     → Stands octets place told next 4294967376 → Walks octets next (fit && leb told 4294967295)
@@ -148,17 +148,17 @@ walks_more octets place told next fit w s = record {
       ∙ three (leb w.first largest_first) (list_all other_fits w.others) (other_fits s.number)
       ∙ ap (λ (b : Bool). leb w.first largest_first && b) (sym (list_all-append other_fits w.others (s.number ∷ [])));
   within = s.within;
-  read = w.read ∙ ap (behind (w.first ∷ w.others)) s.read
-      ∙ behind_more (w.first ∷ w.others) s.number (numbers_of (drop next octets));
+  read = w.read ∙ ap (with_front (w.first ∷ w.others)) s.read
+      ∙ front_more (w.first ∷ w.others) s.number (numbers_of (drop next octets));
 }
 
 -- no octets are left
 numbers_at_end : (octets : List ℕ) (place first : ℕ) (others : List ℕ)
-    → numbers_of octets ≡ behind (first ∷ others) (numbers_of (drop place octets)) → length octets ≤ place
+    → numbers_of octets ≡ with_front (first ∷ others) (numbers_of (drop place octets)) → length octets ≤ place
     → numbers_of octets ≡ Some (first ∷ others)
 unfolding numbers_from
 numbers_at_end octets place first others read le =
-    read ∙ ap (λ (l : List ℕ). behind (first ∷ others) (numbers_of l)) (drop_all place octets le)
+    read ∙ ap (λ (l : List ℕ). with_front (first ∷ others) (numbers_of l)) (drop_all place octets le)
     ∙ ap (λ (l : List ℕ). Some l) (append-nil (first ∷ others))
 
 pub reads_all : (octets : List ℕ) (place : ℕ) → Walks octets place true → length octets ≤ place
@@ -181,7 +181,7 @@ reads_empty octets e = rw e refl
 
 pub stops : (octets : List ℕ) (place : ℕ) (fit : Bool) → Walks octets place fit → numbers_of (drop place octets) ≡ None
     → contents_reading octets ≡ Err Malformed
-stops octets place fit w e = reads_none octets (w.read ∙ ap (behind (w.first ∷ w.others)) e)
+stops octets place fit w e = reads_none octets (w.read ∙ ap (with_front (w.first ∷ w.others)) e)
 
 -- ---- arcs that are gathered
 
@@ -192,7 +192,7 @@ pub record Gathered (octets : List ℕ) (place : ℕ) (items : List ℕ) : Type 
   pub arcs : items ≡ first_arc first ∷ second_arc first ∷ others
   pub tested : (leb first largest_first && list_all other_fits others) ≡ true
   pub within : place ≤ length octets
-  pub read : numbers_of octets ≡ behind (first ∷ others) (numbers_of (drop place octets))
+  pub read : numbers_of octets ≡ with_front (first ∷ others) (numbers_of (drop place octets))
 
 pub gathered_first : (octets : List ℕ) (told next : ℕ) (items : List ℕ) → Stands octets 0 told next 4294967376
     → told ≤ 4294967375 → items ≡ first_arc told ∷ second_arc told ∷ [] → Gathered octets next items
@@ -222,8 +222,8 @@ gathered_more octets place told next items more w s le is =
           rw (p.0, list_all-append other_fits w.others (s.number ∷ []), p.1, le-leb s.number 4294967295 (omega arith))
           refl;
       within = s.within;
-      read = w.read ∙ ap (behind (w.first ∷ w.others)) s.read
-          ∙ behind_more (w.first ∷ w.others) s.number (numbers_of (drop next octets));
+      read = w.read ∙ ap (with_front (w.first ∷ w.others)) s.read
+          ∙ front_more (w.first ∷ w.others) s.number (numbers_of (drop next octets));
     }
 
 pub gathers_all : (octets : List ℕ) (place : ℕ) (items : List ℕ) → Gathered octets place items

@@ -10,7 +10,7 @@ IsSeries [] = ⊥
 IsSeries (octet ∷ octets) =
     ((octet < 128) × (octets ≡ [])) ⊎ ((128 ≤ octet) × (octet < 256) × IsSeries octets)
 
--- the number of which bits 7 to 1 of each octet are seven binary digits, most significant first
+-- the number whose binary digits are bits 7 to 1 of each octet, the first octet the most significant
 unfoldable pub base_128 : List ℕ → ℕ
 base_128 [] = 0
 base_128 (octet ∷ octets) = octet % 128 * 128 ^ length octets + base_128 octets

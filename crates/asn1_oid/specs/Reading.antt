@@ -5,10 +5,10 @@ use Rattle.std.specs.List.{list_all}
 use Rattle.asn1_oid.specs.declared.contents.ContentsError.{ContentsError}
 use Rattle.asn1_oid.specs.declared.contents.ContentsError.TheVariants.{Malformed, ArcTooLarge}
 
--- numbers that come before
-abbrev pub behind : List ℕ → Option (List ℕ) → Option (List ℕ)
-behind front (Some numbers) = Some (front ++ numbers)
-behind front None = None
+-- the numbers, with those of `front` before them
+abbrev pub with_front : List ℕ → Option (List ℕ) → Option (List ℕ)
+with_front front (Some numbers) = Some (front ++ numbers)
+with_front front None = None
 
 -- the numbers of the subidentifiers, where the octets are subidentifiers; `begun` says that the first of them begins
 -- before these octets, and n is its number so far
@@ -16,7 +16,7 @@ unfoldable pub numbers_from : Bool → ℕ → List ℕ → Option (List ℕ)
 numbers_from begun n [] = if begun then None else Some []
 numbers_from begun n (octet ∷ octets) =
     if not begun && octet == 128 then None
-    else (if nat_lt octet 128 then behind ((128 * n + octet % 128) ∷ []) (numbers_from false 0 octets)
+    else (if nat_lt octet 128 then with_front ((128 * n + octet % 128) ∷ []) (numbers_from false 0 octets)
     else numbers_from true (128 * n + octet % 128) octets)
 
 abbrev pub numbers_of : List ℕ → Option (List ℕ)
@@ -52,11 +52,10 @@ arcs_of_numbers (Some (n ∷ numbers)) =
 unfoldable pub contents_reading : List ℕ → Result (List ℕ) ContentsError
 contents_reading octets = arcs_of_numbers (numbers_of octets)
 
--- at this place of the octets stands a subidentifier, behind which the next one begins at `next`; its number is told as
--- far as it is below `cap`
+-- The octets from `place` up to `next` are one subidentifier. `told` is its number, or `cap` where the number is larger.
 pub record Stands (octets : List ℕ) (place told next cap : ℕ) : Type 0 where
   pub number : ℕ
   pub as_told : told ≡ min number cap
   pub later : place < next
   pub within : next ≤ length octets
-  pub read : numbers_of (drop place octets) ≡ behind (number ∷ []) (numbers_of (drop next octets))
+  pub read : numbers_of (drop place octets) ≡ with_front (number ∷ []) (numbers_of (drop next octets))

@@ -10,12 +10,12 @@ use Rattle.asn1_oid.specs.Arcs.{IsValidArcs}
 use Rattle.asn1_oid.specs.Contents.{IsSeries, base_128, IsSubidentifier, AreSubidentifiers, subidentifiers, IsContents, FitU32, ContentsAreOfOneList}
 use Rattle.asn1_oid.specs.declared.contents.ContentsError.{ContentsError}
 use Rattle.asn1_oid.specs.declared.contents.ContentsError.TheVariants.{Malformed, ArcTooLarge, Memory}
-use Rattle.asn1_oid.specs.Reading.{behind, numbers_from, numbers_of, first_arc, second_arc, largest_first, largest_other, other_fits, arcs_of_numbers, contents_reading}
+use Rattle.asn1_oid.specs.Reading.{with_front, numbers_from, numbers_of, first_arc, second_arc, largest_first, largest_other, other_fits, arcs_of_numbers, contents_reading}
 
 -- ---- one octet
 
 pub ends : (begun : Bool) (n octet : ℕ) (rest : List ℕ) → octet < 128
-    → numbers_from begun n (octet ∷ rest) ≡ behind ((128 * n + octet % 128) ∷ []) (numbers_of rest)
+    → numbers_from begun n (octet ∷ rest) ≡ with_front ((128 * n + octet % 128) ∷ []) (numbers_of rest)
 unfolding numbers_from
 ends true n octet rest lt = rw (lt-ltb _ _ lt) refl
 ends false n octet rest lt = rw (ne_eqb octet 128 (λ e. omega arith), lt-ltb _ _ lt) refl
@@ -62,10 +62,10 @@ none_is_no_some ns e = cc
 same_numbers : (ms ns : List ℕ) → ◌≡◌ {A = Option (List ℕ)} (Some ms) (Some ns) → ms ≡ ns
 same_numbers ms ns e = cc
 
-behind_some : (n : ℕ) (r : Option (List ℕ)) (ns : List ℕ) → behind (n ∷ []) r ≡ Some ns → (ms : List ℕ) × (r ≡ Some ms)
+front_some : (n : ℕ) (r : Option (List ℕ)) (ns : List ℕ) → with_front (n ∷ []) r ≡ Some ns → (ms : List ℕ) × (r ≡ Some ms)
     × (n ∷ ms ≡ ns)
-behind_some n (Some ms) ns e = (ms, refl, same_numbers _ _ e)
-behind_some n None ns e = absurd (none_is_no_some _ e)
+front_some n (Some ms) ns e = (ms, refl, same_numbers _ _ e)
+front_some n None ns e = absurd (none_is_no_some _ e)
 
 abbrev Numbers : Type 0
 Numbers = Option (List ℕ)
@@ -138,14 +138,14 @@ walked begun n (octet ∷ octets) ns are e =
     let others : All (λ octet. octet < 256) octets = All-tail (λ octet. octet < 256) octet octets are in
     let m : ℕ = 128 * n + octet % 128 in
     elim (picked (not begun && eqb octet 128) no_numbers
-    (cond (ltb octet 128) (behind (m ∷ []) (numbers_from false 0 octets)) (numbers_from true m octets)) (Some ns) e) [
+    (cond (ltb octet 128) (with_front (m ∷ []) (numbers_from false 0 octets)) (numbers_from true m octets)) (Some ns) e) [
       | inl h ↦ absurd (none_is_no_some ns h.1)
       | inr h ↦
           let first : begun ≡ false → octet ≢ 128 = not_80 begun octet h.0 in
-          elim (picked (ltb octet 128) (behind (m ∷ []) (numbers_from false 0 octets)) (numbers_from true m octets)
+          elim (picked (ltb octet 128) (with_front (m ∷ []) (numbers_from false 0 octets)) (numbers_from true m octets)
           (Some ns) h.1) [
             | inl g ↦
-                let b = behind_some m (numbers_from false 0 octets) ns g.1 in
+                let b = front_some m (numbers_from false 0 octets) ns g.1 in
                 ended begun n octet octets b.0 ns (ltb-true _ _ g.0) (walked false 0 octets b.0 others b.1 refl) b.2
                 first
             | inr g ↦ continued begun n octet octets ns (ltb-false _ _ g.0) small first
@@ -161,12 +161,12 @@ subidentifiers_read octets ns are e = walked false 0 octets ns are e refl
 -- ---- subidentifiers are read
 
 one_read : (begun : Bool) (n : ℕ) (front rest : List ℕ) → IsSeries front → (begun ≡ false → slice_index front 0 ≢ 128)
-    → numbers_from begun n (front ++ rest) ≡ behind ((n * 128 ^ length front + base_128 front) ∷ []) (numbers_of rest)
+    → numbers_from begun n (front ++ rest) ≡ with_front ((n * 128 ^ length front + base_128 front) ∷ []) (numbers_of rest)
 unfolding base_128
 one_read begun n [] rest series first = absurd series
 one_read begun n (octet ∷ []) rest (inl p) first =
     let value : 128 * n + octet % 128 ≡ n * 128 ^ 1 + (octet % 128 * 128 ^ 0 + 0) = omega arith in
-    ends begun n octet rest p.0 ∙ ap (λ (k : ℕ). behind (k ∷ []) (numbers_of rest)) value
+    ends begun n octet rest p.0 ∙ ap (λ (k : ℕ). with_front (k ∷ []) (numbers_of rest)) value
 one_read begun n (octet ∷ next ∷ octets) rest (inl p) first = absurd cc
 one_read begun n (octet ∷ octets) rest (inr p) first =
     let m : ℕ = 128 * n + octet % 128 in
@@ -176,7 +176,7 @@ one_read begun n (octet ∷ octets) rest (inr p) first =
     ∙ ap (λ (k : ℕ). n * k + (octet % 128 * 128 ^ length octets + base_128 octets)) (power (length octets)) in
     goes_on begun n octet (octets ++ rest) p.0 first
     ∙ one_read true m octets rest p.2 (λ e. absurd cc)
-    ∙ ap (λ (k : ℕ). behind (k ∷ []) (numbers_of rest)) value
+    ∙ ap (λ (k : ℕ). with_front (k ∷ []) (numbers_of rest)) value
 
 pub subidentifiers_are_read : (ns octets : List ℕ) → AreSubidentifiers ns octets → numbers_of octets ≡ Some ns
 unfolding numbers_from
@@ -187,8 +187,8 @@ subidentifiers_are_read (n ∷ ns) octets s =
     let v = s.2.value in
     let value : 0 * 128 ^ length front + base_128 front ≡ n = omega arith in
     ap numbers_of s.4 ∙ one_read false 0 front rest s.2.series (λ e. s.2.fewest)
-    ∙ ap (λ (k : ℕ). behind (k ∷ []) (numbers_of rest)) value
-    ∙ ap (behind (n ∷ [])) (subidentifiers_are_read ns rest s.3)
+    ∙ ap (λ (k : ℕ). with_front (k ∷ []) (numbers_of rest)) value
+    ∙ ap (with_front (n ∷ [])) (subidentifiers_are_read ns rest s.3)
 
 -- ---- arcs of numbers, and numbers of arcs
 

@@ -2,9 +2,10 @@
 
 ghost use Rattle.std.specs.Prelude.{◌≡◌, ◌≢◌, ◌↔◌, ◌<◌, ◌≤◌, ◌+◌, ℕ, List, [], Ok, Err, None, length, drop, slice_index, vec_len, vec_capacity, All, IsOk, IfSome, IfNone, MatchResult};
 ghost use Rattle.asn1_oid.specs.Contents.{IsContents, FitU32};
-ghost use Rattle.asn1_oid.specs.Reading.{Stands, contents_reading, numbers_of};
+ghost use Rattle.asn1_oid.specs.Reading.{Stands, contents_reading, largest_first, numbers_of};
 
 use std::alloc::{AllocError, Global};
+use thiserror::Error;
 
 /// A list of octets, wherever they lie.
 pub trait OctetSource {
@@ -41,14 +42,17 @@ fn are_octets(octets: &[u8])
 {}
 
 /// Why octets are not the contents of an identifier, or could not be read as such.
-#[derive(Clone, Copy, Debug, PartialEq, Eq, PartialOrd, Ord, Hash)]
+#[derive(Clone, Copy, Debug, Drop, Error, PartialEq, Eq, PartialOrd, Ord, Hash)]
 pub enum ContentsError {
     /// They are contents of no arcs of any size: there are none, a subidentifier begins with 80 (hexadecimal), or the
     /// last one is not ended.
+    #[error("no contents of an object identifier")]
     Malformed,
     /// They are the contents of arcs, one of which passes `u32`.
+    #[error("an arc of more than 32 bits")]
     ArcTooLarge,
     /// They are the contents of an identifier, and memory is wanting.
+    #[error("out of memory")]
     Memory,
 }
 
@@ -138,7 +142,7 @@ fn room_for(alloc: Global, count: usize) -> Option<Vec<u32>>
 /// The number of the subidentifier at a place, and the place behind it; None where none stands there, or a larger one.
 fn fitting_at<S: OctetSource>(source: &S, at: usize, largest: u64) -> Option<(u64, usize)>
     requires { at ≤ length (S.list source.now) }
-    ensures stands { IfSome result (λ r. Stands (S.list source.now) at r.0 r.1 4294967376) }
+    ensures stands { IfSome result (λ r. Stands (S.list source.now) at r.0 r.1 (largest_first + 1)) }
     ensures fits { IfSome result (λ r. r.0 ≤ largest) }
 {
     let (number, next) = subidentifier_at(source, at)?;
@@ -153,7 +157,7 @@ fn fitting_at<S: OctetSource>(source: &S, at: usize, largest: u64) -> Option<(u6
 /// None where none stands there.
 fn subidentifier_at<S: OctetSource>(source: &S, at: usize) -> Option<(u64, usize)>
     requires { at ≤ length (S.list source.now) }
-    ensures some { IfSome result (λ r. Stands (S.list source.now) at r.0 r.1 4294967376) }
+    ensures some { IfSome result (λ r. Stands (S.list source.now) at r.0 r.1 (largest_first + 1)) }
     ensures none { IfNone result (at < length (S.list source.now)
         → numbers_of (drop at (S.list source.now)) ≡ None) }
 {

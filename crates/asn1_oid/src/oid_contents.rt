@@ -1,6 +1,6 @@
 //! The contents of identifiers (X.690 8.19), octet by octet.
 
-ghost use Rattle.std.specs.Prelude.{◌≡◌, ◌<◌, ◌≤◌, ◌*◌, ◌^◌, ℕ, List, [], ◌++◌, length, OnOk, OnErr, IsOk};
+ghost use Rattle.std.specs.Prelude.{◌≡◌, ◌<◌, ◌≤◌, ◌*◌, ◌^◌, ◌+◌, ℕ, List, [], ◌++◌, length, vec_len, vec_capacity, OnOk, OnErr, IsOk};
 ghost use Rattle.std.specs.List.{flat_map};
 ghost use Rattle.std.specs.Iterator.{YieldsFirst, item_count};
 ghost use Rattle.asn1_oid.specs.Writing.{HasDigits, last_octets, low_octets, octets_left, subidentifier_octets, word_left};
@@ -99,8 +99,9 @@ impl<'a> OidContents<'a> {
     pub fn append_to(self, octets: &mut Vec<u8>) -> Result<(), AllocError>
         ensures ok { OnOk result (octets.new.items ≡ octets.old.items ++ self.entry) }
         ensures err { OnErr result (octets.new.items ≡ octets.old.items) }
-        // Of no octets it asks for no memory.
+        // Of no octets it asks for no memory, nor where there is room for five times the octets that are left.
         ensures free { self.entry ≡ [] → IsOk result }
+        ensures in_room { vec_len octets.old + 5 * length self.entry ≤ vec_capacity octets.old → IsOk result }
     {
         let OidContents {
             octets: word,

@@ -1,5 +1,5 @@
 -- Lists of characters without a gap.
-use Rattle.std.proofs.Common.{◌≡◌, ℕ, ◌+◌, ◌-◌, ◌%◌, ◌^◌, ◌<◌, ◌≤◌, false, ◌&&◌, leb, ltb, List, [], ◌∷◌, length, get_or, Some, refl, ap, sym, ◌∙◌, arith}
+use Rattle.std.proofs.Common.{◌≡◌, ℕ, ◌+◌, ◌-◌, ◌%◌, ◌^◌, ◌<◌, ◌≤◌, Bool, true, false, ◌&&◌, leb, ltb, List, [], ◌∷◌, length, get_or, Some, refl, ap, sym, ◌∙◌, arith}
 use Rattle.std.proofs.lemmas.Bool.Decides.{nat_tests}
 use Rattle.std.specs.List.{range_with_len, slice_get}
 use Rattle.std.specs.List.Sorted.{IsNonDecreasing}
@@ -24,36 +24,38 @@ run_from_places set first some room each =
       ends = rw is room;
     }
 
--- the character at a place of a run
-pub run_at : (set : List ℕ) (k : ℕ) → IsRun set → k < length set → slice_get set k ≡ Some (get_or set 0 0 + k)
-run_at set k run lt =
-    slice_get-get_or set k 0 lt
-    ∙ ap Some (ap (λ s. get_or s k 0) run.gapless
-    ∙ get_or-range_with_len (get_or set 0 0) (length set) k 0 lt)
+-- the entry at a place of a run
+pub run_entry : (set : List ℕ) (k : ℕ) → IsRun set → k < length set → get_or set k 0 ≡ get_or set 0 0 + k
+run_entry set k run lt =
+    ap (λ s. get_or s k 0) run.gapless ∙ get_or-range_with_len (get_or set 0 0) (length set) k 0 lt
+
+-- what is not false is true
+pub told_true : (b : Bool) → (b ≡ false → ⊥) → b ≡ true
+told_true true none = refl
+told_true false none = absurd (none refl)
+
+-- the character at a place of a range
+pub range_at : (first count k : ℕ) → k < count → slice_get (range_with_len first count) k ≡ Some (first + k)
+range_at first count k lt =
+    let long = length-range_with_len first count in
+    slice_get-get_or (range_with_len first count) k 0 (omega arith)
+    ∙ ap Some (get_or-range_with_len first count k 0 lt)
 
 -- how far a character is from the first, where 2^32 comes round to 0
-abbrev pub distance : List ℕ → ℕ → ℕ
-distance set c = (c + (2 ^ 32 - get_or set 0 0)) % 2 ^ 32
+abbrev pub distance : ℕ → ℕ → ℕ
+distance first c = (c + (2 ^ 32 - first)) % 2 ^ 32
 
--- a character that is less far from the first than the run is long stands there
-pub run_place : (set : List ℕ) (c : ℕ) → IsRun set → c < 2 ^ 32 → distance set c < length set
-    → slice_get set (distance set c) ≡ Some c
-run_place set c run small near =
-    run_at set (distance set c) run near ∙ ap Some (omega (arith, run.ends))
+-- a character that is less far from the first than there are stands there
+pub run_place_at : (first count c : ℕ) → 0 < count → first + count < 2 ^ 32 → c < 2 ^ 32 → distance first c < count
+    → slice_get (range_with_len first count) (distance first c) ≡ Some c
+run_place_at first count c some room small near = range_at first count (distance first c) near ∙ ap Some (omega arith)
 
--- what lies before the first or past the last is not in the run
-run_lacks : (set : List ℕ) (first c : ℕ) → IsRun set → get_or set 0 0 ≡ first
-    → (leb first c && ltb c (first + length set)) ≡ false → has_character set c ≡ false
-run_lacks set first c run is out =
-    ap (λ s. has_character s c) run.gapless ∙ has_in_run (get_or set 0 0) (length set) c ∙ rw is out
-
--- one that is further is not in the run
-pub run_far : (set : List ℕ) (c : ℕ) → IsRun set → c < 2 ^ 32 → length set ≤ distance set c
-    → has_character set c ≡ false
-run_far set c run small far =
-    let out : (leb (get_or set 0 0) c && ltb c (get_or set 0 0 + length set)) ≡ false =
-    grind (arith, nat_tests, run.ends) in
-    run_lacks set (get_or set 0 0) c run refl out
+-- one that is further is not there
+pub run_far_at : (first count c : ℕ) → 0 < count → first + count < 2 ^ 32 → c < 2 ^ 32 → count ≤ distance first c
+    → has_character (range_with_len first count) c ≡ false
+run_far_at first count c some room small far =
+    let out : (leb first c && ltb c (first + count)) ≡ false = grind (arith, nat_tests) in
+    has_in_run first count c ∙ out
 
 -- a run never falls
 pub run_rises : (set : List ℕ) → IsRun set → IsNonDecreasing set

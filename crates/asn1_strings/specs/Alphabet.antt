@@ -22,8 +22,9 @@ pub record Alphabet : Type 0 where
   pub indexed : Bool
   pub origin : Origin
 
--- whether a permitted set of so many characters is kept: where the string is written by places, or
--- needs more bits
+-- Whether the permitted alphabet takes effect: where the unrestricted type is itself written by index (`NumericString`),
+-- or where a code of the unrestricted type is wider than one of the permitted alphabet. `count` is how many characters it
+-- has.
 abbrev pub keeps : CharacterSetName → Bool → ℕ → Bool
 keeps name aligned count =
     base_indexed name || nat_lt (align aligned (ceil_log2 (max count 1))) (base_width name)
@@ -33,7 +34,7 @@ abbrev pub kept_set : CharacterSetName → Option (List ℕ) → Bool → Option
 kept_set name None aligned = None
 kept_set name (Some set) aligned = if keeps name aligned (length set) then Some set else None
 
--- the set that counts: the one that was kept, or else the base set
+-- The effective alphabet: the permitted alphabet where it takes effect, else all characters of the type.
 abbrev pub counting_set : CharacterSetName → Option (List ℕ) → List ℕ
 counting_set name None = base_set name
 counting_set name (Some set) = set

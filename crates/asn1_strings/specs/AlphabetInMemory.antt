@@ -1,10 +1,10 @@
 -- What is known of an alphabet in memory.
-use Rattle.std.specs.Prelude.{◌≡◌, ◌+◌, ◌^◌, ◌<◌, ◌≤◌, ℕ, Bool, true, false, List, length, slice_index, Option, Some, None}
+use Rattle.std.specs.Prelude.{◌≡◌, ◌+◌, ◌^◌, ◌<◌, ◌≤◌, ℕ, Bool, true, false, IsNone, List, length, slice_index, Option, Some, None}
 use Rattle.std.specs.List.{range_with_len}
 use Rattle.std.specs.Option.{ForSome, option_copied}
 use Rattle.std.specs.Borrow.{Bor}
 use Rattle.std.specs.List.Sorted.{IsNonDecreasing}
-use Rattle.asn1_characters.specs.Sets.{has_character, largest}
+use Rattle.asn1_characters.specs.Sets.{has_character, largest, is_listed}
 use Rattle.asn1_characters.specs.Words.{in_words}
 use Rattle.asn1_strings.specs.Alphabet.{counting_set, is_indexed}
 use Rattle.asn1_characters.specs.declared.character_set.CharacterSetName.{CharacterSetName}
@@ -24,11 +24,17 @@ pub record HasWords (set : List ℕ) (words : CharacterWords) : Type 0 where
   pub below : largest set < 256
   pub same : (c : ℕ) → c < 256 → in_words words.words c ≡ has_character set c
 
--- some characters follow one another without a gap, and 2^32 is past the next
+-- At least one character; each is one more than the one before it; and one more than the last is still below 2^32.
 pub record IsRun (set : List ℕ) : Type 0 where
   pub some : 0 < length set
   pub gapless : set ≡ range_with_len (slice_index set 0) (length set)
   pub ends : slice_index set 0 + length set < 2 ^ 32
+
+-- whether a set is seen to leave no gap: a permitted set wherever it leaves none, a base set exactly
+-- where it lies in memory
+abbrev pub IsSeenRun : CharacterSetName → Option (List ℕ) → Bool → Type 0
+IsSeenRun name kept run =
+    ((set : List ℕ) → kept ≡ Some set → IsRun set → run ≡ true) × (kept ≡ None → run ≡ is_listed name)
 
 -- What the fields of an alphabet say of the set that counts. `ascending` is of permitted sets alone: a
 -- base set needs no search, since none that is written by places has more than 64 characters.
@@ -42,5 +48,7 @@ pub record IsKnown (name : CharacterSetName) (kept : Bool) (set : Bor (List ℕ)
   pub ascends : ascending ≡ true → IsNonDecreasing (set_of name (some_if kept set))
   pub not_ascending : ascending ≡ false → kept ≡ true → ¬ (IsNonDecreasing (set_of name (some_if kept set)))
   pub gapless : run ≡ true → IsRun (set_of name (some_if kept set))
+  pub seen : IsSeenRun name (option_copied (some_if kept set)) run
   pub few_places : kept ≡ false → indexed ≡ true → length (set_of name (some_if kept set)) ≤ 64
   pub worded : ForSome words (HasWords (set_of name (some_if kept set)))
+  pub wordless : IsNone words → run ≡ false → 256 ≤ largest (set_of name (some_if kept set))

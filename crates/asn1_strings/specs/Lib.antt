@@ -11,6 +11,7 @@ pub mod Alphabet
 pub mod AlphabetView
 -- How an alphabet lies in memory, and how far a walk has come; no public contract cites these.
 pub mod AlphabetInMemory
+pub mod KeyNumbers
 pub mod KeyWalk
 -- Laws of these words, for the proofs of this crate and of those above it; no contract cites them.
 pub use Rattle.asn1_characters.specs.WidthLaws

@@ -63,8 +63,8 @@ Refuses (IndexNotFound i) read = read ≡ Err (IndexNotFound i)
 Refuses (CharacterNotFound c) read = read ≡ Err (CharacterNotFound c)
 Refuses (InvalidRestrictedString e) read = read ≡ Err (InvalidRestrictedString e)
 
--- The result, seen by view, is what was read: the same list, or the same refusal. Where memory was
--- refused, a list that is not empty was read.
+-- A result answers a reading: `Ok` of a string whose characters (`view`) are those read; or the very refusal that was
+-- read; or `Memory`, and then only if a string with at least one character was to be made.
 abbrev pub Answers : {S : Type 0} → (S → List ℕ) → Result S PermittedAlphabetError → Reading →
     Type 0
 Answers view (Ok s) read = read ≡ Ok (view s)

@@ -1,16 +1,15 @@
 //! The alphabets that characters are written in (X.691 30.5).
-ghost use Rattle.std.specs.Prelude.{◌≡◌, ◌≢◌, ◌≤◌, ◌+◌, ◌<◌, ◌^◌, ℕ, true, false, AllPairs, length, slice_get, is_some, Some, OnSome, OnOk, MatchBool, MatchOption};
+ghost use Rattle.std.specs.Prelude.{◌≡◌, ◌≢◌, ◌≤◌, ◌+◌, ◌<◌, ◌^◌, ℕ, true, false, AllPairs, IsNone, length, slice_get, is_some, Some, OnSome, OnOk, MatchBool, MatchOption};
 ghost use Rattle.std.specs.Option.{ForSome, option_copied};
 ghost use Rattle.std.specs.List.Sorted.{IsNonDecreasing};
-ghost use Rattle.asn1_characters.specs.Sets.{base_set, has_character, largest};
+ghost use Rattle.asn1_characters.specs.Sets.{has_character, largest};
 ghost use Rattle.asn1_characters.specs.Widths.{ceil_log2};
 ghost use Rattle.asn1_strings.specs.Alphabet.{is_indexed, kept_set, alphabet_on, effective, IsCode, missing_error, uncoded_error, Encodes, Decodes, IsLongAscending};
-ghost use Rattle.asn1_strings.specs.AlphabetInMemory.{some_if, set_of, HasWords, IsKnown, IsRun};
+ghost use Rattle.asn1_strings.specs.AlphabetInMemory.{some_if, set_of, HasWords, IsKnown, IsRun, IsSeenRun};
 
-use crate::permitted_set::{
-    is_ascending, is_run, largest_of, largest_of_run, place_in, repeats_in,
-};
-use crate::search::{Looks, find_ascending};
+use crate::permitted_set::{is_ascending, is_run, largest_of, largest_of_run, repeats_in};
+use crate::run::Run;
+use crate::search::{Entries, Looks, find_ascending, find_one_by_one};
 use crate::static_permitted_alphabet::StaticPermittedAlphabet;
 use crate::widths::{align, ceil_log2, codes_of, width_for};
 use asn1_bits::Turns;
@@ -71,8 +70,7 @@ impl<'s> CharacterAlphabet<'s> {
         }
     }
 
-    /// The alphabet of a string and of the permitted set that was kept. A caller that names the string and keeps no set
-    /// gets a constant.
+    /// The alphabet of a string and of the permitted set that was kept.
     #[inline(always)]
     fn on(name: CharacterSetName, kept: Option<&'s [u32]>, aligned: bool) -> CharacterAlphabet<'s>
         requires { length (set_of name kept) ≤ 2 ^ 32 }
@@ -227,7 +225,7 @@ impl<'s> CharacterAlphabet<'s> {
             OnSome result (probes.old.count + 1 ≤ probes.new.count) }
     {
         if self.run {
-            let place = place_in_run(self.set, character, probes)?;
+            let place = Run::of(self.set).place(character, probes)?;
             return Some(if self.indexed { place } else { character });
         }
         if self.indexed {
@@ -266,7 +264,7 @@ impl<'s> CharacterAlphabet<'s> {
             IsLongAscending set → probes.new.count ≤ probes.old.count + ceil_log2 (length set) + 1 }
     {
         if self.run {
-            return place_in_run(self.set, character, probes).is_some();
+            return Run::of(self.set).place(character, probes).is_some();
         }
         if self.worded {
             return self.words.contains(character);
@@ -274,7 +272,7 @@ impl<'s> CharacterAlphabet<'s> {
         self.contains_by_looks(character, probes)
     }
 
-    /// Whether the set has the character: by looks at a permitted set, else by the base set's range.
+    /// Whether the set has the character: by looks at a permitted set, else as its base set says.
     #[inline(never)]
     fn contains_by_looks(&self, character: u32, probes: &mut Turns) -> bool
         ensures value { result ≡ has_character (alphabet_of self.now).characters character }
@@ -289,7 +287,7 @@ impl<'s> CharacterAlphabet<'s> {
         }
     }
 
-    /// A place of the character, whether or not the set leaves a gap.
+    /// A place of the character, in a set that is written by places and leaves a gap.
     #[inline(always)]
     fn place_of(&self, character: u32, probes: &mut Turns) -> Option<u32>
         requires { self.now.indexed ≡ true }
@@ -314,7 +312,7 @@ impl<'s> CharacterAlphabet<'s> {
         ensures { result ≡ slice_get (alphabet_of self.now).characters place }
     {
         if self.run {
-            return character_in_run(self.set, place);
+            return Run::of(self.set).character(place);
         }
         match self.permitted() {
             Some(set) => set.get(place as usize).copied(),
@@ -323,39 +321,34 @@ impl<'s> CharacterAlphabet<'s> {
     }
 }
 
-/// A place of the character in a run: how far it is from the first, which is one probe. What lies below the first comes
-/// out further than the last.
+/// A place of the character: by halves where the list is long and ascending, else one by one. It sees the list
+/// through looks alone.
 #[inline(always)]
-fn place_in_run(set: &[u32], character: u32, probes: &mut Turns) -> Option<u32>
-    requires { IsRun set.now }
-    ensures place { MatchOption result (has_character set.now character ≡ false)
-        (λ k. slice_get set.now k ≡ Some character) }
-    ensures probe { probes.new.count ≡ probes.old.count + 1 }
+fn place_among<L: Entries>(
+    entries: &mut L,
+    ascending: bool,
+    character: u32,
+    probes: &mut Turns,
+) -> Option<usize>
+    requires ascends { ascending ≡ true → IsNonDecreasing (L.list entries.old) }
+    requires not_ascending { ascending ≡ false → ¬ (IsNonDecreasing (L.list entries.old)) }
+    ensures place { MatchOption result (has_character (L.list entries.old) character ≡ false)
+        (λ k. slice_get (L.list entries.old) k ≡ Some character) }
+    ensures each_look_counts { probes.new.count + L.looks entries.old
+        ≡ probes.old.count + L.looks entries.new }
+    ensures counts { probes.old.count ≤ probes.new.count }
+    ensures cost { let list = L.list entries.old in
+        IsLongAscending list → probes.new.count ≤ probes.old.count + (ceil_log2 (length list) + 1) }
+    ensures looked { OnSome result (probes.old.count + 1 ≤ probes.new.count) }
 {
-    probes.tick();
-    let distance = character.wrapping_sub(set[0]);
-    if distance < set.len() as u32 {
-        Some(distance)
+    if ascending && entries.count() > 64 {
+        find_ascending(entries, character, probes)
     } else {
-        None
+        find_one_by_one(entries, character, probes)
     }
 }
 
-/// The character at a place of a run.
-#[inline(always)]
-fn character_in_run(set: &[u32], place: u32) -> Option<u32>
-    requires { IsRun set.now }
-    ensures { result ≡ slice_get set.now place }
-{
-    let first = set[0];
-    if place < set.len() as u32 {
-        Some(first + place)
-    } else {
-        None
-    }
-}
-
-/// A place of the character: by halves where the list is long and ascending, else one by one.
+/// A place of the character in a permitted set.
 #[inline(never)]
 fn place_by_looks(set: &[u32], ascending: bool, character: u32, probes: &mut Turns) -> Option<u32>
     requires few { length set.now ≤ 2 ^ 32 }
@@ -369,12 +362,8 @@ fn place_by_looks(set: &[u32], ascending: bool, character: u32, probes: &mut Tur
     ensures looked { IsLongAscending set.now →
         OnSome result (probes.old.count + 1 ≤ probes.new.count) }
 {
-    if ascending && set.len() > 64 {
-        let place = find_ascending(&mut Looks::at(set), character, probes)?;
-        Some(place as u32)
-    } else {
-        place_in(set, character)
-    }
+    let place = place_among(&mut Looks::at(set), ascending, character, probes)?;
+    Some(place as u32)
 }
 
 /// The permitted set, where it is kept.
@@ -439,7 +428,8 @@ fn words_of(
     most: u32,
 ) -> Option<CharacterWords>
     requires { most ≡ largest (set_of name kept) }
-    ensures { ForSome result (HasWords (set_of name kept.entry)) }
+    ensures worded { ForSome result (HasWords (set_of name kept.entry)) }
+    ensures wordless { IsNone result → run ≡ false → 256 ≤ most }
 {
     match kept {
         Some(set) if !run && most < 256 => Some(CharacterWords::of(set)),
@@ -466,6 +456,7 @@ fn listing_of<'s>(name: CharacterSetName, kept: Option<&'s [u32]>) -> Listing<'s
     ensures kept { some_if result.kept result.set ≡ kept.entry }
     ensures listing { result.run ≡ true → result.set.now ≡ set_of name kept.entry }
     ensures gapless { result.run ≡ true → IsRun (set_of name kept.entry) }
+    ensures seen { IsSeenRun name (option_copied kept.entry) result.run }
 {
     match kept {
         Some(set) => Listing {
@@ -474,29 +465,17 @@ fn listing_of<'s>(name: CharacterSetName, kept: Option<&'s [u32]>) -> Listing<'s
             set,
         },
         None => match name.table() {
-            Some(set) if leaves_no_gap(name) => Listing {
+            Some(set) => Listing {
                 kept: false,
                 run: true,
                 set,
             },
-            _ => Listing {
+            None => Listing {
                 kept: false,
                 run: false,
                 set: &[],
             },
         },
-    }
-}
-
-/// Whether a base set with a table is known to leave no gap.
-#[inline]
-fn leaves_no_gap(name: CharacterSetName) -> bool
-    ensures { result ≡ true → IsRun (base_set name) }
-{
-    match name {
-        CharacterSetName::IA5 => true,
-        CharacterSetName::Visible => true,
-        _ => false,
     }
 }
 

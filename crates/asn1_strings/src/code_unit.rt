@@ -1,11 +1,12 @@
 //! How strings keep a character.
-ghost use Rattle.std.specs.Prelude.{◌≡◌, ◌≢◌, ◌≤◌, ◌<◌, ℕ, true, [], nat_eq, length, map, All, IfOk, OnErr};
+ghost use Rattle.std.specs.Prelude.{◌≡◌, ◌≢◌, ◌≤◌, ◌<◌, ◌↔◌, ℕ, true, [], nat_eq, map, All, IsTrue, IfOk, OnErr};
 ghost use Rattle.std.specs.Ordering.{nat_cmp};
 ghost use Rattle.std.specs.Cmp.Lexicographic.{pointwise, slice_cmp};
 ghost use Rattle.std.specs.Int.{w16, from_be_bytes};
 ghost use Rattle.std.proofs.Common.{lit≤};
 ghost use Rattle.asn1_characters.specs.Sets.{base_set, has_character, largest};
 ghost use Rattle.asn1_strings.specs.Pieces.{pieces, unsigned};
+ghost use Rattle.asn1_strings.specs.Strings.{character_octets};
 
 use asn1_characters::CharacterSetName;
 use std::alloc::{AllocError, Global};
@@ -35,10 +36,10 @@ pub trait CodeUnit: Copy + Drop + fmt::Debug {
         requires { character < limit }
         ensures { value result ≡ character };
 
-    /// Whether a set was seen to have each character of these octets. None of them ends the test, so
-    /// that many are tested at once.
+    /// Whether a set has each character of these octets. All are tested: none of them ends the test.
     fn are_in(name: CharacterSetName, octets: &[u8]) -> bool
-        ensures { result ≡ true → All (λ c. has_character (base_set name) c ≡ true)
+        requires { OCTETS ≡ character_octets name }
+        ensures { IsTrue result ↔ All (λ c. has_character (base_set name) c ≡ true)
             (map unsigned (pieces OCTETS octets.now)) };
 
     /// The units of these octets. Memory is asked for where there are any.
@@ -123,16 +124,10 @@ impl CodeUnit for u16 {
         character as u16
     }
 
-    fn are_in(name: CharacterSetName, octets: &[u8]) -> bool {
+    // Of the eight strings `BmpString` alone has two octets a character.
+    fn are_in(_name: CharacterSetName, octets: &[u8]) -> bool {
         let (pairs, _) = octets.as_chunks::<2>();
-        if let CharacterSetName::Bmp = name {
-            return largest_pair(pairs) <= 0xFFFD;
-        }
-        let mut right = true;
-        for pair in pairs {
-            right = right & name.contains(u32::from(u16::from_be_bytes(*pair)));
-        }
-        right
+        largest_pair(pairs) <= 0xFFFD
     }
 
     fn of_octets(alloc: Global, octets: &[u8]) -> Result<Vec<u16>, AllocError> {
@@ -155,11 +150,11 @@ impl CodeUnit for u16 {
     ghost few_octets = { lit≤ tt };
 }
 
-/// Whether octets were seen to lie between two ends: by the largest distance from the first end. What lies below it
-/// comes out further than the last.
+/// Whether all octets lie between two ends: by the largest distance from the first end, round through 256. An octet
+/// below the first end is further from it than the last end is.
 fn lie_between(octets: &[u8], first: u8, last: u8) -> bool
     requires { first ≤ last }
-    ensures { result ≡ true → All (λ c. (first ≤ c) × (c ≤ last)) octets.now }
+    ensures { IsTrue result ↔ All (λ c. (first ≤ c) × (c ≤ last)) octets.now }
 {
     let mut most = 0;
     for octet in octets {

@@ -1,11 +1,10 @@
 //! Maps from keys to characters, by which strings are read.
-ghost use Rattle.std.specs.Prelude.{◌≡◌, ◌≤◌, ◌^◌, map as map_of};
+ghost use Rattle.std.specs.Prelude.{◌≡◌, ◌≤◌, ◌^◌};
 ghost use Rattle.asn1_bits.specs.BitStr.{bits_of};
-ghost use Rattle.asn1_bits.specs.Bits.{number};
-ghost use Rattle.asn1_strings.specs.Pieces.{pieces};
 ghost use Rattle.asn1_strings.specs.Strings.{Answers, string_of_characters};
 ghost use Rattle.asn1_strings.specs.Maps.{KeyMap, base_map, map_of_entries, string_of_map};
 ghost use Rattle.asn1_strings.specs.KeyWalk.{itself};
+ghost use Rattle.asn1_strings.specs.KeyNumbers.{numbers_of};
 
 use crate::key_walk::string_at_keys;
 use crate::pieces::BitPieces;
@@ -21,20 +20,29 @@ pub(crate) trait Keys {
     // What strings read of it.
     ghost key_map: { Self → KeyMap };
 
-    fn count(&self) -> u64
-        ensures { result ≡ (key_map self.now).count };
-
-    fn largest(&self) -> u32
-        ensures { result ≡ (key_map self.now).largest };
-
     fn get(&self, key: u32) -> Option<u32>
         ensures { result ≡ (key_map self.now).get key };
+}
+
+// A map that says how many entries it has, and its largest character.
+pub(crate) trait CountedKeys: Keys {
+    fn count(&self) -> u64
+        ensures { result ≡ (Self.key_map self.now).count };
+
+    fn largest(&self) -> u32
+        ensures { result ≡ (Self.key_map self.now).largest };
 }
 
 // A base set, with its places as keys.
 impl Keys for CharacterSetName {
     ghost key_map = { base_map };
 
+    fn get(&self, key: u32) -> Option<u32> {
+        self.character_at(key)
+    }
+}
+
+impl CountedKeys for CharacterSetName {
     fn count(&self) -> u64 {
         CharacterSetName::count(*self) as u64
     }
@@ -42,15 +50,17 @@ impl Keys for CharacterSetName {
     fn largest(&self) -> u32 {
         CharacterSetName::largest(*self)
     }
-
-    fn get(&self, key: u32) -> Option<u32> {
-        self.character_at(key)
-    }
 }
 
 impl Keys for &BTreeMap<u32, u32> {
     ghost key_map = { λ m. map_of_entries m.now };
 
+    fn get(&self, key: u32) -> Option<u32> {
+        BTreeMap::get(self, &key).copied()
+    }
+}
+
+impl CountedKeys for &BTreeMap<u32, u32> {
     fn count(&self) -> u64 {
         self.len() as u64
     }
@@ -62,10 +72,6 @@ impl Keys for &BTreeMap<u32, u32> {
         }
         most
     }
-
-    fn get(&self, key: u32) -> Option<u32> {
-        BTreeMap::get(self, &key).copied()
-    }
 }
 
 // Each number as its own key, for bits that spell the characters themselves.
@@ -73,14 +79,6 @@ struct Itself;
 
 impl Keys for Itself {
     ghost key_map = { λ numbers. itself };
-
-    fn count(&self) -> u64 {
-        1 << 32
-    }
-
-    fn largest(&self) -> u32 {
-        u32::MAX
-    }
 
     fn get(&self, key: u32) -> Option<u32> {
         Some(key)
@@ -93,7 +91,7 @@ pub(crate) fn string_of_numbers<'a, S: StaticPermittedAlphabet>(
     alloc: Global,
     characters: BitPieces<'a>,
 ) -> Result<S, PermittedAlphabetError>
-    ensures { let numbers = map_of number (pieces characters.entry.width (bits_of characters.entry.bits)) in
+    ensures { let numbers = numbers_of characters.entry in
         Answers S.characters result (string_of_characters S.CHARACTER_SET_NAME numbers) }
 {
     string_at_keys::<S, Itself>(alloc, characters, &Itself)
@@ -101,7 +99,7 @@ pub(crate) fn string_of_numbers<'a, S: StaticPermittedAlphabet>(
 
 /// The string of bits in a map: by keys where its largest character needs more bits than a key has.
 #[inline(always)]
-pub(crate) fn string_of_bits_in<'a, S: StaticPermittedAlphabet, M: Keys>(
+pub(crate) fn string_of_bits_in<'a, S: StaticPermittedAlphabet, M: CountedKeys>(
     alloc: Global,
     input: BitStr<'a>,
     map: &'a M,

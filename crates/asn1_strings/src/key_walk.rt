@@ -1,16 +1,15 @@
 //! Strings at the keys that bits spell: one walk over words of several keys.
-ghost use Rattle.std.specs.Prelude.{◌≡◌, ◌≢◌, ◌≤◌, ◌+◌, ◌*◌, ◌/◌, true, [], Some, length, map as map_of, vec_len, vec_capacity, IfSome, IsNone};
+ghost use Rattle.std.specs.Prelude.{◌≡◌, ◌≢◌, ◌≤◌, ◌<◌, ◌+◌, ◌*◌, ◌/◌, true, [], Some, length, map as map_of, vec_len, vec_capacity, IfSome, IsNone};
 ghost use Rattle.asn1_bits.specs.BitStr.{bits_of};
-ghost use Rattle.asn1_bits.specs.Bits.{number};
 ghost use Rattle.asn1_characters.specs.Sets.{base_set, has_character};
-ghost use Rattle.asn1_strings.specs.Pieces.{pieces};
 ghost use Rattle.asn1_strings.specs.Strings.{Answers, Refuses};
 ghost use Rattle.asn1_strings.specs.Maps.{string_of_keys};
+ghost use Rattle.asn1_strings.specs.KeyNumbers.{numbers_of};
 ghost use Rattle.asn1_strings.specs.KeyWalk.{AreCharactersOf};
 
 use crate::code_unit::CodeUnit;
 use crate::key_maps::Keys;
-use crate::pieces::{BitPieces, Characters};
+use crate::pieces::BitPieces;
 use crate::static_permitted_alphabet::StaticPermittedAlphabet;
 use crate::widths::codes_of;
 use asn1_characters::{CharacterSetName, PermittedAlphabetError};
@@ -23,7 +22,7 @@ pub(crate) fn string_at_keys<'a, S: StaticPermittedAlphabet, M: Keys>(
     keys: BitPieces<'a>,
     map: &M,
 ) -> Result<S, PermittedAlphabetError>
-    ensures { let numbers = map_of number (pieces keys.entry.width (bits_of keys.entry.bits)) in
+    ensures { let numbers = numbers_of keys.entry in
         Answers S.characters result
         (string_of_keys S.CHARACTER_SET_NAME (M.key_map map.now).get numbers) }
 {
@@ -40,11 +39,11 @@ fn units_at_keys<'a, S: StaticPermittedAlphabet, M: Keys>(
     keys: BitPieces<'a>,
     map: &M,
 ) -> Option<Vec<S::T>>
-    ensures some { let numbers = map_of number (pieces keys.entry.width (bits_of keys.entry.bits)) in
+    ensures some { let numbers = numbers_of keys.entry in
         IfSome result (λ v. (length v.items ≡ length numbers)
         × AreCharactersOf S.CHARACTER_SET_NAME (M.key_map map.now).get numbers (length numbers)
         (map_of S.T.value v.items)) }
-    ensures none { let numbers = map_of number (pieces keys.entry.width (bits_of keys.entry.bits)) in
+    ensures none { let numbers = numbers_of keys.entry in
         IsNone result → numbers ≢ [] }
 {
     let count = keys.count();
@@ -73,11 +72,12 @@ fn push_next<'a, S: StaticPermittedAlphabet, M: Keys>(
     requires room { vec_len units.old + count ≤ vec_capacity units.old }
     ensures len { vec_len units.new ≡ vec_len units.old + count }
     ensures capacity { vec_capacity units.new ≡ vec_capacity units.old }
-    ensures read { let numbers = map_of number (pieces keys.entry.width (bits_of keys.entry.bits)) in
+    ensures read { let numbers = numbers_of keys.entry in
         let get = (M.key_map map.now).get in
+        let name = S.CHARACTER_SET_NAME in
         result ≡ true
-        → AreCharactersOf S.CHARACTER_SET_NAME get numbers (vec_len units.old) (map_of S.T.value units.old.items)
-        → AreCharactersOf S.CHARACTER_SET_NAME get numbers (vec_len units.old + count)
+        → AreCharactersOf name get numbers (vec_len units.old) (map_of S.T.value units.old.items)
+        → AreCharactersOf name get numbers (vec_len units.old + count)
         (map_of S.T.value units.new.items) }
     ensures empty { count ≡ 0 → result ≡ true }
 {
@@ -124,6 +124,8 @@ fn keys_in_word(width: usize) -> usize
     requires few { width ≤ 64 }
     ensures some { 1 ≤ result }
     ensures fits { result * width ≤ 64 }
+    ensures most { result < 8 → 64 < (result + 1) * width }
+    ensures most_eights { 64 < (result + 8) * width }
 {
     let most = 64 / width;
     if most >= 8 { most / 8 * 8 } else { most }
@@ -136,8 +138,8 @@ fn refusal_at_keys<'a, S: StaticPermittedAlphabet, M: Keys>(
     keys: BitPieces<'a>,
     map: &M,
 ) -> PermittedAlphabetError
-    requires { map_of number (pieces keys.width (bits_of keys.bits)) ≢ [] }
-    ensures { let numbers = map_of number (pieces keys.entry.width (bits_of keys.entry.bits)) in
+    requires { numbers_of keys ≢ [] }
+    ensures { let numbers = numbers_of keys.entry in
         Refuses result (string_of_keys S.CHARACTER_SET_NAME (M.key_map map.now).get numbers) }
 {
     for i in 0..keys.count() {

@@ -21,6 +21,7 @@ mod permitted_set;
 mod pieces;
 mod printable_string;
 mod restricted_string;
+mod run;
 mod search;
 mod static_permitted_alphabet;
 mod string_kind;

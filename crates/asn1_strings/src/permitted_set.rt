@@ -1,5 +1,5 @@
 //! Permitted sets: lists of characters in the caller's order.
-ghost use Rattle.std.specs.Prelude.{◌≡◌, ◌≢◌, ◌≤◌, ◌^◌, true, false, AllPairs, length, slice_get, Some, MatchBool, MatchOption};
+ghost use Rattle.std.specs.Prelude.{◌≡◌, ◌≢◌, ◌≤◌, ◌^◌, ◌↔◌, true, false, AllPairs, IsTrue, length, slice_get, Some, MatchBool, MatchOption};
 ghost use Rattle.std.specs.List.Sorted.{IsNonDecreasing};
 ghost use Rattle.asn1_characters.specs.Sets.{has_character, largest};
 ghost use Rattle.asn1_strings.specs.AlphabetInMemory.{IsRun};
@@ -22,20 +22,6 @@ pub(crate) fn largest_of_run(set: &[u32]) -> u32
     ensures { result ≡ largest set.now }
 {
     set[set.len() - 1]
-}
-
-/// A place of the character.
-pub(crate) fn place_in(set: &[u32], character: u32) -> Option<u32>
-    requires { length set.now ≤ 2 ^ 32 }
-    ensures { MatchOption result (has_character set.now character ≡ false)
-        (λ k. slice_get set.now k ≡ Some character) }
-{
-    for (i, candidate) in set.iter().enumerate() {
-        if *candidate == character {
-            return Some(i as u32);
-        }
-    }
-    None
 }
 
 /// Whether the list has a character twice. An ascending one is walked once.
@@ -83,10 +69,10 @@ pub(crate) fn is_ascending(set: &[u32]) -> bool
     true
 }
 
-/// Whether some characters follow one another without a gap. None of them ends the test, so that many
-/// are tested at once.
+/// Whether some characters follow one another without a gap, below 2^32. All are tested: none of them
+/// ends the test.
 pub(crate) fn is_run(set: &[u32]) -> bool
-    ensures { result ≡ true → IsRun set.now }
+    ensures { IsTrue result ↔ IsRun set.now }
 {
     if set.is_empty() {
         return false;

@@ -1,23 +1,10 @@
-//! Lists of characters that are read by their places in octets and bits.
-ghost use Rattle.std.specs.Prelude.{◌≡◌, ◌≤◌, ◌+◌, ◌*◌, ◌/◌, ◌<◌, ℕ, List, length, map, slice_index, take, drop};
+//! Characters of one width in octets and bits, read by their places.
+ghost use Rattle.std.specs.Prelude.{◌≡◌, ◌≤◌, ◌+◌, ◌*◌, ◌/◌, ◌<◌, length, map, slice_index, take, drop};
 ghost use Rattle.asn1_bits.specs.BitStr.{bits_of};
 ghost use Rattle.asn1_bits.specs.Bits.{digits, number};
 ghost use Rattle.asn1_strings.specs.Pieces.{piece, pieces, unsigned};
 
 use asn1_bits::{BitReader, BitStr, read_u128};
-
-// A list of characters.
-pub(crate) trait Characters {
-    // The list.
-    ghost list: { Self → List ℕ };
-
-    fn count(&self) -> usize
-        ensures { result ≡ length (list self.now) };
-
-    fn character(&self, i: usize) -> u32
-        requires { i < length (list self.now) }
-        ensures { result ≡ slice_index (list self.now) i };
-}
 
 // The characters of octets, `width` octets each.
 #[derive(Clone, Copy)]
@@ -28,14 +15,19 @@ pub(crate) struct OctetPieces<'a> {
     ghost small: { width ≤ 4 },
 }
 
-impl<'a> Characters for OctetPieces<'a> {
-    ghost list = { λ s. map unsigned (pieces s.width s.octets.now) };
-
-    fn count(&self) -> usize {
+impl<'a> OctetPieces<'a> {
+    /// How many characters there are.
+    pub(crate) fn count(&self) -> usize
+        ensures { result ≡ length (map unsigned (pieces self.now.width self.now.octets.now)) }
+    {
         self.octets.len() / self.width
     }
 
-    fn character(&self, i: usize) -> u32 {
+    /// The character at a place.
+    pub(crate) fn character(&self, i: usize) -> u32
+        requires { i < length (map unsigned (pieces self.now.width self.now.octets.now)) }
+        ensures { result ≡ slice_index (map unsigned (pieces self.now.width self.now.octets.now)) i }
+    {
         unsigned_of(piece_of(self.octets, self.width, i))
     }
 }
@@ -49,21 +41,24 @@ pub(crate) struct BitPieces<'a> {
     ghost small: { width ≤ 32 },
 }
 
-impl<'a> Characters for BitPieces<'a> {
-    ghost list = { λ s. map number (pieces s.width (bits_of s.bits)) };
-
-    fn count(&self) -> usize {
+impl<'a> BitPieces<'a> {
+    /// How many characters there are.
+    pub(crate) fn count(&self) -> usize
+        ensures { result ≡ length (map number (pieces self.now.width (bits_of self.now.bits))) }
+    {
         self.bits.len() / self.width
     }
 
-    fn character(&self, i: usize) -> u32 {
+    /// The character at a place.
+    pub(crate) fn character(&self, i: usize) -> u32
+        requires { i < length (map number (pieces self.now.width (bits_of self.now.bits))) }
+        ensures { result ≡ slice_index (map number (pieces self.now.width (bits_of self.now.bits))) i }
+    {
         let _len = self.bits.len();
         let piece = self.bits.slice(i * self.width, self.width);
         read_u128(piece) as u32
     }
-}
 
-impl<'a> BitPieces<'a> {
     /// The number that `count` characters from one of them on spell together.
     #[inline(always)]
     pub(crate) fn word(&self, at: usize, count: usize) -> u64

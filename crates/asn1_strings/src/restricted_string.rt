@@ -76,9 +76,6 @@ impl<K: StringKind> StaticPermittedAlphabet for RestrictedString<K> {
     }
 
     fn reserve(&mut self, additional: usize) -> Result<(), AllocError> {
-        if additional == 0 {
-            return Ok(());
-        }
         self.units.reserve(additional)
     }
 

@@ -65,6 +65,27 @@ impl<'a> Entries for Looks<'a> {
     }
 }
 
+/// The first place of the character, and None where the list lacks it: entry by entry, each a look and a probe.
+pub(crate) fn find_one_by_one<L: Entries>(
+    entries: &mut L,
+    character: u32,
+    probes: &mut Turns,
+) -> Option<usize>
+    ensures place { MatchOption result (has_character (L.list entries.old) character ≡ false)
+        (λ k. slice_get (L.list entries.old) k ≡ Some character) }
+    ensures each_look_counts { probes.new.count + L.looks entries.old
+        ≡ probes.old.count + L.looks entries.new }
+    ensures looked { OnSome result (probes.old.count + 1 ≤ probes.new.count) }
+    ensures counts { probes.old.count ≤ probes.new.count }
+{
+    for i in 0..entries.count() {
+        if entries.entry(i, probes) == character {
+            return Some(i);
+        }
+    }
+    None
+}
+
 /// A place of the character in an ascending list, and None where the list lacks it. Among N
 /// entries it makes at most w + 1 probes, w being the least width in which N things have codes, and
 /// at least one where it answers a place. Each probe is a look at the list.

@@ -12,7 +12,7 @@ ghost use Rattle.asn1_strings.specs.Strings.{Answers, character_octets, string_o
 use crate::chars::Chars;
 use crate::code_unit::CodeUnit;
 use crate::key_maps::{string_of_bits_in, string_of_numbers};
-use crate::pieces::{BitPieces, Characters, OctetPieces};
+use crate::pieces::{BitPieces, OctetPieces};
 use asn1_bits::{BitStr, BitString};
 use asn1_characters::{
     CharacterRanges, CharacterSetName, InvalidRestrictedString, OctetString, PermittedAlphabetError,
@@ -98,7 +98,7 @@ pub trait StaticPermittedAlphabet: Sized + Drop {
         ensures in_set { All (λ c. has_character (base_set CHARACTER_SET_NAME) c ≡ true)
             (characters self.now) };
 
-    /// Whether the set has the character: by one look, and for `BmpString` by its range.
+    /// Whether the set has the character, as `CharacterSetName::contains` says.
     fn contains_char(character: u32) -> bool
         ensures { result ≡ has_character (base_set CHARACTER_SET_NAME) character }
     {
@@ -257,28 +257,8 @@ pub trait StaticPermittedAlphabet: Sized + Drop {
         c < Self.T.limit };
 }
 
-/// The string of these characters: they are examined first, then memory is asked for.
-pub(crate) fn string_of<S: StaticPermittedAlphabet, C: Characters>(
-    alloc: Global,
-    source: &C,
-) -> Result<S, PermittedAlphabetError>
-    ensures { Answers S.characters result
-        (string_of_characters S.CHARACTER_SET_NAME (C.list source.now)) }
-{
-    let count = source.count();
-    for i in 0..count {
-        let character = source.character(i);
-        if !S::contains_char(character) {
-            return Err(PermittedAlphabetError::InvalidRestrictedString {
-                source: S::invalid_restricted_string(character),
-            });
-        }
-    }
-    copied::<S, C>(alloc, source)
-}
-
-/// The string of characters of `width` octets each, one by one: out of line, since mostly they are right and of the
-/// string's own width.
+/// The string of characters of `width` octets each, one by one: they are examined first, then memory is asked for. It is
+/// out of line, since mostly they are right and of the string's own width.
 #[inline(never)]
 fn string_of_pieces<S: StaticPermittedAlphabet>(
     alloc: Global,
@@ -290,23 +270,32 @@ fn string_of_pieces<S: StaticPermittedAlphabet>(
     ensures { Answers S.characters result
         (string_of_characters S.CHARACTER_SET_NAME (map unsigned (pieces width octets.now))) }
 {
-    string_of::<S, OctetPieces<'_>>(alloc, &OctetPieces { octets, width })
+    let source = OctetPieces { octets, width };
+    let count = source.count();
+    for i in 0..count {
+        let character = source.character(i);
+        if !S::contains_char(character) {
+            return Err(PermittedAlphabetError::InvalidRestrictedString {
+                source: S::invalid_restricted_string(character),
+            });
+        }
+    }
+    copied::<S>(alloc, source)
 }
 
 /// The string of characters that its set has.
-fn copied<S: StaticPermittedAlphabet, C: Characters>(
+fn copied<'a, S: StaticPermittedAlphabet>(
     alloc: Global,
-    source: &C,
+    source: OctetPieces<'a>,
 ) -> Result<S, PermittedAlphabetError>
     requires { All (λ c. has_character (base_set S.CHARACTER_SET_NAME) c ≡ true)
-        (C.list source.now) }
-    ensures { Answers S.characters result (Ok (C.list source.now)) }
+        (map unsigned (pieces source.width source.octets.now)) }
+    ensures { Answers S.characters result
+        (Ok (map unsigned (pieces source.entry.width source.entry.octets.now))) }
 {
     let count = source.count();
     let mut string = S::new(alloc);
-    if count > 0 {
-        string.reserve(count)?;
-    }
+    string.reserve(count)?;
     for i in 0..count {
         string.push_char(source.character(i))?;
     }

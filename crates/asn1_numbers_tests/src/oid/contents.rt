@@ -2,6 +2,7 @@
 
 use asn1_oid::{ContentsError, ObjectIdentifier, Oid, check_contents, laws_of_contents};
 use std::alloc::Global;
+use std::borrow::CowSlice;
 use std::process::Abort;
 use std::test::Fail;
 
@@ -62,6 +63,90 @@ fn the_octets_that_are_left_are_appended(rt: HostRuntime) -> Result<(), Fail> {
         contents.append_to(&mut written)?;
         assert!(rt; written.starts_with(&[0x06, 0x09]));
         assert_eq!(rt; &written[2..], &octets[read..], "{read}");
+    }
+    Ok(())
+}
+
+#[test]
+fn octets_that_were_taken_are_hinted_at_no_more(rt: HostRuntime) -> Result<(), Fail> {
+    let rsa = Oid::new(&[1, 2, 840, 113549]).ok_or("valid")?;
+    let mut contents = rsa.contents().ok_or("two arcs")?;
+    for left in [6usize, 5, 4, 3, 2, 1, 0] {
+        assert_eq!(rt; contents.size_hint(), (left, Some(left)));
+        assert_eq!(rt; contents.next().is_some(), left > 0);
+    }
+    Ok(())
+}
+
+/// 4,096 octets, and the arcs that they are the contents of: 1, 2 and 819 of the largest.
+fn long_contents(alloc: Global) -> Result<(Vec<u8>, Vec<u32>), Fail> {
+    let mut octets = [0x2A].to_vec(alloc)?;
+    let mut arcs = [1, 2].to_vec(alloc)?;
+    for _ in 0..819 {
+        octets.extend_from_slice(&[0x8F, 0xFF, 0xFF, 0xFF, 0x7F])?;
+        arcs.push(4294967295)?;
+    }
+    Ok((octets, arcs))
+}
+
+#[test]
+fn long_contents_are_read_and_take_the_room_of_their_octets(rt: HostRuntime) -> Result<(), Fail> {
+    let (octets, arcs) = long_contents(rt.alloc())?;
+    assert_eq!(rt; octets.len(), 4096);
+    assert_eq!(rt; check_contents(&octets.as_slice()), Ok(()));
+    let read = ObjectIdentifier::from_contents(rt.alloc(), &octets.as_slice())?;
+    assert!(rt; read.eq_arcs(arcs.as_slice()));
+    let CowSlice::Owned(kept) = read.into_arcs() else {
+        return Err("arcs that were read are owned")?;
+    };
+    assert_eq!(rt; kept.len(), 821);
+    assert!(rt; kept.capacity() <= 4097, "room for {}", kept.capacity());
+    Ok(())
+}
+
+#[test]
+fn long_contents_are_appended_into_room_for_five_octets_an_arc(
+    rt: HostRuntime,
+) -> Result<(), Fail> {
+    let (octets, arcs) = long_contents(rt.alloc())?;
+    let oid = Oid::new(arcs.as_slice()).ok_or("valid")?;
+    assert_eq!(rt; oid.contents_len(), Some(4096));
+    let mut written = Vec::new(rt.alloc());
+    oid.contents().ok_or("two arcs")?.append_to(&mut written)?;
+    assert_eq!(rt; written.as_slice(), octets.as_slice());
+    assert!(rt;
+        written.capacity() <= 4105,
+        "room for {}",
+        written.capacity()
+    );
+
+    let mut written = Vec::new(rt.alloc());
+    written.resize(1000, 0x55)?;
+    oid.contents().ok_or("two arcs")?.append_to(&mut written)?;
+    assert_eq!(rt; written.len(), 5096);
+    assert!(rt; written.iter().take(1000).all(|octet| *octet == 0x55));
+    assert!(rt; written.ends_with(octets.as_slice()));
+    assert!(rt;
+        written.capacity() <= 5105,
+        "room for {}",
+        written.capacity()
+    );
+    Ok(())
+}
+
+#[test]
+fn refusals_have_their_texts(rt: HostRuntime) -> Result<(), Fail> {
+    let rows = [
+        (
+            ContentsError::Malformed,
+            "no contents of an object identifier",
+        ),
+        (ContentsError::ArcTooLarge, "an arc of more than 32 bits"),
+        (ContentsError::Memory, "out of memory"),
+    ];
+    for (error, text) in rows {
+        let written = format!(in rt.alloc(); "{error}")?;
+        assert_eq!(rt; written.as_str(), text);
     }
     Ok(())
 }

@@ -152,6 +152,8 @@ fn characters_and_codes_that_are_not_there_are_named(rt: HostRuntime) {
     assert!(rt; refused == missing(99) && uncoded == missing(0) && !repeats);
     let (refused, _, _) = answers::<Ia5String>(Some(&[]), 0, 0);
     assert!(rt; refused == missing(0));
+    let (refused, uncoded, repeats) = answers::<BmpString>(Some(&[]), 99, 0);
+    assert!(rt; refused == missing(99) && uncoded == missing(0) && !repeats);
     let (refused, uncoded, _) = answers::<Ia5String>(Some(&[0, 1, 2, 3]), 4, 5);
     assert!(rt; refused == missing(4) && uncoded == missing(5));
     let (refused, uncoded, _) = answers::<Ia5String>(Some(&[122, 97, 109]), 98, 3);
@@ -171,6 +173,8 @@ fn sets_with_gaps_have_codes(rt: HostRuntime) {
 
 #[test]
 fn sets_may_have_a_character_twice(rt: HostRuntime) {
+    writes::<NumericString>(&rt, Some(&[97, 97]), false, 1, &[]);
+    writes::<Ia5String>(&rt, Some(&[0, 0, 1]), false, 2, &[(0, 0), (1, 1)]);
     let (code, first, repeats) = answers::<NumericString>(Some(&[97, 97]), 97, 0);
     assert!(rt; (code == Ok(0) || code == Ok(1)) && first == Ok(97) && repeats);
     let (_, second, _) = answers::<NumericString>(Some(&[97, 97]), 97, 1);
@@ -193,6 +197,71 @@ fn long_sets_have_codes_in_any_order(rt: HostRuntime) {
     writes::<BmpString>(&rt, Some(&falling), false, 7, &[(0x140, 0), (0x100, 64)]);
     let (refused, uncoded, repeats) = answers::<BmpString>(Some(&rising), 0x141, 65);
     assert!(rt; refused == missing(321) && uncoded == no_place(65) && !repeats);
+}
+
+// An alphabet of `BmpString` has a code for each character of the list, its place or itself, and none for others below
+// the limit.
+fn has_these_alone(rt: &impl Abort, set: &[u32], by_place: bool, limit: u32)
+    requires { length set.now ≤ 2 ^ 32 }
+{
+    let alphabet = CharacterAlphabet::new::<BmpString>(Some(set), false);
+    for character in 0..limit {
+        let wanted = match set.iter().position(|candidate| *candidate == character) {
+            Some(place) if by_place => Ok(place as u32),
+            Some(_) => Ok(character),
+            None => missing(character),
+        };
+        let mut probes = Turns::new();
+        assert!(rt; alphabet.encode(character) == wanted, "{character}");
+        assert!(rt;
+            alphabet.encode_counted(character, &mut probes) == wanted,
+            "{character}"
+        );
+    }
+}
+
+#[test]
+fn long_sets_with_gaps_have_codes(rt: HostRuntime) {
+    let mut even = [0u32; 65];
+    let mut above = [0u32; 65];
+    for i in 0..65usize {
+        even[i] = 2 * i as u32;
+        above[i] = 0x100 + 2 * i as u32;
+    }
+    writes::<BmpString>(&rt, Some(&even), false, 7, &[(0, 0), (64, 32), (128, 64)]);
+    writes::<BmpString>(&rt, Some(&above), false, 7, &[(0x100, 0), (0x180, 64)]);
+    has_these_alone(&rt, &even, true, 140);
+    has_these_alone(&rt, &above, true, 400);
+    let mut gap = [0u32; 599];
+    for i in 0..599usize {
+        gap[i] = if i < 300 { i as u32 } else { i as u32 + 1 };
+    }
+    writes::<BmpString>(
+        &rt,
+        Some(&gap),
+        false,
+        10,
+        &[(299, 299), (301, 301), (599, 599)],
+    );
+    has_these_alone(&rt, &gap, false, 610);
+    let (refused, uncoded, repeats) = answers::<BmpString>(Some(&gap), 300, 300);
+    assert!(rt; refused == missing(300) && uncoded == missing(300) && !repeats);
+}
+
+#[test]
+fn sets_below_256_with_a_gap_have_codes(rt: HostRuntime) {
+    let mut gap = [0u32; 255];
+    for i in 0..255usize {
+        gap[i] = if i < 100 { i as u32 } else { i as u32 + 1 };
+    }
+    writes::<BmpString>(
+        &rt,
+        Some(&gap),
+        false,
+        8,
+        &[(0, 0), (101, 101), (192, 192), (255, 255)],
+    );
+    has_these_alone(&rt, &gap, false, 260);
 }
 
 #[test]

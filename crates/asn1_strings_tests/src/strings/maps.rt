@@ -53,7 +53,40 @@ fn the_base_set_stands_for_no_map(rt: HostRuntime) -> Result<(), Fail> {
     };
     assert!(rt; ten == Some(whole));
     let eleven = NumericString::try_from_bit_string(alloc, bits(alloc, 0b1011_0000, 4)?).err();
-    assert!(rt; eleven == Some(PermittedAlphabetError::IndexNotFound { index: 11 }));
+    let eleven = eleven.ok_or("eleven")?;
+    assert!(rt; eleven == PermittedAlphabetError::IndexNotFound { index: 11 });
+    let text = format!(in alloc; "{eleven}")?;
+    assert!(rt; text.as_str() == "index not found 11");
+    Ok(())
+}
+
+// What bits spell by the places of `NumericString`.
+fn by_places(alloc: Global, input: BitStr<'_>) -> Result<NumericString, PermittedAlphabetError> {
+    NumericString::try_from_permitted_alphabet(alloc, input, None)
+}
+
+#[test]
+fn keys_of_whole_words_and_of_a_rest_are_read(rt: HostRuntime) -> Result<(), Fail> {
+    let mut octets = [0u8; 20];
+    for i in 0..20usize {
+        octets[i] = match i % 5 {
+            0 => 0x12,
+            1 => 0x34,
+            2 => 0x56,
+            3 => 0x78,
+            _ => 0x9A,
+        };
+    }
+    let digits = b"0123456789012345678901234567890123456789";
+    for count in 0..=40usize {
+        let input = BitStr::new(&octets, 0, 4 * count).ok_or("bits")?;
+        let string = by_places(rt.alloc(), input).ok().ok_or("digits")?;
+        assert!(rt; string.as_bytes() == &digits[..count], "{count}");
+    }
+    octets[18] = 0x7B;
+    let input = BitStr::new(&octets, 0, 160).ok_or("bits")?;
+    let refused = by_places(rt.alloc(), input).err();
+    assert!(rt; refused == Some(PermittedAlphabetError::IndexNotFound { index: 11 }));
     Ok(())
 }
 
@@ -68,6 +101,8 @@ fn a_map_of_one_entry_or_none_has_no_width(rt: HostRuntime) -> Result<(), Fail> 
         length: 0,
         width: 0,
     };
+    assert!(rt; empty == Some(nothing));
+    let empty = Ia5String::try_from_permitted_alphabet(alloc, none, Some(&map)).err();
     assert!(rt; empty == Some(nothing));
     map.insert(0, 0x41)?;
     let three = BitStr::new(&octets, 0, 3).ok_or("three")?;

@@ -8,7 +8,8 @@ use asn1_strings::{
     BmpString, FromBytes, General, Graphic, Ia5, Ia5String, InvalidBmpString, InvalidGeneralString,
     InvalidGraphicString, InvalidIA5String, InvalidPrintableString, InvalidRestrictedString,
     InvalidVisibleString, Iso646, Numeric, PermittedAlphabetError, Printable, PrintableString,
-    RestrictedString, StaticPermittedAlphabet, Teletex, Utf8String, Visible, VisibleString,
+    RestrictedString, StaticPermittedAlphabet, Teletex, TeletexString, Utf8String, Visible,
+    VisibleString,
 };
 use std::alloc::Global;
 use std::test::Fail;
@@ -145,6 +146,10 @@ fn strings_of_octets_show_their_octets(rt: HostRuntime) -> Result<(), Fail> {
         .ok()
         .ok_or("teletex")?;
     assert!(rt; teletex.to_bytes()?.as_slice() == [0x41u8, 0xC2, 0x65].as_slice());
+    let read = from_slice::<TeletexString>(alloc, &[0x41, 0xC2, 0x65])
+        .ok()
+        .ok_or("read")?;
+    assert!(rt; read == teletex);
     let general = from_bytes::<General>(alloc, b"1 2").ok().ok_or("general")?;
     assert!(rt; general.as_bytes() == b"1 2".as_slice());
     let graphic = from_bytes::<Graphic>(alloc, b"1 2").ok().ok_or("graphic")?;
@@ -197,6 +202,38 @@ fn strings_are_read_from_bits(rt: HostRuntime) -> Result<(), Fail> {
 }
 
 #[test]
+fn characters_of_whole_words_and_of_a_rest_are_read(rt: HostRuntime) -> Result<(), Fail> {
+    let alloc = rt.alloc();
+    let letters = b"abcdefghijklmnopqrstuvwxyz";
+    for count in 0..=26usize {
+        let bits = BitStr::new(letters, 0, 8 * count).ok_or("bits")?;
+        let string = from_bits::<Ia5String>(alloc, bits, 8)
+            .ok()
+            .ok_or("letters")?;
+        assert!(rt; string.as_iso646_bytes() == &letters[..count], "{count}");
+    }
+    let mut wrong = *letters;
+    wrong[25] = 0x80;
+    let bits = BitStr::new(&wrong, 0, 208).ok_or("bits")?;
+    let ia5 = InvalidRestrictedString::InvalidIA5String(InvalidIA5String { character: 128 });
+    assert!(rt; from_bits::<Ia5String>(alloc, bits, 8).err() == Some(refusal(ia5)));
+    Ok(())
+}
+
+#[test]
+fn room_that_was_asked_for_is_there(rt: HostRuntime) -> Result<(), Fail> {
+    let mut string = Ia5String::new(rt.alloc());
+    string.reserve(1000)?;
+    let units = string.into_vec();
+    assert!(rt; units.is_empty() && units.capacity() >= 1000 && units.capacity() <= 2000);
+    let mut string = BmpString::new(rt.alloc());
+    string.reserve(1000)?;
+    let units = string.into_vec();
+    assert!(rt; units.is_empty() && units.capacity() >= 1000 && units.capacity() <= 2000);
+    Ok(())
+}
+
+#[test]
 fn a_wrong_character_in_bits_is_named(rt: HostRuntime) -> Result<(), Fail> {
     let octets = [0b0011_1110u8];
     let bits = BitStr::new(&octets, 0, 7).ok_or("bits")?;
@@ -225,7 +262,10 @@ fn refusals_of_calls_are_printed(rt: HostRuntime) -> Result<(), Fail> {
     assert!(rt;
         text.as_str() == "length of bits (3) provided not divisible by character width (2)"
     );
-    let none = with_width::<Ia5String>(alloc, &[], 0).err().ok_or("none")?;
+    let four = [0x00u8, 0x00, 0x00, 0x41];
+    let none = with_width::<Ia5String>(alloc, &four, 0)
+        .err()
+        .ok_or("none")?;
     let text = format!(in alloc; "{none}")?;
     assert!(rt;
         text.as_str()

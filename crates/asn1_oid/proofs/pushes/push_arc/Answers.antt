@@ -1,6 +1,6 @@
-use Rattle.std.proofs.Common.{◌≡◌, ◌+◌, ◌/◌, ◌%◌, ◌++◌, ℕ, List, [], ◌∷◌, arith, refl, ap, ◌∙◌}
-use Rattle.asn1_oid.specs.Writing.{HasDigits, last_octets, subidentifier_octets}
-use Rattle.asn1_oid.proofs.PushLemmas.{all_pushed, small_pushed, one_pushed, more_pushed}
+use Rattle.std.proofs.Common.{◌+◌, ◌/◌, ◌%◌, ◌++◌, arith, refl, ap, ◌∙◌}
+use Rattle.asn1_oid.specs.Writing.{HasDigits, last_octets}
+use Rattle.asn1_oid.proofs.PushLemmas.{all_pushed, one_pushed, more_pushed}
 use Rattle.asn1_oid.proofs.pushes.push_arc.Goals.{then-arc, then-arc-2, then-arc-3, then-arc-4, else-arc-4, else-arc-3, else-arc-2, else-arc}
 use Rattle.asn1_oid.proofs.pushes.push_arc.Goals as goal
 

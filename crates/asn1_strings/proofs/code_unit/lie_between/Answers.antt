@@ -1,13 +1,13 @@
-use Rattle.std.proofs.Common.{◌≤◌, ◌-◌, get_or, arith}
-use Rattle.std.proofs.lemmas.Bool.Decides.{nat_tests}
-use Rattle.std.proofs.lemmas.List.{get_or_default}
+use Rattle.std.proofs.Common.{map, ap, ◌∙◌, arith}
+use Rattle.std.proofs.lemmas.List.{take_all}
+use Rattle.asn1_characters.specs.Sets.{largest}
+use Rattle.asn1_strings.proofs.OctetLemmas.{distance_from, near_is_between}
 use Rattle.asn1_strings.proofs.code_unit.lie_between.Goals as goal
 
 pub returns : goal.returns
-returns c = λ told k d lt.
-    let octet = get_or c.args.octets.now k 0 in
-    let small = c.type_inv.octets k in
-    let near = c.loop-octet.invariant k (omega arith) in
-    let low : c.loop-octet.most ≤ c.args.last - c.args.first = grind (arith, nat_tests, told) in
-    rw (get_or_default c.args.octets.now k d 0 lt)
-    (omega (arith, small.fits, near, low, c.requires), omega (arith, small.fits, near, low, c.requires))
+returns c =
+    let octets = c.args.octets.now in
+    let all = take_all c.loop-octet.octet-index octets (omega arith) in
+    let most = c.loop-octet.invariant ∙ ap (λ xs. largest (map (distance_from c.args.first) xs)) all in
+    rw most (near_is_between octets c.args.first c.args.last (λ k. (c.type_inv.octets k).fits) c.requires
+    c.ranges.last.fits)

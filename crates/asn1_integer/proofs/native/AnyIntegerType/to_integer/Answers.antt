@@ -9,7 +9,7 @@ returns-in-Some-clause-value g c =
     bits_at c.IS_SIGNED.result g.N.Native.IS_SIGNED g.N.Native.BYTE_WIDTH c.low_bits-bits.result
     (g.N.Native.value c.args.self) c.IS_SIGNED.ensures g.met.N.Native.sized c.low_bits-bits.ensures.in_range
     c.low_bits-bits.ensures.bits in
-    let given = c.in-Some.ensures (g.N.Native.value c.args.self) bits in
+    let given = c.in-Some.ensures.some (g.N.Native.value c.args.self) bits in
     c.from.ensures ∙ (ap (λ z. to_z w128 (of_z w128 z)) given.1
     ∙ to_z-of_z (fits_signed (g.N.Native.value c.args.self) given.0))
 
@@ -21,7 +21,7 @@ returns-in-None-clause-value g c =
     c.low_bits-bits.ensures.bits in
     subst (λ z. IfOk c.from_u128.result (λ n. n ≡ z))
     (great_is_unsigned c.IS_SIGNED.result (g.N.Native.value c.args.self) c.low_bits-bits.result bits
-    (c.in-None.ensures (g.N.Native.value c.args.self) bits)) c.from_u128.ensures.value
+    (c.in-None.ensures.some (g.N.Native.value c.args.self) bits)) c.from_u128.ensures.value
 
 pub returns-in-None-clause-memory : goal.returns-in-None-clause-memory
 returns-in-None-clause-memory g c =
@@ -34,4 +34,4 @@ returns-in-None-clause-memory g c =
     g.met.N.Native.sized c.low_bits-bits.ensures.in_range c.low_bits-bits.ensures.bits in
     on_err c.from_u128.result (2 ^ 127 ≤ c.low_bits-bits.result) _
     (great_wants_memory g.N.Native.IS_SIGNED g.N.Native.BYTE_WIDTH (g.N.Native.value c.args.self) c.low_bits-bits.result
-    own (c.in-None.ensures (g.N.Native.value c.args.self) bits)) c.from_u128.ensures.memory
+    own (c.in-None.ensures.some (g.N.Native.value c.args.self) bits)) c.from_u128.ensures.memory

@@ -15,7 +15,7 @@ returns-in_default g c = λ r.
     same_number g.N.Native.IS_SIGNED g.N.Native.BYTE_WIDTH c.cast_unsigned.result c.args.number
     (g.N.Native.value c.from_low_bits-wrapped.result) g.met.N.Native.sized
     (c.cast_unsigned.ensures ∙ ap (of_z w128) (to_z-of_z c.ranges.number)) c.from_low_bits-wrapped.ensures r in
-    c.in_default.ensures (g.N.Native.value c.from_low_bits-wrapped.result) bits
+    c.in_default.ensures.some (g.N.Native.value c.from_low_bits-wrapped.result) bits
     (subst FitsI128 (sym same) (fitted c.args.number c.ranges.number))
 
 pub returns-then-same-number : goal.returns-then-same-number
@@ -24,7 +24,7 @@ returns-then-same-number g c =
     bits_at c.IS_SIGNED.result g.N.Native.IS_SIGNED g.N.Native.BYTE_WIDTH c.low_bits.result
     (g.N.Native.value c.from_low_bits-wrapped.result) c.IS_SIGNED.ensures g.met.N.Native.sized
     c.low_bits.ensures.in_range c.low_bits.ensures.bits in
-    let given = c.in-Some.ensures (g.N.Native.value c.from_low_bits-wrapped.result) bits in
+    let given = c.in-Some.ensures.some (g.N.Native.value c.from_low_bits-wrapped.result) bits in
     let value : g.N.Native.value c.from_low_bits-wrapped.result ≡ c.args.number =
     sym (to_z-of_z (fits_signed (g.N.Native.value c.from_low_bits-wrapped.result) given.0))
     ∙ (ap (to_z w128) (sym (ap (of_z w128) given.1) ∙ c.if-same-number.true) ∙ to_z-of_z c.ranges.number) in (
@@ -44,4 +44,4 @@ returns-else-same-number g c = λ r.
     (g.N.Native.value c.from_low_bits-wrapped.result) g.met.N.Native.sized
     (c.cast_unsigned.ensures ∙ ap (of_z w128) (to_z-of_z c.ranges.number)) c.from_low_bits-wrapped.ensures r in
     c.if-same-number.false (ap (of_z w128)
-    ((c.in-Some.ensures (g.N.Native.value c.from_low_bits-wrapped.result) bits).1 ∙ same))
+    ((c.in-Some.ensures.some (g.N.Native.value c.from_low_bits-wrapped.result) bits).1 ∙ same))

@@ -1,12 +1,21 @@
-use Rattle.std.proofs.Common.{ℕ, List, ◌++◌, get_or, refl, ap, ◌∙◌, arith}
+use Rattle.std.proofs.Common.{ℕ, List, ◌++◌, length, get_or, refl, ap, ◌∙◌, arith}
 use Rattle.asn1_oid.specs.Writing.{low_octets}
-use Rattle.asn1_oid.proofs.PushLemmas.{none_are_left, word_pushed, arc_pushed}
+use Rattle.asn1_oid.proofs.PushLemmas.{room_is_within, word_pushed, arc_pushed}
 use Rattle.asn1_oid.proofs.oid_contents.OidContents.append_to.Goals as goal
 
 pub returns-in_err-reserve-clause-free : goal.returns-in_err-reserve-clause-free
 returns-in_err-reserve-clause-free c = λ empty.
     let inside = c.self.inside in
-    let none = none_are_left inside.octets inside.left inside.arcs.now (c.self.view_is ∙ empty) in
+    let none = ap length (c.self.view_is ∙ empty) in
+    let within = room_is_within inside.octets inside.left inside.arcs.now in
+    let full = c.in_err-reserve.ensures.full in
+    absurd (omega arith)
+
+pub returns-in_err-reserve-clause-in_room : goal.returns-in_err-reserve-clause-in_room
+returns-in_err-reserve-clause-in_room c = λ room.
+    let inside = c.self.inside in
+    let same = ap length c.self.view_is in
+    let within = room_is_within inside.octets inside.left inside.arcs.now in
     let full = c.in_err-reserve.ensures.full in
     absurd (omega arith)
 

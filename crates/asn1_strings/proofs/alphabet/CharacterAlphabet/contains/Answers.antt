@@ -1,4 +1,5 @@
 use Rattle.std.proofs.Common.{refl, ap, ◌∙◌}
+use Rattle.std.specs.List.{range_with_len}
 use Rattle.asn1_characters.specs.Sets.{has_character}
 use Rattle.asn1_strings.specs.AlphabetInMemory.{some_if, set_of}
 use Rattle.asn1_strings.proofs.AlphabetLemmas.{has_by_words, found_is}
@@ -8,8 +9,9 @@ pub returns-then-self-clause-value : goal.returns-then-self-clause-value
 returns-then-self-clause-value c =
     let known = c.args.self.now.known in
     c.is_some.ensures
-    ∙ found_is c.args.self.now.set.now c.args.character c.place_in_run.result c.place_in_run.ensures.place
-    ∙ ap (λ set. has_character set c.args.character) (known.listing c.if-self.true)
+    ∙ found_is (range_with_len c.of.result.first c.of.result.count) c.args.character c.place.result
+    c.place.ensures.place
+    ∙ ap (λ set. has_character set c.args.character) (c.of.ensures ∙ known.listing c.if-self.true)
 
 pub returns-then-self-2-clause-value : goal.returns-then-self-2-clause-value
 returns-then-self-2-clause-value c =

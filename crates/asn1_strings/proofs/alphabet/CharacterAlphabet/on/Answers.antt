@@ -18,12 +18,14 @@ invariant_of-result c =
             (is_some_if c.listing_of-listing.result.kept c.listing_of-listing.result.set c.args.kept is
             kept));
         gapless = rw is c.listing_of-listing.ensures.gapless;
+        seen = rw is c.listing_of-listing.ensures.seen;
         few_places =
             λ none by. rw is (few_places c.args.name c.args.kept c.args.aligned
             (none_if c.listing_of-listing.result.kept c.listing_of-listing.result.set c.args.kept is
             none)
             (rw (c.codes_of.ensures, c.largest_in-largest.ensures, c.width_for-width.ensures.value, c.count_of.ensures)
             at by));
-        worded = rw is c.words_of.ensures;
+        worded = rw is c.words_of.ensures.worded;
+        wordless = rw (is, ← c.largest_in-largest.ensures) c.words_of.ensures.wordless;
       });
     }

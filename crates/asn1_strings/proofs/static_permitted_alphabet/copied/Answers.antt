@@ -1,0 +1,9 @@
+use Rattle.std.proofs.Common.{◌<◌, length, map, arith}
+use Rattle.asn1_strings.specs.Pieces.{pieces, unsigned}
+use Rattle.asn1_strings.proofs.static_permitted_alphabet.copied.Goals as goal
+
+pub push_char-requires : goal.push_char-requires
+push_char-requires g c =
+    let within : c.loop-i.i < length (map unsigned (pieces c.args.source.width c.args.source.octets.now)) =
+    omega (arith, c.count-count.ensures) in
+    rw c.character.ensures (c.requires c.loop-i.i 0 within)
