@@ -1,4 +1,4 @@
-/* The personnel record of X.691 A.2 in unaligned PER: its values are written, compared with the octets that the
+/* The personnel record of X.691 A.2 in CANONICAL-PER, unaligned: its values are written, compared with the octets that the
  * standard gives, and read back. Characters are those of ISO 646. The program ends with 0 where all are right. */
 #include <inttypes.h>
 #include <stdio.h>

@@ -2,8 +2,8 @@
 //!
 //! Each test makes its arguments, calls once, and looks at the answer: where no request was refused it is the right
 //! one, and where one was it is want of memory under its own name, with everything as before. A test that meets a
-//! refusal says so in a line; `scripts/refuse-each-allocation` lets the first request fail, then the second, and so on
-//! until no test says so.
+//! refusal says so in a line; `scripts/refuse-each-allocation` refuses its first request, then its second, and so on
+//! until it makes no more.
 #![tactic(auto)]
 
 #[cfg(test)]

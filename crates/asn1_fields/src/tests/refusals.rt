@@ -1,6 +1,6 @@
 //! Each request for memory of the program refused in turn.
 //!
-//! `scripts/refuse-each-allocation` lets the first request fail, then the second, and so on.
+//! `scripts/refuse-each-allocation` refuses the first request, then the second, and so on.
 
 use crate::run::{RunError, run};
 use std::io::{self, Write};
