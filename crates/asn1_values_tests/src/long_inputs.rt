@@ -36,11 +36,6 @@ fn is_read_back(
     Ok(all_same(fields, read.as_slice()) && reader.len() == 0)
 }
 
-/// An alphabet of two characters.
-fn alphabet_of(letters: &[u32]) -> CharacterAlphabet<'_> {
-    CharacterAlphabet::new::<Ia5String>(Some(letters), false)
-}
-
 /// An identifier.
 fn identifier(alloc: Global, contents: &[u8]) -> Result<ObjectIdentifier, Fail> {
     Ok(ObjectIdentifier::from_contents(alloc, &contents).map_err(|_| "contents")?)
@@ -83,7 +78,7 @@ fn push_each_shape<'s>(
 #[test]
 fn many_fields_of_each_kind_are_read_back(rt: HostRuntime) -> Result<(), Fail> {
     let letters = [97, 98];
-    let alphabet = alphabet_of(&letters);
+    let alphabet = CharacterAlphabet::new::<Ia5String>(Some(&letters), false);
     let mut fields = Vec::new(rt.alloc());
     let mut shapes = Vec::new(rt.alloc());
     for _ in 0..GROUPS {
