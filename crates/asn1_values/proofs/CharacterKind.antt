@@ -1,7 +1,7 @@
 -- The laws of characters as fields.
 use Rattle.std.proofs.Common.{◌≡◌, ℕ, ◌^◌, ◌<◌, ◌≤◌, Bool, true, false, cond, ltb, ◌-◌, List, ◌++◌, length, take, drop, Option, Some, None, Ok, Err, refl, sym, ap, subst, ◌∙◌, arith, slice_get}
-use Rattle.std.specs.Prelude.{MatchBool, is_ok}
-use Rattle.std.proofs.lemmas.Bool.{ltb-false, le-ltb}
+use Rattle.std.specs.Prelude.{MatchBool}
+use Rattle.std.proofs.lemmas.Bool.{le-ltb}
 use Rattle.std.proofs.lemmas.List.{length-append, take_at, take-take}
 use Rattle.std.proofs.lemmas.Option.{cond_some}
 use Rattle.asn1_bits.specs.Bits.{digits, number}
@@ -12,7 +12,7 @@ use Rattle.asn1_strings.specs.Alphabet.{Alphabet, IsCode}
 use Rattle.asn1_values.specs.Fields.{Field, IsSpelledBy, IsOfShape, Character, OfCharacter}
 use Rattle.asn1_values.specs.Wrong.{Fault, Short, NoCharacter, IsReason}
 use Rattle.asn1_values.specs.Walk.{with_rest, character_of, character_or_none, character_content, cut_at, field_at}
-use Rattle.asn1_values.proofs.ExactKinds.{IsExact, Read, cut_exact, held_is, no_fault, fault_is, no_field}
+use Rattle.asn1_values.proofs.ExactKinds.{IsExact, cut_exact, held_is, no_fault, fault_is, no_field}
 
 -- ---- the character of a code
 
@@ -102,30 +102,6 @@ character_exact a fit =
         )
 
 -- ---- what is read of them
-
-failed : Fault → Read
-failed fault = Err fault
-
-chosen_ok : (b : Bool) (fault : Fault) (r : Read) → is_ok (cond b (failed fault) r) ≡ true → (b ≡ false)
-    × (is_ok r ≡ true)
-unfolding failed
-chosen_ok true fault r e = absurd cc
-chosen_ok false fault r e = (refl, e)
-
-coded : (a : Alphabet) (k : ℕ) (rest : List Bool) (o : Option ℕ) → character_of a k ≡ o
-    → is_ok (with_rest rest (character_or_none a k o)) ≡ true → (c : ℕ) × IsCode a c k
-coded a k rest (Some c) e h = (c, code_from_character a c k e)
-coded a k rest None e h = absurd cc
-
-pub character_there : (a : Alphabet) (list : List Bool) → is_ok (field_at (OfCharacter a) list) ≡ true
-    → (a.width ≤ length list) × ((c : ℕ) × IsCode a c (number (take a.width list)))
-unfolding field_at cut_at failed
-character_there a list ok =
-    let k : ℕ = number (take a.width list) in
-    let h =
-    chosen_ok (ltb (length list) a.width) (Short (a.width - length list))
-    (with_rest (drop a.width list) (character_content a (take a.width list))) ok in
-    (ltb-false _ _ h.0, coded a k (drop a.width list) (character_of a k) refl h.1)
 
 pub character_refused : (a : Alphabet) (list : List Bool) (k : ℕ) → a.width ≤ length list
     → k ≡ number (take a.width list) → ((c : ℕ) → ¬ (IsCode a c k))
