@@ -19,7 +19,7 @@ use std::marker::Model;
 const READY: usize = 32;
 
 /// A list of bits. Zeros follow them to the octet's end, and in octets that stand ready behind, so that a short number
-/// is stored as one word.
+/// is stored as one word. Its equality is that of the list.
 #[derive(Debug, Drop)]
 pub struct BitBuffer {
     bytes: Vec<u8>,
@@ -270,8 +270,8 @@ impl BitBuffer {
         self.extend_from_bitslice(src.as_bitstr())
     }
 
-    /// The list as a view of its octets.
-    pub(crate) fn as_bitstr(&self) -> BitStr<'_>
+    /// The list as a view of its octets, from their first bit on.
+    pub fn as_bitstr(&self) -> BitStr<'_>
         ensures list { bits_of result ≡ self.now }
         ensures len { (view_of result).len ≡ length self.now }
         ensures first { (view_of result).first ≡ 0 }
@@ -335,4 +335,23 @@ impl BitBuffer {
     {
         put_bitslice(self.bytes.as_mut_slice(), position, src, turns);
     }
+}
+
+impl PartialEq for BitBuffer {
+    ghost use Rattle.std.specs.Cmp.{partial_equiv_from_equiv};
+    ghost use Rattle.asn1_bits.specs.BitLists.{bits_eq, equiv_by};
+
+    ghost eq = { bits_eq };
+
+    ghost laws = { partial_equiv_from_equiv (equiv_by (λ bits. bits)) };
+
+    fn eq(&self, other: &Self) -> bool {
+        self.as_bitstr() == other.as_bitstr()
+    }
+}
+
+impl Eq for BitBuffer {
+    ghost use Rattle.asn1_bits.specs.BitLists.{equiv_by};
+
+    ghost laws = { equiv_by (λ bits. bits) };
 }

@@ -3,7 +3,8 @@
 ghost use Rattle.std.specs.Prelude.{◌≡◌, ◌<◌, All};
 ghost use Rattle.asn1_bits.specs.Octets.{octets_in};
 
-/// Octets that were read: the storage's own where they lie on its octet boundaries, else a copy.
+/// Octets that were read: the storage's own where they lie on its octet boundaries, else a copy. Lent octets and a copy
+/// are equal where they are the same octets.
 #[derive(Debug, Drop)]
 pub enum Octets<'a> {
     /// Octets of the storage.
@@ -31,4 +32,28 @@ pub(crate) fn known_octets(octets: &[u8]) -> &[u8]
     ensures octets { All (λ octet. octet < 256) octets.now }
 {
     octets
+}
+
+impl PartialEq for Octets<'_> {
+    ghost use Rattle.std.specs.Prelude.{nat_eq};
+    ghost use Rattle.std.specs.Cmp.{on_equiv, partial_equiv_from_equiv};
+    ghost use Rattle.std.specs.Cmp.Lexicographic.{pointwise, nat_list_eq_equiv};
+    ghost use Rattle.std.specs.Ordering.{on};
+    ghost use Rattle.asn1_bits.specs.Octets.{octets_in};
+
+    ghost eq = { on octets_in (pointwise nat_eq) };
+
+    ghost laws = { partial_equiv_from_equiv (on_equiv octets_in nat_list_eq_equiv) };
+
+    fn eq(&self, other: &Self) -> bool {
+        self.as_ref() == other.as_ref()
+    }
+}
+
+impl Eq for Octets<'_> {
+    ghost use Rattle.std.specs.Cmp.{on_equiv};
+    ghost use Rattle.std.specs.Cmp.Lexicographic.{nat_list_eq_equiv};
+    ghost use Rattle.asn1_bits.specs.Octets.{octets_in};
+
+    ghost laws = { on_equiv octets_in nat_list_eq_equiv };
 }

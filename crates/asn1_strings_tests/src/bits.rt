@@ -3,6 +3,7 @@
 
 mod callers;
 mod comparisons;
+mod equality;
 mod hashes;
 mod kernel_rows;
 mod overwritten;
