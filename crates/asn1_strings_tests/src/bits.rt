@@ -6,6 +6,7 @@ mod comparisons;
 mod equality;
 mod hashes;
 mod kernel_rows;
+mod ored;
 mod overwritten;
 mod plain;
 mod rows;
