@@ -1,0 +1,13 @@
+-- The words of the contracts.
+pub mod Spelling
+pub mod Refusals
+pub mod Numbers
+pub mod Characters
+pub mod Combined
+-- Laws of these words, which the formats' laws are made of.
+pub mod SpellingLaws
+pub mod NumberLaws
+pub mod CharacterLaws
+pub mod ThenLaws
+pub mod OptionLaws
+pub mod ListLaws
