@@ -2,11 +2,14 @@
 pub mod Spelling
 pub mod Refusals
 pub mod Numbers
+pub mod WholeNumbers
 pub mod Characters
 pub mod Combined
 -- Laws of these words, which the formats' laws are made of.
 pub mod SpellingLaws
 pub mod NumberLaws
+pub mod WholeNumberLaws
+pub mod BooleanLaws
 pub mod CharacterLaws
 pub mod ThenLaws
 pub mod OptionLaws

@@ -2,10 +2,15 @@
 //! and what [`read`] and [`write`] promise holds of every format.
 #![tactic(auto)]
 
+mod bit;
+mod boolean;
 mod character;
+mod constrained_number;
 mod format;
 mod items;
 mod length;
+mod never;
+mod null;
 mod number;
 mod optional;
 mod reading;
@@ -15,8 +20,12 @@ mod size;
 mod then;
 mod writing;
 
+pub use boolean::{Boolean, NoBit};
 pub use character::{Character, CharacterFault, NotInAlphabet};
+pub use constrained_number::ConstrainedNumber;
 pub use format::Format;
+pub use never::Never;
+pub use null::Null;
 pub use number::{Number, PastWidth, Short};
 pub use optional::{InOptional, Optional};
 pub use reading::read;

@@ -1,13 +1,11 @@
 //! A part that may be missing.
 
-ghost use Rattle.std.specs.Prelude.{◌≡◌, true, false, [], ◌∷◌, ◌++◌, OnOk, OnErr, IfSome, IfNone};
-ghost use Rattle.asn1_bits.specs.BitReader.{bits_left};
-
+use crate::bit::{next_bit, push_bit};
 use crate::format::Format;
 use crate::length::sum_of;
 use crate::refusal::Refusal;
 use asn1_values::{BitBuffer, BitReader};
-use std::alloc::{AllocError, Global};
+use std::alloc::Global;
 
 /// A part that may be missing, behind a bit that says whether it is there: a SEQUENCE whose only OPTIONAL component is
 /// its first (X.691 18.2).
@@ -112,26 +110,4 @@ impl<A: Format> Format for Optional<A> {
     ghost names_fault = { λ f. maybe_names_fault (A.spells f.part) (A.is_fault f.part) (A.names_fault f.part) };
 
     ghost names_misfit = { λ f. maybe_names_misfit (A.spells f.part) (A.is_misfit f.part) (A.names_misfit f.part) };
-}
-
-/// Appends the bit.
-fn push_bit(buffer: &mut BitBuffer, bit: bool) -> Result<(), AllocError>
-    ensures ok { OnOk result (buffer.new ≡ buffer.old ++ bit ∷ []) }
-    ensures err { OnErr result (buffer.new ≡ buffer.old) }
-{
-    if buffer.len() == usize::MAX {
-        return Err(AllocError);
-    }
-    buffer.push(bit)
-}
-
-/// The next bit, if there is one.
-fn next_bit(reader: &mut BitReader<'_>) -> Option<bool>
-    ensures bit { IfSome result (λ bit. bits_left reader.old ≡ bit ∷ bits_left reader.new) }
-    ensures none { IfNone result (bits_left reader.old ≡ []) }
-{
-    match reader.split(1) {
-        Ok(front) => Some(front.first_bit()),
-        Err(_) => None,
-    }
 }
