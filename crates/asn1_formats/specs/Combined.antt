@@ -1,11 +1,9 @@
 -- Spellings of values that are made of others, and what is wrong with them.
-use Rattle.std.specs.Prelude.{◌≡◌, ℕ, ◌<◌, Bool, true, false, List, [], ◌∷◌, ◌++◌, length, Option, Some, None}
+use Rattle.std.specs.Prelude.{◌≡◌, ℕ, ◌<◌, Bool, List, ◌∷◌, ◌++◌, length, Option, Some, None}
 use Rattle.asn1_values.specs.Joined.{AreJoined}
 use Rattle.asn1_formats.specs.Spelling.{Starts, Fits}
 use Rattle.asn1_formats.specs.declared.then.InThen.{InThen}
 use Rattle.asn1_formats.specs.declared.then.InThen.TheVariants.{First, Second}
-use Rattle.asn1_formats.specs.declared.optional.InOptional.{InOptional}
-use Rattle.asn1_formats.specs.declared.optional.InOptional.TheVariants.{Presence, Part}
 use Rattle.asn1_formats.specs.declared.sequence_of.InSequenceOf.{InSequenceOf}
 use Rattle.asn1_formats.specs.declared.sequence_of.InSequenceOf.TheVariants.{Size, Item}
 
@@ -36,20 +34,11 @@ abbrev pub BothMisfit : {X Y E F : Type 0} → (X → List Bool → Type 0) → 
 BothMisfit P W V v (First e) = W v.0 e
 BothMisfit P W V v (Second g) = Fits P v.0 × V v.1 g
 
--- ---- a value, or none: a bit says which
+-- ---- a value, or none
 
 abbrev pub plain_option : {X Y : Type 0} → (X → Y) → Option X → Option Y
 plain_option f None = None
 plain_option f (Some x) = Some (f x)
-
-abbrev pub Maybe : {X : Type 0} → (X → List Bool → Type 0) → Option X → List Bool → Type 0
-Maybe P None list = list ≡ false ∷ []
-Maybe P (Some x) list = (rest : List Bool) × P x rest × (list ≡ true ∷ rest)
-
--- there is no bit, or it is 1 and what follows is wrong
-abbrev pub MaybeFault : {E : Type 0} → (List Bool → E → Type 0) → List Bool → InOptional E → Type 0
-MaybeFault W list Presence = list ≡ []
-MaybeFault W list (Part e) = (rest : List Bool) × (list ≡ true ∷ rest) × W rest e
 
 abbrev pub MaybeMisfit : {X E : Type 0} → (X → E → Type 0) → Option X → E → Type 0
 MaybeMisfit W None e = ⊥

@@ -5,6 +5,7 @@ pub mod Numbers
 pub mod WholeNumbers
 pub mod Characters
 pub mod Combined
+pub mod Sequences
 -- Laws of these words, which the formats' laws are made of.
 pub mod SpellingLaws
 pub mod NumberLaws
@@ -12,5 +13,6 @@ pub mod WholeNumberLaws
 pub mod BooleanLaws
 pub mod CharacterLaws
 pub mod ThenLaws
-pub mod OptionLaws
 pub mod ListLaws
+pub mod SequenceLaws
+pub mod AndLaws

@@ -2,9 +2,11 @@
 //! and what [`read`] and [`write`] promise holds of every format.
 #![tactic(auto)]
 
+mod and;
 mod bit;
 mod boolean;
 mod character;
+mod components;
 mod constrained_number;
 mod format;
 mod items;
@@ -15,21 +17,27 @@ mod number;
 mod optional;
 mod reading;
 mod refusal;
+mod required;
+mod sequence;
 mod sequence_of;
 mod size;
 mod then;
 mod writing;
 
+pub use and::And;
 pub use boolean::{Boolean, NoBit};
 pub use character::{Character, CharacterFault, NotInAlphabet};
+pub use components::Components;
 pub use constrained_number::ConstrainedNumber;
 pub use format::Format;
 pub use never::Never;
 pub use null::Null;
 pub use number::{Number, PastWidth, Short};
-pub use optional::{InOptional, Optional};
+pub use optional::Optional;
 pub use reading::read;
 pub use refusal::{Refusal, WriteRefusal};
+pub use required::Required;
+pub use sequence::{InSequence, Sequence};
 pub use sequence_of::{InSequenceOf, SequenceOf};
 pub use size::{Size, SizeFault, SizeMisfit};
 pub use then::{InThen, Then};
