@@ -6,6 +6,7 @@ pub mod WholeNumbers
 pub mod Characters
 pub mod Combined
 pub mod Sequences
+pub mod Choices
 -- Laws of these words, which the formats' laws are made of.
 pub mod SpellingLaws
 pub mod NumberLaws
@@ -16,3 +17,4 @@ pub mod ThenLaws
 pub mod ListLaws
 pub mod SequenceLaws
 pub mod AndLaws
+pub mod ChoiceLaws

@@ -1,6 +1,6 @@
 //! Reading by any format.
 
-ghost use Rattle.std.specs.Prelude.{◌≡◌, Bool, List, Err, OnErr, IfOk, IfErr, IsOk, IsOkUnless};
+ghost use Rattle.std.specs.Prelude.{◌≡◌, Bool, List, Err, ◌++◌, OnErr, IfOk, IfErr, IsOk, IsOkUnless};
 ghost use Rattle.asn1_bits.specs.BitReader.{view_left, bits_left};
 ghost use Rattle.asn1_formats.specs.Spelling.{Starts, CanRead};
 ghost use Rattle.asn1_formats.specs.Refusals.{IsRefusal};
@@ -23,6 +23,9 @@ pub fn read<F: Format>(
     // It begins with a spelling of no other value, and in no other way.
     ensures only { (y : F.Plain) (rest : List Bool) → Starts (F.spells format.now) (bits_left reader.old) y rest
         → IfOk result (λ x. (F.plain x ≡ y) × (bits_left reader.new ≡ rest)) }
+    // The value's spelling is the front that was read.
+    ensures front { IfOk result (λ x. (list : List Bool) → F.spells format.now (F.plain x) list
+        → bits_left reader.old ≡ list ++ bits_left reader.new) }
     // Where it begins with a spelling, only memory can be wanting, and nothing where the values own none.
     ensures accepted { CanRead (F.spells format.now) (bits_left reader.old) → IsOkUnless result Refusal.Memory }
     ensures free { F.owns_nothing format.now → CanRead (F.spells format.now) (bits_left reader.old) → IsOk result }

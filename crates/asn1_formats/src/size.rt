@@ -142,6 +142,13 @@ impl Format for Size {
 impl Size {
     ghost use Rattle.asn1_formats.specs.Numbers.{IsSize, IsSizeFault};
 
+    /// The greatest number.
+    pub(crate) fn most(&self) -> u64
+        ensures { result ≡ self.now.most }
+    {
+        self.most
+    }
+
     /// Appends the digits of the distance.
     fn push_distance(&self, buffer: &mut BitBuffer, distance: u64) -> Result<(), AllocError>
         ensures ok { OnOk result
