@@ -12,7 +12,7 @@ use std::alloc::Global;
 
 /// CHOICE: the place of the alternative that was chosen, in as few bits as all places need, and then its value
 /// (X.691 22). The alternatives are in the order of their tags, without an extension marker.
-#[derive(Debug)]
+#[derive(Debug, Drop)]
 pub struct Choice<A: Alternatives> {
     alternatives: A,
     index: Size,
