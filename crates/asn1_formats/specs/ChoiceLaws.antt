@@ -6,11 +6,11 @@ use Rattle.asn1_formats.specs.declared.choice.InChoice.TheVariants.{Index, Alter
 use Rattle.asn1_formats.specs.declared.one_of.OneOf.{OneOf}
 use Rattle.asn1_formats.specs.declared.one_of.OneOf.TheVariants.{First, Other}
 use Rattle.asn1_formats.specs.Spelling.{Starts, CanRead, Fits, Measures, IsLength, IsSumOf, IsWritten, ReadsOne, SpellsOne, NamesFault, NamesMisfit}
-use Rattle.asn1_formats.specs.Choices.{At, IsChoice, ChoiceFault, place_of, OneSpells, OneFault, OneMisfit}
+use Rattle.asn1_formats.specs.Choices.{At, Numbered, ChoiceFault, place_of, OneSpells, OneFault, OneMisfit}
 use Rattle.asn1_formats.specs.SequenceLaws.{narrow_reads_one, narrow_names_fault}
 
 module _ {X : Type 0} (C : ℕ → List Bool → Type 0) (place : X → ℕ) (P : X → List Bool → Type 0) where
-  apart : (list : List Bool) (x : X) (rest : List Bool) → Starts (IsChoice C place P) list x rest
+  pub apart : (list : List Bool) (x : X) (rest : List Bool) → Starts (Numbered C place P) list x rest
       → (mid : List Bool) × Starts C list (place x) mid × Starts (At place P (place x)) mid x rest
   apart list x rest s = (
     s.spelled.rest ++ rest,
@@ -27,9 +27,9 @@ module _ {X : Type 0} (C : ℕ → List Bool → Type 0) (place : X → ℕ) (P 
     },
   )
 
-  pub choice_starts : (list mid rest : List Bool) (k : ℕ) (x : X) → Starts C list k mid
-      → Starts (At place P k) mid x rest → Starts (IsChoice C place P) list x rest
-  choice_starts list mid rest k x s t = record {
+  pub numbered_starts : (list mid rest : List Bool) (k : ℕ) (x : X) → Starts C list k mid
+      → Starts (At place P k) mid x rest → Starts (Numbered C place P) list x rest
+  numbered_starts list mid rest k x s t = record {
     front = s.front ++ t.front;
     spelled = record {
       front = s.front;
@@ -41,9 +41,9 @@ module _ {X : Type 0} (C : ℕ → List Bool → Type 0) (place : X → ℕ) (P 
     parts = s.parts ∙ ap (λ (l : List Bool). s.front ++ l) t.parts ∙ sym (append_assoc s.front t.front rest);
   }
 
-  pub choice_written : (x : X) (k : ℕ) (old mid new : List Bool) → place x ≡ k → IsWritten C k old mid → IsWritten P x mid new
-      → IsWritten (IsChoice C place P) x old new
-  choice_written x k old mid new e s t = record {
+  pub numbered_written : (x : X) (k : ℕ) (old mid new : List Bool) → place x ≡ k → IsWritten C k old mid → IsWritten P x mid new
+      → IsWritten (Numbered C place P) x old new
+  numbered_written x k old mid new e s t = record {
     list = s.list ++ t.list;
     spelled = record {
       front = s.list;
@@ -55,9 +55,9 @@ module _ {X : Type 0} (C : ℕ → List Bool → Type 0) (place : X → ℕ) (P 
     parts = t.parts ∙ ap (λ (l : List Bool). l ++ t.list) s.parts ∙ append_assoc old s.list t.list;
   }
 
-  pub choice_measured : (x : X) (k : ℕ) (a b c : Option ℕ) → place x ≡ k → Measures C k a → Measures P x b → IsSumOf a b c
-      → Measures (IsChoice C place P) x c
-  choice_measured x k a b c e s t sum = record {
+  pub numbered_measured : (x : X) (k : ℕ) (a b c : Option ℕ) → place x ≡ k → Measures C k a → Measures P x b → IsSumOf a b c
+      → Measures (Numbered C place P) x c
+  numbered_measured x k a b c e s t sum = record {
     list = s.list ++ t.list;
     spelled = record {
       front = s.list;
@@ -70,8 +70,8 @@ module _ {X : Type 0} (C : ℕ → List Bool → Type 0) (place : X → ℕ) (P 
         (sum (length s.list) (length t.list) s.size t.size);
   }
 
-  pub choice_reads_one : ReadsOne C → ((k : ℕ) → ReadsOne (At place P k)) → ReadsOne (IsChoice C place P)
-  choice_reads_one c one = record {
+  pub numbered_reads_one : ReadsOne C → ((k : ℕ) → ReadsOne (At place P k)) → ReadsOne (Numbered C place P)
+  numbered_reads_one c one = record {
     one = λ list x y rest other s t.
         let a = apart list x rest s in
         let b = apart list y other t in
@@ -82,22 +82,22 @@ module _ {X : Type 0} (C : ℕ → List Bool → Type 0) (place : X → ℕ) (P 
         (subst (λ (k : ℕ). Starts (At place P k) b.0 x rest) e.0 moved) b.2;
   }
 
-  pub choice_spells_one : SpellsOne C → SpellsOne P → SpellsOne (IsChoice C place P)
-  choice_spells_one c one = record {
+  pub numbered_spells_one : SpellsOne C → SpellsOne P → SpellsOne (Numbered C place P)
+  numbered_spells_one c one = record {
     one = λ x a b s t.
         s.parts ∙ ap (λ (l : List Bool). l ++ s.rest) (c.one (place x) s.front t.front s.first t.first)
         ∙ ap (λ (l : List Bool). t.front ++ l) (one.one x s.rest t.rest s.second t.second) ∙ sym t.parts;
   }
 
-  pub choice_names_misfit : {E : Type 0} → (W : X → E → Type 0) → NamesMisfit P W → NamesMisfit (IsChoice C place P) W
-  choice_names_misfit W names = record {
+  pub numbered_names_misfit : {E : Type 0} → (W : X → E → Type 0) → NamesMisfit P W → NamesMisfit (Numbered C place P) W
+  numbered_names_misfit W names = record {
     wrong = λ x e p f. names.wrong x e p (record { list = f.spelled.rest; spelled = f.spelled.second });
     one = names.one;
   }
 
   module _ {E F : Type 0} (V : List Bool → E → Type 0) (W : ℕ → List Bool → F → Type 0) (c : ReadsOne C)
       (index : NamesFault C V) (names : (k : ℕ) → NamesFault (At place P k) (W k)) where
-    wrong : (list : List Bool) (e : InChoice E F) → ChoiceFault C V W list e → CanRead (IsChoice C place P) list → ⊥
+    wrong : (list : List Bool) (e : InChoice E F) → ChoiceFault C V W list e → CanRead (Numbered C place P) list → ⊥
     wrong list (Index e) p can =
         let a = apart list can.value can.rest can.starts in
         index.wrong list e p (record { value = place can.value; rest = a.0; starts = a.1 })
@@ -124,7 +124,7 @@ module _ {X : Type 0} (C : ℕ → List Bool → Type 0) (place : X → ℕ) (P 
         ap (λ (x : F). Alternative x)
         ((names q.value).one q.rest e g (subst (λ (k : ℕ). W k q.rest e) same.0 there) q.holds)
 
-    pub choice_names_fault : NamesFault (IsChoice C place P) (λ list e. ChoiceFault C V W list e)
+    pub choice_names_fault : NamesFault (Numbered C place P) (λ list e. ChoiceFault C V W list e)
     choice_names_fault = record { wrong = wrong; one = one_fault }
 
 -- ---- the last alternative

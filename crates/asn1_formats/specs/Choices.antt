@@ -12,8 +12,8 @@ pub record At {X : Type 0} (place : X → ℕ) (P : X → List Bool → Type 0) 
   pub at : place x ≡ k
   pub spelled : P x list
 
--- the place of the alternative, and then the value
-pub record IsChoice {X : Type 0} (C : ℕ → List Bool → Type 0) (place : X → ℕ) (P : X → List Bool → Type 0) (x : X) (list : List Bool) : Type 0 where
+-- the number of x, and then x: the place of its alternative, or how many octets it has
+pub record Numbered {X : Type 0} (C : ℕ → List Bool → Type 0) (place : X → ℕ) (P : X → List Bool → Type 0) (x : X) (list : List Bool) : Type 0 where
   pub front : List Bool
   pub rest : List Bool
   pub first : C (place x) front

@@ -7,6 +7,7 @@ pub mod Characters
 pub mod Combined
 pub mod Sequences
 pub mod Choices
+pub mod OctetStrings
 -- Laws of these words, which the formats' laws are made of.
 pub mod SpellingLaws
 pub mod NumberLaws
@@ -18,3 +19,4 @@ pub mod ListLaws
 pub mod SequenceLaws
 pub mod AndLaws
 pub mod ChoiceLaws
+pub mod OctetStringLaws

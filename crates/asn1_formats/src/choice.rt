@@ -72,8 +72,8 @@ impl<A: Alternatives> Choice<A> {
 impl<A: Alternatives> Format for Choice<A> {
     ghost use Rattle.asn1_formats.specs.Numbers.{IsSize, IsSizeFault};
     ghost use Rattle.asn1_formats.specs.NumberLaws.{size_reads_one, size_spells_one, size_names_fault};
-    ghost use Rattle.asn1_formats.specs.Choices.{IsChoice, ChoiceFault};
-    ghost use Rattle.asn1_formats.specs.ChoiceLaws.{choice_reads_one, choice_spells_one, choice_names_fault, choice_names_misfit};
+    ghost use Rattle.asn1_formats.specs.Choices.{Numbered, ChoiceFault};
+    ghost use Rattle.asn1_formats.specs.ChoiceLaws.{numbered_reads_one, numbered_spells_one, choice_names_fault, numbered_names_misfit};
 
     type Value = A::Value;
 
@@ -86,7 +86,7 @@ impl<A: Alternatives> Format for Choice<A> {
     ghost plain = { λ v. A.plain v };
 
     ghost spells = { λ f v list.
-        IsChoice (IsSize f.index.least f.index.most) (A.place f.alternatives) (A.spells f.alternatives) v list };
+        Numbered (IsSize f.index.least f.index.most) (A.place f.alternatives) (A.spells f.alternatives) v list };
 
     ghost is_fault = { λ f list e.
         ChoiceFault (IsSize f.index.least f.index.most) (IsSizeFault f.index.least f.index.most)
@@ -146,11 +146,11 @@ impl<A: Alternatives> Format for Choice<A> {
     }
 
     ghost reads_one = { λ f.
-        choice_reads_one (IsSize f.index.least f.index.most) (A.place f.alternatives) (A.spells f.alternatives)
+        numbered_reads_one (IsSize f.index.least f.index.most) (A.place f.alternatives) (A.spells f.alternatives)
         (size_reads_one f.index.least f.index.most) (A.reads_one f.alternatives) };
 
     ghost spells_one = { λ f.
-        choice_spells_one (IsSize f.index.least f.index.most) (A.place f.alternatives) (A.spells f.alternatives)
+        numbered_spells_one (IsSize f.index.least f.index.most) (A.place f.alternatives) (A.spells f.alternatives)
         (size_spells_one f.index.least f.index.most) (A.spells_one f.alternatives) };
 
     ghost names_fault = { λ f.
@@ -160,6 +160,6 @@ impl<A: Alternatives> Format for Choice<A> {
         (A.names_fault f.alternatives) };
 
     ghost names_misfit = { λ f.
-        choice_names_misfit (IsSize f.index.least f.index.most) (A.place f.alternatives) (A.spells f.alternatives)
+        numbered_names_misfit (IsSize f.index.least f.index.most) (A.place f.alternatives) (A.spells f.alternatives)
         (A.is_misfit f.alternatives) (A.names_misfit f.alternatives) };
 }
