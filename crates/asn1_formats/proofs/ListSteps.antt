@@ -5,7 +5,7 @@ use Rattle.std.proofs.Math.Seq.{drop-cons}
 use Rattle.asn1_values.specs.Joined.{AreJoined}
 use Rattle.asn1_formats.specs.Spelling.{Starts, Fits, IsWritten, Measures, IsSumOf}
 use Rattle.asn1_formats.specs.Combined.{AreCounted, SoMany, ItemMisfit}
-use Rattle.asn1_formats.specs.ListLaws.{written_snoc, fits_snoc, measured_snoc, count_starts}
+use Rattle.asn1_formats.specs.ListLaws.{written_snoc, measured_snoc, count_starts}
 
 module _ {X Y F : Type 0} (P : Y → List Bool → Type 0) (W : Y → F → Type 0) (f : X → Y) (xs : List X) (i : ℕ) (x : X)
     (within : i < length xs) (is : x ≡ get_or xs i x) where
@@ -15,10 +15,6 @@ module _ {X Y F : Type 0} (P : Y → List Bool → Type 0) (W : Y → F → Type
   pub written_step : (old mid new : List Bool) → IsWritten (λ ys l. AreJoined P ys l) (map f (take i xs)) old mid
       → IsWritten P (f x) mid new → IsWritten (λ ys l. AreJoined P ys l) (map f (take (i + 1) xs)) old new
   written_step old mid new p q = rw more (written_snoc P (map f (take i xs)) (f x) old mid new p q)
-
-  pub fits_step : Fits (λ ys l. AreJoined P ys l) (map f (take i xs)) → Fits P (f x)
-      → Fits (λ ys l. AreJoined P ys l) (map f (take (i + 1) xs))
-  fits_step p q = rw more (fits_snoc P (map f (take i xs)) (f x) p q)
 
   pub measured_step : (a b c : Option ℕ) → Measures (λ ys l. AreJoined P ys l) (map f (take i xs)) a → Measures P (f x) b
       → IsSumOf a b c → Measures (λ ys l. AreJoined P ys l) (map f (take (i + 1) xs)) c

@@ -5,7 +5,7 @@ use Rattle.asn1_formats.specs.declared.choice.InChoice.{InChoice}
 use Rattle.asn1_formats.specs.declared.choice.InChoice.TheVariants.{Index, Alternative}
 use Rattle.asn1_formats.specs.declared.one_of.OneOf.{OneOf}
 use Rattle.asn1_formats.specs.declared.one_of.OneOf.TheVariants.{First, Other}
-use Rattle.asn1_formats.specs.Spelling.{Starts, CanRead, Fits, Measures, IsLength, IsSumOf, IsWritten, ReadsOne, SpellsOne, NamesFault, NamesMisfit}
+use Rattle.asn1_formats.specs.Spelling.{Starts, CanRead, Fits, Measures, IsLength, IsSumOf, ReadsOne, SpellsOne, NamesFault, NamesMisfit}
 use Rattle.asn1_formats.specs.Choices.{At, Numbered, ChoiceFault, place_of, OneSpells, OneFault, OneMisfit}
 use Rattle.asn1_formats.specs.SequenceLaws.{narrow_reads_one, narrow_names_fault}
 
@@ -39,20 +39,6 @@ module _ {X : Type 0} (C : ℕ → List Bool → Type 0) (place : X → ℕ) (P 
       parts = refl;
     };
     parts = s.parts ∙ ap (λ (l : List Bool). s.front ++ l) t.parts ∙ sym (append_assoc s.front t.front rest);
-  }
-
-  pub numbered_written : (x : X) (k : ℕ) (old mid new : List Bool) → place x ≡ k → IsWritten C k old mid → IsWritten P x mid new
-      → IsWritten (Numbered C place P) x old new
-  numbered_written x k old mid new e s t = record {
-    list = s.list ++ t.list;
-    spelled = record {
-      front = s.list;
-      rest = t.list;
-      first = subst (λ (j : ℕ). C j s.list) (sym e) s.spelled;
-      second = t.spelled;
-      parts = refl;
-    };
-    parts = t.parts ∙ ap (λ (l : List Bool). l ++ t.list) s.parts ∙ append_assoc old s.list t.list;
   }
 
   pub numbered_measured : (x : X) (k : ℕ) (a b c : Option ℕ) → place x ≡ k → Measures C k a → Measures P x b → IsSumOf a b c
@@ -133,14 +119,6 @@ pub last_below : 0 < 1
 last_below = omega arith
 
 module _ {X : Type 0} (P : X → List Bool → Type 0) (k : ℕ) where
-  pub last_at : k < 1 → (list : List Bool) (x : X) (rest : List Bool) → Starts P list x rest
-      → Starts (At (λ y. 0) P k) list x rest
-  last_at lt list x rest s = record {
-    front = s.front;
-    spelled = record { at = let e : 0 ≡ k = omega arith in e; spelled = s.spelled };
-    parts = s.parts;
-  }
-
   last : (list : List Bool) (x : X) (rest : List Bool) → Starts (At (λ y. 0) P k) list x rest → Starts P list x rest
   last list x rest s = record { front = s.front; spelled = s.spelled.spelled; parts = s.parts }
 

@@ -13,7 +13,7 @@ module _ {X : Type 0} (P : X → List Bool → Type 0) where
   J xs l = AreJoined P xs l
 
   -- the first of several, and the others behind it
-  pub uncons : (x : X) (xs : List X) (list rest : List Bool) → Starts J list (x ∷ xs) rest
+  uncons : (x : X) (xs : List X) (list rest : List Bool) → Starts J list (x ∷ xs) rest
       → (mid : List Bool) × Starts P list x mid × Starts J mid xs rest
   uncons x xs list rest s = (
     s.spelled.1 ++ rest,
@@ -27,9 +27,6 @@ module _ {X : Type 0} (P : X → List Bool → Type 0) where
 
   empty : (list rest : List Bool) → Starts J list [] rest → list ≡ rest
   empty list rest s = s.parts ∙ ap (λ (l : List Bool). l ++ rest) s.spelled
-
-  pub none_start : (list : List Bool) → Starts J list [] list
-  none_start list = record { front = []; spelled = refl; parts = refl }
 
   -- one more behind several
   joined_snoc : (xs : List X) (x : X) (a b : List Bool) → J xs a → P x b → J (xs ++ x ∷ []) (a ++ b)
@@ -46,7 +43,7 @@ module _ {X : Type 0} (P : X → List Bool → Type 0) where
     ap (λ (l : List Bool). l ++ b) p.4 ∙ append_assoc p.0 p.1 b,
   )
 
-  pub starts_snoc : (xs : List X) (x : X) (list mid rest : List Bool) → Starts J list xs mid → Starts P mid x rest
+  starts_snoc : (xs : List X) (x : X) (list mid rest : List Bool) → Starts J list xs mid → Starts P mid x rest
       → Starts J list (xs ++ x ∷ []) rest
   starts_snoc xs x list mid rest s t = record {
     front = s.front ++ t.front;
@@ -62,9 +59,6 @@ module _ {X : Type 0} (P : X → List Bool → Type 0) where
     parts = t.parts ∙ ap (λ (l : List Bool). l ++ t.list) s.parts ∙ append_assoc old s.list t.list;
   }
 
-  pub fits_snoc : (xs : List X) (x : X) → Fits J xs → Fits P x → Fits J (xs ++ x ∷ [])
-  fits_snoc xs x s t = record { list = s.list ++ t.list; spelled = joined_snoc xs x s.list t.list s.spelled t.spelled }
-
   pub measured_snoc : (xs : List X) (x : X) (a b c : Option ℕ) → Measures J xs a → Measures P x b → IsSumOf a b c
       → Measures J (xs ++ x ∷ []) c
   measured_snoc xs x a b c s t sum = record {
@@ -79,14 +73,14 @@ module _ {X : Type 0} (P : X → List Bool → Type 0) where
   item_fits [] x after list p = record { list = p.0; spelled = p.2 }
   item_fits (y ∷ before) x after list p = item_fits before x after p.1 p.3
 
-  pub joined_spells_one : SpellsOne P → (xs : List X) (a b : List Bool) → J xs a → J xs b → a ≡ b
+  joined_spells_one : SpellsOne P → (xs : List X) (a b : List Bool) → J xs a → J xs b → a ≡ b
   joined_spells_one one [] a b p q = p ∙ sym q
   joined_spells_one one (x ∷ xs) a b p q =
       p.4 ∙ ap (λ (l : List Bool). l ++ p.1) (one.one x p.0 q.0 p.2 q.2)
       ∙ ap (λ (l : List Bool). q.0 ++ l) (joined_spells_one one xs p.1 q.1 p.3 q.3) ∙ sym q.4
 
   -- as many values are one list of values
-  pub joined_reads_one : ReadsOne P → (xs ys : List X) (list rest other : List Bool) → length xs ≡ length ys
+  joined_reads_one : ReadsOne P → (xs ys : List X) (list rest other : List Bool) → length xs ≡ length ys
       → Starts J list xs rest → Starts J list ys other → (xs ≡ ys) × (rest ≡ other)
   joined_reads_one one [] [] list rest other n s t = (refl, sym (empty list rest s) ∙ empty list other t)
   joined_reads_one one [] (y ∷ ys) list rest other n s t = absurd (omega arith)
@@ -101,7 +95,7 @@ module _ {X : Type 0} (P : X → List Bool → Type 0) where
       (ap (λ (v : X). v ∷ xs) e.0 ∙ ap (λ (vs : List X). y ∷ vs) f.0, f.1)
 
   -- where more values can be read, one can be read behind fewer
-  pub joined_reach : ReadsOne P → (ys xs : List X) (list rest other : List Bool) → length ys < length xs
+  joined_reach : ReadsOne P → (ys xs : List X) (list rest other : List Bool) → length ys < length xs
       → Starts J list xs rest → Starts J list ys other → CanRead P other
   joined_reach one [] [] list rest other n s t = absurd (omega arith)
   joined_reach one [] (x ∷ xs) list rest other n s t =
@@ -115,11 +109,7 @@ module _ {X : Type 0} (P : X → List Bool → Type 0) where
       let m : length ys < length xs = omega arith in
       joined_reach one ys xs b.0 rest other m (subst (λ (l : List Bool). Starts J l xs rest) e.1 a.2) b.2
 
--- so many values, none and one more
 module _ {X : Type 0} (P : X → List Bool → Type 0) where
-  pub no_more : (list : List Bool) → Starts (λ ys l. SoMany P 0 ys l) list [] list
-  no_more list = record { front = []; spelled = (refl, refl); parts = refl }
-
   pub many_snoc : (n : ℕ) (xs : List X) (x : X) (list mid rest : List Bool) → Starts (λ ys l. SoMany P n ys l) list xs mid
       → Starts P mid x rest → Starts (λ ys l. SoMany P (n + 1) ys l) list (xs ++ x ∷ []) rest
   many_snoc n xs x list mid rest s t =
@@ -135,7 +125,7 @@ module _ {X : Type 0} (P : X → List Bool → Type 0) where
 
 module _ {X : Type 0} (C : ℕ → List Bool → Type 0) (P : X → List Bool → Type 0) where
   -- the number, and the values behind it
-  pub uncount : (xs : List X) (list rest : List Bool) → Starts (λ v l. AreCounted C P v l) list xs rest
+  uncount : (xs : List X) (list rest : List Bool) → Starts (λ v l. AreCounted C P v l) list xs rest
       → (mid : List Bool) × Starts C list (length xs) mid × Starts (λ ys l. AreJoined P ys l) mid xs rest
   uncount xs list rest s = (
     s.spelled.rest ++ rest,
@@ -162,20 +152,6 @@ module _ {X : Type 0} (C : ℕ → List Bool → Type 0) (P : X → List Bool �
     parts = s.parts ∙ ap (λ (l : List Bool). s.front ++ l) t.parts ∙ sym (append_assoc s.front t.front rest);
   }
 
-  pub count_written : (xs : List X) (n : ℕ) (old mid new : List Bool) → length xs ≡ n → IsWritten C n old mid
-      → IsWritten (λ ys l. AreJoined P ys l) xs mid new → IsWritten (λ v l. AreCounted C P v l) xs old new
-  count_written xs n old mid new e s t = record {
-    list = s.list ++ t.list;
-    spelled = record {
-      front = s.list;
-      rest = t.list;
-      first = subst (λ (k : ℕ). C k s.list) (sym e) s.spelled;
-      second = t.spelled;
-      parts = refl;
-    };
-    parts = t.parts ∙ ap (λ (l : List Bool). l ++ t.list) s.parts ∙ append_assoc old s.list t.list;
-  }
-
   pub count_measured : (xs : List X) (n : ℕ) (a b c : Option ℕ) → length xs ≡ n → Measures C n a
       → Measures (λ ys l. AreJoined P ys l) xs b → IsSumOf a b c → Measures (λ v l. AreCounted C P v l) xs c
   count_measured xs n a b c e s t sum = record {
@@ -189,19 +165,6 @@ module _ {X : Type 0} (C : ℕ → List Bool → Type 0) (P : X → List Bool �
     };
     size = subst (λ (k : ℕ). IsLength k c) (sym (length-append s.list t.list))
         (sum (length s.list) (length t.list) s.size t.size);
-  }
-
-  pub count_fits : (xs : List X) (n : ℕ) → length xs ≡ n → Fits C n → Fits (λ ys l. AreJoined P ys l) xs
-      → Fits (λ v l. AreCounted C P v l) xs
-  count_fits xs n e s t = record {
-    list = s.list ++ t.list;
-    spelled = record {
-      front = s.list;
-      rest = t.list;
-      first = subst (λ (k : ℕ). C k s.list) (sym e) s.spelled;
-      second = t.spelled;
-      parts = refl;
-    };
   }
 
   pub counted_reads_one : ReadsOne C → ReadsOne P → ReadsOne (λ v l. AreCounted C P v l)

@@ -61,7 +61,7 @@ octets_start count mid rest octets le o e =
       parts = sym (take-append-drop (8 * count) mid) ∙ ap (λ (l : List Bool). take (8 * count) mid ++ l) (sym e);
     }
 
-pub octets_at_one : (k : ℕ) → ReadsOne (At (λ x. length x) (λ x l. AreOctets x l) k)
+octets_at_one : (k : ℕ) → ReadsOne (At (λ x. length x) (λ x l. AreOctets x l) k)
 octets_at_one k = record {
   one = λ list x y rest other s t.
       let a : length x ≡ k = s.spelled.at in

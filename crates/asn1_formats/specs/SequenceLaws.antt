@@ -4,7 +4,7 @@ use Rattle.std.proofs.lemmas.List.{length-append}
 use Rattle.std.proofs.Math.Seq.{drop-append_seam}
 use Rattle.asn1_formats.specs.declared.sequence.InSequence.{InSequence}
 use Rattle.asn1_formats.specs.declared.sequence.InSequence.TheVariants.{Presence, Component}
-use Rattle.asn1_formats.specs.Spelling.{Starts, CanRead, Fits, Measures, IsLength, IsSumOf, IsWritten, ReadsOne, SpellsOne, NamesFault, NamesMisfit}
+use Rattle.asn1_formats.specs.Spelling.{Starts, CanRead, Fits, Measures, IsLength, IsSumOf, ReadsOne, SpellsOne, NamesFault, NamesMisfit}
 use Rattle.asn1_formats.specs.Combined.{MaybeMisfit}
 use Rattle.asn1_formats.specs.Sequences.{Behind, IsSequence, SequenceFault, presence_bit, IfThere, IfThereFault}
 
@@ -33,7 +33,7 @@ module _ {X : Type 0} (pres : X → List Bool) (count : ℕ) (size : (x : X) →
       ap (λ (l : List Bool). drop count l) e
       ∙ ap (λ (n : ℕ). drop n (pres x ++ more)) (sym (size x)) ∙ drop-append_seam (pres x) more
 
-  pub has_presence : (x : X) (list more : List Bool) → list ≡ pres x ++ more → count ≤ length list
+  has_presence : (x : X) (list more : List Bool) → list ≡ pres x ++ more → count ≤ length list
   has_presence x list more e =
       let l : length list ≡ length (pres x) + length more = ap length e ∙ length-append (pres x) more in
       let n : length (pres x) ≡ count = size x in
@@ -66,14 +66,6 @@ module _ {X : Type 0} (pres : X → List Bool) (P : X → List Bool → Type 0) 
         parts = s.spelled.shown ∙ ap (λ (l : List Bool). pres x ++ l) (sym past ∙ s.parts)
             ∙ sym (append_assoc (pres x) s.front rest);
       }
-
-  pub sequence_written : (x : X) (old mid new : List Bool) → mid ≡ old ++ pres x → IsWritten P x mid new
-      → IsWritten (IsSequence pres P) x old new
-  sequence_written x old mid new e p = record {
-    list = pres x ++ p.list;
-    spelled = record { contents = p.list; spelled = p.spelled; parts = refl };
-    parts = p.parts ∙ ap (λ (l : List Bool). l ++ p.list) e ∙ append_assoc old (pres x) p.list;
-  }
 
   pub sequence_measured : (x : X) (a b c : Option ℕ) → IsLength count a → Measures P x b → IsSumOf a b c
       → Measures (IsSequence pres P) x c
@@ -130,11 +122,6 @@ module _ {X : Type 0} (pres : X → List Bool) (P : X → List Bool → Type 0) 
 -- ---- a component that is always there
 
 module _ {X : Type 0} (P : X → List Bool → Type 0) (p : List Bool) where
-  pub behind_nothing : (list : List Bool) (x : X) (rest : List Bool) → Starts P list x rest
-      → Starts (Behind (λ y. []) P p) list x rest
-  behind_nothing list x rest s =
-      record { front = s.front; spelled = record { more = p; shown = refl; spelled = s.spelled }; parts = s.parts }
-
   pub alone : (list : List Bool) (x : X) (rest : List Bool) → Starts (Behind (λ y. []) P p) list x rest
       → Starts P list x rest
   alone list x rest s = record { front = s.front; spelled = s.spelled.spelled; parts = s.parts }
@@ -156,9 +143,6 @@ presence_size (Some x) = refl
 module _ {X : Type 0} (P : X → List Bool → Type 0) (p : List Bool) where
   abbrev B : Option X → List Bool → Type 0
   B x l = Behind (λ y. presence_bit y) (λ y m. IfThere P y m) p x l
-
-  pub absent : (list more : List Bool) → p ≡ false ∷ more → Starts B list None list
-  absent list more e = record { front = []; spelled = record { more = more; shown = e; spelled = refl }; parts = refl }
 
   pub present : (list : List Bool) (x : X) (rest more : List Bool) → p ≡ true ∷ more → Starts P list x rest
       → Starts B list (Some x) rest

@@ -5,7 +5,7 @@ use Rattle.std.proofs.Math.Seq.{take-append_seam, drop-append_seam}
 use Rattle.asn1_bits.specs.Bits.{digits, number}
 use Rattle.asn1_bits.specs.DigitLaws.{length-digits}
 use Rattle.asn1_bits.specs.NumberLaws.{number_of-digits}
-use Rattle.asn1_formats.specs.Spelling.{Starts, CanRead, Fits, Measures, IsLength, IsSumOf, IsWritten, ReadsOne, SpellsOne}
+use Rattle.asn1_formats.specs.Spelling.{Starts, CanRead, Fits, Measures, IsLength, IsSumOf, ReadsOne, SpellsOne}
 use Rattle.asn1_formats.specs.Numbers.{IsNumber, IsShort}
 use Rattle.asn1_formats.specs.Combined.{Both, After}
 
@@ -65,14 +65,6 @@ module _ {X Y : Type 0} (P : X → List Bool → Type 0) (Q : Y → List Bool �
     parts = p.parts ∙ ap (λ (l : List Bool). p.front ++ l) q.parts ∙ sym (append_assoc p.front q.front rest);
   }
 
-  pub written_both : (x : X) (y : Y) (old mid new : List Bool) → IsWritten P x old mid → IsWritten Q y mid new
-      → IsWritten (λ w l. Both P Q w l) (x, y) old new
-  written_both x y old mid new p q = record {
-    list = p.list ++ q.list;
-    spelled = record { front = p.list; rest = q.list; first = p.spelled; second = q.spelled; parts = refl };
-    parts = q.parts ∙ ap (λ (l : List Bool). l ++ q.list) p.parts ∙ append_assoc old p.list q.list;
-  }
-
   pub measured_both : (x : X) (y : Y) (a b c : Option ℕ) → Measures P x a → Measures Q y b → IsSumOf a b c
       → Measures (λ w l. Both P Q w l) (x, y) c
   measured_both x y a b c p q sum = record {
@@ -80,12 +72,6 @@ module _ {X Y : Type 0} (P : X → List Bool → Type 0) (Q : Y → List Bool �
     spelled = record { front = p.list; rest = q.list; first = p.spelled; second = q.spelled; parts = refl };
     size = subst (λ (n : ℕ). IsLength n c) (sym (length-append p.list q.list))
         (sum (length p.list) (length q.list) p.size q.size);
-  }
-
-  pub fits_both : (x : X) (y : Y) → Fits P x → Fits Q y → Fits (λ w l. Both P Q w l) (x, y)
-  fits_both x y p q = record {
-    list = p.list ++ q.list;
-    spelled = record { front = p.list; rest = q.list; first = p.spelled; second = q.spelled; parts = refl };
   }
 
   pub fits_first : (v : X × Y) → Fits (λ w l. Both P Q w l) v → Fits P v.0

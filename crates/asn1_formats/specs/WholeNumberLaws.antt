@@ -1,9 +1,9 @@
 -- Laws of whole numbers.
-use Rattle.std.proofs.Common.{◌≡◌, ℕ, ℤ, pos, ◌+ℤ◌, ◌≤◌, List, Bool, Option, refl, sym, ap, ◌∙◌, subst, arith}
+use Rattle.std.proofs.Common.{◌≡◌, ℕ, ℤ, pos, ◌+ℤ◌, ◌≤◌, List, Bool, refl, sym, ap, ◌∙◌, subst, arith}
 use Rattle.std.proofs.lemmas.Int.{ints}
 use Rattle.asn1_formats.specs.declared.size.SizeMisfit.{SizeMisfit}
 use Rattle.asn1_formats.specs.declared.size.SizeMisfit.TheVariants.{BelowLeast, AboveMost}
-use Rattle.asn1_formats.specs.Spelling.{Starts, Fits, Measures, IsWritten, ReadsOne, SpellsOne, NamesFault, NamesMisfit}
+use Rattle.asn1_formats.specs.Spelling.{Starts, Fits, ReadsOne, SpellsOne, NamesFault, NamesMisfit}
 use Rattle.asn1_formats.specs.Numbers.{IsSize, IsSizeFault}
 use Rattle.asn1_formats.specs.NumberLaws.{size_reads_one, size_spells_one, size_names_fault}
 use Rattle.asn1_formats.specs.WholeNumbers.{IsConstrained, IsConstrainedFault, IsConstrainedMisfit}
@@ -85,20 +85,4 @@ module _ (least most : ℤ) where
     front = s.front;
     spelled = record { reach = reach; whole = e; distance = d; place = refl; spelled = s.spelled };
     parts = s.parts;
-  }
-
-  pub constrained_measured : (reach : ℕ) → most ≡ least +ℤ pos reach → (n : ℤ) (d : ℕ) → n ≡ least +ℤ pos d
-      → (len : Option ℕ) → Measures (IsSize 0 reach) d len → Measures (IsConstrained least most) n len
-  constrained_measured reach e n d place len p = record {
-    list = p.list;
-    spelled = record { reach = reach; whole = e; distance = d; place = place; spelled = p.spelled };
-    size = p.size;
-  }
-
-  pub constrained_written : (reach : ℕ) → most ≡ least +ℤ pos reach → (n : ℤ) (d : ℕ) → n ≡ least +ℤ pos d
-      → (old new : List Bool) → IsWritten (IsSize 0 reach) d old new → IsWritten (IsConstrained least most) n old new
-  constrained_written reach e n d place old new p = record {
-    list = p.list;
-    spelled = record { reach = reach; whole = e; distance = d; place = place; spelled = p.spelled };
-    parts = p.parts;
   }
