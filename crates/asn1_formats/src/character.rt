@@ -1,6 +1,6 @@
 //! Characters by their codes.
 
-ghost use Rattle.std.specs.Prelude.{◌≡◌, ◌≢◌, ℕ, ⊤, IfSome};
+ghost use Rattle.std.specs.Prelude.{◌≡◌, ◌≢◌, ℕ, ⊤, IfSome, IfNone};
 ghost use Rattle.std.specs.List.{AllPairs};
 ghost use Rattle.asn1_strings.specs.AlphabetView.{alphabet_of};
 
@@ -34,7 +34,8 @@ pub struct Character<'s> {
 impl<'s> Character<'s> {
     /// The characters of the alphabet. None where it gives a character two codes.
     pub fn new(alphabet: CharacterAlphabet<'s>) -> Option<Character<'s>>
-        ensures { IfSome result (λ f. alphabet_of f.alphabet ≡ alphabet_of alphabet.entry) }
+        ensures some { IfSome result (λ f. alphabet_of f.alphabet ≡ alphabet_of alphabet.entry) }
+        ensures none { IfNone result (¬ (AllPairs (λ a b. a ≢ b) (alphabet_of alphabet.entry).characters)) }
     {
         if alphabet.repeats() {
             return None;

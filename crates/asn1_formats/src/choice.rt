@@ -30,14 +30,13 @@ pub enum InChoice<E, F> {
 }
 
 impl<A: Alternatives> Choice<A> {
-    ghost use Rattle.std.specs.Prelude.{IfSome, IfErr, IfOk, OnOk, OnErr, ◌≡◌, ◌-◌, ◌<◌};
-    ghost use Rattle.asn1_bits.specs.BitReader.{bits_left};
-    ghost use Rattle.asn1_formats.specs.Spelling.{Starts, Measures, IsWritten};
-    ghost use Rattle.asn1_formats.specs.Numbers.{IsSize, IsSizeFault};
+    ghost use Rattle.std.specs.Prelude.{IfErr, IfOk, IsOk, ◌<◌, ◌^◌};
 
-    /// The choice among the alternatives. The alternatives are given back where `usize` can't count them.
+    /// The choice among the alternatives. They are given back where there are none, or where `usize` can't count them.
     pub fn new(alternatives: A) -> Result<Choice<A>, A>
-        ensures { IfOk result (λ f. f.alternatives ≡ alternatives) }
+        ensures same { IfOk result (λ f. f.alternatives ≡ alternatives) }
+        ensures accepted { 0 < A.count alternatives → A.count alternatives < 2 ^ 64 → IsOk result }
+        ensures back { IfErr result (λ a. a ≡ alternatives) }
     {
         match alternatives.alternative_count() {
             Some(count) => {
