@@ -1,0 +1,21 @@
+use Rattle.std.proofs.Common.{List, Bool, subst}
+use Rattle.asn1_bits.specs.BitReader.{bits_left}
+use Rattle.asn1_formats.specs.Spelling.{Starts}
+use Rattle.asn1_formats.specs.Sequences.{Behind}
+use Rattle.asn1_formats.specs.SequenceLaws.{sequence_starts}
+use Rattle.asn1_formats.proofs.sequence.SequenceFormat.skip.Goals as goal
+
+pub returns-in-Ok-skip-clause-skipped : goal.returns-in-Ok-skip-clause-skipped
+returns-in-Ok-skip-clause-skipped g c =
+    let f = c.args.self.now in
+    let list = bits_left c.args.reader.now in
+    let p = c.in-Ok-skip.ensures.skipped in
+    let rest = bits_left c.skip.new.reader in (
+      p.0,
+      sequence_starts (g.C.Components.presence_of f.components) (g.C.Components.spells f.components)
+          (g.C.Components.count f.components) (g.met.C.Components.as_many f.components) list p.0 rest
+          (subst
+          (λ (start : List Bool). Starts (Behind (g.C.Components.presence_of f.components)
+          (g.C.Components.spells f.components) list) start p.0 rest)
+          c.in-Ok.ensures.rest p.1),
+    )

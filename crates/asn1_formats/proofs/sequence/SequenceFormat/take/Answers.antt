@@ -1,0 +1,19 @@
+use Rattle.std.proofs.Common.{List, Bool, subst}
+use Rattle.asn1_bits.specs.BitReader.{bits_left}
+use Rattle.asn1_formats.specs.Spelling.{Starts}
+use Rattle.asn1_formats.specs.Sequences.{Behind}
+use Rattle.asn1_formats.specs.SequenceLaws.{sequence_starts}
+use Rattle.asn1_formats.proofs.sequence.SequenceFormat.take.Goals as goal
+
+pub returns-in-Ok-take-clause-read : goal.returns-in-Ok-take-clause-read
+returns-in-Ok-take-clause-read g c =
+    let f = c.args.self.now in
+    let list = bits_left c.args.reader.now in
+    let x = g.C.Components.plain c.in-Ok-take.value in
+    let rest = bits_left c.take.new.reader in
+    sequence_starts (g.C.Components.presence_of f.components) (g.C.Components.spells f.components)
+    (g.C.Components.count f.components) (g.met.C.Components.as_many f.components) list x rest
+    (subst
+    (λ (start : List Bool). Starts (Behind (g.C.Components.presence_of f.components) (g.C.Components.spells f.components)
+    list) start x rest)
+    c.in-Ok.ensures.rest c.in-Ok-take.ensures.read)

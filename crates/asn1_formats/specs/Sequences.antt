@@ -1,0 +1,43 @@
+-- SEQUENCE: presence bits of all optional components together in front, and then the components that are there
+-- (X.691 18.2). `pres` gives the presence bits of a value, as many of each.
+use Rattle.std.specs.Prelude.{◌≡◌, ℕ, ◌<◌, ◌≤◌, Bool, true, false, List, [], ◌∷◌, ◌++◌, length, drop, Option, Some, None}
+use Rattle.asn1_formats.specs.declared.sequence.InSequence.{InSequence}
+use Rattle.asn1_formats.specs.declared.sequence.InSequence.TheVariants.{Presence, Component}
+
+-- the bits p begin with the presence bits of x, and list spells its components
+pub record Behind {X : Type 0} (pres : X → List Bool) (P : X → List Bool → Type 0) (p : List Bool) (x : X) (list : List Bool) : Type 0 where
+  pub more : List Bool
+  pub shown : p ≡ pres x ++ more
+  pub spelled : P x list
+
+-- the presence bits, and then the components
+pub record IsSequence {X : Type 0} (pres : X → List Bool) (P : X → List Bool → Type 0) (x : X) (list : List Bool) : Type 0 where
+  pub contents : List Bool
+  pub spelled : P x contents
+  pub parts : list ≡ pres x ++ contents
+
+-- presence bits are missing, or a component is wrong behind them
+abbrev pub SequenceFault : {E : Type 0} → ℕ → (List Bool → List Bool → E → Type 0) → List Bool → InSequence E → Type 0
+SequenceFault count W list Presence = length list < count
+SequenceFault count W list (Component e) = (count ≤ length list) × W list (drop count list) e
+
+-- ---- an optional component
+
+abbrev pub presence_bit : {X : Type 0} → Option X → List Bool
+presence_bit None = false ∷ []
+presence_bit (Some x) = true ∷ []
+
+-- nothing, where there is no value
+abbrev pub IfThere : {X : Type 0} → (X → List Bool → Type 0) → Option X → List Bool → Type 0
+IfThere P None list = list ≡ []
+IfThere P (Some x) list = P x list
+
+-- the presence bit is 1, and what follows is wrong
+abbrev pub IfThereFault : {E : Type 0} → (List Bool → E → Type 0) → List Bool → List Bool → E → Type 0
+IfThereFault W p list e = (more : List Bool) × (p ≡ true ∷ more) × W list e
+
+-- ---- components one after another
+
+-- the presence bits of the first, and those of the second behind them
+abbrev pub both_presence : {X Y : Type 0} → (X → List Bool) → (Y → List Bool) → X × Y → List Bool
+both_presence a b v = a v.0 ++ b v.1

@@ -1,0 +1,72 @@
+//! BOOLEAN.
+
+use crate::bit::{next_bit, push_bit};
+use crate::format::Format;
+use crate::never::Never;
+use crate::refusal::Refusal;
+use asn1_values::{BitBuffer, BitReader};
+use std::alloc::Global;
+
+/// BOOLEAN: one bit, 1 for true (X.691 11).
+#[derive(Clone, Copy, Debug)]
+pub struct Boolean {}
+
+/// The bit is missing.
+#[derive(Clone, Copy, Debug, PartialEq, Eq)]
+pub struct NoBit {}
+
+impl Format for Boolean {
+    ghost use Rattle.std.specs.Prelude.{◌≡◌, Bool, [], ◌∷◌, ⊤};
+    ghost use Rattle.asn1_formats.specs.BooleanLaws.{boolean_reads_one, boolean_spells_one, boolean_names_fault, boolean_names_misfit};
+
+    type Value = bool;
+
+    type Fault = NoBit;
+
+    type Misfit = Never;
+
+    ghost Plain = { Bool };
+
+    ghost plain = { λ b. b };
+
+    ghost spells = { λ f b list. list ≡ b ∷ [] };
+
+    ghost is_fault = { λ f list e. list ≡ [] };
+
+    ghost is_misfit = { λ f b e. ⊥ };
+
+    ghost owns_nothing = { λ f. ⊤ };
+
+    fn append(&self, buffer: &mut BitBuffer, value: &bool) -> Result<(), Refusal<Never>> {
+        match push_bit(buffer, *value) {
+            Ok(()) => Ok(()),
+            Err(_) => Err(Refusal::Memory),
+        }
+    }
+
+    fn measure(&self, _value: &bool) -> Result<Option<usize>, Never> {
+        Ok(Some(1))
+    }
+
+    fn take(&self, _alloc: Global, reader: &mut BitReader<'_>) -> Result<bool, Refusal<NoBit>> {
+        match next_bit(reader) {
+            Some(bit) => Ok(bit),
+            None => Err(Refusal::Wrong(NoBit {})),
+        }
+    }
+
+    fn skip(&self, reader: &mut BitReader<'_>) -> Result<(), NoBit> {
+        match next_bit(reader) {
+            Some(_) => Ok(()),
+            None => Err(NoBit {}),
+        }
+    }
+
+    ghost reads_one = { λ f. boolean_reads_one };
+
+    ghost spells_one = { λ f. boolean_spells_one };
+
+    ghost names_fault = { λ f. boolean_names_fault };
+
+    ghost names_misfit = { λ f. boolean_names_misfit };
+}

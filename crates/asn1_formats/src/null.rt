@@ -1,0 +1,58 @@
+//! NULL.
+
+use crate::format::Format;
+use crate::never::Never;
+use crate::refusal::Refusal;
+use asn1_values::{BitBuffer, BitReader};
+use std::alloc::Global;
+
+/// NULL: one value, and no bits (X.691 17).
+#[derive(Clone, Copy, Debug)]
+pub struct Null {}
+
+impl Format for Null {
+    ghost use Rattle.std.specs.Prelude.{◌≡◌, [], ⊤};
+    ghost use Rattle.asn1_formats.specs.BooleanLaws.{null_reads_one, null_spells_one, null_names_fault, null_names_misfit};
+
+    type Value = ();
+
+    type Fault = Never;
+
+    type Misfit = Never;
+
+    ghost Plain = { ⊤ };
+
+    ghost plain = { λ v. tt };
+
+    ghost spells = { λ f v list. list ≡ [] };
+
+    ghost is_fault = { λ f list e. ⊥ };
+
+    ghost is_misfit = { λ f v e. ⊥ };
+
+    ghost owns_nothing = { λ f. ⊤ };
+
+    fn append(&self, _buffer: &mut BitBuffer, _value: &()) -> Result<(), Refusal<Never>> {
+        Ok(())
+    }
+
+    fn measure(&self, _value: &()) -> Result<Option<usize>, Never> {
+        Ok(Some(0))
+    }
+
+    fn take(&self, _alloc: Global, _reader: &mut BitReader<'_>) -> Result<(), Refusal<Never>> {
+        Ok(())
+    }
+
+    fn skip(&self, _reader: &mut BitReader<'_>) -> Result<(), Never> {
+        Ok(())
+    }
+
+    ghost reads_one = { λ f. null_reads_one };
+
+    ghost spells_one = { λ f. null_spells_one };
+
+    ghost names_fault = { λ f. null_names_fault };
+
+    ghost names_misfit = { λ f. null_names_misfit };
+}

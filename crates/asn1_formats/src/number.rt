@@ -1,0 +1,148 @@
+//! Numbers of so many bits.
+
+ghost use Rattle.std.specs.Prelude.{◌≡◌, ℕ, ◌^◌, ◌<◌, ◌≤◌, ◌++◌, ⊤, OnOk, OnErr, IfOk, IfErr, IsTrue, ◌↔◌};
+ghost use Rattle.asn1_bits.specs.Bits.{digits};
+ghost use Rattle.asn1_bits.specs.BitReader.{bits_left};
+ghost use Rattle.asn1_formats.specs.Spelling.{Starts};
+ghost use Rattle.asn1_formats.specs.Numbers.{IsNumber, IsShort};
+
+use crate::format::Format;
+use crate::refusal::Refusal;
+use asn1_values::{BitBuffer, BitReader};
+use std::alloc::{AllocError, Global};
+
+/// The bits end too early.
+#[derive(Clone, Copy, Debug, PartialEq, Eq)]
+pub struct Short {
+    /// So many bits are missing.
+    pub missing: usize,
+}
+
+/// The number is too large for its bits.
+#[derive(Clone, Copy, Debug, PartialEq, Eq)]
+pub struct PastWidth {}
+
+/// The whole numbers that so many bits hold, at most 64: their binary digits, the highest first (X.691 10.3).
+#[derive(Clone, Copy, Debug)]
+pub struct Number {
+    width: usize,
+    ghost narrow: { width ≤ 64 },
+}
+
+impl Number {
+    /// The numbers from 0 to 2 to the `width`, that one not included. `width` is at most 64 bits.
+    pub fn new(width: usize) -> Number
+        requires { width ≤ 64 }
+        ensures { result.width ≡ width }
+    {
+        Number { width }
+    }
+}
+
+impl Format for Number {
+    ghost use Rattle.asn1_formats.specs.SpellingLaws.{number_reads_one, number_spells_one};
+    ghost use Rattle.asn1_formats.specs.NumberLaws.{number_names_fault, number_names_misfit};
+
+    type Value = u64;
+
+    type Fault = Short;
+
+    type Misfit = PastWidth;
+
+    ghost Plain = { ℕ };
+
+    ghost plain = { λ n. n };
+
+    ghost spells = { λ f n list. IsNumber f.width n list };
+
+    ghost is_fault = { λ f list e. IsShort f.width list e.missing };
+
+    ghost is_misfit = { λ f n e. 2 ^ f.width ≤ n };
+
+    ghost owns_nothing = { λ f. ⊤ };
+
+    fn append(&self, buffer: &mut BitBuffer, value: &u64) -> Result<(), Refusal<PastWidth>> {
+        if !fits(*value, self.width) {
+            return Err(Refusal::Wrong(PastWidth {}));
+        }
+        match push(buffer, *value, self.width) {
+            Ok(()) => Ok(()),
+            Err(_) => Err(Refusal::Memory),
+        }
+    }
+
+    fn measure(&self, value: &u64) -> Result<Option<usize>, PastWidth> {
+        if !fits(*value, self.width) {
+            return Err(PastWidth {});
+        }
+        Ok(Some(self.width))
+    }
+
+    fn take(&self, _alloc: Global, reader: &mut BitReader<'_>) -> Result<u64, Refusal<Short>> {
+        match next(reader, self.width) {
+            Ok(value) => Ok(value),
+            Err(short) => Err(Refusal::Wrong(short)),
+        }
+    }
+
+    fn skip(&self, reader: &mut BitReader<'_>) -> Result<(), Short> {
+        next(reader, self.width)?;
+        Ok(())
+    }
+
+    ghost reads_one = { λ f. number_reads_one f.width };
+
+    ghost spells_one = { λ f. number_spells_one f.width };
+
+    ghost names_fault = { λ f. number_names_fault f.width };
+
+    ghost names_misfit = { λ f. number_names_misfit f.width };
+}
+
+/// Whether so many bits hold the number.
+pub(crate) fn fits(value: u64, width: usize) -> bool
+    requires { width ≤ 64 }
+    ensures { IsTrue result ↔ (value < 2 ^ width) }
+{
+    width >= 64 || value < 1 << width
+}
+
+/// Appends the number's digits.
+pub(crate) fn push(buffer: &mut BitBuffer, value: u64, width: usize) -> Result<(), AllocError>
+    requires { width ≤ 64 }
+    ensures ok { OnOk result (buffer.new ≡ buffer.old ++ digits value width) }
+    ensures err { OnErr result (buffer.new ≡ buffer.old) }
+{
+    if buffer.len() > usize::MAX - width {
+        return Err(AllocError);
+    }
+    buffer.push_bits(value as u128, width)
+}
+
+/// The number of the next bits.
+pub(crate) fn next(reader: &mut BitReader<'_>, width: usize) -> Result<u64, Short>
+    requires { width ≤ 64 }
+    ensures read { IfOk result (λ x. Starts (IsNumber width) (bits_left reader.old) x (bits_left reader.new)) }
+    ensures short { IfErr result (λ e. IsShort width (bits_left reader.old) e.missing) }
+{
+    let Ok(front) = reader.split(width) else {
+        return Err(Short {
+            missing: width - reader.len(),
+        });
+    };
+    Ok(front.first_u128(width) as u64)
+}
+
+/// The number of the next bits.
+pub(crate) fn next32(reader: &mut BitReader<'_>, width: usize) -> Result<u32, Short>
+    requires { width ≤ 32 }
+    ensures read { IfOk result (λ x. Starts (IsNumber width) (bits_left reader.old) x (bits_left reader.new)) }
+    ensures short { IfErr result (λ e. IsShort width (bits_left reader.old) e.missing) }
+{
+    let Ok(front) = reader.split(width) else {
+        return Err(Short {
+            missing: width - reader.len(),
+        });
+    };
+    Ok(front.first_bits(width))
+}

@@ -1,0 +1,173 @@
+//! OCTET STRING.
+
+ghost use Rattle.std.specs.Prelude.{◌≡◌, ℕ, ◌*◌, ◌+◌, ◌<◌, ◌≤◌, ◌%◌, ◌++◌, All, length, take, drop, OnOk, OnErr, IfOk, IfErr};
+ghost use Rattle.asn1_bits.specs.Bits.{bits};
+ghost use Rattle.asn1_bits.specs.BitReader.{view_left, bits_left};
+ghost use Rattle.asn1_formats.specs.Spelling.{IsLength};
+ghost use Rattle.asn1_formats.specs.Numbers.{IsShort};
+
+use crate::format::Format;
+use crate::length::sum_of;
+use crate::refusal::Refusal;
+use crate::size::{Size, SizeFault, SizeMisfit};
+use asn1_values::{BitBuffer, BitReader, extend_vec_from_bitslice};
+use std::alloc::{AllocError, Global};
+
+/// OCTET STRING with a SIZE: the number of its octets, and then the octets (X.691 16). Where one size alone is allowed, its
+/// number has no bits.
+#[derive(Clone, Copy, Debug)]
+pub struct OctetString {
+    /// How many octets there may be.
+    pub size: Size,
+}
+
+/// What is wrong with the bits of an OCTET STRING.
+#[derive(Clone, Copy, Debug, PartialEq, Eq, Drop)]
+pub enum InOctetString {
+    /// The number of its octets.
+    Size(SizeFault),
+    /// So many bits of its octets are missing.
+    Short { missing: u128 },
+}
+
+/// How many bits so many octets have, `None` where `usize` can't count them.
+fn bit_count(octets: usize) -> Option<usize>
+    ensures { IsLength (8 * octets) result }
+{
+    if octets > usize::MAX / 8 {
+        return None;
+    }
+    Some(8 * octets)
+}
+
+/// Octets are below 256. It does nothing.
+fn are_octets(octets: &[u8])
+    ensures { All (λ octet. octet < 256) octets.now }
+{}
+
+/// Appends the octets' digits.
+fn push_octets(buffer: &mut BitBuffer, octets: &[u8]) -> Result<(), AllocError>
+    ensures ok { OnOk result (buffer.new ≡ buffer.old ++ bits octets.now) }
+    ensures err { OnErr result (buffer.new ≡ buffer.old) }
+    ensures octets { All (λ octet. octet < 256) octets.now }
+{
+    are_octets(octets);
+    if octets.len() > (usize::MAX - buffer.len()) / 8 {
+        return Err(AllocError);
+    }
+    buffer.extend_from_bytes(octets)
+}
+
+/// The bits of so many octets; or how many are missing.
+fn next_octets<'a>(reader: &mut BitReader<'a>, count: u64) -> Result<BitReader<'a>, u128>
+    ensures enough { OnOk result (8 * count ≤ length (bits_left reader.old)) }
+    ensures front { IfOk result (λ r. bits_left r ≡ take (8 * count) (bits_left reader.old)) }
+    ensures len { IfOk result (λ r. (view_left r).len % 8 ≡ 0) }
+    ensures rest { OnOk result (bits_left reader.new ≡ drop (8 * count) (bits_left reader.old)) }
+    ensures short { IfErr result (λ missing. IsShort (8 * count) (bits_left reader.old) missing) }
+{
+    let need = 8 * count as u128;
+    let left = reader.len() as u128;
+    if left < need {
+        return Err(need - left);
+    }
+    match reader.split(need as usize) {
+        Ok(front) => Ok(front),
+        Err(_) => unreachable!(),
+    }
+}
+
+/// The octets of the bits, which are whole octets.
+fn octets_of(alloc: Global, front: BitReader<'_>) -> Result<Vec<u8>, AllocError>
+    requires { (view_left front).len % 8 ≡ 0 }
+    ensures octets { IfOk result (λ v. All (λ octet. octet < 256) v.items) }
+    ensures spelled { IfOk result (λ v. bits_left front.entry ≡ bits v.items) }
+{
+    let mut octets = Vec::new(alloc);
+    extend_vec_from_bitslice(&mut octets, front.bits())?;
+    Ok(octets)
+}
+
+impl Format for OctetString {
+    ghost use Rattle.std.specs.Prelude.{List};
+    ghost use Rattle.asn1_formats.specs.Numbers.{IsSizeMisfit};
+    ghost use Rattle.asn1_formats.specs.OctetStrings.{IsOctetString, OctetStringFault};
+    ghost use Rattle.asn1_formats.specs.OctetStringLaws.{octet_string_reads_one, octet_string_spells_one, octet_string_names_fault, octet_string_names_misfit};
+
+    type Value = Vec<u8>;
+
+    type Fault = InOctetString;
+
+    type Misfit = SizeMisfit;
+
+    ghost Plain = { List ℕ };
+
+    ghost plain = { λ v. v.items };
+
+    ghost spells = { λ f x list. IsOctetString f.size.least f.size.most x list };
+
+    ghost is_fault = { λ f list e. OctetStringFault f.size.least f.size.most list e };
+
+    ghost is_misfit = { λ f x e. IsSizeMisfit f.size.least f.size.most (length x) e };
+
+    ghost owns_nothing = { λ f. ⊥ };
+
+    fn append(&self, buffer: &mut BitBuffer, value: &Vec<u8>) -> Result<(), Refusal<SizeMisfit>> {
+        let count = value.len() as u64;
+        match self.size.append(buffer, &count) {
+            Ok(()) => {}
+            Err(Refusal::Wrong(e)) => return Err(Refusal::Wrong(e)),
+            Err(Refusal::Memory) => return Err(Refusal::Memory),
+        }
+        match push_octets(buffer, value.as_slice()) {
+            Ok(()) => Ok(()),
+            Err(_) => Err(Refusal::Memory),
+        }
+    }
+
+    fn measure(&self, value: &Vec<u8>) -> Result<Option<usize>, SizeMisfit> {
+        are_octets(value.as_slice());
+        let count = value.len() as u64;
+        match self.size.measure(&count) {
+            Ok(front) => Ok(sum_of(front, bit_count(value.len()))),
+            Err(e) => Err(e),
+        }
+    }
+
+    fn take(
+        &self,
+        alloc: Global,
+        reader: &mut BitReader<'_>,
+    ) -> Result<Vec<u8>, Refusal<InOctetString>> {
+        let count = match self.size.next_in(reader) {
+            Ok(count) => count,
+            Err(e) => return Err(Refusal::Wrong(InOctetString::Size(e))),
+        };
+        match next_octets(reader, count) {
+            Ok(front) => match octets_of(alloc, front) {
+                Ok(octets) => Ok(octets),
+                Err(_) => Err(Refusal::Memory),
+            },
+            Err(missing) => Err(Refusal::Wrong(InOctetString::Short { missing })),
+        }
+    }
+
+    fn skip(&self, reader: &mut BitReader<'_>) -> Result<(), InOctetString> {
+        let count = match self.size.next_in(reader) {
+            Ok(count) => count,
+            Err(e) => return Err(InOctetString::Size(e)),
+        };
+        match next_octets(reader, count) {
+            Ok(_) => Ok(()),
+            Err(missing) => Err(InOctetString::Short { missing }),
+        }
+    }
+
+    ghost reads_one = { λ f. octet_string_reads_one f.size.least f.size.most };
+
+    ghost spells_one = { λ f. octet_string_spells_one f.size.least f.size.most };
+
+    ghost names_fault = { λ f. octet_string_names_fault f.size.least f.size.most };
+
+    ghost names_misfit = { λ f. octet_string_names_misfit f.size.least f.size.most f.size.ordered };
+}

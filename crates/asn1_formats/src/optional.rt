@@ -1,0 +1,121 @@
+//! A component that may be missing.
+
+use crate::bit::{next_bit, push_bit};
+use crate::components::Components;
+use crate::format::Format;
+use crate::refusal::Refusal;
+use asn1_values::{BitBuffer, BitReader};
+use std::alloc::{AllocError, Global};
+
+/// OPTIONAL: a component that may be missing, with a presence bit (X.691 18.2).
+#[derive(Clone, Copy, Debug)]
+pub struct Optional<A> {
+    /// What it is, where it is there.
+    pub part: A,
+}
+
+impl<A: Format> Components for Optional<A> {
+    ghost use Rattle.std.specs.Prelude.{Option};
+    ghost use Rattle.asn1_formats.specs.Combined.{plain_option, MaybeMisfit};
+    ghost use Rattle.asn1_formats.specs.Sequences.{presence_bit, IfThere, IfThereFault};
+    ghost use Rattle.asn1_formats.specs.SequenceLaws.{presence_size, optional_reads_one, optional_spells_one, optional_names_fault, optional_names_misfit};
+
+    type Value = Option<A::Value>;
+
+    type Fault = A::Fault;
+
+    type Misfit = A::Misfit;
+
+    ghost Plain = { Option A.Plain };
+
+    ghost plain = { λ v. plain_option A.plain v };
+
+    ghost count = { λ f. 1 };
+
+    ghost presence_of = { λ f x. presence_bit x };
+
+    ghost spells = { λ f x list. IfThere (A.spells f.part) x list };
+
+    ghost is_fault = { λ f p list e. IfThereFault (A.is_fault f.part) p list e };
+
+    ghost is_misfit = { λ f x e. MaybeMisfit (A.is_misfit f.part) x e };
+
+    ghost owns_nothing = { λ f. A.owns_nothing f.part };
+
+    fn optional_count(&self) -> Option<usize> {
+        Some(1)
+    }
+
+    fn append_presence(
+        &self,
+        buffer: &mut BitBuffer,
+        value: &Option<A::Value>,
+    ) -> Result<(), AllocError> {
+        match value {
+            None => push_bit(buffer, false),
+            Some(_) => push_bit(buffer, true),
+        }
+    }
+
+    fn append(
+        &self,
+        buffer: &mut BitBuffer,
+        value: &Option<A::Value>,
+    ) -> Result<(), Refusal<A::Misfit>> {
+        match value {
+            None => Ok(()),
+            Some(part) => self.part.append(buffer, part),
+        }
+    }
+
+    fn measure(&self, value: &Option<A::Value>) -> Result<Option<usize>, A::Misfit> {
+        match value {
+            None => Ok(Some(0)),
+            Some(part) => self.part.measure(part),
+        }
+    }
+
+    fn take(
+        &self,
+        alloc: Global,
+        presence: &mut BitReader<'_>,
+        reader: &mut BitReader<'_>,
+    ) -> Result<Option<A::Value>, Refusal<A::Fault>> {
+        match next_bit(presence) {
+            None => unreachable!(),
+            Some(false) => Ok(None),
+            Some(true) => match self.part.take(alloc, reader) {
+                Ok(part) => Ok(Some(part)),
+                Err(Refusal::Wrong(e)) => Err(Refusal::Wrong(e)),
+                Err(Refusal::Memory) => Err(Refusal::Memory),
+            },
+        }
+    }
+
+    fn skip(
+        &self,
+        presence: &mut BitReader<'_>,
+        reader: &mut BitReader<'_>,
+    ) -> Result<(), A::Fault> {
+        match next_bit(presence) {
+            None => unreachable!(),
+            Some(false) => Ok(()),
+            Some(true) => match self.part.skip(reader) {
+                Ok(()) => Ok(()),
+                Err(e) => Err(e),
+            },
+        }
+    }
+
+    ghost as_many = { λ f x. presence_size x };
+
+    ghost reads_one = { λ f p. optional_reads_one (A.spells f.part) p (A.reads_one f.part) };
+
+    ghost spells_one = { λ f. optional_spells_one (A.spells f.part) (A.spells_one f.part) };
+
+    ghost names_fault = { λ f p.
+        optional_names_fault (A.spells f.part) p (A.is_fault f.part) (A.names_fault f.part) };
+
+    ghost names_misfit = { λ f.
+        optional_names_misfit (A.spells f.part) (A.is_misfit f.part) (A.names_misfit f.part) };
+}

@@ -1,0 +1,20 @@
+//! Tests of formats, and a message whose reader and writer are calls: no proof is written here.
+#![tactic(auto)]
+
+#[cfg(test)]
+mod calls;
+#[cfg(test)]
+mod choices;
+mod message;
+#[cfg(test)]
+mod messages;
+#[cfg(test)]
+mod octets;
+#[cfg(test)]
+mod parts;
+#[cfg(test)]
+mod strings;
+
+pub use message::{
+    Message, Pair, Values, copy, copy_message, message_format, read_message, write_message,
+};

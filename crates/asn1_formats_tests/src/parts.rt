@@ -1,0 +1,85 @@
+//! Each format alone: octets worked by hand behind three ones, and what is refused.
+
+use super::calls::{found, written};
+use asn1_formats::{
+    Boolean, ConstrainedNumber, NoBit, Null, Number, PastWidth, Refusal, Short, Size, SizeFault,
+    SizeMisfit, WriteRefusal,
+};
+use std::test::Fail;
+
+#[test]
+fn numbers_of_so_many_bits(rt: HostRuntime) -> Result<(), Fail> {
+    let format = Number::new(6);
+    let buffer = written(&format, rt.alloc(), &0b100101)?;
+    // 111 100101
+    assert_eq!(rt; buffer.len(), 9);
+    assert_eq!(rt; buffer.as_bytes(), [0xF2, 0x80].as_slice());
+    assert_eq!(rt;
+        found(&format, rt.alloc(), &[0xF2, 0x80], 3)?,
+        (0b100101, 7)
+    );
+    assert_eq!(rt;
+        written(&format, rt.alloc(), &64).err(),
+        Some(WriteRefusal::Wrong(PastWidth {}))
+    );
+    assert_eq!(rt;
+        found(&format, rt.alloc(), &[0xF2], 3).err(),
+        Some(Refusal::Wrong(Short { missing: 1 }))
+    );
+    let widest = Number::new(64);
+    let buffer = written(&widest, rt.alloc(), &u64::MAX)?;
+    assert_eq!(rt; buffer.len(), 67);
+    Ok(())
+}
+
+#[test]
+fn numbers_from_a_least_one_on(rt: HostRuntime) -> Result<(), Fail> {
+    // -5 to 5 are eleven numbers, so the distance has four bits; -2 lies 3 above.
+    let format = ConstrainedNumber::new(-5, 5);
+    let buffer = written(&format, rt.alloc(), &-2)?;
+    assert_eq!(rt; buffer.len(), 7);
+    assert_eq!(rt; buffer.as_bytes(), [0b1110_0110].as_slice());
+    assert_eq!(rt; found(&format, rt.alloc(), &[0b1110_0110], 3)?, (-2, 1));
+    assert_eq!(rt;
+        written(&format, rt.alloc(), &-6).err(),
+        Some(WriteRefusal::Wrong(SizeMisfit::BelowLeast))
+    );
+    assert_eq!(rt;
+        written(&format, rt.alloc(), &6).err(),
+        Some(WriteRefusal::Wrong(SizeMisfit::AboveMost))
+    );
+    assert_eq!(rt;
+        found(&format, rt.alloc(), &[0b1111_0110], 3).err(),
+        Some(Refusal::Wrong(SizeFault::PastMost { distance: 11 }))
+    );
+    let whole = ConstrainedNumber::new(i64::MIN, i64::MAX);
+    let buffer = written(&whole, rt.alloc(), &i64::MAX)?;
+    assert_eq!(rt; buffer.len(), 67);
+    Ok(())
+}
+
+#[test]
+fn one_number_has_no_bits(rt: HostRuntime) -> Result<(), Fail> {
+    let format = Size::new(9, 9);
+    let buffer = written(&format, rt.alloc(), &9)?;
+    assert_eq!(rt; buffer.len(), 3);
+    assert_eq!(rt; found(&format, rt.alloc(), &[], 0)?, (9, 0));
+    Ok(())
+}
+
+#[test]
+fn truth_and_nothing(rt: HostRuntime) -> Result<(), Fail> {
+    let buffer = written(&Boolean {}, rt.alloc(), &true)?;
+    assert_eq!(rt; buffer.as_bytes(), [0xF0].as_slice());
+    let buffer = written(&Boolean {}, rt.alloc(), &false)?;
+    assert_eq!(rt; buffer.as_bytes(), [0xE0].as_slice());
+    assert_eq!(rt; found(&Boolean {}, rt.alloc(), &[0x10], 3)?, (true, 4));
+    assert_eq!(rt;
+        found(&Boolean {}, rt.alloc(), &[], 0).err(),
+        Some(Refusal::Wrong(NoBit {}))
+    );
+    let buffer = written(&Null {}, rt.alloc(), &())?;
+    assert_eq!(rt; buffer.len(), 3);
+    assert_eq!(rt; found(&Null {}, rt.alloc(), &[], 0)?, ((), 0));
+    Ok(())
+}
