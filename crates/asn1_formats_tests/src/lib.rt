@@ -5,6 +5,7 @@
 mod calls;
 #[cfg(test)]
 mod choices;
+mod line;
 mod message;
 #[cfg(test)]
 mod messages;
@@ -15,6 +16,7 @@ mod parts;
 #[cfg(test)]
 mod strings;
 
+pub use line::{Drawing, Point, drawing_format, point_format, points_format};
 pub use message::{
     Message, Pair, Values, copy, copy_message, message_format, read_message, write_message,
 };
