@@ -1,4 +1,4 @@
--- CHOICE: the place of the alternative that was chosen, and then its value (X.691 22). `place` gives the place of a
+-- CHOICE: the place of the alternative that was chosen, and then its value (X.691 23). `place` gives the place of a
 -- value's alternative, from 0 on.
 use Rattle.std.specs.Prelude.{◌≡◌, ℕ, ◌+◌, ◌-◌, ◌<◌, Bool, List, ◌++◌}
 use Rattle.asn1_formats.specs.declared.choice.InChoice.{InChoice}

@@ -8,7 +8,7 @@ use Rattle.asn1_formats.specs.declared.size.SizeMisfit.{SizeMisfit}
 use Rattle.asn1_formats.specs.declared.size.SizeMisfit.TheVariants.{BelowLeast, AboveMost}
 use Rattle.asn1_formats.specs.Spelling.{Starts}
 
--- the binary digits of a number that they hold (X.691 10.3)
+-- the binary digits of a number that they hold (X.691 11.3)
 abbrev pub IsNumber : ℕ → ℕ → List Bool → Type 0
 IsNumber width n list = (n < 2 ^ width) × (list ≡ digits n width)
 
@@ -16,11 +16,11 @@ IsNumber width n list = (n < 2 ^ width) × (list ≡ digits n width)
 abbrev pub IsShort : ℕ → List Bool → ℕ → Type 0
 IsShort width list missing = (0 < missing) × (length list + missing ≡ width)
 
--- the least width in which the numbers from 0 to most have spellings of their own (X.691 10.5.7.1)
+-- the least width in which the numbers from 0 to most have spellings of their own (X.691 11.5.7.1)
 unfoldable pub width_to : ℕ → ℕ
 width_to most = ceil_log2 (most + 1)
 
--- a number from least to most, by its distance from the least in the least width for all of them (X.691 10.5.6)
+-- a number from least to most, by its distance from the least in the least width for all of them (X.691 11.5.6)
 abbrev pub IsSize : ℕ → ℕ → ℕ → List Bool → Type 0
 IsSize least most n list = (least ≤ n) × (n ≤ most) × IsNumber (width_to (most - least)) (n - least) list
 

@@ -1,4 +1,4 @@
--- OCTET STRING with a SIZE: the number of its octets, and then the octets (X.691 16).
+-- OCTET STRING with a SIZE: the number of its octets, and then the octets (X.691 17).
 use Rattle.std.specs.Prelude.{◌≡◌, ℕ, ◌*◌, ◌<◌, Bool, List, All, length}
 use Rattle.asn1_bits.specs.Bits.{bits}
 use Rattle.asn1_formats.specs.declared.octet_string.InOctetString.{InOctetString}

@@ -1,5 +1,5 @@
 -- SEQUENCE: presence bits of all optional components together in front, and then the components that are there
--- (X.691 18.2). `pres` gives the presence bits of a value, as many of each.
+-- (X.691 19.2). `pres` gives the presence bits of a value, as many of each.
 use Rattle.std.specs.Prelude.{◌≡◌, ℕ, ◌<◌, ◌≤◌, Bool, true, false, List, [], ◌∷◌, ◌++◌, length, drop, Option, Some, None}
 use Rattle.asn1_formats.specs.declared.sequence.InSequence.{InSequence}
 use Rattle.asn1_formats.specs.declared.sequence.InSequence.TheVariants.{Presence, Component}

@@ -6,7 +6,7 @@ use Rattle.asn1_formats.specs.declared.size.SizeMisfit.TheVariants.{BelowLeast, 
 use Rattle.asn1_formats.specs.Numbers.{IsSize, IsSizeFault}
 
 -- a whole number from least to most, which lies `reach` above it: its distance from the least is spelled as a number from
--- 0 to the reach (X.691 10.5.6)
+-- 0 to the reach (X.691 11.5.6)
 pub record IsConstrained (least most n : ℤ) (list : List Bool) : Type 0 where
   pub reach : ℕ
   pub whole : most ≡ least +ℤ pos reach

@@ -7,7 +7,7 @@ use crate::refusal::Refusal;
 use asn1_values::{BitBuffer, BitReader};
 use std::alloc::Global;
 
-/// BOOLEAN: one bit, 1 for true (X.691 11).
+/// BOOLEAN: one bit, 1 for true (X.691 12).
 #[derive(Clone, Copy, Debug)]
 pub struct Boolean {}
 

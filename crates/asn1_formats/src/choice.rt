@@ -11,7 +11,7 @@ use asn1_values::{BitBuffer, BitReader};
 use std::alloc::Global;
 
 /// CHOICE: the place of the alternative that was chosen, in as few bits as all places need, and then its value
-/// (X.691 22). The alternatives are in the order of their tags, without an extension marker.
+/// (X.691 23). The alternatives are in the order of their tags, without an extension marker.
 #[derive(Debug, Drop)]
 pub struct Choice<A: Alternatives> {
     alternatives: A,

@@ -9,7 +9,7 @@ use asn1_values::{BitBuffer, BitReader};
 use std::alloc::Global;
 
 /// The whole numbers from a least to a greatest one: the distance from the least, in as few bits as all distances need
-/// (X.691 10.5.6).
+/// (X.691 11.5.6).
 #[derive(Clone, Copy, Debug)]
 pub struct ConstrainedNumber {
     least: i64,

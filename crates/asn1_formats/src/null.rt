@@ -6,7 +6,7 @@ use crate::refusal::Refusal;
 use asn1_values::{BitBuffer, BitReader};
 use std::alloc::Global;
 
-/// NULL: one value, and no bits (X.691 17).
+/// NULL: one value, and no bits (X.691 18).
 #[derive(Clone, Copy, Debug)]
 pub struct Null {}
 

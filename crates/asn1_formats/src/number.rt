@@ -22,7 +22,7 @@ pub struct Short {
 #[derive(Clone, Copy, Debug, PartialEq, Eq)]
 pub struct PastWidth {}
 
-/// The whole numbers that so many bits hold, at most 64: their binary digits, the highest first (X.691 10.3).
+/// The whole numbers that so many bits hold, at most 64: their binary digits, the highest first (X.691 11.3).
 #[derive(Clone, Copy, Debug)]
 pub struct Number {
     width: usize,

@@ -13,7 +13,7 @@ use crate::size::{Size, SizeFault, SizeMisfit};
 use asn1_values::{BitBuffer, BitReader, extend_vec_from_bitslice};
 use std::alloc::{AllocError, Global};
 
-/// OCTET STRING with a SIZE: the number of its octets, and then the octets (X.691 16). Where one size alone is allowed, its
+/// OCTET STRING with a SIZE: the number of its octets, and then the octets (X.691 17). Where one size alone is allowed, its
 /// number has no bits.
 #[derive(Clone, Copy, Debug)]
 pub struct OctetString {

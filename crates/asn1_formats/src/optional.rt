@@ -7,7 +7,7 @@ use crate::refusal::Refusal;
 use asn1_values::{BitBuffer, BitReader};
 use std::alloc::{AllocError, Global};
 
-/// OPTIONAL: a component that may be missing, with a presence bit (X.691 18.2).
+/// OPTIONAL: a component that may be missing, with a presence bit (X.691 19.2).
 #[derive(Clone, Copy, Debug)]
 pub struct Optional<A> {
     /// What it is, where it is there.

@@ -8,7 +8,7 @@ use asn1_values::{BitBuffer, BitReader};
 use std::alloc::Global;
 
 /// SEQUENCE: the presence bits of its optional components together in front, 1 for one that is there, and then the
-/// components (X.691 18.2).
+/// components (X.691 19.2).
 #[derive(Clone, Copy, Debug)]
 pub struct Sequence<C> {
     /// Its components.

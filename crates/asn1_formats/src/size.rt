@@ -31,7 +31,7 @@ pub enum SizeMisfit {
 }
 
 /// The natural numbers from a least to a greatest one, as a size or an index has them: the distance from the least, in as
-/// few bits as all distances need (X.691 10.5.6, 10.9.3.3).
+/// few bits as all distances need (X.691 11.5.6, 11.9.3.3).
 #[derive(Clone, Copy, Debug)]
 pub struct Size {
     least: u64,

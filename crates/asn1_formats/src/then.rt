@@ -7,7 +7,7 @@ use asn1_values::{BitBuffer, BitReader};
 use std::alloc::Global;
 
 /// One part and then another, with nothing between them, as the components of a SEQUENCE without optional ones stand
-/// (X.691 18.4).
+/// (X.691 19.4).
 #[derive(Clone, Copy, Debug)]
 pub struct Then<A, B> {
     /// The part in front.
