@@ -2,10 +2,10 @@
 
 use crate::bit::{next_bit, push_bit};
 use crate::format::Format;
-use crate::never::Never;
 use crate::refusal::Refusal;
 use asn1_values::{BitBuffer, BitReader};
 use std::alloc::Global;
+use std::convert::Infallible;
 
 /// BOOLEAN: one bit, 1 for true (X.691 12).
 #[derive(Clone, Copy, Debug)]
@@ -23,7 +23,7 @@ impl Format for Boolean {
 
     type Fault = NoBit;
 
-    type Misfit = Never;
+    type Misfit = Infallible;
 
     ghost Plain = { Bool };
 
@@ -37,14 +37,14 @@ impl Format for Boolean {
 
     ghost owns_nothing = { λ f. ⊤ };
 
-    fn append(&self, buffer: &mut BitBuffer, value: &bool) -> Result<(), Refusal<Never>> {
+    fn append(&self, buffer: &mut BitBuffer, value: &bool) -> Result<(), Refusal<Infallible>> {
         match push_bit(buffer, *value) {
             Ok(()) => Ok(()),
             Err(_) => Err(Refusal::Memory),
         }
     }
 
-    fn measure(&self, _value: &bool) -> Result<Option<usize>, Never> {
+    fn measure(&self, _value: &bool) -> Result<Option<usize>, Infallible> {
         Ok(Some(1))
     }
 

@@ -1,10 +1,10 @@
 //! NULL.
 
 use crate::format::Format;
-use crate::never::Never;
 use crate::refusal::Refusal;
 use asn1_values::{BitBuffer, BitReader};
 use std::alloc::Global;
+use std::convert::Infallible;
 
 /// NULL: one value, and no bits (X.691 18).
 #[derive(Clone, Copy, Debug)]
@@ -16,9 +16,9 @@ impl Format for Null {
 
     type Value = ();
 
-    type Fault = Never;
+    type Fault = Infallible;
 
-    type Misfit = Never;
+    type Misfit = Infallible;
 
     ghost Plain = { ⊤ };
 
@@ -32,19 +32,19 @@ impl Format for Null {
 
     ghost owns_nothing = { λ f. ⊤ };
 
-    fn append(&self, _buffer: &mut BitBuffer, _value: &()) -> Result<(), Refusal<Never>> {
+    fn append(&self, _buffer: &mut BitBuffer, _value: &()) -> Result<(), Refusal<Infallible>> {
         Ok(())
     }
 
-    fn measure(&self, _value: &()) -> Result<Option<usize>, Never> {
+    fn measure(&self, _value: &()) -> Result<Option<usize>, Infallible> {
         Ok(Some(0))
     }
 
-    fn take(&self, _alloc: Global, _reader: &mut BitReader<'_>) -> Result<(), Refusal<Never>> {
+    fn take(&self, _alloc: Global, _reader: &mut BitReader<'_>) -> Result<(), Refusal<Infallible>> {
         Ok(())
     }
 
-    fn skip(&self, _reader: &mut BitReader<'_>) -> Result<(), Never> {
+    fn skip(&self, _reader: &mut BitReader<'_>) -> Result<(), Infallible> {
         Ok(())
     }
 

@@ -4,7 +4,7 @@ ghost use Rattle.std.specs.Prelude.{ℤ};
 ghost use Rattle.std.specs.Int.{IsNonNegative};
 ghost use Rattle.asn1_integer.specs.Calls.{IsNonNegativeUnlessNative};
 
-use asn1_integer::{Integer, IntegerError, IntegerType, laws_of_wrapping};
+use asn1_integer::{Integer, IntegerBytes, IntegerError, IntegerType, laws_of_wrapping};
 use readings::read;
 use std::alloc::Global;
 use std::process::Abort;
@@ -113,39 +113,39 @@ fn sums_and_differences_stay_within_the_type(rt: HostRuntime) {
     assert_eq!(rt; difference(&0u128, &1), None);
 }
 
-/// Whether these are the octets of the number without a sign.
-fn has_residue<T: IntegerType + Drop>(number: T, octets: &[u8]) -> bool {
-    number.to_unsigned_bytes_be().as_ref() == octets
-}
-
-/// Whether these are the octets of the number with its sign.
-fn has_octets<T: IntegerType + Drop>(number: T, octets: &[u8]) -> bool {
-    number.to_signed_bytes_be().as_ref() == octets
+fn compare(rt: &impl Abort, octets: IntegerBytes<'_>, wanted: &[u8]) {
+    assert_eq!(rt; octets.as_ref(), wanted);
 }
 
 #[test]
 fn residues_have_their_shortest_octets(rt: HostRuntime) {
-    assert!(rt; has_residue(128i32, &[0x80]));
-    assert!(rt; has_residue(0u8, &[0]));
-    assert!(rt; has_residue(Integer::zero(), &[0]));
-    assert!(rt; has_residue(-1i8, &[0xFF; 1]));
-    assert!(rt; has_residue(-1i16, &[0xFF; 2]));
-    assert!(rt; has_residue(-1i32, &[0xFF; 4]));
-    assert!(rt; has_residue(-1i64, &[0xFF; 8]));
-    assert!(rt; has_residue(-1i128, &[0xFF; 16]));
-    assert!(rt; has_residue(-1isize, &[0xFF; 8]));
-    assert!(rt; has_residue(u16::MAX, &[0xFF; 2]));
-    assert!(rt; has_residue(u32::MAX, &[0xFF; 4]));
-    assert!(rt; has_residue(u64::MAX, &[0xFF; 8]));
-    assert!(rt; has_residue(usize::MAX, &[0xFF; 8]));
-    assert!(rt; has_residue(u128::MAX, &[0xFF; 16]));
+    let ones = [0xFF; 16];
+    compare(&rt, 128i32.to_unsigned_bytes_be(), &[0x80]);
+    compare(&rt, 0u8.to_unsigned_bytes_be(), &[0]);
+    compare(&rt, Integer::zero().to_unsigned_bytes_be(), &[0]);
+    compare(&rt, (-1i8).to_unsigned_bytes_be(), &ones[..1]);
+    compare(&rt, (-1i16).to_unsigned_bytes_be(), &ones[..2]);
+    compare(&rt, (-1i32).to_unsigned_bytes_be(), &ones[..4]);
+    compare(&rt, (-1i64).to_unsigned_bytes_be(), &ones[..8]);
+    compare(&rt, (-1i128).to_unsigned_bytes_be(), &ones);
+}
+
+#[test]
+fn residues_of_the_largest_numbers_are_all_ones(rt: HostRuntime) {
+    let ones = [0xFF; 16];
+    compare(&rt, (-1isize).to_unsigned_bytes_be(), &ones[..8]);
+    compare(&rt, u16::MAX.to_unsigned_bytes_be(), &ones[..2]);
+    compare(&rt, u32::MAX.to_unsigned_bytes_be(), &ones[..4]);
+    compare(&rt, u64::MAX.to_unsigned_bytes_be(), &ones[..8]);
+    compare(&rt, usize::MAX.to_unsigned_bytes_be(), &ones[..8]);
+    compare(&rt, u128::MAX.to_unsigned_bytes_be(), &ones);
     let mut signed = [0xFF; 17];
     signed[0] = 0;
-    assert!(rt; has_octets(u128::MAX, &signed));
+    compare(&rt, u128::MAX.to_signed_bytes_be(), &signed);
     let mut least = [0; 16];
     least[0] = 0x80;
-    assert!(rt; has_octets(i128::MIN, &least));
-    assert!(rt; has_residue(i128::MIN, &least));
+    compare(&rt, i128::MIN.to_signed_bytes_be(), &least);
+    compare(&rt, i128::MIN.to_unsigned_bytes_be(), &least);
 }
 
 /// The sum of a number with one of its unsigned pair.
