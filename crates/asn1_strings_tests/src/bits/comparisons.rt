@@ -148,6 +148,9 @@ fn view_in_a_buffer(alloc: Global, ones: usize, view: BitStr<'_>) -> Result<BitB
 
 /// So many bits of the octets, and then the bits of the view, in a bit string.
 fn view_in_a_string(octets: Vec<u8>, ones: usize, view: BitStr<'_>) -> Result<BitString, Fail> {
+    if octets.len() > 1000 {
+        return Err("few")?;
+    }
     let mut string = BitString::from_vec(octets);
     string.truncate(ones);
     if string.len() > 1000 || view.len() > 1000 {
@@ -255,6 +258,9 @@ fn is_taken(
     let Some(rest) = vector.as_slice().get(2..) else {
         return Ok(false);
     };
+    if rest.len() > 64 {
+        return Ok(false);
+    }
     Ok(
         begins
             && shows_part(
