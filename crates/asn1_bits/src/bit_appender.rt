@@ -12,8 +12,8 @@ use crate::turns::Turns;
 use crate::window::{lowest, lowest_wide};
 use std::alloc::AllocError;
 
-/// Fills the zero bits that a buffer appended for it. When it ends, the buffer holds its old bits, what was pushed in
-/// order, and zeros for the room that is left.
+/// Writes into zero bits that a buffer has appended. When it ends, the buffer holds its old bits, then what was pushed,
+/// in order, then zeros for the room that is left.
 #[derive(Drop)]
 pub struct BitAppender<'a> {
     buffer: &'a mut BitBuffer,
@@ -53,7 +53,7 @@ impl BitBuffer {
 impl<'a> BitAppender<'a> {
     ghost use Rattle.asn1_bits.specs.BitAppender.{bits_written, room, lender_of, EndsInZeros};
 
-    /// How many bits may still be pushed.
+    /// The number of bits that may still be pushed.
     #[inline]
     pub fn room(&self) -> usize
         ensures { result ≡ room self.now }
@@ -61,7 +61,7 @@ impl<'a> BitAppender<'a> {
         self.buffer.len() - self.position
     }
 
-    /// Writes the lowest `width` binary digits of `value`, most significant first. `width` is at most 32, and at most
+    /// Pushes the lowest `width` binary digits of `value`, most significant first. `width` is at most 32 and at most
     /// the room.
     #[inline]
     pub fn push(&mut self, value: u32, width: usize)
@@ -82,8 +82,8 @@ impl<'a> BitAppender<'a> {
             .put_number(position, number, width, &mut Turns::new());
     }
 
-    /// Writes the lowest `width` binary digits of `value`, most significant first, 64 bits a turn. `width` is at most
-    /// 128, and at most the room.
+    /// Pushes the lowest `width` binary digits of `value`, most significant first, and ticks once for each 64 of them.
+    /// `width` is at most 128 and at most the room.
     #[inline(always)]
     pub fn push_wide(&mut self, value: u128, width: usize, turns: &mut Turns)
         requires width { width ≤ 128 }
@@ -98,8 +98,8 @@ impl<'a> BitAppender<'a> {
         self.push_number(lowest_wide(value, width), width, turns);
     }
 
-    /// Writes the `width` binary digits of a number that has no more, most significant first, 64 bits a turn. `width` is
-    /// at most 128, and at most the room.
+    /// Pushes a number below 2 to the `width` by its `width` binary digits, most significant first, and ticks once for
+    /// each 64 of them. `width` is at most 128 and at most the room.
     #[inline(always)]
     pub fn push_number(&mut self, number: u128, width: usize, turns: &mut Turns)
         requires width { width ≤ 128 }
@@ -115,12 +115,12 @@ impl<'a> BitAppender<'a> {
         let position = self.position;
         // A length fits `usize`.
         let _len = self.buffer.len();
-        // The zeros count as pushed before the digits are written, so that what lies behind stays zeros throughout.
+        // Move the position first. The invariant `zeros` then covers only bits that this write leaves zero.
         self.position += width;
         self.buffer.put_number(position, number, width, turns);
     }
 
-    /// Writes the bits of the octets, 64 bits a turn. They fit the room.
+    /// Pushes the bits of the octets, and ticks once for each 64 of them. They fit the room.
     pub fn push_octets(&mut self, octets: &[u8], turns: &mut Turns)
         requires { 8 * length octets.now ≤ room self.old }
         ensures lender { lender_of self.new ≡ lender_of self.old }
@@ -135,7 +135,7 @@ impl<'a> BitAppender<'a> {
         self.push_bitslice(BitStr::from_octets(octets), turns);
     }
 
-    /// Writes the bits of the view, 64 bits a turn. They fit the room.
+    /// Pushes the bits of the view, and ticks once for each 64 of them. They fit the room.
     pub fn push_bitslice(&mut self, src: BitStr<'_>, turns: &mut Turns)
         requires { (view_of src).len ≤ room self.old }
         ensures lender { lender_of self.new ≡ lender_of self.old }

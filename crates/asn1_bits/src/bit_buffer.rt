@@ -15,11 +15,11 @@ use crate::window::{lowest, lowest_wide, put_digits, put_word};
 use std::alloc::{AllocError, Global};
 use std::marker::Model;
 
-/// So many octets of zeros are added at once where numbers are pushed, and stand ready for the next ones.
+/// How many zero octets `push_bits` adds at a time, so that later pushes need no growth.
 const READY: usize = 32;
 
-/// A list of bits. Zeros follow them to the octet's end, and in octets that stand ready behind, so that a short number
-/// is stored as one word. Its equality is that of the list.
+/// A growable list of bits. The vector may be longer than the list: every bit behind the list is zero, so a short
+/// number is stored as one word. Two buffers are equal if their lists are.
 #[derive(Debug, Drop)]
 pub struct BitBuffer {
     bytes: Vec<u8>,
@@ -38,7 +38,7 @@ impl Model for BitBuffer {
 }
 
 impl BitBuffer {
-    /// No bits. It asks for no memory.
+    /// An empty buffer. It allocates nothing.
     pub fn new(alloc: Global) -> BitBuffer
         ensures { result ≡ [] }
     {
@@ -48,7 +48,8 @@ impl BitBuffer {
         }
     }
 
-    /// No bits, in the allocation of the vector, whose octets are dropped; `BitString::from_vec` keeps them.
+    /// An empty buffer that reuses the vector's allocation. The vector's octets are dropped; `BitString::from_vec`
+    /// keeps them.
     pub fn from_vec(mut bytes: Vec<u8>) -> BitBuffer
         ensures { result ≡ [] }
     {
@@ -56,7 +57,7 @@ impl BitBuffer {
         BitBuffer { bytes, len: 0 }
     }
 
-    /// How many bits it has.
+    /// The number of bits.
     #[inline]
     pub fn len(&self) -> usize
         ensures { result ≡ length self.now }
@@ -64,7 +65,7 @@ impl BitBuffer {
         self.len
     }
 
-    /// Drops all bits, and keeps the allocation.
+    /// Removes all bits and keeps the allocation.
     pub fn clear(&mut self)
         ensures { self.new ≡ [] }
     {
@@ -72,7 +73,7 @@ impl BitBuffer {
         self.len = 0;
     }
 
-    /// Keeps the first `len` bits, and drops the others, if there are any. The allocation stays.
+    /// Keeps the first `len` bits and removes the others, if there are any. The allocation stays.
     pub fn truncate(&mut self, len: usize)
         ensures { self.new ≡ take len self.old }
     {
@@ -84,7 +85,7 @@ impl BitBuffer {
         self.len = len;
     }
 
-    /// A copy. It is refused for want of memory alone.
+    /// Copies the buffer. Refused only for want of memory.
     pub fn clone(&self) -> Result<BitBuffer, AllocError>
         ensures list { IfOk result (λ b. b ≡ self.now) }
         // Of no bits it asks for no memory.
@@ -121,7 +122,7 @@ impl BitBuffer {
         bytes
     }
 
-    /// Makes bit `index` that bit. The index is below the length.
+    /// Sets bit `index` to `bit`. `index` is below the length.
     pub fn set(&mut self, index: usize, bit: bool)
         requires { index < length self.old }
         ensures { self.new ≡ slice_set self.old index bit }
@@ -129,8 +130,8 @@ impl BitBuffer {
         set_bit(self.bytes.as_mut_slice(), index, bit);
     }
 
-    /// Makes room for `additional` octets more, or is refused for want of memory. The bits stay. So many octets may then
-    /// be appended without a request for memory, which no clause says.
+    /// Makes room for `additional` more octets, or is refused for want of memory. The bits stay. Appending that many
+    /// octets then allocates nothing; no clause says so.
     pub fn reserve_bytes(&mut self, additional: usize) -> Result<(), AllocError>
         ensures same { self.new ≡ self.old }
         // For no octet it asks for no memory.
@@ -142,8 +143,8 @@ impl BitBuffer {
         self.bytes.reserve(additional)
     }
 
-    /// Appends copies of `bit` up to `new_len` bits. Where memory is wanting, the bits stay. `new_len` is at least the
-    /// length.
+    /// Appends copies of `bit` until there are `new_len` bits. `new_len` is at least the length. Refused for want of
+    /// memory, and then the bits stay.
     pub fn resize(&mut self, new_len: usize, bit: bool) -> Result<(), AllocError>
         requires { length self.old ≤ new_len }
         ensures ok { OnOk result
@@ -196,19 +197,19 @@ impl BitBuffer {
         if octets - position / 8 < 8 {
             let capacity = self.bytes.capacity();
             if (position + width).div_ceil(8) <= capacity && capacity - octets < READY {
-                // The capacity holds the digits, so no memory is asked for.
+                // The digits fit the capacity, so this allocates nothing.
                 return self.push_digits(value, width);
             }
             self.bytes.resize(octets + READY, 0)?;
         }
-        // Eight octets hold the digits, from any bit of the first on.
+        // The digits fit eight octets, whichever bit of the first they begin at.
         let number = lowest((value & 0xFFFF_FFFF_FFFF_FFFF) as u64, width);
         put_word(self.bytes.as_mut_slice(), position, number, width);
         self.len = position + width;
         Ok(())
     }
 
-    /// As `push_bits`, wherever the digits lie. It is a call of its own, so that short numbers are written in line.
+    /// The general path of `push_bits`. Not inlined, so that callers inline only the path for short numbers.
     #[inline(never)]
     fn push_digits(&mut self, value: u128, width: usize) -> Result<(), AllocError>
         requires width { width ≤ 128 }
@@ -270,7 +271,7 @@ impl BitBuffer {
         self.extend_from_bitslice(src.as_bitstr())
     }
 
-    /// The list as a view of its octets, from their first bit on.
+    /// Borrows the list as a view.
     pub fn as_bitstr(&self) -> BitStr<'_>
         ensures list { bits_of result ≡ self.now }
         ensures len { (view_of result).len ≡ length self.now }
@@ -281,7 +282,7 @@ impl BitBuffer {
         BitStr::front_of(self.as_bytes(), len)
     }
 
-    /// All bits of the octets. They stay, where `from_vec` drops them.
+    /// A buffer with all bits of the octets, which `from_vec` would drop.
     pub(crate) fn of_octets(bytes: Vec<u8>) -> BitBuffer
         requires { 8 * vec_len bytes < 2 ^ 64 }
         ensures { result ≡ bits bytes.items }

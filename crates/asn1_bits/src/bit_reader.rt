@@ -43,7 +43,7 @@ impl<'a> BitReader<'a> {
         self.view
     }
 
-    /// How many bits are left.
+    /// The number of bits that are left.
     #[inline]
     pub fn len(&self) -> usize
         ensures len { result ≡ (view_left self.now).len }
@@ -52,7 +52,7 @@ impl<'a> BitReader<'a> {
         self.view.len()
     }
 
-    /// The octets that are left, where they lie on octet boundaries of the storage.
+    /// Borrows the octets that are left, if they lie on octet boundaries of the storage.
     pub fn aligned_octets(&self) -> Option<&'a [u8]>
         ensures aligned { IsSome result ↔ IsAligned (view_left self.now) }
         ensures bits { IfSome result (λ o. bits o.now ≡ bits_left self.now) }
@@ -82,7 +82,8 @@ impl<'a> BitReader<'a> {
         Ok(Octets::Owned(octets))
     }
 
-    /// The first `count` bits, past which the reader moves; or by how many bits it is short, and it stays.
+    /// Takes the first `count` bits. If fewer are left, the reader stays, and the error is the number of bits that are
+    /// missing.
     #[inline(always)]
     pub fn split(&mut self, count: usize) -> Result<BitReader<'a>, usize>
         ensures short { IsErr result ↔ ((view_left self.old).len < count) }

@@ -18,7 +18,7 @@ use std::hash::{Hash, Hasher};
 #[derive(Clone, Copy, Debug)]
 pub struct BitStr<'a> {
     storage: &'a [u8],
-    // The octet with the first bit, and how many of its bits come before: together they may pass `usize`.
+    // The first bit is `8 * octet + shift`, which may pass `usize::MAX`.
     octet: usize,
     shift: usize,
     len: usize,
@@ -59,7 +59,7 @@ impl<'a> BitStr<'a> {
         BitStr::front_of(octets, octets.len() * 8)
     }
 
-    /// How many bits it has.
+    /// The number of bits.
     #[inline]
     pub fn len(&self) -> usize
         ensures len { result ≡ (view_of self.now).len }
@@ -68,14 +68,14 @@ impl<'a> BitStr<'a> {
         self.len
     }
 
-    /// Whether it has no bits.
+    /// Whether the view is empty.
     pub fn is_empty(&self) -> bool
         ensures { IsTrue result ↔ ((view_of self.now).len ≡ 0) }
     {
         self.len == 0
     }
 
-    /// How many bits of the octet that holds the first bit come before it.
+    /// How many bits of the first octet lie before the view.
     pub fn shift(&self) -> usize
         ensures { result ≡ (view_of self.now).first % 8 }
     {
@@ -90,7 +90,7 @@ impl<'a> BitStr<'a> {
         bit_from(self.storage, self.octet, self.shift, i)
     }
 
-    /// `len` bits of it, from bit `from` on. They lie in it.
+    /// The `len` bits from bit `from` on. They lie within the view.
     #[inline(always)]
     pub fn slice(&self, from: usize, len: usize) -> BitStr<'a>
         requires { from + len ≤ (view_of self.now).len }
@@ -106,7 +106,7 @@ impl<'a> BitStr<'a> {
         }
     }
 
-    /// The first `at` bits, and the others. `at` is at most the length.
+    /// Splits the view at bit `at`, which is at most the length.
     #[inline(always)]
     pub fn split_at(&self, at: usize) -> (BitStr<'a>, BitStr<'a>)
         requires { at ≤ (view_of self.now).len }
@@ -133,7 +133,7 @@ impl<'a> BitStr<'a> {
         }
     }
 
-    /// Its octets, where it begins and ends at octets of the storage.
+    /// Borrows the octets, if the view begins and ends on octet boundaries of the storage.
     pub(crate) fn aligned(&self) -> Option<&'a [u8]>
         ensures aligned { IsSome result ↔ IsAligned (view_of self.now) }
         ensures bits { IfSome result (λ o. bits o.now ≡ bits_of self.now) }
@@ -171,7 +171,8 @@ impl<'a> BitStr<'a> {
         read_word(octets, low % 8, width)
     }
 
-    /// ORs `width` bits of it, from bit `at` on, into the front of an octet of the target, as the rest of a begun word.
+    /// ORs the `width` bits from bit `at` on into the front of an octet of the target. They complete a word whose first
+    /// bits are stored.
     #[inline]
     pub(crate) fn or_edge(
         &self,
@@ -221,7 +222,8 @@ impl<'a> BitStr<'a> {
         words
     }
 
-    /// ORs `count` words of it, from bit `at` on, into the octets of `dst` from one of them on: a word a turn.
+    /// ORs `count` words of 64 bits, taken from bit `at` on, into `dst` from octet `first` on. Ticks once for each
+    /// word.
     pub(crate) fn or_words(
         &self,
         at: usize,
@@ -246,13 +248,13 @@ impl<'a> BitStr<'a> {
         if low % 8 == 0 {
             or_words(dst, first, from_octet(self.storage, octet), count, turns);
         } else {
-            // Seven octets before: so the second of two words ends with the octet that the bits end in.
+            // Start seven octets earlier, so that the second load of each pair does not read past the last octet.
             let src = from_octet(self.storage, octet - 7);
             or_shifted_words(dst, first, src, 56 + low % 8, count, turns);
         }
     }
 
-    /// Appends its octets to the vector, which stays as it was where memory is wanting.
+    /// Appends the octets to the vector. Refused for want of memory, and then the vector stays as it was.
     pub(crate) fn push_octets_to(&self, octets: &mut Vec<u8>) -> Result<(), AllocError>
         requires { (view_of self.now).len % 8 ≡ 0 }
         ensures ok { OnOk result
@@ -274,7 +276,7 @@ impl<'a> BitStr<'a> {
         self.push_moved_octets_to(octets)
     }
 
-    /// As `push_octets_to`, wherever the bits lie: the octets are ORed into zeros.
+    /// The path of `push_octets_to` for views off the octet boundary: the octets are ORed into zeros.
     fn push_moved_octets_to(&self, octets: &mut Vec<u8>) -> Result<(), AllocError>
         requires { (view_of self.now).len % 8 ≡ 0 }
         ensures ok { OnOk result

@@ -43,7 +43,7 @@ pub fn write_bitslice(dst: &mut [u8], position: usize, src: BitStr<'_>, turns: &
     or_view(&mut Target::new(dst), position, src, turns);
 }
 
-/// As `write_bitslice`, into a target.
+/// The counted work of `write_bitslice`.
 #[inline(always)]
 fn or_view(dst: &mut Target<'_>, position: usize, src: BitStr<'_>, turns: &mut Turns)
     requires room { position + (view_of src).len ≤ 8 * length dst.old.octets.now }
@@ -63,7 +63,7 @@ fn or_view(dst: &mut Target<'_>, position: usize, src: BitStr<'_>, turns: &mut T
     }
 }
 
-/// As `or_view`, for more than a word. It is a call of its own, so that short views are written in line.
+/// The path of `or_view` for more than a word. Not inlined, so that callers inline only the path for short views.
 #[inline(never)]
 fn or_long(dst: &mut Target<'_>, position: usize, src: BitStr<'_>, turns: &mut Turns)
     requires long { 64 < (view_of src).len }
@@ -91,8 +91,8 @@ fn or_long(dst: &mut Target<'_>, position: usize, src: BitStr<'_>, turns: &mut T
     }
 }
 
-/// ORs a view of whole words in: a word a turn. Off an octet boundary a word's last bits lie in the eight octets behind:
-/// they go in with the next word, and those of the last word complete the first, of which so many bits were left.
+/// ORs a view of whole words of 64 bits, and ticks once for each. If `position` is off the octet boundary, the first
+/// `64 - position % 8` bits go first, then aligned words, then the `position % 8` bits that are left.
 #[inline(always)]
 fn or_whole_words(dst: &mut Target<'_>, position: usize, src: BitStr<'_>, turns: &mut Turns)
     requires some { 64 ≤ (view_of src).len }
@@ -120,7 +120,7 @@ fn or_whole_words(dst: &mut Target<'_>, position: usize, src: BitStr<'_>, turns:
     src.or_edge(len - spill, spill, dst, rest, position / 8 + len / 8);
 }
 
-/// As `write_bitslice`, where zeros stand from bit `position` on: octets on octet boundaries are copied.
+/// Writes the view over zeros from bit `position` on. Octets on octet boundaries are copied.
 #[inline(always)]
 pub(crate) fn put_bitslice(dst: &mut [u8], position: usize, src: BitStr<'_>, turns: &mut Turns)
     requires room { position + (view_of src).len ≤ 8 * length dst.old }
@@ -133,7 +133,7 @@ pub(crate) fn put_bitslice(dst: &mut [u8], position: usize, src: BitStr<'_>, tur
     put_view(&mut Target::new(dst), position, src, turns);
 }
 
-/// As `put_bitslice`, into a target.
+/// The counted work of `put_bitslice`.
 #[inline(always)]
 fn put_view(dst: &mut Target<'_>, position: usize, src: BitStr<'_>, turns: &mut Turns)
     requires room { position + (view_of src).len ≤ 8 * length dst.old.octets.now }
@@ -156,8 +156,8 @@ fn put_view(dst: &mut Target<'_>, position: usize, src: BitStr<'_>, turns: &mut 
     or_view(dst, position, src, turns);
 }
 
-/// Copies octets over the zeros from octet `first` on: a word a turn, and their last ones in another. It is a call of its
-/// own, so that short views are written in line.
+/// Copies octets over the zeros from octet `first` on, and ticks once for each eight of them and once for the rest. Not
+/// inlined, so that callers inline only the path for short views.
 #[inline(never)]
 fn copy_octets(dst: &mut Target<'_>, first: usize, src: &[u8], turns: &mut Turns)
     requires room { first + length src.now ≤ length dst.old.octets.now }
@@ -192,7 +192,8 @@ pub fn read_wide(bytes: &[u8], position: usize, width: usize) -> u128
     read_front(from_octet(bytes, position / 8), position % 8, width)
 }
 
-/// As `read_wide`, from bit `shift` of the first octet on.
+/// The number of the `width` bits from bit `shift` of the first octet on, the first of them its highest digit. `width`
+/// is at most 128, and the bits lie within the octets.
 #[inline(always)]
 pub(crate) fn read_front(octets: &[u8], shift: usize, width: usize) -> u128
     requires shift { shift < 8 }
@@ -205,7 +206,7 @@ pub(crate) fn read_front(octets: &[u8], shift: usize, width: usize) -> u128
     read_number(octets, shift, width)
 }
 
-/// The number of `width` bits: of one window, or of two words near the end of the octets.
+/// The number of `width` bits, read from seventeen octets at once or, near the end of the octets, from two words.
 #[inline(always)]
 fn read_number(octets: &[u8], shift: usize, width: usize) -> u128
     requires shift { shift < 8 }
@@ -242,8 +243,8 @@ pub(crate) fn read_word(octets: &[u8], shift: usize, width: usize) -> u64
     read_octets(octets, shift, width)
 }
 
-/// The number of `width` bits that lie in eight octets, octet by octet. It is a call of its own: only the last octets of
-/// a slice need it.
+/// The number of `width` bits within eight octets, read octet by octet. Slow path for the last octets of a slice; not
+/// inlined.
 #[inline(never)]
 fn read_octets(octets: &[u8], shift: usize, width: usize) -> u64
     requires shift { shift < 8 }

@@ -3,8 +3,8 @@
 ghost use Rattle.std.specs.Prelude.{◌≡◌, ◌<◌, All};
 ghost use Rattle.asn1_bits.specs.Octets.{octets_in};
 
-/// Octets that were read: the storage's own where they lie on its octet boundaries, else a copy. Lent octets and a copy
-/// are equal where they are the same octets.
+/// Octets that were read: borrowed from the storage if they lie on its octet boundaries, else copied. Two are equal if
+/// they hold the same octets, borrowed or copied.
 #[derive(Debug, Drop)]
 pub enum Octets<'a> {
     /// Octets of the storage.
@@ -14,7 +14,7 @@ pub enum Octets<'a> {
 }
 
 impl<'a> Octets<'a> {
-    /// The octets, wherever they lie.
+    /// The octets, borrowed or copied.
     pub fn as_ref(&self) -> &[u8]
         ensures list { result.now ≡ octets_in self.now }
         ensures octets { All (λ octet. octet < 256) (octets_in self.now) }
@@ -26,7 +26,7 @@ impl<'a> Octets<'a> {
     }
 }
 
-/// The slice, of which callers learn here that its items are octets.
+/// Returns the slice. Its contract tells callers that each item is below 256.
 pub(crate) fn known_octets(octets: &[u8]) -> &[u8]
     ensures list { result.now ≡ octets.now }
     ensures octets { All (λ octet. octet < 256) octets.now }

@@ -46,7 +46,7 @@ pub fn overwrite_number(
     overwrite_digits(&mut Target::new(dst), position, value, width, turns);
 }
 
-/// As `overwrite_number`, in a target: a word, or two.
+/// The counted work of `overwrite_number`: one word, or two.
 #[inline(always)]
 fn overwrite_digits(
     dst: &mut Target<'_>,
@@ -79,8 +79,8 @@ fn overwrite_digits(
     }
 }
 
-/// Makes zeros of the `count` bits from bit `position` on: those before the first whole octet, whole octets, and those
-/// behind the last.
+/// Clears the `count` bits from bit `position` on: those before the first whole octet, whole octets, and those behind
+/// the last.
 pub(crate) fn clear_bits(dst: &mut [u8], position: usize, count: usize)
     requires room { position + count ≤ 8 * length dst.old }
     requires fits { position + count < 2 ^ 64 }
@@ -96,7 +96,7 @@ pub(crate) fn clear_bits(dst: &mut [u8], position: usize, count: usize)
     }
 }
 
-/// Makes zeros of `count` bits that lie in one octet.
+/// Clears `count` bits that lie in one octet.
 fn clear_within(dst: &mut [u8], position: usize, count: usize)
     requires octet { position % 8 + count ≤ 8 }
     requires room { position + count ≤ 8 * length dst.old }
@@ -112,7 +112,7 @@ fn clear_within(dst: &mut [u8], position: usize, count: usize)
     dst[position / 8] = (before + behind) as u8;
 }
 
-/// Makes zeros of the bits of `count` octets from one of them on.
+/// Clears `count` octets from octet `first` on.
 fn clear_octets(dst: &mut [u8], first: usize, count: usize)
     requires { first + count ≤ length dst.old }
     ensures { bits dst.new ≡ overwritten (bits dst.old) (8 * first) (replicate (8 * count) false) }

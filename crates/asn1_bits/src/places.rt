@@ -15,18 +15,18 @@ pub trait Places {
     /// The bits.
     ghost list: { Self → List Bool };
 
-    /// How many words were placed: mostly the `count` of a `Turns` of its own, which each `place` ticks too.
+    /// The number of calls of `place`. Implement it as the `count` of a `Turns` field that `place` ticks.
     ghost placements: { Self → ℕ };
 
-    /// Where it writes through a `&mut`, the ghost name of that reference: say it, or a caller learns nothing of what
-    /// lies behind.
+    /// The ghost name of the `&mut` that this target writes through, if any. Without it a contract says nothing of the
+    /// borrowed slice.
     ghost reference: { Self → ℕ } = { λ _. 0 };
 
     /// How many bits there are.
     fn len(&self) -> u128
         ensures { result ≡ length (list self.now) };
 
-    /// ORs the lowest `width` binary digits of `word` in from bit `position` on: one turn.
+    /// ORs the lowest `width` binary digits of `word` in from bit `position` on, and counts one turn.
     fn place(&mut self, position: usize, word: u64, width: usize, turns: &mut Turns)
         requires width { width ≤ 64 }
         requires within { position + width ≤ length (list self.old) }

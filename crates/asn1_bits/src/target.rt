@@ -92,8 +92,8 @@ impl<'a> Target<'a> {
         turns.tick();
     }
 
-    /// As `or_word`, of the first bits of a word whose rest is stored later, by `or_rest`. They lie in eight octets that
-    /// are there.
+    /// ORs the first bits of a word in, whose rest `or_rest` stores later, and counts one turn. The bits lie within
+    /// eight octets of the slice.
     #[inline(always)]
     pub(crate) fn or_begun(
         &mut self,
@@ -119,7 +119,7 @@ impl<'a> Target<'a> {
         Rest { left: 64 - width }
     }
 
-    /// ORs the rest of a begun word in, from the first bit of an octet on: its turn was taken.
+    /// ORs the rest of a begun word in, from the first bit of an octet on. `or_begun` has counted its turn.
     #[inline(always)]
     pub(crate) fn or_rest(&mut self, _rest: Rest, octet: usize, word: u64, width: usize)
         requires left { width ≤ _rest.left }
@@ -142,7 +142,8 @@ impl<'a> Target<'a> {
         self.octets.len()
     }
 
-    /// As `or_word`, of digits that lie in eight octets, octet by octet: for the last octets of a slice.
+    /// Slow path of `or_word` for the last octets of a slice: digits within eight octets, octet by octet. Counts one
+    /// turn.
     #[inline(always)]
     pub(crate) fn or_short(&mut self, position: usize, word: u64, width: usize, turns: &mut Turns)
         requires width { position % 8 + width ≤ 64 }
@@ -159,7 +160,8 @@ impl<'a> Target<'a> {
         turns.tick();
     }
 
-    /// As `or_word`, of a number whose digits lie in eight octets that are there, over zeros: one turn.
+    /// Writes a number over zeros from bit `position` on, and counts one turn. Its digits lie within eight octets of
+    /// the slice.
     #[inline(always)]
     pub(crate) fn put_word(&mut self, position: usize, word: u64, width: usize, turns: &mut Turns)
         requires some { 0 < width }
@@ -179,7 +181,8 @@ impl<'a> Target<'a> {
         turns.tick();
     }
 
-    /// As `put_word`, of a number whose digits lie in sixteen octets: a turn for each word of 64 of them.
+    /// Writes a number over zeros from bit `position` on, and counts a turn for each 64 digits. They lie within sixteen
+    /// octets of the slice.
     #[inline(always)]
     pub(crate) fn put_pair(
         &mut self,

@@ -10,7 +10,7 @@ use std::marker::Model;
 /// octets are left; a search takes one for each look. Where no count is wanted, pass `&mut Turns::new()`.
 #[derive(Drop)]
 pub struct Turns {
-    /// How many turns were counted.
+    /// The number of turns counted.
     pub ghost count: { ℕ },
 }
 
@@ -19,28 +19,28 @@ impl Model for Turns {
 }
 
 impl Turns {
-    /// No turn yet.
+    /// A counter at zero.
     pub fn new() -> Turns
         ensures { result.count ≡ 0 }
     {
         Turns::counting()
     }
 
-    /// Counts one turn more. The number is ghost data, so nothing happens at run time.
+    /// Adds one to the ghost count. It does nothing at run time.
     pub fn tick(&mut self)
         ensures { self.new.count ≡ self.old.count + 1 }
     {
         self.add(&Turns::counting());
     }
 
-    /// Counts the other's turns as well. As in `tick`, nothing happens at run time.
+    /// Adds the other counter's ghost count. It does nothing at run time.
     pub fn add(&mut self, other: &Turns)
         ensures { self.new.count ≡ self.old.count + other.now.count }
     {
         self.set(other);
     }
 
-    /// Makes its number the one that the caller's proof names, which may speak of another counter.
+    /// Sets the ghost count to the ghost argument `number`.
     fn set(&mut self, _other: &Turns)
         ghost number: { ℕ }
         ensures { self.new.count ≡ number }
@@ -48,7 +48,7 @@ impl Turns {
         *self = Turns::counting();
     }
 
-    /// A counter at the number that the caller's proof names.
+    /// A counter whose ghost count is the ghost argument `number`.
     fn counting() -> Turns
         ghost number: { ℕ }
         ensures { result.count ≡ number }

@@ -14,7 +14,7 @@ pub(crate) fn eight(octets: &[u8], first: usize) -> [u8; 8]
     requires { first + 8 ≤ length octets.now }
     ensures { result ≡ take 8 (drop first octets.now) }
 {
-    // The front has eight octets, so the second arm is never taken, and no test is made.
+    // The front has eight octets, so the second arm is never taken, and the compiler drops the test.
     let (front, _) = from_octet(octets, first).split_at(8);
     match front.first_chunk::<8>() {
         Some(chunk) => *chunk,
@@ -83,7 +83,7 @@ pub(crate) fn lowest(word: u64, width: usize) -> u64
     }
 }
 
-/// As `lowest`, of a number of up to 128 digits.
+/// The number of the lowest `width` digits of a number of up to 128.
 #[inline(always)]
 pub(crate) fn lowest_wide(value: u128, width: usize) -> u128
     requires { width ≤ 128 }
@@ -99,8 +99,8 @@ pub(crate) fn lowest_wide(value: u128, width: usize) -> u128
     }
 }
 
-/// Puts a number of `width` digits that lie in eight octets, all of which are there, over zeros from bit `position` on.
-/// No turn is counted.
+/// Writes a number of `width` digits over zeros from bit `position` on. They lie within eight octets of the slice. It
+/// counts no turn.
 #[inline(always)]
 pub(crate) fn put_word(dst: &mut [u8], position: usize, word: u64, width: usize)
     requires some { 0 < width }
@@ -113,7 +113,7 @@ pub(crate) fn put_word(dst: &mut [u8], position: usize, word: u64, width: usize)
     Target::new(dst).put_word(position, word, width, &mut Turns::new());
 }
 
-/// As `put_word`, of up to 128 digits, wherever they lie: 64 of them a turn.
+/// Writes a number of up to 128 digits over zeros from bit `position` on, and ticks once for each 64 of them.
 // One line, since the clause `each_turn_places` of `put_in` can't see a store that would stand here.
 #[inline(always)]
 pub(crate) fn put_digits(
@@ -134,7 +134,7 @@ pub(crate) fn put_digits(
     put_in(&mut Target::new(dst), position, number, width, turns);
 }
 
-/// As `put_digits`, into a target.
+/// The counted work of `put_digits`.
 #[inline(always)]
 fn put_in(dst: &mut Target<'_>, position: usize, number: u128, width: usize, turns: &mut Turns)
     requires width { width ≤ 128 }
@@ -151,7 +151,7 @@ fn put_in(dst: &mut Target<'_>, position: usize, number: u128, width: usize, tur
     ensures turns { turns.new.count ≡ turns.old.count + div_ceil width 64 }
 {
     if width <= 57 {
-        // So few lie in eight octets, from any bit of the first on.
+        // So few digits fit eight octets, whichever bit of the first they begin at.
         let low = (number & 0xFFFF_FFFF_FFFF_FFFF) as u64;
         if width == 0 {
             return;
@@ -168,8 +168,8 @@ fn put_in(dst: &mut Target<'_>, position: usize, number: u128, width: usize, tur
     }
 }
 
-/// As `put_digits`, by words that are ORed in. It is a call of its own: only digits that reach the last octets, or a
-/// seventeenth, need it.
+/// The path of `put_digits` for digits that reach the last octets of the slice, or a seventeenth octet: words are ORed
+/// in. Not inlined.
 #[inline(never)]
 fn put_apart(dst: &mut Target<'_>, position: usize, number: u128, width: usize, turns: &mut Turns)
     requires some { 0 < width }
@@ -194,7 +194,7 @@ fn put_apart(dst: &mut Target<'_>, position: usize, number: u128, width: usize, 
     }
 }
 
-/// ORs `count` words of the octets of `src` into those of `dst` from one of them on: a word a turn.
+/// ORs `count` words of the octets of `src` into `dst` from octet `first` on. Ticks once for each word.
 pub(crate) fn or_words(
     dst: &mut Target<'_>,
     first: usize,
@@ -217,7 +217,7 @@ pub(crate) fn or_words(
     }
 }
 
-/// As `or_words`, where the source's bits begin at bit `shift` of its first word: each word is put together of two.
+/// The path of `or_words` for bits that begin at bit `shift` of the first word: each word is made of two.
 pub(crate) fn or_shifted_words(
     dst: &mut Target<'_>,
     first: usize,

@@ -8,7 +8,7 @@ ghost use Rattle.asn1_characters.specs.declared.character_set.CharacterSetName.T
 use crate::character_words::CharacterWords;
 use std::fmt;
 
-/// Which of the eight strings. `Display` writes the string's name as X.680 spells it.
+/// The name of one of the eight strings. `Display` writes the string's name as X.680 spells it.
 #[derive(Clone, Copy, Debug, PartialEq, Eq, PartialOrd, Ord, Hash)]
 pub enum CharacterSetName {
     /// `BmpString`.

@@ -22,7 +22,7 @@ impl CharacterWords {
         }
     }
 
-    /// Whether the set has the character, which it has not from 256 on.
+    /// Whether the set has the character. It has none from 256 on.
     #[inline]
     pub fn contains(&self, character: u32) -> bool
         ensures { result ≡ (nat_lt character 256 && in_words self.now.words character) }

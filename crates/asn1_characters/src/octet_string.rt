@@ -20,7 +20,7 @@ impl Model for OctetString {
 }
 
 impl OctetString {
-    /// A string of octets that live as long as the program. No memory is asked for.
+    /// A string of octets that live as long as the program. It allocates nothing.
     pub fn from_static(octets: &'static [u8]) -> OctetString
         ensures { result ≡ octets.now }
     {
@@ -29,7 +29,7 @@ impl OctetString {
         }
     }
 
-    /// A copy of the octets. Memory is asked for where there are any.
+    /// A copy of the octets. It allocates unless there are none.
     pub fn from_slice(alloc: Global, octets: &[u8]) -> Result<OctetString, AllocError>
         ensures octets { IfOk result (λ s. s ≡ octets.now) }
         ensures memory { OnErr result (octets.now ≢ []) }
@@ -42,7 +42,7 @@ impl OctetString {
         })
     }
 
-    /// A copy of the array's octets. Memory is asked for where there are any.
+    /// A copy of the array's octets. It allocates unless there are none.
     pub fn from_array<const N: usize>(
         alloc: Global,
         octets: [u8; N],
@@ -53,8 +53,8 @@ impl OctetString {
         OctetString::from_slice(alloc, &octets)
     }
 
-    /// The vector's octets, without a copy. Where memory for their count of owners is refused, which
-    /// an empty vector does not need, the vector comes back.
+    /// The vector's octets, without a copy. If memory for the reference count is refused, the vector is returned. An
+    /// empty vector never fails.
     pub fn from_vec(octets: Vec<u8>) -> Result<OctetString, Vec<u8>>
         ensures octets { IfOk result (λ s. s ≡ octets.items) }
         ensures back { IfErr result (λ v. v.items ≡ octets.items) }
@@ -66,7 +66,7 @@ impl OctetString {
         }
     }
 
-    /// The shared octets as they are. No memory is asked for.
+    /// The string of shared octets. It allocates nothing.
     pub fn from_bytes(bytes: Bytes) -> OctetString
         ensures { result ≡ bytes }
     {

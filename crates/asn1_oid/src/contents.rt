@@ -7,7 +7,7 @@ ghost use Rattle.asn1_oid.specs.Reading.{Stands, contents_reading, largest_first
 use std::alloc::{AllocError, Global};
 use thiserror::Error;
 
-/// A list of octets, wherever they lie.
+/// A list of octets: a slice, or octets at any bit of a storage.
 pub trait OctetSource {
     /// The list.
     ghost list: { Self → List ℕ };
@@ -44,14 +44,14 @@ fn are_octets(octets: &[u8])
 /// Why octets are not the contents of an identifier, or could not be read as such.
 #[derive(Clone, Copy, Debug, Drop, Error, PartialEq, Eq, PartialOrd, Ord, Hash)]
 pub enum ContentsError {
-    /// They are contents of no arcs of any size: there are none, a subidentifier begins with 80 (hexadecimal), or the
-    /// last one is not ended.
+    /// They are the contents of no arcs of any size: the list is empty, a subidentifier begins with 80 (hexadecimal),
+    /// or the last one does not end.
     #[error("no contents of an object identifier")]
     Malformed,
     /// They are the contents of arcs, one of which passes `u32`.
     #[error("an arc of more than 32 bits")]
     ArcTooLarge,
-    /// They are the contents of an identifier, and memory is wanting.
+    /// They are the contents of an identifier, but there is no memory.
     #[error("out of memory")]
     Memory,
 }

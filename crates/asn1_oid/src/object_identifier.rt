@@ -59,7 +59,7 @@ impl ObjectIdentifier {
         ObjectIdentifier::new(CowSlice::Owned(arcs))
     }
 
-    /// An identifier of arcs that the caller knows to be valid.
+    /// An identifier of arcs that the caller has shown to be valid.
     pub fn new_unchecked(arcs: CowSlice<'static, u32>) -> ObjectIdentifier
         requires { IsValidArcs (cow_slice_items arcs) }
         ensures { result ≡ cow_slice_items arcs.entry }
@@ -77,8 +77,8 @@ impl ObjectIdentifier {
         })
     }
 
-    /// The identifier of which the octets are the contents (X.690 8.19). Want of memory is told of octets alone that
-    /// would be read. Room for one arc more than there are octets is asked for before they are read, and is kept.
+    /// Reads an identifier from its contents octets (X.690 8.19). `Memory` is returned only for octets that are
+    /// otherwise valid. Room for one more arc than there are octets is requested before they are read, and is kept.
     pub fn from_contents<S: OctetSource>(
         alloc: Global,
         source: &S,

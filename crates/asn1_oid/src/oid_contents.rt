@@ -12,8 +12,8 @@ use std::marker::Model;
 /// An iterator over the octets of an identifier's contents that are left, in their order.
 #[derive(Debug, Drop)]
 pub struct OidContents<'a> {
-    // The octets of a subidentifier that are left, the first in the lowest eight bits, how many they are, and the arcs
-    // behind them.
+    // The octets of the current subidentifier that are left, the first in the lowest eight bits; their number; and the
+    // arcs behind it.
     octets: u64,
     left: u32,
     arcs: &'a [u32],
@@ -27,7 +27,8 @@ impl<'a> Model for OidContents<'a> {
     ghost invariant = { λ s. s.left ≤ 5 };
 }
 
-/// How many octets the subidentifier of a number has: one for each begun seven binary digits, and at least one.
+/// The number of octets of a subidentifier: its binary digits divided by seven, rounded up, and at least one (X.690
+/// 8.19.2).
 pub(crate) fn octet_count(number: u64) -> u32
     requires { number < 2 ^ 35 }
     ensures digits { HasDigits number result }
@@ -94,8 +95,8 @@ impl<'a> OidContents<'a> {
         OidContents { octets, left, arcs }
     }
 
-    /// Appends the octets that are left to the vector, faster than if each is pushed. It makes room once, for five octets
-    /// an arc, which may be more than they take; where memory is wanting, the vector's octets stay.
+    /// Appends the octets that are left to the vector, faster than pushing each. It reserves once, five octets an arc,
+    /// which may be more than they take. If memory fails, the vector's octets stay.
     pub fn append_to(self, octets: &mut Vec<u8>) -> Result<(), AllocError>
         ensures ok { OnOk result (octets.new.items ≡ octets.old.items ++ self.entry) }
         ensures err { OnErr result (octets.new.items ≡ octets.old.items) }

@@ -26,23 +26,23 @@ pub fn should_be_indexed(width: u32, set: &[u32]) -> bool
     1 << width <= largest_of(set)
 }
 
-/// An alphabet: a set of characters, their width in bits, and whether they are written by their
-/// places in the set or by their values. No call takes memory.
+/// An alphabet: a set of characters, their width in bits, and whether a character is written by its place in the set or
+/// by its value. No call allocates.
 #[derive(Clone, Copy, Debug)]
 pub struct CharacterAlphabet<'s> {
     name: CharacterSetName,
     // At most 32 bits.
     width: u8,
     indexed: bool,
-    // Whether a permitted set is kept. Else the base set of `name` counts.
+    // Whether the effective set is the permitted set. Else it is the base set of `name`.
     kept: bool,
     // Whether the permitted set is ascending: no character is below the one before it.
     ascending: bool,
-    // Whether the set that counts leaves no gap.
+    // Whether the effective set leaves no gap.
     run: bool,
-    // Whether the words are those of the set that counts. Then its characters are below 256.
+    // Whether the words are those of the effective set. Then its characters are below 256.
     worded: bool,
-    // The set that counts, where it is a permitted set or leaves no gap. Else it is empty.
+    // The effective set, where it is a permitted set or leaves no gap. Else it is empty.
     set: &'s [u32],
     words: CharacterWords,
     ghost known: { IsKnown name kept set width indexed ascending run (some_if worded words) },
@@ -51,9 +51,9 @@ pub struct CharacterAlphabet<'s> {
 impl<'s> CharacterAlphabet<'s> {
     ghost use Rattle.asn1_strings.specs.AlphabetView.{alphabet_of};
 
-    /// The alphabet of the string `S` with a permitted set, which is kept where the string is written by places or
-    /// needs more bits than the set does. Else the base set alone counts. A kept set may hold characters that the base
-    /// set lacks. The permitted set has at most 2^32 characters.
+    /// The alphabet of the string `S` with a permitted set. The permitted set is effective if `S` is written by places
+    /// or needs more bits than the set does; else the base set is. An effective permitted set may hold characters that
+    /// the base set lacks. The permitted set has at most 2^32 characters.
     #[inline(always)]
     pub fn new<S: StaticPermittedAlphabet>(
         permitted: Option<&'s [u32]>,
@@ -124,8 +124,8 @@ impl<'s> CharacterAlphabet<'s> {
         self.encode_counted(character, &mut Turns::new())
     }
 
-    /// As `encode`. In an ascending set of more than 64 characters it makes at most
-    /// w + 1 probes, w being the least width in which its characters have codes.
+    /// `encode` with a counter of probes. In an ascending set of more than 64 characters it makes at most w + 1 probes,
+    /// where w is the least width in which its characters have codes.
     #[inline(always)]
     pub fn encode_counted(
         &self,
@@ -381,7 +381,7 @@ fn kept_set<'s>(name: CharacterSetName, set: &'s [u32], aligned: bool) -> Option
     }
 }
 
-/// How many characters the set that counts has.
+/// The number of characters of the effective set.
 #[inline]
 fn count_of(name: CharacterSetName, kept: Option<&[u32]>) -> u64
     ensures { result ≡ length (set_of name kept.entry) }
@@ -392,7 +392,7 @@ fn count_of(name: CharacterSetName, kept: Option<&[u32]>) -> u64
     }
 }
 
-/// The largest character of the set that counts.
+/// The largest character of the effective set.
 #[inline]
 fn largest_in(name: CharacterSetName, kept: Option<&[u32]>, run: bool) -> u32
     requires { run ≡ true → IsRun (set_of name kept) }
@@ -419,7 +419,7 @@ fn ascends_in(name: CharacterSetName, kept: Option<&[u32]>, run: bool) -> bool
     }
 }
 
-/// The words of the set that counts, where its characters are below 256.
+/// The words of the effective set, where its characters are below 256.
 #[inline]
 fn words_of(
     name: CharacterSetName,
@@ -441,8 +441,8 @@ fn words_of(
     }
 }
 
-// How the set that counts lies in memory: whether it is a permitted set, and whether it is known to leave no gap. In
-// both cases `set` lists it.
+// How the effective set lies in memory: whether it is a permitted set, and whether it is known to leave no gap. In both
+// cases `set` lists it.
 #[derive(Clone, Copy)]
 struct Listing<'s> {
     kept: bool,
@@ -450,7 +450,7 @@ struct Listing<'s> {
     set: &'s [u32],
 }
 
-/// How the set that counts lies in memory.
+/// How the effective set lies in memory.
 #[inline]
 fn listing_of<'s>(name: CharacterSetName, kept: Option<&'s [u32]>) -> Listing<'s>
     ensures kept { some_if result.kept result.set ≡ kept.entry }

@@ -31,7 +31,7 @@ impl StringKind for Bmp {
 pub type BmpString = RestrictedString<Bmp>;
 
 impl RestrictedString<Bmp> {
-    /// Two octets for each character, the higher first. Memory is asked for where there are any.
+    /// Two octets for each character, the higher first. It allocates unless the string is empty.
     pub fn to_bytes(&self) -> Result<Vec<u8>, AllocError>
         ensures octets { IfOk result (λ v. v.items ≡ flat_map (to_be_bytes w16) self.now) }
         // `try_from_slice` of them is the same string.

@@ -18,7 +18,7 @@ pub trait CodeUnit: Copy + Drop + fmt::Debug {
     /// The character.
     ghost value: { Self → ℕ };
 
-    /// What every character that can be kept is below.
+    /// One more than the greatest character that can be kept.
     ghost limit: { ℕ };
 
     /// The octets of a character in the contents of the string (X.690 8.21).
@@ -36,13 +36,13 @@ pub trait CodeUnit: Copy + Drop + fmt::Debug {
         requires { character < limit }
         ensures { value result ≡ character };
 
-    /// Whether a set has each character of these octets. All are tested: none of them ends the test.
+    /// Whether the set has each character of these octets. No early exit, so that the loop vectorises.
     fn are_in(name: CharacterSetName, octets: &[u8]) -> bool
         requires { OCTETS ≡ character_octets name }
         ensures { IsTrue result ↔ All (λ c. has_character (base_set name) c ≡ true)
             (map unsigned (pieces OCTETS octets.now)) };
 
-    /// The units of these octets. Memory is asked for where there are any.
+    /// The units of these octets. It allocates unless there are none.
     fn of_octets(alloc: Global, octets: &[u8]) -> Result<Vec<Self>, AllocError>
         ensures units { IfOk result
             (λ v. map value v.items ≡ map unsigned (pieces OCTETS octets.now)) }
@@ -150,8 +150,8 @@ impl CodeUnit for u16 {
     ghost few_octets = { lit≤ tt };
 }
 
-/// Whether all octets lie between two ends: by the largest distance from the first end, round through 256. An octet
-/// below the first end is further from it than the last end is.
+/// Whether all octets are in `first..=last`. It takes the greatest `octet.wrapping_sub(first)`: octets below `first`
+/// wrap to large values.
 fn lie_between(octets: &[u8], first: u8, last: u8) -> bool
     requires { first ≤ last }
     ensures { IsTrue result ↔ All (λ c. (first ≤ c) × (c ≤ last)) octets.now }

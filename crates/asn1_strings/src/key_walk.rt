@@ -116,8 +116,8 @@ fn is_in(name: CharacterSetName, character: u32) -> bool
     }
 }
 
-/// How many keys are read at once: as many as fit a word, and where eight do a multiple of eight, so that each word
-/// begins at the same bit of its octet.
+/// Keys per 64-bit word. Rounded down to a multiple of 8 if at least 8 fit, so that every word starts at the same bit
+/// offset.
 #[inline(always)]
 fn keys_in_word(width: usize) -> usize
     requires some { 1 ≤ width }

@@ -61,15 +61,15 @@ impl<K: Iso646> RestrictedString<K> {
         str::from_utf8(self.as_slice()).unwrap()
     }
 
-    /// The characters as a text, without a copy. No memory is asked for.
+    /// The characters as a text, without a copy. It allocates nothing.
     pub fn into_string(self) -> String
         ensures { string_bytes result ≡ self }
     {
         String::from_utf8(self.into_vec()).unwrap()
     }
 
-    /// The characters as octets, without a copy. Where memory for their count of owners is refused,
-    /// which the empty string does not need, the string comes back.
+    /// The characters as octets, without a copy. If memory for their reference count is refused, which the empty string
+    /// does not need, the string comes back.
     pub fn into_octet_string(self) -> Result<OctetString, Self>
         ensures octets { IfOk result (λ octets. octets ≡ self) }
         ensures back { IfErr result (λ s. s ≡ self) }

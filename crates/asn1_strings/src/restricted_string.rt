@@ -129,12 +129,12 @@ impl<K: StringKind> RestrictedString<K> {
         self.units
     }
 
-    /// Where its memory comes from.
+    /// The allocator of the string.
     pub(crate) fn allocator(&self) -> Global {
         *self.units.allocator()
     }
 
-    /// A copy. Memory is asked for where the string is not empty.
+    /// Copies the string. It allocates unless the string is empty.
     pub fn clone(&self) -> Result<Self, AllocError>
         ensures same { IfOk result (λ s. s ≡ self.now) }
         ensures memory { OnErr result (self.now ≢ []) }

@@ -11,7 +11,7 @@ pub trait Entries {
     /// The list.
     ghost list: { Self → List ℕ };
 
-    /// How many looks at it there were: mostly the `count` of a `Turns` of its own, which each `entry` ticks too.
+    /// The number of calls of `entry`. Implement it as the `count` of a `Turns` field that `entry` ticks.
     ghost looks: { Self → ℕ };
 
     /// How many entries it has.

@@ -30,7 +30,7 @@ pub trait StaticPermittedAlphabet: Sized + Drop {
     ghost use Rattle.asn1_characters.specs.declared.character_set.CharacterSetName.{CharacterSetName};
     ghost use Rattle.asn1_characters.specs.declared.character_set.CharacterRanges.{CharacterRanges};
 
-    /// In what a character is kept.
+    /// The integer that keeps a character.
     type T: CodeUnit;
 
     ghost CHARACTER_SET_RANGES: { CharacterRanges };
@@ -76,8 +76,8 @@ pub trait StaticPermittedAlphabet: Sized + Drop {
         ensures ok { OnOk result (characters self.new ≡ characters self.old ++ character ∷ []) }
         ensures err { OnErr result (characters self.new ≡ characters self.old) };
 
-    /// Asks for memory for so many more characters, and for none where they are 0. The string is as
-    /// before, also where memory is refused.
+    /// Reserves room for so many more characters; for 0 it allocates nothing. The string stays, also if memory is
+    /// refused.
     fn reserve(&mut self, additional: usize) -> Result<(), AllocError>
         ensures same { characters self.new ≡ characters self.old }
         ensures memory { OnErr result (additional ≢ 0) };
@@ -257,8 +257,8 @@ pub trait StaticPermittedAlphabet: Sized + Drop {
         c < Self.T.limit };
 }
 
-/// The string of characters of `width` octets each, one by one: they are examined first, then memory is asked for. It is
-/// out of line, since mostly they are right and of the string's own width.
+/// The string of characters of `width` octets each, one by one: they are examined first, then memory is requested. Cold
+/// path: input is mostly right and of the string's own width.
 #[inline(never)]
 fn string_of_pieces<S: StaticPermittedAlphabet>(
     alloc: Global,

@@ -1,4 +1,4 @@
-//! What tells the eight strings apart.
+//! The kind of a string: what the eight differ in.
 ghost use Rattle.std.specs.Prelude.{◌≡◌, ◌<◌, ℕ, true};
 ghost use Rattle.asn1_characters.specs.Sets.{base_set, has_character};
 ghost use Rattle.asn1_strings.specs.Strings.{character_octets};
@@ -7,11 +7,11 @@ use crate::code_unit::CodeUnit;
 use asn1_characters::CharacterSetName;
 use std::fmt;
 
-/// One of the eight kinds of string: a marker, of which no value is needed.
+/// One of the eight kinds of string: a marker type without values.
 pub trait StringKind: fmt::Debug {
     ghost use Rattle.asn1_characters.specs.declared.character_set.CharacterSetName.{CharacterSetName};
 
-    /// In what a character is kept.
+    /// The integer that keeps a character.
     type T: CodeUnit;
 
     ghost NAME: { CharacterSetName };

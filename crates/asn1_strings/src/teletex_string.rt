@@ -31,7 +31,7 @@ impl FromBytes for Teletex {}
 pub type TeletexString = RestrictedString<Teletex>;
 
 impl RestrictedString<Teletex> {
-    /// A copy of the characters, one octet each. Memory is asked for where there are any.
+    /// A copy of the characters, one octet each. It allocates unless the string is empty.
     pub fn to_bytes(&self) -> Result<Vec<u8>, AllocError>
         ensures octets { IfOk result (λ v. v.items ≡ self.now) }
         ensures memory { OnErr result (self.now ≢ []) }

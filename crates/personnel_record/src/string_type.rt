@@ -4,8 +4,8 @@ ghost use Rattle.std.specs.Prelude.{◌≤◌};
 
 use asn1_values::CharacterAlphabet;
 
-/// A string type: its alphabet, its least and greatest number of characters, and in how many bits stands how many they
-/// are more than the least.
+/// A string type: its alphabet, its least and greatest number of characters, and the width in bits of its length field,
+/// which holds `length - least`.
 #[derive(Clone, Copy)]
 pub(crate) struct StringType<'s> {
     pub(crate) alphabet: CharacterAlphabet<'s>,

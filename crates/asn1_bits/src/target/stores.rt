@@ -67,7 +67,7 @@ pub(super) fn or_word(dst: &mut [u8], position: usize, word: u64, width: usize)
     }
 }
 
-/// As `or_word`, where the digits lie in eight octets.
+/// The path of `or_word` for digits within eight octets.
 #[inline(always)]
 fn or_near(dst: &mut [u8], position: usize, word: u64, width: usize)
     requires width { position % 8 + width ≤ 64 }
@@ -81,7 +81,7 @@ fn or_near(dst: &mut [u8], position: usize, word: u64, width: usize)
     }
 }
 
-/// As `or_near`, where there are some digits and all eight octets.
+/// The path of `or_near` for at least one digit, where the slice has all eight octets.
 #[inline(always)]
 pub(super) fn or_within_eight(dst: &mut [u8], position: usize, word: u64, width: usize)
     requires some { 0 < width }
@@ -93,7 +93,7 @@ pub(super) fn or_within_eight(dst: &mut [u8], position: usize, word: u64, width:
     or_octets(dst, position / 8, moved);
 }
 
-/// As `or_near`, octet by octet. It is a call of its own: only the last octets of a slice need it.
+/// Slow path of `or_near` for the last octets of a slice: octet by octet. Not inlined.
 #[cold]
 #[inline(never)]
 pub(super) fn or_short(dst: &mut [u8], position: usize, word: u64, width: usize)
@@ -113,9 +113,9 @@ pub(super) fn or_short(dst: &mut [u8], position: usize, word: u64, width: usize)
     }
 }
 
-/// As `or_octets`, from the octet of bit `position` on, where zeros stand from that bit on, and the word has no digit
-/// before it. That octet alone is read. It is added behind the turn of the word's octets, whose digits it does not meet:
-/// so a number waits for what was stored before it by one load and one sum.
+/// Writes eight octets from octet `position / 8` on. All bits from `position` on are zero, and the word has no digit
+/// before that bit. Only the partial first octet is loaded. It is added after the byte swap, since the bits do not
+/// overlap: consecutive pushes depend on one load and one add.
 #[inline]
 pub(super) fn add_octets(dst: &mut [u8], position: usize, word: u64)
     requires below { word < 2 ^ (64 - position % 8) }
@@ -129,8 +129,8 @@ pub(super) fn add_octets(dst: &mut [u8], position: usize, word: u64)
     set_octets(dst, first, (begun + turned).to_le_bytes());
 }
 
-/// As `or_word`, of a number of `width` digits that lie in eight octets, all of which are there, where zeros stand from
-/// bit `position` on. So one octet is read, and eight are stored.
+/// Writes a number of `width` digits over zeros from bit `position` on. They lie within eight octets of the slice: one
+/// octet is loaded and eight are stored.
 #[inline(always)]
 pub(super) fn put_word(dst: &mut [u8], position: usize, word: u64, width: usize)
     requires some { 0 < width }
@@ -143,7 +143,7 @@ pub(super) fn put_word(dst: &mut [u8], position: usize, word: u64, width: usize)
     add_octets(dst, position, word << (64 - width - position % 8));
 }
 
-/// As `put_word`, of a number whose digits lie in sixteen octets.
+/// Writes a number over zeros from bit `position` on. Its digits lie within sixteen octets of the slice.
 #[inline(always)]
 pub(super) fn put_pair(dst: &mut [u8], position: usize, number: u128, width: usize)
     requires some { 0 < width }
@@ -173,7 +173,7 @@ pub(super) fn or_front(dst: &mut [u8], octet: usize, word: u64, width: usize)
     dst[octet] |= octets[0];
 }
 
-/// The word with the lowest `width` digits of another in the place of its own from digit `shift` on.
+/// Replaces `width` digits of the word, from digit `shift` on, by the lowest digits of another word.
 #[inline(always)]
 fn replaced(old: u64, word: u64, shift: usize, width: usize) -> u64
     requires some { 0 < width }
@@ -199,7 +199,7 @@ fn set_within_eight(dst: &mut [u8], position: usize, word: u64, width: usize)
     set_octets(dst, first, new.to_be_bytes());
 }
 
-/// As `set_near`, by clearing the bits first. It is a call of its own: only the last octets of a slice need it.
+/// Slow path of `set_near` for the last octets of a slice: it clears the bits first. Not inlined.
 #[cold]
 #[inline(never)]
 fn set_short(dst: &mut [u8], position: usize, word: u64, width: usize)
@@ -212,7 +212,7 @@ fn set_short(dst: &mut [u8], position: usize, word: u64, width: usize)
     or_short(dst, position, word, width);
 }
 
-/// As `set_word`, where the digits lie in eight octets.
+/// The path of `set_word` for digits within eight octets.
 #[inline(always)]
 fn set_near(dst: &mut [u8], position: usize, word: u64, width: usize)
     requires width { position % 8 + width ≤ 64 }

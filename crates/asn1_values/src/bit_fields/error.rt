@@ -15,10 +15,11 @@ pub enum WriteError {
     /// A character that its alphabet has no code for.
     #[error("field {field}: character {character} is not in the alphabet")]
     Character { field: usize, character: u32 },
-    /// Every field fits, and the new length passes `usize::MAX` bits, or the end of the octets that are written over.
+    /// Every field fits, but the new length passes `usize::MAX` bits, or the fields would end behind the octets that
+    /// are written over.
     #[error("too many bits")]
     TooLong,
-    /// Every field fits, and memory is wanting.
+    /// Every field fits, but there is no memory.
     #[error("out of memory")]
     Memory,
     /// A counted integer whose shortest octets are more than 127.
@@ -38,13 +39,13 @@ pub enum ReadError {
     /// No octets, or octets that are not the shortest of their number.
     #[error("field {field}: not a shortest integer")]
     Integer { field: usize },
-    /// By how many bits the reader is short of the field.
+    /// Fewer bits are left than the field has; so many are missing.
     #[error("field {field}: {bits} bits short")]
     Short { field: usize, bits: u128 },
     /// A number that is the code of no character of the alphabet.
     #[error("field {field}: code {code} is no character")]
     Character { field: usize, code: u32 },
-    /// No field is wrong, and memory is wanting.
+    /// No field is wrong, but there is no memory.
     #[error("out of memory")]
     Memory,
     /// A length octet of a counted integer that is 0 or at least 128.

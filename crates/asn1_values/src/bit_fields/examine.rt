@@ -1,4 +1,4 @@
-//! Examining fields without memory: going past those that are there.
+//! Moves a reader past fields, and finds the first wrong one, without memory.
 
 ghost use Rattle.std.specs.Prelude.{◌≡◌, Ok, Err, ◌-◌, ◌*◌, ◌/◌, ◌<◌, ◌≤◌, length, take, drop, OnOk, IfOk, IfErr, IsOk};
 ghost use Rattle.asn1_bits.specs.BitReader.{view_left, bits_left};

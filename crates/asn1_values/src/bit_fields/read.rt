@@ -30,9 +30,9 @@ use asn1_oid::ObjectIdentifier;
 use asn1_strings::CharacterAlphabet;
 use std::alloc::{AllocError, Global};
 
-/// Reads fields of the shapes from the front of the reader, which moves past them. Where one is refused, the reader
-/// stays. Room for as many fields as there are shapes is asked for first, and octets that are copied take their own. Want
-/// of memory is the last refusal: where it is met, the list is examined to its end without memory.
+/// Reads a field of each shape from the front of the reader, which moves past them. If one is refused, the reader
+/// stays. It first asks for room for all fields; copied octets, long integers and identifiers allocate their own. Want
+/// of memory is the last refusal: if memory fails, the rest is examined without memory.
 pub fn read_fields<'a, 's>(
     alloc: Global,
     reader: &mut BitReader<'a>,
@@ -65,8 +65,8 @@ pub fn read_fields<'a, 's>(
     // own first bit on.
     ensures places { IfOk result (λ fields. LieFrom (view_left reader.old) fields.items) }
 
-    // A refusal names the first wrong field, with its reason; where none is wrong, it is want of memory. A refusal
-    // that names a field is the only one that can be, and is given whatever memory there is.
+    // A refusal names the first wrong field, with its reason; where none is wrong, it is want of memory. The refusal is
+    // unique: if a field is wrong, exactly that field is named, independent of allocation.
     ensures refused { IfErr result (IsReadRefusal (bits_left reader.old) (plain_shapes shapes.now)) }
     ensures named { (e : ReadError) → e ≢ ReadError.Memory
         → IsReadRefusal (bits_left reader.old) (plain_shapes shapes.now) e → result ≡ Err e }
@@ -98,7 +98,8 @@ pub fn read_fields<'a, 's>(
     }
 }
 
-/// The refusal that counts, where one was met: the first wrong field's, which want of memory may have hidden.
+/// Picks the refusal to report. If allocation failed, it examines the fields without memory, since a wrong field takes
+/// precedence over `Memory`.
 #[cold]
 #[inline(never)]
 fn refusal_of(reader: BitReader<'_>, shapes: &[Shape<'_>], met: ReadError) -> ReadError
@@ -135,7 +136,7 @@ fn next_integer(
     Ok(read_integer(alloc, reader, octets)?)
 }
 
-/// Reads a field of each shape, up to the first that is wrong or for which memory is wanting.
+/// Reads a field of each shape, and stops at the first that is wrong or that cannot be allocated.
 #[inline(always)]
 fn collect<'a, 's>(
     alloc: Global,
@@ -153,7 +154,7 @@ fn collect<'a, 's>(
         → past_all 0 (fields_at (plain_shapes shapes.now) (bits_left reader.old)) ≡ Err e) }
     ensures no_shapes { shapes.now ≡ [] → IsOk result }
 {
-    // All the room is asked for at once; for no shapes none is.
+    // One request for all fields, and none for no shapes.
     let mut fields = Vec::new(alloc);
     fields.reserve_exact(shapes.len())?;
     for (i, shape) in shapes.iter().enumerate() {
@@ -162,7 +163,7 @@ fn collect<'a, 's>(
     Ok(fields)
 }
 
-/// Examines one field, and appends it if there is one of the shape.
+/// Appends the next field if the bits begin with one of the shape.
 #[inline(always)]
 fn append_next<'a, 's>(
     fields: &mut Vec<Field<'a, 's>>,
@@ -201,7 +202,7 @@ fn append_next<'a, 's>(
     Ok(())
 }
 
-/// Appends octets, if so many are there.
+/// Appends the next `count` octets if so many are left.
 #[inline(always)]
 fn append_octets<'a>(
     fields: &mut Vec<Field<'a, '_>>,
@@ -223,7 +224,7 @@ fn append_octets<'a>(
     Ok(())
 }
 
-/// Takes octets, if so many are there.
+/// Takes the next octets if so many are left.
 #[inline(always)]
 #[tactic(auto, unfolding(crate::specs::Walk::field_at, crate::specs::Walk::cut_at))]
 fn next_octets<'a>(
@@ -246,7 +247,7 @@ fn next_octets<'a>(
     Ok(front.octets(alloc)?)
 }
 
-/// Appends a view of bits, if so many are there.
+/// Appends a view of the next bits if so many are left.
 #[inline(always)]
 #[tactic(auto, unfolding(crate::specs::Walk::field_at, crate::specs::Walk::cut_at))]
 fn append_bits<'a>(
@@ -268,7 +269,7 @@ fn append_bits<'a>(
     Ok(())
 }
 
-/// Appends a counted integer, if there is one.
+/// Appends the next counted integer if it is well formed.
 #[inline(always)]
 #[tactic(auto, unfolding(crate::specs::Walk::field_at))]
 fn append_counted<'a>(
@@ -291,7 +292,7 @@ fn append_counted<'a>(
     Ok(())
 }
 
-/// Appends an identifier, if the octets are its contents.
+/// Appends an identifier if the next octets are its contents.
 #[inline(always)]
 #[tactic(auto, unfolding(crate::specs::Walk::field_at))]
 fn append_identifier<'a>(
@@ -315,7 +316,7 @@ fn append_identifier<'a>(
     Ok(())
 }
 
-/// Appends a character, for which there is room. It is a call of its own, so that the alphabet is copied as a whole.
+/// Appends a character, for which there is room. Not inlined, so that the alphabet is copied as a whole.
 #[inline(never)]
 fn keep_character<'a, 's>(
     fields: &mut Vec<Field<'a, 's>>,
@@ -438,7 +439,7 @@ fn integer_of(alloc: Global, reader: &BitReader<'_>) -> Result<Integer, AllocErr
     copied_integer_of(alloc, reader)
 }
 
-/// As `integer_of`, of a copy of the reader, so that the reader itself need not lie in memory.
+/// Copies the reader before the call of `integer_of` that is not inlined, so that the original stays in registers.
 #[inline(always)]
 fn copied_integer_of(alloc: Global, reader: &BitReader<'_>) -> Result<Integer, AllocError>
     requires whole { (view_left reader.now).len % 8 ≡ 0 }
@@ -449,7 +450,7 @@ fn copied_integer_of(alloc: Global, reader: &BitReader<'_>) -> Result<Integer, A
     long_integer_of(alloc, &copy)
 }
 
-/// As `integer_of`, by octets.
+/// The path of `integer_of` for more than sixteen octets.
 #[inline(never)]
 fn long_integer_of(alloc: Global, reader: &BitReader<'_>) -> Result<Integer, AllocError>
     requires whole { (view_left reader.now).len % 8 ≡ 0 }
@@ -483,7 +484,7 @@ fn signed_word(word: u128, width: usize) -> i128
     }
 }
 
-/// As `signed_word`, of at most 64 digits.
+/// The path of `signed_word` for at most 64 digits.
 #[inline(always)]
 fn signed_short(word: u64, width: usize) -> i128
     requires some { 0 < width }
@@ -500,7 +501,7 @@ fn signed_short(word: u64, width: usize) -> i128
     }
 }
 
-/// The identifier of which the octets that the reader has left are the contents.
+/// The identifier whose contents are the octets that the reader has left.
 #[inline(never)]
 fn identifier_of(alloc: Global, reader: &BitReader<'_>) -> Result<ObjectIdentifier, AllocError>
     ensures { IfOk result (λ arcs.

@@ -23,9 +23,9 @@ use asn1_integer::Integer;
 use asn1_oid::{ObjectIdentifier, OidContents};
 use asn1_strings::CharacterAlphabet;
 
-/// Appends the fields' bits to the buffer, one after another, by one growth. Where a field doesn't fit, or memory is
-/// wanting, the buffer's bits stay; want of memory is the last refusal. The codes of characters are looked up after the
-/// growth, so a list that is refused for a character may leave the buffer with more capacity.
+/// Appends the fields' bits to the buffer, one after another, in one growth. If a field does not fit, or memory fails,
+/// the buffer's bits stay; want of memory is the last refusal. Codes of characters are looked up after the growth, so a
+/// list that is refused for a character may leave the buffer with more capacity.
 pub fn write_fields(buffer: &mut BitBuffer, fields: &[Field<'_, '_>]) -> Result<(), WriteError>
     // The old bits are followed by a concatenation of the fields' spellings.
     ensures written { OnOk result ((list : List Bool) × AreSpelledBy (plain_fields fields.now) list
@@ -45,8 +45,8 @@ pub fn write_fields(buffer: &mut BitBuffer, fields: &[Field<'_, '_>]) -> Result<
         → length buffer.old + length list < 2 ^ 64 → AddsNoOctet (length buffer.old) (length list)
         → IsOk result }
 
-    // A refusal names the first field that doesn't fit, with its reason; where all fit, the new length or memory. A
-    // refusal for another cause than memory is the only one that can be, and is given whatever memory there is.
+    // A refusal names the first field that doesn't fit, with its reason; where all fit, the new length or memory. The
+    // refusal is unique: if a cause other than memory applies, exactly that one is named, independent of allocation.
     ensures refused { IfErr result (IsWriteRefusal (length buffer.old) (plain_fields fields.now)) }
     ensures named { (e : WriteError) → e ≢ WriteError.Memory
         → IsWriteRefusal (length buffer.old) (plain_fields fields.now) e → result ≡ Err e }
@@ -55,7 +55,7 @@ pub fn write_fields(buffer: &mut BitBuffer, fields: &[Field<'_, '_>]) -> Result<
     write_fields_counted(buffer, fields, &mut Turns::new())
 }
 
-/// As `write_fields`, and counts the turns: one for each word of at most 64 bits that is written.
+/// `write_fields` with a counter: one turn for each word of at most 64 bits that is written.
 pub fn write_fields_counted(
     buffer: &mut BitBuffer,
     fields: &[Field<'_, '_>],
@@ -91,8 +91,8 @@ pub fn write_fields_counted(
     }
 }
 
-/// Appends the fields' bits. None where a field doesn't fit, or the new length, or memory is wanting; then nothing has
-/// changed. Whether an alphabet has a character is found as its code is pushed, so that it is looked up once.
+/// Appends the fields' bits. `None` if a field or the new length does not fit, or memory fails; then nothing has
+/// changed. Characters are checked when their code is pushed, to avoid a second lookup.
 #[inline(always)]
 fn append_all(buffer: &mut BitBuffer, fields: &[Field<'_, '_>], turns: &mut Turns) -> Option<()>
     ensures written { OnSome result ((list : List Bool) × AreSpelledBy (plain_fields fields.now) list
@@ -112,8 +112,8 @@ fn append_all(buffer: &mut BitBuffer, fields: &[Field<'_, '_>], turns: &mut Turn
     push_or_back(buffer, end as usize - len, fields, turns)
 }
 
-/// Appends the fields' bits, for which so many are needed. None where a character is not in its alphabet, or memory is
-/// wanting; then nothing has changed.
+/// Appends the fields' bits, which lead to length `end`. `None` if a character is not in its alphabet, or memory fails;
+/// then nothing has changed.
 #[inline(always)]
 fn push_or_back(
     buffer: &mut BitBuffer,
@@ -148,7 +148,7 @@ fn push_or_back(
     }
 }
 
-/// The refusal that counts: the first misfit, else the new length, else want of memory.
+/// Picks the refusal to report: the first field that does not fit, else the new length, else want of memory.
 #[cold]
 #[inline(never)]
 fn refusal_of(len: usize, fields: &[Field<'_, '_>]) -> WriteError
@@ -168,7 +168,8 @@ fn refusal_of(len: usize, fields: &[Field<'_, '_>]) -> WriteError
     }
 }
 
-/// The length that the fields lead to, characters of whatever code: None where a field of another kind doesn't fit.
+/// The length behind the fields, without checking that characters have codes. `None` if a field of another kind does
+/// not fit.
 #[inline(always)]
 fn end_of(len: usize, fields: &[Field<'_, '_>]) -> Option<u128>
     ensures some { IfSome result (EndsAt TakesBits len (plain_fields fields.now)) }
@@ -181,7 +182,8 @@ fn end_of(len: usize, fields: &[Field<'_, '_>]) -> Option<u128>
     Some(end)
 }
 
-/// How many bits a field takes: a character its alphabet's width, another field as many as spell it, if it fits.
+/// The number of a field's bits: the alphabet's width for a character; for another kind the bits that spell it, if it
+/// fits.
 #[inline(always)]
 fn len_of(field: &Field<'_, '_>) -> Option<u128>
     ensures some { IfSome result (HasLength TakesBits (plain_field field.now)) }
@@ -193,8 +195,7 @@ fn len_of(field: &Field<'_, '_>) -> Option<u128>
     }
 }
 
-/// The length that the fields lead to, if they all fit. The sum stops growing at `u128::MAX`, and later fields are still
-/// examined.
+/// The length behind the fields, if all fit. The sum saturates at `u128::MAX`, and later fields are still examined.
 #[inline(always)]
 pub(super) fn new_len(len: usize, fields: &[Field<'_, '_>]) -> Result<u128, WriteError>
     ensures ok { IfOk result (EndsAt IsSpelledBy len (plain_fields fields.now)) }
@@ -207,7 +208,7 @@ pub(super) fn new_len(len: usize, fields: &[Field<'_, '_>]) -> Result<u128, Writ
     Ok(end)
 }
 
-/// The sum of two lengths, which stops at the greatest number.
+/// The sum of two lengths, saturating.
 #[inline(always)]
 fn sum_of(one: u128, other: u128) -> u128
     ensures { result ≡ min (one + other) (2 ^ 128 - 1) }
@@ -218,7 +219,7 @@ fn sum_of(one: u128, other: u128) -> u128
     }
 }
 
-/// As `sum_of`, out of the way, since lengths that lie in memory never come so far.
+/// Cold path of `sum_of`: the lengths of fields in memory never get there.
 #[cold]
 #[inline(never)]
 fn past_all_lengths(one: u128, other: u128) -> u128
@@ -227,7 +228,7 @@ fn past_all_lengths(one: u128, other: u128) -> u128
     one.saturating_add(other)
 }
 
-/// How many bits a field has, if it fits.
+/// The number of a field's bits, if it fits.
 #[inline(always)]
 fn fitting_len(field: &Field<'_, '_>, place: usize) -> Result<u128, WriteError>
     ensures ok { IfOk result (FitsIn (plain_field field.now)) }
@@ -253,8 +254,8 @@ fn fitting_len(field: &Field<'_, '_>, place: usize) -> Result<u128, WriteError>
     }
 }
 
-/// How many bits the contents of an identifier have, if it has two arcs. What the call answers lies in memory of this
-/// function, and is cleared for identifiers alone.
+/// The number of bits of an identifier's contents, if it has two arcs. A function of its own, so that the result's
+/// stack slot is initialised only for identifiers.
 #[inline(always)]
 fn fitting_identifier(oid: &ObjectIdentifier, place: usize) -> Result<u128, WriteError>
     ensures ok { IfOk result (FitsIn (plain.Identifier oid.now)) }
@@ -276,7 +277,7 @@ fn fitting_width(value: u128, width: usize, place: usize) -> Result<u128, WriteE
     fitting_wide(value, width, place)
 }
 
-/// As `fitting_width`, of any number.
+/// The path of `fitting_width` for any number.
 #[inline(always)]
 fn fitting_wide(value: u128, width: usize, place: usize) -> Result<u128, WriteError>
     ensures ok { IfOk result (FitsIn (plain.Number value width)) }
@@ -457,7 +458,7 @@ fn push_counted(appender: &mut BitAppender<'_>, number: &Integer, turns: &mut Tu
     push_shortest(appender, number, turns);
 }
 
-/// Pushes the shortest octets of a number that fit the room: up to sixteen of them as a word.
+/// Pushes the shortest octets of a number, which fit the room: up to sixteen of them as one number.
 #[inline(always)]
 fn push_shortest(appender: &mut BitAppender<'_>, number: &Integer, turns: &mut Turns)
     requires { (octets : List ℕ) → IsShortest number.now octets → 8 * length octets ≤ room appender.old }
@@ -480,7 +481,7 @@ fn push_shortest(appender: &mut BitAppender<'_>, number: &Integer, turns: &mut T
     }
 }
 
-/// As `push_shortest`, by the octets. It is a call of its own: few numbers take more than sixteen.
+/// The path of `push_shortest` for more than sixteen octets. Not inlined, since it is rare.
 #[inline(never)]
 fn push_long(appender: &mut BitAppender<'_>, number: &Integer, turns: &mut Turns)
     requires { (octets : List ℕ) → IsShortest number.now octets → 8 * length octets ≤ room appender.old }

@@ -19,8 +19,8 @@ use asn1_integer::Integer;
 use asn1_oid::OidContents;
 
 /// Writes the fields' bits over those of the octets from bit `position` on, one after another, and leaves every other
-/// bit. It takes no memory, and answers with the first bit behind the fields. The whole list is examined first; where
-/// it is refused, the octets stay.
+/// bit. Returns the bit behind them. It allocates nothing. The whole list is examined first; if it is refused, the
+/// octets stay.
 pub fn write_fields_at(
     octets: &mut [u8],
     position: usize,
@@ -40,8 +40,8 @@ pub fn write_fields_at(
     ensures accepted { (list : List Bool) → AreSpelledBy (plain_fields fields.now) list
         → position + length list ≤ 8 * length octets.old → position + length list < 2 ^ 64 → IsOk result }
 
-    // A refusal names the first field that doesn't fit, with its reason; where all fit, where they end. It is the only
-    // one that can be.
+    // A refusal names the first field that doesn't fit, with its reason; where all fit, where they end. The refusal is
+    // unique.
     ensures refused { IfErr result (IsWriteAtRefusal (8 * length octets.old) position (plain_fields fields.now)) }
     ensures named { (e : WriteError)
         → IsWriteAtRefusal (8 * length octets.old) position (plain_fields fields.now) e → result ≡ Err e }
