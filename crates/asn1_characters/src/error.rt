@@ -6,6 +6,7 @@ ghost use Rattle.asn1_characters.specs.declared.character_set.CharacterSetName.T
 
 use crate::character_set::CharacterSetName;
 use std::alloc::AllocError;
+use std::error::Error;
 use std::fmt;
 
 /// A character that `BmpString` may not hold (X.680 41).
@@ -35,6 +36,8 @@ impl fmt::Display for InvalidBmpString {
     }
 }
 
+impl Error for InvalidBmpString {}
+
 /// A character that `GeneralString` may not hold (X.680 41).
 #[derive(Clone, Copy, Debug, PartialEq, Eq, PartialOrd, Ord, Hash)]
 pub struct InvalidGeneralString {
@@ -61,6 +64,8 @@ impl fmt::Display for InvalidGeneralString {
         )
     }
 }
+
+impl Error for InvalidGeneralString {}
 
 /// A character that `GraphicString` may not hold (X.680 41).
 #[derive(Clone, Copy, Debug, PartialEq, Eq, PartialOrd, Ord, Hash)]
@@ -89,6 +94,8 @@ impl fmt::Display for InvalidGraphicString {
     }
 }
 
+impl Error for InvalidGraphicString {}
+
 /// A character that `Ia5String` may not hold (X.680 41).
 #[derive(Clone, Copy, Debug, PartialEq, Eq, PartialOrd, Ord, Hash)]
 pub struct InvalidIA5String {
@@ -115,6 +122,8 @@ impl fmt::Display for InvalidIA5String {
         )
     }
 }
+
+impl Error for InvalidIA5String {}
 
 /// A character that `NumericString` may not hold (X.680 41).
 #[derive(Clone, Copy, Debug, PartialEq, Eq, PartialOrd, Ord, Hash)]
@@ -143,6 +152,8 @@ impl fmt::Display for InvalidNumericString {
     }
 }
 
+impl Error for InvalidNumericString {}
+
 /// A character that `PrintableString` may not hold (X.680 41).
 #[derive(Clone, Copy, Debug, PartialEq, Eq, PartialOrd, Ord, Hash)]
 pub struct InvalidPrintableString {
@@ -169,6 +180,8 @@ impl fmt::Display for InvalidPrintableString {
         )
     }
 }
+
+impl Error for InvalidPrintableString {}
 
 /// A character that `TeletexString` may not hold (X.680 41).
 #[derive(Clone, Copy, Debug, PartialEq, Eq, PartialOrd, Ord, Hash)]
@@ -197,6 +210,8 @@ impl fmt::Display for InvalidTeletexString {
     }
 }
 
+impl Error for InvalidTeletexString {}
+
 /// A character that `VisibleString` may not hold (X.680 41).
 #[derive(Clone, Copy, Debug, PartialEq, Eq, PartialOrd, Ord, Hash)]
 pub struct InvalidVisibleString {
@@ -223,6 +238,8 @@ impl fmt::Display for InvalidVisibleString {
         )
     }
 }
+
+impl Error for InvalidVisibleString {}
 
 /// A character that one of the eight strings may not hold, by the string's own error.
 #[derive(Clone, Copy, Debug, PartialEq, Eq, PartialOrd, Ord, Hash)]
@@ -296,6 +313,8 @@ impl fmt::Display for InvalidRestrictedString {
     }
 }
 
+impl Error for InvalidRestrictedString {}
+
 /// Why there is no string, no code or no character.
 #[derive(Clone, Copy, Debug, PartialEq, Eq, PartialOrd, Ord, Hash)]
 pub enum PermittedAlphabetError {
@@ -348,3 +367,5 @@ impl fmt::Display for PermittedAlphabetError {
         }
     }
 }
+
+impl Error for PermittedAlphabetError {}

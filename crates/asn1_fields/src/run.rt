@@ -17,18 +17,22 @@ use asn1_values::{
 };
 use std::alloc::{AllocError, Global};
 use std::io::{ErrorKind, Read, Write};
+use thiserror::Error;
 
 /// How often the input is read at most.
 const READS: u32 = 1_048_576;
 
 /// Why the program came to no answer.
-#[derive(Clone, Copy, Debug, PartialEq, Eq)]
+#[derive(Clone, Copy, Debug, PartialEq, Eq, Error)]
 pub enum RunError {
-    /// The input could not be read, or had no end after 1,048,576 reads. Nothing was written.
+    /// The input could not be read, or did not end within 1,048,576 reads. Nothing was written.
+    #[error("the input cannot be read")]
     Read,
-    /// The output could not be written; a beginning of it may have gone out.
+    /// The output could not be written; a front of the answer may have gone out.
+    #[error("the output cannot be written")]
     Write,
-    /// Memory is wanting. Nothing was written.
+    /// There is no memory. Nothing was written.
+    #[error("out of memory")]
     Memory,
 }
 

@@ -8,6 +8,7 @@ ghost use Rattle.asn1_number.specs.Readings.{kind_u128, kind_i128, kind_usize, k
 
 use crate::integer::Integer;
 use std::alloc::AllocError;
+use std::error::Error;
 use std::fmt;
 use std::marker::Model;
 
@@ -64,6 +65,8 @@ impl fmt::Display for TryFromIntegerError {
         )
     }
 }
+
+impl Error for TryFromIntegerError {}
 
 /// The value, where the type holds the number, else the number back.
 #[inline(always)]

@@ -1,6 +1,8 @@
 //! Why a record could not be written or read.
 
 use std::alloc::AllocError;
+use std::fmt;
+use thiserror::Error;
 
 /// A part of a record.
 #[derive(Clone, Copy, Debug, PartialEq, Eq)]
@@ -25,22 +27,42 @@ pub enum Part {
     Padding,
 }
 
+impl fmt::Display for Part {
+    fn fmt<W: fmt::Write>(&self, f: &mut fmt::Formatter<W>) -> fmt::Result {
+        match self {
+            Part::Presence => write!(f, "the presence bit"),
+            Part::Name => write!(f, "the name"),
+            Part::Number => write!(f, "the number"),
+            Part::Title => write!(f, "the title"),
+            Part::DateOfHire => write!(f, "the date of hire"),
+            Part::NameOfSpouse => write!(f, "the name of the spouse"),
+            Part::ChildCount => write!(f, "the number of children"),
+            Part::Child { index } => write!(f, "child {index}"),
+            Part::Padding => write!(f, "the padding"),
+        }
+    }
+}
+
 /// Why a record was not written.
-#[derive(Clone, Copy, Debug, PartialEq, Eq)]
+#[derive(Clone, Copy, Debug, PartialEq, Eq, Error)]
 pub enum EncodeError {
     /// A part that has no encoding: a string has a character too many or too few, or one that its type doesn't
     /// permit; the number has more than 127 octets; the children are more than 127.
+    #[error("{part} has no encoding")]
     Wrong { part: Part },
-    /// Memory is wanting.
+    /// There is no memory.
+    #[error("out of memory")]
     Memory,
 }
 
 /// Why a record was not read.
-#[derive(Clone, Copy, Debug, PartialEq, Eq)]
+#[derive(Clone, Copy, Debug, PartialEq, Eq, Error)]
 pub enum DecodeError {
     /// The first part that no bits which are left begin with.
+    #[error("{part} is wrong")]
     Wrong { part: Part },
-    /// Memory is wanting.
+    /// There is no memory.
+    #[error("out of memory")]
     Memory,
 }
 
