@@ -10,7 +10,7 @@ use Rattle.asn1_formats.specs.declared.character.CharacterFault.TheVariants.{Sho
 use Rattle.asn1_formats.specs.declared.character.NotInAlphabet.{NotInAlphabet}
 use Rattle.asn1_formats.specs.Spelling.{Starts, CanRead, ReadsOne, SpellsOne, NamesFault, NamesMisfit}
 use Rattle.asn1_formats.specs.Numbers.{IsNumber}
-use Rattle.asn1_formats.specs.Characters.{IsCharacter, IsCharacterFault}
+use Rattle.asn1_formats.specs.Characters.{IsCharacter, IsCharacterFault, IsNoCharacter}
 use Rattle.asn1_formats.specs.SpellingLaws.{number_reads_one, number_short}
 
 module _ (alphabet : Alphabet) where
@@ -70,8 +70,10 @@ module _ (alphabet : Alphabet) where
   character_names_fault = record { wrong = wrong; one = one_fault }
 
   pub character_names_misfit : NamesMisfit (IsCharacter alphabet)
-      (λ c (e : NotInAlphabet). (k : ℕ) → ¬ (IsCode alphabet c k))
+      (λ c e. IsNoCharacter alphabet c e)
   character_names_misfit = record {
-    wrong = λ c e p fits. p fits.spelled.0 fits.spelled.1;
-    one = λ c e g p q. refl;
+    wrong = λ c e p fits. p.1 fits.spelled.0 fits.spelled.1;
+    one = λ c e g p q.
+        let same : e.character ≡ g.character = p.0 ∙ sym q.0 in
+        ap (λ (d : ℕ). record { character = d }) same;
   }

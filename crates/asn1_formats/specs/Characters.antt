@@ -1,8 +1,9 @@
 -- Characters by their codes.
-use Rattle.std.specs.Prelude.{ℕ, Bool, List}
+use Rattle.std.specs.Prelude.{◌≡◌, ℕ, Bool, List}
 use Rattle.asn1_strings.specs.Alphabet.{Alphabet, IsCode}
 use Rattle.asn1_formats.specs.declared.character.CharacterFault.{CharacterFault}
 use Rattle.asn1_formats.specs.declared.character.CharacterFault.TheVariants.{Short, NoCharacter}
+use Rattle.asn1_formats.specs.declared.character.NotInAlphabet.{NotInAlphabet}
 use Rattle.asn1_formats.specs.Numbers.{IsNumber, IsShort}
 use Rattle.asn1_formats.specs.Spelling.{Starts}
 
@@ -15,3 +16,7 @@ abbrev pub IsCharacterFault : Alphabet → List Bool → CharacterFault → Type
 IsCharacterFault alphabet list (Short missing) = IsShort alphabet.width list missing
 IsCharacterFault alphabet list (NoCharacter code) =
     ((c : ℕ) → ¬ (IsCode alphabet c code)) × ((rest : List Bool) × Starts (IsNumber alphabet.width) list code rest)
+
+-- the error names the character, which has no code
+abbrev pub IsNoCharacter : Alphabet → ℕ → NotInAlphabet → Type 0
+IsNoCharacter alphabet c e = (e.character ≡ c) × ((k : ℕ) → ¬ (IsCode alphabet c k))

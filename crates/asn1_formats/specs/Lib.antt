@@ -14,6 +14,7 @@ pub mod NumberLaws
 pub mod WholeNumberLaws
 pub mod BooleanLaws
 pub mod CharacterLaws
+pub mod NamedLaws
 pub mod ThenLaws
 pub mod ListLaws
 pub mod SequenceLaws

@@ -6,13 +6,15 @@ use crate::refusal::Refusal;
 use asn1_values::{BitBuffer, BitReader};
 use std::alloc::Global;
 use std::convert::Infallible;
+use thiserror::Error;
 
 /// BOOLEAN: one bit, 1 for true (X.691 12).
 #[derive(Clone, Copy, Debug)]
 pub struct Boolean {}
 
 /// The bit is missing.
-#[derive(Clone, Copy, Debug, PartialEq, Eq)]
+#[derive(Clone, Copy, Debug, PartialEq, Eq, Error)]
+#[error("a bit is missing")]
 pub struct NoBit {}
 
 impl Format for Boolean {

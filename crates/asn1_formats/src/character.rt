@@ -9,19 +9,26 @@ use crate::number::{next32, push};
 use crate::refusal::Refusal;
 use asn1_values::{BitBuffer, BitReader, CharacterAlphabet};
 use std::alloc::Global;
+use thiserror::Error;
 
 /// Why bits hold no character.
-#[derive(Clone, Copy, Debug, PartialEq, Eq, Drop)]
+#[derive(Clone, Copy, Debug, PartialEq, Eq, Drop, Error)]
 pub enum CharacterFault {
     /// So many bits are missing.
+    #[error("{missing} bits are missing")]
     Short { missing: usize },
     /// No character has this code.
+    #[error("no character has code {code}")]
     NoCharacter { code: u32 },
 }
 
 /// The character is not in the alphabet.
-#[derive(Clone, Copy, Debug, PartialEq, Eq)]
-pub struct NotInAlphabet {}
+#[derive(Clone, Copy, Debug, PartialEq, Eq, Error)]
+#[error("character {character} is not in the alphabet")]
+pub struct NotInAlphabet {
+    /// The character.
+    pub character: u32,
+}
 
 /// The characters of an alphabet, each by its code (X.691 30.5). [`SequenceOf`](crate::SequenceOf) makes a
 /// known-multiplier string of them, with its SIZE.
@@ -45,8 +52,7 @@ impl<'s> Character<'s> {
 }
 
 impl<'s> Format for Character<'s> {
-    ghost use Rattle.asn1_strings.specs.Alphabet.{IsCode};
-    ghost use Rattle.asn1_formats.specs.Characters.{IsCharacter, IsCharacterFault};
+    ghost use Rattle.asn1_formats.specs.Characters.{IsCharacter, IsCharacterFault, IsNoCharacter};
     ghost use Rattle.asn1_formats.specs.CharacterLaws.{character_reads_one, character_spells_one, character_names_fault, character_names_misfit};
 
     type Value = u32;
@@ -63,7 +69,7 @@ impl<'s> Format for Character<'s> {
 
     ghost is_fault = { λ f list e. IsCharacterFault (alphabet_of f.alphabet) list e };
 
-    ghost is_misfit = { λ f c e. (k : ℕ) → ¬ (IsCode (alphabet_of f.alphabet) c k) };
+    ghost is_misfit = { λ f c e. IsNoCharacter (alphabet_of f.alphabet) c e };
 
     ghost owns_nothing = { λ f. ⊤ };
 
@@ -74,7 +80,7 @@ impl<'s> Format for Character<'s> {
                 Ok(()) => Ok(()),
                 Err(_) => Err(Refusal::Memory),
             },
-            Err(_) => Err(Refusal::Wrong(NotInAlphabet {})),
+            Err(_) => Err(Refusal::Wrong(NotInAlphabet { character: *value })),
         }
     }
 
@@ -82,7 +88,7 @@ impl<'s> Format for Character<'s> {
         let width = self.alphabet.width();
         match self.alphabet.encode(*value) {
             Ok(_) => Ok(Some(width)),
-            Err(_) => Err(NotInAlphabet {}),
+            Err(_) => Err(NotInAlphabet { character: *value }),
         }
     }
 

@@ -10,16 +10,19 @@ use crate::format::Format;
 use crate::refusal::Refusal;
 use asn1_values::{BitBuffer, BitReader};
 use std::alloc::{AllocError, Global};
+use thiserror::Error;
 
 /// The bits end too early.
-#[derive(Clone, Copy, Debug, PartialEq, Eq)]
+#[derive(Clone, Copy, Debug, PartialEq, Eq, Error)]
+#[error("{missing} bits are missing")]
 pub struct Short {
     /// So many bits are missing.
     pub missing: usize,
 }
 
 /// The number is too large for its bits.
-#[derive(Clone, Copy, Debug, PartialEq, Eq)]
+#[derive(Clone, Copy, Debug, PartialEq, Eq, Error)]
+#[error("the number does not fit its bits")]
 pub struct PastWidth {}
 
 /// The whole numbers that so many bits hold, at most 64: their binary digits, the highest first (X.691 11.3).

@@ -11,22 +11,27 @@ use crate::number::{Short, next, push};
 use crate::refusal::Refusal;
 use asn1_values::{BitBuffer, BitReader};
 use std::alloc::{AllocError, Global};
+use thiserror::Error;
 
 /// Why bits hold no number of the range.
-#[derive(Clone, Copy, Debug, PartialEq, Eq, Drop)]
+#[derive(Clone, Copy, Debug, PartialEq, Eq, Drop, Error)]
 pub enum SizeFault {
     /// So many bits are missing.
+    #[error("{missing} bits are missing")]
     Short { missing: usize },
     /// They hold a distance from the least number that passes the greatest.
+    #[error("{distance} above the least number is past the greatest")]
     PastMost { distance: u64 },
 }
 
 /// Why a number is not of the range.
-#[derive(Clone, Copy, Debug, PartialEq, Eq, Drop)]
+#[derive(Clone, Copy, Debug, PartialEq, Eq, Drop, Error)]
 pub enum SizeMisfit {
     /// It is below the least.
+    #[error("below the least")]
     BelowLeast,
     /// It is above the greatest.
+    #[error("above the greatest")]
     AboveMost,
 }
 
