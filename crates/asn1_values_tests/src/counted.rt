@@ -1,22 +1,26 @@
 //! Counted integers as fields.
 
-use super::calls::{long, read_fields, write_fields};
+use super::calls::{
+    bits_of, found, integer, long, read_fields, refusal, refused as refused_in, write_fields,
+    written,
+};
 use super::same::all_same;
 use asn1_values::{BitBuffer, BitReader, BitStr, Field, Integer, ReadError, Shape, WriteError};
 use std::alloc::Global;
+use std::process::Abort;
 use std::test::Fail;
 
 /// A counted integer of these octets.
 fn counted(alloc: Global, octets: &[u8]) -> Result<[Field<'static, 'static>; 1], Fail> {
-    Ok([Field::CountedInteger(Integer::from_signed_octets(alloc, octets)?)])
+    let integer = integer(alloc, octets)?;
+    Ok([Field::CountedInteger(integer)])
 }
 
 /// Reads one counted integer, and gives the octets that are left behind it.
 fn refused(alloc: Global, octets: &[u8]) -> Result<Option<ReadError>, Fail> {
     let view = BitStr::new(octets, 0, octets.len().checked_mul(8).ok_or("fits")?).ok_or("there")?;
     let mut reader = BitReader::new(view);
-    let answered = read_fields(alloc, &mut reader, &[Shape::CountedInteger]);
-    Ok(answered.err())
+    Ok(refusal(alloc, &mut reader, Shape::CountedInteger))
 }
 
 #[test]
@@ -87,11 +91,9 @@ fn they_are_refused_by_their_first_reason(rt: HostRuntime) -> Result<(), Fail> {
     Ok(())
 }
 
-/// What is read of one counted integer in the bits, and how many bits are left.
-fn read_one(alloc: Global, view: BitStr<'_>) -> Result<(Option<ReadError>, usize), Fail> {
-    let mut reader = BitReader::new(view);
-    let answered = read_fields(alloc, &mut reader, &[Shape::CountedInteger]);
-    Ok((answered.err(), reader.len()))
+/// Why no counted integer begins the bits, if none does, and how many bits are left.
+fn read_one(alloc: Global, view: BitStr<'_>) -> (Option<ReadError>, usize) {
+    refused_in(alloc, view, &[Shape::CountedInteger])
 }
 
 #[test]
@@ -104,51 +106,57 @@ fn each_first_octet_is_a_length_or_refused(rt: HostRuntime) -> Result<(), Fail> 
         let all = octets.len().checked_mul(8).ok_or("fits")?;
         let view = BitStr::new(octets.as_slice(), 0, all).ok_or("there")?;
         let count = usize::from(octet);
-        let answered = read_one(rt.alloc(), view)?;
+        let answered = read_one(rt.alloc(), view);
         if count == 0 || count > 127 {
             let refused = ReadError::Length { field: 0, octet };
             assert_eq!(rt; answered, (Some(refused), all));
             // Nothing behind it changes that.
             let view = BitStr::new(octets.as_slice(), 0, 8).ok_or("there")?;
-            assert_eq!(rt; read_one(rt.alloc(), view)?, (Some(refused), 8));
+            assert_eq!(rt; read_one(rt.alloc(), view), (Some(refused), 8));
         } else {
             assert_eq!(rt; answered, (None, 8 * (127 - count)));
             // With a bit less than the octets that it counts, that bit is missing.
             let view = BitStr::new(octets.as_slice(), 0, 7 + 8 * count).ok_or("there")?;
             let refused = ReadError::Short { field: 0, bits: 1 };
-            assert_eq!(rt; read_one(rt.alloc(), view)?, (Some(refused), 7 + 8 * count));
+            assert_eq!(rt; read_one(rt.alloc(), view), (Some(refused), 7 + 8 * count));
         }
+    }
+    Ok(())
+}
+
+/// The number is read from bit `ahead` of the octets, and refused wherever its 32 bits are cut.
+fn is_read_whole(
+    rt: &impl Abort,
+    alloc: Global,
+    octets: &[u8],
+    ahead: usize,
+    number: &[Field<'static, 'static>; 1],
+) -> Result<(), Fail> {
+    let (read, left) = found(alloc, bits_of(octets, ahead, 32)?, &[Shape::CountedInteger])?;
+    assert!(rt; all_same(number, read.as_slice()));
+    assert_eq!(rt; left, 0);
+    for len in 0..32usize {
+        let missing = if len < 8 { 8 - len } else { 32 - len };
+        let refused = ReadError::Short {
+            field: 0,
+            bits: missing as u128,
+        };
+        assert_eq!(rt;
+            read_one(alloc, bits_of(octets, ahead, len)?),
+            (Some(refused), len)
+        );
     }
     Ok(())
 }
 
 #[test]
 fn they_are_read_at_any_bit_and_cut_at_each(rt: HostRuntime) -> Result<(), Fail> {
-    // 03 00 80 05: the number 32773, behind as many zero bits as are ahead.
+    // 03 00 80 05: the number 32773, behind as many ones as are ahead.
     for ahead in 0..8usize {
         let number = counted(rt.alloc(), &[0x00, 0x80, 0x05])?;
-        let zeros = Field::Number {
-            value: 0,
-            width: ahead,
-        };
-        let mut buffer = BitBuffer::new(rt.alloc());
-        write_fields(&mut buffer, &[zeros])?;
-        write_fields(&mut buffer, &number)?;
+        let buffer = written(rt.alloc(), ahead, &number)?;
         assert_eq!(rt; buffer.len(), ahead + 32);
-        let whole = BitStr::new(buffer.as_bytes(), ahead, 32).ok_or("there")?;
-        let mut reader = BitReader::new(whole);
-        let read = read_fields(rt.alloc(), &mut reader, &[Shape::CountedInteger])?;
-        assert!(rt; all_same(&number, read.as_slice()));
-        assert_eq!(rt; reader.len(), 0);
-        for len in 0..32usize {
-            let view = BitStr::new(buffer.as_bytes(), ahead, len).ok_or("there")?;
-            let missing = if len < 8 { 8 - len } else { 32 - len };
-            let refused = ReadError::Short {
-                field: 0,
-                bits: missing as u128,
-            };
-            assert_eq!(rt; read_one(rt.alloc(), view)?, (Some(refused), len));
-        }
+        is_read_whole(&rt, rt.alloc(), buffer.as_bytes(), ahead, &number)?;
     }
     Ok(())
 }

@@ -1,30 +1,36 @@
-//! The worked example of the README.
+//! A message of mixed fields, behind bits that were there before.
 
-use super::calls::{read_fields, write_fields};
-use asn1_values::{
-    BitBuffer, BitReader, BitStr, CharacterAlphabet, Field, Ia5String, Integer, Octets, ReadError,
-    Shape,
-};
+use super::calls::{bits_of, found, letters, refused, written};
+use asn1_values::{BitStr, Field, Integer, Octets, ReadError, Shape};
 use std::test::Fail;
 
-#[test]
-fn a_message_of_mixed_fields_is_written_read_and_refused(rt: HostRuntime) -> Result<(), Fail> {
-    // Behind three bits that were there before: a number of three bits, an octet, an integer, and a character of an
-    // alphabet of two.
-    let letters = [97, 98];
-    let alphabet = CharacterAlphabet::new::<Ia5String>(Some(&letters), false);
-    let mut buffer = BitBuffer::new(rt.alloc());
-    buffer.push_bits(0b111, 3)?;
-    let fields = [
+/// A number of three bits, an octet, an integer, and a character of an alphabet of two.
+fn message() -> [Field<'static, 'static>; 4] {
+    [
         Field::Number { value: 5, width: 3 },
         Field::Octets(Octets::Borrowed(&[0xA5])),
         Field::Integer(Integer::from(128)),
         Field::Character {
-            alphabet,
+            alphabet: letters(),
             character: 98,
         },
-    ];
-    write_fields(&mut buffer, &fields)?;
+    ]
+}
+
+/// Whether these are the values of the message.
+fn is_message(fields: &[Field<'_, '_>]) -> bool {
+    let [number, octets, integer, letter] = fields else {
+        return false;
+    };
+    matches!(number, Field::Number { value: 5, .. })
+        && matches!(octets, Field::Octets(octets) if octets.as_ref() == [0xA5].as_slice())
+        && matches!(integer, Field::Integer(integer) if integer.to_i128() == Some(128))
+        && matches!(letter, Field::Character { character: 98, .. })
+}
+
+#[test]
+fn a_message_of_mixed_fields_is_written_read_and_refused(rt: HostRuntime) -> Result<(), Fail> {
+    let buffer = written(rt.alloc(), 3, &message())?;
     assert_eq!(rt; buffer.len(), 31);
     assert_eq!(rt; buffer.as_bytes(), [0xF6, 0x94, 0x02, 0x02].as_slice());
 
@@ -33,25 +39,17 @@ fn a_message_of_mixed_fields_is_written_read_and_refused(rt: HostRuntime) -> Res
         Shape::Number { width: 3 },
         Shape::Octets { count: 1 },
         Shape::Integer { octets: 2 },
-        Shape::Character { alphabet },
+        Shape::Character {
+            alphabet: letters(),
+        },
     ];
-    let view = BitStr::new(buffer.as_bytes(), 3, 29).ok_or("within")?;
-    let mut reader = BitReader::new(view);
-    let read = read_fields(rt.alloc(), &mut reader, &shapes)?;
-    assert_eq!(rt; reader.len(), 1);
-    let [number, octets, integer, letter] = read.as_slice() else {
-        return Err("four fields".into());
-    };
-    assert!(rt; matches!(number, Field::Number { value: 5, .. }));
-    assert!(rt; matches!(octets, Field::Octets(octets) if octets.as_ref() == [0xA5].as_slice()));
-    assert!(rt; matches!(integer, Field::Integer(integer) if integer.to_i128() == Some(128)));
-    assert!(rt; matches!(letter, Field::Character { character: 98, .. }));
+    let (read, left) = found(rt.alloc(), bits_of(buffer.as_bytes(), 3, 29)?, &shapes)?;
+    assert!(rt; is_message(read.as_slice()));
+    assert_eq!(rt; left, 1);
 
-    // Other bits are refused by the first field that is wrong, and the reader stays: 00 05 is not the shortest
-    // integer of its value.
-    let mut reader = BitReader::from_octets(&[0x00, 0x05]);
-    let refused = read_fields(rt.alloc(), &mut reader, &[Shape::Integer { octets: 2 }]).err();
-    assert_eq!(rt; refused, Some(ReadError::Integer { field: 0 }));
-    assert_eq!(rt; reader.len(), 16);
+    // 00 05 is not the shortest integer of its value, and the reader stays.
+    let view = bits_of(&[0x00, 0x05], 0, 16)?;
+    let answered = refused(rt.alloc(), view, &[Shape::Integer { octets: 2 }]);
+    assert_eq!(rt; answered, (Some(ReadError::Integer { field: 0 }), 16));
     Ok(())
 }

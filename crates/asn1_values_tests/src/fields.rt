@@ -1,11 +1,12 @@
 //! Rows on the calls.
 
-use super::calls::{read_fields, write_fields};
+use super::calls::{bits_of, found, letters, read_fields, write_fields};
 use super::same::all_same;
 use asn1_values::{
     BitBuffer, BitReader, BitStr, CharacterAlphabet, Field, Ia5String, Integer, Octets, ReadError,
     Shape, Turns, WriteError, shape_of, write_fields_counted,
 };
+use std::alloc::Global;
 use std::mem::size_of;
 use std::test::Fail;
 
@@ -27,19 +28,26 @@ fn fields_are_written_behind_the_old_bits(rt: HostRuntime) -> Result<(), Fail> {
     Ok(())
 }
 
+/// Whether it is a copy of this octet.
+fn is_a_copy(field: &Field<'_, '_>, octet: u8) -> bool {
+    match field {
+        Field::Octets(Octets::Owned(octets)) => octets.as_slice() == [octet].as_slice(),
+        _ => false,
+    }
+}
+
 #[test]
 fn fields_are_read_from_any_bit(rt: HostRuntime) -> Result<(), Fail> {
-    let octets = [0xF6, 0x94, 0x02, 0x02];
-    let view = BitStr::new(&octets, 3, 29).ok_or("within")?;
-    let mut reader = BitReader::new(view);
+    let view = bits_of(&[0xF6, 0x94, 0x02, 0x02], 3, 29)?;
     let shapes = [
         Shape::Number { width: 3 },
         Shape::Octets { count: 1 },
         Shape::Number { width: 16 },
     ];
-    let fields = read_fields(rt.alloc(), &mut reader, &shapes)?;
+    let (fields, left) = found(rt.alloc(), view, &shapes)?;
     assert_eq!(rt; fields.len(), 3);
     assert!(rt; matches!(&fields[0], Field::Number { value: 5, width: 3 }));
+    assert!(rt; is_a_copy(&fields[1], 0xA5));
     assert!(rt;
         matches!(
             &fields[2],
@@ -49,16 +57,7 @@ fn fields_are_read_from_any_bit(rt: HostRuntime) -> Result<(), Fail> {
             }
         )
     );
-    match &fields[1] {
-        Field::Octets(octets) => {
-            assert!(rt; matches!(octets, Octets::Owned(_)));
-            assert_eq!(rt; octets.as_ref(), [0xA5].as_slice());
-        }
-        _ => assert!(rt; false),
-    }
-    assert!(rt; matches!(shape_of(&fields[0]), Shape::Number { width: 3 }));
-    assert!(rt; matches!(shape_of(&fields[1]), Shape::Octets { count: 1 }));
-    assert_eq!(rt; reader.len(), 2);
+    assert_eq!(rt; left, 2);
     Ok(())
 }
 
@@ -124,43 +123,58 @@ fn a_wide_number_is_written_and_read_behind_up_to_seven_ones(rt: HostRuntime) ->
     Ok(())
 }
 
-#[test]
-fn all_kinds_are_written_and_read(rt: HostRuntime) -> Result<(), Fail> {
-    let letters = [97, 98];
-    let alphabet = CharacterAlphabet::new::<Ia5String>(Some(&letters), false);
+/// Shapes of fields: each of its kind, with its number of bits, octets or elements.
+fn are_shapes_of(fields: &[Field<'_, '_>; 5]) -> bool {
+    matches!(shape_of(&fields[0]), Shape::Number { width: 3 })
+        && matches!(shape_of(&fields[1]), Shape::Octets { count: 1 })
+        && matches!(shape_of(&fields[2]), Shape::Integer { octets: 2 })
+        && matches!(shape_of(&fields[3]), Shape::Character { .. })
+        && matches!(shape_of(&fields[4]), Shape::Bits { length: 5 })
+}
+
+/// A field of five kinds, and their shapes.
+fn five_kinds() -> Result<([Field<'static, 'static>; 5], [Shape<'static>; 5]), Fail> {
     let fields = [
         Field::Number { value: 5, width: 3 },
         Field::Octets(Octets::Borrowed(&[0xA5])),
         Field::Integer(Integer::from(128)),
         Field::Character {
-            alphabet,
+            alphabet: letters(),
             character: 98,
         },
-        Field::Bits(BitStr::new(&[0x5A], 3, 5).ok_or("within")?),
+        Field::Bits(bits_of(&[0x5A], 3, 5)?),
     ];
-    let mut buffer = BitBuffer::new(rt.alloc());
-    buffer.push_bits(0b111, 3)?;
-    write_fields_counted(&mut buffer, &fields, &mut Turns::new())?;
+    let shapes = [
+        Shape::Number { width: 3 },
+        Shape::Octets { count: 1 },
+        Shape::Integer { octets: 2 },
+        Shape::Character {
+            alphabet: letters(),
+        },
+        Shape::Bits { length: 5 },
+    ];
+    Ok((fields, shapes))
+}
+
+/// The fields behind three ones, by the call that counts.
+fn written_counted(alloc: Global, fields: &[Field<'_, '_>]) -> Result<BitBuffer, Fail> {
+    let mut buffer = BitBuffer::new(alloc);
+    buffer.resize(3, true)?;
+    write_fields_counted(&mut buffer, fields, &mut Turns::new())?;
+    Ok(buffer)
+}
+
+#[test]
+fn all_kinds_are_written_and_read(rt: HostRuntime) -> Result<(), Fail> {
+    let (fields, shapes) = five_kinds()?;
+    assert!(rt; are_shapes_of(&fields));
+    let buffer = written_counted(rt.alloc(), &fields)?;
     assert_eq!(rt; buffer.len(), 36);
     let wanted = [0xF6, 0x94, 0x02, 0x03, 0xA0];
     assert_eq!(rt; buffer.as_bytes(), wanted.as_slice());
-    let shapes = [
-        shape_of(&fields[0]),
-        shape_of(&fields[1]),
-        shape_of(&fields[2]),
-        shape_of(&fields[3]),
-        shape_of(&fields[4]),
-    ];
-    assert!(rt; matches!(&shapes[0], Shape::Number { width: 3 }));
-    assert!(rt; matches!(&shapes[1], Shape::Octets { count: 1 }));
-    assert!(rt; matches!(&shapes[2], Shape::Integer { octets: 2 }));
-    assert!(rt; matches!(&shapes[3], Shape::Character { .. }));
-    assert!(rt; matches!(&shapes[4], Shape::Bits { length: 5 }));
-    let view = BitStr::new(&wanted, 3, 37).ok_or("within")?;
-    let mut reader = BitReader::new(view);
-    let read = read_fields(rt.alloc(), &mut reader, &shapes)?;
+    let (read, left) = found(rt.alloc(), bits_of(&wanted, 3, 37)?, &shapes)?;
     assert!(rt; all_same(read.as_slice(), &fields));
-    assert_eq!(rt; reader.len(), 4);
+    assert_eq!(rt; left, 4);
     Ok(())
 }
 

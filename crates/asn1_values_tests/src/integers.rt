@@ -1,6 +1,6 @@
 //! Integers as fields.
 
-use super::calls::{long, read_fields, write_fields};
+use super::calls::{integer, long, read_fields, write_fields, written};
 use super::same::all_same;
 use asn1_values::{
     BitBuffer, BitReader, BitStr, Field, Integer, ReadError, Shape, without_redundant_sign_octets,
@@ -66,9 +66,8 @@ fn integers_of_no_octets_are_refused(rt: HostRuntime) -> Result<(), Fail> {
 
 /// Writes the integer of the octets to an empty buffer, compares its octets, and reads it back.
 fn there_and_back<R: Abort + AllocGlobal>(rt: &R, octets: &[u8]) -> Result<Integer, Fail> {
-    let fields = [Field::Integer(Integer::from_signed_octets(rt.alloc(), octets)?)];
-    let mut buffer = BitBuffer::new(rt.alloc());
-    write_fields(&mut buffer, &fields)?;
+    let fields = [Field::Integer(integer(rt.alloc(), octets)?)];
+    let buffer = written(rt.alloc(), 0, &fields)?;
     assert_eq!(rt; buffer.as_bytes(), octets);
     let read = [Field::Integer(read_integer(rt.alloc(), octets)?)];
     assert!(rt; all_same(&fields, &read));

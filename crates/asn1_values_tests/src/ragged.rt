@@ -1,14 +1,13 @@
 //! Messages that are cut off, moved to other bits, or hold numbers at the edge of their widths.
 
-use super::calls::{read_fields, write_fields};
+use super::calls::{bits_of, found, letters, read_fields, write_fields, written};
 use super::same::all_same;
 use asn1_values::{
-    BitBuffer, BitReader, BitStr, CharacterAlphabet, Field, Ia5String, Integer, Octets, ReadError,
-    Shape, WriteError,
+    BitBuffer, BitReader, BitStr, Field, Integer, Octets, ReadError, Shape, WriteError,
 };
+use std::alloc::Global;
+use std::process::Abort;
 use std::test::Fail;
-
-const LETTERS: [u32; 2] = [97, 98];
 
 /// A number, an octet, an integer and a character: 3, 8, 16 bits and one.
 fn message() -> [Field<'static, 'static>; 4] {
@@ -17,7 +16,7 @@ fn message() -> [Field<'static, 'static>; 4] {
         Field::Octets(Octets::Borrowed(&[0xA5])),
         Field::Integer(Integer::from(128)),
         Field::Character {
-            alphabet: CharacterAlphabet::new::<Ia5String>(Some(&LETTERS), false),
+            alphabet: letters(),
             character: 98,
         },
     ]
@@ -29,7 +28,7 @@ fn shapes() -> [Shape<'static>; 4] {
         Shape::Octets { count: 1 },
         Shape::Integer { octets: 2 },
         Shape::Character {
-            alphabet: CharacterAlphabet::new::<Ia5String>(Some(&LETTERS), false),
+            alphabet: letters(),
         },
     ]
 }
@@ -100,45 +99,45 @@ fn bits_are_a_view_of_the_storage(rt: HostRuntime) -> Result<(), Fail> {
     Ok(())
 }
 
+/// The greatest number of the width is written and read, and one more is refused.
+fn is_the_greatest(rt: &impl Abort, alloc: Global, width: usize, most: u128) -> Result<(), Fail> {
+    let field = [Field::Number { value: most, width }];
+    let buffer = written(alloc, 0, &field)?;
+    assert_eq!(rt; buffer.len(), width);
+    let view = bits_of(buffer.as_bytes(), 0, width)?;
+    let (read, left) = found(alloc, view, &[Shape::Number { width }])?;
+    assert!(rt; all_same(read.as_slice(), &field));
+    assert_eq!(rt; left, 0);
+    Ok(())
+}
+
+/// A number that does not fit its width is refused, and the buffer stays empty.
+fn is_refused(rt: &impl Abort, alloc: Global, value: u128, width: usize, wanted: WriteError) {
+    let mut buffer = BitBuffer::new(alloc);
+    let refused = write_fields(&mut buffer, &[Field::Number { value, width }]).err();
+    assert_eq!(rt; refused, Some(wanted));
+    assert_eq!(rt; buffer.len(), 0);
+}
+
 #[test]
 fn numbers_fit_their_widths_or_are_refused(rt: HostRuntime) -> Result<(), Fail> {
     for width in 0..128usize {
         let over = 1u128 << width;
-        let mut buffer = BitBuffer::new(rt.alloc());
-        let refused = write_fields(&mut buffer, &[Field::Number { value: over, width }]).err();
-        assert_eq!(rt; refused, Some(WriteError::Number { field: 0 }));
-        assert_eq!(rt; buffer.len(), 0);
-        let most = [Field::Number {
-            value: over - 1,
-            width,
-        }];
-        write_fields(&mut buffer, &most)?;
-        assert_eq!(rt; buffer.len(), width);
-        let view = BitStr::new(buffer.as_bytes(), 0, width).ok_or("within")?;
-        let read = read_fields(
+        is_refused(
+            &rt,
             rt.alloc(),
-            &mut BitReader::new(view),
-            &[Shape::Number { width }],
-        )?;
-        assert!(rt; all_same(read.as_slice(), &most));
+            over,
+            width,
+            WriteError::Number { field: 0 },
+        );
+        is_the_greatest(&rt, rt.alloc(), width, over - 1)?;
     }
-    let most = [Field::Number {
-        value: u128::MAX,
-        width: 128,
-    }];
-    let mut buffer = BitBuffer::new(rt.alloc());
-    write_fields(&mut buffer, &most)?;
-    assert_eq!(rt; buffer.as_bytes(), [0xFF; 16].as_slice());
-    let wide = Field::Number {
-        value: u128::MAX,
-        width: 129,
-    };
-    let refused = write_fields(&mut buffer, &[wide]).err();
-    let wanted = WriteError::NumberWidth {
+    is_the_greatest(&rt, rt.alloc(), 128, u128::MAX)?;
+    let wide = WriteError::NumberWidth {
         field: 0,
         width: 129,
     };
-    assert_eq!(rt; refused, Some(wanted));
+    is_refused(&rt, rt.alloc(), u128::MAX, 129, wide);
     let mut none = BitReader::from_octets(&[]);
     let refused = read_fields(rt.alloc(), &mut none, &[Shape::Number { width: 129 }]).err();
     let wanted = ReadError::NumberWidth {
