@@ -123,13 +123,13 @@ fn a_wide_number_is_written_and_read_behind_up_to_seven_ones(rt: HostRuntime) ->
     Ok(())
 }
 
-/// Shapes of fields: each of its kind, with its number of bits, octets or elements.
-fn are_shapes_of(fields: &[Field<'_, '_>; 5]) -> bool {
-    matches!(shape_of(&fields[0]), Shape::Number { width: 3 })
-        && matches!(shape_of(&fields[1]), Shape::Octets { count: 1 })
-        && matches!(shape_of(&fields[2]), Shape::Integer { octets: 2 })
-        && matches!(shape_of(&fields[3]), Shape::Character { .. })
-        && matches!(shape_of(&fields[4]), Shape::Bits { length: 5 })
+/// Whether these are the shapes of the five fields: each of its kind, with its number of bits, octets or elements.
+fn are_five_shapes(shapes: &[Shape<'_>; 5]) -> bool {
+    matches!(&shapes[0], Shape::Number { width: 3 })
+        && matches!(&shapes[1], Shape::Octets { count: 1 })
+        && matches!(&shapes[2], Shape::Integer { octets: 2 })
+        && matches!(&shapes[3], Shape::Character { .. })
+        && matches!(&shapes[4], Shape::Bits { length: 5 })
 }
 
 /// A field of five kinds, and their shapes.
@@ -145,13 +145,11 @@ fn five_kinds() -> Result<([Field<'static, 'static>; 5], [Shape<'static>; 5]), F
         Field::Bits(bits_of(&[0x5A], 3, 5)?),
     ];
     let shapes = [
-        Shape::Number { width: 3 },
-        Shape::Octets { count: 1 },
-        Shape::Integer { octets: 2 },
-        Shape::Character {
-            alphabet: letters(),
-        },
-        Shape::Bits { length: 5 },
+        shape_of(&fields[0]),
+        shape_of(&fields[1]),
+        shape_of(&fields[2]),
+        shape_of(&fields[3]),
+        shape_of(&fields[4]),
     ];
     Ok((fields, shapes))
 }
@@ -167,7 +165,7 @@ fn written_counted(alloc: Global, fields: &[Field<'_, '_>]) -> Result<BitBuffer,
 #[test]
 fn all_kinds_are_written_and_read(rt: HostRuntime) -> Result<(), Fail> {
     let (fields, shapes) = five_kinds()?;
-    assert!(rt; are_shapes_of(&fields));
+    assert!(rt; are_five_shapes(&shapes));
     let buffer = written_counted(rt.alloc(), &fields)?;
     assert_eq!(rt; buffer.len(), 36);
     let wanted = [0xF6, 0x94, 0x02, 0x03, 0xA0];

@@ -37,8 +37,10 @@ fn begins_with(reader: &BitReader<'_>, wanted: Option<&bool>) -> bool {
 
 /// Takes so many bits off the reader, if they are there.
 fn taken<'a>(reader: &mut BitReader<'a>, count: usize) -> Option<BitStr<'a>> {
-    let front = reader.split(count).ok()?;
-    Some(front.bits())
+    match reader.split(count) {
+        Ok(front) => Some(front.bits()),
+        Err(_) => None,
+    }
 }
 
 /// The reader of all bits from bit `first` of the octets on.

@@ -4,6 +4,7 @@ use asn1_bits::{
     BitBuffer, BitReader, BitStr, BitString, FixedBitString, Octets, Turns, aligned_octets,
     extend_bitstring, extend_vec_from_bitslice, range_from_len, read_bits, read_u128, to_bitstring,
 };
+use std::alloc::Global;
 use std::test::Fail;
 
 #[test]
@@ -211,18 +212,36 @@ fn a_buffer_keeps_a_front(rt: HostRuntime) -> Result<(), Fail> {
     Ok(())
 }
 
+/// Three ones.
+fn three_ones(alloc: Global) -> Result<BitString, Fail> {
+    let mut bits = BitString::from_vec([0xFF].to_vec(alloc)?);
+    bits.truncate(3);
+    Ok(bits)
+}
+
 #[test]
 fn a_bit_string_keeps_a_front(rt: HostRuntime) -> Result<(), Fail> {
-    let mut bits = BitString::from_vec([0xFF].to_vec(rt.alloc())?);
-    bits.truncate(3);
+    let mut bits = three_ones(rt.alloc())?;
     assert_eq!(rt; bits.as_raw_slice(), [0xE0].as_slice());
     bits.truncate(9);
     assert_eq!(rt; bits.as_raw_slice(), [0xE0].as_slice());
     assert_eq!(rt; bits.len(), 3);
-    assert!(rt; !bits.is_empty());
-    assert!(rt; BitString::new(rt.alloc()).is_empty());
-    assert!(rt; BitString::new(rt.alloc()).clone()?.is_empty());
     assert!(rt; bits.as_bitstr() == BitStr::new(&[0xFF], 2, 3).ok_or("within")?);
+    Ok(())
+}
+
+#[test]
+fn a_bit_string_is_empty_or_not(rt: HostRuntime) -> Result<(), Fail> {
+    assert!(rt; !three_ones(rt.alloc())?.is_empty());
+    let none = BitString::new(rt.alloc());
+    assert!(rt; none.is_empty());
+    assert!(rt; none.clone()?.is_empty());
+    Ok(())
+}
+
+#[test]
+fn a_bit_string_is_copied(rt: HostRuntime) -> Result<(), Fail> {
+    let bits = three_ones(rt.alloc())?;
     let copy = bits.clone()?;
     assert!(rt; copy == bits);
     assert!(rt; BitString::new(rt.alloc()) < copy);

@@ -4,25 +4,50 @@ ghost use Rattle.std.specs.Prelude.{◌≡◌, ◌∷◌, []};
 
 use asn1_characters::{FixedOctetString, OctetString};
 use bytes::Bytes;
+use std::alloc::Global;
 use std::collections::HashSet;
 use std::test::Fail;
 
+/// The octets of each test.
+const OCTETS: [u8; 3] = [0x01, 0x80, 0xFF];
+
+/// Whether the string has these octets.
+fn keeps(string: &OctetString) -> bool {
+    string.as_ref() == OCTETS.as_slice()
+}
+
+/// The string of a vector of these octets.
+fn of_a_vector(alloc: Global) -> Result<OctetString, Fail> {
+    let vector = Vec::from_slice(alloc, &OCTETS)?;
+    match OctetString::from_vec(vector) {
+        Ok(string) => Ok(string),
+        Err(_) => Err("the vector came back".into()),
+    }
+}
+
 #[test]
-fn octet_strings_keep_their_octets(rt: HostRuntime) -> Result<(), Fail> {
-    let alloc = rt.alloc();
-    let octets = [0x01u8, 0x80, 0xFF];
-    let fixed = OctetString::from_static(&[0x01, 0x80, 0xFF]);
-    assert!(rt; fixed.as_ref() == octets.as_slice());
-    assert!(rt; OctetString::from_slice(alloc, &octets)? == fixed);
-    assert!(rt; OctetString::from_array(alloc, octets)? == fixed);
-    let vector = Vec::from_slice(alloc, &octets)?;
-    let from_vector = OctetString::from_vec(vector).ok().ok_or("vector")?;
-    assert!(rt; from_vector == fixed);
-    let shared: Bytes = from_vector.to_bytes(alloc)?;
-    assert!(rt; OctetString::from_bytes_ref(&shared)? == fixed);
-    assert!(rt; OctetString::from_bytes(shared) == fixed);
-    let back = from_vector.into_bytes(alloc).ok().ok_or("bytes")?;
-    assert!(rt; back.as_slice() == octets.as_slice());
+fn octet_strings_copy_octets(rt: HostRuntime) -> Result<(), Fail> {
+    assert!(rt; keeps(&OctetString::from_static(&[0x01, 0x80, 0xFF])));
+    assert!(rt; keeps(&OctetString::from_slice(rt.alloc(), &OCTETS)?));
+    assert!(rt; keeps(&OctetString::from_array(rt.alloc(), OCTETS)?));
+    assert!(rt; keeps(&of_a_vector(rt.alloc())?));
+    Ok(())
+}
+
+#[test]
+fn octet_strings_share_octets(rt: HostRuntime) -> Result<(), Fail> {
+    let shared: Bytes = of_a_vector(rt.alloc())?.to_bytes(rt.alloc())?;
+    assert!(rt; keeps(&OctetString::from_bytes_ref(&shared)?));
+    assert!(rt; keeps(&OctetString::from_bytes(shared)));
+    Ok(())
+}
+
+#[test]
+fn octet_strings_give_their_octets(rt: HostRuntime) -> Result<(), Fail> {
+    match of_a_vector(rt.alloc())?.into_bytes(rt.alloc()) {
+        Ok(back) => assert!(rt; back.as_slice() == OCTETS.as_slice()),
+        Err(_) => assert!(rt; false),
+    }
     Ok(())
 }
 
