@@ -5,47 +5,52 @@ use Rattle.asn1_formats.specs.Spelling.{Starts, ReadsOne, NamesFault}
 use Rattle.asn1_formats.specs.Combined.{Both, BothFault}
 use Rattle.asn1_formats.specs.SpellingLaws.{both_reads_one}
 use Rattle.asn1_formats.specs.ThenLaws.{both_names_fault}
-use Rattle.asn1_formats.specs.Sequences.{Behind, IsShown, ShowsAlone, ReadsBoth, both_presence}
+use Rattle.asn1_formats.specs.Sequences.{Behind, IsShown, ShowsAlone, ReadsBoth}
 use Rattle.asn1_formats.specs.SequenceLaws.{narrow_reads_one, narrow_names_fault, past_presence}
 
-module _ {X Y : Type 0} (a : X → List Bool) (b : Y → List Bool) (P : X → List Bool → Type 0)
-    (Q : Y → List Bool → Type 0) where
-  pub both_size : (m n : ℕ) → ((x : X) → length (a x) ≡ m) → ((y : Y) → length (b y) ≡ n) → (v : X × Y)
-      → length (both_presence a b v) ≡ m + n
-  both_size m n first second v =
-      let e = length-append (a v.0) (b v.1) in
-      let f : length (a v.0) ≡ m = first v.0 in
-      let g : length (b v.1) ≡ n = second v.1 in
-      omega (arith, e)
+module _ {X Y : Type 0} (a : X → List Bool → Type 0) (b : Y → List Bool → Type 0) where
+  pub both_size : (m n : ℕ) → ((x : X) (p : List Bool) → a x p → length p ≡ m)
+      → ((y : Y) (p : List Bool) → b y p → length p ≡ n) → (v : X × Y) (p : List Bool) → Both a b v p → length p ≡ m + n
+  both_size m n first second v p s =
+      let e : length p ≡ length s.front + length s.rest = ap length s.parts ∙ length-append s.front s.rest in
+      let f : length s.front ≡ m = first v.0 s.front s.first in
+      let g : length s.rest ≡ n = second v.1 s.rest s.second in
+      omega arith
 
-  module _ (R : List Bool → X → List Bool → Type 0) (S : List Bool → Y → List Bool → Type 0) (m : ℕ) where
-    pub and_within : ((x : X) → length (a x) ≡ m) → IsShown a P R → IsShown b Q S
-        → IsShown (both_presence a b) (λ v l. Both P Q v l) (λ p v l. ReadsBoth R m S p v l)
+  module _ (P : X → List Bool → Type 0) (Q : Y → List Bool → Type 0) (R : List Bool → X → List Bool → Type 0)
+      (S : List Bool → Y → List Bool → Type 0) (m : ℕ) where
+    pub and_within : ((x : X) (p : List Bool) → a x p → length p ≡ m) → IsShown a P R → IsShown b Q S
+        → IsShown (λ v p. Both a b v p) (λ v l. Both P Q v l) (λ p v l. ReadsBoth R m S p v l)
     and_within first r s = record {
-      each = λ v list t. record {
-        before = a v.0;
-        behind = b v.1;
-        size = first v.0;
-        presence = refl;
+      each = λ v p list w t. record {
+        before = w.front;
+        behind = w.rest;
+        size = first v.0 w.front w.first;
+        presence = w.parts;
         read = record {
           front = t.front;
           rest = t.rest;
-          first = r.each v.0 t.front t.first;
-          second = s.each v.1 t.rest t.second;
+          first = r.each v.0 w.front t.front w.first t.first;
+          second = s.each v.1 w.rest t.rest w.second t.second;
           parts = t.parts;
         };
       };
     }
 
     pub and_alone : ShowsAlone a P R → ShowsAlone b Q S
-        → ShowsAlone (both_presence a b) (λ v l. Both P Q v l) (λ p v l. ReadsBoth R m S p v l)
+        → ShowsAlone (λ v p. Both a b v p) (λ v l. Both P Q v l) (λ p v l. ReadsBoth R m S p v l)
     and_alone r s = record {
       each = λ p v list t.
           let f = r.each t.before v.0 t.read.front t.read.first in
           let g = s.each t.behind v.1 t.read.rest t.read.second in
           record {
-            shown = t.presence ∙ ap (λ (l : List Bool). l ++ t.behind) f.shown
-                ∙ ap (λ (l : List Bool). a v.0 ++ l) g.shown;
+            shown = record {
+              front = t.before;
+              rest = t.behind;
+              first = f.shown;
+              second = g.shown;
+              parts = t.presence;
+            };
             spelled = record {
               front = t.read.front;
               rest = t.read.rest;

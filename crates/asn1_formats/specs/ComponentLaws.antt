@@ -5,26 +5,32 @@ use Rattle.asn1_formats.specs.Combined.{MaybeMisfit}
 use Rattle.asn1_formats.specs.Sequences.{Behind, Shown, IsShown, ShowsAlone, presence_bit, IfThere, IfThereFault}
 use Rattle.asn1_formats.specs.SequenceLaws.{narrow_reads_one, narrow_names_fault}
 
-module _ {X : Type 0} (pres : X → List Bool) (P R : X → List Bool → Type 0) where
-  pub shown_within : IsWithin P R → IsShown pres P (λ p x l. Shown pres R p x l)
-  shown_within within = record { each = λ x list s. record { shown = refl; spelled = within.each x list s } }
+module _ {X : Type 0} (S P R : X → List Bool → Type 0) where
+  pub shown_within : IsWithin P R → IsShown S P (λ p x l. Shown S R p x l)
+  shown_within within = record { each = λ x p list w s. record { shown = w; spelled = within.each x list s } }
 
-  pub shown_alone : IsWithin R P → ShowsAlone pres P (λ p x l. Shown pres R p x l)
+  pub shown_alone : IsWithin R P → ShowsAlone S P (λ p x l. Shown S R p x l)
   shown_alone within = record {
     each = λ p x list s. record { shown = s.shown; spelled = within.each x list s.spelled };
   }
 
+pub equal_one : {X : Type 0} (g : X → List Bool) → SpellsOne (λ x p. p ≡ g x)
+equal_one g = record { one = λ x a b s t. s ∙ sym t }
+
 -- ---- a component that is always there
+
+pub required_size : (p : List Bool) → p ≡ [] → length p ≡ 0
+required_size p e = ap length e
 
 module _ {X : Type 0} (P : X → List Bool → Type 0) (p : List Bool) where
   abbrev A : X → List Bool → Type 0
-  A x l = Behind (λ q y m. Shown (λ z. []) P q y m) 0 p x l
+  A x l = Behind (λ q y m. Shown (λ z r. r ≡ []) P q y m) 0 p x l
 
   alone : (list : List Bool) (x : X) (rest : List Bool) → Starts (λ y m. A y m) list x rest → Starts P list x rest
   alone list x rest s = record { front = s.front; spelled = s.spelled.read.spelled; parts = s.parts }
 
   pub always : (list : List Bool) (x : X) (rest : List Bool) → Starts P list x rest
-      → Starts (Behind (λ q y m. Shown (λ z. []) P q y m) 0 p) list x rest
+      → Starts (Behind (λ q y m. Shown (λ z r. r ≡ []) P q y m) 0 p) list x rest
   always list x rest s = record {
     front = s.front;
     spelled = record {
@@ -38,23 +44,23 @@ module _ {X : Type 0} (P : X → List Bool → Type 0) (p : List Bool) where
   }
 
 pub required_reads_one : {X : Type 0} (P : X → List Bool → Type 0) → ReadsOne P → (p : List Bool)
-    → ReadsOne (Behind (λ q y m. Shown (λ z. []) P q y m) 0 p)
-required_reads_one P one p = narrow_reads_one (Behind (λ q y m. Shown (λ z. []) P q y m) 0 p) P (alone P p) one
+    → ReadsOne (Behind (λ q y m. Shown (λ z r. r ≡ []) P q y m) 0 p)
+required_reads_one P one p = narrow_reads_one (Behind (λ q y m. Shown (λ z r. r ≡ []) P q y m) 0 p) P (alone P p) one
 
 pub required_names_fault : {X E : Type 0} (P : X → List Bool → Type 0) (W : List Bool → E → Type 0) → NamesFault P W
-    → (p : List Bool) → NamesFault (Behind (λ q y m. Shown (λ z. []) P q y m) 0 p) W
+    → (p : List Bool) → NamesFault (Behind (λ q y m. Shown (λ z r. r ≡ []) P q y m) 0 p) W
 required_names_fault P W names p =
-    narrow_names_fault (Behind (λ q y m. Shown (λ z. []) P q y m) 0 p) P (alone P p) W names
+    narrow_names_fault (Behind (λ q y m. Shown (λ z r. r ≡ []) P q y m) 0 p) P (alone P p) W names
 
 -- ---- an optional component
 
-pub presence_size : {X : Type 0} (x : Option X) → length (presence_bit x) ≡ 1
-presence_size None = refl
-presence_size (Some x) = refl
+pub presence_size : {X : Type 0} (x : Option X) (p : List Bool) → p ≡ presence_bit x → length p ≡ 1
+presence_size None p e = ap length e
+presence_size (Some x) p e = ap length e
 
 module _ {X : Type 0} (P : X → List Bool → Type 0) (p : List Bool) where
   abbrev B : Option X → List Bool → Type 0
-  B x l = Behind (λ q y m. Shown (λ z. presence_bit z) (λ z k. IfThere P z k) q y m) 1 p x l
+  B x l = Behind (λ q y m. Shown (λ z r. r ≡ presence_bit z) (λ z k. IfThere P z k) q y m) 1 p x l
 
   pub present : (list : List Bool) (x : X) (rest more : List Bool) → p ≡ true ∷ more → Starts P list x rest
       → Starts B list (Some x) rest
@@ -107,7 +113,7 @@ module _ {X : Type 0} (P : X → List Bool → Type 0) (p : List Bool) where
       let f = one.one list x y rest other (inner list x rest s) (inner list y other t) in
       (ap (λ (v : X). Some v) f.0, f.1)
 
-  pub optional_reads_one : ReadsOne P → ReadsOne (Behind (λ q y m. Shown (λ z. presence_bit z) (λ z k. IfThere P z k) q y m) 1 p)
+  pub optional_reads_one : ReadsOne P → ReadsOne (Behind (λ q y m. Shown (λ z r. r ≡ presence_bit z) (λ z k. IfThere P z k) q y m) 1 p)
   optional_reads_one one = record { one = one_value one }
 
   module _ {E : Type 0} (W : List Bool → E → Type 0) (names : NamesFault P W) where
@@ -117,7 +123,7 @@ module _ {X : Type 0} (P : X → List Bool → Type 0) (p : List Bool) where
     cannot list e (Some x) rest w s =
         names.wrong list e w.2 (record { value = x; rest = rest; starts = inner list x rest s })
 
-    pub optional_names_fault : NamesFault (Behind (λ q y m. Shown (λ z. presence_bit z) (λ z k. IfThere P z k) q y m) 1 p) (λ list e. IfThereFault W p list e)
+    pub optional_names_fault : NamesFault (Behind (λ q y m. Shown (λ z r. r ≡ presence_bit z) (λ z k. IfThere P z k) q y m) 1 p) (λ list e. IfThereFault W p list e)
     optional_names_fault = record {
       wrong = λ list e w can. cannot list e can.value can.rest w can.starts;
       one = λ list e g w v. names.one list e g w.2 v.2;

@@ -6,6 +6,7 @@ pub mod WholeNumbers
 pub mod Characters
 pub mod Combined
 pub mod Sequences
+pub mod Defaults
 pub mod Choices
 pub mod OctetStrings
 -- Laws of these words, which the formats' laws are made of.
@@ -19,6 +20,7 @@ pub mod ThenLaws
 pub mod ListLaws
 pub mod SequenceLaws
 pub mod ComponentLaws
+pub mod DefaultLaws
 pub mod AndLaws
 pub mod ChoiceLaws
 pub mod OctetStringLaws

@@ -4,7 +4,7 @@ use Rattle.std.proofs.lemmas.List.{length-append}
 use Rattle.std.proofs.Math.Seq.{drop-append_seam}
 use Rattle.asn1_formats.specs.declared.sequence.InSequence.{InSequence}
 use Rattle.asn1_formats.specs.declared.sequence.InSequence.TheVariants.{Presence, Component}
-use Rattle.asn1_formats.specs.Spelling.{Starts, CanRead, Measures, IsLength, IsSumOf, IsWithin, ReadsOne, SpellsOne, NamesFault, NamesMisfit}
+use Rattle.asn1_formats.specs.Spelling.{Starts, CanRead, Fits, Measures, IsLength, IsSumOf, IsWithin, ReadsOne, SpellsOne, NamesFault, NamesMisfit}
 use Rattle.asn1_formats.specs.Sequences.{Behind, IsShown, ShowsAlone, IsSequence, ReadsSequence, SequenceFault}
 
 -- what holds of a wider relation holds of a narrower one
@@ -39,52 +39,52 @@ has_presence count list shown more size e =
     let n : length shown ≡ count = size in
     omega arith
 
-module _ {X : Type 0} (pres : X → List Bool) (P : X → List Bool → Type 0) (count : ℕ)
-    (size : (x : X) → length (pres x) ≡ count) where
-  pub sequence_measured : (x : X) (a b c : Option ℕ) → IsLength count a → Measures P x b → IsSumOf a b c
-      → Measures (IsSequence pres P) x c
-  sequence_measured x a b c n p sum = record {
-    list = pres x ++ p.list;
-    spelled = record { contents = p.list; spelled = p.spelled; parts = refl };
-    size = subst (λ (k : ℕ). IsLength k c) (sym (length-append (pres x) p.list))
-        (sum (length (pres x)) (length p.list) (subst (λ (k : ℕ). IsLength k a) (sym (size x)) n) p.size);
+module _ {X : Type 0} (S P : X → List Bool → Type 0) where
+  pub sequence_measured : (count : ℕ) → ((x : X) (p : List Bool) → S x p → length p ≡ count) → (x : X) (a b c : Option ℕ)
+      → IsLength count a → Fits S x → Measures P x b → IsSumOf a b c → Measures (IsSequence S P) x c
+  sequence_measured count size x a b c n s p sum = record {
+    list = s.list ++ p.list;
+    spelled = record { presence = s.list; contents = p.list; shown = s.spelled; spelled = p.spelled; parts = refl };
+    size = subst (λ (k : ℕ). IsLength k c) (sym (length-append s.list p.list))
+        (sum (length s.list) (length p.list) (subst (λ (k : ℕ). IsLength k a) (sym (size x s.list s.spelled)) n) p.size);
   }
 
-  pub sequence_spells_one : SpellsOne P → SpellsOne (IsSequence pres P)
-  sequence_spells_one one = record {
+  pub sequence_spells_one : SpellsOne S → SpellsOne P → SpellsOne (IsSequence S P)
+  sequence_spells_one shows one = record {
     one = λ x a b s t.
-        s.parts ∙ ap (λ (l : List Bool). pres x ++ l) (one.one x s.contents t.contents s.spelled t.spelled)
-        ∙ sym t.parts;
+        s.parts ∙ ap (λ (l : List Bool). l ++ s.contents) (shows.one x s.presence t.presence s.shown t.shown)
+        ∙ ap (λ (l : List Bool). t.presence ++ l) (one.one x s.contents t.contents s.spelled t.spelled) ∙ sym t.parts;
   }
 
-  pub sequence_names_misfit : {E : Type 0} → (W : X → E → Type 0) → NamesMisfit P W → NamesMisfit (IsSequence pres P) W
+  pub sequence_names_misfit : {E : Type 0} → (W : X → E → Type 0) → NamesMisfit P W → NamesMisfit (IsSequence S P) W
   sequence_names_misfit W names = record {
     wrong = λ x e p f. names.wrong x e p (record { list = f.spelled.contents; spelled = f.spelled.spelled });
     one = names.one;
   }
 
-module _ {X : Type 0} (pres : X → List Bool) (P : X → List Bool → Type 0) (R : List Bool → X → List Bool → Type 0)
-    (count : ℕ) where
-  pub sequence_within : ((x : X) → length (pres x) ≡ count) → IsShown pres P R
-      → IsWithin (IsSequence pres P) (ReadsSequence R count)
+module _ {X : Type 0} (S P : X → List Bool → Type 0) (R : List Bool → X → List Bool → Type 0) (count : ℕ) where
+  pub sequence_within : ((x : X) (p : List Bool) → S x p → length p ≡ count) → IsShown S P R
+      → IsWithin (IsSequence S P) (ReadsSequence R count)
   sequence_within size shown = record {
     each = λ x list s. record {
-      shown = pres x;
+      shown = s.presence;
       contents = s.contents;
-      size = size x;
-      read = shown.each x s.contents s.spelled;
+      size = size x s.presence s.shown;
+      read = shown.each x s.presence s.contents s.shown s.spelled;
       parts = s.parts;
     };
   }
 
-  pub sequence_alone : ShowsAlone pres P R → IsWithin (ReadsSequence R count) (IsSequence pres P)
+  pub sequence_alone : ShowsAlone S P R → IsWithin (ReadsSequence R count) (IsSequence S P)
   sequence_alone alone = record {
     each = λ x list s.
         let own = alone.each s.shown x s.contents s.read in
         record {
+          presence = s.shown;
           contents = s.contents;
+          shown = own.shown;
           spelled = own.spelled;
-          parts = s.parts ∙ ap (λ (l : List Bool). l ++ s.contents) own.shown;
+          parts = s.parts;
         };
   }
 

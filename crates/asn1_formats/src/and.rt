@@ -19,7 +19,7 @@ pub struct And<C, D> {
 impl<C: Components, D: Components> Components for And<C, D> {
     ghost use Rattle.std.specs.Prelude.{◌+◌, drop};
     ghost use Rattle.asn1_formats.specs.Combined.{Both, BothFault, BothMisfit};
-    ghost use Rattle.asn1_formats.specs.Sequences.{Behind, ReadsBoth, both_presence};
+    ghost use Rattle.asn1_formats.specs.Sequences.{Behind, ReadsBoth};
     ghost use Rattle.asn1_formats.specs.SpellingLaws.{both_spells_one};
     ghost use Rattle.asn1_formats.specs.ThenLaws.{both_names_misfit};
     ghost use Rattle.asn1_formats.specs.AndLaws.{both_size, and_within, and_alone, and_reads_one, and_names_fault};
@@ -36,7 +36,7 @@ impl<C: Components, D: Components> Components for And<C, D> {
 
     ghost count = { λ f. C.count f.first + D.count f.second };
 
-    ghost presence_of = { λ f v. both_presence (C.presence_of f.first) (D.presence_of f.second) v };
+    ghost shows = { λ f v p. Both (C.shows f.first) (D.shows f.second) v p };
 
     ghost spells = { λ f v list. Both (C.spells f.first) (D.spells f.second) v list };
 
@@ -132,16 +132,19 @@ impl<C: Components, D: Components> Components for And<C, D> {
     }
 
     ghost as_many = { λ f.
-        both_size (C.presence_of f.first) (D.presence_of f.second) (C.spells f.first) (D.spells f.second)
-        (C.count f.first) (D.count f.second) (C.as_many f.first) (D.as_many f.second) };
+        both_size (C.shows f.first) (D.shows f.second) (C.count f.first) (D.count f.second) (C.as_many f.first)
+        (D.as_many f.second) };
+
+    ghost shows_one = { λ f.
+        both_spells_one (C.shows f.first) (D.shows f.second) (C.shows_one f.first) (D.shows_one f.second) };
 
     ghost spelled_is_read = { λ f.
-        and_within (C.presence_of f.first) (D.presence_of f.second) (C.spells f.first) (D.spells f.second)
+        and_within (C.shows f.first) (D.shows f.second) (C.spells f.first) (D.spells f.second)
         (C.reads f.first) (D.reads f.second) (C.count f.first) (C.as_many f.first)
         (C.spelled_is_read f.first) (D.spelled_is_read f.second) };
 
     ghost read_is_spelled = { λ f canonical.
-        and_alone (C.presence_of f.first) (D.presence_of f.second) (C.spells f.first) (D.spells f.second)
+        and_alone (C.shows f.first) (D.shows f.second) (C.spells f.first) (D.spells f.second)
         (C.reads f.first) (D.reads f.second) (C.count f.first) (C.read_is_spelled f.first canonical.0)
         (D.read_is_spelled f.second canonical.1) };
 

@@ -1,10 +1,11 @@
 //! BOOLEAN.
 
 use crate::bit::{next_bit, push_bit};
+use crate::compare::Compare;
 use crate::format::Format;
 use crate::refusal::Refusal;
 use asn1_values::{BitBuffer, BitReader};
-use std::alloc::Global;
+use std::alloc::{AllocError, Global};
 use std::convert::Infallible;
 
 /// BOOLEAN: one bit, 1 for true (X.691 12).
@@ -78,4 +79,21 @@ impl Format for Boolean {
     ghost names_fault = { λ f. boolean_names_fault };
 
     ghost names_misfit = { λ f. boolean_names_misfit };
+}
+
+impl Compare for Boolean {
+    fn are_equal(&self, first: &bool, second: &bool) -> bool {
+        *first == *second
+    }
+
+    fn copy(&self, _alloc: Global, value: &bool) -> Result<bool, AllocError> {
+        Ok(*value)
+    }
+
+    fn skip_equal(&self, reader: &mut BitReader<'_>, other: &bool) -> Result<bool, NoBit> {
+        match next_bit(reader) {
+            Some(bit) => Ok(bit == *other),
+            None => Err(NoBit {}),
+        }
+    }
 }

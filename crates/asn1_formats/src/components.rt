@@ -1,8 +1,8 @@
 //! The components of a SEQUENCE.
 
-ghost use Rattle.std.specs.Prelude.{◌≡◌, ℕ, ◌≤◌, Bool, List, ◌++◌, length, drop, OnOk, OnErr, IfOk, IfErr, ⊤};
+ghost use Rattle.std.specs.Prelude.{◌≡◌, ℕ, ◌≤◌, Bool, List, length, drop, OnOk, OnErr, IfOk, IfErr, ⊤};
 ghost use Rattle.asn1_bits.specs.BitReader.{bits_left};
-ghost use Rattle.asn1_formats.specs.Spelling.{Starts, Measures, IsLength, IsWritten, Extends, ReadsOne, SpellsOne, NamesFault, NamesMisfit};
+ghost use Rattle.asn1_formats.specs.Spelling.{Starts, Fits, Measures, IsLength, IsWritten, Extends, ReadsOne, SpellsOne, NamesFault, NamesMisfit};
 ghost use Rattle.asn1_formats.specs.Refusals.{IsRefusal};
 ghost use Rattle.asn1_formats.specs.Sequences.{Behind, IsShown, ShowsAlone};
 
@@ -31,7 +31,7 @@ pub trait Components {
     ghost count: { Self → ℕ };
 
     /// The presence bits of a value, one for each component that may be missing.
-    ghost presence_of: { Self → Plain → List Bool };
+    ghost shows: { Self → Plain → List Bool → Type 0 };
 
     /// The bits behind the presence bits spell the value: writing appends them.
     ghost spells: { Self → Plain → List Bool → Type 0 };
@@ -57,7 +57,7 @@ pub trait Components {
 
     /// Appends the presence bits. Where it is refused, some may have been appended.
     fn append_presence(&self, buffer: &mut BitBuffer, value: &Self::Value) -> Result<(), AllocError>
-        ensures ok { OnOk result (buffer.new ≡ buffer.old ++ presence_of self.now (plain value.now)) }
+        ensures ok { OnOk result (IsWritten (shows self.now) (plain value.now) buffer.old buffer.new) }
         ensures err { OnErr result (Extends buffer.old buffer.new) };
 
     /// Appends the components that are there. Where it is refused, a part may have been appended.
@@ -73,6 +73,7 @@ pub trait Components {
     /// How many bits spell the components that are there; or what is wrong with them.
     fn measure(&self, value: &Self::Value) -> Result<Option<usize>, Self::Misfit>
         ensures measured { IfOk result (Measures (spells self.now) (plain value.now)) }
+        ensures shown { OnOk result (Fits (shows self.now) (plain value.now)) }
         ensures misfit { IfErr result (is_misfit self.now (plain value.now)) };
 
     /// Reads the components that the presence bits tell of.
@@ -102,13 +103,16 @@ pub trait Components {
         ensures fault { IfErr result (is_fault self.now (bits_left presence.old) (bits_left reader.old)) };
 
     /// Each value has as many presence bits.
-    ghost as_many: { (f : Self) (x : Plain) → length (presence_of f x) ≡ count f };
+    ghost as_many: { (f : Self) (x : Plain) (p : List Bool) → shows f x p → length p ≡ count f };
+
+    /// They are those of the value alone.
+    ghost shows_one: { (f : Self) → SpellsOne (shows f) };
 
     /// What spells a value is read as it behind its presence bits.
-    ghost spelled_is_read: { (f : Self) → IsShown (presence_of f) (spells f) (reads f) };
+    ghost spelled_is_read: { (f : Self) → IsShown (shows f) (spells f) (reads f) };
 
     /// Of canonical components, what is read as a value spells it, and the presence bits are its own.
-    ghost read_is_spelled: { (f : Self) → is_canonical f → ShowsAlone (presence_of f) (spells f) (reads f) };
+    ghost read_is_spelled: { (f : Self) → is_canonical f → ShowsAlone (shows f) (spells f) (reads f) };
 
     /// Behind presence bits, what a list begins with is read as one value at most.
     ghost reads_one: { (f : Self) (p : List Bool) → ReadsOne (Behind (reads f) (count f) p) };

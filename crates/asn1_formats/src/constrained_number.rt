@@ -2,11 +2,12 @@
 
 ghost use Rattle.std.specs.Prelude.{◌≡◌, ℕ, ℤ, pos, ◌+ℤ◌, ◌≤ℤ◌, ◌<ℤ◌, ◌≤◌, ⊤, IfOk, IfErr};
 
+use crate::compare::Compare;
 use crate::format::Format;
 use crate::refusal::Refusal;
 use crate::size::{Size, SizeFault, SizeMisfit};
 use asn1_values::{BitBuffer, BitReader};
-use std::alloc::Global;
+use std::alloc::{AllocError, Global};
 
 /// The whole numbers from a least to a greatest one: the distance from the least, in as few bits as all distances need
 /// (X.691 11.5.6).
@@ -105,6 +106,23 @@ impl Format for ConstrainedNumber {
     ghost names_fault = { λ f. constrained_names_fault f.least f.most };
 
     ghost names_misfit = { λ f. constrained_names_misfit f.least f.most f.distance.most f.reach };
+}
+
+impl Compare for ConstrainedNumber {
+    fn are_equal(&self, first: &i64, second: &i64) -> bool {
+        *first == *second
+    }
+
+    fn copy(&self, _alloc: Global, value: &i64) -> Result<i64, AllocError> {
+        Ok(*value)
+    }
+
+    fn skip_equal(&self, reader: &mut BitReader<'_>, other: &i64) -> Result<bool, SizeFault> {
+        match self.distance.next_in(reader) {
+            Ok(distance) => Ok(at(self.least, self.most, distance) == *other),
+            Err(fault) => Err(fault),
+        }
+    }
 }
 
 impl ConstrainedNumber {

@@ -6,6 +6,7 @@ ghost use Rattle.asn1_bits.specs.BitReader.{bits_left};
 ghost use Rattle.asn1_formats.specs.Spelling.{Starts};
 ghost use Rattle.asn1_formats.specs.Numbers.{IsNumber, IsShort};
 
+use crate::compare::Compare;
 use crate::format::Format;
 use crate::refusal::Refusal;
 use asn1_values::{BitBuffer, BitReader};
@@ -106,6 +107,23 @@ impl Format for Number {
     ghost names_fault = { λ f. number_names_fault f.width };
 
     ghost names_misfit = { λ f. number_names_misfit f.width };
+}
+
+impl Compare for Number {
+    fn are_equal(&self, first: &u64, second: &u64) -> bool {
+        *first == *second
+    }
+
+    fn copy(&self, _alloc: Global, value: &u64) -> Result<u64, AllocError> {
+        Ok(*value)
+    }
+
+    fn skip_equal(&self, reader: &mut BitReader<'_>, other: &u64) -> Result<bool, Short> {
+        match next(reader, self.width) {
+            Ok(value) => Ok(value == *other),
+            Err(fault) => Err(fault),
+        }
+    }
 }
 
 /// Whether so many bits hold the number.

@@ -14,10 +14,9 @@ pub struct Required<A> {
 }
 
 impl<A: Format> Components for Required<A> {
-    ghost use Rattle.std.specs.Prelude.{[]};
-    ghost use Rattle.std.specs.Prelude.{refl};
+    ghost use Rattle.std.specs.Prelude.{◌≡◌, []};
     ghost use Rattle.asn1_formats.specs.Sequences.{Shown};
-    ghost use Rattle.asn1_formats.specs.ComponentLaws.{shown_within, shown_alone, required_reads_one, required_names_fault};
+    ghost use Rattle.asn1_formats.specs.ComponentLaws.{required_size, equal_one, shown_within, shown_alone, required_reads_one, required_names_fault};
 
     type Value = A::Value;
 
@@ -31,11 +30,11 @@ impl<A: Format> Components for Required<A> {
 
     ghost count = { λ f. 0 };
 
-    ghost presence_of = { λ f x. [] };
+    ghost shows = { λ f x p. p ≡ [] };
 
     ghost spells = { λ f x list. A.spells f.part x list };
 
-    ghost reads = { λ f p x list. Shown (λ y. []) (A.reads f.part) p x list };
+    ghost reads = { λ f p x list. Shown (λ y q. q ≡ []) (A.reads f.part) p x list };
 
     ghost is_fault = { λ f p list e. A.is_fault f.part list e };
 
@@ -82,13 +81,15 @@ impl<A: Format> Components for Required<A> {
         self.part.skip(reader)
     }
 
-    ghost as_many = { λ f x. refl };
+    ghost as_many = { λ f x p. required_size p };
+
+    ghost shows_one = { λ f. equal_one (λ x. []) };
 
     ghost spelled_is_read = { λ f.
-        shown_within (λ y. []) (A.spells f.part) (A.reads f.part) (A.spelled_is_read f.part) };
+        shown_within (λ y q. q ≡ []) (A.spells f.part) (A.reads f.part) (A.spelled_is_read f.part) };
 
     ghost read_is_spelled = { λ f canonical.
-        shown_alone (λ y. []) (A.spells f.part) (A.reads f.part) (A.read_is_spelled f.part canonical) };
+        shown_alone (λ y q. q ≡ []) (A.spells f.part) (A.reads f.part) (A.read_is_spelled f.part canonical) };
 
     ghost reads_one = { λ f. required_reads_one (A.reads f.part) (A.reads_one f.part) };
 

@@ -38,7 +38,7 @@ impl<C: Components> Format for Sequence<C> {
 
     ghost plain = { λ v. C.plain v };
 
-    ghost spells = { λ f v list. IsSequence (C.presence_of f.components) (C.spells f.components) v list };
+    ghost spells = { λ f v list. IsSequence (C.shows f.components) (C.spells f.components) v list };
 
     ghost reads = { λ f v list. ReadsSequence (C.reads f.components) (C.count f.components) v list };
 
@@ -96,27 +96,27 @@ impl<C: Components> Format for Sequence<C> {
     }
 
     ghost spelled_is_read = { λ f.
-        sequence_within (C.presence_of f.components) (C.spells f.components) (C.reads f.components)
+        sequence_within (C.shows f.components) (C.spells f.components) (C.reads f.components)
         (C.count f.components) (C.as_many f.components) (C.spelled_is_read f.components) };
 
     ghost read_is_spelled = { λ f canonical.
-        sequence_alone (C.presence_of f.components) (C.spells f.components) (C.reads f.components)
+        sequence_alone (C.shows f.components) (C.spells f.components) (C.reads f.components)
         (C.count f.components) (C.read_is_spelled f.components canonical) };
 
     ghost reads_one = { λ f.
         sequence_reads_one (C.reads f.components) (C.count f.components) (C.reads_one f.components) };
 
     ghost spells_one = { λ f.
-        sequence_spells_one (C.presence_of f.components) (C.spells f.components) (C.count f.components)
-        (C.as_many f.components) (C.spells_one f.components) };
+        sequence_spells_one (C.shows f.components) (C.spells f.components) (C.shows_one f.components)
+        (C.spells_one f.components) };
 
     ghost names_fault = { λ f.
         sequence_names_fault (C.reads f.components) (C.count f.components) (C.is_fault f.components)
         (C.names_fault f.components) };
 
     ghost names_misfit = { λ f.
-        sequence_names_misfit (C.presence_of f.components) (C.spells f.components) (C.count f.components)
-        (C.as_many f.components) (C.is_misfit f.components) (C.names_misfit f.components) };
+        sequence_names_misfit (C.shows f.components) (C.spells f.components) (C.is_misfit f.components)
+        (C.names_misfit f.components) };
 }
 
 impl<C: Components> Sequence<C> {

@@ -6,6 +6,7 @@ ghost use Rattle.asn1_bits.specs.BitReader.{bits_left};
 ghost use Rattle.asn1_formats.specs.Spelling.{Starts};
 ghost use Rattle.asn1_formats.specs.Numbers.{width_to, IsNumber, IsShort};
 
+use crate::compare::Compare;
 use crate::format::Format;
 use crate::number::{Short, next, push};
 use crate::refusal::Refusal;
@@ -146,6 +147,23 @@ impl Format for Size {
     ghost names_fault = { λ f. size_names_fault f.least f.most };
 
     ghost names_misfit = { λ f. size_names_misfit f.least f.most f.ordered };
+}
+
+impl Compare for Size {
+    fn are_equal(&self, first: &u64, second: &u64) -> bool {
+        *first == *second
+    }
+
+    fn copy(&self, _alloc: Global, value: &u64) -> Result<u64, AllocError> {
+        Ok(*value)
+    }
+
+    fn skip_equal(&self, reader: &mut BitReader<'_>, other: &u64) -> Result<bool, SizeFault> {
+        match self.next_in(reader) {
+            Ok(value) => Ok(value == *other),
+            Err(fault) => Err(fault),
+        }
+    }
 }
 
 impl Size {
