@@ -6,10 +6,12 @@ pub mod WholeNumbers
 pub mod Characters
 pub mod Combined
 pub mod Sequences
+pub mod Defaults
 pub mod Choices
 pub mod OctetStrings
 -- Laws of these words, which the formats' laws are made of.
 pub mod SpellingLaws
+pub mod WithinLaws
 pub mod NumberLaws
 pub mod WholeNumberLaws
 pub mod BooleanLaws
@@ -18,6 +20,8 @@ pub mod NamedLaws
 pub mod ThenLaws
 pub mod ListLaws
 pub mod SequenceLaws
+pub mod ComponentLaws
+pub mod DefaultLaws
 pub mod AndLaws
 pub mod ChoiceLaws
 pub mod OctetStringLaws

@@ -1,10 +1,11 @@
 //! BOOLEAN.
 
 use crate::bit::{next_bit, push_bit};
+use crate::compare::Compare;
 use crate::format::Format;
 use crate::refusal::Refusal;
 use asn1_values::{BitBuffer, BitReader};
-use std::alloc::Global;
+use std::alloc::{AllocError, Global};
 use std::convert::Infallible;
 use thiserror::Error;
 
@@ -20,6 +21,7 @@ pub struct NoBit {}
 impl Format for Boolean {
     ghost use Rattle.std.specs.Prelude.{◌≡◌, Bool, [], ◌∷◌, ⊤};
     ghost use Rattle.asn1_formats.specs.BooleanLaws.{boolean_reads_one, boolean_spells_one, boolean_names_fault, boolean_names_misfit};
+    ghost use Rattle.asn1_formats.specs.WithinLaws.{itself};
 
     type Value = bool;
 
@@ -33,11 +35,15 @@ impl Format for Boolean {
 
     ghost spells = { λ f b list. list ≡ b ∷ [] };
 
+    ghost reads = { λ f b list. list ≡ b ∷ [] };
+
     ghost is_fault = { λ f list e. list ≡ [] };
 
     ghost is_misfit = { λ f b e. ⊥ };
 
     ghost owns_nothing = { λ f. ⊤ };
+
+    ghost is_canonical = { λ f. ⊤ };
 
     fn append(&self, buffer: &mut BitBuffer, value: &bool) -> Result<(), Refusal<Infallible>> {
         match push_bit(buffer, *value) {
@@ -64,6 +70,10 @@ impl Format for Boolean {
         }
     }
 
+    ghost spelled_is_read = { λ f. itself (λ b list. list ≡ b ∷ []) };
+
+    ghost read_is_spelled = { λ f canonical. itself (λ b list. list ≡ b ∷ []) };
+
     ghost reads_one = { λ f. boolean_reads_one };
 
     ghost spells_one = { λ f. boolean_spells_one };
@@ -71,4 +81,21 @@ impl Format for Boolean {
     ghost names_fault = { λ f. boolean_names_fault };
 
     ghost names_misfit = { λ f. boolean_names_misfit };
+}
+
+impl Compare for Boolean {
+    fn are_equal(&self, first: &bool, second: &bool) -> bool {
+        *first == *second
+    }
+
+    fn copy(&self, _alloc: Global, value: &bool) -> Result<bool, AllocError> {
+        Ok(*value)
+    }
+
+    fn skip_equal(&self, reader: &mut BitReader<'_>, other: &bool) -> Result<bool, NoBit> {
+        match next_bit(reader) {
+            Some(bit) => Ok(bit == *other),
+            None => Err(NoBit {}),
+        }
+    }
 }

@@ -2,11 +2,12 @@
 
 ghost use Rattle.std.specs.Prelude.{◌≡◌, ℕ, ℤ, pos, ◌+ℤ◌, ◌≤ℤ◌, ◌<ℤ◌, ◌≤◌, ⊤, IfOk, IfErr};
 
+use crate::compare::Compare;
 use crate::format::Format;
 use crate::refusal::Refusal;
 use crate::size::{Size, SizeFault, SizeMisfit};
 use asn1_values::{BitBuffer, BitReader};
-use std::alloc::Global;
+use std::alloc::{AllocError, Global};
 
 /// The whole numbers from a least to a greatest one: the distance from the least, in as few bits as all distances need
 /// (X.691 11.5.6).
@@ -39,6 +40,7 @@ impl ConstrainedNumber {
 impl Format for ConstrainedNumber {
     ghost use Rattle.asn1_formats.specs.WholeNumbers.{IsConstrained, IsConstrainedFault, IsConstrainedMisfit};
     ghost use Rattle.asn1_formats.specs.WholeNumberLaws.{constrained_reads_one, constrained_spells_one, constrained_names_fault, constrained_names_misfit};
+    ghost use Rattle.asn1_formats.specs.WithinLaws.{itself};
 
     type Value = i64;
 
@@ -52,11 +54,15 @@ impl Format for ConstrainedNumber {
 
     ghost spells = { λ f n list. IsConstrained f.least f.most n list };
 
+    ghost reads = { λ f n list. IsConstrained f.least f.most n list };
+
     ghost is_fault = { λ f list e. IsConstrainedFault f.least f.most list e };
 
     ghost is_misfit = { λ f n e. IsConstrainedMisfit f.least f.most n e };
 
     ghost owns_nothing = { λ f. ⊤ };
+
+    ghost is_canonical = { λ f. ⊤ };
 
     fn append(&self, buffer: &mut BitBuffer, value: &i64) -> Result<(), Refusal<SizeMisfit>> {
         match self.distance_of(*value) {
@@ -89,6 +95,10 @@ impl Format for ConstrainedNumber {
         }
     }
 
+    ghost spelled_is_read = { λ f. itself (λ n list. IsConstrained f.least f.most n list) };
+
+    ghost read_is_spelled = { λ f canonical. itself (λ n list. IsConstrained f.least f.most n list) };
+
     ghost reads_one = { λ f. constrained_reads_one f.least f.most };
 
     ghost spells_one = { λ f. constrained_spells_one f.least f.most };
@@ -96,6 +106,23 @@ impl Format for ConstrainedNumber {
     ghost names_fault = { λ f. constrained_names_fault f.least f.most };
 
     ghost names_misfit = { λ f. constrained_names_misfit f.least f.most f.distance.most f.reach };
+}
+
+impl Compare for ConstrainedNumber {
+    fn are_equal(&self, first: &i64, second: &i64) -> bool {
+        *first == *second
+    }
+
+    fn copy(&self, _alloc: Global, value: &i64) -> Result<i64, AllocError> {
+        Ok(*value)
+    }
+
+    fn skip_equal(&self, reader: &mut BitReader<'_>, other: &i64) -> Result<bool, SizeFault> {
+        match self.distance.next_in(reader) {
+            Ok(distance) => Ok(at(self.least, self.most, distance) == *other),
+            Err(fault) => Err(fault),
+        }
+    }
 }
 
 impl ConstrainedNumber {

@@ -4,10 +4,13 @@
 
 mod alternatives;
 mod and;
+mod basic_default;
 mod bit;
 mod boolean;
+mod canonical_default;
 mod character;
 mod choice;
+mod compare;
 mod components;
 mod constrained_number;
 mod explain;
@@ -32,9 +35,12 @@ mod writing;
 
 pub use alternatives::Alternatives;
 pub use and::And;
+pub use basic_default::BasicDefault;
 pub use boolean::{Boolean, NoBit};
+pub use canonical_default::{CanonicalDefault, InDefault};
 pub use character::{Character, CharacterFault, NotInAlphabet};
 pub use choice::{Choice, InChoice};
+pub use compare::Compare;
 pub use components::Components;
 pub use constrained_number::ConstrainedNumber;
 pub use explain::Explain;

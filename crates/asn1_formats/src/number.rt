@@ -6,6 +6,7 @@ ghost use Rattle.asn1_bits.specs.BitReader.{bits_left};
 ghost use Rattle.asn1_formats.specs.Spelling.{Starts};
 ghost use Rattle.asn1_formats.specs.Numbers.{IsNumber, IsShort};
 
+use crate::compare::Compare;
 use crate::format::Format;
 use crate::refusal::Refusal;
 use asn1_values::{BitBuffer, BitReader};
@@ -45,6 +46,7 @@ impl Number {
 impl Format for Number {
     ghost use Rattle.asn1_formats.specs.SpellingLaws.{number_reads_one, number_spells_one};
     ghost use Rattle.asn1_formats.specs.NumberLaws.{number_names_fault, number_names_misfit};
+    ghost use Rattle.asn1_formats.specs.WithinLaws.{itself};
 
     type Value = u64;
 
@@ -58,11 +60,15 @@ impl Format for Number {
 
     ghost spells = { λ f n list. IsNumber f.width n list };
 
+    ghost reads = { λ f n list. IsNumber f.width n list };
+
     ghost is_fault = { λ f list e. IsShort f.width list e.missing };
 
     ghost is_misfit = { λ f n e. 2 ^ f.width ≤ n };
 
     ghost owns_nothing = { λ f. ⊤ };
+
+    ghost is_canonical = { λ f. ⊤ };
 
     fn append(&self, buffer: &mut BitBuffer, value: &u64) -> Result<(), Refusal<PastWidth>> {
         if !fits(*value, self.width) {
@@ -93,6 +99,10 @@ impl Format for Number {
         Ok(())
     }
 
+    ghost spelled_is_read = { λ f. itself (λ n list. IsNumber f.width n list) };
+
+    ghost read_is_spelled = { λ f canonical. itself (λ n list. IsNumber f.width n list) };
+
     ghost reads_one = { λ f. number_reads_one f.width };
 
     ghost spells_one = { λ f. number_spells_one f.width };
@@ -100,6 +110,23 @@ impl Format for Number {
     ghost names_fault = { λ f. number_names_fault f.width };
 
     ghost names_misfit = { λ f. number_names_misfit f.width };
+}
+
+impl Compare for Number {
+    fn are_equal(&self, first: &u64, second: &u64) -> bool {
+        *first == *second
+    }
+
+    fn copy(&self, _alloc: Global, value: &u64) -> Result<u64, AllocError> {
+        Ok(*value)
+    }
+
+    fn skip_equal(&self, reader: &mut BitReader<'_>, other: &u64) -> Result<bool, Short> {
+        match next(reader, self.width) {
+            Ok(value) => Ok(value == *other),
+            Err(fault) => Err(fault),
+        }
+    }
 }
 
 /// Whether so many bits hold the number.

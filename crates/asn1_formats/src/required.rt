@@ -14,9 +14,9 @@ pub struct Required<A> {
 }
 
 impl<A: Format> Components for Required<A> {
-    ghost use Rattle.std.specs.Prelude.{[]};
-    ghost use Rattle.std.specs.Prelude.{refl};
-    ghost use Rattle.asn1_formats.specs.SequenceLaws.{required_reads_one, required_names_fault};
+    ghost use Rattle.std.specs.Prelude.{◌≡◌, []};
+    ghost use Rattle.asn1_formats.specs.Sequences.{Shown};
+    ghost use Rattle.asn1_formats.specs.ComponentLaws.{required_size, equal_one, shown_within, shown_alone, required_reads_one, required_names_fault};
 
     type Value = A::Value;
 
@@ -30,15 +30,19 @@ impl<A: Format> Components for Required<A> {
 
     ghost count = { λ f. 0 };
 
-    ghost presence_of = { λ f x. [] };
+    ghost shows = { λ f x p. p ≡ [] };
 
     ghost spells = { λ f x list. A.spells f.part x list };
+
+    ghost reads = { λ f p x list. Shown (λ y q. q ≡ []) (A.reads f.part) p x list };
 
     ghost is_fault = { λ f p list e. A.is_fault f.part list e };
 
     ghost is_misfit = { λ f x e. A.is_misfit f.part x e };
 
     ghost owns_nothing = { λ f. A.owns_nothing f.part };
+
+    ghost is_canonical = { λ f. A.is_canonical f.part };
 
     fn optional_count(&self) -> Option<usize> {
         Some(0)
@@ -77,14 +81,22 @@ impl<A: Format> Components for Required<A> {
         self.part.skip(reader)
     }
 
-    ghost as_many = { λ f x. refl };
+    ghost as_many = { λ f x p. required_size p };
 
-    ghost reads_one = { λ f. required_reads_one (A.spells f.part) (A.reads_one f.part) };
+    ghost shows_one = { λ f. equal_one (λ x. []) };
+
+    ghost spelled_is_read = { λ f.
+        shown_within (λ y q. q ≡ []) (A.spells f.part) (A.reads f.part) (A.spelled_is_read f.part) };
+
+    ghost read_is_spelled = { λ f canonical.
+        shown_alone (λ y q. q ≡ []) (A.spells f.part) (A.reads f.part) (A.read_is_spelled f.part canonical) };
+
+    ghost reads_one = { λ f. required_reads_one (A.reads f.part) (A.reads_one f.part) };
 
     ghost spells_one = { λ f. A.spells_one f.part };
 
     ghost names_fault = { λ f.
-        required_names_fault (A.spells f.part) (A.is_fault f.part) (A.names_fault f.part) };
+        required_names_fault (A.reads f.part) (A.is_fault f.part) (A.names_fault f.part) };
 
     ghost names_misfit = { λ f. A.names_misfit f.part };
 }

@@ -6,6 +6,7 @@ ghost use Rattle.asn1_bits.specs.BitReader.{bits_left};
 ghost use Rattle.asn1_formats.specs.Spelling.{Starts};
 ghost use Rattle.asn1_formats.specs.Numbers.{width_to, IsNumber, IsShort};
 
+use crate::compare::Compare;
 use crate::format::Format;
 use crate::number::{Short, next, push};
 use crate::refusal::Refusal;
@@ -77,6 +78,7 @@ pub(crate) fn width_to_hold(most: u64) -> usize
 impl Format for Size {
     ghost use Rattle.asn1_formats.specs.Numbers.{IsSize, IsSizeFault, IsSizeMisfit};
     ghost use Rattle.asn1_formats.specs.NumberLaws.{size_reads_one, size_spells_one, size_names_fault, size_names_misfit};
+    ghost use Rattle.asn1_formats.specs.WithinLaws.{itself};
 
     type Value = u64;
 
@@ -90,11 +92,15 @@ impl Format for Size {
 
     ghost spells = { λ f n list. IsSize f.least f.most n list };
 
+    ghost reads = { λ f n list. IsSize f.least f.most n list };
+
     ghost is_fault = { λ f list e. IsSizeFault f.least f.most list e };
 
     ghost is_misfit = { λ f n e. IsSizeMisfit f.least f.most n e };
 
     ghost owns_nothing = { λ f. ⊤ };
+
+    ghost is_canonical = { λ f. ⊤ };
 
     fn append(&self, buffer: &mut BitBuffer, value: &u64) -> Result<(), Refusal<SizeMisfit>> {
         let value = *value;
@@ -135,6 +141,10 @@ impl Format for Size {
         }
     }
 
+    ghost spelled_is_read = { λ f. itself (λ n list. IsSize f.least f.most n list) };
+
+    ghost read_is_spelled = { λ f canonical. itself (λ n list. IsSize f.least f.most n list) };
+
     ghost reads_one = { λ f. size_reads_one f.least f.most };
 
     ghost spells_one = { λ f. size_spells_one f.least f.most };
@@ -142,6 +152,23 @@ impl Format for Size {
     ghost names_fault = { λ f. size_names_fault f.least f.most };
 
     ghost names_misfit = { λ f. size_names_misfit f.least f.most f.ordered };
+}
+
+impl Compare for Size {
+    fn are_equal(&self, first: &u64, second: &u64) -> bool {
+        *first == *second
+    }
+
+    fn copy(&self, _alloc: Global, value: &u64) -> Result<u64, AllocError> {
+        Ok(*value)
+    }
+
+    fn skip_equal(&self, reader: &mut BitReader<'_>, other: &u64) -> Result<bool, SizeFault> {
+        match self.next_in(reader) {
+            Ok(value) => Ok(value == *other),
+            Err(fault) => Err(fault),
+        }
+    }
 }
 
 impl Size {

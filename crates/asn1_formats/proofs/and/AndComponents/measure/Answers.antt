@@ -1,3 +1,4 @@
+use Rattle.std.proofs.Common.{◌++◌, refl}
 use Rattle.asn1_formats.specs.SpellingLaws.{measured_both}
 use Rattle.asn1_formats.proofs.and.AndComponents.measure.Goals as goal
 
@@ -7,3 +8,12 @@ returns-in-Ok-measure-clause-measured g c =
     (g.C.Components.plain c.args.value.now.0) (g.D.Components.plain c.args.value.now.1)
     c.in-Ok.first c.in-Ok-measure.second c.sum_of.result
     c.in-Ok.ensures.measured c.in-Ok-measure.ensures.measured c.sum_of.ensures
+
+pub returns-in-Ok-measure-clause-shown : goal.returns-in-Ok-measure-clause-shown
+returns-in-Ok-measure-clause-shown g c =
+    let p = c.in-Ok.ensures.shown in
+    let q = c.in-Ok-measure.ensures.shown in
+    record {
+      list = p.list ++ q.list;
+      spelled = record { front = p.list; rest = q.list; first = p.spelled; second = q.spelled; parts = refl };
+    }

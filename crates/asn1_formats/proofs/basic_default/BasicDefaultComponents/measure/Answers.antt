@@ -1,0 +1,12 @@
+use Rattle.asn1_formats.specs.DefaultLaws.{default_fits}
+use Rattle.asn1_formats.proofs.basic_default.BasicDefaultComponents.measure.Goals as goal
+
+pub returns-then-are_equal-clause-shown : goal.returns-then-are_equal-clause-shown
+returns-then-are_equal-clause-shown g c =
+    default_fits (g.A.Format.plain c.args.self.now.default) c.are_equal.result (g.A.Format.plain c.args.value.now)
+    c.are_equal.ensures
+
+pub returns-in-Ok-clause-shown : goal.returns-in-Ok-clause-shown
+returns-in-Ok-clause-shown g c =
+    default_fits (g.A.Format.plain c.args.self.now.default) c.are_equal.result (g.A.Format.plain c.args.value.now)
+    c.are_equal.ensures

@@ -1,0 +1,22 @@
+use Rattle.std.proofs.Common.{Bool, ◌∷◌, ap, ◌∙◌}
+use Rattle.asn1_bits.specs.BitReader.{bits_left}
+use Rattle.asn1_formats.specs.DefaultLaws.{basic_present, basic_absent}
+use Rattle.asn1_formats.proofs.basic_default.BasicDefaultComponents.take.Goals as goal
+
+pub returns-in-Ok-clause-read : goal.returns-in-Ok-clause-read
+returns-in-Ok-clause-read g c =
+    let f = c.args.self.now in
+    let v = g.A.Format.plain f.default in
+    let more = bits_left c.next_bit.new.reader in
+    basic_present (g.A.Format.reads f.part) v (bits_left c.args.presence.now) (bits_left c.args.reader.now)
+    (g.A.Format.plain c.in-Ok.value) (bits_left c.take.new.reader) more
+    (c.in-Some-true.ensures.bit ∙ ap (λ (b : Bool). b ∷ bits_left c.next_bit.new.reader) c.in-Some-true.field-0-test) c.in-Ok.ensures.read
+
+pub returns-in-Ok-copy-clause-read : goal.returns-in-Ok-copy-clause-read
+returns-in-Ok-copy-clause-read g c =
+    let f = c.args.self.now in
+    let v = g.A.Format.plain f.default in
+    let more = bits_left c.next_bit.new.reader in
+    basic_absent (g.A.Format.reads f.part) v (bits_left c.args.presence.now) (bits_left c.args.reader.now)
+    (g.A.Format.plain c.in-Ok-copy.value) more
+    (c.in-Some-false.ensures.bit ∙ ap (λ (b : Bool). b ∷ bits_left c.next_bit.new.reader) c.in-Some-false.field-0-test) c.in-Ok-copy.ensures.copied
