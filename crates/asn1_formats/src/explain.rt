@@ -1,6 +1,7 @@
 //! What is wrong, in words.
 
 use crate::boolean::NoBit;
+use crate::canonical_default::InDefault;
 use crate::character::{CharacterFault, NotInAlphabet};
 use crate::choice::InChoice;
 use crate::number::{PastWidth, Short};
@@ -186,6 +187,24 @@ impl<E: Explain, F: Explain> Explain for InChoice<E, F> {
         match self {
             InChoice::Index(_) => false,
             InChoice::Alternative(wrong) => wrong.is_reason(),
+        }
+    }
+}
+
+impl<E: fmt::Display> fmt::Display for InDefault<E> {
+    fn fmt<W: fmt::Write>(&self, f: &mut fmt::Formatter<W>) -> fmt::Result {
+        match self {
+            InDefault::Written => write!(f, "the default value is written"),
+            InDefault::Part(wrong) => write!(f, "{wrong}"),
+        }
+    }
+}
+
+impl<E: Explain> Explain for InDefault<E> {
+    fn is_reason(&self) -> bool {
+        match self {
+            InDefault::Written => true,
+            InDefault::Part(wrong) => wrong.is_reason(),
         }
     }
 }

@@ -37,6 +37,21 @@ impl<E: Explain> Explain for InNamed<E> {
     }
 }
 
+impl<A> Named<A> {
+    ghost use Rattle.std.specs.Prelude.{◌≡◌};
+
+    /// What is wrong with the part, under its name.
+    fn at<E>(&self, wrong: E) -> InNamed<E>
+        ensures name { result.name ≡ self.now.name }
+        ensures wrong { result.wrong ≡ wrong }
+    {
+        InNamed {
+            name: self.name,
+            wrong,
+        }
+    }
+}
+
 impl<A: Format> Format for Named<A> {
     ghost use Rattle.std.specs.Prelude.{◌≡◌};
     ghost use Rattle.asn1_formats.specs.NamedLaws.{named_names_fault, named_names_misfit};
@@ -53,11 +68,15 @@ impl<A: Format> Format for Named<A> {
 
     ghost spells = { λ f v list. A.spells f.part v list };
 
+    ghost reads = { λ f v list. A.reads f.part v list };
+
     ghost is_fault = { λ f list e. (e.name ≡ f.name) × A.is_fault f.part list e.wrong };
 
     ghost is_misfit = { λ f v e. (e.name ≡ f.name) × A.is_misfit f.part v e.wrong };
 
     ghost owns_nothing = { λ f. A.owns_nothing f.part };
+
+    ghost is_canonical = { λ f. A.is_canonical f.part };
 
     fn append(
         &self,
@@ -66,10 +85,7 @@ impl<A: Format> Format for Named<A> {
     ) -> Result<(), Refusal<InNamed<A::Misfit>>> {
         match self.part.append(buffer, value) {
             Ok(()) => Ok(()),
-            Err(Refusal::Wrong(wrong)) => Err(Refusal::Wrong(InNamed {
-                name: self.name,
-                wrong,
-            })),
+            Err(Refusal::Wrong(wrong)) => Err(Refusal::Wrong(self.at(wrong))),
             Err(Refusal::Memory) => Err(Refusal::Memory),
         }
     }
@@ -77,10 +93,7 @@ impl<A: Format> Format for Named<A> {
     fn measure(&self, value: &A::Value) -> Result<Option<usize>, InNamed<A::Misfit>> {
         match self.part.measure(value) {
             Ok(len) => Ok(len),
-            Err(wrong) => Err(InNamed {
-                name: self.name,
-                wrong,
-            }),
+            Err(wrong) => Err(self.at(wrong)),
         }
     }
 
@@ -91,10 +104,7 @@ impl<A: Format> Format for Named<A> {
     ) -> Result<A::Value, Refusal<InNamed<A::Fault>>> {
         match self.part.take(alloc, reader) {
             Ok(value) => Ok(value),
-            Err(Refusal::Wrong(wrong)) => Err(Refusal::Wrong(InNamed {
-                name: self.name,
-                wrong,
-            })),
+            Err(Refusal::Wrong(wrong)) => Err(Refusal::Wrong(self.at(wrong))),
             Err(Refusal::Memory) => Err(Refusal::Memory),
         }
     }
@@ -102,19 +112,20 @@ impl<A: Format> Format for Named<A> {
     fn skip(&self, reader: &mut BitReader<'_>) -> Result<(), InNamed<A::Fault>> {
         match self.part.skip(reader) {
             Ok(()) => Ok(()),
-            Err(wrong) => Err(InNamed {
-                name: self.name,
-                wrong,
-            }),
+            Err(wrong) => Err(self.at(wrong)),
         }
     }
+
+    ghost spelled_is_read = { λ f. A.spelled_is_read f.part };
+
+    ghost read_is_spelled = { λ f canonical. A.read_is_spelled f.part canonical };
 
     ghost reads_one = { λ f. A.reads_one f.part };
 
     ghost spells_one = { λ f. A.spells_one f.part };
 
     ghost names_fault = { λ f.
-        named_names_fault f (A.spells f.part) (A.is_fault f.part) (A.names_fault f.part) };
+        named_names_fault f (A.reads f.part) (A.is_fault f.part) (A.names_fault f.part) };
 
     ghost names_misfit = { λ f.
         named_names_misfit f (A.spells f.part) (A.is_misfit f.part) (A.names_misfit f.part) };

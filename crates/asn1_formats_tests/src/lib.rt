@@ -10,6 +10,8 @@ mod message;
 #[cfg(test)]
 mod messages;
 #[cfg(test)]
+mod names;
+#[cfg(test)]
 mod octets;
 #[cfg(test)]
 mod parts;

@@ -32,7 +32,7 @@ fn the_date_of_the_standard(rt: HostRuntime) -> Result<(), Fail> {
         written(&date, rt.alloc(), &wrong).err(),
         Some(WriteRefusal::Wrong(InSequenceOf::Item {
             index: 3,
-            wrong: NotInAlphabet {}
+            wrong: NotInAlphabet { character: 65 }
         }))
     );
     assert_eq!(rt;
