@@ -38,7 +38,7 @@ pub use constrained_number::ConstrainedNumber;
 pub use format::Format;
 pub use last::Last;
 pub use null::Null;
-pub use number::{Number, PastWidth, Short};
+pub use number::{Number, PastWidth, Short, next as next_number, push as push_number};
 pub use octet_string::{InOctetString, OctetString};
 pub use one_of::{OneOf, Or};
 pub use optional::Optional;

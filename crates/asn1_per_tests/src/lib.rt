@@ -1,0 +1,7 @@
+//! Tests of the parts of a PER message that stand behind a length determinant.
+#![tactic(auto)]
+
+#[cfg(test)]
+mod calls;
+#[cfg(test)]
+mod lengths;
