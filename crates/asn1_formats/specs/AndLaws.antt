@@ -5,81 +5,140 @@ use Rattle.asn1_formats.specs.Spelling.{Starts, ReadsOne, NamesFault}
 use Rattle.asn1_formats.specs.Combined.{Both, BothFault}
 use Rattle.asn1_formats.specs.SpellingLaws.{both_reads_one}
 use Rattle.asn1_formats.specs.ThenLaws.{both_names_fault}
-use Rattle.asn1_formats.specs.Sequences.{Behind, both_presence}
+use Rattle.asn1_formats.specs.Sequences.{Behind, IsShown, ShowsAlone, ReadsBoth, both_presence}
 use Rattle.asn1_formats.specs.SequenceLaws.{narrow_reads_one, narrow_names_fault, past_presence}
 
 module _ {X Y : Type 0} (a : X → List Bool) (b : Y → List Bool) (P : X → List Bool → Type 0)
-    (Q : Y → List Bool → Type 0) (m n : ℕ) (first : (x : X) → length (a x) ≡ m)
-    (second : (y : Y) → length (b y) ≡ n) where
-  pub both_size : (v : X × Y) → length (both_presence a b v) ≡ m + n
-  both_size v =
+    (Q : Y → List Bool → Type 0) where
+  pub both_size : (m n : ℕ) → ((x : X) → length (a x) ≡ m) → ((y : Y) → length (b y) ≡ n) → (v : X × Y)
+      → length (both_presence a b v) ≡ m + n
+  both_size m n first second v =
       let e = length-append (a v.0) (b v.1) in
       let f : length (a v.0) ≡ m = first v.0 in
       let g : length (b v.1) ≡ n = second v.1 in
       omega (arith, e)
 
-  module _ (p : List Bool) where
-    abbrev Apart : X × Y → List Bool → Type 0
-    Apart v l = Both (Behind a P p) (Behind b Q (drop m p)) v l
+  module _ (R : List Bool → X → List Bool → Type 0) (S : List Bool → Y → List Bool → Type 0) (m : ℕ) where
+    pub and_within : ((x : X) → length (a x) ≡ m) → IsShown a P R → IsShown b Q S
+        → IsShown (both_presence a b) (λ v l. Both P Q v l) (λ p v l. ReadsBoth R m S p v l)
+    and_within first r s = record {
+      each = λ v list t. record {
+        before = a v.0;
+        behind = b v.1;
+        size = first v.0;
+        presence = refl;
+        read = record {
+          front = t.front;
+          rest = t.rest;
+          first = r.each v.0 t.front t.first;
+          second = s.each v.1 t.rest t.second;
+          parts = t.parts;
+        };
+      };
+    }
 
-    abbrev Together : X × Y → List Bool → Type 0
-    Together v l = Behind (both_presence a b) (λ w k. Both P Q w k) p v l
-
-    apart : (list : List Bool) (v : X × Y) (rest : List Bool) → Starts (λ w l. Together w l) list v rest
-        → Starts (λ w l. Apart w l) list v rest
-    apart list v rest s =
-        let e : p ≡ a v.0 ++ (b v.1 ++ s.spelled.more) = s.spelled.shown
-        ∙ append_assoc (a v.0) (b v.1) s.spelled.more in
-        let both = s.spelled.spelled in
-        record {
-          front = s.front;
-          spelled = record {
-            front = both.front;
-            rest = both.rest;
-            first = record { more = b v.1 ++ s.spelled.more; shown = e; spelled = both.first };
-            second = record {
-              more = s.spelled.more;
-              shown = past_presence a m first v.0 p (b v.1 ++ s.spelled.more) e;
-              spelled = both.second;
-            };
-            parts = both.parts;
-          };
-          parts = s.parts;
-        }
-
-    pub together : (list mid rest : List Bool) (x : X) (y : Y) → Starts (Behind a P p) list x mid
-        → Starts (Behind b Q (drop m p)) mid y rest
-        → Starts (Behind (both_presence a b) (λ w k. Both P Q w k) p) list (x, y) rest
-    together list mid rest x y s t =
-        let past = past_presence a m first x p s.spelled.more s.spelled.shown in
-        let e : p ≡ a x ++ (b y ++ t.spelled.more) = s.spelled.shown
-        ∙ ap (λ (l : List Bool). a x ++ l) (sym past ∙ t.spelled.shown) in
-        record {
-          front = s.front ++ t.front;
-          spelled = record {
-            more = t.spelled.more;
-            shown = e ∙ sym (append_assoc (a x) (b y) t.spelled.more);
+    pub and_alone : ShowsAlone a P R → ShowsAlone b Q S
+        → ShowsAlone (both_presence a b) (λ v l. Both P Q v l) (λ p v l. ReadsBoth R m S p v l)
+    and_alone r s = record {
+      each = λ p v list t.
+          let f = r.each t.before v.0 t.read.front t.read.first in
+          let g = s.each t.behind v.1 t.read.rest t.read.second in
+          record {
+            shown = t.presence ∙ ap (λ (l : List Bool). l ++ t.behind) f.shown
+                ∙ ap (λ (l : List Bool). a v.0 ++ l) g.shown;
             spelled = record {
-              front = s.front;
-              rest = t.front;
-              first = s.spelled.spelled;
-              second = t.spelled.spelled;
-              parts = refl;
+              front = t.read.front;
+              rest = t.read.rest;
+              first = f.spelled;
+              second = g.spelled;
+              parts = t.read.parts;
             };
           };
-          parts = s.parts ∙ ap (λ (l : List Bool). s.front ++ l) t.parts ∙ sym (append_assoc s.front t.front rest);
-        }
+    }
 
-    pub and_reads_one : ReadsOne (Behind a P p) → ReadsOne (Behind b Q (drop m p))
-        → ReadsOne (Behind (both_presence a b) (λ w k. Both P Q w k) p)
-    and_reads_one one two =
-        narrow_reads_one (Behind (both_presence a b) (λ w k. Both P Q w k) p) (λ w l. Apart w l) apart
-        (both_reads_one (Behind a P p) (Behind b Q (drop m p)) one two)
+module _ {X Y : Type 0} (R : List Bool → X → List Bool → Type 0) (S : List Bool → Y → List Bool → Type 0) (m n : ℕ)
+    (p : List Bool) where
+  abbrev Apart : X × Y → List Bool → Type 0
+  Apart v l = Both (Behind R m p) (Behind S n (drop m p)) v l
 
-    pub and_names_fault : {E F : Type 0} → (W : List Bool → E → Type 0) → (V : List Bool → F → Type 0)
-        → ReadsOne (Behind a P p) → NamesFault (Behind a P p) W → NamesFault (Behind b Q (drop m p)) V
-        → NamesFault (Behind (both_presence a b) (λ w k. Both P Q w k) p) (λ list e. BothFault (Behind a P p) W V list e)
-    and_names_fault W V one w v =
-        narrow_names_fault (Behind (both_presence a b) (λ w k. Both P Q w k) p) (λ w l. Apart w l) apart
-        (λ list e. BothFault (Behind a P p) W V list e)
-        (both_names_fault (Behind a P p) (Behind b Q (drop m p)) W V one w v)
+  abbrev Together : X × Y → List Bool → Type 0
+  Together v l = Behind (λ q w k. ReadsBoth R m S q w k) (m + n) p v l
+
+  apart : (list : List Bool) (v : X × Y) (rest : List Bool) → Starts (λ w l. Together w l) list v rest
+      → Starts (λ w l. Apart w l) list v rest
+  apart list v rest s =
+      let r = s.spelled.read in
+      let e : p ≡ r.before ++ (r.behind ++ s.spelled.more) = s.spelled.parts
+      ∙ ap (λ (l : List Bool). l ++ s.spelled.more) r.presence ∙ append_assoc r.before r.behind s.spelled.more in
+      let whole : length s.spelled.shown ≡ m + n = s.spelled.size in
+      let before : length r.before ≡ m = r.size in
+      let sum : length s.spelled.shown ≡ length r.before + length r.behind =
+      ap length r.presence ∙ length-append r.before r.behind in
+      let behind : length r.behind ≡ n = omega arith in
+      record {
+        front = s.front;
+        spelled = record {
+          front = r.read.front;
+          rest = r.read.rest;
+          first = record {
+            shown = r.before;
+            more = r.behind ++ s.spelled.more;
+            size = r.size;
+            parts = e;
+            read = r.read.first;
+          };
+          second = record {
+            shown = r.behind;
+            more = s.spelled.more;
+            size = behind;
+            parts = past_presence m p r.before (r.behind ++ s.spelled.more) r.size e;
+            read = r.read.second;
+          };
+          parts = r.read.parts;
+        };
+        parts = s.parts;
+      }
+
+  pub together : (list mid rest : List Bool) (x : X) (y : Y) → Starts (Behind R m p) list x mid
+      → Starts (Behind S n (drop m p)) mid y rest → Starts (Behind (λ q w k. ReadsBoth R m S q w k) (m + n) p) list (x, y) rest
+  together list mid rest x y s t =
+      let a = s.spelled in
+      let b = t.spelled in
+      let past = past_presence m p a.shown a.more a.size a.parts in
+      let e : p ≡ a.shown ++ (b.shown ++ b.more) = a.parts
+      ∙ ap (λ (l : List Bool). a.shown ++ l) (sym past ∙ b.parts) in
+      let first : length a.shown ≡ m = a.size in
+      let second : length b.shown ≡ n = b.size in
+      let sum = length-append a.shown b.shown in
+      let size : length (a.shown ++ b.shown) ≡ m + n = omega (arith, sum) in
+      record {
+        front = s.front ++ t.front;
+        spelled = record {
+          shown = a.shown ++ b.shown;
+          more = b.more;
+          size = size;
+          parts = e ∙ sym (append_assoc a.shown b.shown b.more);
+          read = record {
+            before = a.shown;
+            behind = b.shown;
+            size = a.size;
+            presence = refl;
+            read = record { front = s.front; rest = t.front; first = a.read; second = b.read; parts = refl };
+          };
+        };
+        parts = s.parts ∙ ap (λ (l : List Bool). s.front ++ l) t.parts ∙ sym (append_assoc s.front t.front rest);
+      }
+
+  pub and_reads_one : ReadsOne (Behind R m p) → ReadsOne (Behind S n (drop m p))
+      → ReadsOne (Behind (λ q w k. ReadsBoth R m S q w k) (m + n) p)
+  and_reads_one one two =
+      narrow_reads_one (Behind (λ q w k. ReadsBoth R m S q w k) (m + n) p) (λ w l. Apart w l) apart
+      (both_reads_one (Behind R m p) (Behind S n (drop m p)) one two)
+
+  pub and_names_fault : {E F : Type 0} → (W : List Bool → E → Type 0) → (V : List Bool → F → Type 0)
+      → ReadsOne (Behind R m p) → NamesFault (Behind R m p) W → NamesFault (Behind S n (drop m p)) V
+      → NamesFault (Behind (λ q w k. ReadsBoth R m S q w k) (m + n) p) (λ list e. BothFault (Behind R m p) W V list e)
+  and_names_fault W V one w v =
+      narrow_names_fault (Behind (λ q w k. ReadsBoth R m S q w k) (m + n) p) (λ w l. Apart w l) apart
+      (λ list e. BothFault (Behind R m p) W V list e)
+      (both_names_fault (Behind R m p) (Behind S n (drop m p)) W V one w v)

@@ -10,6 +10,7 @@ pub mod Choices
 pub mod OctetStrings
 -- Laws of these words, which the formats' laws are made of.
 pub mod SpellingLaws
+pub mod WithinLaws
 pub mod NumberLaws
 pub mod WholeNumberLaws
 pub mod BooleanLaws
@@ -17,6 +18,7 @@ pub mod CharacterLaws
 pub mod ThenLaws
 pub mod ListLaws
 pub mod SequenceLaws
+pub mod ComponentLaws
 pub mod AndLaws
 pub mod ChoiceLaws
 pub mod OctetStringLaws

@@ -66,6 +66,10 @@ pub record ReadsOne {X : Type 0} (P : X → List Bool → Type 0) : Type 0 where
 pub record SpellsOne {X : Type 0} (P : X → List Bool → Type 0) : Type 0 where
   pub one : (x : X) (a b : List Bool) → P x a → P x b → a ≡ b
 
+-- what spells a value by P spells it by Q
+pub record IsWithin {X : Type 0} (P Q : X → List Bool → Type 0) : Type 0 where
+  pub each : (x : X) (list : List Bool) → P x list → Q x list
+
 -- W names what is wrong with lists that begin with no spelling, and one thing only
 pub record NamesFault {X E : Type 0} (P : X → List Bool → Type 0) (W : List Bool → E → Type 0) : Type 0 where
   pub wrong : (list : List Bool) (e : E) → W list e → CanRead P list → ⊥

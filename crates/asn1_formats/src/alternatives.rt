@@ -2,7 +2,7 @@
 
 ghost use Rattle.std.specs.Prelude.{◌≡◌, ℕ, ◌<◌, Bool, List, OnOk, OnErr, IfOk, IfErr, ⊤};
 ghost use Rattle.asn1_bits.specs.BitReader.{bits_left};
-ghost use Rattle.asn1_formats.specs.Spelling.{Starts, Measures, IsLength, IsWritten, Extends, ReadsOne, SpellsOne, NamesFault, NamesMisfit};
+ghost use Rattle.asn1_formats.specs.Spelling.{Starts, Measures, IsLength, IsWritten, Extends, IsWithin, ReadsOne, SpellsOne, NamesFault, NamesMisfit};
 ghost use Rattle.asn1_formats.specs.Refusals.{IsRefusal};
 ghost use Rattle.asn1_formats.specs.Choices.{At};
 
@@ -33,8 +33,11 @@ pub trait Alternatives {
     /// The place of a value's alternative, from 0 on.
     ghost place: { Self → Plain → ℕ };
 
-    /// The bits behind the place spell the value.
+    /// The bits behind the place spell the value: writing appends them.
     ghost spells: { Self → Plain → List Bool → Type 0 };
+
+    /// The bits behind the place are read as the value.
+    ghost reads: { Self → Plain → List Bool → Type 0 };
 
     /// Behind a place, what the bits begin with is wrong, there.
     ghost is_fault: { Self → ℕ → List Bool → Self.Fault → Type 0 };
@@ -44,6 +47,9 @@ pub trait Alternatives {
 
     /// No value owns memory, so reading asks for none.
     ghost owns_nothing: { Self → Type 0 };
+
+    /// No bits are read as a value but those that spell it.
+    ghost is_canonical: { Self → Type 0 };
 
     /// How many alternatives there are, `None` where `usize` can't count them.
     fn alternative_count(&self) -> Option<usize>
@@ -76,7 +82,7 @@ pub trait Alternatives {
         reader: &mut BitReader<'_>,
     ) -> Result<Self::Value, Refusal<Self::Fault>>
         requires { index < count self.now }
-        ensures read { IfOk result (λ x. Starts (At (place self.now) (spells self.now) index)
+        ensures read { IfOk result (λ x. Starts (At (place self.now) (reads self.now) index)
             (bits_left reader.old) (plain x) (bits_left reader.new)) }
         ensures refused { IfErr result (IsRefusal
             (is_fault self.now index (bits_left reader.old)) (¬ (owns_nothing self.now))) };
@@ -84,21 +90,27 @@ pub trait Alternatives {
     /// Goes past a value of the alternative at a place, without memory.
     fn skip(&self, index: usize, reader: &mut BitReader<'_>) -> Result<(), Self::Fault>
         requires { index < count self.now }
-        ensures skipped { OnOk result ((x : Plain) × Starts (At (place self.now) (spells self.now) index)
+        ensures skipped { OnOk result ((x : Plain) × Starts (At (place self.now) (reads self.now) index)
             (bits_left reader.old) x (bits_left reader.new)) }
         ensures fault { IfErr result (is_fault self.now index (bits_left reader.old)) };
 
     /// Each value's alternative has a place.
     ghost below: { (f : Self) (x : Plain) → place f x < count f };
 
-    /// Behind a place, a list begins with a spelling of one value at most.
-    ghost reads_one: { (f : Self) (k : ℕ) → ReadsOne (At (place f) (spells f) k) };
+    /// What spells a value is read as it.
+    ghost spelled_is_read: { (f : Self) → IsWithin (spells f) (reads f) };
+
+    /// Of a canonical format, what is read as a value spells it.
+    ghost read_is_spelled: { (f : Self) → is_canonical f → IsWithin (reads f) (spells f) };
+
+    /// Behind a place, what a list begins with is read as one value at most.
+    ghost reads_one: { (f : Self) (k : ℕ) → ReadsOne (At (place f) (reads f) k) };
 
     /// A value has one spelling at most.
     ghost spells_one: { (f : Self) → SpellsOne (spells f) };
 
     /// What is wrong is one thing, and where there is one, nothing can be read.
-    ghost names_fault: { (f : Self) (k : ℕ) → NamesFault (At (place f) (spells f) k) (is_fault f k) };
+    ghost names_fault: { (f : Self) (k : ℕ) → NamesFault (At (place f) (reads f) k) (is_fault f k) };
 
     /// What is wrong is one thing, and where there is one, nothing can be written.
     ghost names_misfit: { (f : Self) → NamesMisfit (spells f) (is_misfit f) };

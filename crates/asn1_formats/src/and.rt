@@ -19,10 +19,10 @@ pub struct And<C, D> {
 impl<C: Components, D: Components> Components for And<C, D> {
     ghost use Rattle.std.specs.Prelude.{◌+◌, drop};
     ghost use Rattle.asn1_formats.specs.Combined.{Both, BothFault, BothMisfit};
-    ghost use Rattle.asn1_formats.specs.Sequences.{Behind, both_presence};
+    ghost use Rattle.asn1_formats.specs.Sequences.{Behind, ReadsBoth, both_presence};
     ghost use Rattle.asn1_formats.specs.SpellingLaws.{both_spells_one};
     ghost use Rattle.asn1_formats.specs.ThenLaws.{both_names_misfit};
-    ghost use Rattle.asn1_formats.specs.AndLaws.{both_size, and_reads_one, and_names_fault};
+    ghost use Rattle.asn1_formats.specs.AndLaws.{both_size, and_within, and_alone, and_reads_one, and_names_fault};
 
     type Value = (C::Value, D::Value);
 
@@ -40,14 +40,19 @@ impl<C: Components, D: Components> Components for And<C, D> {
 
     ghost spells = { λ f v list. Both (C.spells f.first) (D.spells f.second) v list };
 
+    ghost reads = { λ f p v list.
+        ReadsBoth (C.reads f.first) (C.count f.first) (D.reads f.second) p v list };
+
     ghost is_fault = { λ f p list e.
-        BothFault (Behind (C.presence_of f.first) (C.spells f.first) p) (C.is_fault f.first p)
+        BothFault (Behind (C.reads f.first) (C.count f.first) p) (C.is_fault f.first p)
         (D.is_fault f.second (drop (C.count f.first) p)) list e };
 
     ghost is_misfit = { λ f v e.
         BothMisfit (C.spells f.first) (C.is_misfit f.first) (D.is_misfit f.second) v e };
 
     ghost owns_nothing = { λ f. C.owns_nothing f.first × D.owns_nothing f.second };
+
+    ghost is_canonical = { λ f. C.is_canonical f.first × D.is_canonical f.second };
 
     fn optional_count(&self) -> Option<usize> {
         sum_of(self.first.optional_count(), self.second.optional_count())
@@ -130,17 +135,25 @@ impl<C: Components, D: Components> Components for And<C, D> {
         both_size (C.presence_of f.first) (D.presence_of f.second) (C.spells f.first) (D.spells f.second)
         (C.count f.first) (D.count f.second) (C.as_many f.first) (D.as_many f.second) };
 
+    ghost spelled_is_read = { λ f.
+        and_within (C.presence_of f.first) (D.presence_of f.second) (C.spells f.first) (D.spells f.second)
+        (C.reads f.first) (D.reads f.second) (C.count f.first) (C.as_many f.first)
+        (C.spelled_is_read f.first) (D.spelled_is_read f.second) };
+
+    ghost read_is_spelled = { λ f canonical.
+        and_alone (C.presence_of f.first) (D.presence_of f.second) (C.spells f.first) (D.spells f.second)
+        (C.reads f.first) (D.reads f.second) (C.count f.first) (C.read_is_spelled f.first canonical.0)
+        (D.read_is_spelled f.second canonical.1) };
+
     ghost reads_one = { λ f p.
-        and_reads_one (C.presence_of f.first) (D.presence_of f.second) (C.spells f.first) (D.spells f.second)
-        (C.count f.first) (D.count f.second) (C.as_many f.first) (D.as_many f.second) p
+        and_reads_one (C.reads f.first) (D.reads f.second) (C.count f.first) (D.count f.second) p
         (C.reads_one f.first p) (D.reads_one f.second (drop (C.count f.first) p)) };
 
     ghost spells_one = { λ f.
         both_spells_one (C.spells f.first) (D.spells f.second) (C.spells_one f.first) (D.spells_one f.second) };
 
     ghost names_fault = { λ f p.
-        and_names_fault (C.presence_of f.first) (D.presence_of f.second) (C.spells f.first) (D.spells f.second)
-        (C.count f.first) (D.count f.second) (C.as_many f.first) (D.as_many f.second) p
+        and_names_fault (C.reads f.first) (D.reads f.second) (C.count f.first) (D.count f.second) p
         (C.is_fault f.first p) (D.is_fault f.second (drop (C.count f.first) p))
         (C.reads_one f.first p) (C.names_fault f.first p)
         (D.names_fault f.second (drop (C.count f.first) p)) };

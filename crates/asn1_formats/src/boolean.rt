@@ -18,6 +18,7 @@ pub struct NoBit {}
 impl Format for Boolean {
     ghost use Rattle.std.specs.Prelude.{◌≡◌, Bool, [], ◌∷◌, ⊤};
     ghost use Rattle.asn1_formats.specs.BooleanLaws.{boolean_reads_one, boolean_spells_one, boolean_names_fault, boolean_names_misfit};
+    ghost use Rattle.asn1_formats.specs.WithinLaws.{itself};
 
     type Value = bool;
 
@@ -31,11 +32,15 @@ impl Format for Boolean {
 
     ghost spells = { λ f b list. list ≡ b ∷ [] };
 
+    ghost reads = { λ f b list. list ≡ b ∷ [] };
+
     ghost is_fault = { λ f list e. list ≡ [] };
 
     ghost is_misfit = { λ f b e. ⊥ };
 
     ghost owns_nothing = { λ f. ⊤ };
+
+    ghost is_canonical = { λ f. ⊤ };
 
     fn append(&self, buffer: &mut BitBuffer, value: &bool) -> Result<(), Refusal<Infallible>> {
         match push_bit(buffer, *value) {
@@ -61,6 +66,10 @@ impl Format for Boolean {
             None => Err(NoBit {}),
         }
     }
+
+    ghost spelled_is_read = { λ f. itself (λ b list. list ≡ b ∷ []) };
+
+    ghost read_is_spelled = { λ f canonical. itself (λ b list. list ≡ b ∷ []) };
 
     ghost reads_one = { λ f. boolean_reads_one };
 

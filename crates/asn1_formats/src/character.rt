@@ -48,6 +48,7 @@ impl<'s> Format for Character<'s> {
     ghost use Rattle.asn1_strings.specs.Alphabet.{IsCode};
     ghost use Rattle.asn1_formats.specs.Characters.{IsCharacter, IsCharacterFault};
     ghost use Rattle.asn1_formats.specs.CharacterLaws.{character_reads_one, character_spells_one, character_names_fault, character_names_misfit};
+    ghost use Rattle.asn1_formats.specs.WithinLaws.{itself};
 
     type Value = u32;
 
@@ -61,11 +62,15 @@ impl<'s> Format for Character<'s> {
 
     ghost spells = { λ f c list. IsCharacter (alphabet_of f.alphabet) c list };
 
+    ghost reads = { λ f c list. IsCharacter (alphabet_of f.alphabet) c list };
+
     ghost is_fault = { λ f list e. IsCharacterFault (alphabet_of f.alphabet) list e };
 
     ghost is_misfit = { λ f c e. (k : ℕ) → ¬ (IsCode (alphabet_of f.alphabet) c k) };
 
     ghost owns_nothing = { λ f. ⊤ };
+
+    ghost is_canonical = { λ f. ⊤ };
 
     fn append(&self, buffer: &mut BitBuffer, value: &u32) -> Result<(), Refusal<NotInAlphabet>> {
         let width = self.alphabet.width();
@@ -103,6 +108,10 @@ impl<'s> Format for Character<'s> {
             Err(fault) => Err(fault),
         }
     }
+
+    ghost spelled_is_read = { λ f. itself (λ c list. IsCharacter (alphabet_of f.alphabet) c list) };
+
+    ghost read_is_spelled = { λ f canonical. itself (λ c list. IsCharacter (alphabet_of f.alphabet) c list) };
 
     ghost reads_one = { λ f. character_reads_one (alphabet_of f.alphabet) };
 

@@ -73,6 +73,7 @@ impl<A: Alternatives> Format for Choice<A> {
     ghost use Rattle.asn1_formats.specs.NumberLaws.{size_reads_one, size_spells_one, size_names_fault};
     ghost use Rattle.asn1_formats.specs.Choices.{Numbered, ChoiceFault};
     ghost use Rattle.asn1_formats.specs.ChoiceLaws.{numbered_reads_one, numbered_spells_one, choice_names_fault, numbered_names_misfit};
+    ghost use Rattle.asn1_formats.specs.WithinLaws.{numbered_within};
 
     type Value = A::Value;
 
@@ -87,6 +88,9 @@ impl<A: Alternatives> Format for Choice<A> {
     ghost spells = { λ f v list.
         Numbered (IsSize f.index.least f.index.most) (A.place f.alternatives) (A.spells f.alternatives) v list };
 
+    ghost reads = { λ f v list.
+        Numbered (IsSize f.index.least f.index.most) (A.place f.alternatives) (A.reads f.alternatives) v list };
+
     ghost is_fault = { λ f list e.
         ChoiceFault (IsSize f.index.least f.index.most) (IsSizeFault f.index.least f.index.most)
         (A.is_fault f.alternatives) list e };
@@ -94,6 +98,8 @@ impl<A: Alternatives> Format for Choice<A> {
     ghost is_misfit = { λ f v e. A.is_misfit f.alternatives v e };
 
     ghost owns_nothing = { λ f. A.owns_nothing f.alternatives };
+
+    ghost is_canonical = { λ f. A.is_canonical f.alternatives };
 
     fn append(&self, buffer: &mut BitBuffer, value: &A::Value) -> Result<(), Refusal<A::Misfit>> {
         let index = self.index_of(value);
@@ -144,8 +150,14 @@ impl<A: Alternatives> Format for Choice<A> {
         }
     }
 
+    ghost spelled_is_read = { λ f.
+        numbered_within (IsSize f.index.least f.index.most) (A.place f.alternatives) (A.spells f.alternatives) (A.reads f.alternatives) (A.spelled_is_read f.alternatives) };
+
+    ghost read_is_spelled = { λ f canonical.
+        numbered_within (IsSize f.index.least f.index.most) (A.place f.alternatives) (A.reads f.alternatives) (A.spells f.alternatives) (A.read_is_spelled f.alternatives canonical) };
+
     ghost reads_one = { λ f.
-        numbered_reads_one (IsSize f.index.least f.index.most) (A.place f.alternatives) (A.spells f.alternatives)
+        numbered_reads_one (IsSize f.index.least f.index.most) (A.place f.alternatives) (A.reads f.alternatives)
         (size_reads_one f.index.least f.index.most) (A.reads_one f.alternatives) };
 
     ghost spells_one = { λ f.
@@ -153,7 +165,7 @@ impl<A: Alternatives> Format for Choice<A> {
         (size_spells_one f.index.least f.index.most) (A.spells_one f.alternatives) };
 
     ghost names_fault = { λ f.
-        choice_names_fault (IsSize f.index.least f.index.most) (A.place f.alternatives) (A.spells f.alternatives)
+        choice_names_fault (IsSize f.index.least f.index.most) (A.place f.alternatives) (A.reads f.alternatives)
         (IsSizeFault f.index.least f.index.most) (A.is_fault f.alternatives)
         (size_reads_one f.index.least f.index.most) (size_names_fault f.index.least f.index.most)
         (A.names_fault f.alternatives) };

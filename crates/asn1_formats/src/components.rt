@@ -4,7 +4,7 @@ ghost use Rattle.std.specs.Prelude.{◌≡◌, ℕ, ◌≤◌, Bool, List, ◌++
 ghost use Rattle.asn1_bits.specs.BitReader.{bits_left};
 ghost use Rattle.asn1_formats.specs.Spelling.{Starts, Measures, IsLength, IsWritten, Extends, ReadsOne, SpellsOne, NamesFault, NamesMisfit};
 ghost use Rattle.asn1_formats.specs.Refusals.{IsRefusal};
-ghost use Rattle.asn1_formats.specs.Sequences.{Behind};
+ghost use Rattle.asn1_formats.specs.Sequences.{Behind, IsShown, ShowsAlone};
 
 use crate::refusal::Refusal;
 use asn1_values::{BitBuffer, BitReader};
@@ -33,8 +33,11 @@ pub trait Components {
     /// The presence bits of a value, one for each component that may be missing.
     ghost presence_of: { Self → Plain → List Bool };
 
-    /// The bits behind the presence bits spell the value.
+    /// The bits behind the presence bits spell the value: writing appends them.
     ghost spells: { Self → Plain → List Bool → Type 0 };
+
+    /// Behind presence bits, the bits are read as the value.
+    ghost reads: { Self → List Bool → Plain → List Bool → Type 0 };
 
     /// Behind presence bits, what the bits begin with is wrong, there.
     ghost is_fault: { Self → List Bool → List Bool → Self.Fault → Type 0 };
@@ -44,6 +47,9 @@ pub trait Components {
 
     /// No value owns memory, so reading asks for none.
     ghost owns_nothing: { Self → Type 0 };
+
+    /// No bits are read as a value but those that spell it, behind its presence bits.
+    ghost is_canonical: { Self → Type 0 };
 
     /// How many components may be missing, `None` where `usize` can't count them.
     fn optional_count(&self) -> Option<usize>
@@ -77,7 +83,7 @@ pub trait Components {
         reader: &mut BitReader<'_>,
     ) -> Result<Self::Value, Refusal<Self::Fault>>
         requires { count self.now ≤ length (bits_left presence.old) }
-        ensures read { IfOk result (λ x. Starts (Behind (presence_of self.now) (spells self.now)
+        ensures read { IfOk result (λ x. Starts (Behind (reads self.now) (count self.now)
             (bits_left presence.old)) (bits_left reader.old) (plain x) (bits_left reader.new)) }
         ensures moved { OnOk result (bits_left presence.new ≡ drop (count self.now) (bits_left presence.old)) }
         ensures refused { IfErr result (IsRefusal
@@ -90,7 +96,7 @@ pub trait Components {
         reader: &mut BitReader<'_>,
     ) -> Result<(), Self::Fault>
         requires { count self.now ≤ length (bits_left presence.old) }
-        ensures skipped { OnOk result ((x : Plain) × Starts (Behind (presence_of self.now) (spells self.now)
+        ensures skipped { OnOk result ((x : Plain) × Starts (Behind (reads self.now) (count self.now)
             (bits_left presence.old)) (bits_left reader.old) x (bits_left reader.new)) }
         ensures moved { OnOk result (bits_left presence.new ≡ drop (count self.now) (bits_left presence.old)) }
         ensures fault { IfErr result (is_fault self.now (bits_left presence.old) (bits_left reader.old)) };
@@ -98,14 +104,20 @@ pub trait Components {
     /// Each value has as many presence bits.
     ghost as_many: { (f : Self) (x : Plain) → length (presence_of f x) ≡ count f };
 
-    /// Behind presence bits, a list begins with a spelling of one value at most.
-    ghost reads_one: { (f : Self) (p : List Bool) → ReadsOne (Behind (presence_of f) (spells f) p) };
+    /// What spells a value is read as it behind its presence bits.
+    ghost spelled_is_read: { (f : Self) → IsShown (presence_of f) (spells f) (reads f) };
+
+    /// Of canonical components, what is read as a value spells it, and the presence bits are its own.
+    ghost read_is_spelled: { (f : Self) → is_canonical f → ShowsAlone (presence_of f) (spells f) (reads f) };
+
+    /// Behind presence bits, what a list begins with is read as one value at most.
+    ghost reads_one: { (f : Self) (p : List Bool) → ReadsOne (Behind (reads f) (count f) p) };
 
     /// A value has one spelling at most.
     ghost spells_one: { (f : Self) → SpellsOne (spells f) };
 
     /// What is wrong is one thing, and where there is one, nothing can be read.
-    ghost names_fault: { (f : Self) (p : List Bool) → NamesFault (Behind (presence_of f) (spells f) p) (is_fault f p) };
+    ghost names_fault: { (f : Self) (p : List Bool) → NamesFault (Behind (reads f) (count f) p) (is_fault f p) };
 
     /// What is wrong is one thing, and where there is one, nothing can be written.
     ghost names_misfit: { (f : Self) → NamesMisfit (spells f) (is_misfit f) };

@@ -39,6 +39,7 @@ impl ConstrainedNumber {
 impl Format for ConstrainedNumber {
     ghost use Rattle.asn1_formats.specs.WholeNumbers.{IsConstrained, IsConstrainedFault, IsConstrainedMisfit};
     ghost use Rattle.asn1_formats.specs.WholeNumberLaws.{constrained_reads_one, constrained_spells_one, constrained_names_fault, constrained_names_misfit};
+    ghost use Rattle.asn1_formats.specs.WithinLaws.{itself};
 
     type Value = i64;
 
@@ -52,11 +53,15 @@ impl Format for ConstrainedNumber {
 
     ghost spells = { λ f n list. IsConstrained f.least f.most n list };
 
+    ghost reads = { λ f n list. IsConstrained f.least f.most n list };
+
     ghost is_fault = { λ f list e. IsConstrainedFault f.least f.most list e };
 
     ghost is_misfit = { λ f n e. IsConstrainedMisfit f.least f.most n e };
 
     ghost owns_nothing = { λ f. ⊤ };
+
+    ghost is_canonical = { λ f. ⊤ };
 
     fn append(&self, buffer: &mut BitBuffer, value: &i64) -> Result<(), Refusal<SizeMisfit>> {
         match self.distance_of(*value) {
@@ -88,6 +93,10 @@ impl Format for ConstrainedNumber {
             Err(fault) => Err(fault),
         }
     }
+
+    ghost spelled_is_read = { λ f. itself (λ n list. IsConstrained f.least f.most n list) };
+
+    ghost read_is_spelled = { λ f canonical. itself (λ n list. IsConstrained f.least f.most n list) };
 
     ghost reads_one = { λ f. constrained_reads_one f.least f.most };
 

@@ -2,7 +2,7 @@
 
 ghost use Rattle.std.specs.Prelude.{◌≡◌, Bool, List, OnOk, OnErr, IfOk, IfErr, ⊤};
 ghost use Rattle.asn1_bits.specs.BitReader.{bits_left};
-ghost use Rattle.asn1_formats.specs.Spelling.{Starts, CanRead, Measures, IsWritten, Extends, ReadsOne, SpellsOne, NamesFault, NamesMisfit};
+ghost use Rattle.asn1_formats.specs.Spelling.{Starts, CanRead, Measures, IsWritten, Extends, IsWithin, ReadsOne, SpellsOne, NamesFault, NamesMisfit};
 ghost use Rattle.asn1_formats.specs.Refusals.{IsRefusal};
 
 use crate::refusal::Refusal;
@@ -26,8 +26,11 @@ pub trait Format {
 
     ghost plain: { Self.Value → Plain };
 
-    /// The bits spell the value.
+    /// The bits spell the value: writing appends them.
     ghost spells: { Self → Plain → List Bool → Type 0 };
+
+    /// The bits are read as the value: those that spell it, and others where the standard lets a sender choose.
+    ghost reads: { Self → Plain → List Bool → Type 0 };
 
     /// What the bits begin with is wrong, there.
     ghost is_fault: { Self → List Bool → Self.Fault → Type 0 };
@@ -37,6 +40,9 @@ pub trait Format {
 
     /// No value owns memory, so reading asks for none.
     ghost owns_nothing: { Self → Type 0 };
+
+    /// No bits are read as a value but those that spell it.
+    ghost is_canonical: { Self → Type 0 };
 
     /// Appends a spelling. Where it is refused, a part may have been appended; `Memory` also where the length in bits
     /// passes `usize`.
@@ -61,24 +67,30 @@ pub trait Format {
         reader: &mut BitReader<'_>,
     ) -> Result<Self::Value, Refusal<Self::Fault>>
         ensures read { IfOk result (λ x.
-            Starts (spells self.now) (bits_left reader.old) (plain x) (bits_left reader.new)) }
+            Starts (reads self.now) (bits_left reader.old) (plain x) (bits_left reader.new)) }
         ensures refused { IfErr result
             (IsRefusal (is_fault self.now (bits_left reader.old)) (¬ (owns_nothing self.now))) };
 
     /// Goes past a value, without memory.
     fn skip(&self, reader: &mut BitReader<'_>) -> Result<(), Self::Fault>
         ensures skipped { OnOk result ((x : Plain) ×
-            Starts (spells self.now) (bits_left reader.old) x (bits_left reader.new)) }
+            Starts (reads self.now) (bits_left reader.old) x (bits_left reader.new)) }
         ensures fault { IfErr result (is_fault self.now (bits_left reader.old)) };
 
-    /// A list begins with a spelling of one value at most.
-    ghost reads_one: { (f : Self) → ReadsOne (spells f) };
+    /// What spells a value is read as it.
+    ghost spelled_is_read: { (f : Self) → IsWithin (spells f) (reads f) };
+
+    /// Of a canonical format, what is read as a value spells it.
+    ghost read_is_spelled: { (f : Self) → is_canonical f → IsWithin (reads f) (spells f) };
+
+    /// What a list begins with is read as one value at most.
+    ghost reads_one: { (f : Self) → ReadsOne (reads f) };
 
     /// A value has one spelling at most.
     ghost spells_one: { (f : Self) → SpellsOne (spells f) };
 
     /// What is wrong is one thing, and where there is one, nothing can be read.
-    ghost names_fault: { (f : Self) → NamesFault (spells f) (is_fault f) };
+    ghost names_fault: { (f : Self) → NamesFault (reads f) (is_fault f) };
 
     /// What is wrong is one thing, and where there is one, nothing can be written.
     ghost names_misfit: { (f : Self) → NamesMisfit (spells f) (is_misfit f) };

@@ -32,11 +32,15 @@ impl<A: Format> Alternatives for Last<A> {
 
     ghost spells = { λ f x list. A.spells f.part x list };
 
+    ghost reads = { λ f x list. A.reads f.part x list };
+
     ghost is_fault = { λ f k list e. A.is_fault f.part list e };
 
     ghost is_misfit = { λ f x e. A.is_misfit f.part x e };
 
     ghost owns_nothing = { λ f. A.owns_nothing f.part };
+
+    ghost is_canonical = { λ f. A.is_canonical f.part };
 
     fn alternative_count(&self) -> Option<usize> {
         Some(1)
@@ -69,12 +73,16 @@ impl<A: Format> Alternatives for Last<A> {
 
     ghost below = { λ f x. last_below };
 
-    ghost reads_one = { λ f. last_reads_one (A.spells f.part) (A.reads_one f.part) };
+    ghost spelled_is_read = { λ f. A.spelled_is_read f.part };
+
+    ghost read_is_spelled = { λ f canonical. A.read_is_spelled f.part canonical };
+
+    ghost reads_one = { λ f. last_reads_one (A.reads f.part) (A.reads_one f.part) };
 
     ghost spells_one = { λ f. A.spells_one f.part };
 
     ghost names_fault = { λ f.
-        last_names_fault (A.spells f.part) (A.is_fault f.part) (A.names_fault f.part) };
+        last_names_fault (A.reads f.part) (A.is_fault f.part) (A.names_fault f.part) };
 
     ghost names_misfit = { λ f. A.names_misfit f.part };
 }

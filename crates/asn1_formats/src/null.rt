@@ -13,6 +13,7 @@ pub struct Null {}
 impl Format for Null {
     ghost use Rattle.std.specs.Prelude.{◌≡◌, [], ⊤};
     ghost use Rattle.asn1_formats.specs.BooleanLaws.{null_reads_one, null_spells_one, null_names_fault, null_names_misfit};
+    ghost use Rattle.asn1_formats.specs.WithinLaws.{itself};
 
     type Value = ();
 
@@ -26,11 +27,15 @@ impl Format for Null {
 
     ghost spells = { λ f v list. list ≡ [] };
 
+    ghost reads = { λ f v list. list ≡ [] };
+
     ghost is_fault = { λ f list e. ⊥ };
 
     ghost is_misfit = { λ f v e. ⊥ };
 
     ghost owns_nothing = { λ f. ⊤ };
+
+    ghost is_canonical = { λ f. ⊤ };
 
     fn append(&self, _buffer: &mut BitBuffer, _value: &()) -> Result<(), Refusal<Infallible>> {
         Ok(())
@@ -47,6 +52,10 @@ impl Format for Null {
     fn skip(&self, _reader: &mut BitReader<'_>) -> Result<(), Infallible> {
         Ok(())
     }
+
+    ghost spelled_is_read = { λ f. itself (λ v list. list ≡ []) };
+
+    ghost read_is_spelled = { λ f canonical. itself (λ v list. list ≡ []) };
 
     ghost reads_one = { λ f. null_reads_one };
 

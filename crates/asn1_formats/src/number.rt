@@ -42,6 +42,7 @@ impl Number {
 impl Format for Number {
     ghost use Rattle.asn1_formats.specs.SpellingLaws.{number_reads_one, number_spells_one};
     ghost use Rattle.asn1_formats.specs.NumberLaws.{number_names_fault, number_names_misfit};
+    ghost use Rattle.asn1_formats.specs.WithinLaws.{itself};
 
     type Value = u64;
 
@@ -55,11 +56,15 @@ impl Format for Number {
 
     ghost spells = { λ f n list. IsNumber f.width n list };
 
+    ghost reads = { λ f n list. IsNumber f.width n list };
+
     ghost is_fault = { λ f list e. IsShort f.width list e.missing };
 
     ghost is_misfit = { λ f n e. 2 ^ f.width ≤ n };
 
     ghost owns_nothing = { λ f. ⊤ };
+
+    ghost is_canonical = { λ f. ⊤ };
 
     fn append(&self, buffer: &mut BitBuffer, value: &u64) -> Result<(), Refusal<PastWidth>> {
         if !fits(*value, self.width) {
@@ -89,6 +94,10 @@ impl Format for Number {
         next(reader, self.width)?;
         Ok(())
     }
+
+    ghost spelled_is_read = { λ f. itself (λ n list. IsNumber f.width n list) };
+
+    ghost read_is_spelled = { λ f canonical. itself (λ n list. IsNumber f.width n list) };
 
     ghost reads_one = { λ f. number_reads_one f.width };
 

@@ -89,10 +89,11 @@ fn octets_of(alloc: Global, front: BitReader<'_>) -> Result<Vec<u8>, AllocError>
 }
 
 impl Format for OctetString {
-    ghost use Rattle.std.specs.Prelude.{List};
+    ghost use Rattle.std.specs.Prelude.{List, ⊤};
     ghost use Rattle.asn1_formats.specs.Numbers.{IsSizeMisfit};
     ghost use Rattle.asn1_formats.specs.OctetStrings.{IsOctetString, OctetStringFault};
     ghost use Rattle.asn1_formats.specs.OctetStringLaws.{octet_string_reads_one, octet_string_spells_one, octet_string_names_fault, octet_string_names_misfit};
+    ghost use Rattle.asn1_formats.specs.WithinLaws.{itself};
 
     type Value = Vec<u8>;
 
@@ -106,11 +107,15 @@ impl Format for OctetString {
 
     ghost spells = { λ f x list. IsOctetString f.size.least f.size.most x list };
 
+    ghost reads = { λ f x list. IsOctetString f.size.least f.size.most x list };
+
     ghost is_fault = { λ f list e. OctetStringFault f.size.least f.size.most list e };
 
     ghost is_misfit = { λ f x e. IsSizeMisfit f.size.least f.size.most (length x) e };
 
     ghost owns_nothing = { λ f. ⊥ };
+
+    ghost is_canonical = { λ f. ⊤ };
 
     fn append(&self, buffer: &mut BitBuffer, value: &Vec<u8>) -> Result<(), Refusal<SizeMisfit>> {
         let count = value.len() as u64;
@@ -162,6 +167,10 @@ impl Format for OctetString {
             Err(missing) => Err(InOctetString::Short { missing }),
         }
     }
+
+    ghost spelled_is_read = { λ f. itself (λ x list. IsOctetString f.size.least f.size.most x list) };
+
+    ghost read_is_spelled = { λ f canonical. itself (λ x list. IsOctetString f.size.least f.size.most x list) };
 
     ghost reads_one = { λ f. octet_string_reads_one f.size.least f.size.most };
 

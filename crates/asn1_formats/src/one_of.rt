@@ -30,6 +30,7 @@ impl<A: Format, B: Alternatives> Alternatives for Or<A, B> {
     ghost use Rattle.asn1_formats.specs.declared.one_of.OneOf as plain_one;
     ghost use Rattle.asn1_formats.specs.Choices.{plain_one_of, place_of, OneSpells, OneFault, OneMisfit};
     ghost use Rattle.asn1_formats.specs.ChoiceLaws.{place_below, one_reads_one, one_spells_one, one_names_fault, one_names_misfit};
+    ghost use Rattle.asn1_formats.specs.WithinLaws.{one_within};
 
     type Value = OneOf<A::Value, B::Value>;
 
@@ -47,11 +48,15 @@ impl<A: Format, B: Alternatives> Alternatives for Or<A, B> {
 
     ghost spells = { λ f v list. OneSpells (A.spells f.first) (B.spells f.others) v list };
 
+    ghost reads = { λ f v list. OneSpells (A.reads f.first) (B.reads f.others) v list };
+
     ghost is_fault = { λ f k list e. OneFault (A.is_fault f.first) (B.is_fault f.others) k list e };
 
     ghost is_misfit = { λ f v e. OneMisfit (A.is_misfit f.first) (B.is_misfit f.others) v e };
 
     ghost owns_nothing = { λ f. A.owns_nothing f.first × B.owns_nothing f.others };
+
+    ghost is_canonical = { λ f. A.is_canonical f.first × B.is_canonical f.others };
 
     fn alternative_count(&self) -> Option<usize> {
         sum_of(Some(1), self.others.alternative_count())
@@ -139,8 +144,16 @@ impl<A: Format, B: Alternatives> Alternatives for Or<A, B> {
     ghost below = { λ f.
         place_below (A.spells f.first) (B.spells f.others) (B.place f.others) (B.count f.others) (B.below f.others) };
 
+    ghost spelled_is_read = { λ f.
+        one_within (A.spells f.first) (A.reads f.first) (B.spells f.others) (B.reads f.others)
+        (A.spelled_is_read f.first) (B.spelled_is_read f.others) };
+
+    ghost read_is_spelled = { λ f canonical.
+        one_within (A.reads f.first) (A.spells f.first) (B.reads f.others) (B.spells f.others)
+        (A.read_is_spelled f.first canonical.0) (B.read_is_spelled f.others canonical.1) };
+
     ghost reads_one = { λ f k.
-        one_reads_one (A.spells f.first) (B.spells f.others) (B.place f.others) k (A.reads_one f.first)
+        one_reads_one (A.reads f.first) (B.reads f.others) (B.place f.others) k (A.reads_one f.first)
         (B.reads_one f.others (k - 1)) };
 
     ghost spells_one = { λ f.
@@ -148,7 +161,7 @@ impl<A: Format, B: Alternatives> Alternatives for Or<A, B> {
         (B.spells_one f.others) };
 
     ghost names_fault = { λ f k.
-        one_names_fault (A.spells f.first) (B.spells f.others) (B.place f.others) k (A.is_fault f.first)
+        one_names_fault (A.reads f.first) (B.reads f.others) (B.place f.others) k (A.is_fault f.first)
         (B.is_fault f.others) (A.names_fault f.first) (B.names_fault f.others (k - 1)) };
 
     ghost names_misfit = { λ f.

@@ -17,8 +17,8 @@ pub struct Optional<A> {
 impl<A: Format> Components for Optional<A> {
     ghost use Rattle.std.specs.Prelude.{Option};
     ghost use Rattle.asn1_formats.specs.Combined.{plain_option, MaybeMisfit};
-    ghost use Rattle.asn1_formats.specs.Sequences.{presence_bit, IfThere, IfThereFault};
-    ghost use Rattle.asn1_formats.specs.SequenceLaws.{presence_size, optional_reads_one, optional_spells_one, optional_names_fault, optional_names_misfit};
+    ghost use Rattle.asn1_formats.specs.Sequences.{presence_bit, Shown, IfThere, IfThereFault};
+    ghost use Rattle.asn1_formats.specs.ComponentLaws.{presence_size, shown_within, shown_alone, there_within, optional_reads_one, optional_spells_one, optional_names_fault, optional_names_misfit};
 
     type Value = Option<A::Value>;
 
@@ -36,11 +36,16 @@ impl<A: Format> Components for Optional<A> {
 
     ghost spells = { λ f x list. IfThere (A.spells f.part) x list };
 
+    ghost reads = { λ f p x list.
+        Shown (λ y. presence_bit y) (λ y l. IfThere (A.reads f.part) y l) p x list };
+
     ghost is_fault = { λ f p list e. IfThereFault (A.is_fault f.part) p list e };
 
     ghost is_misfit = { λ f x e. MaybeMisfit (A.is_misfit f.part) x e };
 
     ghost owns_nothing = { λ f. A.owns_nothing f.part };
+
+    ghost is_canonical = { λ f. A.is_canonical f.part };
 
     fn optional_count(&self) -> Option<usize> {
         Some(1)
@@ -109,12 +114,22 @@ impl<A: Format> Components for Optional<A> {
 
     ghost as_many = { λ f x. presence_size x };
 
-    ghost reads_one = { λ f p. optional_reads_one (A.spells f.part) p (A.reads_one f.part) };
+    ghost spelled_is_read = { λ f.
+        shown_within (λ y. presence_bit y) (λ y l. IfThere (A.spells f.part) y l)
+        (λ y l. IfThere (A.reads f.part) y l)
+        (there_within (A.spells f.part) (A.reads f.part) (A.spelled_is_read f.part)) };
+
+    ghost read_is_spelled = { λ f canonical.
+        shown_alone (λ y. presence_bit y) (λ y l. IfThere (A.spells f.part) y l)
+        (λ y l. IfThere (A.reads f.part) y l)
+        (there_within (A.reads f.part) (A.spells f.part) (A.read_is_spelled f.part canonical)) };
+
+    ghost reads_one = { λ f p. optional_reads_one (A.reads f.part) p (A.reads_one f.part) };
 
     ghost spells_one = { λ f. optional_spells_one (A.spells f.part) (A.spells_one f.part) };
 
     ghost names_fault = { λ f p.
-        optional_names_fault (A.spells f.part) p (A.is_fault f.part) (A.names_fault f.part) };
+        optional_names_fault (A.reads f.part) p (A.is_fault f.part) (A.names_fault f.part) };
 
     ghost names_misfit = { λ f.
         optional_names_misfit (A.spells f.part) (A.is_misfit f.part) (A.names_misfit f.part) };

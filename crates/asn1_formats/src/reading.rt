@@ -17,21 +17,25 @@ pub fn read<F: Format>(
     alloc: Global,
     reader: &mut BitReader<'_>,
 ) -> Result<F::Value, Refusal<F::Fault>>
-    // What was left begins with a spelling of the value, and the rest is left.
+    // What was left begins with bits that are read as the value, and the rest is left.
     ensures read { IfOk result (λ x.
-        Starts (F.spells format.now) (bits_left reader.old) (F.plain x) (bits_left reader.new)) }
-    // It begins with a spelling of no other value, and in no other way.
-    ensures only { (y : F.Plain) (rest : List Bool) → Starts (F.spells format.now) (bits_left reader.old) y rest
+        Starts (F.reads format.now) (bits_left reader.old) (F.plain x) (bits_left reader.new)) }
+    // It begins with bits that are read as no other value, and in no other way; so where it begins with a value's
+    // spelling, that value was read.
+    ensures only { (y : F.Plain) (rest : List Bool) → Starts (F.reads format.now) (bits_left reader.old) y rest
         → IfOk result (λ x. (F.plain x ≡ y) × (bits_left reader.new ≡ rest)) }
-    // The value's spelling is the front that was read.
-    ensures front { IfOk result (λ x. (list : List Bool) → F.spells format.now (F.plain x) list
-        → bits_left reader.old ≡ list ++ bits_left reader.new) }
-    // Where it begins with a spelling, only memory can be wanting, and nothing where the values own none.
-    ensures accepted { CanRead (F.spells format.now) (bits_left reader.old) → IsOkUnless result Refusal.Memory }
-    ensures free { F.owns_nothing format.now → CanRead (F.spells format.now) (bits_left reader.old) → IsOk result }
+    ensures spelled { (y : F.Plain) (rest : List Bool) → Starts (F.spells format.now) (bits_left reader.old) y rest
+        → IfOk result (λ x. (F.plain x ≡ y) × (bits_left reader.new ≡ rest)) }
+    // Of a canonical format, the value's spelling is the front that was read.
+    ensures front { F.is_canonical format.now → IfOk result (λ x. (list : List Bool)
+        → F.spells format.now (F.plain x) list → bits_left reader.old ≡ list ++ bits_left reader.new) }
+    // Where it begins with bits that are read as a value, only memory can be wanting, and nothing where the values own
+    // none.
+    ensures accepted { CanRead (F.reads format.now) (bits_left reader.old) → IsOkUnless result Refusal.Memory }
+    ensures free { F.owns_nothing format.now → CanRead (F.reads format.now) (bits_left reader.old) → IsOk result }
     // A refusal names what is wrong; where nothing is, memory.
     ensures refused { IfErr result (IsRefusal (F.is_fault format.now (bits_left reader.old))
-        (CanRead (F.spells format.now) (bits_left reader.old))) }
+        (CanRead (F.reads format.now) (bits_left reader.old))) }
     // What is wrong is named, whatever memory there is.
     ensures named { (e : F.Fault) → F.is_fault format.now (bits_left reader.old) e
         → result ≡ Err (Refusal.Wrong e) }

@@ -16,7 +16,8 @@ pub struct Required<A> {
 impl<A: Format> Components for Required<A> {
     ghost use Rattle.std.specs.Prelude.{[]};
     ghost use Rattle.std.specs.Prelude.{refl};
-    ghost use Rattle.asn1_formats.specs.SequenceLaws.{required_reads_one, required_names_fault};
+    ghost use Rattle.asn1_formats.specs.Sequences.{Shown};
+    ghost use Rattle.asn1_formats.specs.ComponentLaws.{shown_within, shown_alone, required_reads_one, required_names_fault};
 
     type Value = A::Value;
 
@@ -34,11 +35,15 @@ impl<A: Format> Components for Required<A> {
 
     ghost spells = { λ f x list. A.spells f.part x list };
 
+    ghost reads = { λ f p x list. Shown (λ y. []) (A.reads f.part) p x list };
+
     ghost is_fault = { λ f p list e. A.is_fault f.part list e };
 
     ghost is_misfit = { λ f x e. A.is_misfit f.part x e };
 
     ghost owns_nothing = { λ f. A.owns_nothing f.part };
+
+    ghost is_canonical = { λ f. A.is_canonical f.part };
 
     fn optional_count(&self) -> Option<usize> {
         Some(0)
@@ -79,12 +84,18 @@ impl<A: Format> Components for Required<A> {
 
     ghost as_many = { λ f x. refl };
 
-    ghost reads_one = { λ f. required_reads_one (A.spells f.part) (A.reads_one f.part) };
+    ghost spelled_is_read = { λ f.
+        shown_within (λ y. []) (A.spells f.part) (A.reads f.part) (A.spelled_is_read f.part) };
+
+    ghost read_is_spelled = { λ f canonical.
+        shown_alone (λ y. []) (A.spells f.part) (A.reads f.part) (A.read_is_spelled f.part canonical) };
+
+    ghost reads_one = { λ f. required_reads_one (A.reads f.part) (A.reads_one f.part) };
 
     ghost spells_one = { λ f. A.spells_one f.part };
 
     ghost names_fault = { λ f.
-        required_names_fault (A.spells f.part) (A.is_fault f.part) (A.names_fault f.part) };
+        required_names_fault (A.reads f.part) (A.is_fault f.part) (A.names_fault f.part) };
 
     ghost names_misfit = { λ f. A.names_misfit f.part };
 }

@@ -25,8 +25,8 @@ pub enum InSequence<E> {
 }
 
 impl<C: Components> Format for Sequence<C> {
-    ghost use Rattle.asn1_formats.specs.Sequences.{IsSequence, SequenceFault};
-    ghost use Rattle.asn1_formats.specs.SequenceLaws.{sequence_reads_one, sequence_spells_one, sequence_names_fault, sequence_names_misfit};
+    ghost use Rattle.asn1_formats.specs.Sequences.{IsSequence, ReadsSequence, SequenceFault};
+    ghost use Rattle.asn1_formats.specs.SequenceLaws.{sequence_within, sequence_alone, sequence_reads_one, sequence_spells_one, sequence_names_fault, sequence_names_misfit};
 
     type Value = C::Value;
 
@@ -40,11 +40,15 @@ impl<C: Components> Format for Sequence<C> {
 
     ghost spells = { λ f v list. IsSequence (C.presence_of f.components) (C.spells f.components) v list };
 
+    ghost reads = { λ f v list. ReadsSequence (C.reads f.components) (C.count f.components) v list };
+
     ghost is_fault = { λ f list e. SequenceFault (C.count f.components) (C.is_fault f.components) list e };
 
     ghost is_misfit = { λ f v e. C.is_misfit f.components v e };
 
     ghost owns_nothing = { λ f. C.owns_nothing f.components };
+
+    ghost is_canonical = { λ f. C.is_canonical f.components };
 
     fn append(&self, buffer: &mut BitBuffer, value: &C::Value) -> Result<(), Refusal<C::Misfit>> {
         match self.components.append_presence(buffer, value) {
@@ -91,17 +95,24 @@ impl<C: Components> Format for Sequence<C> {
         }
     }
 
+    ghost spelled_is_read = { λ f.
+        sequence_within (C.presence_of f.components) (C.spells f.components) (C.reads f.components)
+        (C.count f.components) (C.as_many f.components) (C.spelled_is_read f.components) };
+
+    ghost read_is_spelled = { λ f canonical.
+        sequence_alone (C.presence_of f.components) (C.spells f.components) (C.reads f.components)
+        (C.count f.components) (C.read_is_spelled f.components canonical) };
+
     ghost reads_one = { λ f.
-        sequence_reads_one (C.presence_of f.components) (C.spells f.components) (C.count f.components)
-        (C.as_many f.components) (C.reads_one f.components) };
+        sequence_reads_one (C.reads f.components) (C.count f.components) (C.reads_one f.components) };
 
     ghost spells_one = { λ f.
         sequence_spells_one (C.presence_of f.components) (C.spells f.components) (C.count f.components)
         (C.as_many f.components) (C.spells_one f.components) };
 
     ghost names_fault = { λ f.
-        sequence_names_fault (C.presence_of f.components) (C.spells f.components) (C.count f.components)
-        (C.as_many f.components) (C.is_fault f.components) (C.names_fault f.components) };
+        sequence_names_fault (C.reads f.components) (C.count f.components) (C.is_fault f.components)
+        (C.names_fault f.components) };
 
     ghost names_misfit = { λ f.
         sequence_names_misfit (C.presence_of f.components) (C.spells f.components) (C.count f.components)

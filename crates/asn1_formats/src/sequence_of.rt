@@ -32,6 +32,7 @@ impl<A: Format> Format for SequenceOf<A> {
     ghost use Rattle.asn1_formats.specs.NumberLaws.{size_reads_one, size_spells_one, size_names_fault, size_names_misfit};
     ghost use Rattle.asn1_formats.specs.Combined.{AreCounted, SequenceOfFault, SequenceOfMisfit};
     ghost use Rattle.asn1_formats.specs.ListLaws.{counted_reads_one, counted_spells_one, counted_names_fault, counted_names_misfit};
+    ghost use Rattle.asn1_formats.specs.WithinLaws.{counted_within};
 
     type Value = Vec<A::Value>;
 
@@ -46,8 +47,11 @@ impl<A: Format> Format for SequenceOf<A> {
     ghost spells = { λ f xs list.
         AreCounted (IsSize f.size.least f.size.most) (A.spells f.item) xs list };
 
+    ghost reads = { λ f xs list.
+        AreCounted (IsSize f.size.least f.size.most) (A.reads f.item) xs list };
+
     ghost is_fault = { λ f list e.
-        SequenceOfFault (IsSize f.size.least f.size.most) (A.spells f.item)
+        SequenceOfFault (IsSize f.size.least f.size.most) (A.reads f.item)
         (IsSizeFault f.size.least f.size.most) (A.is_fault f.item) list e };
 
     ghost is_misfit = { λ f xs e.
@@ -55,6 +59,8 @@ impl<A: Format> Format for SequenceOf<A> {
         (IsSizeMisfit f.size.least f.size.most) (A.is_misfit f.item) xs e };
 
     ghost owns_nothing = { λ f. ⊥ };
+
+    ghost is_canonical = { λ f. A.is_canonical f.item };
 
     fn append(
         &self,
@@ -120,8 +126,14 @@ impl<A: Format> Format for SequenceOf<A> {
         }
     }
 
+    ghost spelled_is_read = { λ f.
+        counted_within (IsSize f.size.least f.size.most) (A.spells f.item) (A.reads f.item) (A.spelled_is_read f.item) };
+
+    ghost read_is_spelled = { λ f canonical.
+        counted_within (IsSize f.size.least f.size.most) (A.reads f.item) (A.spells f.item) (A.read_is_spelled f.item canonical) };
+
     ghost reads_one = { λ f.
-        counted_reads_one (IsSize f.size.least f.size.most) (A.spells f.item)
+        counted_reads_one (IsSize f.size.least f.size.most) (A.reads f.item)
         (size_reads_one f.size.least f.size.most) (A.reads_one f.item) };
 
     ghost spells_one = { λ f.
@@ -129,7 +141,7 @@ impl<A: Format> Format for SequenceOf<A> {
         (size_spells_one f.size.least f.size.most) (A.spells_one f.item) };
 
     ghost names_fault = { λ f.
-        counted_names_fault (IsSize f.size.least f.size.most) (A.spells f.item)
+        counted_names_fault (IsSize f.size.least f.size.most) (A.reads f.item)
         (IsSizeFault f.size.least f.size.most) (A.is_fault f.item)
         (size_reads_one f.size.least f.size.most) (A.reads_one f.item)
         (size_names_fault f.size.least f.size.most) (A.names_fault f.item) };

@@ -72,6 +72,7 @@ pub(crate) fn width_to_hold(most: u64) -> usize
 impl Format for Size {
     ghost use Rattle.asn1_formats.specs.Numbers.{IsSize, IsSizeFault, IsSizeMisfit};
     ghost use Rattle.asn1_formats.specs.NumberLaws.{size_reads_one, size_spells_one, size_names_fault, size_names_misfit};
+    ghost use Rattle.asn1_formats.specs.WithinLaws.{itself};
 
     type Value = u64;
 
@@ -85,11 +86,15 @@ impl Format for Size {
 
     ghost spells = { λ f n list. IsSize f.least f.most n list };
 
+    ghost reads = { λ f n list. IsSize f.least f.most n list };
+
     ghost is_fault = { λ f list e. IsSizeFault f.least f.most list e };
 
     ghost is_misfit = { λ f n e. IsSizeMisfit f.least f.most n e };
 
     ghost owns_nothing = { λ f. ⊤ };
+
+    ghost is_canonical = { λ f. ⊤ };
 
     fn append(&self, buffer: &mut BitBuffer, value: &u64) -> Result<(), Refusal<SizeMisfit>> {
         let value = *value;
@@ -129,6 +134,10 @@ impl Format for Size {
             Err(fault) => Err(fault),
         }
     }
+
+    ghost spelled_is_read = { λ f. itself (λ n list. IsSize f.least f.most n list) };
+
+    ghost read_is_spelled = { λ f canonical. itself (λ n list. IsSize f.least f.most n list) };
 
     ghost reads_one = { λ f. size_reads_one f.least f.most };
 

@@ -29,6 +29,7 @@ impl<A: Format, B: Format> Format for Then<A, B> {
     ghost use Rattle.asn1_formats.specs.Combined.{Both, BothFault, BothMisfit};
     ghost use Rattle.asn1_formats.specs.SpellingLaws.{both_reads_one, both_spells_one};
     ghost use Rattle.asn1_formats.specs.ThenLaws.{both_names_fault, both_names_misfit};
+    ghost use Rattle.asn1_formats.specs.WithinLaws.{both_within};
 
     type Value = (A::Value, B::Value);
 
@@ -42,13 +43,17 @@ impl<A: Format, B: Format> Format for Then<A, B> {
 
     ghost spells = { λ f v list. Both (A.spells f.first) (B.spells f.second) v list };
 
+    ghost reads = { λ f v list. Both (A.reads f.first) (B.reads f.second) v list };
+
     ghost is_fault = { λ f list e.
-        BothFault (A.spells f.first) (A.is_fault f.first) (B.is_fault f.second) list e };
+        BothFault (A.reads f.first) (A.is_fault f.first) (B.is_fault f.second) list e };
 
     ghost is_misfit = { λ f v e.
         BothMisfit (A.spells f.first) (A.is_misfit f.first) (B.is_misfit f.second) v e };
 
     ghost owns_nothing = { λ f. A.owns_nothing f.first × B.owns_nothing f.second };
+
+    ghost is_canonical = { λ f. A.is_canonical f.first × B.is_canonical f.second };
 
     fn append(
         &self,
@@ -109,14 +114,22 @@ impl<A: Format, B: Format> Format for Then<A, B> {
         }
     }
 
+    ghost spelled_is_read = { λ f.
+        both_within (A.spells f.first) (A.reads f.first) (B.spells f.second) (B.reads f.second)
+        (A.spelled_is_read f.first) (B.spelled_is_read f.second) };
+
+    ghost read_is_spelled = { λ f canonical.
+        both_within (A.reads f.first) (A.spells f.first) (B.reads f.second) (B.spells f.second)
+        (A.read_is_spelled f.first canonical.0) (B.read_is_spelled f.second canonical.1) };
+
     ghost reads_one = { λ f.
-        both_reads_one (A.spells f.first) (B.spells f.second) (A.reads_one f.first) (B.reads_one f.second) };
+        both_reads_one (A.reads f.first) (B.reads f.second) (A.reads_one f.first) (B.reads_one f.second) };
 
     ghost spells_one = { λ f.
         both_spells_one (A.spells f.first) (B.spells f.second) (A.spells_one f.first) (B.spells_one f.second) };
 
     ghost names_fault = { λ f.
-        both_names_fault (A.spells f.first) (B.spells f.second) (A.is_fault f.first) (B.is_fault f.second)
+        both_names_fault (A.reads f.first) (B.reads f.second) (A.is_fault f.first) (B.is_fault f.second)
         (A.reads_one f.first) (A.names_fault f.first) (B.names_fault f.second) };
 
     ghost names_misfit = { λ f.

@@ -18,6 +18,8 @@ pub fn write<F: Format>(
 ) -> Result<(), WriteRefusal<F::Misfit>>
     // The old bits are followed by a spelling of the value.
     ensures written { OnOk result (IsWritten (F.spells format.now) (F.plain value.now) buffer.old buffer.new) }
+    // What was appended is read as the value.
+    ensures read_back { OnOk result (IsWritten (F.reads format.now) (F.plain value.now) buffer.old buffer.new) }
     // It has no other.
     ensures one { (list : List Bool) → F.spells format.now (F.plain value.now) list
         → OnOk result (buffer.new ≡ buffer.old ++ list) }

@@ -8,6 +8,6 @@ loop-index-preserved g c =
     let p = c.loop-index.invariant in
     let q = c.in-Ok.ensures.skipped in (
       p.0 ++ q.0 ∷ [],
-      many_snoc (g.A.Format.spells c.args.item.now) c.loop-index.index p.0 q.0 (bits_left c.args.reader.now)
+      many_snoc (g.A.Format.reads c.args.item.now) c.loop-index.index p.0 q.0 (bits_left c.args.reader.now)
           (bits_left c.loop-index.reader) (bits_left c.skip.new.reader) p.1 q.1,
     )

@@ -6,5 +6,5 @@ use Rattle.asn1_formats.proofs.items.skip_items.Given as goal
 
 abbrev pub invariant-loop-index : goal.invariant-loop-index
 invariant-loop-index g l =
-    (xs : List g.A.Format.Plain) × Starts (λ ys r. SoMany (g.A.Format.spells l.item) l.index ys r)
+    (xs : List g.A.Format.Plain) × Starts (λ ys r. SoMany (g.A.Format.reads l.item) l.index ys r)
     (bits_left l.initial.reader) xs (bits_left l.reader)

@@ -6,5 +6,5 @@ use Rattle.asn1_formats.proofs.items.take_items.Given as goal
 
 abbrev pub invariant-loop-index : goal.invariant-loop-index
 invariant-loop-index g l =
-    Starts (λ ys r. SoMany (g.A.Format.spells l.item) l.index ys r) (bits_left l.initial.reader)
+    Starts (λ ys r. SoMany (g.A.Format.reads l.item) l.index ys r) (bits_left l.initial.reader)
     (map g.A.Format.plain l.values.items) (bits_left l.reader)

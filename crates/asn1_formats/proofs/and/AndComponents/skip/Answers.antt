@@ -13,12 +13,11 @@ returns-in-Ok-skip-clause-skipped g c =
     let start = bits_left c.skip.new.reader in
     let rest = bits_left c.skip-2.new.reader in (
       (first.0, second.0),
-      together (g.C.Components.presence_of f.first) (g.D.Components.presence_of f.second) (g.C.Components.spells f.first)
-          (g.D.Components.spells f.second) (g.C.Components.count f.first) (g.D.Components.count f.second)
-          (g.met.C.Components.as_many f.first) (g.met.D.Components.as_many f.second)
+      together (g.C.Components.reads f.first) (g.D.Components.reads f.second) (g.C.Components.count f.first)
+          (g.D.Components.count f.second)
           (bits_left c.args.presence.now) (bits_left c.args.reader.now) start rest first.0 second.0 first.1
           (subst
-          (λ (p : List Bool). Starts (Behind (g.D.Components.presence_of f.second) (g.D.Components.spells f.second) p) start
+          (λ (p : List Bool). Starts (Behind (g.D.Components.reads f.second) (g.D.Components.count f.second) p) start
           second.0 rest)
           c.in-Ok.ensures.moved second.1),
     )

@@ -12,11 +12,10 @@ returns-in-Ok-take-clause-read g c =
     let x = g.D.Components.plain c.in-Ok-take.second in
     let start = bits_left c.take.new.reader in
     let rest = bits_left c.take-2.new.reader in
-    together (g.C.Components.presence_of f.first) (g.D.Components.presence_of f.second) (g.C.Components.spells f.first)
-    (g.D.Components.spells f.second) (g.C.Components.count f.first) (g.D.Components.count f.second)
-    (g.met.C.Components.as_many f.first) (g.met.D.Components.as_many f.second)
+    together (g.C.Components.reads f.first) (g.D.Components.reads f.second) (g.C.Components.count f.first)
+    (g.D.Components.count f.second)
     (bits_left c.args.presence.now) (bits_left c.args.reader.now) start rest
     (g.C.Components.plain c.in-Ok.first) x c.in-Ok.ensures.read
     (subst
-    (λ (p : List Bool). Starts (Behind (g.D.Components.presence_of f.second) (g.D.Components.spells f.second) p) start x rest)
+    (λ (p : List Bool). Starts (Behind (g.D.Components.reads f.second) (g.D.Components.count f.second) p) start x rest)
     c.in-Ok.ensures.moved second)

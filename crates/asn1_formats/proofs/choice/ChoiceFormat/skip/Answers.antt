@@ -9,7 +9,7 @@ returns-in-Ok-skip-clause-skipped g c =
     let p = c.in-Ok-skip.ensures.skipped in (
       p.0,
       numbered_starts (IsSize f.index.least f.index.most) (g.A.Alternatives.place f.alternatives)
-          (g.A.Alternatives.spells f.alternatives)
+          (g.A.Alternatives.reads f.alternatives)
           (bits_left c.args.reader.now) (bits_left c.next_in.new.reader) (bits_left c.skip.new.reader) c.in-Ok.index p.0
           c.in-Ok.ensures.read p.1,
     )

@@ -9,7 +9,7 @@ returns-in-Ok-clause-skipped g c =
     let f = c.args.self.now in
     let p = c.in-Ok.ensures.skipped in (
       First p.0,
-      first_at (g.A.Format.spells f.first) (g.B.Alternatives.spells f.others) (g.B.Alternatives.place f.others)
+      first_at (g.A.Format.reads f.first) (g.B.Alternatives.reads f.others) (g.B.Alternatives.place f.others)
           c.args.index c.if-index-eq0.true (bits_left c.args.reader.now) p.0 (bits_left c.skip.new.reader) p.1,
     )
 
@@ -18,6 +18,6 @@ returns-in-Ok-skip-clause-skipped g c =
     let f = c.args.self.now in
     let p = c.in-Ok-skip.ensures.skipped in (
       Other p.0,
-      other_at (g.A.Format.spells f.first) (g.B.Alternatives.spells f.others) (g.B.Alternatives.place f.others)
+      other_at (g.A.Format.reads f.first) (g.B.Alternatives.reads f.others) (g.B.Alternatives.place f.others)
           c.args.index (omega arith) (bits_left c.args.reader.now) p.0 (bits_left c.skip-2.new.reader) p.1,
     )

@@ -1,13 +1,13 @@
 use Rattle.std.proofs.Common.{Bool, ◌∷◌, Some, ap, ◌∙◌}
 use Rattle.asn1_bits.specs.BitReader.{bits_left}
-use Rattle.asn1_formats.specs.SequenceLaws.{present}
+use Rattle.asn1_formats.specs.ComponentLaws.{present}
 use Rattle.asn1_formats.proofs.optional.OptionalComponents.skip.Goals as goal
 
 pub returns-in-Ok-clause-skipped : goal.returns-in-Ok-clause-skipped
 returns-in-Ok-clause-skipped g c =
     let p = c.in-Ok.ensures.skipped in (
       Some p.0,
-      present (g.A.Format.spells c.args.self.now.part) (bits_left c.args.presence.now) (bits_left c.args.reader.now) p.0
+      present (g.A.Format.reads c.args.self.now.part) (bits_left c.args.presence.now) (bits_left c.args.reader.now) p.0
           (bits_left c.skip.new.reader) (bits_left c.next_bit.new.reader)
           (c.in-Some-true.ensures.bit
           ∙ ap (λ (b : Bool). b ∷ bits_left c.next_bit.new.reader) c.in-Some-true.field-0-test)

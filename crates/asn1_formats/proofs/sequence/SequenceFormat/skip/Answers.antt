@@ -12,10 +12,10 @@ returns-in-Ok-skip-clause-skipped g c =
     let p = c.in-Ok-skip.ensures.skipped in
     let rest = bits_left c.skip.new.reader in (
       p.0,
-      sequence_starts (g.C.Components.presence_of f.components) (g.C.Components.spells f.components)
-          (g.C.Components.count f.components) (g.met.C.Components.as_many f.components) list p.0 rest
+      sequence_starts (g.C.Components.reads f.components)
+          (g.C.Components.count f.components) list p.0 rest
           (subst
-          (λ (start : List Bool). Starts (Behind (g.C.Components.presence_of f.components)
-          (g.C.Components.spells f.components) list) start p.0 rest)
+          (λ (start : List Bool). Starts (Behind (g.C.Components.reads f.components)
+          (g.C.Components.count f.components) list) start p.0 rest)
           c.in-Ok.ensures.rest p.1),
     )

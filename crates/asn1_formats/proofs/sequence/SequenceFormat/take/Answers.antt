@@ -11,9 +11,9 @@ returns-in-Ok-take-clause-read g c =
     let list = bits_left c.args.reader.now in
     let x = g.C.Components.plain c.in-Ok-take.value in
     let rest = bits_left c.take.new.reader in
-    sequence_starts (g.C.Components.presence_of f.components) (g.C.Components.spells f.components)
-    (g.C.Components.count f.components) (g.met.C.Components.as_many f.components) list x rest
+    sequence_starts (g.C.Components.reads f.components)
+    (g.C.Components.count f.components) list x rest
     (subst
-    (λ (start : List Bool). Starts (Behind (g.C.Components.presence_of f.components) (g.C.Components.spells f.components)
+    (λ (start : List Bool). Starts (Behind (g.C.Components.reads f.components) (g.C.Components.count f.components)
     list) start x rest)
     c.in-Ok.ensures.rest c.in-Ok-take.ensures.read)
