@@ -58,8 +58,8 @@ fn push_octets(buffer: &mut BitBuffer, octets: &[u8]) -> Result<(), AllocError>
     buffer.extend_from_bytes(octets)
 }
 
-/// The bits of so many octets; or how many are missing.
-fn next_octets<'a>(reader: &mut BitReader<'a>, count: u64) -> Result<BitReader<'a>, u128>
+/// The bits of the next `count` octets, past which the reader moves; or how many bits are missing.
+pub fn next_octets<'a>(reader: &mut BitReader<'a>, count: u64) -> Result<BitReader<'a>, u128>
     ensures enough { OnOk result (8 * count ≤ length (bits_left reader.old)) }
     ensures front { IfOk result (λ r. bits_left r ≡ take (8 * count) (bits_left reader.old)) }
     ensures len { IfOk result (λ r. (view_left r).len % 8 ≡ 0) }

@@ -136,6 +136,9 @@ length_reads_one = record { one = one }
         (cases list other y t))
         (cases list rest x s)
 
+pub length_below : (n : ℕ) (list : List Bool) → IsLengthDeterminant n list → n < 2 ^ 14
+length_below n list p = ⊎_elim (λ s. let lt : n < 128 = s.0 in omega arith) (λ s. s.1) p
+
 pub length_spells_one : SpellsOne (λ n l. IsLengthDeterminant n l)
 length_spells_one = record {
   one = λ n a b p q.

@@ -1,4 +1,7 @@
 -- The words of the contracts.
 pub mod Lengths
+pub mod Encodings
 -- Laws of these words, which the formats' laws are made of.
 pub mod LengthLaws
+pub mod CompleteLaws
+pub mod OpenTypeLaws

@@ -1,8 +1,8 @@
 //! Length determinants.
 
-ghost use Rattle.std.specs.Prelude.{◌≡◌, ℕ, ◌+◌, ◌^◌, ◌<◌, ◌≤◌, ◌++◌, OnOk, OnErr, IfOk, IfErr};
+ghost use Rattle.std.specs.Prelude.{◌≡◌, ℕ, ◌+◌, ◌^◌, ◌<◌, ◌≤◌, ◌++◌, OnOk, OnErr, IfOk, IfErr, Some};
 ghost use Rattle.asn1_bits.specs.BitReader.{bits_left};
-ghost use Rattle.asn1_formats.specs.Spelling.{Starts, IsWritten};
+ghost use Rattle.asn1_formats.specs.Spelling.{Starts, Measures, IsWritten};
 
 use asn1_formats::{Format, Refusal, next_number, push_number};
 use asn1_values::{BitBuffer, BitReader};
@@ -35,6 +35,7 @@ impl Format for Length {
     ghost use Rattle.std.specs.Prelude.{⊤};
     ghost use Rattle.asn1_per.specs.Lengths.{IsLengthDeterminant, LengthFaultIs};
     ghost use Rattle.asn1_per.specs.LengthLaws.{length_reads_one, length_spells_one, length_names_fault, length_names_misfit};
+    ghost use Rattle.asn1_formats.specs.WithinLaws.{itself};
 
     type Value = u64;
 
@@ -48,11 +49,15 @@ impl Format for Length {
 
     ghost spells = { λ f n list. IsLengthDeterminant n list };
 
+    ghost reads = { λ f n list. IsLengthDeterminant n list };
+
     ghost is_fault = { λ f list e. LengthFaultIs list e };
 
     ghost is_misfit = { λ f n e. 2 ^ 14 ≤ n };
 
     ghost owns_nothing = { λ f. ⊤ };
+
+    ghost is_canonical = { λ f. ⊤ };
 
     fn append(&self, buffer: &mut BitBuffer, value: &u64) -> Result<(), Refusal<LongLength>> {
         let length = *value;
@@ -70,7 +75,7 @@ impl Format for Length {
         if length >= FRAGMENT {
             return Err(LongLength {});
         }
-        Ok(Some(if length < 128 { 8 } else { 16 }))
+        Ok(Some(length_width(length)))
     }
 
     fn take(
@@ -91,6 +96,10 @@ impl Format for Length {
         }
     }
 
+    ghost spelled_is_read = { λ f. itself (λ n list. IsLengthDeterminant n list) };
+
+    ghost read_is_spelled = { λ f canonical. itself (λ n list. IsLengthDeterminant n list) };
+
     ghost reads_one = { λ f. length_reads_one };
 
     ghost spells_one = { λ f. length_spells_one };
@@ -101,6 +110,15 @@ impl Format for Length {
 }
 
 ghost use Rattle.asn1_per.specs.Lengths.{IsLengthDeterminant, LengthFaultIs};
+
+/// How many bits the length's octets have.
+pub(crate) fn length_width(length: u64) -> usize
+    requires { length < 2 ^ 14 }
+    ensures one_or_two { result ≤ 16 }
+    ensures measured { Measures (λ n list. IsLengthDeterminant n list) length (Some result) }
+{
+    if length < 128 { 8 } else { 16 }
+}
 
 /// Appends the length's octets.
 pub(crate) fn push_length(buffer: &mut BitBuffer, length: u64) -> Result<(), AllocError>
