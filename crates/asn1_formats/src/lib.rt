@@ -39,7 +39,7 @@ pub use format::Format;
 pub use last::Last;
 pub use null::Null;
 pub use number::{Number, PastWidth, Short, next as next_number, push as push_number};
-pub use octet_string::{InOctetString, OctetString, next_octets};
+pub use octet_string::{InOctetString, OctetString, next_octets, push_octets};
 pub use one_of::{OneOf, Or};
 pub use optional::Optional;
 pub use reading::read;

@@ -45,8 +45,9 @@ fn are_octets(octets: &[u8])
     ensures { All (λ octet. octet < 256) octets.now }
 {}
 
-/// Appends the octets' digits.
-fn push_octets(buffer: &mut BitBuffer, octets: &[u8]) -> Result<(), AllocError>
+/// Appends the octets' digits, eight for each. Where it is refused, for want of memory or since the length in bits would
+/// pass `usize`, the bits stay.
+pub fn push_octets(buffer: &mut BitBuffer, octets: &[u8]) -> Result<(), AllocError>
     ensures ok { OnOk result (buffer.new ≡ buffer.old ++ bits octets.now) }
     ensures err { OnErr result (buffer.new ≡ buffer.old) }
     ensures octets { All (λ octet. octet < 256) octets.now }

@@ -12,7 +12,6 @@ use Rattle.asn1_per.specs.declared.open_type.InOpenType.{InOpenType}
 use Rattle.asn1_per.specs.declared.open_type.InOpenType.TheVariants.{Length, Short, Value, End}
 use Rattle.asn1_per.specs.declared.open_type.OpenMisfit.{OpenMisfit}
 use Rattle.asn1_per.specs.declared.open_type.OpenMisfit.TheVariants as misfit
-use Rattle.asn1_per.specs.declared.length.LengthFault.{LengthFault}
 use Rattle.asn1_per.specs.Lengths.{IsLengthDeterminant, LengthFaultIs}
 
 -- how many octets hold so many bits, one at least

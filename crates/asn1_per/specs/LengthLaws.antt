@@ -15,7 +15,7 @@ use Rattle.asn1_per.specs.Lengths.{IsLengthDeterminant, IsCut, LengthFaultIs}
 -- ---- two octets as one number
 
 -- the digits of two octets, one after another
-two_octets : (a b : ℕ) → b < 256 → digits (256 * a + b) 16 ≡ digits a 8 ++ digits b 8
+pub two_octets : (a b : ℕ) → b < 256 → digits (256 * a + b) 16 ≡ digits a 8 ++ digits b 8
 two_octets a b lt =
     let n = 256 * a + b in
     let high : n / 2 ^ 8 ≡ a = omega arith in

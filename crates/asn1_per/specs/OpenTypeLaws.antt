@@ -1,12 +1,11 @@
 -- Laws of open types.
-use Rattle.std.proofs.Common.{◌≡◌, ◌≢◌, ℕ, ◌+◌, ◌-◌, ◌*◌, ◌/◌, ◌^◌, ◌<◌, ◌≤◌, List, ◌++◌, [], ◌∷◌, Bool, Option, Some, None, length, take, drop, refl, sym, ◌∙◌, ap, subst, arith, append_assoc, ⊎_elim}
+use Rattle.std.proofs.Common.{◌≡◌, ℕ, ◌+◌, ◌-◌, ◌*◌, ◌^◌, ◌<◌, ◌≤◌, List, ◌++◌, [], ◌∷◌, Bool, Some, length, take, drop, refl, sym, ◌∙◌, ap, subst, arith, append_assoc}
 use Rattle.std.proofs.lemmas.List.{length-append, length-take-le, take-append-drop, append-nil}
 use Rattle.std.proofs.Math.Seq.{take-append_seam, drop-append_seam}
 use Rattle.asn1_bits.specs.Bits.{digits}
 use Rattle.asn1_bits.specs.DigitLaws.{length-digits}
-use Rattle.asn1_formats.specs.Spelling.{Starts, CanRead, Fits, Measures, IsLength, IsWritten, IsWithin, ReadsOne, SpellsOne, NamesFault, NamesMisfit}
+use Rattle.asn1_formats.specs.Spelling.{Starts, CanRead, Fits, Measures, IsWritten, IsWithin, ReadsOne, SpellsOne, NamesFault, NamesMisfit}
 use Rattle.asn1_formats.specs.Numbers.{IsNumber, IsShort}
-use Rattle.asn1_formats.specs.SpellingLaws.{number_short}
 use Rattle.asn1_formats.specs.Combined.{After}
 use Rattle.asn1_per.specs.declared.length.LengthFault.{LengthFault}
 use Rattle.asn1_per.specs.declared.open_type.EndFault.{EndFault}
@@ -17,7 +16,7 @@ use Rattle.asn1_per.specs.declared.open_type.OpenMisfit.{OpenMisfit}
 use Rattle.asn1_per.specs.declared.open_type.OpenMisfit.TheVariants as misfit
 use Rattle.asn1_per.specs.Lengths.{IsLengthDeterminant, LengthFaultIs}
 use Rattle.asn1_per.specs.LengthLaws.{length_reads_one, length_spells_one, length_names_fault, length_below}
-use Rattle.asn1_per.specs.Encodings.{octet_count, padding, IsComplete, IsNotZero, IsOpenType, EndFaultIs, InOctets, OpenTypeFault, OpenTypeMisfit}
+use Rattle.asn1_per.specs.Encodings.{octet_count, padding, IsComplete, IsOpenType, EndFaultIs, InOctets, OpenTypeFault, OpenTypeMisfit}
 use Rattle.asn1_per.specs.CompleteLaws.{zeros, not_zero, complete_within}
 
 -- bits that are all read as 0 are zeros

@@ -4,7 +4,9 @@
 mod complete;
 mod length;
 mod open_type;
+mod unconstrained_number;
 
 pub use complete::{Complete, InComplete};
 pub use length::{Length, LengthFault, LongLength};
 pub use open_type::{EndFault, InOpenType, OpenMisfit, OpenType};
+pub use unconstrained_number::{UnconstrainedFault, UnconstrainedNumber};

@@ -1,4 +1,4 @@
-use Rattle.std.proofs.Common.{ℕ, List, Bool, ◌++◌, ap, subst, ◌∙◌}
+use Rattle.std.proofs.Common.{ℕ, ◌++◌, ap, subst, ◌∙◌}
 use Rattle.asn1_bits.specs.Bits.{digits}
 use Rattle.asn1_formats.specs.Spelling.{IsWritten}
 use Rattle.asn1_per.specs.Lengths.{IsLengthDeterminant}

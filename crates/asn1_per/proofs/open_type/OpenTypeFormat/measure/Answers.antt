@@ -1,6 +1,6 @@
 use Rattle.std.proofs.Common.{ℕ, Some, subst, sym, ◌+◌, ◌*◌}
 use Rattle.asn1_formats.specs.Spelling.{Measures}
-use Rattle.asn1_per.specs.Encodings.{octet_count, IsOpenType}
+use Rattle.asn1_per.specs.Encodings.{IsOpenType}
 use Rattle.asn1_per.specs.Lengths.{IsLengthDeterminant}
 use Rattle.asn1_per.specs.OpenTypeLaws.{open_measured}
 use Rattle.asn1_per.proofs.open_type.OpenTypeFormat.measure.Goals as goal
