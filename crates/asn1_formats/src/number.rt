@@ -137,8 +137,8 @@ pub(crate) fn fits(value: u64, width: usize) -> bool
     width >= 64 || value < 1 << width
 }
 
-/// Appends the number's digits.
-pub(crate) fn push(buffer: &mut BitBuffer, value: u64, width: usize) -> Result<(), AllocError>
+/// Appends the number's digits, as many as the width, which is at most 64.
+pub fn push(buffer: &mut BitBuffer, value: u64, width: usize) -> Result<(), AllocError>
     requires { width ≤ 64 }
     ensures ok { OnOk result (buffer.new ≡ buffer.old ++ digits value width) }
     ensures err { OnErr result (buffer.new ≡ buffer.old) }
@@ -149,8 +149,8 @@ pub(crate) fn push(buffer: &mut BitBuffer, value: u64, width: usize) -> Result<(
     buffer.push_bits(value as u128, width)
 }
 
-/// The number of the next bits.
-pub(crate) fn next(reader: &mut BitReader<'_>, width: usize) -> Result<u64, Short>
+/// The number of the next bits, as many as the width, which is at most 64; or how many are missing.
+pub fn next(reader: &mut BitReader<'_>, width: usize) -> Result<u64, Short>
     requires { width ≤ 64 }
     ensures read { IfOk result (λ x. Starts (IsNumber width) (bits_left reader.old) x (bits_left reader.new)) }
     ensures short { IfErr result (λ e. IsShort width (bits_left reader.old) e.missing) }

@@ -45,8 +45,9 @@ fn are_octets(octets: &[u8])
     ensures { All (λ octet. octet < 256) octets.now }
 {}
 
-/// Appends the octets' digits.
-fn push_octets(buffer: &mut BitBuffer, octets: &[u8]) -> Result<(), AllocError>
+/// Appends the octets' digits, eight for each. Where it is refused, for want of memory or since the length in bits would
+/// pass `usize`, the bits stay.
+pub fn push_octets(buffer: &mut BitBuffer, octets: &[u8]) -> Result<(), AllocError>
     ensures ok { OnOk result (buffer.new ≡ buffer.old ++ bits octets.now) }
     ensures err { OnErr result (buffer.new ≡ buffer.old) }
     ensures octets { All (λ octet. octet < 256) octets.now }
@@ -58,8 +59,8 @@ fn push_octets(buffer: &mut BitBuffer, octets: &[u8]) -> Result<(), AllocError>
     buffer.extend_from_bytes(octets)
 }
 
-/// The bits of so many octets; or how many are missing.
-fn next_octets<'a>(reader: &mut BitReader<'a>, count: u64) -> Result<BitReader<'a>, u128>
+/// The bits of the next `count` octets, past which the reader moves; or how many bits are missing.
+pub fn next_octets<'a>(reader: &mut BitReader<'a>, count: u64) -> Result<BitReader<'a>, u128>
     ensures enough { OnOk result (8 * count ≤ length (bits_left reader.old)) }
     ensures front { IfOk result (λ r. bits_left r ≡ take (8 * count) (bits_left reader.old)) }
     ensures len { IfOk result (λ r. (view_left r).len % 8 ≡ 0) }

@@ -12,7 +12,7 @@ mod write_at;
 
 pub use error::{ReadError, WriteError};
 pub use field::Field;
-pub use read::read_fields;
+pub use read::{integer_of, read_fields};
 pub use shape::{Shape, shape_of};
 pub use write::{write_fields, write_fields_counted};
 pub use write_at::write_fields_at;

@@ -33,6 +33,6 @@ pub use asn1_strings::{
     should_be_indexed,
 };
 pub use bit_fields::{
-    Field, ReadError, Shape, WriteError, read_fields, shape_of, write_fields, write_fields_at,
-    write_fields_counted,
+    Field, ReadError, Shape, WriteError, integer_of, read_fields, shape_of, write_fields,
+    write_fields_at, write_fields_counted,
 };

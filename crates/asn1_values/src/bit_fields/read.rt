@@ -425,9 +425,10 @@ fn read_integer(
     integer_of(alloc, &take_front(reader, 8 * octets))
 }
 
-/// The whole number of the octets that the reader has left. Up to sixteen are read as a word, and take no memory.
+/// The two's complement value of the octets that the reader has left (X.690 8.3.3), one at least. Up to sixteen are read
+/// as a word, and take no memory; without an octet it is refused.
 #[inline(always)]
-fn integer_of(alloc: Global, reader: &BitReader<'_>) -> Result<Integer, AllocError>
+pub fn integer_of(alloc: Global, reader: &BitReader<'_>) -> Result<Integer, AllocError>
     requires whole { (view_left reader.now).len % 8 ≡ 0 }
     ensures { IfOk result (λ n. (octets : List ℕ) → bits octets ≡ bits_left reader.now
         → All (λ octet. octet < 256) octets → n ≡ signed octets) }

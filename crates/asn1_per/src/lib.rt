@@ -1,0 +1,12 @@
+//! The parts of a PER message that stand behind a length determinant, as formats that one composes.
+#![tactic(auto)]
+
+mod complete;
+mod length;
+mod open_type;
+mod unconstrained_number;
+
+pub use complete::{Complete, InComplete};
+pub use length::{Length, LengthFault, LongLength};
+pub use open_type::{EndFault, InOpenType, OpenMisfit, OpenType};
+pub use unconstrained_number::{UnconstrainedFault, UnconstrainedNumber};

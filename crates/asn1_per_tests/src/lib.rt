@@ -1,0 +1,11 @@
+//! Tests of the parts of a PER message that stand behind a length determinant.
+#![tactic(auto)]
+
+#[cfg(test)]
+mod calls;
+#[cfg(test)]
+mod encodings;
+#[cfg(test)]
+mod integers;
+#[cfg(test)]
+mod lengths;
