@@ -21,8 +21,8 @@ pub trait Explain: fmt::Display {
     fn is_reason(&self) -> bool;
 }
 
-/// Writes a part, and behind it what is wrong with it.
-pub(crate) fn write_part<E: Explain, W: fmt::Write>(
+/// Writes the name of a part, and behind it what is wrong with it: for the texts of formats elsewhere.
+pub fn write_part<E: Explain, W: fmt::Write>(
     part: &str,
     wrong: &E,
     f: &mut fmt::Formatter<W>,

@@ -43,7 +43,7 @@ pub use choice::{Choice, InChoice};
 pub use compare::Compare;
 pub use components::Components;
 pub use constrained_number::ConstrainedNumber;
-pub use explain::Explain;
+pub use explain::{Explain, write_part};
 pub use format::Format;
 pub use last::Last;
 pub use named::{InNamed, Named};

@@ -2,6 +2,7 @@
 #![tactic(auto)]
 
 mod complete;
+mod explain;
 mod length;
 mod open_type;
 mod unconstrained_number;

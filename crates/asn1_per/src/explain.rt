@@ -1,0 +1,125 @@
+//! What is wrong, in words.
+
+use crate::complete::InComplete;
+use crate::length::{LengthFault, LongLength};
+use crate::open_type::{EndFault, InOpenType, OpenMisfit};
+use crate::unconstrained_number::UnconstrainedFault;
+use asn1_formats::{Explain, write_part};
+use std::fmt;
+
+impl fmt::Display for LengthFault {
+    fn fmt<W: fmt::Write>(&self, f: &mut fmt::Formatter<W>) -> fmt::Result {
+        match self {
+            LengthFault::Short { missing } => write!(f, "{missing} bits are missing"),
+            LengthFault::Longer { length } => write!(f, "{length} stands in two octets"),
+            LengthFault::Fragment => write!(f, "a fragment begins"),
+        }
+    }
+}
+
+impl Explain for LengthFault {
+    fn is_reason(&self) -> bool {
+        true
+    }
+}
+
+impl fmt::Display for LongLength {
+    fn fmt<W: fmt::Write>(&self, f: &mut fmt::Formatter<W>) -> fmt::Result {
+        write!(f, "16384 or more")
+    }
+}
+
+impl Explain for LongLength {
+    fn is_reason(&self) -> bool {
+        true
+    }
+}
+
+impl<E: fmt::Display> fmt::Display for InComplete<E> {
+    fn fmt<W: fmt::Write>(&self, f: &mut fmt::Formatter<W>) -> fmt::Result {
+        match self {
+            InComplete::Value(wrong) => write!(f, "{wrong}"),
+            InComplete::Short { missing } => write!(f, "{missing} bits of padding are missing"),
+            InComplete::NotZero => write!(f, "the padding is not zero"),
+        }
+    }
+}
+
+impl<E: Explain> Explain for InComplete<E> {
+    fn is_reason(&self) -> bool {
+        match self {
+            InComplete::Value(wrong) => wrong.is_reason(),
+            _ => true,
+        }
+    }
+}
+
+impl fmt::Display for EndFault {
+    fn fmt<W: fmt::Write>(&self, f: &mut fmt::Formatter<W>) -> fmt::Result {
+        match self {
+            EndFault::Octets { needed } => write!(f, "the value fills {needed} octets"),
+            EndFault::NotZero => write!(f, "the padding is not zero"),
+        }
+    }
+}
+
+impl Explain for EndFault {
+    fn is_reason(&self) -> bool {
+        true
+    }
+}
+
+impl<E: fmt::Display> fmt::Display for InOpenType<E> {
+    fn fmt<W: fmt::Write>(&self, f: &mut fmt::Formatter<W>) -> fmt::Result {
+        match self {
+            InOpenType::Length(wrong) => write_part("number of octets", wrong, f),
+            InOpenType::Short { missing } => write!(f, "{missing} bits are missing"),
+            InOpenType::Value(wrong) => write!(f, "{wrong}"),
+            InOpenType::End(wrong) => write!(f, "{wrong}"),
+        }
+    }
+}
+
+impl<E: Explain> Explain for InOpenType<E> {
+    fn is_reason(&self) -> bool {
+        match self {
+            InOpenType::Length(_) => false,
+            InOpenType::Value(wrong) => wrong.is_reason(),
+            _ => true,
+        }
+    }
+}
+
+impl<E: fmt::Display> fmt::Display for OpenMisfit<E> {
+    fn fmt<W: fmt::Write>(&self, f: &mut fmt::Formatter<W>) -> fmt::Result {
+        match self {
+            OpenMisfit::Value(wrong) => write!(f, "{wrong}"),
+            OpenMisfit::Long => write!(f, "16384 octets or more"),
+        }
+    }
+}
+
+impl<E: Explain> Explain for OpenMisfit<E> {
+    fn is_reason(&self) -> bool {
+        match self {
+            OpenMisfit::Value(wrong) => wrong.is_reason(),
+            OpenMisfit::Long => true,
+        }
+    }
+}
+
+impl fmt::Display for UnconstrainedFault {
+    fn fmt<W: fmt::Write>(&self, f: &mut fmt::Formatter<W>) -> fmt::Result {
+        match self {
+            UnconstrainedFault::Length(wrong) => write_part("number of octets", wrong, f),
+            UnconstrainedFault::Short { missing } => write!(f, "{missing} bits are missing"),
+            UnconstrainedFault::NotShortest => write!(f, "not a shortest integer"),
+        }
+    }
+}
+
+impl Explain for UnconstrainedFault {
+    fn is_reason(&self) -> bool {
+        !matches!(self, UnconstrainedFault::Length(_))
+    }
+}
