@@ -30,6 +30,7 @@ mod writing;
 
 pub use alternatives::Alternatives;
 pub use and::And;
+pub use bit::{next_bit, push_bit};
 pub use boolean::{Boolean, NoBit};
 pub use character::{Character, CharacterFault, NotInAlphabet};
 pub use choice::{Choice, InChoice};
@@ -37,6 +38,7 @@ pub use components::Components;
 pub use constrained_number::ConstrainedNumber;
 pub use format::Format;
 pub use last::Last;
+pub use length::sum_of;
 pub use null::Null;
 pub use number::{Number, PastWidth, Short, next as next_number, push as push_number};
 pub use octet_string::{InOctetString, OctetString, next_octets};

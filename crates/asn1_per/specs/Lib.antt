@@ -1,7 +1,9 @@
 -- The words of the contracts.
 pub mod Lengths
 pub mod Encodings
+pub mod Extensions
 -- Laws of these words, which the formats' laws are made of.
 pub mod LengthLaws
 pub mod CompleteLaws
 pub mod OpenTypeLaws
+pub mod ExtensionLaws

@@ -2,9 +2,11 @@
 #![tactic(auto)]
 
 mod complete;
+mod extensible_size;
 mod length;
 mod open_type;
 
 pub use complete::{Complete, InComplete};
+pub use extensible_size::{BeyondRootFault, ExtensibleSize, InExtensible};
 pub use length::{Length, LengthFault, LongLength};
 pub use open_type::{EndFault, InOpenType, OpenMisfit, OpenType};

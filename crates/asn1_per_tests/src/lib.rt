@@ -6,4 +6,6 @@ mod calls;
 #[cfg(test)]
 mod encodings;
 #[cfg(test)]
+mod extensible_sizes;
+#[cfg(test)]
 mod lengths;
