@@ -7,7 +7,7 @@ use asn1_values::{BitBuffer, BitReader};
 use std::alloc::AllocError;
 
 /// Appends the bit.
-pub(crate) fn push_bit(buffer: &mut BitBuffer, bit: bool) -> Result<(), AllocError>
+pub fn push_bit(buffer: &mut BitBuffer, bit: bool) -> Result<(), AllocError>
     ensures ok { OnOk result (buffer.new ≡ buffer.old ++ bit ∷ []) }
     ensures err { OnErr result (buffer.new ≡ buffer.old) }
 {
@@ -18,7 +18,7 @@ pub(crate) fn push_bit(buffer: &mut BitBuffer, bit: bool) -> Result<(), AllocErr
 }
 
 /// The next bit, if there is one.
-pub(crate) fn next_bit(reader: &mut BitReader<'_>) -> Option<bool>
+pub fn next_bit(reader: &mut BitReader<'_>) -> Option<bool>
     ensures bit { IfSome result (λ bit. bits_left reader.old ≡ bit ∷ bits_left reader.new) }
     ensures none { IfNone result (bits_left reader.old ≡ []) }
 {

@@ -3,7 +3,7 @@
 ghost use Rattle.asn1_formats.specs.Spelling.{IsSumOf};
 
 /// The sum, `None` where a summand or the sum passes `usize`.
-pub(crate) fn sum_of(first: Option<usize>, second: Option<usize>) -> Option<usize>
+pub fn sum_of(first: Option<usize>, second: Option<usize>) -> Option<usize>
     ensures { IsSumOf first second result }
 {
     match (first, second) {

@@ -122,10 +122,8 @@ impl Compare for Number {
     }
 
     fn skip_equal(&self, reader: &mut BitReader<'_>, other: &u64) -> Result<bool, Short> {
-        match next(reader, self.width) {
-            Ok(value) => Ok(value == *other),
-            Err(fault) => Err(fault),
-        }
+        let value = next(reader, self.width)?;
+        Ok(value == *other)
     }
 }
 

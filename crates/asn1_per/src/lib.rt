@@ -3,11 +3,13 @@
 
 mod complete;
 mod explain;
+mod extensible_size;
 mod length;
 mod open_type;
 mod unconstrained_number;
 
 pub use complete::{Complete, InComplete};
+pub use extensible_size::{BeyondRootFault, ExtensibleSize, InExtensible};
 pub use length::{Length, LengthFault, LongLength};
 pub use open_type::{EndFault, InOpenType, OpenMisfit, OpenType};
 pub use unconstrained_number::{UnconstrainedFault, UnconstrainedNumber};

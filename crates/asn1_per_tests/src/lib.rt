@@ -8,4 +8,6 @@ mod encodings;
 #[cfg(test)]
 mod integers;
 #[cfg(test)]
+mod extensible_sizes;
+#[cfg(test)]
 mod lengths;
