@@ -122,7 +122,8 @@ impl Compare for Number {
     }
 
     fn skip_equal(&self, reader: &mut BitReader<'_>, other: &u64) -> Result<bool, Short> {
-        let value = next(reader, self.width)?;
+        let width = self.width;
+        let value = next(reader, width)?;
         Ok(value == *other)
     }
 }

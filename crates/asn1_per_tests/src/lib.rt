@@ -6,8 +6,8 @@ mod calls;
 #[cfg(test)]
 mod encodings;
 #[cfg(test)]
-mod integers;
-#[cfg(test)]
 mod extensible_sizes;
+#[cfg(test)]
+mod integers;
 #[cfg(test)]
 mod lengths;
