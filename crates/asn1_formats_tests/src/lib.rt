@@ -5,6 +5,9 @@
 mod calls;
 #[cfg(test)]
 mod choices;
+#[cfg(test)]
+mod defaults;
+mod level;
 mod line;
 mod message;
 #[cfg(test)]
@@ -18,6 +21,7 @@ mod parts;
 #[cfg(test)]
 mod strings;
 
+pub use level::{Level, LevelFormat, level_format};
 pub use line::{Drawing, Point, drawing_format, point_format, points_format};
 pub use message::{
     Message, Pair, Values, copy, copy_message, message_format, read_message, write_message,

@@ -1,0 +1,77 @@
+//! DEFAULT: octets worked by hand behind three ones.
+
+use super::calls::{found, written};
+use asn1_formats::{
+    And, BasicDefault, Boolean, CanonicalDefault, InDefault, InSequence, InThen, Refusal, Required,
+    Sequence, Size, SizeMisfit, WriteRefusal,
+};
+use std::test::Fail;
+
+/// SEQUENCE { level INTEGER (0..7) DEFAULT 5, flag BOOLEAN } in CANONICAL-PER.
+fn canonical() -> Sequence<And<CanonicalDefault<Size>, Required<Boolean>>> {
+    Sequence {
+        components: And {
+            first: CanonicalDefault {
+                part: Size::new(0, 7),
+                default: 5,
+            },
+            second: Required { part: Boolean {} },
+        },
+    }
+}
+
+/// The same in BASIC-PER.
+fn basic() -> Sequence<And<BasicDefault<Size>, Required<Boolean>>> {
+    Sequence {
+        components: And {
+            first: BasicDefault {
+                part: Size::new(0, 7),
+                default: 5,
+            },
+            second: Required { part: Boolean {} },
+        },
+    }
+}
+
+#[test]
+fn a_default_is_not_written(rt: HostRuntime) -> Result<(), Fail> {
+    // 111 | 0 | 1
+    let buffer = written(&canonical(), rt.alloc(), &(5, true))?;
+    assert_eq!(rt; buffer.len(), 5);
+    assert_eq!(rt; buffer.as_bytes(), [0xE8].as_slice());
+    let buffer = written(&basic(), rt.alloc(), &(5, true))?;
+    assert_eq!(rt; buffer.len(), 5);
+    assert_eq!(rt; buffer.as_bytes(), [0xE8].as_slice());
+    // 111 | 1 | 011 | 1
+    let buffer = written(&canonical(), rt.alloc(), &(3, true))?;
+    assert_eq!(rt; buffer.as_bytes(), [0xF7].as_slice());
+    assert_eq!(rt;
+        written(&canonical(), rt.alloc(), &(8, true)).err(),
+        Some(WriteRefusal::Wrong(InThen::First(SizeMisfit::AboveMost)))
+    );
+    Ok(())
+}
+
+#[test]
+fn a_default_that_is_written_is_read_by_basic_per_alone(rt: HostRuntime) -> Result<(), Fail> {
+    assert_eq!(rt;
+        found(&canonical(), rt.alloc(), &[0xE8], 3)?,
+        ((5, true), 3)
+    );
+    assert_eq!(rt;
+        found(&canonical(), rt.alloc(), &[0xF7], 3)?,
+        ((3, true), 0)
+    );
+    // 111 | 1 | 101 | 1
+    assert_eq!(rt;
+        found(&canonical(), rt.alloc(), &[0xFB], 3).err(),
+        Some(Refusal::Wrong(InSequence::Component(InThen::First(InDefault::Written))))
+    );
+    assert_eq!(rt; found(&basic(), rt.alloc(), &[0xFB], 3)?, ((5, true), 0));
+    assert_eq!(rt; found(&basic(), rt.alloc(), &[0xE8], 3)?, ((5, true), 3));
+    assert_eq!(rt;
+        found(&canonical(), rt.alloc(), &[0xE8], 8).err(),
+        Some(Refusal::Wrong(InSequence::Presence))
+    );
+    Ok(())
+}
