@@ -7,3 +7,4 @@ pub mod LengthLaws
 pub mod CompleteLaws
 pub mod OpenTypeLaws
 pub mod ExtensionLaws
+pub mod ExtendedLaws

@@ -2,11 +2,13 @@
 #![tactic(auto)]
 
 mod complete;
+mod extended;
 mod extensible_size;
 mod length;
 mod open_type;
 
 pub use complete::{Complete, InComplete};
+pub use extended::Extended;
 pub use extensible_size::{BeyondRootFault, ExtensibleSize, InExtensible};
 pub use length::{Length, LengthFault, LongLength};
 pub use open_type::{EndFault, InOpenType, OpenMisfit, OpenType};
