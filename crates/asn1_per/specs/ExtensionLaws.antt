@@ -36,7 +36,7 @@ module _ {X : Type 0} (P Q : X → List Bool → Type 0) where
   }
 
   -- behind a bit 0
-  root_at : (list rest front : List Bool) (x : X) → M x front → false ∷ list ≡ front ++ rest → Starts P list x rest
+  pub root_at : (list rest front : List Bool) (x : X) → M x front → false ∷ list ≡ front ++ rest → Starts P list x rest
   root_at list rest [] x p e = absurd p
   root_at list rest (false ∷ l) x p e =
       let f : false ∷ list ≡ false ∷ (l ++ rest) = e in
@@ -44,7 +44,7 @@ module _ {X : Type 0} (P Q : X → List Bool → Type 0) where
   root_at list rest (true ∷ l) x p e = let f : false ∷ list ≡ true ∷ (l ++ rest) = e in cc
 
   -- behind a bit 1
-  extension_at : (list rest front : List Bool) (x : X) → M x front → true ∷ list ≡ front ++ rest → Starts Q list x rest
+  pub extension_at : (list rest front : List Bool) (x : X) → M x front → true ∷ list ≡ front ++ rest → Starts Q list x rest
   extension_at list rest [] x p e = absurd p
   extension_at list rest (false ∷ l) x p e = let f : true ∷ list ≡ false ∷ (l ++ rest) = e in cc
   extension_at list rest (true ∷ l) x p e =

@@ -3,6 +3,8 @@ use Rattle.std.specs.Prelude.{◌≡◌, ℕ, ◌^◌, ◌≤◌, Bool, true, fa
 use Rattle.asn1_formats.specs.Spelling.{Starts, Fits}
 use Rattle.asn1_formats.specs.Numbers.{IsSize, IsSizeMisfit}
 use Rattle.asn1_formats.specs.declared.size.SizeMisfit.{SizeMisfit}
+use Rattle.asn1_formats.specs.declared.one_of.OneOf.{OneOf}
+use Rattle.asn1_formats.specs.declared.one_of.OneOf.TheVariants.{First, Other}
 use Rattle.asn1_per.specs.declared.extensible_size.InExtensible.{InExtensible}
 use Rattle.asn1_per.specs.declared.extensible_size.InExtensible.TheVariants.{Marker, Root, Extension}
 use Rattle.asn1_per.specs.declared.extensible_size.BeyondRootFault.{BeyondRootFault}
@@ -40,6 +42,23 @@ abbrev pub MarkedFault : {E F : Type 0} → (List Bool → E → Type 0) → (Li
 MarkedFault V W [] e = e ≡ Marker
 MarkedFault V W (false ∷ list) e = RootFault V list e
 MarkedFault V W (true ∷ list) e = BehindOneFault W list e
+
+-- a value of the root, in its form
+abbrev pub IsFirst : {X Y : Type 0} → (X → List Bool → Type 0) → OneOf X Y → List Bool → Type 0
+IsFirst P (First x) list = P x list
+IsFirst P (Other y) list = ⊥
+
+-- a value of the extension, in its form
+abbrev pub IsOther : {X Y : Type 0} → (Y → List Bool → Type 0) → OneOf X Y → List Bool → Type 0
+IsOther Q (First x) list = ⊥
+IsOther Q (Other y) list = Q y list
+
+-- what is wrong with the value
+abbrev pub EitherMisfit : {X Y E F : Type 0} → (X → E → Type 0) → (Y → F → Type 0) → OneOf X Y → OneOf E F → Type 0
+EitherMisfit V W (First x) (First e) = V x e
+EitherMisfit V W (First x) (Other e) = ⊥
+EitherMisfit V W (Other y) (First e) = ⊥
+EitherMisfit V W (Other y) (Other e) = W y e
 
 -- the size is none from least to most
 abbrev pub IsOutside : ℕ → ℕ → ℕ → Type 0

@@ -9,3 +9,4 @@ pub mod CompleteLaws
 pub mod OpenTypeLaws
 pub mod IntegerLaws
 pub mod ExtensionLaws
+pub mod ExtendedLaws

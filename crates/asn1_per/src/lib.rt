@@ -3,12 +3,14 @@
 
 mod complete;
 mod explain;
+mod extended;
 mod extensible_size;
 mod length;
 mod open_type;
 mod unconstrained_number;
 
 pub use complete::{Complete, InComplete};
+pub use extended::Extended;
 pub use extensible_size::{BeyondRootFault, ExtensibleSize, InExtensible};
 pub use length::{Length, LengthFault, LongLength};
 pub use open_type::{EndFault, InOpenType, OpenMisfit, OpenType};

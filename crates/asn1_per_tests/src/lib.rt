@@ -6,6 +6,8 @@ mod calls;
 #[cfg(test)]
 mod encodings;
 #[cfg(test)]
+mod extended;
+#[cfg(test)]
 mod extensible_sizes;
 #[cfg(test)]
 mod integers;
