@@ -2,8 +2,10 @@
 pub mod Lengths
 pub mod Encodings
 pub mod Integers
+pub mod Naturals
 -- Laws of these words, which the formats' laws are made of.
 pub mod LengthLaws
 pub mod CompleteLaws
 pub mod OpenTypeLaws
 pub mod IntegerLaws
+pub mod NaturalLaws

@@ -3,10 +3,12 @@
 
 mod complete;
 mod length;
+mod natural_number;
 mod open_type;
 mod unconstrained_number;
 
 pub use complete::{Complete, InComplete};
 pub use length::{Length, LengthFault, LongLength};
+pub use natural_number::{NaturalFault, NaturalNumber};
 pub use open_type::{EndFault, InOpenType, OpenMisfit, OpenType};
 pub use unconstrained_number::{UnconstrainedFault, UnconstrainedNumber};

@@ -9,3 +9,5 @@ mod encodings;
 mod integers;
 #[cfg(test)]
 mod lengths;
+#[cfg(test)]
+mod naturals;
