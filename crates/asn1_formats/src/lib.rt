@@ -61,6 +61,6 @@ pub use refusal::{Refusal, WriteRefusal};
 pub use required::Required;
 pub use sequence::{InSequence, Sequence};
 pub use sequence_of::{InSequenceOf, SequenceOf};
-pub use size::{Size, SizeFault, SizeMisfit};
+pub use size::{Size, SizeFault, SizeMisfit, width_to_hold};
 pub use then::{InThen, Then};
 pub use writing::write;

@@ -61,8 +61,8 @@ impl Size {
     }
 }
 
-/// The least number of bits that hold the number.
-pub(crate) fn width_to_hold(most: u64) -> usize
+/// The least number of bits that hold the number, none for 0.
+pub fn width_to_hold(most: u64) -> usize
     ensures narrow { result ≤ 64 }
     ensures holds { most < 2 ^ result }
     ensures width { result ≡ width_to most }

@@ -3,6 +3,7 @@ pub mod Lengths
 pub mod Encodings
 pub mod Integers
 pub mod Extensions
+pub mod Naturals
 -- Laws of these words, which the formats' laws are made of.
 pub mod LengthLaws
 pub mod CompleteLaws
@@ -10,3 +11,4 @@ pub mod OpenTypeLaws
 pub mod IntegerLaws
 pub mod ExtensionLaws
 pub mod ExtendedLaws
+pub mod NaturalLaws

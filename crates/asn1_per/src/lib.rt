@@ -6,6 +6,7 @@ mod explain;
 mod extended;
 mod extensible_size;
 mod length;
+mod natural_number;
 mod open_type;
 mod unconstrained_number;
 
@@ -13,5 +14,6 @@ pub use complete::{Complete, InComplete};
 pub use extended::Extended;
 pub use extensible_size::{BeyondRootFault, ExtensibleSize, InExtensible};
 pub use length::{Length, LengthFault, LongLength};
+pub use natural_number::{NaturalFault, NaturalNumber};
 pub use open_type::{EndFault, InOpenType, OpenMisfit, OpenType};
 pub use unconstrained_number::{UnconstrainedFault, UnconstrainedNumber};

@@ -13,3 +13,5 @@ mod extensible_sizes;
 mod integers;
 #[cfg(test)]
 mod lengths;
+#[cfg(test)]
+mod naturals;
