@@ -1,7 +1,9 @@
 //! What is wrong, in words.
 
 use crate::complete::InComplete;
+use crate::extensible_size::{BeyondRootFault, InExtensible};
 use crate::length::{LengthFault, LongLength};
+use crate::natural_number::NaturalFault;
 use crate::open_type::{EndFault, InOpenType, OpenMisfit};
 use crate::unconstrained_number::UnconstrainedFault;
 use asn1_formats::{Explain, write_part};
@@ -121,5 +123,57 @@ impl fmt::Display for UnconstrainedFault {
 impl Explain for UnconstrainedFault {
     fn is_reason(&self) -> bool {
         !matches!(self, UnconstrainedFault::Length(_))
+    }
+}
+
+impl fmt::Display for NaturalFault {
+    fn fmt<W: fmt::Write>(&self, f: &mut fmt::Formatter<W>) -> fmt::Result {
+        match self {
+            NaturalFault::Length(wrong) => write_part("number of octets", wrong, f),
+            NaturalFault::Long => write!(f, "more than eight octets"),
+            NaturalFault::Short { missing } => write!(f, "{missing} bits are missing"),
+            NaturalFault::NotShortest => write!(f, "not the shortest octets"),
+        }
+    }
+}
+
+impl Explain for NaturalFault {
+    fn is_reason(&self) -> bool {
+        !matches!(self, NaturalFault::Length(_))
+    }
+}
+
+impl fmt::Display for BeyondRootFault {
+    fn fmt<W: fmt::Write>(&self, f: &mut fmt::Formatter<W>) -> fmt::Result {
+        match self {
+            BeyondRootFault::Length(wrong) => write!(f, "{wrong}"),
+            BeyondRootFault::InRoot { size } => write!(f, "size {size} is of the root"),
+        }
+    }
+}
+
+impl Explain for BeyondRootFault {
+    fn is_reason(&self) -> bool {
+        true
+    }
+}
+
+impl<E: fmt::Display, F: fmt::Display> fmt::Display for InExtensible<E, F> {
+    fn fmt<W: fmt::Write>(&self, f: &mut fmt::Formatter<W>) -> fmt::Result {
+        match self {
+            InExtensible::Marker => write!(f, "the marker's bit is missing"),
+            InExtensible::Root(wrong) => write!(f, "{wrong}"),
+            InExtensible::Extension(wrong) => write!(f, "{wrong}"),
+        }
+    }
+}
+
+impl<E: Explain, F: Explain> Explain for InExtensible<E, F> {
+    fn is_reason(&self) -> bool {
+        match self {
+            InExtensible::Marker => true,
+            InExtensible::Root(wrong) => wrong.is_reason(),
+            InExtensible::Extension(wrong) => wrong.is_reason(),
+        }
     }
 }
