@@ -11,7 +11,6 @@ use crate::sequence::InSequence;
 use crate::sequence_of::InSequenceOf;
 use crate::size::{SizeFault, SizeMisfit};
 use crate::then::InThen;
-use std::convert::Infallible;
 use std::fmt;
 
 /// What is wrong, in words: the names of parts from the outside in, joined by commas, and the reason behind a colon, as
@@ -71,12 +70,6 @@ impl Explain for CharacterFault {
 }
 
 impl Explain for NotInAlphabet {
-    fn is_reason(&self) -> bool {
-        true
-    }
-}
-
-impl Explain for Infallible {
     fn is_reason(&self) -> bool {
         true
     }
