@@ -1,22 +1,72 @@
--- The steps of a loop that compares two lists of bits.
-use Rattle.std.proofs.Common.{◌≡◌, ℕ, ◌+◌, ◌<◌, min, Bool, true, false, not, List, [], ◌∷◌, ◌++◌, length, get_or, take, drop, refl, sym, ap, ◌∙◌, arith, Ordering}
-use Rattle.std.specs.Bool.{beq}
+-- Lists of bits are ordered as the numbers of their words, and then by their lengths.
+use Rattle.std.proofs.Common.{◌≡◌, ◌≢◌, ℕ, ◌+◌, ◌*◌, ◌^◌, ◌<◌, ◌≤◌, min, Bool, true, false, List, [], ◌∷◌, ◌++◌, length, take, drop, refl, sym, ap, ◌∙◌, arith, Ordering}
 use Rattle.std.specs.declared.cmp.Ordering.TheVariants.{Less, Equal, Greater}
 use Rattle.std.specs.Prelude.{◌==◌}
-use Rattle.std.specs.Ordering.{bool_cmp, nat_cmp, ordering_then, ordering_index, is_eq}
+use Rattle.std.specs.Ordering.{MatchOrdering, bool_cmp, nat_cmp, ordering_then, ordering_index, is_eq}
+use Rattle.std.specs.Cmp.{nat_cmp_is, ranks}
 use Rattle.std.specs.Cmp.Lexicographic.{slice_cmp}
-use Rattle.std.proofs.lemmas.List.{drop_more, length-drop, take-append-drop}
+use Rattle.std.proofs.lemmas.List.{length-drop, length-take-le, take-append-drop}
 use Rattle.std.proofs.lemmas.Bool.{le-ltb, lt-ltb, eq-eqb, ne_eqb}
+use Rattle.asn1_bits.specs.Bits.{number}
+use Rattle.asn1_bits.specs.NumberLaws.{number-cons, number-lt}
 
--- what the parts from i on answer
-abbrev pub Rest : List Bool → List Bool → ℕ → Type 0
-Rest xs ys i = slice_cmp bool_cmp (drop i xs) (drop i ys) ≡ slice_cmp bool_cmp xs ys
+-- two numbers are ordered as others are
+ordered : (o : Ordering) (m n p q : ℕ) → (m < n → p < q) → (m ≡ n → p ≡ q) → (n < m → q < p)
+    → MatchOrdering o (m < n) (m ≡ n) (n < m) → MatchOrdering o (p < q) (p ≡ q) (q < p)
+ordered Less m n p q f g h t = f t
+ordered Equal m n p q f g h t = g t
+ordered Greater m n p q f g h t = h t
 
--- lists from a place on are ordered by their bits there, and then by what follows
-pub heads : (xs ys : List Bool) (i : ℕ) → i < length xs → i < length ys
-    → slice_cmp bool_cmp (drop i xs) (drop i ys) ≡ ordering_then (bool_cmp (get_or xs i false) (get_or ys i false))
-    (slice_cmp bool_cmp (drop (i + 1) xs) (drop (i + 1) ys))
-heads xs ys i h k = rw (drop_more xs i false h, drop_more ys i false k) refl
+-- the first of two lists of one length is below, equal or above as its number is
+ranks_of : (us vs : List Bool) → length us ≡ length vs
+    → MatchOrdering (slice_cmp bool_cmp us vs) (number us < number vs) (number us ≡ number vs) (number vs < number us)
+ranks_of [] [] h = refl
+ranks_of [] (v ∷ vs) h = absurd (omega arith)
+ranks_of (u ∷ us) [] h = absurd (omega arith)
+ranks_of (true ∷ us) (true ∷ vs) h =
+    let n : length us ≡ length vs = omega arith in
+    let a : number (true ∷ us) ≡ 1 * 2 ^ length vs + number us = rw (number-cons true us, n) refl in
+    let b : number (true ∷ vs) ≡ 1 * 2 ^ length vs + number vs = number-cons true vs in
+    ordered (slice_cmp bool_cmp us vs) (number us) (number vs) (number (true ∷ us)) (number (true ∷ vs))
+    (λ t. omega (arith, t, a, b)) (λ t. omega (arith, t, a, b)) (λ t. omega (arith, t, a, b)) (ranks_of us vs n)
+ranks_of (false ∷ us) (false ∷ vs) h =
+    let n : length us ≡ length vs = omega arith in
+    let a : number (false ∷ us) ≡ 0 * 2 ^ length vs + number us = rw (number-cons false us, n) refl in
+    let b : number (false ∷ vs) ≡ 0 * 2 ^ length vs + number vs = number-cons false vs in
+    ordered (slice_cmp bool_cmp us vs) (number us) (number vs) (number (false ∷ us)) (number (false ∷ vs))
+    (λ t. omega (arith, t, a, b)) (λ t. omega (arith, t, a, b)) (λ t. omega (arith, t, a, b)) (ranks_of us vs n)
+ranks_of (false ∷ us) (true ∷ vs) h =
+    let n : length us ≡ length vs = omega arith in
+    let a : number (false ∷ us) ≡ 0 * 2 ^ length vs + number us = rw (number-cons false us, n) refl in
+    let b : number (true ∷ vs) ≡ 1 * 2 ^ length vs + number vs = number-cons true vs in
+    let c : number us < 2 ^ length vs = rw (sym n) (number-lt us) in
+    omega (arith, a, b, c)
+ranks_of (true ∷ us) (false ∷ vs) h =
+    let n : length us ≡ length vs = omega arith in
+    let a : number (true ∷ us) ≡ 1 * 2 ^ length vs + number us = rw (number-cons true us, n) refl in
+    let b : number (false ∷ vs) ≡ 0 * 2 ^ length vs + number vs = number-cons false vs in
+    let c : number vs < 2 ^ length vs = number-lt vs in
+    omega (arith, a, b, c)
+
+-- lists of one length are ordered as their numbers
+pub by-number : (us vs : List Bool) → length us ≡ length vs → slice_cmp bool_cmp us vs ≡ nat_cmp (number us) (number vs)
+by-number us vs h = nat_cmp_is (number us) (number vs) (slice_cmp bool_cmp us vs) (ranks_of us vs h)
+
+-- the first of two orders decides, unless it is equality
+pub then-again : (o p q : Ordering) → ordering_then (ordering_then o p) q ≡ ordering_then o (ordering_then p q)
+then-again Less p q = refl
+then-again Equal p q = refl
+then-again Greater p q = refl
+
+-- fronts of one length decide first
+pub by-fronts : (us vs xs ys : List Bool) → length us ≡ length vs
+    → slice_cmp bool_cmp (us ++ xs) (vs ++ ys) ≡ ordering_then (slice_cmp bool_cmp us vs) (slice_cmp bool_cmp xs ys)
+by-fronts [] [] xs ys h = refl
+by-fronts [] (v ∷ vs) xs ys h = absurd (omega arith)
+by-fronts (u ∷ us) [] xs ys h = absurd (omega arith)
+by-fronts (u ∷ us) (v ∷ vs) xs ys h =
+    ap (λ (o : Ordering). ordering_then (bool_cmp u v) o) (by-fronts us vs xs ys (omega arith))
+    ∙ sym (then-again (bool_cmp u v) (slice_cmp bool_cmp us vs) (slice_cmp bool_cmp xs ys))
 
 same_bit : (b : Bool) (o : Ordering) → ordering_then (bool_cmp b b) o ≡ o
 same_bit true o = refl
@@ -26,33 +76,44 @@ same_front : (zs us vs : List Bool) → slice_cmp bool_cmp (zs ++ us) (zs ++ vs)
 same_front [] us vs = refl
 same_front (z ∷ zs) us vs = same_bit z (slice_cmp bool_cmp (zs ++ us) (zs ++ vs)) ∙ same_front zs us vs
 
--- behind fronts that are the same
-pub rest-from : (xs ys : List Bool) (n : ℕ) → take n xs ≡ take n ys → Rest xs ys n
-rest-from xs ys n e =
+-- what stands behind fronts that are the same decides
+behind : (xs ys : List Bool) (n : ℕ) → take n xs ≡ take n ys
+    → slice_cmp bool_cmp (drop n xs) (drop n ys) ≡ slice_cmp bool_cmp xs ys
+behind xs ys n e =
     sym (ap (λ (l : List Bool). slice_cmp bool_cmp l ys) (sym (take-append-drop n xs))
     ∙ ap (λ (l : List Bool). slice_cmp bool_cmp (take n xs ++ drop n xs) l) (sym (take-append-drop n ys))
     ∙ ap (λ (l : List Bool). slice_cmp bool_cmp (take n xs ++ drop n xs) (l ++ drop n ys)) (sym e)
     ∙ same_front (take n xs) (drop n xs) (drop n ys))
 
--- where the bits at a place are equal, the order is that of the rest
-pub rest-more : (xs ys : List Bool) (i : ℕ) → i < length xs → i < length ys → get_or xs i false ≡ get_or ys i false
-    → Rest xs ys i → Rest xs ys (i + 1)
-rest-more xs ys i h k e r =
-    sym (heads xs ys i h k
-    ∙ ap (λ (b : Bool). ordering_then (bool_cmp (get_or xs i false) b)
-    (slice_cmp bool_cmp (drop (i + 1) xs) (drop (i + 1) ys))) (sym e)
-    ∙ same_bit (get_or xs i false) (slice_cmp bool_cmp (drop (i + 1) xs) (drop (i + 1) ys)))
-    ∙ r
+-- so do the first n bits of two lists
+pub by-first : (xs ys : List Bool) (n : ℕ) → n ≤ length xs → n ≤ length ys
+    → slice_cmp bool_cmp xs ys ≡ ordering_then (nat_cmp (number (take n xs)) (number (take n ys)))
+    (slice_cmp bool_cmp (drop n xs) (drop n ys))
+by-first xs ys n h k =
+    let a : length (take n xs) ≡ n = length-take-le n xs h in
+    let b : length (take n ys) ≡ n = length-take-le n ys k in
+    ap (λ (l : List Bool). slice_cmp bool_cmp l ys) (sym (take-append-drop n xs))
+    ∙ ap (λ (l : List Bool). slice_cmp bool_cmp (take n xs ++ drop n xs) l) (sym (take-append-drop n ys))
+    ∙ by-fronts (take n xs) (take n ys) (drop n xs) (drop n ys) (a ∙ sym b)
+    ∙ ap (λ (o : Ordering). ordering_then o (slice_cmp bool_cmp (drop n xs) (drop n ys)))
+    (by-number (take n xs) (take n ys) (a ∙ sym b))
 
--- where the first has a zero and the second a one, it is less
-pub rest-less : (xs ys : List Bool) (i : ℕ) → i < length xs → i < length ys → get_or xs i false ≡ false
-    → get_or ys i false ≡ true → Rest xs ys i → Less ≡ slice_cmp bool_cmp xs ys
-rest-less xs ys i h k a b r = sym (heads xs ys i h k ∙ rw (a, b) refl) ∙ r
+-- two numbers that differ decide
+decides : (m n : ℕ) (o p : Ordering) → m ≢ n → MatchOrdering o (m < n) (m ≡ n) (n < m) → ordering_then o p ≡ o
+decides m n Less p h t = refl
+decides m n Equal p h t = absurd (h t)
+decides m n Greater p h t = refl
 
--- where the first has a one and the second a zero, it is greater
-pub rest-greater : (xs ys : List Bool) (i : ℕ) → i < length xs → i < length ys → get_or xs i false ≡ true
-    → get_or ys i false ≡ false → Rest xs ys i → Greater ≡ slice_cmp bool_cmp xs ys
-rest-greater xs ys i h k a b r = sym (heads xs ys i h k ∙ rw (a, b) refl) ∙ r
+-- words that differ behind fronts that are the same decide the order of the lists
+pub differ : (xs ys : List Bool) (i n a b : ℕ) → take i xs ≡ take i ys → n ≤ length (drop i xs) → n ≤ length (drop i ys)
+    → a ≡ number (take n (drop i xs)) → b ≡ number (take n (drop i ys)) → a ≢ b → nat_cmp a b ≡ slice_cmp bool_cmp xs ys
+differ xs ys i n a b e h k f g d =
+    sym (decides a b (nat_cmp a b) (slice_cmp bool_cmp (drop n (drop i xs)) (drop n (drop i ys))) d (ranks a b))
+    ∙ ap (λ (m : ℕ). ordering_then (nat_cmp m b) (slice_cmp bool_cmp (drop n (drop i xs)) (drop n (drop i ys)))) f
+    ∙ ap (λ (m : ℕ). ordering_then (nat_cmp (number (take n (drop i xs))) m)
+    (slice_cmp bool_cmp (drop n (drop i xs)) (drop n (drop i ys)))) g
+    ∙ sym (by-first (drop i xs) (drop i ys) n h k)
+    ∙ behind xs ys i e
 
 ended : (us vs : List Bool) (m n i : ℕ) → min (length us) (length vs) ≡ 0 → m ≡ i + length us → n ≡ i + length vs
     → nat_cmp m n ≡ slice_cmp bool_cmp us vs
@@ -61,28 +122,25 @@ ended [] (v ∷ vs) m n i h p q = rw (lt-ltb m n (omega arith)) refl
 ended (u ∷ us) [] m n i h p q = rw (le-ltb m n (omega arith), ne_eqb m n (λ e. omega arith)) refl
 ended (u ∷ us) (v ∷ vs) m n i h p q = absurd (omega arith)
 
--- where one list ends, the shorter is less
-pub rest-end : (xs ys : List Bool) (i : ℕ) → i ≡ min (length xs) (length ys) → Rest xs ys i
-    → nat_cmp (length xs) (length ys) ≡ slice_cmp bool_cmp xs ys
-rest-end xs ys i e r =
-    ended (drop i xs) (drop i ys) (length xs) (length ys) i (omega (arith, length-drop i xs, length-drop i ys))
-    (omega (arith, length-drop i xs)) (omega (arith, length-drop i ys)) ∙ r
+-- the last bits that both have decide, and then the lengths
+pub last-bits : (xs ys : List Bool) (i n a b : ℕ) → take i xs ≡ take i ys → i + n ≡ min (length xs) (length ys)
+    → a ≡ number (take n (drop i xs)) → b ≡ number (take n (drop i ys))
+    → ordering_then (nat_cmp a b) (nat_cmp (length xs) (length ys)) ≡ slice_cmp bool_cmp xs ys
+last-bits xs ys i n a b e m f g =
+    let us = drop n (drop i xs) in
+    let vs = drop n (drop i ys) in
+    let h : n ≤ length (drop i xs) = omega (arith, m, length-drop i xs) in
+    let k : n ≤ length (drop i ys) = omega (arith, m, length-drop i ys) in
+    let p : length xs ≡ i + n + length us = omega (arith, m, length-drop i xs, length-drop n (drop i xs)) in
+    let q : length ys ≡ i + n + length vs = omega (arith, m, length-drop i ys, length-drop n (drop i ys)) in
+    ap (λ (o : Ordering). ordering_then (nat_cmp a b) o)
+    (ended us vs (length xs) (length ys) (i + n) (omega (arith, m, p, q)) p q)
+    ∙ ap (λ (l : ℕ). ordering_then (nat_cmp l b) (slice_cmp bool_cmp us vs)) f
+    ∙ ap (λ (l : ℕ). ordering_then (nat_cmp (number (take n (drop i xs))) l) (slice_cmp bool_cmp us vs)) g
+    ∙ sym (by-first (drop i xs) (drop i ys) n h k)
+    ∙ behind xs ys i e
 
--- a comparison of two bits that says that they are the same, or not
-pub same_from_test : (a b : Bool) → not (beq a b) ≡ false → a ≡ b
-same_from_test true true e = refl
-same_from_test true false e = cc
-same_from_test false true e = cc
-same_from_test false false e = refl
-
--- a bit that is not equal to another is its opposite
-pub other_from_test : (a b : Bool) → not (beq a b) ≡ true → b ≡ not a
-other_from_test true true e = cc
-other_from_test true false e = refl
-other_from_test false true e = refl
-other_from_test false false e = cc
-
--- an order counted as 1 is equality
+-- a comparison that is counted as 1 is equality
 pub equal_index : (o : Ordering) → (ordering_index o == 1) ≡ is_eq o
 equal_index Less = refl
 equal_index Equal = refl

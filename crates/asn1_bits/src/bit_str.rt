@@ -207,21 +207,6 @@ impl<'a> BitStr<'a> {
         whole_word(self.storage, self.octet + at / 8 + low / 8, low % 8)
     }
 
-    /// How many words of 64 bits the two begin with that are the same.
-    fn same_words(&self, other: &Self) -> usize
-        ensures len { 64 * result ≤ (view_of self.now).len }
-        ensures other_len { 64 * result ≤ (view_of other.now).len }
-        ensures same { take (64 * result) (bits_of self.now) ≡ take (64 * result) (bits_of other.now) }
-    {
-        let words = self.len.min(other.len) / 64;
-        for k in 0..words {
-            if self.word_of_64(64 * k) != other.word_of_64(64 * k) {
-                return k;
-            }
-        }
-        words
-    }
-
     /// ORs `count` words of 64 bits, taken from bit `at` on, into `dst` from octet `first` on. Ticks once for each
     /// word.
     pub(crate) fn or_words(
@@ -340,18 +325,17 @@ impl Ord for BitStr<'_> {
     ghost matches_eq = { ties_by bits_of };
 
     fn cmp(&self, other: &Self) -> Ordering {
-        let both = self.len.min(other.len);
-        for i in 64 * self.same_words(other)..both {
-            let bit = self.get(i);
-            if bit != other.get(i) {
-                return if bit {
-                    Ordering::Greater
-                } else {
-                    Ordering::Less
-                };
+        let words = self.len.min(other.len) / 64;
+        for k in 0..words {
+            let (one, two) = (self.word_of_64(64 * k), other.word_of_64(64 * k));
+            if one != two {
+                return one.cmp(&two);
             }
         }
-        self.len.cmp(&other.len)
+        let width = self.len.min(other.len) % 64;
+        let one = self.slice(64 * words, width).first_u128(width);
+        let two = other.slice(64 * words, width).first_u128(width);
+        one.cmp(&two).then(self.len.cmp(&other.len))
     }
 }
 

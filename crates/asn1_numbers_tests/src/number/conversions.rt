@@ -73,32 +73,28 @@ fn a_number_past_i128_is_given_out_by_a_wider_type_alone(rt: HostRuntime) -> Res
     Ok(())
 }
 
+/// Whether the type holds the number, as this value.
+fn is_given_back<T: TryFrom<Integer> + PartialEq + Drop>(number: Integer, value: T) -> bool
+where
+    T::Error: Drop,
+{
+    as_type::<T>(number) == Some(value)
+}
+
 #[test]
 fn each_native_type_is_kept_and_given_back(rt: HostRuntime) {
-    assert_eq!(rt; as_type::<u8>(Integer::from(u8::MAX)), Some(255));
-    assert_eq!(rt; as_type::<i8>(Integer::from(i8::MIN)), Some(-128));
-    assert_eq!(rt; as_type::<u16>(Integer::from(u16::MAX)), Some(65535));
-    assert_eq!(rt; as_type::<i16>(Integer::from(i16::MIN)), Some(-32768));
-    assert_eq!(rt; as_type::<u32>(Integer::from(u32::MAX)), Some(4294967295));
-    assert_eq!(rt; as_type::<i32>(Integer::from(i32::MIN)), Some(-2147483648));
-    assert_eq!(rt;
-        as_type::<u64>(Integer::from(u64::MAX)),
-        Some(18446744073709551615)
-    );
-    assert_eq!(rt;
-        as_type::<i64>(Integer::from(i64::MIN)),
-        Some(-9223372036854775808)
-    );
-    assert_eq!(rt;
-        as_type::<usize>(Integer::from(usize::MAX)),
-        Some(18446744073709551615)
-    );
-    assert_eq!(rt;
-        as_type::<isize>(Integer::from(isize::MIN)),
-        Some(-9223372036854775808)
-    );
-    assert_eq!(rt; as_type::<i128>(Integer::from(i128::MIN)), Some(i128::MIN));
-    assert_eq!(rt; as_type::<u128>(Integer::from(7u8)), Some(7));
+    assert!(rt; is_given_back::<u8>(Integer::from(u8::MAX), 255));
+    assert!(rt; is_given_back::<i8>(Integer::from(i8::MIN), -128));
+    assert!(rt; is_given_back::<u16>(Integer::from(u16::MAX), 65535));
+    assert!(rt; is_given_back::<i16>(Integer::from(i16::MIN), -32768));
+    assert!(rt; is_given_back::<u32>(Integer::from(u32::MAX), 4294967295));
+    assert!(rt; is_given_back::<i32>(Integer::from(i32::MIN), -2147483648));
+    assert!(rt; is_given_back::<u64>(Integer::from(u64::MAX), 18446744073709551615));
+    assert!(rt; is_given_back::<i64>(Integer::from(i64::MIN), -9223372036854775808));
+    assert!(rt; is_given_back::<usize>(Integer::from(usize::MAX), 18446744073709551615));
+    assert!(rt; is_given_back::<isize>(Integer::from(isize::MIN), -9223372036854775808));
+    assert!(rt; is_given_back::<i128>(Integer::from(i128::MIN), i128::MIN));
+    assert!(rt; is_given_back::<u128>(Integer::from(7u8), 7));
     assert_eq!(rt; Integer::default(), Integer::zero());
 }
 

@@ -1,4 +1,4 @@
-use Rattle.std.proofs.Common.{◌≡◌, [], sym, ap, ◌∙◌, arith}
+use Rattle.std.proofs.Common.{◌≡◌, sym, ap, ◌∙◌, arith}
 use Rattle.asn1_bits.specs.Bits.{bits, digits, ored}
 use Rattle.asn1_bits.proofs.OredLemmas.{ored-none}
 use Rattle.asn1_bits.proofs.PutLemmas.{digits-lowest}

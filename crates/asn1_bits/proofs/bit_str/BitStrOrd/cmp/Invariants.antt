@@ -1,7 +1,7 @@
+use Rattle.std.proofs.Common.{◌≡◌, ◌*◌, take}
 use Rattle.asn1_bits.specs.BitStr.{bits_of}
-use Rattle.asn1_bits.proofs.OrderLemmas.{Rest}
 use Rattle.asn1_bits.proofs.bit_str.BitStrOrd.cmp.Given as goal
 
--- what is left is ordered as the whole
-abbrev pub invariant-loop-i : goal.invariant-loop-i
-invariant-loop-i l = Rest (bits_of l.self) (bits_of l.other) l.i
+-- the words before are the same
+abbrev pub invariant-loop-k : goal.invariant-loop-k
+invariant-loop-k l = take (64 * l.k) (bits_of l.self) ≡ take (64 * l.k) (bits_of l.other)

@@ -1,4 +1,4 @@
-use Rattle.std.proofs.Common.{◌≡◌, ◌+◌, ◌-◌, ◌*◌, ◌/◌, ◌%◌, ◌^◌, refl, arith}
+use Rattle.std.proofs.Common.{refl, arith}
 use Rattle.asn1_bits.proofs.OverwriteLemmas.{word-replaced}
 use Rattle.asn1_bits.proofs.target.stores.replaced.Goals as goal
 

@@ -1,7 +1,7 @@
 use Rattle.std.proofs.Common.{Bool, List, take, drop, ap, ◌∙◌, arith}
 use Rattle.std.proofs.lemmas.List.{take-take}
 use Rattle.asn1_bits.specs.BitReader.{bits_left}
-use Rattle.asn1_strings_tests.proofs.bits.callers.reads_two.Goals as goal
+use Rattle.asn1_bits_tests.proofs.callers.reads_two.Goals as goal
 
 pub returns-clause-first : goal.returns-clause-first
 returns-clause-first c =
