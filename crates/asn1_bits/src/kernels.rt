@@ -63,9 +63,29 @@ fn or_view(dst: &mut Target<'_>, position: usize, src: BitStr<'_>, turns: &mut T
     }
 }
 
-/// The path of `or_view` for more than a word. Not inlined, so that callers inline only the path for short views.
+/// The path of `or_view` for more than a word. Not inlined, so that callers inline only the path for short views. The
+/// work is done on a target of its own, whose place stays in registers.
 #[inline(never)]
 fn or_long(dst: &mut Target<'_>, position: usize, src: BitStr<'_>, turns: &mut Turns)
+    requires long { 64 < (view_of src).len }
+    requires room { position + (view_of src).len ≤ 8 * length dst.old.octets.now }
+    requires fits { position + (view_of src).len < 2 ^ 64 }
+    ensures bits { bits dst.new.octets.now
+        ≡ ored (bits dst.old.octets.now) position (bits_of src.entry) }
+    ensures same_reference { dst.new.octets.ghost_name ≡ dst.old.octets.ghost_name }
+    ensures length { length dst.new.octets.now ≡ length dst.old.octets.now }
+    ensures each_turn_places { turns.new.count + dst.old.placed.count
+        ≡ turns.old.count + dst.new.placed.count }
+    ensures turns { turns.new.count ≡ turns.old.count + div_ceil (view_of src.entry).len 64 }
+{
+    let mut own = dst.take();
+    or_each_word(&mut own, position, src, turns);
+    *dst = own;
+}
+
+/// The work of `or_long`: whole words of 64 bits, and then the bits that are left.
+#[inline(always)]
+fn or_each_word(dst: &mut Target<'_>, position: usize, src: BitStr<'_>, turns: &mut Turns)
     requires long { 64 < (view_of src).len }
     requires room { position + (view_of src).len ≤ 8 * length dst.old.octets.now }
     requires fits { position + (view_of src).len < 2 ^ 64 }
@@ -157,9 +177,29 @@ fn put_view(dst: &mut Target<'_>, position: usize, src: BitStr<'_>, turns: &mut 
 }
 
 /// Copies octets over the zeros from octet `first` on, and ticks once for each eight of them and once for the rest. Not
-/// inlined, so that callers inline only the path for short views.
+/// inlined, so that callers inline only the path for short views. The work is done on a target of its own, whose place
+/// stays in registers.
 #[inline(never)]
 fn copy_octets(dst: &mut Target<'_>, first: usize, src: &[u8], turns: &mut Turns)
+    requires room { first + length src.now ≤ length dst.old.octets.now }
+    requires fits { 8 * (first + length src.now) < 2 ^ 64 }
+    requires zeros { IsZeroFrom (8 * first) (bits dst.old.octets.now) }
+    ensures bits { bits dst.new.octets.now
+        ≡ ored (bits dst.old.octets.now) (8 * first) (bits src.now) }
+    ensures same_reference { dst.new.octets.ghost_name ≡ dst.old.octets.ghost_name }
+    ensures length { length dst.new.octets.now ≡ length dst.old.octets.now }
+    ensures each_turn_places { turns.new.count + dst.old.placed.count
+        ≡ turns.old.count + dst.new.placed.count }
+    ensures turns { turns.new.count ≡ turns.old.count + div_ceil (8 * length src.now) 64 }
+{
+    let mut own = dst.take();
+    copy_each_word(&mut own, first, src, turns);
+    *dst = own;
+}
+
+/// The work of `copy_octets`: eight octets at a time, and then the rest.
+#[inline(always)]
+fn copy_each_word(dst: &mut Target<'_>, first: usize, src: &[u8], turns: &mut Turns)
     requires room { first + length src.now ≤ length dst.old.octets.now }
     requires fits { 8 * (first + length src.now) < 2 ^ 64 }
     requires zeros { IsZeroFrom (8 * first) (bits dst.old.octets.now) }

@@ -42,6 +42,17 @@ impl<'a> Target<'a> {
         }
     }
 
+    /// Takes the octets and their count out, and leaves none behind. A loop over a target of its own keeps the place of
+    /// the octets in registers; through a reference it is loaded for each word, since a store might have changed it.
+    #[inline(always)]
+    pub(crate) fn take(&mut self) -> Target<'a>
+        ensures octets { result.octets.now ≡ self.old.octets.now }
+        ensures same_reference { result.octets.ghost_name ≡ self.old.octets.ghost_name }
+        ensures placed { result.placed.count ≡ self.old.placed.count }
+    {
+        std::mem::replace(self, Target::new(&mut []))
+    }
+
     /// ORs the lowest `width` digits of the word in from bit `position` on: one turn.
     #[inline(always)]
     pub(crate) fn or_word(&mut self, position: usize, word: u64, width: usize, turns: &mut Turns)

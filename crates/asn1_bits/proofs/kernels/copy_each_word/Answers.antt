@@ -6,7 +6,7 @@ use Rattle.asn1_bits.specs.DigitLaws.{length-bits, bits-drop}
 use Rattle.asn1_bits.proofs.OredLemmas.{ored-none}
 use Rattle.asn1_bits.proofs.PutLemmas.{put-left}
 use Rattle.asn1_bits.proofs.RunLemmas.{more-placed, eight-copied}
-use Rattle.asn1_bits.proofs.kernels.copy_octets.Goals as goal
+use Rattle.asn1_bits.proofs.kernels.copy_each_word.Goals as goal
 
 pub loop-k-init : goal.loop-k-init
 loop-k-init c =

@@ -4,7 +4,7 @@ use Rattle.asn1_bits.specs.Bits.{bits, ored}
 use Rattle.asn1_bits.specs.BitStr.{bits_of}
 use Rattle.asn1_bits.specs.DigitLaws.{length-bits}
 use Rattle.asn1_bits.proofs.RunLemmas.{more-placed}
-use Rattle.asn1_bits.proofs.kernels.or_long.Goals as goal
+use Rattle.asn1_bits.proofs.kernels.or_each_word.Goals as goal
 
 pub returns-then-tail-gt0-clause-bits : goal.returns-then-tail-gt0-clause-bits
 returns-then-tail-gt0-clause-bits c =

@@ -1,6 +1,6 @@
 use Rattle.std.proofs.Common.{◌≡◌, ◌+◌, ◌*◌, take, length}
 use Rattle.asn1_bits.specs.Bits.{bits, ored, IsZeroFrom}
-use Rattle.asn1_bits.proofs.kernels.copy_octets.Given as goal
+use Rattle.asn1_bits.proofs.kernels.copy_each_word.Given as goal
 
 abbrev pub invariant-loop-k : goal.invariant-loop-k
 invariant-loop-k l = record {
