@@ -201,6 +201,17 @@ pub trait StaticPermittedAlphabet: Sized + Drop {
                 width,
             });
         }
+        // Where the compiler knows the width, it knows each shift within a word.
+        let own = Self::CHARACTER_SET_WIDTH;
+        if width == own {
+            return string_of_numbers::<Self>(
+                alloc,
+                BitPieces {
+                    bits: input,
+                    width: own,
+                },
+            );
+        }
         string_of_numbers::<Self>(alloc, BitPieces { bits: input, width })
     }
 

@@ -19,6 +19,41 @@ fn contents_of(alloc: Global, arcs: &[u32]) -> Result<Option<Vec<u8>>, Fail> {
     Ok(Some(all))
 }
 
+/// How many octets the contents of the arcs have, by the count and by the iterator's hint.
+fn counts_of(arcs: &[u32]) -> Option<(u128, usize, Option<usize>)> {
+    let oid = Oid::new(arcs)?;
+    let count = oid.contents_len()?;
+    let (least, most) = oid.contents()?.size_hint();
+    Some((count, least, most))
+}
+
+/// Whether the octets are read as the contents of these arcs.
+fn are_read_as(alloc: Global, octets: &[u8], arcs: &[u32]) -> Result<bool, ContentsError> {
+    check_contents(&octets)?;
+    Ok(ObjectIdentifier::from_contents(alloc, &octets)?.eq_arcs(arcs))
+}
+
+/// Whether the octets are written for these arcs, and read as them.
+fn are_contents_of(alloc: Global, octets: &[u8], arcs: &[u32]) -> Result<bool, Fail> {
+    let Some(written) = contents_of(alloc, arcs)? else {
+        return Ok(false);
+    };
+    Ok(written.as_slice() == octets && are_read_as(alloc, octets, arcs)?)
+}
+
+/// Why the octets are no contents, as both calls that look say.
+fn refusals(alloc: Global, octets: &[u8]) -> (Option<ContentsError>, Option<ContentsError>) {
+    let read = ObjectIdentifier::from_contents(alloc, &octets);
+    (check_contents(&octets).err(), read.err())
+}
+
+/// Appends the contents of the arcs to the octets.
+fn append_contents(octets: &mut Vec<u8>, arcs: &[u32]) -> Result<(), Fail> {
+    let oid = Oid::new(arcs).ok_or("valid")?;
+    oid.contents().ok_or("two arcs")?.append_to(octets)?;
+    Ok(())
+}
+
 #[test]
 fn contents_are_written_and_read(rt: HostRuntime) -> Result<(), Fail> {
     let rows: [(&[u32], &[u8]); 9] = [
@@ -33,15 +68,9 @@ fn contents_are_written_and_read(rt: HostRuntime) -> Result<(), Fail> {
         (&[2, 0, 4294967295], &[0x50, 0x8F, 0xFF, 0xFF, 0xFF, 0x7F]),
     ];
     for (arcs, octets) in rows {
-        let written = contents_of(rt.alloc(), arcs)?.ok_or("two arcs")?;
-        assert_eq!(rt; written.as_slice(), octets, "{arcs:?}");
-        let oid = Oid::new(arcs).ok_or("valid")?;
-        assert_eq!(rt; oid.contents_len(), Some(octets.len() as u128));
-        let hint = oid.contents().ok_or("two arcs")?.size_hint();
-        assert_eq!(rt; hint, (octets.len(), Some(octets.len())));
-        assert_eq!(rt; check_contents(&octets), Ok(()));
-        let read = ObjectIdentifier::from_contents(rt.alloc(), &octets)?;
-        assert!(rt; read.eq_arcs(arcs), "{octets:?}");
+        assert!(rt; are_contents_of(rt.alloc(), octets, arcs)?, "{arcs:?}");
+        let count = octets.len();
+        assert_eq!(rt; counts_of(arcs), Some((count as u128, count, Some(count))));
     }
     for arcs in [[0], [1], [2]] {
         assert!(rt; contents_of(rt.alloc(), &arcs)?.is_none());
@@ -93,9 +122,8 @@ fn long_contents(alloc: Global) -> Result<(Vec<u8>, Vec<u32>), Fail> {
 fn long_contents_are_read_and_take_the_room_of_their_octets(rt: HostRuntime) -> Result<(), Fail> {
     let (octets, arcs) = long_contents(rt.alloc())?;
     assert_eq!(rt; octets.len(), 4096);
-    assert_eq!(rt; check_contents(&octets.as_slice()), Ok(()));
+    assert!(rt; are_read_as(rt.alloc(), octets.as_slice(), arcs.as_slice())?);
     let read = ObjectIdentifier::from_contents(rt.alloc(), &octets.as_slice())?;
-    assert!(rt; read.eq_arcs(arcs.as_slice()));
     let CowSlice::Owned(kept) = read.into_arcs() else {
         return Err("arcs that were read are owned")?;
     };
@@ -109,10 +137,9 @@ fn long_contents_are_appended_into_room_for_five_octets_an_arc(
     rt: HostRuntime,
 ) -> Result<(), Fail> {
     let (octets, arcs) = long_contents(rt.alloc())?;
-    let oid = Oid::new(arcs.as_slice()).ok_or("valid")?;
-    assert_eq!(rt; oid.contents_len(), Some(4096));
+    assert_eq!(rt; counts_of(arcs.as_slice()), Some((4096, 4096, Some(4096))));
     let mut written = Vec::new(rt.alloc());
-    oid.contents().ok_or("two arcs")?.append_to(&mut written)?;
+    append_contents(&mut written, arcs.as_slice())?;
     assert_eq!(rt; written.as_slice(), octets.as_slice());
     assert!(rt;
         written.capacity() <= 4105,
@@ -122,7 +149,7 @@ fn long_contents_are_appended_into_room_for_five_octets_an_arc(
 
     let mut written = Vec::new(rt.alloc());
     written.resize(1000, 0x55)?;
-    oid.contents().ok_or("two arcs")?.append_to(&mut written)?;
+    append_contents(&mut written, arcs.as_slice())?;
     assert_eq!(rt; written.len(), 5096);
     assert!(rt; written.iter().take(1000).all(|octet| *octet == 0x55));
     assert!(rt; written.ends_with(octets.as_slice()));
@@ -166,10 +193,8 @@ fn subidentifiers_of_each_length_are_appended(rt: HostRuntime) -> Result<(), Fai
         (4294967295, &[0x8F, 0xFF, 0xFF, 0xFF, 0x7F]),
     ];
     for (arc, octets) in rows {
-        let arcs = [2, 999, arc];
-        let oid = Oid::new(&arcs).ok_or("valid")?;
         let mut written = Vec::new(rt.alloc());
-        oid.contents().ok_or("three arcs")?.append_to(&mut written)?;
+        append_contents(&mut written, &[2, 999, arc])?;
         assert!(rt; written.starts_with(&[0x88, 0x37]));
         assert_eq!(rt; &written[2..], octets, "{arc}");
     }
@@ -201,9 +226,8 @@ fn other_octets_are_refused(rt: HostRuntime) -> Result<(), Fail> {
         ),
     ];
     for (octets, error) in rows {
-        assert_eq!(rt; check_contents(&octets), Err(error), "{octets:?}");
-        let read = ObjectIdentifier::from_contents(rt.alloc(), &octets);
-        assert_eq!(rt; read.err(), Some(error), "{octets:?}");
+        let both = (Some(error), Some(error));
+        assert_eq!(rt; refusals(rt.alloc(), octets), both, "{octets:?}");
     }
     Ok(())
 }
@@ -222,10 +246,7 @@ fn the_first_two_arcs_are_joined_by_forty(rt: HostRuntime) -> Result<(), Fail> {
         (&[0x90, 0x80, 0x80, 0x80, 0x4F], &[2, 4294967295]),
     ];
     for (octets, arcs) in rows {
-        let read = ObjectIdentifier::from_contents(rt.alloc(), &octets)?;
-        assert!(rt; read.eq_arcs(arcs), "{octets:?}");
-        let written = contents_of(rt.alloc(), arcs)?.ok_or("two arcs")?;
-        assert_eq!(rt; written.as_slice(), octets);
+        assert!(rt; are_contents_of(rt.alloc(), octets, arcs)?, "{octets:?}");
     }
     Ok(())
 }
@@ -239,10 +260,10 @@ fn further_arcs_fit_32_bits(rt: HostRuntime) -> Result<(), Fail> {
         (&[0x2A, 0x8F, 0xFF, 0xFF, 0xFF, 0x7F], 4294967295),
     ];
     for (octets, arc) in rows {
-        let read = ObjectIdentifier::from_contents(rt.alloc(), &octets)?;
-        assert!(rt; read.eq_arcs(&[1, 2, arc]), "{octets:?}");
-        let written = contents_of(rt.alloc(), &[1, 2, arc])?.ok_or("three arcs")?;
-        assert_eq!(rt; written.as_slice(), octets);
+        assert!(rt;
+            are_contents_of(rt.alloc(), octets, &[1, 2, arc])?,
+            "{octets:?}"
+        );
     }
     Ok(())
 }
@@ -256,64 +277,79 @@ fn identifiers_of_many_arcs_have_contents(rt: HostRuntime) -> Result<(), Fail> {
     assert_eq!(rt; written.len(), 127);
     assert_eq!(rt; written.first(), Some(&0x2A));
     assert!(rt; written.iter().skip(1).all(|octet| *octet == 3));
-    let read = ObjectIdentifier::from_contents(rt.alloc(), &written.as_slice())?;
-    assert!(rt; read.eq_arcs(&arcs));
-
-    let mut large = [4294967295; 128];
-    large[0] = 2;
-    let oid = Oid::new(&large).ok_or("valid")?;
-    assert_eq!(rt; oid.contents_len(), Some(635));
-    let written = contents_of(rt.alloc(), &large)?.ok_or("two arcs")?;
-    assert_eq!(rt; written.len(), 635);
-    assert!(rt; written.starts_with(&[0x90, 0x80, 0x80, 0x80, 0x4F, 0x8F, 0xFF, 0xFF, 0xFF, 0x7F]));
-    let read = ObjectIdentifier::from_contents(rt.alloc(), &written.as_slice())?;
-    assert!(rt; read.eq_arcs(&large));
+    assert!(rt; are_read_as(rt.alloc(), written.as_slice(), &arcs)?);
     Ok(())
 }
 
-/// The subidentifiers of one or two octets, told apart case by case; None where the octets are no contents.
-fn few_subidentifiers(octets: &[u8]) -> Option<(u32, Option<u32>)> {
-    match octets {
-        [last] if *last < 0x80 => Some((u32::from(*last), None)),
-        [one, two] if *one < 0x80 && *two < 0x80 => Some((u32::from(*one), Some(u32::from(*two)))),
-        [first, last] if *first > 0x80 && *last < 0x80 => {
-            Some((128 * u32::from(*first % 128) + u32::from(*last), None))
-        }
-        _ => None,
-    }
+#[test]
+fn identifiers_of_many_large_arcs_have_contents(rt: HostRuntime) -> Result<(), Fail> {
+    let mut large = [4294967295; 128];
+    large[0] = 2;
+    assert_eq!(rt; counts_of(&large), Some((635, 635, Some(635))));
+    let written = contents_of(rt.alloc(), &large)?.ok_or("two arcs")?;
+    assert_eq!(rt; written.len(), 635);
+    assert!(rt; written.starts_with(&[0x90, 0x80, 0x80, 0x80, 0x4F, 0x8F, 0xFF, 0xFF, 0xFF, 0x7F]));
+    assert!(rt; are_read_as(rt.alloc(), written.as_slice(), &large)?);
+    Ok(())
 }
 
-/// Compares what is read of one or two octets.
-fn compare_few(rt: &impl Abort, alloc: Global, octets: &[u8]) -> Result<(), Fail> {
-    let checked = check_contents(&octets);
-    let read = ObjectIdentifier::from_contents(alloc, &octets);
-    let Some((number, further)) = few_subidentifiers(octets) else {
-        assert_eq!(rt; checked, Err(ContentsError::Malformed), "{octets:?}");
-        assert_eq!(rt; read.err(), Some(ContentsError::Malformed), "{octets:?}");
-        return Ok(());
-    };
-    assert_eq!(rt; checked, Ok(()), "{octets:?}");
-    let (x, y) = match number {
+/// The first two arcs of a subidentifier.
+fn first_arcs(number: u32) -> (u32, u32) {
+    match number {
         0..=39 => (0, number),
         40..=79 => (1, number - 40),
         _ => (2, number - 80),
-    };
-    let oid = read?;
-    match further {
-        None => assert!(rt; oid.eq_arcs(&[x, y]), "{octets:?}"),
-        Some(arc) => assert!(rt; oid.eq_arcs(&[x, y, arc]), "{octets:?}"),
     }
-    let written = contents_of(alloc, oid.as_ref())?.ok_or("two arcs")?;
-    assert_eq!(rt; written.as_slice(), octets);
+}
+
+/// The number of a subidentifier of two octets, if it is one.
+fn of_two(first: u8, last: u8) -> Option<u32> {
+    if first > 0x80 && last < 0x80 {
+        return Some(128 * u32::from(first % 128) + u32::from(last));
+    }
+    None
+}
+
+/// Compares what is read of one octet.
+fn compare_one(rt: &impl Abort, alloc: Global, octet: u8) -> Result<(), Fail> {
+    let octets = [octet];
+    if octet < 0x80 {
+        let (x, y) = first_arcs(u32::from(octet));
+        assert!(rt; are_contents_of(alloc, &octets, &[x, y])?, "{octet}");
+    } else {
+        let malformed = Some(ContentsError::Malformed);
+        assert_eq!(rt; refusals(alloc, &octets), (malformed, malformed), "{octet}");
+    }
+    Ok(())
+}
+
+/// Compares what is read of two octets.
+fn compare_two(rt: &impl Abort, alloc: Global, first: u8, last: u8) -> Result<(), Fail> {
+    let octets = [first, last];
+    if let Some(number) = of_two(first, last) {
+        let (x, y) = first_arcs(number);
+        assert!(rt; are_contents_of(alloc, &octets, &[x, y])?, "{octets:?}");
+    } else if first < 0x80 && last < 0x80 {
+        let (x, y) = first_arcs(u32::from(first));
+        let arcs = [x, y, u32::from(last)];
+        assert!(rt; are_contents_of(alloc, &octets, &arcs)?, "{octets:?}");
+    } else {
+        let malformed = Some(ContentsError::Malformed);
+        assert_eq!(rt;
+            refusals(alloc, &octets),
+            (malformed, malformed),
+            "{octets:?}"
+        );
+    }
     Ok(())
 }
 
 #[test]
 fn all_lists_of_one_and_two_octets_are_read(rt: HostRuntime) -> Result<(), Fail> {
     for one in 0..=255 {
-        compare_few(&rt, rt.alloc(), &[one])?;
+        compare_one(&rt, rt.alloc(), one)?;
         for two in 0..=255 {
-            compare_few(&rt, rt.alloc(), &[one, two])?;
+            compare_two(&rt, rt.alloc(), one, two)?;
         }
     }
     Ok(())
