@@ -1,14 +1,59 @@
 //! Values of at most sixteen octets, and the shortest octets of numbers within `i128` (X.690 8.3).
 ghost use Rattle.std.specs.Prelude.{◌≡◌, ◌+◌, ◌<◌, ◌≤◌, ◌++◌, length, drop};
-ghost use Rattle.std.specs.Int.{to_be_bytes, w64};
+ghost use Rattle.std.specs.Int.{to_be_bytes, cast_signed, w64};
 ghost use Rattle.asn1_number.specs.Octets.{IsShortest, signed, unsigned};
 ghost use Rattle.asn1_number.specs.Shortest.{shortest_octets};
 
 use crate::integer_bytes::IntegerBytes;
 
+/// The number of eight octets, most significant first.
+#[inline]
+pub(crate) fn word_of_eight(octets: &[u8]) -> u64
+    requires { length octets.now ≡ 8 }
+    ensures value { result ≡ unsigned octets.now }
+    ensures signed { cast_signed w64 result ≡ signed octets.now }
+{
+    let Some(word) = octets.first_chunk::<8>() else {
+        unreachable!()
+    };
+    u64::from_be_bytes(*word)
+}
+
 /// The two's complement value of one to sixteen octets, most significant first (X.690 8.3.3).
 #[inline]
 pub fn signed_value(octets: &[u8]) -> i128
+    requires some { 0 < length octets.now }
+    requires few { length octets.now ≤ 16 }
+    ensures { result ≡ signed octets.now }
+{
+    let count = octets.len();
+    if count < 8 {
+        return signed_by_octets(octets);
+    }
+    let (front, last) = octets.split_at(count - 8);
+    let word = word_of_eight(last);
+    if front.is_empty() {
+        return i128::from(word.cast_signed());
+    }
+    signed_front(front) * (1 << 64) + i128::from(word)
+}
+
+/// The two's complement value of one to eight octets: of eight as one word.
+#[inline]
+fn signed_front(octets: &[u8]) -> i128
+    requires some { 0 < length octets.now }
+    requires few { length octets.now ≤ 8 }
+    ensures { result ≡ signed octets.now }
+{
+    if octets.len() == 8 {
+        return i128::from(word_of_eight(octets).cast_signed());
+    }
+    signed_by_octets(octets)
+}
+
+/// The two's complement value of one to sixteen octets, octet by octet.
+#[inline]
+fn signed_by_octets(octets: &[u8]) -> i128
     requires some { 0 < length octets.now }
     requires few { length octets.now ≤ 16 }
     ensures { result ≡ signed octets.now }
