@@ -53,9 +53,9 @@ fn has_octets(number: &Integer, octets: &[u8]) -> bool {
     number.signed_octets().as_ref() == octets
 }
 
-/// Whether these are the octets of the number without a sign.
+/// Whether the number is not negative, and these are its octets without a sign.
 fn has_unsigned_octets(number: &Integer, octets: &[u8]) -> bool {
-    number.unsigned_octets().as_ref() == octets
+    *number >= Integer::zero() && number.unsigned_octets().as_ref() == octets
 }
 
 /// Whether the octets without those that only repeat the sign are these.
