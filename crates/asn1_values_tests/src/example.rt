@@ -1,6 +1,6 @@
 //! A message of mixed fields, behind bits that were there before.
 
-use super::calls::{bits_of, found, letters, refused, written};
+use asn1_test_calls::{bits_of, found, letters, refused, written};
 use asn1_values::{BitStr, Field, Integer, Octets, ReadError, Shape};
 use std::test::Fail;
 

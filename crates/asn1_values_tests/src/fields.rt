@@ -1,7 +1,6 @@
 //! Rows on the calls.
 
-use super::calls::{bits_of, found, letters, read_fields, write_fields};
-use super::same::all_same;
+use asn1_test_calls::{all_same, bits_of, found, letters, read_fields, write_fields};
 use asn1_values::{
     BitBuffer, BitReader, BitStr, CharacterAlphabet, Field, Ia5String, Integer, Octets, ReadError,
     Shape, Turns, WriteError, shape_of, write_fields_counted,

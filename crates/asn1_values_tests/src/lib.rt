@@ -5,27 +5,13 @@
 #![tactic(auto)]
 
 #[cfg(test)]
-mod alphabets;
-#[cfg(test)]
 mod callers;
-#[cfg(test)]
-mod calls;
-#[cfg(test)]
-mod counted;
 #[cfg(test)]
 mod example;
 #[cfg(test)]
 mod fields;
 #[cfg(test)]
-mod identifiers;
-#[cfg(test)]
-mod integers;
-#[cfg(test)]
-mod long_inputs;
-#[cfg(test)]
 mod ragged;
-#[cfg(test)]
-mod same;
 #[cfg(test)]
 mod texts;
 #[cfg(test)]

@@ -1,7 +1,6 @@
 //! Messages that are cut off, moved to other bits, or hold numbers at the edge of their widths.
 
-use super::calls::{bits_of, found, letters, read_fields, write_fields, written};
-use super::same::all_same;
+use asn1_test_calls::{all_same, bits_of, found, letters, read_fields, write_fields, written};
 use asn1_values::{
     BitBuffer, BitReader, BitStr, Field, Integer, Octets, ReadError, Shape, WriteError,
 };

@@ -1,10 +1,9 @@
 //! Counted integers as fields.
 
-use super::calls::{
-    bits_of, found, integer, long, read_fields, refusal, refused as refused_in, write_fields,
-    written,
+use asn1_test_calls::{
+    all_same, bits_of, found, integer, long, read_fields, refusal, refused as refused_in,
+    write_fields, written,
 };
-use super::same::all_same;
 use asn1_values::{BitBuffer, BitReader, BitStr, Field, Integer, ReadError, Shape, WriteError};
 use std::alloc::Global;
 use std::process::Abort;

@@ -1,7 +1,6 @@
 //! Long inputs, in both directions: no body that gives up past some length passes them.
 
-use super::calls::{long, read_fields, write_fields};
-use super::same::all_same;
+use asn1_test_calls::{all_same, long, read_fields, write_fields};
 use asn1_values::{
     BitBuffer, BitReader, BitStr, CharacterAlphabet, Field, Ia5String, Integer, ObjectIdentifier,
     Octets, Shape,

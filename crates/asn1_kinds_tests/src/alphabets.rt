@@ -1,7 +1,6 @@
 //! Characters of many alphabets as fields.
 
-use super::calls::{read_fields, write_fields};
-use super::same::all_same;
+use asn1_test_calls::{all_same, read_fields, write_fields};
 use asn1_values::{
     BitBuffer, BitReader, BitStr, BmpString, CharacterAlphabet, Field, Ia5String, NumericString,
     ReadError, Shape, WriteError,

@@ -1,7 +1,6 @@
 //! Integers as fields.
 
-use super::calls::{integer, long, read_fields, write_fields, written};
-use super::same::all_same;
+use asn1_test_calls::{all_same, integer, long, read_fields, write_fields, written};
 use asn1_values::{
     BitBuffer, BitReader, BitStr, Field, Integer, ReadError, Shape, without_redundant_sign_octets,
 };

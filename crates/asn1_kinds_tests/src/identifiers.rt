@@ -1,7 +1,6 @@
 //! Identifiers as fields.
 
-use super::calls::{read_fields, write_fields};
-use super::same::all_same;
+use asn1_test_calls::{all_same, read_fields, write_fields};
 use asn1_values::{
     BitBuffer, BitReader, BitStr, Field, ObjectIdentifier, ReadError, Shape, WriteError,
 };

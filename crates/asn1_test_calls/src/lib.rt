@@ -1,0 +1,12 @@
+//! The calls of fields without their contracts, for the crates of tests above: a test that goes through them is quick to
+//! prove. No program should use this crate.
+#![tactic(auto)]
+
+mod calls;
+mod same;
+
+pub use calls::{
+    LETTERS, bits_of, found, integer, letters, long, read_fields, refusal, refused, write_fields,
+    written,
+};
+pub use same::{all_same, same};
