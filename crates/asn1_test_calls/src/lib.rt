@@ -3,10 +3,10 @@
 #![tactic(auto)]
 
 mod calls;
-mod same;
+mod equality;
 
 pub use calls::{
     LETTERS, bits_of, found, integer, letters, long, read_fields, refusal, refused, write_fields,
     written,
 };
-pub use same::{all_same, same};
+pub use equality::{all_same, same};
