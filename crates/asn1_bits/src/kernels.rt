@@ -57,30 +57,35 @@ fn or_view(dst: &mut Target<'_>, position: usize, src: BitStr<'_>, turns: &mut T
     ensures turns { turns.new.count ≡ turns.old.count + div_ceil (view_of src.entry).len 64 }
 {
     if src.len() > 64 {
-        or_long(dst, position, src, turns);
+        *dst = or_long(dst.take(), position, src, turns);
     } else {
         place_word(dst, position, src, turns);
     }
 }
 
 /// The path of `or_view` for more than a word. Not inlined, so that callers inline only the path for short views. The
-/// work is done on a target of its own, whose place stays in registers.
+/// target is passed and given back by value, so its place stays in registers.
 #[inline(never)]
-fn or_long(dst: &mut Target<'_>, position: usize, src: BitStr<'_>, turns: &mut Turns)
+fn or_long<'a>(
+    target: Target<'a>,
+    position: usize,
+    src: BitStr<'_>,
+    turns: &mut Turns,
+) -> Target<'a>
     requires long { 64 < (view_of src).len }
-    requires room { position + (view_of src).len ≤ 8 * length dst.old.octets.now }
+    requires room { position + (view_of src).len ≤ 8 * length target.octets.now }
     requires fits { position + (view_of src).len < 2 ^ 64 }
-    ensures bits { bits dst.new.octets.now
-        ≡ ored (bits dst.old.octets.now) position (bits_of src.entry) }
-    ensures same_reference { dst.new.octets.ghost_name ≡ dst.old.octets.ghost_name }
-    ensures length { length dst.new.octets.now ≡ length dst.old.octets.now }
-    ensures each_turn_places { turns.new.count + dst.old.placed.count
-        ≡ turns.old.count + dst.new.placed.count }
+    ensures bits { bits result.octets.now
+        ≡ ored (bits target.entry.octets.now) position (bits_of src.entry) }
+    ensures same_reference { result.octets.ghost_name ≡ target.entry.octets.ghost_name }
+    ensures length { length result.octets.now ≡ length target.entry.octets.now }
+    ensures each_turn_places { turns.new.count + target.entry.placed.count
+        ≡ turns.old.count + result.placed.count }
     ensures turns { turns.new.count ≡ turns.old.count + div_ceil (view_of src.entry).len 64 }
 {
-    let mut own = dst.take();
+    let mut own = target;
     or_each_word(&mut own, position, src, turns);
-    *dst = own;
+    own
 }
 
 /// The work of `or_long`: whole words of 64 bits, and then the bits that are left.
@@ -169,7 +174,7 @@ fn put_view(dst: &mut Target<'_>, position: usize, src: BitStr<'_>, turns: &mut 
 {
     if src.len() > 64 && position % 8 == 0 {
         if let Some(octets) = src.aligned() {
-            copy_octets(dst, position / 8, octets, turns);
+            *dst = copy_octets(dst.take(), position / 8, octets, turns);
             return;
         }
     }
@@ -177,24 +182,24 @@ fn put_view(dst: &mut Target<'_>, position: usize, src: BitStr<'_>, turns: &mut 
 }
 
 /// Copies octets over the zeros from octet `first` on, and ticks once for each eight of them and once for the rest. Not
-/// inlined, so that callers inline only the path for short views. The work is done on a target of its own, whose place
-/// stays in registers.
+/// inlined, so that callers inline only the path for short views. The target is passed and given back by value, so its
+/// place stays in registers.
 #[inline(never)]
-fn copy_octets(dst: &mut Target<'_>, first: usize, src: &[u8], turns: &mut Turns)
-    requires room { first + length src.now ≤ length dst.old.octets.now }
+fn copy_octets<'a>(target: Target<'a>, first: usize, src: &[u8], turns: &mut Turns) -> Target<'a>
+    requires room { first + length src.now ≤ length target.octets.now }
     requires fits { 8 * (first + length src.now) < 2 ^ 64 }
-    requires zeros { IsZeroFrom (8 * first) (bits dst.old.octets.now) }
-    ensures bits { bits dst.new.octets.now
-        ≡ ored (bits dst.old.octets.now) (8 * first) (bits src.now) }
-    ensures same_reference { dst.new.octets.ghost_name ≡ dst.old.octets.ghost_name }
-    ensures length { length dst.new.octets.now ≡ length dst.old.octets.now }
-    ensures each_turn_places { turns.new.count + dst.old.placed.count
-        ≡ turns.old.count + dst.new.placed.count }
+    requires zeros { IsZeroFrom (8 * first) (bits target.octets.now) }
+    ensures bits { bits result.octets.now
+        ≡ ored (bits target.entry.octets.now) (8 * first) (bits src.now) }
+    ensures same_reference { result.octets.ghost_name ≡ target.entry.octets.ghost_name }
+    ensures length { length result.octets.now ≡ length target.entry.octets.now }
+    ensures each_turn_places { turns.new.count + target.entry.placed.count
+        ≡ turns.old.count + result.placed.count }
     ensures turns { turns.new.count ≡ turns.old.count + div_ceil (8 * length src.now) 64 }
 {
-    let mut own = dst.take();
+    let mut own = target;
     copy_each_word(&mut own, first, src, turns);
-    *dst = own;
+    own
 }
 
 /// The work of `copy_octets`: eight octets at a time, and then the rest.
