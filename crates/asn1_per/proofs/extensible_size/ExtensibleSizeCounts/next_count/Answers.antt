@@ -3,7 +3,7 @@ use Rattle.asn1_bits.specs.BitReader.{bits_left}
 use Rattle.asn1_formats.specs.Numbers.{IsSize}
 use Rattle.asn1_per.specs.Extensions.{IsBeyondRoot}
 use Rattle.asn1_per.specs.ExtensionLaws.{root_starts, extension_starts}
-use Rattle.asn1_per.proofs.extensible_size.ExtensibleSizeFormat.take.Goals as goal
+use Rattle.asn1_per.proofs.extensible_size.ExtensibleSizeCounts.next_count.Goals as goal
 
 pub returns-in-Ok-clause-read : goal.returns-in-Ok-clause-read
 returns-in-Ok-clause-read c =
@@ -14,11 +14,11 @@ returns-in-Ok-clause-read c =
     (c.in-Some-true.ensures.bit ∙ ap (λ (b : Bool). b ∷ behind) c.in-Some-true.field-0-test)
     c.in-Ok.ensures.read
 
-pub returns-in-Ok-take-clause-read : goal.returns-in-Ok-take-clause-read
-returns-in-Ok-take-clause-read c =
+pub returns-in-Ok-next_count-clause-read : goal.returns-in-Ok-next_count-clause-read
+returns-in-Ok-next_count-clause-read c =
     let f = c.args.self.now.root in
     let behind = bits_left c.next_bit.new.reader in
     root_starts (IsSize f.least f.most) (IsBeyondRoot f.least f.most) (bits_left c.args.reader.now) behind
-    c.in-Ok-take.size (bits_left c.take.new.reader)
+    c.in-Ok-next_count.size (bits_left c.next_count.new.reader)
     (c.in-Some-false.ensures.bit ∙ ap (λ (b : Bool). b ∷ behind) c.in-Some-false.field-0-test)
-    c.in-Ok-take.ensures.read
+    c.in-Ok-next_count.ensures.read
