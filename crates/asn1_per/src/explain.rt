@@ -3,10 +3,12 @@
 use crate::complete::InComplete;
 use crate::extensible_size::{BeyondRootFault, InExtensible};
 use crate::length::{LengthFault, LongLength};
+use crate::message::DecodeError;
 use crate::natural_number::NaturalFault;
 use crate::open_type::{EndFault, InOpenType, OpenMisfit};
 use crate::unconstrained_number::UnconstrainedFault;
 use asn1_formats::{Explain, write_part};
+use std::error::Error;
 use std::fmt;
 
 impl fmt::Display for LengthFault {
@@ -177,3 +179,16 @@ impl<E: Explain, F: Explain> Explain for InExtensible<E, F> {
         }
     }
 }
+
+impl<E: fmt::Display> fmt::Display for DecodeError<E> {
+    fn fmt<W: fmt::Write>(&self, f: &mut fmt::Formatter<W>) -> fmt::Result {
+        match self {
+            DecodeError::TooLong => write!(f, "too many bits"),
+            DecodeError::Wrong(wrong) => write!(f, "{wrong}"),
+            DecodeError::Behind { bits } => write!(f, "{bits} bits stand behind the message"),
+            DecodeError::Memory => write!(f, "out of memory"),
+        }
+    }
+}
+
+impl<E: fmt::Debug + fmt::Display + Drop> Error for DecodeError<E> {}
