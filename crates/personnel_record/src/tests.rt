@@ -1,0 +1,4 @@
+//! Tests of the records of the standard.
+
+mod standard;
+mod values;
