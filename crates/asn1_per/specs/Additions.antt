@@ -1,6 +1,6 @@
 -- Additions behind an extension marker (X.691 19.7 to 19.9): how many there are, a presence bit for each, and then each that
 -- is there as an open type.
-use Rattle.std.specs.Prelude.{◌≡◌, ℕ, ◌<◌, ◌≤◌, ⊤, ◌⊎◌, Bool, true, false, List, [], ◌∷◌, ◌++◌, length, take, drop, Option, Some, None}
+use Rattle.std.specs.Prelude.{◌≡◌, ℕ, ◌<◌, ◌≤◌, ⊤, ◌⊎◌, Bool, true, false, List, [], ◌∷◌, ◌++◌, length, take, drop, Option, Some, None, is_some}
 use Rattle.asn1_formats.specs.declared.octet_string.InOctetString.{InOctetString}
 use Rattle.asn1_formats.specs.declared.then.InThen.{InThen}
 use Rattle.asn1_formats.specs.declared.then.InThen.TheVariants as then
@@ -26,6 +26,20 @@ HasOne [] = ⊥
 HasOne (true ∷ p) = ⊤
 HasOne (false ∷ p) = HasOne p
 
+-- ---- one addition
+
+-- from presence bits p and a list on, the first of p and what it tells of were passed: q and rest are left, and P read o
+abbrev pub IsPassed : {X : Type 0} → (X → List Bool → Type 0) → List Bool → List Bool → List Bool → List Bool → Option X → Type 0
+IsPassed P [] q list rest o = (q ≡ []) × (o ≡ None) × (rest ≡ list)
+IsPassed P (false ∷ p) q list rest o = (q ≡ p) × (o ≡ None) × (rest ≡ list)
+IsPassed {X = X} P (true ∷ p) q list rest o = (q ≡ p) × (x : X) × (o ≡ Some x) × Starts P list x rest
+
+-- the first presence bit is 1, and what it tells of is wrong
+abbrev pub IsPassFault : {E : Type 0} → (List Bool → E → Type 0) → List Bool → List Bool → E → Type 0
+IsPassFault V [] list e = ⊥
+IsPassFault V (false ∷ p) list e = ⊥
+IsPassFault V (true ∷ p) list e = V list e
+
 -- ---- additions that are not known
 
 -- the octets of an open type, whatever they hold
@@ -34,6 +48,10 @@ IsUnread octets list = IsOctetString (λ n l. IsLengthDeterminant n l) octets li
 
 abbrev pub IsUnreadFault : List Bool → InOctetString LengthFault → Type 0
 IsUnreadFault list e = OctetStringFault (λ n l. IsLengthDeterminant n l) (λ l f. LengthFaultIs l f) list e
+
+-- no bits
+abbrev pub IsNothing : ⊤ → List Bool → Type 0
+IsNothing u list = list ≡ []
 
 -- behind each presence bit 1 an open type
 abbrev pub AreUnread : List Bool → ⊤ → List Bool → Type 0
@@ -55,7 +73,7 @@ AreUnreadFault (true ∷ p) list e =
 
 -- its presence bit, and theirs
 abbrev pub shows_addition : {X Y : Type 0} → (Y → List Bool) → Option X × Y → List Bool
-shows_addition S v = elim v.0 as (λ o. List Bool) [ None ↦ false ∷ S v.1 | Some x ↦ true ∷ S v.1 ]
+shows_addition S v = is_some v.0 ∷ S v.1
 
 -- where it is there, P spells it
 abbrev pub IsThere : {X : Type 0} → (X → List Bool → Type 0) → Option X → List Bool → Type 0
@@ -82,7 +100,7 @@ abbrev pub AdditionFault : {X E F : Type 0} → (X → List Bool → Type 0) →
     → (List Bool → List Bool → F → Type 0) → List Bool → List Bool → InThen E F → Type 0
 AdditionFault P V W [] list e = LaterFault (W []) list e
 AdditionFault P V W (false ∷ p) list e = LaterFault (W p) list e
-AdditionFault P V W (true ∷ p) list e = BothFault P V (W p) list e
+AdditionFault P V W (true ∷ p) list e = BothFault (λ o l. IsThere P o l) V (W p) list e
 
 -- ---- all of them
 
@@ -140,3 +158,16 @@ IsRootAlone none P v list = (v.1 ≡ none) × P v.0 list
 -- the root, and additions, of which one is there
 abbrev pub IsExtended : {X Y : Type 0} → (X → List Bool → Type 0) → (Y → List Bool → Type 0) → X × Y → List Bool → Type 0
 IsExtended P Q v list = Both P Q v list
+
+-- the root is wrong, or it has a spelling, an addition is there, and the additions are wrong
+abbrev pub IsExtensibleMisfit : {X Y E F : Type 0} → Y → (X → List Bool → Type 0) → (X → E → Type 0) → ℕ
+    → (Y → F → Type 0) → X × Y → InThen E (AdditionsMisfit F) → Type 0
+IsExtensibleMisfit none P V count W v (then.First e) = V v.0 e
+IsExtensibleMisfit none P V count W v (then.Second e) = Fits P v.0 × (¬ (v.1 ≡ none)) × IsAdditionsMisfit count W v.1 e
+
+-- the list begins with the number of the presence bits p, of which one is 1, and these; the rest is mid
+pub record IsPresence (list p mid : List Bool) : Type 0 where
+  pub behind : List Bool
+  pub count : Starts (λ n l. IsSmallLength n l) list (length p) behind
+  pub parts : behind ≡ p ++ mid
+  pub one : HasOne p

@@ -5,6 +5,7 @@ pub mod Messages
 pub mod Integers
 pub mod Extensions
 pub mod Naturals
+pub mod Additions
 -- Laws of these words, which the formats' laws are made of.
 pub mod LengthLaws
 pub mod CompleteLaws
@@ -14,3 +15,7 @@ pub mod IntegerLaws
 pub mod ExtensionLaws
 pub mod ExtendedLaws
 pub mod NaturalLaws
+pub mod AdditionLaws
+pub mod UnreadLaws
+pub mod PresenceLaws
+pub mod ExtensibleLaws
