@@ -1,5 +1,6 @@
 //! What is wrong, in words.
 
+use crate::additions::{AdditionsMisfit, InAdditions};
 use crate::complete::InComplete;
 use crate::extensible_size::{BeyondRootFault, InExtensible};
 use crate::length::{LengthFault, LongLength};
@@ -192,3 +193,42 @@ impl<E: fmt::Display> fmt::Display for DecodeError<E> {
 }
 
 impl<E: fmt::Debug + fmt::Display + Drop> Error for DecodeError<E> {}
+
+impl<E: fmt::Display> fmt::Display for InAdditions<E> {
+    fn fmt<W: fmt::Write>(&self, f: &mut fmt::Formatter<W>) -> fmt::Result {
+        match self {
+            InAdditions::Count(wrong) => write_part("number of additions", wrong, f),
+            InAdditions::Presence { missing } => write!(f, "{missing} presence bits are missing"),
+            InAdditions::NoneThere => write!(f, "no addition is there"),
+            InAdditions::Part(wrong) => write!(f, "{wrong}"),
+        }
+    }
+}
+
+impl<E: Explain> Explain for InAdditions<E> {
+    fn is_reason(&self) -> bool {
+        match self {
+            InAdditions::Count(_) => false,
+            InAdditions::Part(wrong) => wrong.is_reason(),
+            _ => true,
+        }
+    }
+}
+
+impl<E: fmt::Display> fmt::Display for AdditionsMisfit<E> {
+    fn fmt<W: fmt::Write>(&self, f: &mut fmt::Formatter<W>) -> fmt::Result {
+        match self {
+            AdditionsMisfit::Count(wrong) => write_part("number of additions", wrong, f),
+            AdditionsMisfit::Part(wrong) => write!(f, "{wrong}"),
+        }
+    }
+}
+
+impl<E: Explain> Explain for AdditionsMisfit<E> {
+    fn is_reason(&self) -> bool {
+        match self {
+            AdditionsMisfit::Count(_) => false,
+            AdditionsMisfit::Part(wrong) => wrong.is_reason(),
+        }
+    }
+}

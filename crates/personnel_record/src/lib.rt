@@ -5,6 +5,7 @@
 //! write an empty list of children out.
 #![tactic(auto)]
 
+mod extended;
 mod format;
 mod record;
 mod strings;
@@ -12,8 +13,12 @@ mod strings;
 mod tests;
 
 pub use asn1_per::{DecodeError, decode, encode};
+pub use extended::{
+    ExtensibleChild, ExtensibleName, ExtensibleNumber, ExtensibleRecordFormat, Sex,
+    extensible_record_format,
+};
 pub use format::{
     ChildFormat, ChildParts, NameFormat, NameParts, RecordFormat, RecordParts, record_format,
 };
 pub use record::{ChildInformation, Name, PersonnelRecord};
-pub use strings::{Text, Title};
+pub use strings::{ExtensibleText, Text, Title};

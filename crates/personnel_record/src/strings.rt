@@ -1,11 +1,14 @@
 //! The strings of a record.
 
 use asn1_formats::{Character, Named, SequenceOf, Size};
-use asn1_per::Length;
+use asn1_per::{ExtensibleSize, Length};
 use asn1_values::{CharacterAlphabet, VisibleString};
 
 /// A `VisibleString` with a SIZE and a FROM, under a name.
 pub type Text = Named<SequenceOf<Size, Character<'static>>>;
+
+/// A `VisibleString` with a FROM, and a SIZE with an extension marker, under a name.
+pub type ExtensibleText = Named<SequenceOf<ExtensibleSize, Character<'static>>>;
 
 /// A `VisibleString` of any length, under a name.
 pub type Title = Named<SequenceOf<Length, Character<'static>>>;
@@ -20,32 +23,65 @@ static NAME_CHARACTERS: [u32; 54] = [
 /// The characters that a date permits.
 static DATE_CHARACTERS: [u32; 10] = [48, 49, 50, 51, 52, 53, 54, 55, 56, 57];
 
-/// NameString: `VisibleString (FROM ("a".."z" | "A".."Z" | "-."))`, of such a size.
+/// The characters of a name.
+fn name_character() -> Option<Character<'static>> {
+    Character::new(CharacterAlphabet::new::<VisibleString>(Some(&NAME_CHARACTERS), false))
+}
+
+/// The characters of a date.
+fn date_character() -> Option<Character<'static>> {
+    Character::new(CharacterAlphabet::new::<VisibleString>(Some(&DATE_CHARACTERS), false))
+}
+
+/// `VisibleString (FROM ("a".."z" | "A".."Z" | "-."))`, of such a size.
 pub(crate) fn name_string(name: &'static str, size: Size) -> Option<Text> {
-    let alphabet = CharacterAlphabet::new::<VisibleString>(Some(&NAME_CHARACTERS), false);
-    let item = Character::new(alphabet)?;
+    let item = name_character()?;
     Some(Named {
         name,
         part: SequenceOf { size, item },
     })
 }
 
-/// Date: `VisibleString (FROM ("0".."9")) (SIZE (8))`.
+/// The same with `SIZE (1..64, ...)`.
+pub(crate) fn extensible_name_string(name: &'static str) -> Option<ExtensibleText> {
+    let root = Size::new(1, 64);
+    let item = name_character()?;
+    Some(Named {
+        name,
+        part: SequenceOf {
+            size: ExtensibleSize { root },
+            item,
+        },
+    })
+}
+
+/// `VisibleString (FROM ("0".."9")) (SIZE (8))`.
 pub(crate) fn date(name: &'static str) -> Option<Text> {
-    let alphabet = CharacterAlphabet::new::<VisibleString>(Some(&DATE_CHARACTERS), false);
-    let item = Character::new(alphabet)?;
     let size = Size::new(8, 8);
+    let item = date_character()?;
     Some(Named {
         name,
         part: SequenceOf { size, item },
+    })
+}
+
+/// The same with `SIZE (8, ..., 9..20)`.
+pub(crate) fn extensible_date(name: &'static str) -> Option<ExtensibleText> {
+    let root = Size::new(8, 8);
+    let item = date_character()?;
+    Some(Named {
+        name,
+        part: SequenceOf {
+            size: ExtensibleSize { root },
+            item,
+        },
     })
 }
 
 /// `VisibleString`.
 pub(crate) fn visible_string(name: &'static str) -> Option<Title> {
-    let alphabet = CharacterAlphabet::new::<VisibleString>(None, false);
-    let item = Character::new(alphabet)?;
     let size = Length {};
+    let item = Character::new(CharacterAlphabet::new::<VisibleString>(None, false))?;
     Some(Named {
         name,
         part: SequenceOf { size, item },

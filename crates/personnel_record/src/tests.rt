@@ -1,4 +1,5 @@
 //! Tests of the records of the standard.
 
+mod extended;
 mod standard;
 mod values;
