@@ -23,6 +23,7 @@ mod last;
 mod length;
 mod mapped;
 mod named;
+mod named_components;
 mod null;
 mod number;
 mod octet_string;

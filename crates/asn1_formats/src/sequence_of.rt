@@ -115,13 +115,9 @@ impl<N: Counts, A: Format> Format for SequenceOf<N, A> {
     }
 
     fn skip(&self, reader: &mut BitReader<'_>) -> Result<(), InSequenceOf<N::Fault, A::Fault>> {
-        let count = match self.size.next_count(reader) {
-            Ok(count) => count,
-            Err(e) => return Err(InSequenceOf::Size(e)),
-        };
-        match skip_items(&self.item, reader, count as usize) {
-            Ok(()) => Ok(()),
-            Err(AtItem { index, wrong }) => Err(InSequenceOf::Item { index, wrong }),
+        match self.skip_empty(reader) {
+            Ok(_) => Ok(()),
+            Err(e) => Err(e),
         }
     }
 

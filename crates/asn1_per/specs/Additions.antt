@@ -17,6 +17,8 @@ use Rattle.asn1_per.specs.declared.additions.InAdditions.TheVariants.{Count, Pre
 use Rattle.asn1_per.specs.declared.additions.AdditionsMisfit.{AdditionsMisfit}
 use Rattle.asn1_per.specs.declared.additions.AdditionsMisfit.TheVariants as misfit
 use Rattle.asn1_per.specs.declared.length.LongLength.{LongLength}
+use Rattle.asn1_per.specs.declared.extensible.InRootOrAdditions.{InRootOrAdditions}
+use Rattle.asn1_per.specs.declared.extensible.InRootOrAdditions.TheVariants.{Marker, Root, Extra}
 use Rattle.asn1_per.specs.Lengths.{IsLengthDeterminant, LengthFaultIs}
 use Rattle.asn1_per.specs.Extensions.{IsMarked, MarkedFault, IsBeyondRoot, IsBeyondRootFault, IsBeyondMisfit}
 
@@ -171,3 +173,23 @@ pub record IsPresence (list p mid : List Bool) : Type 0 where
   pub count : Starts (λ n l. IsSmallLength n l) list (length p) behind
   pub parts : behind ≡ p ++ mid
   pub one : HasOne p
+
+-- V says what is wrong with the root where it stands alone
+abbrev pub RootAloneFault : {E F : Type 0} → (List Bool → E → Type 0) → List Bool → InRootOrAdditions E F → Type 0
+RootAloneFault V list Marker = ⊥
+RootAloneFault V list (Root e) = V list e
+RootAloneFault V list (Extra e) = ⊥
+
+-- and where additions follow, of which W says what is wrong
+abbrev pub ExtendedFault : {X E F : Type 0} → (X → List Bool → Type 0) → (List Bool → E → Type 0)
+    → (List Bool → F → Type 0) → List Bool → InRootOrAdditions E F → Type 0
+ExtendedFault P V W list Marker = ⊥
+ExtendedFault P V W list (Root e) = V list e
+ExtendedFault P V W list (Extra e) = After P (λ x rest. W rest e) list
+
+-- the bit is missing, or the root is wrong, or what follows it
+abbrev pub ExtensibleFault : {X E F : Type 0} → (X → List Bool → Type 0) → (List Bool → E → Type 0)
+    → (List Bool → F → Type 0) → List Bool → InRootOrAdditions E F → Type 0
+ExtensibleFault P V W [] e = e ≡ Marker
+ExtensibleFault P V W (false ∷ list) e = RootAloneFault V list e
+ExtensibleFault P V W (true ∷ list) e = ExtendedFault P V W list e

@@ -6,17 +6,17 @@ use Rattle.asn1_formats.specs.declared.then.InThen.{InThen}
 use Rattle.asn1_formats.specs.declared.then.InThen.TheVariants as then
 use Rattle.asn1_formats.specs.Spelling.{Starts, CanRead, Fits, Measures, IsLength, IsSumOf, IsWritten, IsWithin, ReadsOne, SpellsOne, NamesFault, NamesMisfit}
 use Rattle.asn1_formats.specs.Numbers.{IsShort}
-use Rattle.asn1_formats.specs.Combined.{Both, BothFault, After}
-use Rattle.asn1_formats.specs.SpellingLaws.{same_fronts, both_reads_one, both_spells_one, fits_first, fits_second}
-use Rattle.asn1_formats.specs.ThenLaws.{both_names_fault}
+use Rattle.asn1_formats.specs.Combined.{Both, After}
+use Rattle.asn1_formats.specs.SpellingLaws.{same_fronts, both_reads_one, both_spells_one, can_first, can_second}
 use Rattle.asn1_per.specs.declared.additions.InAdditions.{InAdditions}
 use Rattle.asn1_per.specs.declared.additions.InAdditions.TheVariants.{Count, Presence, NoneThere, Part}
 use Rattle.asn1_per.specs.declared.additions.AdditionsMisfit.{AdditionsMisfit}
 use Rattle.asn1_per.specs.declared.additions.AdditionsMisfit.TheVariants as misfit
-use Rattle.asn1_per.specs.declared.extensible_size.InExtensible.{InExtensible}
-use Rattle.asn1_per.specs.Extensions.{IsMarked, MarkedFault}
-use Rattle.asn1_per.specs.ExtensionLaws.{marked_reads_one, marked_spells_one, marked_names_fault, extensible_size_reads_one, extensible_size_spells_one, extensible_size_names_fault, extensible_size_names_misfit}
-use Rattle.asn1_per.specs.Additions.{HasOne, IsSmallLength, IsSmallLengthFault, ReadsAdditions, SpellsAdditions, BehindPresence, AdditionsFault, IsAdditionsMisfit, IsRootAlone, IsExtended, IsExtensibleMisfit, IsPresence}
+use Rattle.asn1_per.specs.declared.extensible.InRootOrAdditions.{InRootOrAdditions}
+use Rattle.asn1_per.specs.declared.extensible.InRootOrAdditions.TheVariants.{Marker, Root, Extra}
+use Rattle.asn1_per.specs.Extensions.{IsMarked}
+use Rattle.asn1_per.specs.ExtensionLaws.{marked_reads_one, marked_spells_one, root_at, extension_at, nothing_at, extensible_size_reads_one, extensible_size_spells_one, extensible_size_names_fault, extensible_size_names_misfit}
+use Rattle.asn1_per.specs.Additions.{HasOne, IsSmallLength, IsSmallLengthFault, ReadsAdditions, SpellsAdditions, BehindPresence, AdditionsFault, IsAdditionsMisfit, IsRootAlone, IsExtended, IsExtensibleMisfit, IsPresence, RootAloneFault, ExtendedFault, ExtensibleFault}
 
 small_reads_one : ReadsOne (λ n l. IsSmallLength n l)
 small_reads_one = extensible_size_reads_one 1 64
@@ -265,22 +265,74 @@ module _ {X Y : Type 0} (none : Y) (P : X → List Bool → Type 0) (Q : Y → L
       (record { one = λ v a b s t. p.one v.0 a b s.1 t.1 })
       (both_spells_one P Q p q)
 
-  pub extensible_names_fault : {E F : Type 0} (V : List Bool → E → Type 0) (W : List Bool → F → Type 0)
-      → ReadsOne P → NamesFault P V → NamesFault Q W
-      → NamesFault (λ v l. IsMarked (λ w m. IsRootAlone none P w m) (λ w m. IsExtended P Q w m) v l)
-      (λ l e. MarkedFault V (λ m g. BothFault P V W m g) l e)
-  extensible_names_fault V W one p q =
-      marked_names_fault (λ w m. IsRootAlone none P w m) (λ w m. IsExtended P Q w m) V (λ m g. BothFault P V W m g)
-      (record {
-        wrong = λ list e w can.
-            p.wrong list e w (record {
-              value = can.value.0;
-              rest = can.rest;
-              starts = record { front = can.starts.front; spelled = can.starts.spelled.1; parts = can.starts.parts };
-            });
-        one = p.one;
-      })
-      (both_names_fault P Q V W one p q)
+  module _ {E F : Type 0} (V : List Bool → E → Type 0) (W : List Bool → F → Type 0)
+      (one : ReadsOne P) (p : NamesFault P V) (q : NamesFault Q W) where
+    root_wrong : (list : List Bool) (e : InRootOrAdditions E F) → RootAloneFault V list e → (v : X × Y) (rest : List Bool)
+        → Starts (λ w m. IsRootAlone none P w m) list v rest → ⊥
+    root_wrong list Marker w v rest s = w
+    root_wrong list (Extra e) w v rest s = w
+    root_wrong list (Root e) w v rest s =
+        p.wrong list e w (record {
+          value = v.0;
+          rest = rest;
+          starts = record { front = s.front; spelled = s.spelled.1; parts = s.parts };
+        })
+
+    extended_wrong : (list : List Bool) (e : InRootOrAdditions E F) → ExtendedFault P V W list e
+        → CanRead (λ w m. IsExtended P Q w m) list → ⊥
+    extended_wrong list Marker w can = w
+    extended_wrong list (Root e) w can = p.wrong list e w (can_first P Q list can)
+    extended_wrong list (Extra e) w can = q.wrong w.rest e w.holds (can_second P Q one list w.rest w.value w.starts can)
+
+    fault : (list : List Bool) (e : InRootOrAdditions E F) → ExtensibleFault P V W list e
+        → CanRead (λ v l. IsMarked (λ w m. IsRootAlone none P w m) (λ w m. IsExtended P Q w m) v l) list → ⊥
+    fault [] e w can =
+        nothing_at (λ w m. IsRootAlone none P w m) (λ w m. IsExtended P Q w m) can.rest can.starts.front can.value
+        can.starts.spelled can.starts.parts
+    fault (false ∷ list) e w can =
+        root_wrong list e w can.value can.rest
+        (root_at (λ w m. IsRootAlone none P w m) (λ w m. IsExtended P Q w m) list can.rest can.starts.front can.value
+        can.starts.spelled can.starts.parts)
+    fault (true ∷ list) e w can =
+        extended_wrong list e w (record {
+          value = can.value;
+          rest = can.rest;
+          starts = extension_at (λ w m. IsRootAlone none P w m) (λ w m. IsExtended P Q w m) list can.rest
+              can.starts.front can.value can.starts.spelled can.starts.parts;
+        })
+
+    one_root : (list : List Bool) (e g : InRootOrAdditions E F) → RootAloneFault V list e → RootAloneFault V list g → e ≡ g
+    one_root list Marker g v w = absurd v
+    one_root list (Extra e) g v w = absurd v
+    one_root list (Root e) Marker v w = absurd w
+    one_root list (Root e) (Extra g) v w = absurd w
+    one_root list (Root e) (Root g) v w = ap (λ (x : E). Root x) (p.one list e g v w)
+
+    not_root : (list : List Bool) (e : E) (g : F) → V list e → After P (λ x rest. W rest g) list → ⊥
+    not_root list e g v w = p.wrong list e v (record { value = w.value; rest = w.rest; starts = w.starts })
+
+    one_extended : (list : List Bool) (e g : InRootOrAdditions E F) → ExtendedFault P V W list e
+        → ExtendedFault P V W list g → e ≡ g
+    one_extended list Marker g v w = absurd v
+    one_extended list (Root e) Marker v w = absurd w
+    one_extended list (Root e) (Root g) v w = ap (λ (x : E). Root x) (p.one list e g v w)
+    one_extended list (Root e) (Extra g) v w = absurd (not_root list e g v w)
+    one_extended list (Extra e) Marker v w = absurd w
+    one_extended list (Extra e) (Root g) v w = absurd (not_root list g e w v)
+    one_extended list (Extra e) (Extra g) v w =
+        let same = one.one list v.value w.value v.rest w.rest v.starts w.starts in
+        ap (λ (x : F). Extra x) (q.one w.rest e g (subst (λ (r : List Bool). W r e) same.1 v.holds) w.holds)
+
+    one_reason : (list : List Bool) (e g : InRootOrAdditions E F) → ExtensibleFault P V W list e
+        → ExtensibleFault P V W list g → e ≡ g
+    one_reason [] e g v w = v ∙ sym w
+    one_reason (false ∷ list) e g v w = one_root list e g v w
+    one_reason (true ∷ list) e g v w = one_extended list e g v w
+
+    pub extensible_names_fault :
+        NamesFault (λ v l. IsMarked (λ w m. IsRootAlone none P w m) (λ w m. IsExtended P Q w m) v l)
+        (λ l e. ExtensibleFault P V W l e)
+    extensible_names_fault = record { wrong = fault; one = one_reason }
 
   -- the root fits, whichever form it has
   root_fits : (v : X × Y) (list : List Bool)

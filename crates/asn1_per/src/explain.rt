@@ -2,6 +2,7 @@
 
 use crate::additions::{AdditionsMisfit, InAdditions};
 use crate::complete::InComplete;
+use crate::extensible::InRootOrAdditions;
 use crate::extensible_size::{BeyondRootFault, InExtensible};
 use crate::length::{LengthFault, LongLength};
 use crate::message::DecodeError;
@@ -229,6 +230,26 @@ impl<E: Explain> Explain for AdditionsMisfit<E> {
         match self {
             AdditionsMisfit::Count(_) => false,
             AdditionsMisfit::Part(wrong) => wrong.is_reason(),
+        }
+    }
+}
+
+impl<E: fmt::Display, F: fmt::Display> fmt::Display for InRootOrAdditions<E, F> {
+    fn fmt<W: fmt::Write>(&self, f: &mut fmt::Formatter<W>) -> fmt::Result {
+        match self {
+            InRootOrAdditions::Marker => write!(f, "the marker's bit is missing"),
+            InRootOrAdditions::Root(wrong) => write!(f, "{wrong}"),
+            InRootOrAdditions::Extra(wrong) => write!(f, "{wrong}"),
+        }
+    }
+}
+
+impl<E: Explain, F: Explain> Explain for InRootOrAdditions<E, F> {
+    fn is_reason(&self) -> bool {
+        match self {
+            InRootOrAdditions::Marker => true,
+            InRootOrAdditions::Root(wrong) => wrong.is_reason(),
+            InRootOrAdditions::Extra(wrong) => wrong.is_reason(),
         }
     }
 }

@@ -1,7 +1,6 @@
 //! SEQUENCE and SET with an extension marker.
 
 use crate::additions::{Additions, AdditionsMisfit, InAdditions};
-use crate::extensible_size::InExtensible;
 use crate::extension::{append_additions, measure_additions, skip_additions, take_additions};
 use asn1_formats::{Format, InThen, Refusal, next_bit, push_bit, sum_of};
 use asn1_values::{BitBuffer, BitReader};
@@ -21,15 +20,25 @@ pub struct Extensible<A, D> {
     pub additions: D,
 }
 
+/// What is wrong with bits of a root and additions.
+#[derive(Clone, Copy, Debug, PartialEq, Eq, Drop)]
+pub enum InRootOrAdditions<E, F> {
+    /// The extension bit is missing.
+    Marker,
+    /// The root.
+    Root(E),
+    /// The extension bit is 1 and the root is right, and what follows it is wrong.
+    Extra(F),
+}
+
 impl<A: Format, D: Additions> Format for Extensible<A, D> {
-    ghost use Rattle.asn1_formats.specs.Combined.{BothFault};
-    ghost use Rattle.asn1_per.specs.Extensions.{IsMarked, MarkedFault};
-    ghost use Rattle.asn1_per.specs.Additions.{IsRootAlone, IsExtended, ReadsAdditions, SpellsAdditions, AdditionsFault, IsExtensibleMisfit};
+    ghost use Rattle.asn1_per.specs.Extensions.{IsMarked};
+    ghost use Rattle.asn1_per.specs.Additions.{IsRootAlone, IsExtended, ReadsAdditions, SpellsAdditions, AdditionsFault, IsExtensibleMisfit, ExtensibleFault};
     ghost use Rattle.asn1_per.specs.ExtensibleLaws.{extensible_reads_one, extensible_spells_one, extensible_names_fault, extensible_names_misfit, extensible_within, additions_read_one, additions_spell_one, additions_name_fault, additions_within, spelled_some};
 
     type Value = (A::Value, D::Value);
 
-    type Fault = InExtensible<A::Fault, InThen<A::Fault, InAdditions<D::Fault>>>;
+    type Fault = InRootOrAdditions<A::Fault, InAdditions<D::Fault>>;
 
     type Misfit = InThen<A::Misfit, AdditionsMisfit<D::Misfit>>;
 
@@ -47,8 +56,7 @@ impl<A: Format, D: Additions> Format for Extensible<A, D> {
         (λ w m. IsExtended (A.reads f.root) (λ y l. ReadsAdditions (D.reads f.additions) y l) w m) v list };
 
     ghost is_fault = { λ f list e.
-        MarkedFault (A.is_fault f.root)
-        (λ l g. BothFault (A.reads f.root) (A.is_fault f.root) (λ m h. AdditionsFault (D.is_fault f.additions) m h) l g)
+        ExtensibleFault (A.reads f.root) (A.is_fault f.root) (λ m h. AdditionsFault (D.is_fault f.additions) m h)
         list e };
 
     ghost is_misfit = { λ f v e.
@@ -104,20 +112,17 @@ impl<A: Format, D: Additions> Format for Extensible<A, D> {
         &self,
         alloc: Global,
         reader: &mut BitReader<'_>,
-    ) -> Result<
-        (A::Value, D::Value),
-        Refusal<InExtensible<A::Fault, InThen<A::Fault, InAdditions<D::Fault>>>>,
-    > {
+    ) -> Result<(A::Value, D::Value), Refusal<InRootOrAdditions<A::Fault, InAdditions<D::Fault>>>> {
         match next_bit(reader) {
-            None => Err(Refusal::Wrong(InExtensible::Marker)),
+            None => Err(Refusal::Wrong(InRootOrAdditions::Marker)),
             Some(false) => match self.root.take(alloc, reader) {
                 Ok(root) => Ok((root, self.additions.without_additions())),
-                Err(Refusal::Wrong(e)) => Err(Refusal::Wrong(InExtensible::Root(e))),
+                Err(Refusal::Wrong(e)) => Err(Refusal::Wrong(InRootOrAdditions::Root(e))),
                 Err(Refusal::Memory) => Err(Refusal::Memory),
             },
             Some(true) => match self.take_extended(alloc, reader) {
                 Ok(value) => Ok(value),
-                Err(Refusal::Wrong(e)) => Err(Refusal::Wrong(InExtensible::Extension(e))),
+                Err(Refusal::Wrong(e)) => Err(Refusal::Wrong(e)),
                 Err(Refusal::Memory) => Err(Refusal::Memory),
             },
         }
@@ -126,16 +131,16 @@ impl<A: Format, D: Additions> Format for Extensible<A, D> {
     fn skip(
         &self,
         reader: &mut BitReader<'_>,
-    ) -> Result<(), InExtensible<A::Fault, InThen<A::Fault, InAdditions<D::Fault>>>> {
+    ) -> Result<(), InRootOrAdditions<A::Fault, InAdditions<D::Fault>>> {
         match next_bit(reader) {
-            None => Err(InExtensible::Marker),
+            None => Err(InRootOrAdditions::Marker),
             Some(false) => match self.root.skip(reader) {
                 Ok(()) => Ok(()),
-                Err(e) => Err(InExtensible::Root(e)),
+                Err(e) => Err(InRootOrAdditions::Root(e)),
             },
             Some(true) => match self.skip_extended(reader) {
                 Ok(()) => Ok(()),
-                Err(e) => Err(InExtensible::Extension(e)),
+                Err(e) => Err(e),
             },
         }
     }
@@ -178,30 +183,29 @@ impl<A: Format, D: Additions> Extensible<A, D> {
     ghost use Rattle.asn1_bits.specs.BitReader.{bits_left};
     ghost use Rattle.asn1_formats.specs.Spelling.{Starts};
     ghost use Rattle.asn1_formats.specs.Refusals.{IsRefusal};
-    ghost use Rattle.asn1_formats.specs.Combined.{BothFault};
-    ghost use Rattle.asn1_per.specs.Additions.{IsExtended, ReadsAdditions, AdditionsFault};
+    ghost use Rattle.asn1_per.specs.Additions.{IsExtended, ReadsAdditions, AdditionsFault, ExtendedFault};
 
     /// Reads a root and additions.
     fn take_extended(
         &self,
         alloc: Global,
         reader: &mut BitReader<'_>,
-    ) -> Result<(A::Value, D::Value), Refusal<InThen<A::Fault, InAdditions<D::Fault>>>>
+    ) -> Result<(A::Value, D::Value), Refusal<InRootOrAdditions<A::Fault, InAdditions<D::Fault>>>>
         ensures read { IfOk result (λ v. Starts (λ w m. IsExtended (A.reads self.now.root)
             (λ y l. ReadsAdditions (D.reads self.now.additions) y l) w m) (bits_left reader.old)
             (A.plain v.0, D.plain v.1) (bits_left reader.new)) }
-        ensures refused { IfErr result (IsRefusal (λ e. BothFault (A.reads self.now.root) (A.is_fault self.now.root)
+        ensures refused { IfErr result (IsRefusal (λ e. ExtendedFault (A.reads self.now.root) (A.is_fault self.now.root)
             (λ m h. AdditionsFault (D.is_fault self.now.additions) m h) (bits_left reader.old) e)
             (¬ (A.owns_nothing self.now.root × D.owns_nothing self.now.additions))) }
     {
         let root = match self.root.take(alloc, reader) {
             Ok(root) => root,
-            Err(Refusal::Wrong(e)) => return Err(Refusal::Wrong(InThen::First(e))),
+            Err(Refusal::Wrong(e)) => return Err(Refusal::Wrong(InRootOrAdditions::Root(e))),
             Err(Refusal::Memory) => return Err(Refusal::Memory),
         };
         match take_additions(&self.additions, alloc, reader) {
             Ok(additions) => Ok((root, additions)),
-            Err(Refusal::Wrong(e)) => Err(Refusal::Wrong(InThen::Second(e))),
+            Err(Refusal::Wrong(e)) => Err(Refusal::Wrong(InRootOrAdditions::Extra(e))),
             Err(Refusal::Memory) => Err(Refusal::Memory),
         }
     }
@@ -210,20 +214,20 @@ impl<A: Format, D: Additions> Extensible<A, D> {
     fn skip_extended(
         &self,
         reader: &mut BitReader<'_>,
-    ) -> Result<(), InThen<A::Fault, InAdditions<D::Fault>>>
+    ) -> Result<(), InRootOrAdditions<A::Fault, InAdditions<D::Fault>>>
         ensures skipped { OnOk result ((v : A.Plain × D.Plain) × Starts (λ w m. IsExtended (A.reads self.now.root)
             (λ y l. ReadsAdditions (D.reads self.now.additions) y l) w m) (bits_left reader.old)
             v (bits_left reader.new)) }
-        ensures fault { IfErr result (λ e. BothFault (A.reads self.now.root) (A.is_fault self.now.root)
+        ensures fault { IfErr result (λ e. ExtendedFault (A.reads self.now.root) (A.is_fault self.now.root)
             (λ m h. AdditionsFault (D.is_fault self.now.additions) m h) (bits_left reader.old) e) }
     {
         match self.root.skip(reader) {
             Ok(()) => {}
-            Err(e) => return Err(InThen::First(e)),
+            Err(e) => return Err(InRootOrAdditions::Root(e)),
         }
         match skip_additions(&self.additions, reader) {
             Ok(()) => Ok(()),
-            Err(e) => Err(InThen::Second(e)),
+            Err(e) => Err(InRootOrAdditions::Extra(e)),
         }
     }
 }

@@ -21,7 +21,7 @@ pub use addition::Addition;
 pub use additions::{Additions, AdditionsMisfit, InAdditions};
 pub use complete::{Complete, InComplete};
 pub use extended::Extended;
-pub use extensible::Extensible;
+pub use extensible::{Extensible, InRootOrAdditions};
 pub use extensible_size::{BeyondRootFault, ExtensibleSize, InExtensible};
 pub use length::{Length, LengthFault, LongLength};
 pub use message::{DecodeError, decode, encode};

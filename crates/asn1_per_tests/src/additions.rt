@@ -3,7 +3,7 @@
 use super::calls::{found, written};
 use asn1_formats::{Boolean, InOctetString, InThen, Refusal, Size, SizeMisfit, WriteRefusal};
 use asn1_per::{
-    Addition, AdditionsMisfit, Extensible, InAdditions, InExtensible, NoAdditions, OpenMisfit,
+    Addition, AdditionsMisfit, Extensible, InAdditions, InRootOrAdditions, NoAdditions, OpenMisfit,
     OpenType,
 };
 use std::test::Fail;
@@ -95,14 +95,12 @@ fn what_is_wrong_with_additions_is_named(rt: HostRuntime) -> Result<(), Fail> {
     // 111 | 1 | 1 | 0000001 | 00
     assert_eq!(rt;
         found(&one(), rt.alloc(), &[0xF8, 0x10], 3).err(),
-        Some(Refusal::Wrong(InExtensible::Extension(InThen::Second(InAdditions::NoneThere))))
+        Some(Refusal::Wrong(InRootOrAdditions::Extra(InAdditions::NoneThere)))
     );
     // 111 | 1 | 1 | 0000111 | 1000: eight presence bits, of which four are there.
     assert_eq!(rt;
         found(&one(), rt.alloc(), &[0xF8, 0x78], 3).err(),
-        Some(Refusal::Wrong(InExtensible::Extension(InThen::Second(InAdditions::Presence {
-            missing: 4
-        }))))
+        Some(Refusal::Wrong(InRootOrAdditions::Extra(InAdditions::Presence { missing: 4 })))
     );
     // 111 | 1 | 1 | 0000001 | 01 | 00000010 11111111 00: six bits of an addition that is not known are missing.
     assert_eq!(rt;
