@@ -1,6 +1,8 @@
 -- Laws of several values.
 use Rattle.std.proofs.Common.{◌≡◌, ℕ, ◌+◌, ◌<◌, List, [], ◌∷◌, ◌++◌, Bool, length, refl, sym, ◌∙◌, ap, subst, arith, append_assoc, Option}
-use Rattle.std.proofs.lemmas.List.{length-append}
+use Rattle.std.specs.Prelude.{IsTrue, ◌↔◌, nat_eq}
+use Rattle.std.proofs.lemmas.Bool.{eq-eqb, eqb-true}
+use Rattle.std.proofs.lemmas.List.{length-append, nil_from_length}
 use Rattle.asn1_values.specs.Joined.{AreJoined}
 use Rattle.asn1_formats.specs.declared.sequence_of.InSequenceOf.{InSequenceOf}
 use Rattle.asn1_formats.specs.declared.sequence_of.InSequenceOf.TheVariants.{Size, Item}
@@ -294,3 +296,7 @@ module _ {X E F : Type 0} (C : ℕ → List Bool → Type 0) (P : X → List Boo
 
   pub counted_names_misfit : NamesMisfit (λ v l. AreCounted C P v l) (λ xs e. SequenceOfMisfit C P V W xs e)
   counted_names_misfit = record { wrong = misfit; one = one_misfit }
+
+-- a list counted as 0 is the empty one, and no other is
+pub none_if : {X : Type 0} (n : ℕ) (xs : List X) → length xs ≡ n → IsTrue (nat_eq n 0) ↔ (xs ≡ [])
+none_if n xs e = (λ t. nil_from_length xs (e ∙ eqb-true n 0 t), λ f. eq-eqb n 0 (sym e ∙ ap length f))

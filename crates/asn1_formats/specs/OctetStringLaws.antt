@@ -8,10 +8,7 @@ use Rattle.asn1_bits.specs.DigitLaws.{length-bits}
 use Rattle.asn1_bits.specs.NumberLaws.{same_octets, number-below, digits_of-number}
 use Rattle.asn1_formats.specs.declared.octet_string.InOctetString.{InOctetString}
 use Rattle.asn1_formats.specs.declared.octet_string.InOctetString.TheVariants.{Size, Short}
-use Rattle.asn1_formats.specs.declared.size.SizeMisfit.{SizeMisfit}
 use Rattle.asn1_formats.specs.Spelling.{Starts, CanRead, Measures, IsLength, IsSumOf, ReadsOne, SpellsOne, NamesFault, NamesMisfit}
-use Rattle.asn1_formats.specs.Numbers.{IsSize, IsSizeMisfit}
-use Rattle.asn1_formats.specs.NumberLaws.{size_reads_one, size_spells_one, size_names_fault, size_names_misfit}
 use Rattle.asn1_formats.specs.Choices.{At}
 use Rattle.asn1_formats.specs.ChoiceLaws.{apart, numbered_reads_one, numbered_spells_one, numbered_measured}
 use Rattle.asn1_formats.specs.OctetStrings.{AreOctets, IsOctetString, OctetStringFault}
@@ -72,24 +69,36 @@ octets_at_one k = record {
       (same_octets x y s.spelled.spelled.0 t.spelled.spelled.0 (sym s.spelled.spelled.1 ∙ f.0 ∙ t.spelled.spelled.1), f.1);
 }
 
-module _ (least most : ℕ) where
-  pub octet_string_reads_one : ReadsOne (λ x l. IsOctetString least most x l)
-  octet_string_reads_one =
-      numbered_reads_one (IsSize least most) (λ x. length x) (λ x l. AreOctets x l) (size_reads_one least most) octets_at_one
+module _ (C : ℕ → List Bool → Type 0) where
+  pub octet_string_reads_one : ReadsOne C → ReadsOne (λ x l. IsOctetString C x l)
+  octet_string_reads_one one = numbered_reads_one C (λ x. length x) (λ x l. AreOctets x l) one octets_at_one
 
-  pub octet_string_spells_one : SpellsOne (λ x l. IsOctetString least most x l)
-  octet_string_spells_one =
-      numbered_spells_one (IsSize least most) (λ x. length x) (λ x l. AreOctets x l) (size_spells_one least most)
-      (record { one = λ x a b p q. p.1 ∙ sym q.1 })
+  pub octet_string_spells_one : SpellsOne C → SpellsOne (λ x l. IsOctetString C x l)
+  octet_string_spells_one one =
+      numbered_spells_one C (λ x. length x) (λ x l. AreOctets x l) one (record { one = λ x a b p q. p.1 ∙ sym q.1 })
 
-  wrong : (list : List Bool) (e : InOctetString) → OctetStringFault least most list e
-      → CanRead (λ x l. IsOctetString least most x l) list → ⊥
+  pub octet_string_measured : (octets : List ℕ) (m n : ℕ) (a b c : Option ℕ) → length octets ≡ m → length octets ≡ n
+      → All (λ octet. octet < 256) octets → Measures C m a → IsLength (8 * n) b → IsSumOf a b c
+      → Measures (λ x l. IsOctetString C x l) octets c
+  octet_string_measured octets m n a b c e f all p q sum =
+      let sized : length (bits octets) ≡ 8 * n = length-bits octets ∙ ap (λ (k : ℕ). 8 * k) f in
+      numbered_measured C (λ x. length x) (λ x l. AreOctets x l) octets m a b c e p
+      (record {
+        list = bits octets;
+        spelled = (all, refl);
+        size = subst (λ (k : ℕ). IsLength k b) (sym sized) q;
+      })
+      sum
+
+module _ {E : Type 0} (C : ℕ → List Bool → Type 0) (V : List Bool → E → Type 0) (one : ReadsOne C) (names : NamesFault C V) where
+  wrong : (list : List Bool) (e : InOctetString E) → OctetStringFault C V list e
+      → CanRead (λ x l. IsOctetString C x l) list → ⊥
   wrong list (Size e) p can =
-      let a = apart (IsSize least most) (λ x. length x) (λ x l. AreOctets x l) list can.value can.rest can.starts in
-      (size_names_fault least most).wrong list e p (record { value = length can.value; rest = a.0; starts = a.1 })
+      let a = apart C (λ x. length x) (λ x l. AreOctets x l) list can.value can.rest can.starts in
+      names.wrong list e p (record { value = length can.value; rest = a.0; starts = a.1 })
   wrong list (Short m) p can =
-      let a = apart (IsSize least most) (λ x. length x) (λ x l. AreOctets x l) list can.value can.rest can.starts in
-      let same = (size_reads_one least most).one list (length can.value) p.value a.0 p.rest a.1 p.starts in
+      let a = apart C (λ x. length x) (λ x l. AreOctets x l) list can.value can.rest can.starts in
+      let same = one.one list (length can.value) p.value a.0 p.rest a.1 p.starts in
       let n : length can.value ≡ p.value = same.0 in
       let r : length a.0 ≡ length p.rest = ap length same.1 in
       let parts : length a.0 ≡ length a.2.front + length can.rest = ap length a.2.parts ∙ length-append a.2.front can.rest in
@@ -98,15 +107,15 @@ module _ (least most : ℕ) where
       let some : 0 < m = p.holds.0 in
       omega arith
 
-  one_fault : (list : List Bool) (e g : InOctetString) → OctetStringFault least most list e
-      → OctetStringFault least most list g → e ≡ g
-  one_fault list (Size e) (Size g) p q = ap (λ x. Size x) ((size_names_fault least most).one list e g p q)
+  one_fault : (list : List Bool) (e g : InOctetString E) → OctetStringFault C V list e
+      → OctetStringFault C V list g → e ≡ g
+  one_fault list (Size e) (Size g) p q = ap (λ (x : E). Size x) (names.one list e g p q)
   one_fault list (Size e) (Short n) p q =
-      absurd ((size_names_fault least most).wrong list e p (record { value = q.value; rest = q.rest; starts = q.starts }))
+      absurd (names.wrong list e p (record { value = q.value; rest = q.rest; starts = q.starts }))
   one_fault list (Short m) (Size g) p q =
-      absurd ((size_names_fault least most).wrong list g q (record { value = p.value; rest = p.rest; starts = p.starts }))
+      absurd (names.wrong list g q (record { value = p.value; rest = p.rest; starts = p.starts }))
   one_fault list (Short m) (Short n) p q =
-      let same = (size_reads_one least most).one list p.value q.value p.rest q.rest p.starts q.starts in
+      let same = one.one list p.value q.value p.rest q.rest p.starts q.starts in
       let value : p.value ≡ q.value = same.0 in
       let r : length p.rest ≡ length q.rest = ap length same.1 in
       let first : length p.rest + m ≡ 8 * p.value = p.holds.1 in
@@ -114,26 +123,13 @@ module _ (least most : ℕ) where
       let level : m ≡ n = omega arith in
       ap (λ (k : ℕ). Short k) level
 
-  pub octet_string_names_fault : NamesFault (λ x l. IsOctetString least most x l) (λ list e. OctetStringFault least most list e)
+  pub octet_string_names_fault : NamesFault (λ x l. IsOctetString C x l) (λ list e. OctetStringFault C V list e)
   octet_string_names_fault = record { wrong = wrong; one = one_fault }
 
-  pub octet_string_names_misfit : least ≤ most
-      → NamesMisfit (λ x l. IsOctetString least most x l) (λ x (e : SizeMisfit). IsSizeMisfit least most (length x) e)
-  octet_string_names_misfit h = record {
-    wrong = λ x e p f. (size_names_misfit least most h).wrong (length x) e p
+module _ {E : Type 0} (C : ℕ → List Bool → Type 0) (V : ℕ → E → Type 0) (names : NamesMisfit C V) where
+  pub octet_string_names_misfit : NamesMisfit (λ x l. IsOctetString C x l) (λ (x : List ℕ) e. V (length x) e)
+  octet_string_names_misfit = record {
+    wrong = λ x e p f. names.wrong (length x) e p
         (record { list = f.spelled.front; spelled = f.spelled.first });
-    one = λ x e g p q. (size_names_misfit least most h).one (length x) e g p q;
+    one = λ x e g p q. names.one (length x) e g p q;
   }
-
-  pub octet_string_measured : (octets : List ℕ) (m n : ℕ) (a b c : Option ℕ) → length octets ≡ m → length octets ≡ n
-      → All (λ octet. octet < 256) octets → Measures (IsSize least most) m a → IsLength (8 * n) b → IsSumOf a b c
-      → Measures (λ x l. IsOctetString least most x l) octets c
-  octet_string_measured octets m n a b c e f all p q sum =
-      let sized : length (bits octets) ≡ 8 * n = length-bits octets ∙ ap (λ (k : ℕ). 8 * k) f in
-      numbered_measured (IsSize least most) (λ x. length x) (λ x l. AreOctets x l) octets m a b c e p
-      (record {
-        list = bits octets;
-        spelled = (all, refl);
-        size = subst (λ (k : ℕ). IsLength k b) (sym sized) q;
-      })
-      sum

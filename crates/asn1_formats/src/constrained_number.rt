@@ -35,6 +35,20 @@ impl ConstrainedNumber {
             distance,
         }
     }
+
+    /// The least of the numbers.
+    pub fn least(&self) -> i64
+        ensures { result ≡ self.now.least }
+    {
+        self.least
+    }
+
+    /// The greatest of the numbers.
+    pub fn most(&self) -> i64
+        ensures { result ≡ self.now.most }
+    {
+        self.most
+    }
 }
 
 impl Format for ConstrainedNumber {

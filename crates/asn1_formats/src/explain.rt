@@ -75,7 +75,7 @@ impl Explain for NotInAlphabet {
     }
 }
 
-impl fmt::Display for InOctetString {
+impl<E: Explain> fmt::Display for InOctetString<E> {
     fn fmt<W: fmt::Write>(&self, f: &mut fmt::Formatter<W>) -> fmt::Result {
         match self {
             InOctetString::Size(wrong) => write_part("number of octets", wrong, f),
@@ -84,7 +84,7 @@ impl fmt::Display for InOctetString {
     }
 }
 
-impl Explain for InOctetString {
+impl<E: Explain> Explain for InOctetString<E> {
     fn is_reason(&self) -> bool {
         matches!(self, InOctetString::Short { .. })
     }

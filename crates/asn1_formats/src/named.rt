@@ -7,7 +7,8 @@ use asn1_values::{BitBuffer, BitReader};
 use std::alloc::Global;
 use std::fmt;
 
-/// A part with a name, by which an error says where it is. Values and bits are those of the part.
+/// A part with a name, by which an error says where it is: a format, or components such as a default. Values and bits are
+/// those of the part.
 #[derive(Clone, Copy, Debug)]
 pub struct Named<A> {
     /// The name.
@@ -41,7 +42,7 @@ impl<A> Named<A> {
     ghost use Rattle.std.specs.Prelude.{◌≡◌};
 
     /// What is wrong with the part, under its name.
-    fn at<E>(&self, wrong: E) -> InNamed<E>
+    pub(crate) fn at<E>(&self, wrong: E) -> InNamed<E>
         ensures name { result.name ≡ self.now.name }
         ensures wrong { result.wrong ≡ wrong }
     {

@@ -6,26 +6,26 @@ ghost use Rattle.asn1_bits.specs.BitReader.{view_left, bits_left};
 ghost use Rattle.asn1_formats.specs.Spelling.{IsLength};
 ghost use Rattle.asn1_formats.specs.Numbers.{IsShort};
 
+use crate::counts::Counts;
 use crate::format::Format;
 use crate::length::sum_of;
 use crate::refusal::Refusal;
-use crate::size::{Size, SizeFault, SizeMisfit};
 use asn1_values::{BitBuffer, BitReader, extend_vec_from_bitslice};
 use std::alloc::{AllocError, Global};
 
-/// OCTET STRING with a SIZE: the number of its octets, and then the octets (X.691 17). Where one size alone is allowed, its
-/// number has no bits.
+/// OCTET STRING: the number of its octets, and then the octets (X.691 17). The number's format says how many there may be:
+/// [`Size`](crate::Size) for a SIZE without extension marker, which has no bits where it allows one number alone.
 #[derive(Clone, Copy, Debug)]
-pub struct OctetString {
-    /// How many octets there may be.
-    pub size: Size,
+pub struct OctetString<N> {
+    /// The format of the number of octets.
+    pub size: N,
 }
 
 /// What is wrong with the bits of an OCTET STRING.
 #[derive(Clone, Copy, Debug, PartialEq, Eq, Drop)]
-pub enum InOctetString {
+pub enum InOctetString<E> {
     /// The number of its octets.
-    Size(SizeFault),
+    Size(E),
     /// So many bits of its octets are missing.
     Short { missing: u128 },
 }
@@ -89,38 +89,37 @@ fn octets_of(alloc: Global, front: BitReader<'_>) -> Result<Vec<u8>, AllocError>
     Ok(octets)
 }
 
-impl Format for OctetString {
+impl<N: Counts> Format for OctetString<N> {
     ghost use Rattle.std.specs.Prelude.{List, ⊤};
-    ghost use Rattle.asn1_formats.specs.Numbers.{IsSizeMisfit};
     ghost use Rattle.asn1_formats.specs.OctetStrings.{IsOctetString, OctetStringFault};
     ghost use Rattle.asn1_formats.specs.OctetStringLaws.{octet_string_reads_one, octet_string_spells_one, octet_string_names_fault, octet_string_names_misfit};
     ghost use Rattle.asn1_formats.specs.WithinLaws.{itself};
 
     type Value = Vec<u8>;
 
-    type Fault = InOctetString;
+    type Fault = InOctetString<N::Fault>;
 
-    type Misfit = SizeMisfit;
+    type Misfit = N::Misfit;
 
     ghost Plain = { List ℕ };
 
     ghost plain = { λ v. v.items };
 
-    ghost spells = { λ f x list. IsOctetString f.size.least f.size.most x list };
+    ghost spells = { λ f x list. IsOctetString (N.counts f.size) x list };
 
-    ghost reads = { λ f x list. IsOctetString f.size.least f.size.most x list };
+    ghost reads = { λ f x list. IsOctetString (N.counts f.size) x list };
 
-    ghost is_fault = { λ f list e. OctetStringFault f.size.least f.size.most list e };
+    ghost is_fault = { λ f list e. OctetStringFault (N.counts f.size) (N.is_count_fault f.size) list e };
 
-    ghost is_misfit = { λ f x e. IsSizeMisfit f.size.least f.size.most (length x) e };
+    ghost is_misfit = { λ f x e. N.is_count_misfit f.size (length x) e };
 
     ghost owns_nothing = { λ f. ⊥ };
 
     ghost is_canonical = { λ f. ⊤ };
 
-    fn append(&self, buffer: &mut BitBuffer, value: &Vec<u8>) -> Result<(), Refusal<SizeMisfit>> {
+    fn append(&self, buffer: &mut BitBuffer, value: &Vec<u8>) -> Result<(), Refusal<N::Misfit>> {
         let count = value.len() as u64;
-        match self.size.append(buffer, &count) {
+        match self.size.append_count(buffer, count) {
             Ok(()) => {}
             Err(Refusal::Wrong(e)) => return Err(Refusal::Wrong(e)),
             Err(Refusal::Memory) => return Err(Refusal::Memory),
@@ -131,10 +130,10 @@ impl Format for OctetString {
         }
     }
 
-    fn measure(&self, value: &Vec<u8>) -> Result<Option<usize>, SizeMisfit> {
+    fn measure(&self, value: &Vec<u8>) -> Result<Option<usize>, N::Misfit> {
         are_octets(value.as_slice());
         let count = value.len() as u64;
-        match self.size.measure(&count) {
+        match self.size.measure_count(count) {
             Ok(front) => Ok(sum_of(front, bit_count(value.len()))),
             Err(e) => Err(e),
         }
@@ -144,8 +143,8 @@ impl Format for OctetString {
         &self,
         alloc: Global,
         reader: &mut BitReader<'_>,
-    ) -> Result<Vec<u8>, Refusal<InOctetString>> {
-        let count = match self.size.next_in(reader) {
+    ) -> Result<Vec<u8>, Refusal<InOctetString<N::Fault>>> {
+        let count = match self.size.next_count(reader) {
             Ok(count) => count,
             Err(e) => return Err(Refusal::Wrong(InOctetString::Size(e))),
         };
@@ -158,8 +157,8 @@ impl Format for OctetString {
         }
     }
 
-    fn skip(&self, reader: &mut BitReader<'_>) -> Result<(), InOctetString> {
-        let count = match self.size.next_in(reader) {
+    fn skip(&self, reader: &mut BitReader<'_>) -> Result<(), InOctetString<N::Fault>> {
+        let count = match self.size.next_count(reader) {
             Ok(count) => count,
             Err(e) => return Err(InOctetString::Size(e)),
         };
@@ -169,15 +168,15 @@ impl Format for OctetString {
         }
     }
 
-    ghost spelled_is_read = { λ f. itself (λ x list. IsOctetString f.size.least f.size.most x list) };
+    ghost spelled_is_read = { λ f. itself (λ x list. IsOctetString (N.counts f.size) x list) };
 
-    ghost read_is_spelled = { λ f canonical. itself (λ x list. IsOctetString f.size.least f.size.most x list) };
+    ghost read_is_spelled = { λ f canonical. itself (λ x list. IsOctetString (N.counts f.size) x list) };
 
-    ghost reads_one = { λ f. octet_string_reads_one f.size.least f.size.most };
+    ghost reads_one = { λ f. octet_string_reads_one (N.counts f.size) (N.reads_one_count f.size) };
 
-    ghost spells_one = { λ f. octet_string_spells_one f.size.least f.size.most };
+    ghost spells_one = { λ f. octet_string_spells_one (N.counts f.size) (N.spells_one_count f.size) };
 
-    ghost names_fault = { λ f. octet_string_names_fault f.size.least f.size.most };
+    ghost names_fault = { λ f. octet_string_names_fault (N.counts f.size) (N.is_count_fault f.size) (N.reads_one_count f.size) (N.names_count_fault f.size) };
 
-    ghost names_misfit = { λ f. octet_string_names_misfit f.size.least f.size.most f.size.ordered };
+    ghost names_misfit = { λ f. octet_string_names_misfit (N.counts f.size) (N.is_count_misfit f.size) (N.names_count_misfit f.size) };
 }

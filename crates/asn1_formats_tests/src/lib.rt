@@ -7,6 +7,8 @@ mod calls;
 mod choices;
 #[cfg(test)]
 mod defaults;
+#[cfg(test)]
+mod empties;
 mod level;
 mod line;
 mod message;

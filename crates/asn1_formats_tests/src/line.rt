@@ -16,7 +16,7 @@ pub fn point_format() -> Point {
 }
 
 /// SEQUENCE (SIZE (2..9)) OF Point
-pub fn points_format() -> SequenceOf<Point> {
+pub fn points_format() -> SequenceOf<Size, Point> {
     SequenceOf {
         size: Size::new(2, 9),
         item: point_format(),
@@ -25,7 +25,7 @@ pub fn points_format() -> SequenceOf<Point> {
 
 /// SEQUENCE { kind ENUMERATED {a, b, c}, flag BOOLEAN OPTIONAL, points (SIZE (2..9)) OF Point OPTIONAL }
 pub type Drawing = Sequence<
-    And<Required<Size>, And<Optional<Boolean>, Optional<SequenceOf<Point>>>>,
+    And<Required<Size>, And<Optional<Boolean>, Optional<SequenceOf<Size, Point>>>>,
 >;
 
 /// The format of drawings.

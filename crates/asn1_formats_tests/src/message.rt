@@ -17,7 +17,10 @@ pub type Pair = Then<Size, Number>;
 /// A message { kind INTEGER (1..5), size INTEGER (0..1000) OPTIONAL, flag BOOLEAN OPTIONAL,
 /// pairs SEQUENCE (SIZE (0..5)) OF Pair }.
 pub type Message = Sequence<
-    And<Required<Size>, And<Optional<Size>, And<Optional<Boolean>, Required<SequenceOf<Pair>>>>>,
+    And<
+        Required<Size>,
+        And<Optional<Size>, And<Optional<Boolean>, Required<SequenceOf<Size, Pair>>>>,
+    >,
 >;
 
 /// What a message holds.

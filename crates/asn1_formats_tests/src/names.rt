@@ -7,11 +7,11 @@ use asn1_formats::{
 use asn1_values::{CharacterAlphabet, VisibleString};
 use std::test::Fail;
 
-type Text = Named<SequenceOf<Character<'static>>>;
+type Text = Named<SequenceOf<Size, Character<'static>>>;
 
 type Child = Named<Then<Text, Named<Number>>>;
 
-type Family = Sequence<And<Required<Text>, Optional<Named<SequenceOf<Child>>>>>;
+type Family = Sequence<And<Required<Text>, Optional<Named<SequenceOf<Size, Child>>>>>;
 
 const LETTERS: [u32; 3] = [97, 98, 99];
 

@@ -51,7 +51,7 @@ module _ {X : Type 0} (P Q : X → List Bool → Type 0) where
       let f : true ∷ list ≡ true ∷ (l ++ rest) = e in
       record { front = l; spelled = p; parts = cc }
 
-  nothing_at : (rest front : List Bool) (x : X) → M x front → [] ≡ front ++ rest → ⊥
+  pub nothing_at : (rest front : List Bool) (x : X) → M x front → [] ≡ front ++ rest → ⊥
   nothing_at rest [] x p e = p
   nothing_at rest (b ∷ l) x p e = let f : [] ≡ b ∷ (l ++ rest) = e in cc
 

@@ -1,12 +1,16 @@
 //! What is wrong, in words.
 
+use crate::additions::{AdditionsMisfit, InAdditions};
 use crate::complete::InComplete;
+use crate::extensible::InRootOrAdditions;
 use crate::extensible_size::{BeyondRootFault, InExtensible};
 use crate::length::{LengthFault, LongLength};
+use crate::message::DecodeError;
 use crate::natural_number::NaturalFault;
 use crate::open_type::{EndFault, InOpenType, OpenMisfit};
 use crate::unconstrained_number::UnconstrainedFault;
 use asn1_formats::{Explain, write_part};
+use std::error::Error;
 use std::fmt;
 
 impl fmt::Display for LengthFault {
@@ -174,6 +178,78 @@ impl<E: Explain, F: Explain> Explain for InExtensible<E, F> {
             InExtensible::Marker => true,
             InExtensible::Root(wrong) => wrong.is_reason(),
             InExtensible::Extension(wrong) => wrong.is_reason(),
+        }
+    }
+}
+
+impl<E: fmt::Display> fmt::Display for DecodeError<E> {
+    fn fmt<W: fmt::Write>(&self, f: &mut fmt::Formatter<W>) -> fmt::Result {
+        match self {
+            DecodeError::TooLong => write!(f, "too many bits"),
+            DecodeError::Wrong(wrong) => write!(f, "{wrong}"),
+            DecodeError::Behind { bits } => write!(f, "{bits} bits stand behind the message"),
+            DecodeError::Memory => write!(f, "out of memory"),
+        }
+    }
+}
+
+impl<E: fmt::Debug + fmt::Display + Drop> Error for DecodeError<E> {}
+
+impl<E: fmt::Display> fmt::Display for InAdditions<E> {
+    fn fmt<W: fmt::Write>(&self, f: &mut fmt::Formatter<W>) -> fmt::Result {
+        match self {
+            InAdditions::Count(wrong) => write_part("number of additions", wrong, f),
+            InAdditions::Presence { missing } => write!(f, "{missing} presence bits are missing"),
+            InAdditions::NoneThere => write!(f, "no addition is there"),
+            InAdditions::Part(wrong) => write!(f, "{wrong}"),
+        }
+    }
+}
+
+impl<E: Explain> Explain for InAdditions<E> {
+    fn is_reason(&self) -> bool {
+        match self {
+            InAdditions::Count(_) => false,
+            InAdditions::Part(wrong) => wrong.is_reason(),
+            _ => true,
+        }
+    }
+}
+
+impl<E: fmt::Display> fmt::Display for AdditionsMisfit<E> {
+    fn fmt<W: fmt::Write>(&self, f: &mut fmt::Formatter<W>) -> fmt::Result {
+        match self {
+            AdditionsMisfit::Count(wrong) => write_part("number of additions", wrong, f),
+            AdditionsMisfit::Part(wrong) => write!(f, "{wrong}"),
+        }
+    }
+}
+
+impl<E: Explain> Explain for AdditionsMisfit<E> {
+    fn is_reason(&self) -> bool {
+        match self {
+            AdditionsMisfit::Count(_) => false,
+            AdditionsMisfit::Part(wrong) => wrong.is_reason(),
+        }
+    }
+}
+
+impl<E: fmt::Display, F: fmt::Display> fmt::Display for InRootOrAdditions<E, F> {
+    fn fmt<W: fmt::Write>(&self, f: &mut fmt::Formatter<W>) -> fmt::Result {
+        match self {
+            InRootOrAdditions::Marker => write!(f, "the marker's bit is missing"),
+            InRootOrAdditions::Root(wrong) => write!(f, "{wrong}"),
+            InRootOrAdditions::Extra(wrong) => write!(f, "{wrong}"),
+        }
+    }
+}
+
+impl<E: Explain, F: Explain> Explain for InRootOrAdditions<E, F> {
+    fn is_reason(&self) -> bool {
+        match self {
+            InRootOrAdditions::Marker => true,
+            InRootOrAdditions::Root(wrong) => wrong.is_reason(),
+            InRootOrAdditions::Extra(wrong) => wrong.is_reason(),
         }
     }
 }

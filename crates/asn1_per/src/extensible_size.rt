@@ -5,7 +5,7 @@ ghost use Rattle.asn1_bits.specs.BitReader.{bits_left};
 ghost use Rattle.asn1_formats.specs.Spelling.{Starts};
 
 use crate::length::{Length, LengthFault, LongLength, next_length};
-use asn1_formats::{Format, Refusal, Size, SizeFault, next_bit, push_bit, sum_of};
+use asn1_formats::{Counts, Format, Refusal, Size, SizeFault, next_bit, push_bit, sum_of};
 use asn1_values::{BitBuffer, BitReader};
 use std::alloc::Global;
 
@@ -96,20 +96,12 @@ impl Format for ExtensibleSize {
 
     fn take(
         &self,
-        alloc: Global,
+        _alloc: Global,
         reader: &mut BitReader<'_>,
     ) -> Result<u64, Refusal<InExtensible<SizeFault, BeyondRootFault>>> {
-        match next_bit(reader) {
-            None => Err(Refusal::Wrong(InExtensible::Marker)),
-            Some(false) => match self.root.take(alloc, reader) {
-                Ok(size) => Ok(size),
-                Err(Refusal::Wrong(e)) => Err(Refusal::Wrong(InExtensible::Root(e))),
-                Err(Refusal::Memory) => Err(Refusal::Memory),
-            },
-            Some(true) => match next_beyond_root(&self.root, reader) {
-                Ok(size) => Ok(size),
-                Err(e) => Err(Refusal::Wrong(InExtensible::Extension(e))),
-            },
+        match self.next_count(reader) {
+            Ok(size) => Ok(size),
+            Err(e) => Err(Refusal::Wrong(e)),
         }
     }
 
@@ -117,16 +109,9 @@ impl Format for ExtensibleSize {
         &self,
         reader: &mut BitReader<'_>,
     ) -> Result<(), InExtensible<SizeFault, BeyondRootFault>> {
-        match next_bit(reader) {
-            None => Err(InExtensible::Marker),
-            Some(false) => match self.root.skip(reader) {
-                Ok(()) => Ok(()),
-                Err(e) => Err(InExtensible::Root(e)),
-            },
-            Some(true) => match next_beyond_root(&self.root, reader) {
-                Ok(_) => Ok(()),
-                Err(e) => Err(InExtensible::Extension(e)),
-            },
+        match self.next_count(reader) {
+            Ok(_) => Ok(()),
+            Err(e) => Err(e),
         }
     }
 
@@ -143,6 +128,57 @@ impl Format for ExtensibleSize {
     ghost names_fault = { λ f. extensible_size_names_fault f.root.least f.root.most f.root.ordered };
 
     ghost names_misfit = { λ f. extensible_size_names_misfit f.root.least f.root.most f.root.ordered };
+}
+
+impl Counts for ExtensibleSize {
+    ghost use Rattle.asn1_formats.specs.Numbers.{IsSize, IsSizeFault};
+    ghost use Rattle.asn1_per.specs.Extensions.{IsMarked, MarkedFault, IsBeyondRoot, IsBeyondRootFault, IsBeyondMisfit};
+    ghost use Rattle.asn1_per.specs.ExtensionLaws.{extensible_size_reads_one, extensible_size_spells_one, extensible_size_names_fault, extensible_size_names_misfit};
+
+    type Fault = InExtensible<SizeFault, BeyondRootFault>;
+
+    type Misfit = LongLength;
+
+    ghost counts = { λ f n list.
+        IsMarked (IsSize f.root.least f.root.most) (IsBeyondRoot f.root.least f.root.most) n list };
+
+    ghost is_count_fault = { λ f list e.
+        MarkedFault (IsSizeFault f.root.least f.root.most) (IsBeyondRootFault f.root.least f.root.most) list e };
+
+    ghost is_count_misfit = { λ f n e. IsBeyondMisfit f.root.least f.root.most n e };
+
+    fn append_count(&self, buffer: &mut BitBuffer, count: u64) -> Result<(), Refusal<LongLength>> {
+        self.append(buffer, &count)
+    }
+
+    fn measure_count(&self, count: u64) -> Result<Option<usize>, LongLength> {
+        self.measure(&count)
+    }
+
+    fn next_count(
+        &self,
+        reader: &mut BitReader<'_>,
+    ) -> Result<u64, InExtensible<SizeFault, BeyondRootFault>> {
+        match next_bit(reader) {
+            None => Err(InExtensible::Marker),
+            Some(false) => match self.root.next_count(reader) {
+                Ok(size) => Ok(size),
+                Err(e) => Err(InExtensible::Root(e)),
+            },
+            Some(true) => match next_beyond_root(&self.root, reader) {
+                Ok(size) => Ok(size),
+                Err(e) => Err(InExtensible::Extension(e)),
+            },
+        }
+    }
+
+    ghost reads_one_count = { λ f. extensible_size_reads_one f.root.least f.root.most };
+
+    ghost spells_one_count = { λ f. extensible_size_spells_one f.root.least f.root.most f.root.ordered };
+
+    ghost names_count_fault = { λ f. extensible_size_names_fault f.root.least f.root.most f.root.ordered };
+
+    ghost names_count_misfit = { λ f. extensible_size_names_misfit f.root.least f.root.most f.root.ordered };
 }
 
 ghost use Rattle.std.specs.Prelude.{⊤, OnOk, OnErr, ◌^◌, ◌≤◌};

@@ -4,7 +4,7 @@ ghost use Rattle.std.specs.Prelude.{◌≡◌, ℕ, ◌+◌, ◌^◌, ◌<◌, �
 ghost use Rattle.asn1_bits.specs.BitReader.{bits_left};
 ghost use Rattle.asn1_formats.specs.Spelling.{Starts, Measures, IsWritten};
 
-use asn1_formats::{Format, Refusal, next_number, push_number};
+use asn1_formats::{Counts, Format, Refusal, next_number, push_number};
 use asn1_values::{BitBuffer, BitReader};
 use std::alloc::{AllocError, Global};
 
@@ -107,6 +107,41 @@ impl Format for Length {
     ghost names_fault = { λ f. length_names_fault };
 
     ghost names_misfit = { λ f. length_names_misfit };
+}
+
+impl Counts for Length {
+    ghost use Rattle.asn1_per.specs.Lengths.{IsLengthDeterminant, LengthFaultIs};
+    ghost use Rattle.asn1_per.specs.LengthLaws.{length_reads_one, length_spells_one, length_names_fault, length_names_misfit};
+
+    type Fault = LengthFault;
+
+    type Misfit = LongLength;
+
+    ghost counts = { λ f n list. IsLengthDeterminant n list };
+
+    ghost is_count_fault = { λ f list e. LengthFaultIs list e };
+
+    ghost is_count_misfit = { λ f n e. 2 ^ 14 ≤ n };
+
+    fn append_count(&self, buffer: &mut BitBuffer, count: u64) -> Result<(), Refusal<LongLength>> {
+        self.append(buffer, &count)
+    }
+
+    fn measure_count(&self, count: u64) -> Result<Option<usize>, LongLength> {
+        self.measure(&count)
+    }
+
+    fn next_count(&self, reader: &mut BitReader<'_>) -> Result<u64, LengthFault> {
+        next_length(reader)
+    }
+
+    ghost reads_one_count = { λ f. length_reads_one };
+
+    ghost spells_one_count = { λ f. length_spells_one };
+
+    ghost names_count_fault = { λ f. length_names_fault };
+
+    ghost names_count_misfit = { λ f. length_names_misfit };
 }
 
 ghost use Rattle.asn1_per.specs.Lengths.{IsLengthDeterminant, LengthFaultIs};

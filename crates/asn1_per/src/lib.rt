@@ -1,19 +1,31 @@
 //! The parts of a PER message that stand behind a length determinant, as formats that one composes.
 #![tactic(auto)]
 
+mod addition;
+mod additions;
 mod complete;
 mod explain;
 mod extended;
+mod extensible;
 mod extensible_size;
+mod extension;
 mod length;
+mod message;
 mod natural_number;
+mod no_additions;
 mod open_type;
+mod presence;
 mod unconstrained_number;
 
+pub use addition::Addition;
+pub use additions::{Additions, AdditionsMisfit, InAdditions};
 pub use complete::{Complete, InComplete};
 pub use extended::Extended;
+pub use extensible::{Extensible, InRootOrAdditions};
 pub use extensible_size::{BeyondRootFault, ExtensibleSize, InExtensible};
 pub use length::{Length, LengthFault, LongLength};
+pub use message::{DecodeError, decode, encode};
 pub use natural_number::{NaturalFault, NaturalNumber};
-pub use open_type::{EndFault, InOpenType, OpenMisfit, OpenType};
+pub use no_additions::NoAdditions;
+pub use open_type::{EndFault, InOpenType, Open, OpenMisfit, OpenType};
 pub use unconstrained_number::{UnconstrainedFault, UnconstrainedNumber};

@@ -19,6 +19,11 @@ pub struct OpenType<F> {
     pub part: F,
 }
 
+/// The formats of open types, as each addition behind an extension marker is one (X.691 19.9).
+pub trait Open: Format {}
+
+impl<F: Format> Open for OpenType<F> {}
+
 /// What is wrong with the bits of an open type.
 #[derive(Clone, Copy, Debug, PartialEq, Eq, Drop)]
 pub enum InOpenType<E> {

@@ -2,6 +2,8 @@
 #![tactic(auto)]
 
 #[cfg(test)]
+mod additions;
+#[cfg(test)]
 mod calls;
 #[cfg(test)]
 mod encodings;
@@ -13,5 +15,9 @@ mod extensible_sizes;
 mod integers;
 #[cfg(test)]
 mod lengths;
+#[cfg(test)]
+mod lists;
+#[cfg(test)]
+mod messages;
 #[cfg(test)]
 mod naturals;

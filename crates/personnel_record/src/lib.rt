@@ -1,20 +1,24 @@
-//! The worked example of X.691 A.2 on the value layer: a personnel record, with its subtypes, in CANONICAL-PER,
-//! unaligned.
+//! The worked examples of X.691 A.2 and A.3 as compositions of formats: a personnel record with its subtypes, and the same
+//! with extension markers, in unaligned PER.
 //!
-//! [`encode`] and [`decode`] are made of `write_fields` and `read_fields`, part by part: [`PersonnelRecord`] says which
-//! parts there are.
+//! [`record_format`] is the format of A.2. [`encode`] writes CANONICAL-PER; [`decode`] reads BASIC-PER, in which a sender may
+//! write an empty list of children out.
 #![tactic(auto)]
 
-mod error;
-mod read;
+mod extended;
+mod format;
 mod record;
-mod string_type;
-mod string_types;
+mod strings;
 #[cfg(test)]
 mod tests;
-mod write;
 
-pub use error::{DecodeError, EncodeError, Part};
-pub use read::decode;
+pub use asn1_per::{DecodeError, decode, encode};
+pub use extended::{
+    ExtensibleChild, ExtensibleName, ExtensibleNumber, ExtensibleRecordFormat, Sex,
+    extensible_record_format,
+};
+pub use format::{
+    ChildFormat, ChildParts, NameFormat, NameParts, RecordFormat, RecordParts, record_format,
+};
 pub use record::{ChildInformation, Name, PersonnelRecord};
-pub use write::encode;
+pub use strings::{ExtensibleText, Text, Title};

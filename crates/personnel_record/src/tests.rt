@@ -1,3 +1,5 @@
-//! Tests.
+//! Tests of the records of the standard.
 
+mod extended;
 mod standard;
+mod values;

@@ -1,14 +1,4 @@
-use Rattle.asn1_bits.specs.BitReader.{bits_left}
-use Rattle.asn1_formats.specs.Numbers.{IsSize}
-use Rattle.asn1_formats.proofs.ListSteps.{counted_of}
 use Rattle.asn1_formats.proofs.sequence_of.SequenceOfFormat.skip.Goals as goal
 
-pub returns-in-Ok-skip_items-clause-skipped : goal.returns-in-Ok-skip_items-clause-skipped
-returns-in-Ok-skip_items-clause-skipped g c =
-    let f = c.args.self.now in
-    let q = c.in-Ok-skip_items.ensures.skipped in (
-      q.0,
-      counted_of (IsSize f.size.least f.size.most) (g.A.Format.reads f.item) c.in-Ok.count q.0
-          (bits_left c.args.reader.now) (bits_left c.next_in.new.reader) (bits_left c.skip_items.new.reader)
-          c.in-Ok.ensures.read q.1,
-    )
+pub returns-in-Ok-clause-skipped : goal.returns-in-Ok-clause-skipped
+returns-in-Ok-clause-skipped g c = let p = c.in-Ok.ensures.skipped in (p.0, p.1)

@@ -1,0 +1,14 @@
+use Rattle.std.proofs.Common.{List, [], map}
+use Rattle.asn1_formats.specs.Combined.{AreCounted}
+use Rattle.asn1_formats.specs.DefaultLaws.{default_fits}
+use Rattle.asn1_formats.proofs.canonical_empty.CanonicalEmptyComponents.measure.Goals as goal
+
+pub returns-then-is_empty-clause-shown : goal.returns-then-is_empty-clause-shown
+returns-then-is_empty-clause-shown g c =
+    default_fits [] c.is_empty.result (map g.A.Format.plain c.args.value.now.items)
+    c.is_empty.ensures
+
+pub returns-in-Ok-clause-shown : goal.returns-in-Ok-clause-shown
+returns-in-Ok-clause-shown g c =
+    default_fits [] c.is_empty.result (map g.A.Format.plain c.args.value.now.items)
+    c.is_empty.ensures

@@ -1,0 +1,170 @@
+//! DEFAULT {} as BASIC-PER has it.
+
+use crate::bit::{next_bit, push_bit};
+use crate::components::Components;
+use crate::counts::Counts;
+use crate::format::Format;
+use crate::refusal::Refusal;
+use crate::sequence_of::{InSequenceOf, SequenceOf};
+use asn1_values::{BitBuffer, BitReader};
+use std::alloc::{AllocError, Global};
+
+/// `DEFAULT {}` in BASIC-PER: a presence bit of 0 stands for the empty list. Reading takes it written too. Writing leaves
+/// it out, as CANONICAL-PER does (X.691 19.5).
+#[derive(Clone, Copy, Debug)]
+pub struct BasicEmpty<N, A> {
+    /// What it is, where it is written.
+    pub part: SequenceOf<N, A>,
+}
+
+impl<N: Counts, A: Format> Components for BasicEmpty<N, A> {
+    ghost use Rattle.asn1_formats.specs.Sequences.{IfThereFault};
+    ghost use Rattle.std.specs.Prelude.{List, [], map};
+    ghost use Rattle.asn1_formats.specs.Combined.{AreCounted, SequenceOfFault, SequenceOfMisfit};
+    ghost use Rattle.asn1_formats.specs.ListLaws.{counted_reads_one, counted_spells_one, counted_names_fault, counted_names_misfit};
+    ghost use Rattle.asn1_formats.specs.WithinLaws.{counted_within};
+    ghost use Rattle.asn1_formats.specs.Defaults.{ShowsDefault, SpellsDefault, ReadsBasic, DefaultMisfit};
+    ghost use Rattle.asn1_formats.specs.DefaultLaws.{default_size, default_shows_one, basic_within, basic_alone, basic_reads_one, basic_names_fault, default_spells_one, default_names_misfit};
+
+    type Value = Vec<A::Value>;
+
+    type Fault = InSequenceOf<N::Fault, A::Fault>;
+
+    type Misfit = InSequenceOf<N::Misfit, A::Misfit>;
+
+    ghost Plain = { List A.Plain };
+
+    ghost plain = { λ v. map A.plain v.items };
+
+    ghost count = { λ f. 1 };
+
+    ghost shows = { λ f x p. ShowsDefault [] x p };
+
+    ghost spells = { λ f x list.
+        SpellsDefault (λ ys l. AreCounted (N.counts f.part.size) (A.spells f.part.item) ys l) [] x list };
+
+    ghost reads = { λ f p x list.
+        ReadsBasic (λ ys l. AreCounted (N.counts f.part.size) (A.reads f.part.item) ys l) [] p x list };
+
+    ghost is_fault = { λ f p list e.
+        IfThereFault (λ l e. SequenceOfFault (N.counts f.part.size) (A.reads f.part.item) (N.is_count_fault
+        f.part.size) (A.is_fault f.part.item) l e) p list e };
+
+    ghost is_misfit = { λ f x e.
+        DefaultMisfit (λ ys e. SequenceOfMisfit (N.counts f.part.size) (A.spells f.part.item) (N.is_count_misfit
+        f.part.size) (A.is_misfit f.part.item) ys e) [] x e };
+
+    ghost owns_nothing = { λ f. ⊥ };
+
+    ghost is_canonical = { λ f. ⊥ };
+
+    fn optional_count(&self) -> Option<usize> {
+        Some(1)
+    }
+
+    fn append_presence(
+        &self,
+        buffer: &mut BitBuffer,
+        value: &Vec<A::Value>,
+    ) -> Result<(), AllocError> {
+        push_bit(buffer, !self.part.is_empty(value))
+    }
+
+    fn append(
+        &self,
+        buffer: &mut BitBuffer,
+        value: &Vec<A::Value>,
+    ) -> Result<(), Refusal<InSequenceOf<N::Misfit, A::Misfit>>> {
+        if self.part.is_empty(value) {
+            return Ok(());
+        }
+        match self.part.append(buffer, value) {
+            Ok(()) => Ok(()),
+            Err(Refusal::Wrong(e)) => Err(Refusal::Wrong(e)),
+            Err(Refusal::Memory) => Err(Refusal::Memory),
+        }
+    }
+
+    fn measure(
+        &self,
+        value: &Vec<A::Value>,
+    ) -> Result<Option<usize>, InSequenceOf<N::Misfit, A::Misfit>> {
+        if self.part.is_empty(value) {
+            return Ok(Some(0));
+        }
+        match self.part.measure(value) {
+            Ok(len) => Ok(len),
+            Err(e) => Err(e),
+        }
+    }
+
+    fn take(
+        &self,
+        alloc: Global,
+        presence: &mut BitReader<'_>,
+        reader: &mut BitReader<'_>,
+    ) -> Result<Vec<A::Value>, Refusal<InSequenceOf<N::Fault, A::Fault>>> {
+        match next_bit(presence) {
+            None => unreachable!(),
+            Some(false) => Ok(Vec::new(alloc)),
+            Some(true) => match self.part.take(alloc, reader) {
+                Ok(value) => Ok(value),
+                Err(Refusal::Wrong(e)) => Err(Refusal::Wrong(e)),
+                Err(Refusal::Memory) => Err(Refusal::Memory),
+            },
+        }
+    }
+
+    fn skip(
+        &self,
+        presence: &mut BitReader<'_>,
+        reader: &mut BitReader<'_>,
+    ) -> Result<(), InSequenceOf<N::Fault, A::Fault>> {
+        match next_bit(presence) {
+            None => unreachable!(),
+            Some(false) => Ok(()),
+            Some(true) => match self.part.skip(reader) {
+                Ok(()) => Ok(()),
+                Err(e) => Err(e),
+            },
+        }
+    }
+
+    ghost as_many = { λ f. default_size [] };
+
+    ghost shows_one = { λ f. default_shows_one [] };
+
+    ghost spelled_is_read = { λ f.
+        basic_within (λ ys l. AreCounted (N.counts f.part.size) (A.spells f.part.item) ys l) (λ ys l. AreCounted
+        (N.counts f.part.size) (A.reads f.part.item) ys l) (counted_within (N.counts f.part.size) (A.spells
+        f.part.item) (A.reads f.part.item) (A.spelled_is_read f.part.item)) [] };
+
+    ghost read_is_spelled = { λ f canonical.
+        basic_alone (λ x p. ShowsDefault [] x p)
+        (λ x l. SpellsDefault (λ ys l. AreCounted (N.counts f.part.size) (A.spells f.part.item) ys l) [] x l)
+        (λ p x l. ReadsBasic (λ ys l. AreCounted (N.counts f.part.size) (A.reads f.part.item) ys l) [] p x l)
+        canonical };
+
+    ghost reads_one = { λ f p.
+        basic_reads_one (λ ys l. AreCounted (N.counts f.part.size) (A.reads f.part.item) ys l) [] p
+        (counted_reads_one (N.counts f.part.size) (A.reads f.part.item) (N.reads_one_count f.part.size)
+        (A.reads_one f.part.item)) };
+
+    ghost spells_one = { λ f.
+        default_spells_one (λ ys l. AreCounted (N.counts f.part.size) (A.spells f.part.item) ys l) []
+        (counted_spells_one (N.counts f.part.size) (A.spells f.part.item) (N.spells_one_count f.part.size)
+        (A.spells_one f.part.item)) };
+
+    ghost names_fault = { λ f p.
+        basic_names_fault (λ ys l. AreCounted (N.counts f.part.size) (A.reads f.part.item) ys l) [] p (λ l e.
+        SequenceOfFault (N.counts f.part.size) (A.reads f.part.item) (N.is_count_fault f.part.size) (A.is_fault
+        f.part.item) l e) (counted_names_fault (N.counts f.part.size) (A.reads f.part.item) (N.is_count_fault
+        f.part.size) (A.is_fault f.part.item) (N.reads_one_count f.part.size) (A.reads_one f.part.item)
+        (N.names_count_fault f.part.size) (A.names_fault f.part.item)) };
+
+    ghost names_misfit = { λ f.
+        default_names_misfit (λ ys l. AreCounted (N.counts f.part.size) (A.spells f.part.item) ys l) [] (λ ys e.
+        SequenceOfMisfit (N.counts f.part.size) (A.spells f.part.item) (N.is_count_misfit f.part.size) (A.is_misfit
+        f.part.item) ys e) (counted_names_misfit (N.counts f.part.size) (A.spells f.part.item) (N.is_count_misfit
+        f.part.size) (A.is_misfit f.part.item) (N.names_count_misfit f.part.size) (A.names_misfit f.part.item)) };
+}

@@ -1,5 +1,0 @@
-pub mod Parts
-pub mod Record
-pub mod Refusals
-pub mod StringType
-pub mod Types
