@@ -1,0 +1,7 @@
+-- The words of the contracts.
+pub mod Tags
+pub mod Lengths
+-- Laws of these words, which the formats' laws are made of.
+pub mod TagLaws
+pub mod LengthLaws
+pub mod CountLaws
