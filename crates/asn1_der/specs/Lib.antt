@@ -1,7 +1,10 @@
 -- The words of the contracts.
 pub mod Tags
 pub mod Lengths
+pub mod Contents
+pub mod Elements
 -- Laws of these words, which the formats' laws are made of.
 pub mod TagLaws
 pub mod LengthLaws
 pub mod CountLaws
+pub mod TlvLaws
