@@ -3,8 +3,13 @@ pub mod Tags
 pub mod Lengths
 pub mod Contents
 pub mod Elements
+pub mod Tagged
+pub mod Parts
 -- Laws of these words, which the formats' laws are made of.
 pub mod TagLaws
 pub mod LengthLaws
 pub mod CountLaws
 pub mod TlvLaws
+pub mod TaggedLaws
+pub mod PartLaws
+pub mod OptionalLaws
