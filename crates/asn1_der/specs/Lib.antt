@@ -5,6 +5,7 @@ pub mod Contents
 pub mod Elements
 pub mod Tagged
 pub mod Parts
+pub mod Primitives
 -- Laws of these words, which the formats' laws are made of.
 pub mod TagLaws
 pub mod LengthLaws
@@ -13,3 +14,5 @@ pub mod TlvLaws
 pub mod TaggedLaws
 pub mod PartLaws
 pub mod OptionalLaws
+pub mod PrimitiveLaws
+pub mod IntegerLaws

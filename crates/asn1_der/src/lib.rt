@@ -1,21 +1,27 @@
 //! DER (X.690): identifier octets, lengths and contents, as formats that one composes.
 #![tactic(auto)]
 
+mod boolean;
 mod contents;
 mod elements;
 mod end;
 mod front;
+mod integer;
 mod length;
+mod octet_string;
 mod optional;
 mod required;
 mod tag;
 mod tagged;
 mod tlv;
 
+pub use boolean::{BooleanContents, BooleanFault};
 pub use contents::Contents;
 pub use elements::Elements;
 pub use end::{End, NotEnd};
+pub use integer::{IntegerContents, NotShortest};
 pub use length::LengthFault;
+pub use octet_string::OctetStringContents;
 pub use optional::{Optional, OptionalMisfit};
 pub use required::Required;
 pub use tag::{Class, Tag, TagFault};
