@@ -6,6 +6,7 @@ pub mod Elements
 pub mod Tagged
 pub mod Parts
 pub mod Primitives
+pub mod Items
 -- Laws of these words, which the formats' laws are made of.
 pub mod TagLaws
 pub mod LengthLaws
@@ -16,3 +17,4 @@ pub mod PartLaws
 pub mod OptionalLaws
 pub mod PrimitiveLaws
 pub mod IntegerLaws
+pub mod ItemLaws
