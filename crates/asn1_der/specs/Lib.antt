@@ -7,6 +7,7 @@ pub mod Tagged
 pub mod Parts
 pub mod Primitives
 pub mod Items
+pub mod ViewOctets
 -- Laws of these words, which the formats' laws are made of.
 pub mod TagLaws
 pub mod LengthLaws
@@ -18,3 +19,4 @@ pub mod OptionalLaws
 pub mod PrimitiveLaws
 pub mod IntegerLaws
 pub mod ItemLaws
+pub mod AnyLaws

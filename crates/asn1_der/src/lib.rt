@@ -1,6 +1,7 @@
 //! DER (X.690): identifier octets, lengths and contents, as formats that one composes.
 #![tactic(auto)]
 
+mod any;
 mod boolean;
 mod contents;
 mod elements;
@@ -16,7 +17,9 @@ mod sequence_of;
 mod tag;
 mod tagged;
 mod tlv;
+mod view_octets;
 
+pub use any::{Any, AnyValue};
 pub use boolean::{BooleanContents, BooleanFault};
 pub use contents::Contents;
 pub use elements::Elements;
@@ -30,4 +33,4 @@ pub use required::Required;
 pub use sequence_of::SequenceOf;
 pub use tag::{Class, Tag, TagFault};
 pub use tagged::Tagged;
-pub use tlv::{InTlv, Tlv, TlvMisfit};
+pub use tlv::{ElementFault, InTlv, Tlv, TlvMisfit};

@@ -44,9 +44,9 @@ pub enum TlvMisfit<E> {
     TooLong,
 }
 
-/// What is wrong in front of the contents of an element.
-#[derive(Drop)]
-pub(crate) enum NoElement {
+/// What is wrong with an element in front of its contents.
+#[derive(Clone, Copy, Debug, PartialEq, Eq, Drop)]
+pub enum ElementFault {
     /// The identifier octets.
     Tag(TagFault),
     /// The length, or the number of octets behind it.
@@ -57,7 +57,7 @@ pub(crate) enum NoElement {
 pub(crate) fn next_element<'a>(
     reader: &mut BitReader<'a>,
     tag: Tag,
-) -> Result<BitReader<'a>, NoElement>
+) -> Result<BitReader<'a>, ElementFault>
     ensures read { IfOk result (λ r.
         Starts (λ c list. IsElement tag c list) (bits_left reader.old) (bits_left r) (bits_left reader.new)) }
     ensures whole { IfOk result (λ r. (view_left r).len % 8 ≡ 0) }
@@ -65,11 +65,11 @@ pub(crate) fn next_element<'a>(
 {
     match pass_tag(reader, tag) {
         Ok(()) => {}
-        Err(fault) => return Err(NoElement::Tag(fault)),
+        Err(fault) => return Err(ElementFault::Tag(fault)),
     }
     match next_counted(reader) {
         Ok(contents) => Ok(contents),
-        Err(fault) => Err(NoElement::Length(fault)),
+        Err(fault) => Err(ElementFault::Length(fault)),
     }
 }
 
@@ -135,8 +135,8 @@ impl<C: Contents> Format for Tlv<C> {
     ) -> Result<C::Value, Refusal<InTlv<C::Fault>>> {
         let contents = match next_element(reader, self.tag) {
             Ok(contents) => contents,
-            Err(NoElement::Tag(fault)) => return Err(Refusal::Wrong(InTlv::Tag(fault))),
-            Err(NoElement::Length(fault)) => return Err(Refusal::Wrong(InTlv::Length(fault))),
+            Err(ElementFault::Tag(fault)) => return Err(Refusal::Wrong(InTlv::Tag(fault))),
+            Err(ElementFault::Length(fault)) => return Err(Refusal::Wrong(InTlv::Length(fault))),
         };
         match self.contents.take(alloc, contents) {
             Ok(value) => Ok(value),
@@ -148,8 +148,8 @@ impl<C: Contents> Format for Tlv<C> {
     fn skip(&self, reader: &mut BitReader<'_>) -> Result<(), InTlv<C::Fault>> {
         let contents = match next_element(reader, self.tag) {
             Ok(contents) => contents,
-            Err(NoElement::Tag(fault)) => return Err(InTlv::Tag(fault)),
-            Err(NoElement::Length(fault)) => return Err(InTlv::Length(fault)),
+            Err(ElementFault::Tag(fault)) => return Err(InTlv::Tag(fault)),
+            Err(ElementFault::Length(fault)) => return Err(InTlv::Length(fault)),
         };
         match self.contents.check(contents) {
             Ok(()) => Ok(()),
