@@ -7,6 +7,7 @@ pub mod Tagged
 pub mod Parts
 pub mod Primitives
 pub mod Items
+pub mod Identifiers
 pub mod ViewOctets
 -- Laws of these words, which the formats' laws are made of.
 pub mod TagLaws
@@ -20,3 +21,4 @@ pub mod PrimitiveLaws
 pub mod IntegerLaws
 pub mod ItemLaws
 pub mod AnyLaws
+pub mod IdentifierLaws
