@@ -7,6 +7,7 @@ pub mod Tagged
 pub mod Parts
 pub mod Primitives
 pub mod Items
+pub mod BitStrings
 pub mod Identifiers
 pub mod ViewOctets
 -- Laws of these words, which the formats' laws are made of.
@@ -22,3 +23,4 @@ pub mod IntegerLaws
 pub mod ItemLaws
 pub mod AnyLaws
 pub mod IdentifierLaws
+pub mod BitStringLaws

@@ -2,6 +2,7 @@
 #![tactic(auto)]
 
 mod any;
+mod bit_string;
 mod boolean;
 mod contents;
 mod elements;
@@ -21,6 +22,7 @@ mod tlv;
 mod view_octets;
 
 pub use any::{Any, AnyValue};
+pub use bit_string::{BitStringContents, BitStringFault};
 pub use boolean::{BooleanContents, BooleanFault};
 pub use contents::Contents;
 pub use elements::Elements;
