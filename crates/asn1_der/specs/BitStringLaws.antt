@@ -178,9 +178,9 @@ not_zero list mid left rest n count v few enough many s f t some =
         few,
         enough,
         λ z.
-        let zero : left ≡ digits 0 n = f ∙ ap (λ (k : ℕ). drop k mid) many ∙ z in
-        let same : v ≡ 0 = one_number n v 0 left is (pos, zero) in
-        omega arith,
+            let zero : left ≡ digits 0 n = f ∙ ap (λ (k : ℕ). drop k mid) many ∙ z in
+            let same : v ≡ 0 = one_number n v 0 left is (pos, zero) in
+            omega arith,
       );
     })
 

@@ -158,8 +158,12 @@ pub long_measured : (n octets : ℕ) → octets ≤ 8 → 128 ≤ n → 2 ^ (8 *
 long_measured n octets few long least below = record {
   list = digits (128 + octets) 8 ++ digits n (8 * octets);
   spelled = long_is n octets (digits (128 + octets) 8) (digits n (8 * octets)) few long least below refl refl;
-  size = omega (arith, length-append (digits (128 + octets) 8) (digits n (8 * octets)), length-digits (128 + octets) 8,
-  length-digits n (8 * octets));
+  size = omega (
+    arith,
+    length-append (digits (128 + octets) 8) (digits n (8 * octets)),
+    length-digits (128 + octets) 8,
+    length-digits n (8 * octets),
+  );
 }
 
 pub long_written : (old mid new : List Bool) (n octets : ℕ) → octets ≤ 8 → 128 ≤ n → 2 ^ (8 * (octets - 1)) ≤ n

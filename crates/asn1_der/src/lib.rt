@@ -7,6 +7,7 @@ mod boolean;
 mod contents;
 mod elements;
 mod end;
+mod explain;
 mod front;
 mod integer;
 mod items;

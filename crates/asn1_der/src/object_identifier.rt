@@ -11,7 +11,9 @@ ghost use Rattle.asn1_der.specs.ViewOctets.{octets_in};
 use crate::contents::Contents;
 use crate::view_octets::ViewOctets;
 use asn1_formats::{Refusal, push_number};
-use asn1_values::{BitBuffer, BitReader, ContentsError, ObjectIdentifier, OidContents, check_contents};
+use asn1_values::{
+    BitBuffer, BitReader, ContentsError, ObjectIdentifier, OidContents, check_contents,
+};
 use std::alloc::{AllocError, Global};
 
 /// The contents of an OBJECT IDENTIFIER: its subidentifiers (X.690 8.19). Each arc fits 32 bits.
