@@ -56,7 +56,9 @@ fn other_lengths_are_refused(rt: HostRuntime) -> Result<(), Fail> {
     );
     assert_eq!(rt;
         found(&format, rt.alloc(), &[0x05, 0x00]).err(),
-        Some(Refusal::Wrong(InTlv::Tag(TagFault::Other { found: universal(5, false) })))
+        Some(Refusal::Wrong(InTlv::Tag(TagFault::Other {
+            found: universal(5, false)
+        })))
     );
     assert_eq!(rt;
         found(&format, rt.alloc(), &[0x1F, 0x20, 0x00]).err(),
@@ -87,12 +89,20 @@ fn an_optional_element_is_told_by_its_tag(rt: HostRuntime) -> Result<(), Fail> {
     let format = setting();
     let with = (Some(true), (Integer::from(5), ()));
     let octets = [0x30, 0x06, 0x01, 0x01, 0xFF, 0x02, 0x01, 0x05];
-    assert_eq!(rt; written(&format, rt.alloc(), &with)?.as_slice(), octets.as_slice());
+    assert_eq!(rt;
+        written(&format, rt.alloc(), &with)?.as_slice(),
+        octets.as_slice()
+    );
     let without = found(&format, rt.alloc(), &[0x30, 0x03, 0x02, 0x01, 0x05])?;
     assert_eq!(rt; without.0, None);
     assert_eq!(rt; without.1.0.to_i128(), Some(5));
     assert_eq!(rt;
-        found(&format, rt.alloc(), &[0x30, 0x05, 0x02, 0x01, 0x05, 0x05, 0x00]).err(),
+        found(
+            &format,
+            rt.alloc(),
+            &[0x30, 0x05, 0x02, 0x01, 0x05, 0x05, 0x00]
+        )
+        .err(),
         Some(Refusal::Wrong(InTlv::Contents(InThen::Second(InThen::Second(NotEnd { bits: 16 })))))
     );
     Ok(())
@@ -131,15 +141,32 @@ fn the_first_wrong_item_is_named(rt: HostRuntime) -> Result<(), Fail> {
     let octets = [0x30, 0x06, 0x01, 0x01, 0xFF, 0x01, 0x01, 0x00];
     let flags = found(&format, rt.alloc(), &octets)?;
     assert_eq!(rt; flags.as_slice(), [true, false].as_slice());
-    assert_eq!(rt; written(&format, rt.alloc(), &flags)?.as_slice(), octets.as_slice());
     assert_eq!(rt;
-        found(&format, rt.alloc(), &[0x30, 0x05, 0x01, 0x01, 0xFF, 0x01, 0x00]).is_err(),
+        written(&format, rt.alloc(), &flags)?.as_slice(),
+        octets.as_slice()
+    );
+    assert_eq!(rt;
+        found(
+            &format,
+            rt.alloc(),
+            &[0x30, 0x05, 0x01, 0x01, 0xFF, 0x01, 0x00]
+        )
+        .is_err(),
         true
     );
-    match found(&format, rt.alloc(), &[0x30, 0x05, 0x01, 0x01, 0xFF, 0x05, 0x00]) {
+    match found(
+        &format,
+        rt.alloc(),
+        &[0x30, 0x05, 0x01, 0x01, 0xFF, 0x05, 0x00],
+    ) {
         Err(Refusal::Wrong(InTlv::Contents(InItem { index, wrong }))) => {
             assert_eq!(rt; index, 1);
-            assert_eq!(rt; wrong, InTlv::Tag(TagFault::Other { found: universal(5, false) }));
+            assert_eq!(rt;
+                wrong,
+                InTlv::Tag(TagFault::Other {
+                    found: universal(5, false)
+                })
+            );
         }
         _ => return Err("the second item is no BOOLEAN".into()),
     }
