@@ -1,0 +1,9 @@
+use Rattle.std.proofs.Common.{map, take}
+use Rattle.asn1_der.specs.Items.{AreItems}
+use Rattle.asn1_formats.specs.Spelling.{IsWritten}
+use Rattle.asn1_der.proofs.items.append_items.Given as goal
+
+abbrev pub invariant-loop-index : goal.invariant-loop-index
+invariant-loop-index g l =
+    IsWritten (λ ys r. AreItems (g.F.Format.spells l.item) ys r) (map g.F.Format.plain (take l.index l.values))
+    l.initial.buffer l.buffer

@@ -1,0 +1,8 @@
+use Rattle.std.proofs.Common.{map, take}
+use Rattle.asn1_der.specs.Items.{AreItems}
+use Rattle.asn1_formats.specs.Spelling.{Measures}
+use Rattle.asn1_der.proofs.items.measure_items.Given as goal
+
+abbrev pub invariant-loop-index : goal.invariant-loop-index
+invariant-loop-index g l =
+    Measures (λ ys r. AreItems (g.F.Format.spells l.item) ys r) (map g.F.Format.plain (take l.index l.values)) l.total

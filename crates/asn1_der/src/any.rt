@@ -1,0 +1,142 @@
+//! Elements of any tag.
+
+ghost use Rattle.std.specs.Prelude.{◌≡◌};
+
+use crate::length::next_counted;
+use crate::octet_string::{OctetStringContents, octets_of};
+use crate::tag::{Tag, next_tag};
+use crate::tagged::Tagged;
+use crate::tlv::{ElementFault, Tlv, TlvMisfit};
+use asn1_formats::{Format, Refusal};
+use asn1_values::{BitBuffer, BitReader};
+use std::alloc::Global;
+use std::convert::Infallible;
+
+/// An element of any tag, kept as it is: ANY of the older notation, an open type, or a part that is not looked into.
+#[derive(Clone, Copy, Debug)]
+pub struct Any {}
+
+/// An element as it stands. What its octets are is not examined.
+#[derive(Debug, PartialEq, Eq, Drop)]
+pub struct AnyValue {
+    /// The tag.
+    pub tag: Tag,
+    /// The octets of its contents.
+    pub octets: Vec<u8>,
+}
+
+/// The format of the elements with a tag, of which the octets are kept.
+fn element_of(tag: Tag) -> Tlv<OctetStringContents>
+    ensures { result.tag ≡ tag }
+{
+    Tlv {
+        tag,
+        contents: OctetStringContents {},
+    }
+}
+
+impl Format for Any {
+    ghost use Rattle.std.specs.Prelude.{ℕ, List, ⊤};
+    ghost use Rattle.asn1_der.specs.declared.tag.Tag as tags;
+    ghost use Rattle.asn1_der.specs.Elements.{IsAny, AnyFaultIs, AnyMisfitIs};
+    ghost use Rattle.asn1_der.specs.AnyLaws.{any_reads_one, any_spells_one, any_names_fault, any_names_misfit};
+    ghost use Rattle.asn1_formats.specs.WithinLaws.{itself};
+
+    type Value = AnyValue;
+
+    type Fault = ElementFault;
+
+    type Misfit = TlvMisfit<Infallible>;
+
+    ghost Plain = { tags.Tag × List ℕ };
+
+    ghost plain = { λ v. (v.tag, v.octets.items) };
+
+    ghost spells = { λ f x list. IsAny x list };
+
+    ghost reads = { λ f x list. IsAny x list };
+
+    ghost is_fault = { λ f list e. AnyFaultIs list e };
+
+    ghost is_misfit = { λ f x e. AnyMisfitIs x e };
+
+    ghost owns_nothing = { λ f. ⊥ };
+
+    ghost is_canonical = { λ f. ⊤ };
+
+    fn append(
+        &self,
+        buffer: &mut BitBuffer,
+        value: &AnyValue,
+    ) -> Result<(), Refusal<TlvMisfit<Infallible>>> {
+        element_of(value.tag).append(buffer, &value.octets)
+    }
+
+    fn measure(&self, value: &AnyValue) -> Result<Option<usize>, TlvMisfit<Infallible>> {
+        element_of(value.tag).measure(&value.octets)
+    }
+
+    fn take(
+        &self,
+        alloc: Global,
+        reader: &mut BitReader<'_>,
+    ) -> Result<AnyValue, Refusal<ElementFault>> {
+        let tag = match next_tag(reader) {
+            Ok(tag) => tag,
+            Err(fault) => return Err(Refusal::Wrong(ElementFault::Tag(fault))),
+        };
+        let contents = match next_counted(reader) {
+            Ok(contents) => contents,
+            Err(fault) => return Err(Refusal::Wrong(ElementFault::Length(fault))),
+        };
+        match octets_of(alloc, contents) {
+            Ok(octets) => Ok(AnyValue { tag, octets }),
+            Err(_) => Err(Refusal::Memory),
+        }
+    }
+
+    fn skip(&self, reader: &mut BitReader<'_>) -> Result<(), ElementFault> {
+        match next_tag(reader) {
+            Ok(_) => {}
+            Err(fault) => return Err(ElementFault::Tag(fault)),
+        }
+        match next_counted(reader) {
+            Ok(contents) => {
+                let _len = contents.len();
+                Ok(())
+            }
+            Err(fault) => Err(ElementFault::Length(fault)),
+        }
+    }
+
+    ghost spelled_is_read = { λ f. itself (λ x list. IsAny x list) };
+
+    ghost read_is_spelled = { λ f canonical. itself (λ x list. IsAny x list) };
+
+    ghost reads_one = { λ f. any_reads_one };
+
+    ghost spells_one = { λ f. any_spells_one };
+
+    ghost names_fault = { λ f. any_names_fault };
+
+    ghost names_misfit = { λ f. any_names_misfit };
+}
+
+impl Tagged for Any {
+    ghost use Rattle.std.specs.Prelude.{⊤};
+    ghost use Rattle.asn1_der.specs.AnyLaws.{any_tagged};
+
+    ghost accepts = { λ f t. ⊤ };
+
+    fn accepts_tag(&self, _tag: Tag) -> bool {
+        true
+    }
+
+    fn tag_of(&self, value: &AnyValue) -> Tag {
+        value.tag
+    }
+
+    ghost are_tagged = { λ f. any_tagged };
+
+    ghost canonical = { λ f. tt };
+}

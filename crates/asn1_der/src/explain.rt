@@ -1,0 +1,229 @@
+//! What is wrong, in words.
+
+use crate::bit_string::BitStringFault;
+use crate::boolean::BooleanFault;
+use crate::end::NotEnd;
+use crate::integer::NotShortest;
+use crate::items::InItem;
+use crate::length::LengthFault;
+use crate::object_identifier::{IdentifierFault, OneArc};
+use crate::optional::OptionalMisfit;
+use crate::tag::TagFault;
+use crate::tlv::{ElementFault, InTlv, TlvMisfit};
+use asn1_formats::Explain;
+use std::fmt;
+
+impl fmt::Display for TagFault {
+    fn fmt<W: fmt::Write>(&self, f: &mut fmt::Formatter<W>) -> fmt::Result {
+        match self {
+            TagFault::Short { missing } => write!(f, "{missing} bits of the tag are missing"),
+            TagFault::HighNumber => write!(f, "the tag's number is 31 or more"),
+            TagFault::Other { found } => {
+                let number = found.number;
+                write!(f, "another tag, of number {number}")
+            }
+        }
+    }
+}
+
+impl Explain for TagFault {
+    fn is_reason(&self) -> bool {
+        true
+    }
+}
+
+impl fmt::Display for LengthFault {
+    fn fmt<W: fmt::Write>(&self, f: &mut fmt::Formatter<W>) -> fmt::Result {
+        match self {
+            LengthFault::Short { missing } => write!(f, "{missing} bits of the length are missing"),
+            LengthFault::Indefinite => write!(f, "the length is indefinite"),
+            LengthFault::Large => write!(f, "the length has more than eight octets"),
+            LengthFault::NotShortest => write!(f, "fewer octets hold the length"),
+            LengthFault::Missing { missing } => {
+                write!(f, "{missing} bits of the contents are missing")
+            }
+        }
+    }
+}
+
+impl Explain for LengthFault {
+    fn is_reason(&self) -> bool {
+        true
+    }
+}
+
+impl fmt::Display for ElementFault {
+    fn fmt<W: fmt::Write>(&self, f: &mut fmt::Formatter<W>) -> fmt::Result {
+        match self {
+            ElementFault::Tag(wrong) => write!(f, "{wrong}"),
+            ElementFault::Length(wrong) => write!(f, "{wrong}"),
+        }
+    }
+}
+
+impl Explain for ElementFault {
+    fn is_reason(&self) -> bool {
+        true
+    }
+}
+
+impl<E: fmt::Display> fmt::Display for InTlv<E> {
+    fn fmt<W: fmt::Write>(&self, f: &mut fmt::Formatter<W>) -> fmt::Result {
+        match self {
+            InTlv::Tag(wrong) => write!(f, "{wrong}"),
+            InTlv::Length(wrong) => write!(f, "{wrong}"),
+            InTlv::Contents(wrong) => write!(f, "{wrong}"),
+        }
+    }
+}
+
+impl<E: Explain> Explain for InTlv<E> {
+    fn is_reason(&self) -> bool {
+        match self {
+            InTlv::Contents(wrong) => wrong.is_reason(),
+            _ => true,
+        }
+    }
+}
+
+impl<E: fmt::Display> fmt::Display for TlvMisfit<E> {
+    fn fmt<W: fmt::Write>(&self, f: &mut fmt::Formatter<W>) -> fmt::Result {
+        match self {
+            TlvMisfit::HighNumber => write!(f, "the tag's number is 31 or more"),
+            TlvMisfit::Contents(wrong) => write!(f, "{wrong}"),
+            TlvMisfit::TooLong => write!(f, "too many bits"),
+        }
+    }
+}
+
+impl<E: Explain> Explain for TlvMisfit<E> {
+    fn is_reason(&self) -> bool {
+        match self {
+            TlvMisfit::Contents(wrong) => wrong.is_reason(),
+            _ => true,
+        }
+    }
+}
+
+impl fmt::Display for NotEnd {
+    fn fmt<W: fmt::Write>(&self, f: &mut fmt::Formatter<W>) -> fmt::Result {
+        let bits = self.bits;
+        write!(f, "{bits} bits stand behind the last element")
+    }
+}
+
+impl Explain for NotEnd {
+    fn is_reason(&self) -> bool {
+        true
+    }
+}
+
+impl<E: fmt::Display, F: fmt::Display> fmt::Display for OptionalMisfit<E, F> {
+    fn fmt<W: fmt::Write>(&self, f: &mut fmt::Formatter<W>) -> fmt::Result {
+        match self {
+            OptionalMisfit::First(wrong) => write!(f, "{wrong}"),
+            OptionalMisfit::Second(wrong) => write!(f, "{wrong}"),
+            OptionalMisfit::Ambiguous => {
+                write!(f, "what follows has a tag of the element that is missing")
+            }
+        }
+    }
+}
+
+impl<E: Explain, F: Explain> Explain for OptionalMisfit<E, F> {
+    fn is_reason(&self) -> bool {
+        match self {
+            OptionalMisfit::First(wrong) => wrong.is_reason(),
+            OptionalMisfit::Second(wrong) => wrong.is_reason(),
+            OptionalMisfit::Ambiguous => true,
+        }
+    }
+}
+
+impl<E: Explain> fmt::Display for InItem<E> {
+    fn fmt<W: fmt::Write>(&self, f: &mut fmt::Formatter<W>) -> fmt::Result {
+        let index = self.index;
+        let wrong = &self.wrong;
+        if wrong.is_reason() {
+            write!(f, "item {index}: {wrong}")
+        } else {
+            write!(f, "item {index}, {wrong}")
+        }
+    }
+}
+
+impl<E: Explain> Explain for InItem<E> {
+    fn is_reason(&self) -> bool {
+        false
+    }
+}
+
+impl fmt::Display for BooleanFault {
+    fn fmt<W: fmt::Write>(&self, f: &mut fmt::Formatter<W>) -> fmt::Result {
+        match self {
+            BooleanFault::Octets { count } => write!(f, "{count} octets, and not one"),
+            BooleanFault::Other { octet } => write!(f, "the octet is {octet}, and not 0 or 255"),
+        }
+    }
+}
+
+impl Explain for BooleanFault {
+    fn is_reason(&self) -> bool {
+        true
+    }
+}
+
+impl fmt::Display for NotShortest {
+    fn fmt<W: fmt::Write>(&self, f: &mut fmt::Formatter<W>) -> fmt::Result {
+        write!(f, "not a shortest integer")
+    }
+}
+
+impl Explain for NotShortest {
+    fn is_reason(&self) -> bool {
+        true
+    }
+}
+
+impl fmt::Display for IdentifierFault {
+    fn fmt<W: fmt::Write>(&self, f: &mut fmt::Formatter<W>) -> fmt::Result {
+        match self {
+            IdentifierFault::Malformed => write!(f, "no object identifier"),
+            IdentifierFault::LargeArc => write!(f, "an arc passes 32 bits"),
+        }
+    }
+}
+
+impl Explain for IdentifierFault {
+    fn is_reason(&self) -> bool {
+        true
+    }
+}
+
+impl fmt::Display for OneArc {
+    fn fmt<W: fmt::Write>(&self, f: &mut fmt::Formatter<W>) -> fmt::Result {
+        write!(f, "the identifier has one arc")
+    }
+}
+
+impl Explain for OneArc {
+    fn is_reason(&self) -> bool {
+        true
+    }
+}
+
+impl fmt::Display for BitStringFault {
+    fn fmt<W: fmt::Write>(&self, f: &mut fmt::Formatter<W>) -> fmt::Result {
+        match self {
+            BitStringFault::Empty => write!(f, "no octet"),
+            BitStringFault::Unused { count } => write!(f, "{count} bits are said to be unused"),
+            BitStringFault::NotZero => write!(f, "the unused bits are not zero"),
+        }
+    }
+}
+
+impl Explain for BitStringFault {
+    fn is_reason(&self) -> bool {
+        true
+    }
+}

@@ -1,0 +1,114 @@
+//! INTEGER.
+
+ghost use Rattle.std.specs.Prelude.{◌≡◌, ◌%◌, IsTrue, IsFalse};
+ghost use Rattle.asn1_bits.specs.BitReader.{view_left, bits_left};
+ghost use Rattle.asn1_values.specs.Wrong.{IsNoInteger};
+ghost use Rattle.asn1_der.specs.Primitives.{HoldsInteger};
+
+use crate::contents::Contents;
+use crate::octet_string::bit_count;
+use asn1_formats::{Refusal, push_octets};
+use asn1_values::{BitBuffer, BitReader, Integer, integer_of};
+use std::alloc::Global;
+use std::convert::Infallible;
+
+/// The contents of an INTEGER or an ENUMERATED: the fewest two's complement octets of the number (X.690 8.3, 8.4).
+#[derive(Clone, Copy, Debug)]
+pub struct IntegerContents {}
+
+/// There is no octet, or the first nine bits are all alike, so that fewer octets hold the number (X.690 8.3.2).
+#[derive(Clone, Copy, Debug, PartialEq, Eq, Drop)]
+pub struct NotShortest {}
+
+/// Whether the octets that are left are the shortest of a number: one, or more whose first nine bits are not all alike.
+fn is_shortest(contents: &BitReader<'_>) -> bool
+    requires { (view_left contents.now).len % 8 ≡ 0 }
+    ensures yes { IsTrue result → HoldsInteger (bits_left contents.now) }
+    ensures no { IsFalse result → IsNoInteger (bits_left contents.now) }
+{
+    let len = contents.len();
+    if len == 0 {
+        return false;
+    }
+    if len == 8 {
+        return true;
+    }
+    // Bit 8 of the second octet is the ninth.
+    let two = contents.first_bits(16);
+    if two < 0x80 {
+        return false;
+    }
+    if two >= 0xFF80 {
+        return false;
+    }
+    true
+}
+
+impl Contents for IntegerContents {
+    ghost use Rattle.std.specs.Prelude.{ℤ};
+    ghost use Rattle.asn1_der.specs.Primitives.{IsInteger};
+    ghost use Rattle.asn1_der.specs.IntegerLaws.{integer_fills_one, integer_spells_one, integer_whole, integer_names_fault};
+    ghost use Rattle.asn1_der.specs.PartLaws.{none_names_misfit};
+
+    type Value = Integer;
+
+    type Fault = NotShortest;
+
+    type Misfit = Infallible;
+
+    ghost Plain = { ℤ };
+
+    ghost plain = { λ n. n };
+
+    ghost spells = { λ f n list. IsInteger n list };
+
+    ghost is_fault = { λ f list e. IsNoInteger list };
+
+    ghost is_misfit = { λ f n e. ⊥ };
+
+    ghost owns_nothing = { λ f. ⊥ };
+
+    fn append(&self, buffer: &mut BitBuffer, value: &Integer) -> Result<(), Refusal<Infallible>> {
+        let octets = value.signed_octets();
+        match push_octets(buffer, octets.as_ref()) {
+            Ok(()) => Ok(()),
+            Err(_) => Err(Refusal::Memory),
+        }
+    }
+
+    fn measure(&self, value: &Integer) -> Result<Option<usize>, Infallible> {
+        let count = value.signed_len();
+        Ok(bit_count(count))
+    }
+
+    fn take(
+        &self,
+        alloc: Global,
+        contents: BitReader<'_>,
+    ) -> Result<Integer, Refusal<NotShortest>> {
+        if !is_shortest(&contents) {
+            return Err(Refusal::Wrong(NotShortest {}));
+        }
+        match integer_of(alloc, &contents) {
+            Ok(number) => Ok(number),
+            Err(_) => Err(Refusal::Memory),
+        }
+    }
+
+    fn check(&self, contents: BitReader<'_>) -> Result<(), NotShortest> {
+        if !is_shortest(&contents) {
+            return Err(NotShortest {});
+        }
+        Ok(())
+    }
+
+    ghost fills_one = { λ f. integer_fills_one };
+
+    ghost spells_one = { λ f. integer_spells_one };
+
+    ghost are_whole = { λ f. integer_whole };
+
+    ghost names_fault = { λ f. integer_names_fault };
+
+    ghost names_misfit = { λ f. none_names_misfit (λ n list. IsInteger n list) };
+}

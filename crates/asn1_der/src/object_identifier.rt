@@ -1,0 +1,148 @@
+//! OBJECT IDENTIFIER.
+
+ghost use Rattle.std.specs.Prelude.{◌≡◌, ◌/◌, ◌%◌, ◌<◌, ◌++◌, All, OnOk, OnErr};
+ghost use Rattle.asn1_bits.specs.Bits.{bits};
+ghost use Rattle.asn1_bits.specs.BitStr.{view_of, bits_of};
+ghost use Rattle.asn1_bits.specs.BitReader.{view_left, bits_left};
+ghost use Rattle.asn1_oid.specs.Contents.{FitU32};
+ghost use Rattle.asn1_formats.specs.Spelling.{Extends};
+ghost use Rattle.asn1_der.specs.ViewOctets.{octets_in};
+
+use crate::contents::Contents;
+use crate::view_octets::ViewOctets;
+use asn1_formats::{Refusal, push_number};
+use asn1_values::{
+    BitBuffer, BitReader, ContentsError, ObjectIdentifier, OidContents, check_contents,
+};
+use std::alloc::{AllocError, Global};
+
+/// The contents of an OBJECT IDENTIFIER: its subidentifiers (X.690 8.19). Each arc fits 32 bits.
+#[derive(Clone, Copy, Debug)]
+pub struct ObjectIdentifierContents {}
+
+/// What is wrong with the contents of an OBJECT IDENTIFIER.
+#[derive(Clone, Copy, Debug, PartialEq, Eq, Drop)]
+pub enum IdentifierFault {
+    /// The octets are the contents of no identifier: there is none, or they end within a subidentifier, or one has more
+    /// octets than it needs (8.19.2).
+    Malformed,
+    /// An arc does not fit 32 bits.
+    LargeArc,
+}
+
+/// The identifier has one arc, and so no contents: 8.19.4 takes two.
+#[derive(Clone, Copy, Debug, PartialEq, Eq, Drop)]
+pub struct OneArc {}
+
+/// The octets that are left, where they lie.
+fn source_of(contents: BitReader<'_>) -> ViewOctets<'_>
+    requires { (view_left contents).len % 8 ≡ 0 }
+    ensures { bits_left contents.entry
+        ≡ bits (octets_in ((view_of result.bits).len / 8) (bits_of result.bits)) }
+{
+    ViewOctets {
+        bits: contents.bits(),
+    }
+}
+
+/// Arcs fit 32 bits. It does nothing.
+fn arcs_fit(arcs: &[u32])
+    ensures { FitU32 arcs.now }
+{}
+
+/// Appends the octets. Where it is refused, some may have been appended.
+fn push_each(buffer: &mut BitBuffer, octets: OidContents<'_>) -> Result<(), AllocError>
+    ensures ok { OnOk result (buffer.new ≡ buffer.old ++ bits octets.entry) }
+    ensures err { OnErr result (Extends buffer.old buffer.new) }
+{
+    for octet in octets {
+        push_number(buffer, u64::from(octet), 8)?;
+    }
+    Ok(())
+}
+
+impl Contents for ObjectIdentifierContents {
+    ghost use Rattle.std.specs.Prelude.{ℕ, List};
+    ghost use Rattle.asn1_der.specs.Identifiers.{IsIdentifierOf, IdentifierFaultIs, HasOneArc};
+    ghost use Rattle.asn1_der.specs.IdentifierLaws.{identifier_fills_one, identifier_spells_one, identifier_whole, identifier_names_wrong, identifier_names_misfit};
+
+    type Value = ObjectIdentifier;
+
+    type Fault = IdentifierFault;
+
+    type Misfit = OneArc;
+
+    ghost Plain = { List ℕ };
+
+    ghost plain = { λ v. v };
+
+    ghost spells = { λ f arcs list. IsIdentifierOf arcs list };
+
+    ghost is_fault = { λ f list e. IdentifierFaultIs list e };
+
+    ghost is_misfit = { λ f arcs e. HasOneArc arcs };
+
+    ghost owns_nothing = { λ f. ⊥ };
+
+    fn append(
+        &self,
+        buffer: &mut BitBuffer,
+        value: &ObjectIdentifier,
+    ) -> Result<(), Refusal<OneArc>> {
+        arcs_fit(value.as_ref());
+        match value.as_oid().contents() {
+            Some(octets) => match push_each(buffer, octets) {
+                Ok(()) => Ok(()),
+                Err(_) => Err(Refusal::Memory),
+            },
+            None => Err(Refusal::Wrong(OneArc {})),
+        }
+    }
+
+    fn measure(&self, value: &ObjectIdentifier) -> Result<Option<usize>, OneArc> {
+        arcs_fit(value.as_ref());
+        match value.as_oid().contents_len() {
+            Some(count) => {
+                if count > usize::MAX as u128 / 8 {
+                    return Ok(None);
+                }
+                Ok(Some(8 * count as usize))
+            }
+            None => Err(OneArc {}),
+        }
+    }
+
+    fn take(
+        &self,
+        alloc: Global,
+        contents: BitReader<'_>,
+    ) -> Result<ObjectIdentifier, Refusal<IdentifierFault>> {
+        let source = source_of(contents);
+        match ObjectIdentifier::from_contents(alloc, &source) {
+            Ok(oid) => Ok(oid),
+            Err(ContentsError::Malformed) => Err(Refusal::Wrong(IdentifierFault::Malformed)),
+            Err(ContentsError::ArcTooLarge) => Err(Refusal::Wrong(IdentifierFault::LargeArc)),
+            Err(ContentsError::Memory) => Err(Refusal::Memory),
+        }
+    }
+
+    fn check(&self, contents: BitReader<'_>) -> Result<(), IdentifierFault> {
+        let source = source_of(contents);
+        match check_contents(&source) {
+            Ok(()) => Ok(()),
+            Err(ContentsError::Malformed) => Err(IdentifierFault::Malformed),
+            Err(ContentsError::ArcTooLarge) => Err(IdentifierFault::LargeArc),
+            Err(ContentsError::Memory) => unreachable!(),
+        }
+    }
+
+    ghost fills_one = { λ f. identifier_fills_one };
+
+    ghost spells_one = { λ f. identifier_spells_one };
+
+    ghost are_whole = { λ f. identifier_whole };
+
+    ghost names_fault = { λ f. identifier_names_wrong };
+
+    ghost names_misfit = { λ f. identifier_names_misfit };
+}

@@ -1,0 +1,139 @@
+//! Tags, and the identifier octets that hold them.
+
+ghost use Rattle.std.specs.Prelude.{◌≡◌, ◌≢◌, ℕ, ◌+◌, ◌*◌, ◌<◌, ◌≤◌, ◌++◌, OnOk, OnErr, IfOk, IfErr, IsTrue, IsFalse};
+ghost use Rattle.asn1_bits.specs.Bits.{digits};
+ghost use Rattle.asn1_bits.specs.BitReader.{bits_left};
+ghost use Rattle.asn1_formats.specs.Spelling.{Starts, IsWritten};
+ghost use Rattle.asn1_der.specs.Tags.{class_number, leading, IsIdentifier, IsTagged, TagFaultIs, OtherTagIs};
+
+use asn1_formats::{next_number, push_number};
+use asn1_values::{BitBuffer, BitReader};
+use std::alloc::AllocError;
+
+/// The class of a tag (X.690 8.1.2.2).
+#[derive(Clone, Copy, Debug, PartialEq, Eq)]
+pub enum Class {
+    /// The types of X.680 itself.
+    Universal,
+    /// Tags of an application.
+    Application,
+    /// Tags whose meaning depends on the type around them.
+    Context,
+    /// Tags of a private use.
+    Private,
+}
+
+/// What the identifier octets of an element say: its tag, and whether its contents are elements (X.690 8.1.2).
+#[derive(Clone, Copy, Debug, PartialEq, Eq)]
+pub struct Tag {
+    /// The class.
+    pub class: Class,
+    /// Whether the contents are elements (8.1.2.5).
+    pub constructed: bool,
+    /// The number in the class.
+    pub number: u64,
+}
+
+/// What is wrong with identifier octets.
+#[derive(Clone, Copy, Debug, PartialEq, Eq, Drop)]
+pub enum TagFault {
+    /// So many bits of them are missing.
+    Short { missing: usize },
+    /// The number is 31 or more.
+    HighNumber,
+    /// They hold another tag.
+    Other { found: Tag },
+}
+
+/// The class with a number.
+fn class_of(number: u64) -> Class
+    requires { number < 4 }
+    ensures { class_number result ≡ number }
+{
+    match number {
+        0 => Class::Universal,
+        1 => Class::Application,
+        2 => Class::Context,
+        _ => Class::Private,
+    }
+}
+
+/// The number of a class, in bits 8 and 7 of the leading octet (8.1.2.2).
+fn number_of(class: Class) -> u64
+    ensures number { result ≡ class_number class }
+    ensures below { result < 4 }
+{
+    match class {
+        Class::Universal => 0,
+        Class::Application => 1,
+        Class::Context => 2,
+        Class::Private => 3,
+    }
+}
+
+/// The leading octet, where bits 5 to 1 hold the number.
+fn leading_octet(tag: Tag) -> u64
+    requires { tag.number < 31 }
+    ensures octet { result ≡ leading tag }
+    ensures below { result < 256 }
+{
+    let form = if tag.constructed { 32 } else { 0 };
+    64 * number_of(tag.class) + form + tag.number
+}
+
+/// Appends the identifier octets.
+pub(crate) fn push_tag(buffer: &mut BitBuffer, tag: Tag) -> Result<(), AllocError>
+    requires { tag.number < 31 }
+    ensures ok { OnOk result (IsWritten (λ t list. IsIdentifier t list) tag buffer.old buffer.new) }
+    ensures err { OnErr result (buffer.new ≡ buffer.old) }
+{
+    push_number(buffer, leading_octet(tag), 8)
+}
+
+/// The tag of the next octets.
+pub(crate) fn next_tag(reader: &mut BitReader<'_>) -> Result<Tag, TagFault>
+    ensures read { IfOk result (λ t.
+        Starts (λ u list. IsIdentifier u list) (bits_left reader.old) t (bits_left reader.new)) }
+    ensures fault { IfErr result (λ e. TagFaultIs (bits_left reader.old) e) }
+{
+    let first = match next_number(reader, 8) {
+        Ok(first) => first,
+        Err(short) => {
+            return Err(TagFault::Short {
+                missing: short.missing,
+            });
+        }
+    };
+    let number = first % 32;
+    if number == 31 {
+        return Err(TagFault::HighNumber);
+    }
+    Ok(Tag {
+        class: class_of(first / 64),
+        constructed: first / 32 % 2 == 1,
+        number,
+    })
+}
+
+/// Whether the tags are the same.
+pub(crate) fn are_same(first: Tag, second: Tag) -> bool
+    ensures yes { IsTrue result → first ≡ second }
+    ensures no { IsFalse result → first ≢ second }
+{
+    number_of(first.class) == number_of(second.class)
+        && first.constructed == second.constructed
+        && first.number == second.number
+}
+
+/// Goes past the identifier octets of the tag.
+pub(crate) fn pass_tag(reader: &mut BitReader<'_>, tag: Tag) -> Result<(), TagFault>
+    ensures read { OnOk result
+        (Starts (λ u list. IsTagged tag u list) (bits_left reader.old) tag (bits_left reader.new)) }
+    ensures fault { IfErr result (λ e. OtherTagIs tag (bits_left reader.old) e) }
+{
+    let found = next_tag(reader)?;
+    if !are_same(found, tag) {
+        return Err(TagFault::Other { found });
+    }
+    Ok(())
+}

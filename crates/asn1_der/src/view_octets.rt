@@ -1,0 +1,27 @@
+//! The octets that contents have.
+
+ghost use Rattle.std.specs.Prelude.{◌/◌};
+ghost use Rattle.asn1_bits.specs.BitStr.{view_of, bits_of};
+ghost use Rattle.asn1_der.specs.ViewOctets.{octets_in};
+
+use asn1_values::{BitStr, OctetSource, read_u128};
+
+/// The octets that lie in a view one after another, wherever the first bit is.
+#[derive(Clone, Copy)]
+pub(crate) struct ViewOctets<'a> {
+    pub(crate) bits: BitStr<'a>,
+}
+
+impl OctetSource for ViewOctets<'_> {
+    ghost list = { λ s. octets_in ((view_of s.bits).len / 8) (bits_of s.bits) };
+
+    fn count(&self) -> usize {
+        self.bits.len() / 8
+    }
+
+    fn octet(&self, i: usize) -> u8 {
+        // A length fits `usize`, and so do its places.
+        let _len = self.bits.len();
+        read_u128(self.bits.slice(8 * i, 8)) as u8
+    }
+}

@@ -1,0 +1,60 @@
+//! The calls without their contracts, so that a test's proof does not carry them.
+
+use asn1_der::{Class, Contents, Tag, Tlv};
+use asn1_formats::{Format, Refusal, WriteRefusal, read, write};
+use asn1_values::{BitBuffer, BitReader};
+use std::alloc::Global;
+
+/// A tag of X.680.
+pub(crate) fn universal(number: u64, constructed: bool) -> Tag {
+    Tag {
+        class: Class::Universal,
+        constructed,
+        number,
+    }
+}
+
+/// An element with a tag of X.680.
+pub(crate) fn element<C: Contents>(number: u64, constructed: bool, contents: C) -> Tlv<C> {
+    Tlv {
+        tag: universal(number, constructed),
+        contents,
+    }
+}
+
+/// The octets of the value.
+pub(crate) fn written<F: Format>(
+    format: &F,
+    alloc: Global,
+    value: &F::Value,
+) -> Result<Vec<u8>, WriteRefusal<F::Misfit>> {
+    let mut buffer = BitBuffer::new(alloc);
+    match write(format, &mut buffer, value) {
+        Ok(()) => match Vec::from_slice(alloc, buffer.as_bytes()) {
+            Ok(octets) => Ok(octets),
+            Err(_) => Err(WriteRefusal::Memory),
+        },
+        Err(refusal) => Err(refusal),
+    }
+}
+
+/// The value that the octets are, where no octet is left behind it.
+pub(crate) fn found<F: Format>(
+    format: &F,
+    alloc: Global,
+    octets: &[u8],
+) -> Result<F::Value, Refusal<F::Fault>> {
+    if octets.len() > 1000 {
+        return Err(Refusal::Memory);
+    }
+    let mut reader = BitReader::from_octets(octets);
+    match read(format, alloc, &mut reader) {
+        Ok(value) => {
+            if reader.len() != 0 {
+                return Err(Refusal::Memory);
+            }
+            Ok(value)
+        }
+        Err(refusal) => Err(refusal),
+    }
+}

@@ -1,0 +1,174 @@
+//! Identifier octets, lengths, and elements inside one another.
+
+use super::calls::{element, found, universal, written};
+use asn1_der::{
+    Any, BooleanContents, End, InItem, InTlv, IntegerContents, LengthFault, NotEnd,
+    OctetStringContents, Optional, OptionalMisfit, Required, SequenceOf, TagFault, Tlv, TlvMisfit,
+};
+use asn1_formats::{InThen, Refusal, WriteRefusal};
+use asn1_values::Integer;
+use std::alloc::Global;
+use std::test::Fail;
+
+/// So many octets.
+fn zeros(alloc: Global, count: usize) -> Result<Vec<u8>, Fail> {
+    let mut octets = Vec::new(alloc);
+    for _ in 0..count {
+        octets.push(0)?;
+    }
+    Ok(octets)
+}
+
+#[test]
+fn a_long_length_takes_the_fewest_octets(rt: HostRuntime) -> Result<(), Fail> {
+    let format = element(4, false, OctetStringContents {});
+    // X.690 8.1.3.5: 201 as 81 C9
+    let octets = written(&format, rt.alloc(), &zeros(rt.alloc(), 201)?)?;
+    assert_eq!(rt; octets.len(), 204);
+    assert_eq!(rt; octets[1], 0x81);
+    assert_eq!(rt; octets[2], 0xC9);
+    assert_eq!(rt; found(&format, rt.alloc(), octets.as_slice())?.len(), 201);
+    let long = written(&format, rt.alloc(), &zeros(rt.alloc(), 256)?)?;
+    assert_eq!(rt; long[1], 0x82);
+    assert_eq!(rt; long[2], 0x01);
+    assert_eq!(rt; long[3], 0x00);
+    Ok(())
+}
+
+#[test]
+fn other_lengths_are_refused(rt: HostRuntime) -> Result<(), Fail> {
+    let format = element(4, false, OctetStringContents {});
+    assert_eq!(rt;
+        found(&format, rt.alloc(), &[0x04, 0x81, 0x01, 0x00]).err(),
+        Some(Refusal::Wrong(InTlv::Length(LengthFault::NotShortest)))
+    );
+    assert_eq!(rt;
+        found(&format, rt.alloc(), &[0x04, 0x80, 0x00, 0x00]).err(),
+        Some(Refusal::Wrong(InTlv::Length(LengthFault::Indefinite)))
+    );
+    assert_eq!(rt;
+        found(&format, rt.alloc(), &[0x04, 0x89]).err(),
+        Some(Refusal::Wrong(InTlv::Length(LengthFault::Large)))
+    );
+    assert_eq!(rt;
+        found(&format, rt.alloc(), &[0x04, 0x02, 0x00]).err(),
+        Some(Refusal::Wrong(InTlv::Length(LengthFault::Missing { missing: 8 })))
+    );
+    assert_eq!(rt;
+        found(&format, rt.alloc(), &[0x05, 0x00]).err(),
+        Some(Refusal::Wrong(InTlv::Tag(TagFault::Other {
+            found: universal(5, false)
+        })))
+    );
+    assert_eq!(rt;
+        found(&format, rt.alloc(), &[0x1F, 0x20, 0x00]).err(),
+        Some(Refusal::Wrong(InTlv::Tag(TagFault::HighNumber)))
+    );
+    Ok(())
+}
+
+type Setting = Tlv<Optional<Tlv<BooleanContents>, Required<Tlv<IntegerContents>, End>>>;
+
+/// `SEQUENCE { flag BOOLEAN OPTIONAL, level INTEGER }`
+fn setting() -> Setting {
+    element(
+        16,
+        true,
+        Optional {
+            first: element(1, false, BooleanContents {}),
+            rest: Required {
+                first: element(2, false, IntegerContents {}),
+                rest: End {},
+            },
+        },
+    )
+}
+
+#[test]
+fn an_optional_element_is_told_by_its_tag(rt: HostRuntime) -> Result<(), Fail> {
+    let format = setting();
+    let with = (Some(true), (Integer::from(5), ()));
+    let octets = [0x30, 0x06, 0x01, 0x01, 0xFF, 0x02, 0x01, 0x05];
+    assert_eq!(rt;
+        written(&format, rt.alloc(), &with)?.as_slice(),
+        octets.as_slice()
+    );
+    let without = found(&format, rt.alloc(), &[0x30, 0x03, 0x02, 0x01, 0x05])?;
+    assert_eq!(rt; without.0, None);
+    assert_eq!(rt; without.1.0.to_i128(), Some(5));
+    assert_eq!(rt;
+        found(
+            &format,
+            rt.alloc(),
+            &[0x30, 0x05, 0x02, 0x01, 0x05, 0x05, 0x00]
+        )
+        .err(),
+        Some(Refusal::Wrong(InTlv::Contents(InThen::Second(InThen::Second(NotEnd { bits: 16 })))))
+    );
+    Ok(())
+}
+
+#[test]
+fn a_value_that_would_be_read_as_another_is_refused(rt: HostRuntime) -> Result<(), Fail> {
+    let format = element(
+        16,
+        true,
+        Optional {
+            first: element(1, false, BooleanContents {}),
+            rest: Required {
+                first: Any {},
+                rest: End {},
+            },
+        },
+    );
+    let value = found(&Any {}, rt.alloc(), &[0x01, 0x01, 0xFF])?;
+    assert_eq!(rt;
+        written(&format, rt.alloc(), &(None, (value, ()))).err(),
+        Some(WriteRefusal::Wrong(TlvMisfit::Contents(OptionalMisfit::Ambiguous)))
+    );
+    Ok(())
+}
+
+#[test]
+fn the_first_wrong_item_is_named(rt: HostRuntime) -> Result<(), Fail> {
+    let format = element(
+        16,
+        true,
+        SequenceOf {
+            item: element(1, false, BooleanContents {}),
+        },
+    );
+    let octets = [0x30, 0x06, 0x01, 0x01, 0xFF, 0x01, 0x01, 0x00];
+    let flags = found(&format, rt.alloc(), &octets)?;
+    assert_eq!(rt; flags.as_slice(), [true, false].as_slice());
+    assert_eq!(rt;
+        written(&format, rt.alloc(), &flags)?.as_slice(),
+        octets.as_slice()
+    );
+    assert_eq!(rt;
+        found(
+            &format,
+            rt.alloc(),
+            &[0x30, 0x05, 0x01, 0x01, 0xFF, 0x01, 0x00]
+        )
+        .is_err(),
+        true
+    );
+    match found(
+        &format,
+        rt.alloc(),
+        &[0x30, 0x05, 0x01, 0x01, 0xFF, 0x05, 0x00],
+    ) {
+        Err(Refusal::Wrong(InTlv::Contents(InItem { index, wrong }))) => {
+            assert_eq!(rt; index, 1);
+            assert_eq!(rt;
+                wrong,
+                InTlv::Tag(TagFault::Other {
+                    found: universal(5, false)
+                })
+            );
+        }
+        _ => return Err("the second item is no BOOLEAN".into()),
+    }
+    Ok(())
+}

@@ -1,0 +1,11 @@
+//! Tests of DER by composition.
+#![tactic(auto)]
+
+#[cfg(test)]
+mod calls;
+#[cfg(test)]
+mod certificate;
+#[cfg(test)]
+mod elements;
+#[cfg(test)]
+mod primitives;
