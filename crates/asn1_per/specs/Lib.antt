@@ -6,6 +6,7 @@ pub mod Integers
 pub mod Extensions
 pub mod Naturals
 pub mod Additions
+pub mod ExtensibleIntegers
 -- Laws of these words, which the formats' laws are made of.
 pub mod LengthLaws
 pub mod CompleteLaws
@@ -19,3 +20,4 @@ pub mod AdditionLaws
 pub mod UnreadLaws
 pub mod PresenceLaws
 pub mod ExtensibleLaws
+pub mod ExtensibleIntegerLaws

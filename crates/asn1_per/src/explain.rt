@@ -3,6 +3,7 @@
 use crate::additions::{AdditionsMisfit, InAdditions};
 use crate::complete::InComplete;
 use crate::extensible::InRootOrAdditions;
+use crate::extensible_number::BeyondNumberFault;
 use crate::extensible_size::{BeyondRootFault, InExtensible};
 use crate::length::{LengthFault, LongLength};
 use crate::message::DecodeError;
@@ -250,6 +251,24 @@ impl<E: Explain, F: Explain> Explain for InRootOrAdditions<E, F> {
             InRootOrAdditions::Marker => true,
             InRootOrAdditions::Root(wrong) => wrong.is_reason(),
             InRootOrAdditions::Extra(wrong) => wrong.is_reason(),
+        }
+    }
+}
+
+impl fmt::Display for BeyondNumberFault {
+    fn fmt<W: fmt::Write>(&self, f: &mut fmt::Formatter<W>) -> fmt::Result {
+        match self {
+            BeyondNumberFault::Number(wrong) => write!(f, "{wrong}"),
+            BeyondNumberFault::InRoot => write!(f, "a number of the root behind a bit 1"),
+        }
+    }
+}
+
+impl Explain for BeyondNumberFault {
+    fn is_reason(&self) -> bool {
+        match self {
+            BeyondNumberFault::Number(wrong) => wrong.is_reason(),
+            BeyondNumberFault::InRoot => true,
         }
     }
 }

@@ -1,12 +1,14 @@
 //! INTEGER without bounds.
 
-ghost use Rattle.std.specs.Prelude.{◌≡◌, ℕ, ◌%◌, IsTrue, IsFalse};
+ghost use Rattle.std.specs.Prelude.{◌≡◌, ℕ, pos, ◌-ℤ◌, ◌-◌, ◌^◌, ◌<◌, ◌≤◌, ◌%◌, IsTrue, IsFalse, IfOk, IfErr, IfSome, IfNone};
 ghost use Rattle.asn1_bits.specs.BitReader.{view_left, bits_left};
 ghost use Rattle.asn1_values.specs.Wrong.{IsNoInteger};
-ghost use Rattle.asn1_per.specs.Integers.{HoldsInteger};
+ghost use Rattle.asn1_formats.specs.Spelling.{Starts};
+ghost use Rattle.asn1_number.specs.Readings.{IsInRange, SignedOf};
+ghost use Rattle.asn1_per.specs.Integers.{HoldsInteger, IsUnconstrained, UnconstrainedFaultIs};
 
 use crate::length::{LengthFault, LongLength, length_width, next_length, push_length};
-use asn1_formats::{Format, Refusal, next_octets, push_octets};
+use asn1_formats::{Format, Refusal, next_number, next_octets, push_octets};
 use asn1_values::{BitBuffer, BitReader, Integer, integer_of};
 use std::alloc::Global;
 
@@ -51,10 +53,69 @@ fn is_shortest(front: &BitReader<'_>) -> bool
     true
 }
 
+/// The octets of the next number, which are shortest, behind their number.
+pub(crate) fn next_contents<'a>(
+    reader: &mut BitReader<'a>,
+) -> Result<BitReader<'a>, UnconstrainedFault>
+    ensures whole { IfOk result (λ front. (view_left front).len % 8 ≡ 0) }
+    ensures holds { IfOk result (λ front. HoldsInteger (bits_left front)) }
+    ensures read { IfOk result (λ front. (h : HoldsInteger (bits_left front))
+        → Starts (λ n list. IsUnconstrained n list) (bits_left reader.old) h.1 (bits_left reader.new)) }
+    ensures fault { IfErr result (λ e. UnconstrainedFaultIs (bits_left reader.old) e) }
+{
+    let octets = match next_length(reader) {
+        Ok(octets) => octets,
+        Err(wrong) => return Err(UnconstrainedFault::Length(wrong)),
+    };
+    let front = match next_octets(reader, octets) {
+        Ok(front) => front,
+        Err(missing) => return Err(UnconstrainedFault::Short { missing }),
+    };
+    if !is_shortest(&front) {
+        return Err(UnconstrainedFault::NotShortest);
+    }
+    Ok(front)
+}
+
+/// The two's complement value of a word's lowest `width` bits, where it has no others.
+fn signed_of(word: u64, width: usize) -> i128
+    requires some { 0 < width }
+    requires few { width ≤ 64 }
+    requires below { word < 2 ^ width }
+    ensures low { word < 2 ^ (width - 1) → result ≡ pos word }
+    ensures high { 2 ^ (width - 1) ≤ word → result ≡ pos word -ℤ pos (2 ^ width) }
+{
+    let half = 1u64 << (width - 1);
+    if word < half {
+        i128::from(word)
+    } else {
+        -1 - i128::from(half - 1 - (word - half))
+    }
+}
+
+/// The value of octets that are shortest, at most eight; without memory.
+pub(crate) fn short_value(front: &BitReader<'_>) -> Option<i128>
+    ensures some { IfSome result (λ v. (h : HoldsInteger (bits_left front.now)) → v ≡ h.1) }
+    ensures none { IfNone result ((h : HoldsInteger (bits_left front.now)) → ¬ (IsInRange (SignedOf 8) h.1)) }
+{
+    let width = front.len();
+    if width == 0 {
+        return None;
+    }
+    if width > 64 {
+        return None;
+    }
+    let mut copy = *front;
+    match next_number(&mut copy, width) {
+        Ok(word) => Some(signed_of(word, width)),
+        Err(_) => unreachable!(),
+    }
+}
+
 impl Format for UnconstrainedNumber {
     ghost use Rattle.std.specs.Prelude.{ℤ, ⊤};
     ghost use Rattle.asn1_formats.specs.WithinLaws.{itself};
-    ghost use Rattle.asn1_per.specs.Integers.{IsUnconstrained, UnconstrainedFaultIs, IsLongInteger};
+    ghost use Rattle.asn1_per.specs.Integers.{IsLongInteger};
     ghost use Rattle.asn1_per.specs.IntegerLaws.{unconstrained_reads_one, unconstrained_spells_one, unconstrained_names_fault, unconstrained_names_misfit};
 
     type Value = Integer;
@@ -107,17 +168,10 @@ impl Format for UnconstrainedNumber {
         alloc: Global,
         reader: &mut BitReader<'_>,
     ) -> Result<Integer, Refusal<UnconstrainedFault>> {
-        let octets = match next_length(reader) {
-            Ok(octets) => octets,
-            Err(wrong) => return Err(Refusal::Wrong(UnconstrainedFault::Length(wrong))),
-        };
-        let front = match next_octets(reader, octets) {
+        let front = match next_contents(reader) {
             Ok(front) => front,
-            Err(missing) => return Err(Refusal::Wrong(UnconstrainedFault::Short { missing })),
+            Err(wrong) => return Err(Refusal::Wrong(wrong)),
         };
-        if !is_shortest(&front) {
-            return Err(Refusal::Wrong(UnconstrainedFault::NotShortest));
-        }
         match integer_of(alloc, &front) {
             Ok(number) => Ok(number),
             Err(_) => Err(Refusal::Memory),
@@ -125,18 +179,10 @@ impl Format for UnconstrainedNumber {
     }
 
     fn skip(&self, reader: &mut BitReader<'_>) -> Result<(), UnconstrainedFault> {
-        let octets = match next_length(reader) {
-            Ok(octets) => octets,
-            Err(wrong) => return Err(UnconstrainedFault::Length(wrong)),
-        };
-        let front = match next_octets(reader, octets) {
-            Ok(front) => front,
-            Err(missing) => return Err(UnconstrainedFault::Short { missing }),
-        };
-        if !is_shortest(&front) {
-            return Err(UnconstrainedFault::NotShortest);
+        match next_contents(reader) {
+            Ok(_) => Ok(()),
+            Err(wrong) => Err(wrong),
         }
-        Ok(())
     }
 
     ghost spelled_is_read = { λ f. itself (λ n list. IsUnconstrained n list) };

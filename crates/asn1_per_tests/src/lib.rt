@@ -10,6 +10,8 @@ mod encodings;
 #[cfg(test)]
 mod extended;
 #[cfg(test)]
+mod extensible_numbers;
+#[cfg(test)]
 mod extensible_sizes;
 #[cfg(test)]
 mod integers;

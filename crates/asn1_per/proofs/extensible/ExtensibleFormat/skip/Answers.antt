@@ -11,7 +11,7 @@ returns-in-Ok-clause-skipped g c =
     let p = c.in-Ok.ensures.skipped in (
       p.0,
       extension_starts (λ w m. IsRootAlone (g.D.Additions.none f.additions) (g.A.Format.reads f.root) w m)
-    (λ w m. IsExtended (g.A.Format.reads f.root) (λ z l. ReadsAdditions (g.D.Additions.reads f.additions) z l) w m)
+          (λ w m. IsExtended (g.A.Format.reads f.root) (λ z l. ReadsAdditions (g.D.Additions.reads f.additions) z l) w m)
           (bits_left c.args.reader.now) behind p.0 (bits_left c.skip_extended.new.reader)
           (c.in-Some-true.ensures.bit ∙ ap (λ (b : Bool). b ∷ behind) c.in-Some-true.field-0-test) p.1,
     )
@@ -24,7 +24,7 @@ returns-in-Ok-skip-clause-skipped g c =
     let s = p.1 in (
       (p.0, g.D.Additions.none f.additions),
       root_starts (λ w m. IsRootAlone (g.D.Additions.none f.additions) (g.A.Format.reads f.root) w m)
-    (λ w m. IsExtended (g.A.Format.reads f.root) (λ z l. ReadsAdditions (g.D.Additions.reads f.additions) z l) w m)
+          (λ w m. IsExtended (g.A.Format.reads f.root) (λ z l. ReadsAdditions (g.D.Additions.reads f.additions) z l) w m)
           (bits_left c.args.reader.now) behind (p.0, g.D.Additions.none f.additions) (bits_left c.skip.new.reader)
           (c.in-Some-false.ensures.bit ∙ ap (λ (b : Bool). b ∷ behind) c.in-Some-false.field-0-test)
           (record { front = s.front; spelled = (refl, s.spelled); parts = s.parts }),
