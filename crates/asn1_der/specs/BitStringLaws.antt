@@ -184,22 +184,6 @@ not_zero list mid left rest n count v few enough many s f t some =
       );
     })
 
-pub no_octet : (list : List Bool) (missing : ℕ) → length list % 8 ≡ 0 → IsShort 8 list missing
-    → BitStringFaultIs list Empty
-no_octet list missing whole p =
-    let a : 0 < missing = p.0 in
-    let b : length list + missing ≡ 8 = p.1 in
-    inl (let none : length list ≡ 0 = omega arith in none)
-
-pub bits_written : (old a b new x : List Bool) (n : ℕ) → n < 8 → (length x + n) % 8 ≡ 0 → a ≡ old ++ digits n 8
-    → b ≡ a ++ x → new ≡ b ++ digits 0 n → IsWritten (λ y l. IsBitString y l) x old new
-bits_written old a b new x n few whole e f g = record {
-  list = digits n 8 ++ (x ++ digits 0 n);
-  spelled = record { unused = n; few = few; whole = whole; parts = refl };
-  parts = g ∙ ap (λ (l : List Bool). l ++ digits 0 n) (f ∙ ap (λ (l : List Bool). l ++ x) e)
-      ∙ append_assoc (old ++ digits n 8) x (digits 0 n) ∙ append_assoc old (digits n 8) (x ++ digits 0 n);
-}
-
 pub bits_measured : (x : List Bool) (n : ℕ) (len : Option ℕ) → n < 8 → (length x + n) % 8 ≡ 0
     → IsLength (8 + (length x + n)) len → Measures (λ y l. IsBitString y l) x len
 bits_measured x n len few whole p =

@@ -123,16 +123,6 @@ module _ {X : Type 0} (P : X → List Bool → Type 0) where
   whole_list : (xs : List X) (list : List Bool) → J xs list → Starts J list xs []
   whole_list xs list p = record { front = list; spelled = p; parts = sym (append-nil list) }
 
-  pub all_of : (n : ℕ) (xs : List X) (list rest : List Bool) → length rest ≡ 0
-      → Starts (λ ys l. SoMany P n ys l) list xs rest → AreItems P xs list
-  all_of n xs list rest e s =
-      subst (λ (l : List Bool). AreItems P xs l)
-      (sym (s.parts ∙ ap (λ (l : List Bool). s.front ++ l) (nil rest e) ∙ append-nil s.front)) s.spelled.1
-    where
-      nil : (l : List Bool) → length l ≡ 0 → l ≡ []
-      nil [] p = refl
-      nil (b ∷ l) p = absurd (omega arith)
-
   module _ (A : Tag → Type 0) (tagged : AreTagged A P) where
     none_at_end : CanRead P [] → ⊥
     none_at_end c =

@@ -127,21 +127,12 @@ definite_whole n list (inr p) =
     let c : length list ≡ length s.front + length s.rest = ap length s.parts ∙ length-append s.front s.rest in
     (1 + p.octets, omega arith)
 
-pub definite_below : (n : ℕ) (list : List Bool) → IsDefinite n list → n < 2 ^ 64
-definite_below n list (inl p) = let a = p.0 in omega arith
-definite_below n list (inr p) =
-    let few = p.few in
-    let below : n < 2 ^ (8 * p.octets) = p.spelled.second.0 in
-    let under : 8 * p.octets ≤ 64 = omega arith in
-    let le : 2 ^ (8 * p.octets) ≤ 2 ^ 64 = pow-le-pow_right (omega arith) under in
-    omega arith
-
 -- ---- what is written and read of a length
 
-pub short_is : (n : ℕ) (list : List Bool) → n < 128 → list ≡ digits n 8 → IsDefinite n list
+short_is : (n : ℕ) (list : List Bool) → n < 128 → list ≡ digits n 8 → IsDefinite n list
 short_is n list small e = let below : n < 2 ^ 8 = omega arith in inl (small, (below, e))
 
-pub long_is : (n octets : ℕ) (a b : List Bool) → octets ≤ 8 → 128 ≤ n → 2 ^ (8 * (octets - 1)) ≤ n
+long_is : (n octets : ℕ) (a b : List Bool) → octets ≤ 8 → 128 ≤ n → 2 ^ (8 * (octets - 1)) ≤ n
     → n < 2 ^ (8 * octets) → a ≡ digits (128 + octets) 8 → b ≡ digits n (8 * octets) → IsDefinite n (a ++ b)
 long_is n octets a b few long least below e f =
     let first : 128 + octets < 2 ^ 8 = omega arith in
@@ -164,16 +155,6 @@ long_measured n octets few long least below = record {
     length-digits (128 + octets) 8,
     length-digits n (8 * octets),
   );
-}
-
-pub long_written : (old mid new : List Bool) (n octets : ℕ) → octets ≤ 8 → 128 ≤ n → 2 ^ (8 * (octets - 1)) ≤ n
-    → n < 2 ^ (8 * octets) → mid ≡ old ++ digits (128 + octets) 8 → new ≡ mid ++ digits n (8 * octets)
-    → IsWritten (λ m l. IsDefinite m l) n old new
-long_written old mid new n octets few long least below e f = record {
-  list = digits (128 + octets) 8 ++ digits n (8 * octets);
-  spelled = long_is n octets (digits (128 + octets) 8) (digits n (8 * octets)) few long least below refl refl;
-  parts = f ∙ ap (λ (l : List Bool). l ++ digits n (8 * octets)) e
-      ∙ append_assoc old (digits (128 + octets) 8) (digits n (8 * octets));
 }
 
 pub long_starts : (list mid rest : List Bool) (first octets n : ℕ) → first ≡ 128 + octets → octets ≤ 8 → 128 ≤ n

@@ -38,7 +38,7 @@ alone width n list rest e s =
 
 -- ---- BOOLEAN
 
-pub boolean_number : (b : Bool) (list : List Bool) → IsBoolean b list → IsNumber 8 (octet_of_bool b) list
+boolean_number : (b : Bool) (list : List Bool) → IsBoolean b list → IsNumber 8 (octet_of_bool b) list
 boolean_number false list p = let lt : 0 < 2 ^ 8 = omega arith in (lt, p)
 boolean_number true list p = let lt : 255 < 2 ^ 8 = omega arith in (lt, p)
 

@@ -22,7 +22,7 @@ form_below : (b : Bool) → form_number b < 2
 form_below false = omega arith
 form_below true = omega arith
 
-pub same_class : (c d : Class) → class_number c ≡ class_number d → c ≡ d
+same_class : (c d : Class) → class_number c ≡ class_number d → c ≡ d
 same_class Universal Universal e = refl
 same_class Universal Application e = absurd (omega arith)
 same_class Universal Context e = absurd (omega arith)
@@ -47,7 +47,7 @@ same_form true false e = absurd (omega arith)
 same_form true true e = refl
 
 -- tags of the same parts are one
-pub same_tag : (t u : Tag) → t.class ≡ u.class → t.constructed ≡ u.constructed → t.number ≡ u.number → t ≡ u
+same_tag : (t u : Tag) → t.class ≡ u.class → t.constructed ≡ u.constructed → t.number ≡ u.number → t ≡ u
 same_tag t u c f n =
     ap (λ (x : Class). record { class = x; constructed = t.constructed; number = t.number }) c
     ∙ ap (λ (x : Bool). record { class = u.class; constructed = x; number = t.number }) f
@@ -124,7 +124,7 @@ module _ (tag : Tag) where
   abbrev T : Tag → List Bool → Type 0
   T t l = IsTagged tag t l
 
-  pub untagged : (list : List Bool) (t : Tag) (rest : List Bool) → Starts T list t rest
+  untagged : (list : List Bool) (t : Tag) (rest : List Bool) → Starts T list t rest
       → (t ≡ tag) × Starts I list t rest
   untagged list t rest s = (s.spelled.0, record { front = s.front; spelled = s.spelled.1; parts = s.parts })
 

@@ -60,9 +60,6 @@ module _ (A : Tag → Type 0) where
   pub begins_more : (list more : List Bool) → Begins A list → Begins A (list ++ more)
   begins_more list more b = record { tag = b.tag; accepted = b.accepted; there = tag_more list more b.tag b.there }
 
-  pub begins_at : (list rest : List Bool) (t : Tag) → Starts (λ u l. IsIdentifier u l) list t rest → A t → Begins A list
-  begins_at list rest t s a = record { tag = t; accepted = a; there = (rest, s) }
-
   pub not_accepted : (list rest : List Bool) (t : Tag) → Starts (λ u l. IsIdentifier u l) list t rest → ¬ (A t)
       → ¬ (Begins A list)
   not_accepted list rest t s none = λ b. none (subst A (one_tag list b.tag t b.there (rest, s)) b.accepted)
@@ -71,17 +68,11 @@ module _ (A : Tag → Type 0) where
   no_tag list e p =
       λ b. identifier_names_fault.wrong list e p (record { value = b.tag; rest = b.there.0; starts = b.there.1 })
 
-  pub begins_first : (list : List Bool) (t : Tag) → HasTag t list → A t → Begins A list
-  begins_first list t p a = record { tag = t; accepted = a; there = p }
-
   pub begins_else : (list : List Bool) (t : Tag) → HasTag t list → ¬ (A t) → ¬ (Begins A list)
   begins_else list t p none = λ b. none (subst A (one_tag list b.tag t b.there p) b.accepted)
 
   pub begins_never : (list : List Bool) → FirstTag list None → ¬ (Begins A list)
   begins_never list none = λ b. none b.tag b.there
-
-  pub begins_not_empty : Begins A [] → ⊥
-  begins_not_empty b = let n = tag_size [] b.tag b.there in omega arith
 
   module _ {X : Type 0} (P : X → List Bool → Type 0) (tagged : AreTagged A P) where
     pub starts_begin : (list rest : List Bool) (x : X) → Starts P list x rest → Begins A list
@@ -93,15 +84,6 @@ module _ (A : Tag → Type 0) where
         → Begins A list
     both_begin Q v list b =
         starts_begin list b.rest v.0 (record { front = b.front; spelled = b.first; parts = b.parts })
-
-    -- behind a value whole octets are left of whole octets
-    pub whole_rest : (list rest : List Bool) (x : X) (m n : ℕ) → Starts P list x rest → m ≡ length list
-        → n ≡ length rest → m % 8 ≡ 0 → n % 8 ≡ 0
-    whole_rest list rest x m n s e f h =
-        let w = tagged.whole x s.front s.spelled in
-        let sized : length s.front ≡ 8 * w.0 = w.1 in
-        let whole : length list ≡ length s.front + length rest = ap length s.parts ∙ length-append s.front rest in
-        omega arith
 
     pub fewer_rest : (list rest : List Bool) (x : X) → Starts P list x rest → length rest < length list
     fewer_rest list rest x s =

@@ -76,14 +76,6 @@ module _ (tag : Tag) where
       record { front = s.front; spelled = s.spelled.element; parts = s.parts },
     )
 
-    pub tlv_starts : (list c rest : List Bool) (x : X) → Starts (λ d l. IsElement tag d l) list c rest → P x c
-        → Starts (λ y l. IsTlv tag P y l) list x rest
-    tlv_starts list c rest x s p = record {
-      front = s.front;
-      spelled = record { contents = c; spelled = p; element = s.spelled };
-      parts = s.parts;
-    }
-
     pub tlv_reads_one : FillsOne P → ReadsOne (λ x l. IsTlv tag P x l)
     tlv_reads_one fills = record {
       one = λ list x y rest other s t.
@@ -101,7 +93,7 @@ module _ (tag : Tag) where
           (subst (λ (l : List Bool). L l a) c p.element) q.element;
     }
 
-    pub tlv_is : SpellsOne P → (x : X) (len : ℕ) (front mid list : List Bool) → Measures P x (Some len)
+    tlv_is : SpellsOne P → (x : X) (len : ℕ) (front mid list : List Bool) → Measures P x (Some len)
         → len < 2 ^ 64 → AreWhole P → IsIdentifier tag front → IsDefinite (len / 8) mid → P x list
         → IsTlv tag P x (front ++ (mid ++ list))
     tlv_is one x len front mid list m below whole i d p =
@@ -126,17 +118,6 @@ module _ (tag : Tag) where
             parts = refl;
           };
         }
-
-    pub tlv_written : SpellsOne P → AreWhole P → (old a b new : List Bool) (x : X) (len : ℕ) → Measures P x (Some len)
-        → len < 2 ^ 64 → IsWritten (λ t l. IsIdentifier t l) tag old a
-        → IsWritten (λ n l. IsDefinite n l) (len / 8) a b → IsWritten P x b new
-        → IsWritten (λ y l. IsTlv tag P y l) x old new
-    tlv_written one whole old a b new x len m below p q r = record {
-      list = p.list ++ (q.list ++ r.list);
-      spelled = tlv_is one x len p.list q.list r.list m below whole p.spelled q.spelled r.spelled;
-      parts = r.parts ∙ ap (λ (l : List Bool). l ++ r.list) q.parts ∙ append_assoc a q.list r.list
-          ∙ ap (λ (l : List Bool). l ++ (q.list ++ r.list)) p.parts ∙ append_assoc old p.list (q.list ++ r.list);
-    }
 
     pub tlv_measured : SpellsOne P → AreWhole P → (x : X) (len w front : ℕ) (sum : Option ℕ) → tag.number < 31
         → Measures P x (Some len) → len < 2 ^ 64 → front ≡ 8 + w → Measures (λ n l. IsDefinite n l) (len / 8) (Some w)
