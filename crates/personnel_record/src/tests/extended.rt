@@ -164,13 +164,22 @@ fn a_bit_turned_is_refused_or_another_record(rt: HostRuntime) -> Result<(), Fail
     Ok(())
 }
 
+/// The first octets, so many.
+fn front(octets: &[u8], count: usize) -> &[u8] {
+    if count < octets.len() {
+        &octets[..count]
+    } else {
+        octets
+    }
+}
+
 #[test]
 fn a_cut_record_is_refused(rt: HostRuntime) -> Result<(), Fail> {
     let format = format()?;
     for start in 0..8usize {
         let octets = shifted(rt.alloc(), &format, start)?;
         for length in 1..RECORD.len() {
-            assert!(rt; again(&format, rt.alloc(), &octets[..length], start)?.is_none());
+            assert!(rt; again(&format, rt.alloc(), front(&octets, length), start)?.is_none());
         }
     }
     Ok(())
