@@ -105,9 +105,9 @@ fn what_is_wrong_with_additions_is_named(rt: HostRuntime) -> Result<(), Fail> {
     // 111 | 1 | 1 | 0000001 | 01 | 00000010 11111111 00: six bits of an addition that is not known are missing.
     assert_eq!(rt;
         found(&one(), rt.alloc(), &[0xF8, 0x14, 0x0B, 0xFC], 3).err(),
-        Some(Refusal::Wrong(InExtensible::Extension(InThen::Second(InAdditions::Part(InThen::Second(
+        Some(Refusal::Wrong(InRootOrAdditions::Extra(InAdditions::Part(InThen::Second(
             InOctetString::Short { missing: 6 }
-        ))))))
+        )))))
     );
     assert_eq!(rt;
         written(&one(), rt.alloc(), &(true, (Some(8), ()))).err(),
