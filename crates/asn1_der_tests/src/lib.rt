@@ -4,8 +4,6 @@
 #[cfg(test)]
 mod calls;
 #[cfg(test)]
-mod certificate;
-#[cfg(test)]
 mod elements;
 #[cfg(test)]
 mod primitives;
