@@ -7,13 +7,13 @@ use crate::refusal::Refusal;
 use asn1_values::{BitBuffer, BitReader};
 use std::alloc::{AllocError, Global};
 
-/// DEFAULT in BASIC-PER: a presence bit of 0 stands for the default value. Reading takes it written too. Writing leaves it
-/// out, as CANONICAL-PER does (X.691 19.5).
+/// DEFAULT in BASIC-PER: a presence bit of 0 stands for the default value. Reading also takes it where
+/// it is written out. Writing leaves it out, as CANONICAL-PER does (X.691 19.5).
 #[derive(Debug, Drop)]
 pub struct BasicDefault<A: Compare> {
-    /// What it is, where it is written.
+    /// The format of the value, where it is written.
     pub part: A,
-    /// The value that it has where it is not.
+    /// The default value.
     pub default: A::Value,
 }
 

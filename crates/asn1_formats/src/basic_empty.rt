@@ -9,11 +9,11 @@ use crate::sequence_of::{InSequenceOf, SequenceOf};
 use asn1_values::{BitBuffer, BitReader};
 use std::alloc::{AllocError, Global};
 
-/// `DEFAULT {}` in BASIC-PER: a presence bit of 0 stands for the empty list. Reading takes it written too. Writing leaves
-/// it out, as CANONICAL-PER does (X.691 19.5).
+/// `DEFAULT {}` in BASIC-PER: a presence bit of 0 stands for the empty list. Reading also takes it
+/// where it is written out. Writing leaves it out, as CANONICAL-PER does (X.691 19.5).
 #[derive(Clone, Copy, Debug)]
 pub struct BasicEmpty<N, A> {
-    /// What it is, where it is written.
+    /// The format of the list, where it is written.
     pub part: SequenceOf<N, A>,
 }
 

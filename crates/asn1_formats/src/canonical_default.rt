@@ -11,9 +11,9 @@ use std::alloc::{AllocError, Global};
 /// are refused (X.691 19.5).
 #[derive(Debug, Drop)]
 pub struct CanonicalDefault<A: Compare> {
-    /// What it is, where it is written.
+    /// The format of the value, where it is written.
     pub part: A,
-    /// The value that it has where it is not.
+    /// The default value.
     pub default: A::Value,
 }
 

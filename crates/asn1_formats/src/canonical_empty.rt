@@ -14,7 +14,7 @@ use std::alloc::{AllocError, Global};
 /// are refused (X.691 19.5).
 #[derive(Clone, Copy, Debug)]
 pub struct CanonicalEmpty<N, A> {
-    /// What it is, where it is written.
+    /// The format of the list, where it is written.
     pub part: SequenceOf<N, A>,
 }
 

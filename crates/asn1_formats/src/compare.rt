@@ -20,7 +20,7 @@ pub trait Compare: Format {
         ensures copied { IfOk result (λ x. Self.plain x ≡ Self.plain value.now) }
         ensures free { IfErr result (λ e. ¬ (Self.owns_nothing self.now)) };
 
-    /// Goes past a value, without memory; whether it equals the other.
+    /// Goes past a value, without memory, and says whether it equals the other.
     fn skip_equal(
         &self,
         reader: &mut BitReader<'_>,

@@ -158,7 +158,7 @@ impl ConstrainedNumber {
     }
 }
 
-/// The number at a distance from the least that passes the greatest not.
+/// The number so far above the least. It is not above the greatest.
 fn at(least: i64, most: i64, distance: u64) -> i64
     requires { (least +ℤ pos distance) ≤ℤ most }
     ensures { result ≡ least +ℤ pos distance }

@@ -9,7 +9,7 @@ use std::alloc::Global;
 /// The last alternative of a CHOICE.
 #[derive(Clone, Copy, Debug)]
 pub struct Last<A> {
-    /// What it is.
+    /// The format of the alternative.
     pub part: A,
 }
 

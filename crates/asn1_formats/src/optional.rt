@@ -10,7 +10,7 @@ use std::alloc::{AllocError, Global};
 /// OPTIONAL: a component that may be missing, with a presence bit (X.691 19.2).
 #[derive(Clone, Copy, Debug)]
 pub struct Optional<A> {
-    /// What it is, where it is there.
+    /// The format of the component.
     pub part: A,
 }
 

@@ -9,7 +9,7 @@ use std::alloc::{AllocError, Global};
 /// A component that is always there.
 #[derive(Clone, Copy, Debug)]
 pub struct Required<A> {
-    /// What it is.
+    /// The format of the component.
     pub part: A,
 }
 

@@ -14,7 +14,7 @@ use std::alloc::Global;
 pub struct SequenceOf<N, A> {
     /// The format of the number of items.
     pub size: N,
-    /// What each item is.
+    /// The format of each item.
     pub item: A,
 }
 
@@ -160,7 +160,7 @@ impl<N: Counts, A: Format> SequenceOf<N, A> {
         values.as_slice().is_empty()
     }
 
-    /// Goes past a list, without memory; whether it has no items.
+    /// Goes past a list, without memory, and says whether it has no items.
     pub(crate) fn skip_empty(
         &self,
         reader: &mut BitReader<'_>,
