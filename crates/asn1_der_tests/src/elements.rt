@@ -25,13 +25,10 @@ fn a_long_length_takes_the_fewest_octets(rt: HostRuntime) -> Result<(), Fail> {
     // X.690 8.1.3.5: 201 as 81 C9
     let octets = written(&format, rt.alloc(), &zeros(rt.alloc(), 201)?)?;
     assert_eq!(rt; octets.len(), 204);
-    assert_eq!(rt; octets[1], 0x81);
-    assert_eq!(rt; octets[2], 0xC9);
+    assert!(rt; octets.starts_with(&[0x04, 0x81, 0xC9]));
     assert_eq!(rt; found(&format, rt.alloc(), octets.as_slice())?.len(), 201);
     let long = written(&format, rt.alloc(), &zeros(rt.alloc(), 256)?)?;
-    assert_eq!(rt; long[1], 0x82);
-    assert_eq!(rt; long[2], 0x01);
-    assert_eq!(rt; long[3], 0x00);
+    assert!(rt; long.starts_with(&[0x04, 0x82, 0x01, 0x00]));
     Ok(())
 }
 
