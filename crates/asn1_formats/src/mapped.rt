@@ -43,6 +43,13 @@ impl<A, V> Mapped<A, V> {
             values: PhantomData,
         }
     }
+
+    /// The format of the part, for a crate that has a mapping for a trait of its own.
+    pub fn part(&self) -> &A
+        ensures { result.now ≡ self.now.part }
+    {
+        &self.part
+    }
 }
 
 impl<A: Format, V: OfParts<Parts = A::Value>> Format for Mapped<A, V> {
