@@ -1,5 +1,5 @@
 -- The laws of characters as fields.
-use Rattle.std.proofs.Common.{◌≡◌, ℕ, ◌^◌, ◌<◌, ◌≤◌, Bool, true, false, cond, ltb, ◌-◌, List, ◌++◌, length, take, drop, Option, Some, None, Ok, Err, refl, sym, ap, subst, ◌∙◌, arith, slice_get}
+use Rattle.std.proofs.Common.{◌≡◌, ℕ, ◌^◌, ◌<◌, ◌≤◌, Bool, true, false, cond, List, ◌++◌, length, take, Option, Some, None, Ok, Err, refl, sym, ap, subst, ◌∙◌, arith, slice_get}
 use Rattle.std.specs.Prelude.{MatchBool}
 use Rattle.std.proofs.lemmas.Bool.{le-ltb}
 use Rattle.std.proofs.lemmas.List.{length-append, take_at, take-take}
@@ -10,8 +10,8 @@ use Rattle.asn1_bits.specs.NumberLaws.{number_of-digits, digits_of-number}
 use Rattle.asn1_strings.specs.Sets.{has_character}
 use Rattle.asn1_strings.specs.Alphabet.{Alphabet, IsCode}
 use Rattle.asn1_values.specs.Fields.{Field, IsSpelledBy, IsOfShape, Character, OfCharacter}
-use Rattle.asn1_values.specs.Wrong.{Fault, Short, NoCharacter, IsReason}
-use Rattle.asn1_values.specs.Walk.{with_rest, character_of, character_or_none, character_content, cut_at, field_at}
+use Rattle.asn1_values.specs.Wrong.{Fault, NoCharacter, IsReason}
+use Rattle.asn1_values.specs.Walk.{character_of, character_or_none, character_content, cut_at, field_at}
 use Rattle.asn1_values.proofs.ExactKinds.{IsExact, cut_exact, held_is, no_fault, fault_is, no_field}
 
 -- ---- the character of a code

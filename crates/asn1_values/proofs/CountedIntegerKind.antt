@@ -1,5 +1,5 @@
 -- The laws of counted integers as fields: an octet, and behind it an integer of so many octets.
-use Rattle.std.proofs.Common.{◌≡◌, ℕ, ◌+◌, ◌-◌, ◌*◌, ◌<◌, ◌≤◌, ℤ, Bool, true, false, cond, eqb, ltb, List, ◌∷◌, ◌++◌, length, take, drop, Ok, Err, refl, sym, ap, subst, ◌∙◌, append_assoc, arith, inl, inr}
+use Rattle.std.proofs.Common.{◌≡◌, ℕ, ◌+◌, ◌-◌, ◌*◌, ◌<◌, ◌≤◌, ℤ, Bool, true, false, eqb, ltb, List, ◌∷◌, ◌++◌, length, take, drop, Ok, Err, refl, sym, ap, subst, ◌∙◌, append_assoc, arith, inl, inr}
 use Rattle.std.specs.Prelude.{◌||◌, is_ok}
 use Rattle.std.proofs.lemmas.List.{length-append, take_at, drop_at, length-take, length-drop, take-append-drop}
 use Rattle.std.proofs.lemmas.Bool.{ltb-true, ltb-false, le-ltb, eqb-false, ne_eqb}
@@ -10,7 +10,7 @@ use Rattle.asn1_bits.specs.NumberLaws.{number_of-digits, digits_of-number}
 use Rattle.asn1_values.specs.Fields.{Field, IsSpelledBy, IsOfShape, Integer, CountedInteger, OfInteger, OfCountedInteger}
 use Rattle.asn1_values.specs.Wrong.{Fault, NumberWidth, NotInteger, Short, NoCharacter, NoLength, NotIdentifier, ArcOver, IsReason, IsCount, first_octet}
 use Rattle.asn1_values.specs.Walk.{as_counted, counted, integer_at, counted_at, field_at}
-use Rattle.asn1_values.proofs.ExactKinds.{IsExact, Takes, Read, chosen, err_is, ok_is, err_is_no_ok, ok_is_no_err}
+use Rattle.asn1_values.proofs.ExactKinds.{IsExact, Takes, Read, failed, tested, chosen, err_is, ok_is, err_is_no_ok, ok_is_no_err}
 use Rattle.asn1_values.proofs.IntegerKind.{integer_exact}
 use Rattle.asn1_values.specs.SpellingLaws.{same_shortest}
 
@@ -109,9 +109,6 @@ counted_reason list ArcOver le count r = absurd r
 
 -- ---- counted integers as fields
 
-failed : Fault → Read
-failed fault = Err fault
-
 pub counted_exact : IsExact OfCountedInteger (field_at OfCountedInteger)
 unfolding field_at counted_at failed is_no_count
 counted_exact = record { taken = taken; again = again; reason = reason }
@@ -182,11 +179,6 @@ counted_exact = record { taken = taken; again = again; reason = reason }
         ]
 
 -- ---- what is read of them
-
-tested : (b : Bool) (fault : Fault) (r : Read) → is_ok (cond b (failed fault) r) ≡ true → (b ≡ false) × (is_ok r ≡ true)
-unfolding failed
-tested true fault r e = absurd cc
-tested false fault r e = (refl, e)
 
 integer_there : (r : Read) → is_ok (counted r) ≡ true → is_ok r ≡ true
 integer_there (Ok x) e = refl

@@ -1,5 +1,5 @@
 -- For each kind: what is taken is spelled so, what is spelled so is taken again, and a refusal has its reason.
-use Rattle.std.proofs.Common.{◌≡◌, ℕ, ◌-◌, ◌<◌, ◌≤◌, Bool, true, false, cond, ltb, List, ◌++◌, length, take, drop, Result, Ok, Err, refl, sym, ap, subst, ◌∙◌, arith, inl, inr, ◌⊎◌}
+use Rattle.std.proofs.Common.{is_ok, ◌≡◌, ℕ, ◌-◌, ◌<◌, ◌≤◌, Bool, true, false, cond, ltb, List, ◌++◌, length, take, drop, Result, Ok, Err, refl, sym, ap, subst, ◌∙◌, arith, inl, inr, ◌⊎◌}
 use Rattle.std.proofs.lemmas.List.{length-append, take_at, drop_at, length-take, take-append-drop}
 use Rattle.std.proofs.lemmas.Bool.{ltb-true, ltb-false, le-ltb}
 use Rattle.asn1_values.specs.Fields.{Field, Shape, IsSpelledBy, IsOfShape}
@@ -130,3 +130,13 @@ no_field c x e = cc
 
 pub no_fault : (x : Field) (c : Fault) → ◌≡◌ {A = Held} (Ok x) (Err c) → ⊥
 no_fault x c e = cc
+
+-- ---- a test that was passed
+
+unfoldable pub failed : Fault → Read
+failed fault = Err fault
+
+pub tested : (b : Bool) (fault : Fault) (r : Read) → is_ok (cond b (failed fault) r) ≡ true → (b ≡ false) × (is_ok r ≡ true)
+unfolding failed
+tested true fault r e = absurd cc
+tested false fault r e = (refl, e)

@@ -1,6 +1,6 @@
 -- The laws of identifiers as fields.
-use Rattle.std.proofs.Common.{◌≡◌, ℕ, ◌*◌, ◌/◌, ◌<◌, ◌≤◌, Bool, false, eqb, List, ◌++◌, length, take, drop, Result, Ok, Err, refl, sym, ap, subst, ◌∙◌, arith, inl, inr}
-use Rattle.std.specs.Prelude.{All}
+use Rattle.std.proofs.Common.{◌≡◌, ℕ, ◌-◌, ◌*◌, ◌/◌, ◌<◌, ◌≤◌, Bool, true, false, eqb, ltb, List, ◌++◌, length, take, drop, Result, Ok, Err, refl, sym, ap, subst, ◌∙◌, arith, inl, inr}
+use Rattle.std.specs.Prelude.{All, is_ok}
 use Rattle.std.proofs.lemmas.List.{length-append, length-take, take_at}
 use Rattle.std.proofs.lemmas.Bool.{eqb-true, eqb-false, ne_eqb, le-ltb}
 use Rattle.asn1_bits.specs.Bits.{bits}
@@ -13,11 +13,11 @@ use Rattle.asn1_oid.specs.Reading.{contents_reading}
 use Rattle.asn1_oid.specs.ReadingLaws.{contents_read, large_read, none_read, arcs_from_reading, large_from_reading, none_from_reading, no_want_of_memory}
 use Rattle.asn1_oid.specs.WritingLaws.{contents_octets, contents_only, some_contents}
 use Rattle.asn1_values.specs.Fields.{Field, IsSpelledBy, IsOfShape, Identifier, OfIdentifier}
-use Rattle.asn1_values.specs.Wrong.{Fault, NotIdentifier, ArcOver, IsReason, IsNoIdentifier, HoldsLargeArc}
-use Rattle.asn1_values.specs.Walk.{octets_of, identifier_or_fault, identifier_content, cut_at, field_at}
+use Rattle.asn1_values.specs.Wrong.{Fault, Short, NotIdentifier, ArcOver, IsReason, IsNoIdentifier, HoldsLargeArc}
+use Rattle.asn1_values.specs.Walk.{octets_of, identifier_or_fault, identifier_content, with_rest, cut_at, field_at}
 use Rattle.asn1_values.proofs.OctetLemmas.{length-octets_of, octets-octets_of, bits-octets_of, octets_of-bits}
 use Rattle.asn1_values.proofs.OneSpelling.{contents_length}
-use Rattle.asn1_values.proofs.ExactKinds.{IsExact, HoldsExactly, Takes, cut_exact, chosen, err_is, err_is_no_ok, held_is, no_fault, fault_is, no_field}
+use Rattle.asn1_values.proofs.ExactKinds.{IsExact, HoldsExactly, Takes, cut_exact, failed, tested, chosen, err_is, err_is_no_ok, held_is, no_fault, fault_is, no_field}
 
 abbrev Reading : Type 0
 Reading = Result (List ℕ) ContentsError
@@ -173,6 +173,19 @@ module _ (count : ℕ) (list : List Bool) (octets : List ℕ) (some : count ≡ 
       let read : contents_reading (octets_of count (take (8 * count) list)) ≡ Err Malformed =
       ap contents_reading (sym source) ∙ none_read octets octets_are none in
       rw (ne_eqb count 0 some, le-ltb _ _ enough, read) refl
+
+-- where an identifier can be read, it is that of the contents
+pub read_identifier : (count : ℕ) (list left : List Bool) (arcs : List ℕ) → is_ok (field_at (OfIdentifier count) list) ≡ true
+    → left ≡ drop (8 * count) list → contents_reading (octets_of count (take (8 * count) list)) ≡ Ok arcs
+    → field_at (OfIdentifier count) list ≡ Ok (Identifier arcs, left)
+unfolding field_at cut_at failed
+read_identifier count list left arcs ok rest read =
+    let content = identifier_content count in
+    let some = tested (eqb count 0) NotIdentifier (cut_at (8 * count) content list) ok in
+    let enough =
+    tested (ltb (length list) (8 * count)) (Short (8 * count - length list))
+    (with_rest (drop (8 * count) list) (content (take (8 * count) list))) some.1 in
+    rw (some.0, enough.0, read, rest) refl
 
 -- every list that spells what was read of n octets has their bits
 pub length-read_identifier : (n : ℕ) (front : List Bool) (arcs : List ℕ) → 8 * n ≤ length front

@@ -91,6 +91,11 @@ unfolding fields_at
 examined_all ss i left total le so_far =
     sym so_far ∙ ap (λ (ts : List Shape). past_all i (fields_at (plain_shapes ts) left)) (drop_all i ss le)
 
+-- a field that was gone past is there
+pub is_there : (i : ℕ) (r : ReadOne) (left : List Bool) → past i r ≡ Ok left → is_ok r ≡ true
+is_there i (Ok x) left e = refl
+is_there i (Err fault) left e = absurd cc
+
 pub is_ok_from_past : (i : ℕ) (r : ReadAll) (left : List Bool) → past_all i r ≡ Ok left → is_ok r ≡ true
 is_ok_from_past i (Ok x) left e = refl
 is_ok_from_past i (Err x) left e = absurd cc

@@ -1,12 +1,13 @@
 -- How the steps of the calls are stated. No public contract cites this.
-use Rattle.std.specs.Prelude.{◌≡◌, ℕ, ◌+◌, ◌-◌, ◌*◌, ◌/◌, ◌^◌, ◌<◌, ◌≤◌, Bool, List, [], ◌∷◌, ◌++◌, length, min, Result, Ok, Err}
+use Rattle.std.specs.Prelude.{◌≡◌, ℕ, ◌+◌, ◌-◌, ◌*◌, ◌/◌, ◌^◌, ◌<◌, ◌≤◌, Bool, List, [], ◌∷◌, ◌++◌, length, take, drop, min, Result, Ok, Err, OnOk, IfOk, IfErr, Vec, vec_items, vec_len, vec_capacity, ◌≢◌}
 use Rattle.std.specs.Int.{div_ceil}
 use Rattle.asn1_bits.specs.declared.bit_appender.BitAppender.{BitAppender}
 use Rattle.asn1_bits.specs.declared.bit_reader.BitReader.{BitReader}
 use Rattle.asn1_bits.specs.BitReader.{view_left, bits_left}
 use Rattle.asn1_bits.specs.View.{part}
-use Rattle.asn1_bits.specs.Bits.{overwritten, octets_for}
-use Rattle.asn1_bits.specs.BitAppender.{bits_written, room}
+use Rattle.asn1_bits.specs.Bits.{overwritten, octets_for, number, bits}
+use Rattle.asn1_bits.specs.Turns.{turns_for}
+use Rattle.asn1_bits.specs.BitAppender.{bits_written, room, lender_of}
 use Rattle.asn1_values.specs.declared.bit_fields.error.ReadError.{ReadError}
 use Rattle.asn1_values.specs.declared.bit_fields.error.ReadError.TheVariants as reading
 use Rattle.asn1_values.specs.declared.bit_fields.error.WriteError.{WriteError}
@@ -16,7 +17,7 @@ use Rattle.asn1_values.specs.Fields.{Field, Shape, IsSpelledBy, AreSpelledBy, Ch
 use Rattle.asn1_values.specs.Joined.{AreJoined}
 use Rattle.asn1_values.specs.Plain.{plain_field, LiesAt}
 use Rattle.asn1_values.specs.Walk.{field_at}
-use Rattle.asn1_values.specs.Wrong.{Fault, NumberWidth, NotInteger, Short, NoCharacter, NoLength, NotIdentifier, ArcOver, WidthOver, PastWidth, NotInAlphabet, PastLength, TooFewArcs, IsMisfit, IsFirstMisfit}
+use Rattle.asn1_values.specs.Wrong.{Fault, NumberWidth, NotInteger, Short, NoCharacter, NoLength, NotIdentifier, ArcOver, WidthOver, PastWidth, NotInAlphabet, PastLength, TooFewArcs, IsMisfit, IsFirstMisfit, Fits}
 
 -- ---- reading
 
@@ -40,6 +41,33 @@ abbrev pub past_all : ℕ → Result (List Field × List Bool) (ℕ × Fault) �
 past_all i (Ok x) = Ok x.1
 past_all i (Err e) = Err (error_at (i + e.0) e.1)
 
+-- the reader moved past n bits of its storage
+abbrev pub Moves : ℕ → BitReader → BitReader → Type 0
+Moves n old new = view_left new ≡ part (view_left old) n ((view_left old).len - n)
+
+-- the first n bits were taken from those that were left
+pub record Takes (n : ℕ) (old new front : BitReader) : Type 0 where
+  pub enough : n ≤ length (bits_left old)
+  pub view : view_left front ≡ part (view_left old) 0 n
+  pub list : bits_left front ≡ take n (bits_left old)
+  pub moved : Moves n old new
+  pub rest : bits_left new ≡ drop n (bits_left old)
+
+-- a counted integer was taken, and its octets are the front
+pub record TakesCounted (old new front : BitReader) : Type 0 where
+  pub octets : ℕ
+  pub counted : octets ≡ number (take 8 (bits_left old))
+  pub len : (view_left front).len ≡ 8 * octets
+  pub list : bits_left front ≡ take (8 * octets) (drop 8 (bits_left old))
+  pub moved : Moves (8 + 8 * octets) old new
+  pub rest : bits_left new ≡ drop (8 * octets) (drop 8 (bits_left old))
+
+-- a field was gone past, or the error names its fault
+pub record Examines {A : Type 0} (at : ℕ) (read : Result (Field × List Bool) Fault) (new : BitReader)
+    (result : Result A ReadError) : Type 0 where
+  pub ok : OnOk result (past at read ≡ Ok (bits_left new))
+  pub err : IfErr result (λ e. past at read ≡ Err e)
+
 -- a field of the shape was read from the front of the bits that were left, and stands behind the others
 pub record Appends (shape : Shape) (old new : BitReader) (before after : List InMemory) : Type 0 where
   pub field : InMemory
@@ -48,6 +76,15 @@ pub record Appends (shape : Shape) (old new : BitReader) (before after : List In
   pub place : LiesAt (view_left old) (view_left old).first field
   pub rest : (list : List Bool) → IsSpelledBy (plain_field field) list
       → view_left new ≡ part (view_left old) (length list) ((view_left old).len - length list)
+
+-- this happened, in room that was there; or the error names the fault of the field at this place, where it is not want of
+-- memory
+pub record AppendsNext {Z : Type 0} (shape : Shape) (at : ℕ) (old new : BitReader) (before after : Vec InMemory Z)
+    (result : Result Unit ReadError) : Type 0 where
+  pub read : OnOk result (Appends shape old new (vec_items before) (vec_items after))
+  pub len : OnOk result (vec_len after ≡ vec_len before + 1)
+  pub capacity : OnOk result (vec_capacity after ≡ vec_capacity before)
+  pub err : IfErr result (λ e. e ≢ reading.Memory → past at (field_at shape (bits_left old)) ≡ Err e)
 
 -- ---- writing
 
@@ -88,6 +125,11 @@ pub record HasLength (P : Spelling) (field : Field) (n : ℕ) : Type 0 where
 -- the field fits, in n bits
 abbrev pub FitsIn : Field → ℕ → Type 0
 FitsIn field n = HasLength IsSpelledBy field n
+
+-- the field fits, in so many bits, or the error names its misfit
+pub record Measures (at : ℕ) (field : Field) (result : Result ℕ WriteError) : Type 0 where
+  pub ok : IfOk result (FitsIn field)
+  pub err : IfErr result (NamesMisfit at field)
 
 -- the fields all have bits of such a kind, with them the start becomes an end, and n is the end, or the greatest number
 -- that the sum takes
@@ -133,6 +175,25 @@ pub record TakesTurns (n old new : ℕ) : Type 0 where
   pub at_least : old + div_ceil n 64 ≤ new
   pub at_most : new ≤ old + n / 64 + 8
 
+-- the spelling of the field was pushed, in its turns, and the storage is the same
+pub record PushesOne (field : Field) (old new : BitAppender) (turns_old turns_new : ℕ) : Type 0 where
+  pub lender : lender_of new ≡ lender_of old
+  pub pushed : Pushes field old new
+  pub counted : (list : List Bool) → IsSpelledBy field list → TakesTurns (length list) turns_old turns_new
+
+-- nothing was pushed, since the field does not fit
+pub record PushesNone (field : Field) (old new : BitAppender) : Type 0 where
+  pub lender : lender_of new ≡ lender_of old
+  pub kept : bits_written new ≡ bits_written old
+  pub lacking : Fits field → ⊥
+
+-- the bits of the octets were pushed, in turns for so many
+pub record PushesOctets (octets : List ℕ) (old new : BitAppender) (turns_old turns_new : ℕ) : Type 0 where
+  pub written : bits_written new ≡ bits_written old ++ bits octets
+  pub left : room new + 8 * length octets ≡ room old
+  pub at_least : turns_old + div_ceil (8 * length octets) 64 ≤ turns_new
+  pub at_most : turns_new ≤ turns_old + turns_for (8 * length octets)
+
 -- so many turns were taken for the fields, whichever list spells them
 pub record TakeTurns (fields : List Field) (old new : ℕ) : Type 0 where
   pub at_least : (list : List Bool) → AreSpelledBy fields list → old + div_ceil (length list) 64 ≤ new
@@ -143,6 +204,11 @@ pub record TakeTurns (fields : List Field) (old new : ℕ) : Type 0 where
 -- bits that end at the place end within n bits, and usize counts it
 abbrev pub IsReached : ℕ → ℕ → Type 0
 IsReached n place = (place ≤ n) × (place < 2 ^ 64)
+
+-- the field fits, and its bits from a place on are within n bits
+pub record FitsWithin (n place : ℕ) (field : Field) : Type 0 where
+  pub fits : Fits field
+  pub within : (list : List Bool) → IsSpelledBy field list → IsReached n (place + length list)
 
 -- the fields all fit, and with them from a place on n bits are reached
 pub record EndWithin (n place : ℕ) (fields : List Field) : Type 0 where

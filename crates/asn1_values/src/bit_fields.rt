@@ -1,18 +1,27 @@
 //! Bit fields: numbers, octets, bits, integers, counted integers, identifiers and characters, written one after another
 //! behind the bits of a buffer or over those of octets, and read back from any bit of a storage.
 
+mod bits;
+mod character;
+mod counted_integer;
 mod error;
 mod examine;
 mod field;
+mod identifier;
+mod integer;
+mod number;
+mod octets;
 mod read;
 mod shape;
+mod take;
 mod view_octets;
 mod write;
 mod write_at;
 
 pub use error::{ReadError, WriteError};
 pub use field::Field;
-pub use read::{integer_of, read_fields};
+pub use integer::integer_of;
+pub use read::read_fields;
 pub use shape::{Shape, shape_of};
 pub use write::{write_fields, write_fields_counted};
 pub use write_at::write_fields_at;

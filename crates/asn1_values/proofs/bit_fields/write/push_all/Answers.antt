@@ -22,15 +22,15 @@ loop-field-preserved c =
     let i = c.loop-field.field-index in
     let x = c.field-item.result in
     record {
-      lender = c.push.ensures.lender ∙ c.loop-field.invariant.lender;
+      lender = c.in_ok-push.ensures.pushed.lender ∙ c.loop-field.invariant.lender;
       pushed =
           rw (more_of fs i x c.loop-field-test.true c.field-item.is)
           (pushed_more (plain_fields (take i fs)) (plain_field x) c.args.appender.now c.loop-field.appender
-          c.push.new.appender c.loop-field.invariant.pushed c.in_ok-push.ensures.pushed);
+          c.push.new.appender c.loop-field.invariant.pushed c.in_ok-push.ensures.pushed.pushed);
       counted =
           rw (more_of fs i x c.loop-field-test.true c.field-item.is)
           (more_turns (plain_fields (take i fs)) (plain_field x) c.args.turns.now.count c.loop-field.turns.count
-          c.push.new.turns.count c.loop-field.invariant.counted c.in_ok-push.ensures.counted);
+          c.push.new.turns.count c.loop-field.invariant.counted c.in_ok-push.ensures.pushed.counted);
     }
 
 -- ---- a character that its alphabet lacks
@@ -41,14 +41,14 @@ returns-in_err-push-clause-lacking c =
     let i = c.loop-field.field-index in
     let x = c.field-item.result in
     rw c.from_residual.ensures (λ list s.
-    c.in_err-push.ensures.lacking
+    c.in_err-push.ensures.refused.lacking
     (field_fits (plain_fields fs) (plain_fields (take i fs)) (plain_fields (drop (i + 1) fs)) (plain_field x)
     (cut_of fs i x c.loop-field-test.true c.field-item.is) list s))
 
 pub returns-in_err-push-clause-kept : goal.returns-in_err-push-clause-kept
 returns-in_err-push-clause-kept c =
     let w = c.loop-field.invariant.pushed in
-    (w.list, c.in_err-push.ensures.kept ∙ w.written)
+    (w.list, c.in_err-push.ensures.refused.kept ∙ w.written)
 
 pub returns-clause-kept : goal.returns-clause-kept
 returns-clause-kept c =

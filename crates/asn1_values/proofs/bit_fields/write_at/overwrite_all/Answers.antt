@@ -9,22 +9,21 @@ use Rattle.asn1_values.proofs.bit_fields.write_at.overwrite_all.Goals as goal
 pub loop-field-init : goal.loop-field-init
 loop-field-init c = overwrites_none c.args.position (bits c.args.target.now)
 
-pub overwrite-next-requires-clause-fits : goal.overwrite-next-requires-clause-fits
-overwrite-next-requires-clause-fits c =
+pub overwrite-next-requires : goal.overwrite-next-requires
+overwrite-next-requires c =
     let fs = c.args.fields.now in
     let i = c.loop-field.field-index in
     let x = c.field-item.result in
-    field_fits (plain_fields fs) (plain_fields (take i fs)) (plain_fields (drop (i + 1) fs)) (plain_field x)
-    (cut_of fs i x c.loop-field-test.true c.field-item.is) c.requires.list c.requires.spelled
-
-pub overwrite-next-requires-clause-within : goal.overwrite-next-requires-clause-within
-overwrite-next-requires-clause-within c =
-    let fs = c.args.fields.now in
-    let i = c.loop-field.field-index in
-    let x = c.field-item.result in
-    reached_now (plain_fields fs) (plain_fields (take i fs)) (plain_fields (drop (i + 1) fs)) (plain_field x)
-    (cut_of fs i x c.loop-field-test.true c.field-item.is)
-    c.args.target.now c.loop-field.target c.args.position c.loop-field.next c.requires c.loop-field.invariant
+    let behind = plain_fields (drop (i + 1) fs) in
+    let cut = cut_of fs i x c.loop-field-test.true c.field-item.is in
+    record {
+      fits =
+          field_fits (plain_fields fs) (plain_fields (take i fs)) behind (plain_field x) cut c.requires.list
+          c.requires.spelled;
+      within =
+          reached_now (plain_fields fs) (plain_fields (take i fs)) behind (plain_field x) cut c.args.target.now
+          c.loop-field.target c.args.position c.loop-field.next c.requires c.loop-field.invariant;
+    }
 
 pub loop-field-preserved : goal.loop-field-preserved
 loop-field-preserved c =

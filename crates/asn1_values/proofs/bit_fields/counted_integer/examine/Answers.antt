@@ -1,0 +1,30 @@
+use Rattle.std.proofs.Common.{◌≡◌, take, ◌+◌, ◌*◌, ap, refl, ◌∙◌}
+use Rattle.std.proofs.lemmas.Result.{IfOk-weaker}
+use Rattle.asn1_bits.specs.BitReader.{view_left, bits_left}
+use Rattle.asn1_bits.specs.Bits.{number}
+use Rattle.asn1_bits.specs.View.{View}
+use Rattle.asn1_values.specs.Steps.{Takes, TakesCounted}
+use Rattle.asn1_values.proofs.CharacterKind.{cut_twice}
+use Rattle.asn1_values.proofs.CountedIntegerKind.{part_behind}
+use Rattle.asn1_values.proofs.bit_fields.counted_integer.examine.Goals as goal
+
+pub returns-clause-taken : goal.returns-clause-taken
+returns-clause-taken c =
+    let old = view_left c.args.reader.now in
+    let mid = c.take_bits.new.reader in
+    let first = c.in_ok-take_bits.ensures.taken in
+    let octet = c.from.result in
+    let counted : octet ≡ number (take 8 (bits_left c.args.reader.now)) = c.from.ensures
+    ∙ c.first_u128-octet.ensures.number
+    ∙ ap number (cut_twice 8 (bits_left c.args.reader.now) (bits_left c.in_ok-take_bits.field-0) first.list) in
+    IfOk-weaker c.examine.result (Takes (8 * octet) mid c.examine.new.reader)
+    (TakesCounted c.args.reader.now c.examine.new.reader)
+    (λ front t. record {
+      octets = octet;
+      counted = counted;
+      len = ap (λ (v : View). v.len) t.view;
+      list = rw first.rest at t.list;
+      moved = t.moved ∙ part_behind old (view_left mid) (8 * octet) (8 + 8 * octet) first.moved refl;
+      rest = rw first.rest at t.rest;
+    })
+    c.examine.ensures.taken

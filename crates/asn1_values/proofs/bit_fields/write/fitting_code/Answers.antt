@@ -1,8 +1,0 @@
-use Rattle.asn1_strings.specs.AlphabetView.{alphabet_of}
-use Rattle.asn1_values.proofs.SpellingLemmas.{character_fits}
-use Rattle.asn1_values.proofs.bit_fields.write.fitting_code.Goals as goal
-
-pub returns-in-Ok-clause-ok : goal.returns-in-Ok-clause-ok
-returns-in-Ok-clause-ok c =
-    rw c.width.ensures.value
-    (character_fits (alphabet_of c.args.alphabet.now) c.args.character c.in-Ok.field-0 c.in-Ok.ensures.0)

@@ -1,0 +1,79 @@
+//! Bits as a field.
+
+ghost use Rattle.std.specs.Prelude.{◌+◌, ◌*◌, ◌<◌, length, IfOk, Ok, take, vec_len, vec_capacity};
+ghost use Rattle.asn1_bits.specs.BitAppender.{room};
+ghost use Rattle.asn1_bits.specs.BitReader.{bits_left};
+ghost use Rattle.asn1_bits.specs.BitStr.{view_of, bits_of};
+ghost use Rattle.asn1_bits.specs.Bits.{bits};
+ghost use Rattle.asn1_values.specs.Fields as plain;
+ghost use Rattle.asn1_values.specs.Steps.{FitsIn, HasRoomFor, PushesOne, IsReached, FitsWithin, WritesOver, Overwrites, Takes, Examines, AppendsNext};
+ghost use Rattle.asn1_values.specs.Walk.{field_at};
+
+use super::error::ReadError;
+use super::field::Field;
+use super::take::take_bits;
+use asn1_bits::{BitAppender, BitReader, BitStr, Turns, overwrite_bitslice};
+
+/// How many bits they are.
+#[inline(always)]
+pub(super) fn fitting_len(bits: &BitStr<'_>) -> u128
+    ensures { FitsIn (plain.Bits (bits_of bits.now)) result }
+{
+    bits.len() as u128
+}
+
+/// Pushes bits that fit the room.
+#[inline(always)]
+pub(super) fn push(appender: &mut BitAppender<'_>, bits: &BitStr<'_>, turns: &mut Turns)
+    requires { HasRoomFor (plain.Bits (bits_of bits.now)) (room appender.old) }
+    ensures { PushesOne (plain.Bits (bits_of bits.now)) appender.old appender.new turns.old.count turns.new.count }
+{
+    appender.push_bitslice(*bits, turns);
+}
+
+/// Writes bits over what is there, and answers with the bit behind them.
+pub(super) fn overwrite(target: &mut [u8], position: usize, view: &BitStr<'_>) -> usize
+    requires { FitsWithin (8 * length target.old) position (plain.Bits (bits_of view.now)) }
+    ensures { Overwrites (plain.Bits (bits_of view.now)) position (bits target.old) (bits target.new) result }
+{
+    overwrite_view(target, position, *view)
+}
+
+/// Writes the bits of the view over what is there, and answers with the bit behind them.
+pub(super) fn overwrite_view(target: &mut [u8], position: usize, view: BitStr<'_>) -> usize
+    requires { IsReached (8 * length target.old) (position + (view_of view).len) }
+    ensures { WritesOver (bits_of view.entry) position (bits target.old) (bits target.new) result }
+{
+    overwrite_bitslice(target, position, view, &mut Turns::new());
+    position + view.len()
+}
+
+/// Goes past `length` bits, and gives them.
+#[inline(always)]
+#[tactic(auto, unfolding(crate::specs::Walk::field_at, crate::specs::Walk::cut_at))]
+pub(super) fn examine<'a>(
+    reader: &mut BitReader<'a>,
+    length: usize,
+    field: usize,
+) -> Result<BitReader<'a>, ReadError>
+    ensures examined { Examines field (field_at (plain.OfBits length) (bits_left reader.old)) reader.new result }
+    ensures taken { IfOk result (λ front. Takes length reader.old reader.new front) }
+{
+    take_bits(reader, length as u128, field)
+}
+
+/// Appends a view of the next bits to the fields, for which there is room.
+#[inline(always)]
+pub(super) fn append<'a>(
+    fields: &mut Vec<Field<'a, '_>>,
+    reader: &mut BitReader<'a>,
+    length: usize,
+    field: usize,
+) -> Result<(), ReadError>
+    requires { vec_len fields.old < vec_capacity fields.old }
+    ensures { AppendsNext (plain.OfBits length) field reader.old reader.new fields.old fields.new result }
+{
+    let front = examine(reader, length, field)?;
+    fields.push_reserved(Field::Bits(front.bits()));
+    Ok(())
+}

@@ -1,0 +1,128 @@
+//! A character as a field: its code in the width of its alphabet (X.691 30.5).
+
+ghost use Rattle.std.specs.Prelude.{◌≡◌, Err, ◌+◌, ◌*◌, ◌<◌, ◌++◌, length, OnOk, IfOk, OnSome, IfNone, Ok, take, [], ◌∷◌, vec_len, vec_capacity};
+ghost use Rattle.asn1_bits.specs.BitAppender.{room};
+ghost use Rattle.asn1_bits.specs.BitReader.{bits_left};
+ghost use Rattle.asn1_bits.specs.Bits.{bits, number};
+ghost use Rattle.asn1_strings.specs.AlphabetView.{alphabet_of};
+ghost use Rattle.asn1_values.specs.Fields as plain;
+ghost use Rattle.asn1_values.specs.Steps.{HasRoomFor, PushesOne, PushesNone, FitsWithin, Measures, Overwrites, Moves, Examines, AppendsNext};
+ghost use Rattle.asn1_values.specs.Walk.{field_at};
+
+use super::error::{ReadError, WriteError};
+use super::field::Field;
+use super::number::overwrite_digits;
+use super::take::take_bits;
+use asn1_bits::{BitAppender, BitReader, Turns};
+use asn1_strings::CharacterAlphabet;
+
+/// The width of the alphabet, if it has a code for the character.
+#[inline(always)]
+pub(super) fn fitting_len(
+    alphabet: &CharacterAlphabet<'_>,
+    character: u32,
+    field: usize,
+) -> Result<u128, WriteError>
+    ensures { Measures field (plain.Character (alphabet_of alphabet.now) character) result }
+{
+    match alphabet.encode(character) {
+        Ok(_) => Ok(alphabet.width() as u128),
+        Err(_) => Err(WriteError::Character { field, character }),
+    }
+}
+
+/// Pushes a code of a character, if its alphabet has it. As many bits fit the room.
+#[inline(always)]
+pub(super) fn push(
+    appender: &mut BitAppender<'_>,
+    alphabet: &CharacterAlphabet<'_>,
+    character: u32,
+    turns: &mut Turns,
+) -> Option<()>
+    requires { HasRoomFor (plain.Character (alphabet_of alphabet.now) character) (room appender.old) }
+    ensures pushed { OnSome result (PushesOne (plain.Character (alphabet_of alphabet.now) character)
+        appender.old appender.new turns.old.count turns.new.count) }
+    ensures refused { IfNone result
+        (PushesNone (plain.Character (alphabet_of alphabet.now) character) appender.old appender.new) }
+{
+    match alphabet.encode(character) {
+        Ok(code) => {
+            appender.push_number(u128::from(code), alphabet.width(), turns);
+            Some(())
+        }
+        Err(_) => None,
+    }
+}
+
+/// Writes a code of a character over what is there, and answers with the bit behind it.
+pub(super) fn overwrite(
+    target: &mut [u8],
+    position: usize,
+    alphabet: &CharacterAlphabet<'_>,
+    character: u32,
+) -> usize
+    requires { FitsWithin (8 * length target.old) position
+        (plain.Character (alphabet_of alphabet.now) character) }
+    ensures { Overwrites (plain.Character (alphabet_of alphabet.now) character) position
+        (bits target.old) (bits target.new) result }
+{
+    match alphabet.encode(character) {
+        Ok(code) => overwrite_digits(target, position, u128::from(code), alphabet.width()),
+        Err(_) => unreachable!(),
+    }
+}
+
+/// Goes past a character, if the alphabet has one for the code, and gives it.
+#[inline(always)]
+#[tactic(auto, unfolding(crate::specs::Walk::field_at, crate::specs::Walk::cut_at))]
+pub(super) fn examine(
+    reader: &mut BitReader<'_>,
+    alphabet: &CharacterAlphabet<'_>,
+    field: usize,
+) -> Result<u32, ReadError>
+    ensures examined { Examines field
+        (field_at (plain.OfCharacter (alphabet_of alphabet.now)) (bits_left reader.old)) reader.new result }
+    ensures read { IfOk result (λ c. field_at (plain.OfCharacter (alphabet_of alphabet.now)) (bits_left reader.old)
+        ≡ Ok (plain.Character (alphabet_of alphabet.now) c, bits_left reader.new)) }
+    ensures moved { OnOk result (Moves (alphabet_of alphabet.now).width reader.old reader.new) }
+{
+    let width = alphabet.width();
+    let front = take_bits(reader, width as u128, field)?;
+    let code = front.first_bits(width);
+    match alphabet.decode(code) {
+        Ok(character) => Ok(character),
+        Err(_) => Err(ReadError::Character { field, code }),
+    }
+}
+
+/// Appends the next character to the fields, for which there is room.
+#[inline(always)]
+pub(super) fn append<'a, 's>(
+    fields: &mut Vec<Field<'a, 's>>,
+    reader: &mut BitReader<'a>,
+    alphabet: &CharacterAlphabet<'s>,
+    field: usize,
+) -> Result<(), ReadError>
+    requires { vec_len fields.old < vec_capacity fields.old }
+    ensures { AppendsNext (plain.OfCharacter (alphabet_of alphabet.now)) field reader.old reader.new
+        fields.old fields.new result }
+{
+    let character = examine(reader, alphabet, field)?;
+    store(fields, character, alphabet);
+    Ok(())
+}
+
+/// Stores a character. Not inlined, so that the alphabet is copied as a whole.
+#[inline(never)]
+fn store<'a, 's>(fields: &mut Vec<Field<'a, 's>>, character: u32, alphabet: &CharacterAlphabet<'s>)
+    requires { vec_len fields.old < vec_capacity fields.old }
+    ensures kept { fields.new.items ≡ fields.old.items ++ Field.Character character alphabet.now ∷ [] }
+    ensures len { vec_len fields.new ≡ vec_len fields.old + 1 }
+    ensures capacity { vec_capacity fields.new ≡ vec_capacity fields.old }
+{
+    let alphabet = *alphabet;
+    fields.push_reserved(Field::Character {
+        character,
+        alphabet,
+    });
+}

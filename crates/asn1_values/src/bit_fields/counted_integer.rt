@@ -1,0 +1,86 @@
+//! An integer as a field behind the octet that counts its shortest octets: the short form of a length (X.690 8.1.3.4) and
+//! contents.
+
+ghost use Rattle.std.specs.Prelude.{Err, ◌+◌, ◌*◌, ◌<◌, length, IfOk, Ok, take, vec_len, vec_capacity};
+ghost use Rattle.asn1_bits.specs.BitAppender.{room};
+ghost use Rattle.asn1_bits.specs.BitReader.{bits_left};
+ghost use Rattle.asn1_bits.specs.Bits.{bits, number};
+ghost use Rattle.asn1_values.specs.Fields as plain;
+ghost use Rattle.asn1_values.specs.Steps.{HasRoomFor, PushesOne, FitsWithin, Measures, Overwrites, TakesCounted, Examines, AppendsNext};
+ghost use Rattle.asn1_values.specs.Walk.{field_at};
+
+use super::error::{ReadError, WriteError};
+use super::field::Field;
+use super::integer::{self, integer_of, overwrite_shortest, push_shortest};
+use super::number::overwrite_digits;
+use super::take::take_bits;
+use asn1_bits::{BitAppender, BitReader, Turns};
+use asn1_integer::Integer;
+use std::alloc::Global;
+
+/// How many bits the shortest octets and the octet in front of them have, if they are at most 127.
+#[inline(always)]
+pub(super) fn fitting_len(number: &Integer, place: usize) -> Result<u128, WriteError>
+    ensures { Measures place (plain.CountedInteger number.now) result }
+{
+    let octets = number.signed_len();
+    if octets > 127 {
+        return Err(WriteError::IntegerLength { field: place });
+    }
+    Ok(8 + 8 * octets as u128)
+}
+
+/// Pushes a counted integer that fits the room: the number of its octets, and these.
+#[inline(always)]
+pub(super) fn push(appender: &mut BitAppender<'_>, number: &Integer, turns: &mut Turns)
+    requires { HasRoomFor (plain.CountedInteger number.now) (room appender.old) }
+    ensures { PushesOne (plain.CountedInteger number.now) appender.old appender.new
+        turns.old.count turns.new.count }
+{
+    appender.push_wide(number.signed_len() as u128, 8, turns);
+    push_shortest(appender, number, turns);
+}
+
+/// Writes a counted integer over what is there, and answers with the bit behind it.
+pub(super) fn overwrite(target: &mut [u8], position: usize, number: &Integer) -> usize
+    requires { FitsWithin (8 * length target.old) position (plain.CountedInteger number.now) }
+    ensures { Overwrites (plain.CountedInteger number.now) position (bits target.old) (bits target.new) result }
+{
+    let next = overwrite_digits(target, position, number.signed_len() as u128, 8);
+    overwrite_shortest(target, next, number)
+}
+
+/// Goes past a counted integer, and gives the octets behind its first, if that is 1 to 127, and so many octets are the
+/// shortest of a number.
+#[inline(always)]
+#[tactic(auto, unfolding(crate::specs::Walk::field_at, crate::specs::Walk::counted_at))]
+pub(super) fn examine<'a>(
+    reader: &mut BitReader<'a>,
+    field: usize,
+) -> Result<BitReader<'a>, ReadError>
+    ensures examined { Examines field (field_at plain.OfCountedInteger (bits_left reader.old)) reader.new result }
+    ensures taken { IfOk result (TakesCounted reader.old reader.new) }
+{
+    let octet = take_bits(reader, 8, field)?.first_u128(8) as u8;
+    if octet == 0 || octet > 127 {
+        return Err(ReadError::Length { field, octet });
+    }
+    integer::examine(reader, usize::from(octet), field)
+}
+
+/// Appends the next counted integer to the fields, for which there is room.
+#[inline(always)]
+pub(super) fn append<'a>(
+    fields: &mut Vec<Field<'a, '_>>,
+    alloc: Global,
+    reader: &mut BitReader<'a>,
+    field: usize,
+) -> Result<(), ReadError>
+    requires { vec_len fields.old < vec_capacity fields.old }
+    ensures { AppendsNext plain.OfCountedInteger field reader.old reader.new fields.old fields.new result }
+{
+    let front = examine(reader, field)?;
+    let number = integer_of(alloc, &front)?;
+    fields.push_reserved(Field::CountedInteger(number));
+    Ok(())
+}

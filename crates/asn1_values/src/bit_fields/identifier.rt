@@ -1,0 +1,164 @@
+//! An object identifier as a field: its contents (X.690 8.19).
+
+ghost use Rattle.std.specs.Prelude.{◌≡◌, Err, ◌+◌, ◌*◌, ◌/◌, ◌<◌, ◌≤◌, ◌++◌, length, IfOk, Ok, take, vec_len, vec_capacity};
+ghost use Rattle.asn1_bits.specs.BitAppender.{room, lender_of, bits_written};
+ghost use Rattle.asn1_bits.specs.BitReader.{view_left, bits_left};
+ghost use Rattle.asn1_bits.specs.Bits.{bits, number};
+ghost use Rattle.asn1_oid.specs.Contents.{FitU32};
+ghost use Rattle.asn1_oid.specs.Reading.{contents_reading};
+ghost use Rattle.asn1_values.specs.Fields as plain;
+ghost use Rattle.asn1_values.specs.Steps.{HasRoomFor, PushesOne, TakesTurns, IsReached, FitsWithin, Measures, WritesOver, Overwrites, Takes, Examines, AppendsNext};
+ghost use Rattle.asn1_values.specs.Walk.{field_at, octets_of};
+
+use super::error::{ReadError, WriteError};
+use super::field::Field;
+use super::number::overwrite_digits;
+use super::take::take_bits;
+use super::view_octets::ViewOctets;
+use asn1_bits::{BitAppender, BitReader, Turns};
+use asn1_oid::{ContentsError, ObjectIdentifier, OidContents, check_contents};
+use std::alloc::{AllocError, Global};
+
+/// How many bits the contents have, if the identifier has two arcs. A function of its own, so that the result's stack
+/// slot is initialised only for identifiers.
+#[inline(always)]
+pub(super) fn fitting_len(oid: &ObjectIdentifier, place: usize) -> Result<u128, WriteError>
+    ensures { Measures place (plain.Identifier oid.now) result }
+{
+    fitting_contents(oid, place)
+}
+
+/// `fitting_len`, not inlined.
+#[inline(never)]
+fn fitting_contents(oid: &ObjectIdentifier, place: usize) -> Result<u128, WriteError>
+    ensures { Measures place (plain.Identifier oid.now) result }
+{
+    let arcs = oid.as_ref();
+    arcs_fit(arcs);
+    // The number of arcs fits `usize`, and so their octets are not too many.
+    let _len = arcs.len();
+    match oid.as_oid().contents_len() {
+        Some(octets) => Ok(8 * octets),
+        None => Err(WriteError::ArcCount { field: place }),
+    }
+}
+
+/// Arcs are below 2 to the power of 32. It does nothing: its clause tells the proof so.
+fn arcs_fit(arcs: &[u32])
+    ensures { FitU32 arcs.now }
+{}
+
+/// Pushes the contents of an identifier, which fit the room.
+#[inline(never)]
+pub(super) fn push(appender: &mut BitAppender<'_>, oid: &ObjectIdentifier, turns: &mut Turns)
+    requires { HasRoomFor (plain.Identifier oid.now) (room appender.old) }
+    ensures { PushesOne (plain.Identifier oid.now) appender.old appender.new turns.old.count turns.new.count }
+{
+    match oid.as_oid().contents() {
+        Some(octets) => push_each(appender, octets, turns),
+        None => unreachable!(),
+    }
+}
+
+/// Pushes octets that fit the room, sixteen at a time.
+fn push_each(appender: &mut BitAppender<'_>, octets: OidContents<'_>, turns: &mut Turns)
+    requires { 8 * length octets ≤ room appender.old }
+    ensures lender { lender_of appender.new ≡ lender_of appender.old }
+    ensures written { bits_written appender.new ≡ bits_written appender.old ++ bits octets.entry }
+    ensures room { room appender.new + 8 * length octets.entry ≡ room appender.old }
+    ensures counted { TakesTurns (8 * length octets.entry) turns.old.count turns.new.count }
+{
+    let mut word = 0u128;
+    let mut width = 0usize;
+    for octet in octets {
+        if width == 128 {
+            appender.push_wide(word, width, turns);
+            word = 0;
+            width = 0;
+        }
+        word = 256 * word + u128::from(octet);
+        width += 8;
+    }
+    appender.push_wide(word, width, turns);
+}
+
+/// Writes the contents of an identifier over what is there, and answers with the bit behind them.
+pub(super) fn overwrite(target: &mut [u8], position: usize, oid: &ObjectIdentifier) -> usize
+    requires { FitsWithin (8 * length target.old) position (plain.Identifier oid.now) }
+    ensures { Overwrites (plain.Identifier oid.now) position (bits target.old) (bits target.new) result }
+{
+    match oid.as_oid().contents() {
+        Some(octets) => overwrite_each(target, position, octets),
+        None => unreachable!(),
+    }
+}
+
+/// Writes octets one by one, and answers with the bit behind them.
+fn overwrite_each(target: &mut [u8], position: usize, octets: OidContents<'_>) -> usize
+    requires { IsReached (8 * length target.old) (position + 8 * length octets) }
+    ensures { WritesOver (bits octets.entry) position (bits target.old) (bits target.new) result }
+{
+    let mut next = position;
+    for octet in octets {
+        next = overwrite_digits(target, next, u128::from(octet), 8);
+    }
+    next
+}
+
+/// Goes past an identifier, and gives its contents, if the octets are contents.
+#[inline(always)]
+#[tactic(auto, unfolding(crate::specs::Walk::field_at, crate::specs::Walk::cut_at))]
+pub(super) fn examine<'a>(
+    reader: &mut BitReader<'a>,
+    octet_count: usize,
+    field: usize,
+) -> Result<BitReader<'a>, ReadError>
+    ensures examined { Examines field (field_at (plain.OfIdentifier octet_count) (bits_left reader.old))
+        reader.new result }
+    ensures taken { IfOk result (λ front. Takes (8 * octet_count) reader.old reader.new front) }
+{
+    if octet_count == 0 {
+        return Err(ReadError::Identifier { field });
+    }
+    let front = take_bits(reader, 8 * octet_count as u128, field)?;
+    match check_contents(&ViewOctets { bits: front.bits() }) {
+        Ok(()) => Ok(front),
+        Err(ContentsError::Malformed) => Err(ReadError::Identifier { field }),
+        Err(ContentsError::ArcTooLarge) => Err(ReadError::Arc { field }),
+        Err(ContentsError::Memory) => unreachable!(),
+    }
+}
+
+/// Appends the next identifier to the fields, for which there is room.
+#[inline(always)]
+#[tactic(auto, unfolding(crate::specs::Walk::field_at, crate::specs::Walk::cut_at))]
+pub(super) fn append<'a>(
+    fields: &mut Vec<Field<'a, '_>>,
+    alloc: Global,
+    reader: &mut BitReader<'a>,
+    octets: usize,
+    field: usize,
+) -> Result<(), ReadError>
+    requires { vec_len fields.old < vec_capacity fields.old }
+    ensures { AppendsNext (plain.OfIdentifier octets) field reader.old reader.new fields.old fields.new result }
+{
+    let front = examine(reader, octets, field)?;
+    let oid = identifier_of(alloc, &front)?;
+    fields.push_reserved(Field::Oid(oid));
+    Ok(())
+}
+
+/// The identifier whose contents are the octets that the reader has left.
+#[inline(never)]
+fn identifier_of(alloc: Global, reader: &BitReader<'_>) -> Result<ObjectIdentifier, AllocError>
+    ensures { IfOk result (λ arcs.
+        contents_reading (octets_of ((view_left reader.now).len / 8) (bits_left reader.now)) ≡ Ok arcs) }
+{
+    let octets = ViewOctets {
+        bits: reader.bits(),
+    };
+    let Ok(oid) = ObjectIdentifier::from_contents(alloc, &octets) else {
+        return Err(AllocError);
+    };
+    Ok(oid)
+}

@@ -1,0 +1,202 @@
+//! An integer as a field: its shortest octets (X.690 8.3).
+
+ghost use Rattle.std.specs.Prelude.{◌≡◌, ℕ, List, Err, ◌+◌, ◌*◌, ◌%◌, ◌^◌, ◌<◌, ◌≤◌, length, IfOk, Ok, take, pos, ◌-ℤ◌, All, vec_len, vec_capacity};
+ghost use Rattle.asn1_bits.specs.BitAppender.{room, lender_of};
+ghost use Rattle.asn1_bits.specs.BitReader.{view_left, bits_left};
+ghost use Rattle.asn1_bits.specs.Bits.{bits, number};
+ghost use Rattle.asn1_number.specs.Octets.{IsShortest, signed};
+ghost use Rattle.asn1_values.specs.Fields as plain;
+ghost use Rattle.asn1_values.specs.Steps.{FitsIn, HasRoomFor, PushesOctets, PushesOne, IsReached, FitsWithin, WritesOver, Overwrites, Takes, Examines, AppendsNext};
+ghost use Rattle.asn1_values.specs.Walk.{field_at, integer_at};
+
+use super::error::ReadError;
+use super::field::Field;
+use super::octets::overwrite_octets;
+use super::take::take_bits;
+use asn1_bits::{BitAppender, BitReader, Turns};
+use asn1_integer::Integer;
+use std::alloc::{AllocError, Global};
+
+/// How many bits the shortest octets have.
+#[inline(always)]
+pub(super) fn fitting_len(number: &Integer) -> u128
+    ensures { FitsIn (plain.Integer number.now) result }
+{
+    8 * number.signed_len() as u128
+}
+
+/// Pushes an integer that fits the room.
+#[inline(always)]
+pub(super) fn push(appender: &mut BitAppender<'_>, number: &Integer, turns: &mut Turns)
+    requires { HasRoomFor (plain.Integer number.now) (room appender.old) }
+    ensures { PushesOne (plain.Integer number.now) appender.old appender.new turns.old.count turns.new.count }
+{
+    push_shortest(appender, number, turns);
+}
+
+/// Pushes the shortest octets of a number, which fit the room: up to sixteen of them as one number.
+#[inline(always)]
+pub(super) fn push_shortest(appender: &mut BitAppender<'_>, number: &Integer, turns: &mut Turns)
+    requires { (octets : List ℕ) → IsShortest number.now octets → 8 * length octets ≤ room appender.old }
+    ensures lender { lender_of appender.new ≡ lender_of appender.old }
+    ensures pushed { (octets : List ℕ) → IsShortest number.now octets
+        → PushesOctets octets appender.old appender.new turns.old.count turns.new.count }
+{
+    match number.to_i128() {
+        Some(value) => {
+            // The word holds sixteen octets, of which the lowest are the shortest.
+            appender.push_wide(value.cast_unsigned(), 8 * number.signed_len(), turns);
+        }
+        None => push_long(appender, number, turns),
+    }
+}
+
+/// The path of `push_shortest` for more than sixteen octets. Not inlined, since it is rare.
+#[inline(never)]
+fn push_long(appender: &mut BitAppender<'_>, number: &Integer, turns: &mut Turns)
+    requires { (octets : List ℕ) → IsShortest number.now octets → 8 * length octets ≤ room appender.old }
+    ensures lender { lender_of appender.new ≡ lender_of appender.old }
+    ensures pushed { (octets : List ℕ) → IsShortest number.now octets
+        → PushesOctets octets appender.old appender.new turns.old.count turns.new.count }
+{
+    appender.push_octets(number.signed_octets().as_ref(), turns);
+}
+
+/// Writes an integer over what is there, and answers with the bit behind it.
+pub(super) fn overwrite(target: &mut [u8], position: usize, number: &Integer) -> usize
+    requires { FitsWithin (8 * length target.old) position (plain.Integer number.now) }
+    ensures { Overwrites (plain.Integer number.now) position (bits target.old) (bits target.new) result }
+{
+    overwrite_shortest(target, position, number)
+}
+
+/// Writes the shortest octets of a number over what is there, and answers with the bit behind them.
+pub(super) fn overwrite_shortest(target: &mut [u8], position: usize, number: &Integer) -> usize
+    requires { (octets : List ℕ) → IsShortest number.now octets
+        → IsReached (8 * length target.old) (position + 8 * length octets) }
+    ensures { (octets : List ℕ) → IsShortest number.now octets
+        → WritesOver (bits octets) position (bits target.old) (bits target.new) result }
+{
+    overwrite_octets(target, position, number.signed_octets().as_ref())
+}
+
+/// Goes past an integer, and gives its octets, if they are the shortest of a number: if the first nine of their bits are
+/// not all alike (X.690 8.3.2), or there is one octet.
+#[inline(always)]
+#[tactic(auto, unfolding(crate::specs::Walk::integer_at, crate::specs::Walk::cut_at))]
+pub(super) fn examine<'a>(
+    reader: &mut BitReader<'a>,
+    octets: usize,
+    field: usize,
+) -> Result<BitReader<'a>, ReadError>
+    ensures examined { Examines field (integer_at octets (bits_left reader.old)) reader.new result }
+    ensures taken { IfOk result (λ front. Takes (8 * octets) reader.old reader.new front) }
+{
+    if octets == 0 {
+        return Err(ReadError::Integer { field });
+    }
+    let front = take_bits(reader, 8 * octets as u128, field)?;
+    if octets > 1 {
+        let nine = front.first_bits(9);
+        if nine == 0 || nine == 0x1FF {
+            return Err(ReadError::Integer { field });
+        }
+    }
+    Ok(front)
+}
+
+/// Appends the next integer to the fields, for which there is room.
+#[inline(always)]
+#[tactic(auto, unfolding(crate::specs::Walk::field_at))]
+pub(super) fn append<'a>(
+    fields: &mut Vec<Field<'a, '_>>,
+    alloc: Global,
+    reader: &mut BitReader<'a>,
+    octets: usize,
+    field: usize,
+) -> Result<(), ReadError>
+    requires { vec_len fields.old < vec_capacity fields.old }
+    ensures { AppendsNext (plain.OfInteger octets) field reader.old reader.new fields.old fields.new result }
+{
+    let front = examine(reader, octets, field)?;
+    let number = integer_of(alloc, &front)?;
+    fields.push_reserved(Field::Integer(number));
+    Ok(())
+}
+
+/// The two's complement value of the octets that the reader has left (X.690 8.3.3), one at least. Up to sixteen are read
+/// as a word, and take no memory; without an octet it is refused.
+#[inline(always)]
+pub fn integer_of(alloc: Global, reader: &BitReader<'_>) -> Result<Integer, AllocError>
+    requires whole { (view_left reader.now).len % 8 ≡ 0 }
+    ensures { IfOk result (λ n. (octets : List ℕ) → bits octets ≡ bits_left reader.now
+        → All (λ octet. octet < 256) octets → n ≡ signed octets) }
+{
+    let width = reader.len();
+    if width > 0 && width <= 128 {
+        return Ok(Integer::from(signed_word(reader.first_u128(width), width)));
+    }
+    copied_integer_of(alloc, reader)
+}
+
+/// Copies the reader before the call of `integer_of` that is not inlined, so that the original stays in registers.
+#[inline(always)]
+fn copied_integer_of(alloc: Global, reader: &BitReader<'_>) -> Result<Integer, AllocError>
+    requires whole { (view_left reader.now).len % 8 ≡ 0 }
+    ensures { IfOk result (λ n. (octets : List ℕ) → bits octets ≡ bits_left reader.now
+        → All (λ octet. octet < 256) octets → n ≡ signed octets) }
+{
+    let copy = *reader;
+    long_integer_of(alloc, &copy)
+}
+
+/// The path of `integer_of` for more than sixteen octets.
+#[inline(never)]
+fn long_integer_of(alloc: Global, reader: &BitReader<'_>) -> Result<Integer, AllocError>
+    requires whole { (view_left reader.now).len % 8 ≡ 0 }
+    ensures { IfOk result (λ n. (octets : List ℕ) → bits octets ≡ bits_left reader.now
+        → All (λ octet. octet < 256) octets → n ≡ signed octets) }
+{
+    let octets = reader.octets(alloc)?;
+    let Ok(number) = Integer::from_signed_octets(alloc, octets.as_ref()) else {
+        return Err(AllocError);
+    };
+    Ok(number)
+}
+
+/// The two's complement value of a word's lowest `width` bits, where it has no others.
+#[inline(always)]
+fn signed_word(word: u128, width: usize) -> i128
+    requires some { 0 < width }
+    requires few { width ≤ 128 }
+    requires below { word < 2 ^ width }
+    ensures low { word < 2 ^ (width - 1) → result ≡ pos word }
+    ensures high { 2 ^ (width - 1) ≤ word → result ≡ pos word -ℤ pos (2 ^ width) }
+{
+    if width <= 64 {
+        return signed_short(word as u64, width);
+    }
+    let half = 1u128 << (width - 1);
+    if word < half {
+        word as i128
+    } else {
+        -1 - (half - 1 - (word - half)) as i128
+    }
+}
+
+/// The path of `signed_word` for at most 64 digits.
+#[inline(always)]
+fn signed_short(word: u64, width: usize) -> i128
+    requires some { 0 < width }
+    requires few { width ≤ 64 }
+    requires below { word < 2 ^ width }
+    ensures low { word < 2 ^ (width - 1) → result ≡ pos word }
+    ensures high { 2 ^ (width - 1) ≤ word → result ≡ pos word -ℤ pos (2 ^ width) }
+{
+    let half = 1u64 << (width - 1);
+    if word < half {
+        i128::from(word)
+    } else {
+        -1 - i128::from(half - 1 - (word - half))
+    }
+}

@@ -1,0 +1,111 @@
+//! A number of up to 128 bits as a field: its binary digits.
+
+ghost use Rattle.std.specs.Prelude.{◌≡◌, Err, ◌+◌, ◌*◌, ◌<◌, ◌≤◌, length, OnOk, IfOk, Ok, take, vec_len, vec_capacity};
+ghost use Rattle.asn1_bits.specs.BitAppender.{room};
+ghost use Rattle.asn1_bits.specs.BitReader.{bits_left};
+ghost use Rattle.asn1_bits.specs.Bits.{bits, digits};
+ghost use Rattle.asn1_values.specs.Fields as plain;
+ghost use Rattle.asn1_values.specs.Steps.{HasRoomFor, PushesOne, IsReached, FitsWithin, Measures, WritesOver, Overwrites, Moves, Examines, AppendsNext};
+ghost use Rattle.asn1_values.specs.Walk.{field_at};
+
+use super::error::{ReadError, WriteError};
+use super::field::Field;
+use super::take::take_bits;
+use asn1_bits::{BitAppender, BitReader, Turns, overwrite_number};
+
+/// The width, if it is at most 128 and the number is below 2 to its power.
+#[inline(always)]
+pub(super) fn fitting_len(value: u128, width: usize, place: usize) -> Result<u128, WriteError>
+    ensures { Measures place (plain.Number value width) result }
+{
+    // One comparison tells it of a short number that fits.
+    if width < 64 && value < u128::from(1u64 << width) {
+        return Ok(width as u128);
+    }
+    fitting_wide(value, width, place)
+}
+
+/// The path of `fitting_len` for any number.
+#[inline(always)]
+fn fitting_wide(value: u128, width: usize, place: usize) -> Result<u128, WriteError>
+    ensures { Measures place (plain.Number value width) result }
+{
+    if width > 128 {
+        return Err(WriteError::NumberWidth {
+            field: place,
+            width,
+        });
+    }
+    if width < 128 && value >> width != 0 {
+        return Err(WriteError::Number { field: place });
+    }
+    Ok(width as u128)
+}
+
+/// Pushes a number that fits the room.
+#[inline(always)]
+pub(super) fn push(appender: &mut BitAppender<'_>, value: u128, width: usize, turns: &mut Turns)
+    requires { HasRoomFor (plain.Number value width) (room appender.old) }
+    ensures { PushesOne (plain.Number value width) appender.old appender.new turns.old.count turns.new.count }
+{
+    appender.push_number(value, width, turns);
+}
+
+/// Writes a number over what is there, and answers with the bit behind it.
+pub(super) fn overwrite(target: &mut [u8], position: usize, value: u128, width: usize) -> usize
+    requires { FitsWithin (8 * length target.old) position (plain.Number value width) }
+    ensures { Overwrites (plain.Number value width) position (bits target.old) (bits target.new) result }
+{
+    overwrite_digits(target, position, value, width)
+}
+
+/// Writes the lowest `width` binary digits of a number over what is there, and answers with the bit behind them.
+pub(super) fn overwrite_digits(
+    target: &mut [u8],
+    position: usize,
+    value: u128,
+    width: usize,
+) -> usize
+    requires width { width ≤ 128 }
+    requires within { IsReached (8 * length target.old) (position + width) }
+    ensures { WritesOver (digits value width) position (bits target.old) (bits target.new) result }
+{
+    overwrite_number(target, position, value, width, &mut Turns::new());
+    position + width
+}
+
+/// Goes past a number, and gives it.
+#[inline(always)]
+#[tactic(auto, unfolding(crate::specs::Walk::field_at, crate::specs::Walk::cut_at))]
+pub(super) fn examine(
+    reader: &mut BitReader<'_>,
+    width: usize,
+    field: usize,
+) -> Result<u128, ReadError>
+    ensures examined { Examines field (field_at (plain.OfNumber width) (bits_left reader.old)) reader.new result }
+    ensures read { IfOk result (λ n. field_at (plain.OfNumber width) (bits_left reader.old)
+        ≡ Ok (plain.Number n width, bits_left reader.new)) }
+    ensures moved { OnOk result (Moves width reader.old reader.new) }
+{
+    if width > 128 {
+        return Err(ReadError::NumberWidth { field, width });
+    }
+    let front = take_bits(reader, width as u128, field)?;
+    Ok(front.first_u128(width))
+}
+
+/// Appends the next number to the fields, for which there is room.
+#[inline(always)]
+pub(super) fn append<'a>(
+    fields: &mut Vec<Field<'a, '_>>,
+    reader: &mut BitReader<'a>,
+    width: usize,
+    field: usize,
+) -> Result<(), ReadError>
+    requires { vec_len fields.old < vec_capacity fields.old }
+    ensures { AppendsNext (plain.OfNumber width) field reader.old reader.new fields.old fields.new result }
+{
+    let value = examine(reader, width, field)?;
+    fields.push_reserved(Field::Number { value, width });
+    Ok(())
+}

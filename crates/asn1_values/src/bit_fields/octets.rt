@@ -1,0 +1,82 @@
+//! Octets as a field.
+
+ghost use Rattle.std.specs.Prelude.{◌+◌, ◌*◌, ◌<◌, length, IfOk, Ok, take, vec_len, vec_capacity};
+ghost use Rattle.asn1_bits.specs.BitAppender.{room};
+ghost use Rattle.asn1_bits.specs.BitReader.{bits_left};
+ghost use Rattle.asn1_bits.specs.Bits.{bits};
+ghost use Rattle.asn1_bits.specs.Octets.{octets_in};
+ghost use Rattle.asn1_values.specs.Fields as plain;
+ghost use Rattle.asn1_values.specs.Steps.{FitsIn, HasRoomFor, PushesOne, IsReached, FitsWithin, WritesOver, Overwrites, Takes, Examines, AppendsNext};
+ghost use Rattle.asn1_values.specs.Walk.{field_at};
+
+use super::bits;
+use super::error::ReadError;
+use super::field::Field;
+use super::take::take_bits;
+use asn1_bits::{BitAppender, BitReader, BitStr, Octets, Turns};
+use std::alloc::Global;
+
+/// How many bits the octets have.
+#[inline(always)]
+pub(super) fn fitting_len(octets: &Octets<'_>) -> u128
+    ensures { FitsIn (plain.Octets (octets_in octets.now)) result }
+{
+    8 * octets.as_ref().len() as u128
+}
+
+/// Pushes octets that fit the room.
+#[inline(always)]
+pub(super) fn push(appender: &mut BitAppender<'_>, octets: &Octets<'_>, turns: &mut Turns)
+    requires { HasRoomFor (plain.Octets (octets_in octets.now)) (room appender.old) }
+    ensures { PushesOne (plain.Octets (octets_in octets.now)) appender.old appender.new
+        turns.old.count turns.new.count }
+{
+    appender.push_octets(octets.as_ref(), turns);
+}
+
+/// Writes octets over what is there, and answers with the bit behind them.
+pub(super) fn overwrite(target: &mut [u8], position: usize, octets: &Octets<'_>) -> usize
+    requires { FitsWithin (8 * length target.old) position (plain.Octets (octets_in octets.now)) }
+    ensures { Overwrites (plain.Octets (octets_in octets.now)) position (bits target.old) (bits target.new) result }
+{
+    overwrite_octets(target, position, octets.as_ref())
+}
+
+/// Writes the bits of octets over what is there, and answers with the bit behind them.
+pub(super) fn overwrite_octets(target: &mut [u8], position: usize, octets: &[u8]) -> usize
+    requires { IsReached (8 * length target.old) (position + 8 * length octets.now) }
+    ensures { WritesOver (bits octets.now) position (bits target.old) (bits target.new) result }
+{
+    bits::overwrite_view(target, position, BitStr::from_octets(octets))
+}
+
+/// Goes past `count` octets, and gives them.
+#[inline(always)]
+#[tactic(auto, unfolding(crate::specs::Walk::field_at, crate::specs::Walk::cut_at))]
+pub(super) fn examine<'a>(
+    reader: &mut BitReader<'a>,
+    count: usize,
+    field: usize,
+) -> Result<BitReader<'a>, ReadError>
+    ensures examined { Examines field (field_at (plain.OfOctets count) (bits_left reader.old)) reader.new result }
+    ensures taken { IfOk result (λ front. Takes (8 * count) reader.old reader.new front) }
+{
+    take_bits(reader, 8 * count as u128, field)
+}
+
+/// Appends the next `count` octets to the fields, for which there is room.
+#[inline(always)]
+pub(super) fn append<'a>(
+    fields: &mut Vec<Field<'a, '_>>,
+    alloc: Global,
+    reader: &mut BitReader<'a>,
+    count: usize,
+    field: usize,
+) -> Result<(), ReadError>
+    requires { vec_len fields.old < vec_capacity fields.old }
+    ensures { AppendsNext (plain.OfOctets count) field reader.old reader.new fields.old fields.new result }
+{
+    let octets = examine(reader, count, field)?.octets(alloc)?;
+    fields.push_reserved(Field::Octets(octets));
+    Ok(())
+}
