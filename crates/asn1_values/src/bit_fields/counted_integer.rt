@@ -1,5 +1,4 @@
-//! An integer as a field behind the octet that counts its shortest octets: the short form of a length (X.690 8.1.3.4) and
-//! contents.
+//! An integer as a field, behind the octet that counts its shortest octets (the short form of a length, X.690 8.1.3.4).
 
 ghost use Rattle.std.specs.Prelude.{Err, ◌+◌, ◌*◌, ◌<◌, length, IfOk, Ok, take, vec_len, vec_capacity};
 ghost use Rattle.asn1_bits.specs.BitAppender.{room};

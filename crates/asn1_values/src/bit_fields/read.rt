@@ -1,6 +1,6 @@
 //! Reading fields.
 
-ghost use Rattle.std.specs.Prelude.{◌≡◌, ◌≢◌, Bool, List, [], Ok, Err, ◌+◌, ◌*◌, ◌<◌, ◌++◌, length, OnOk, IfOk, IfErr, OnErr, IfSome, IsOk, IsOkUnless, vec_len, vec_capacity};
+ghost use Rattle.std.specs.Prelude.{◌-◌, ◌≡◌, ◌≢◌, Bool, List, [], Ok, Err, ◌+◌, ◌*◌, ◌<◌, ◌++◌, length, OnOk, IfOk, IfErr, OnErr, IfSome, IsOk, IsOkUnless, vec_len, vec_capacity};
 ghost use Rattle.std.specs.List.{AllZip, AllByRecursion};
 ghost use Rattle.asn1_bits.specs.BitReader.{view_left, bits_left};
 ghost use Rattle.asn1_bits.specs.Bits.{bits, number};

@@ -1,6 +1,6 @@
 //! Takes the bits of a field from a reader.
 
-ghost use Rattle.std.specs.Prelude.{◌≡◌, Err, ◌<◌, length, IfOk, IfErr};
+ghost use Rattle.std.specs.Prelude.{◌-◌, ◌≡◌, Err, ◌<◌, length, IfOk, IfErr};
 ghost use Rattle.asn1_bits.specs.BitReader.{bits_left};
 ghost use Rattle.asn1_bits.specs.Bits.{bits};
 ghost use Rattle.asn1_values.specs.Steps.{Takes};
