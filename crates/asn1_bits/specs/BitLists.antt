@@ -1,5 +1,6 @@
--- Equality, order and hash of lists of bits: false is below true, and a front is below what it begins.
--- The laws that `==`, order and hash of a type owe stand here once, for what shows its value as a list of bits.
+-- Equality, order and hash of lists of bits: false is below true, and a front is below what it
+-- begins. The laws that `==`, order and hash of a type owe stand here once, for what shows its
+-- value as a list of bits.
 use Rattle.std.specs.Prelude.{◌≡◌, ℕ, ◌*◌, Bool, true, false, List, ◌++◌, length, take, drop, map}
 use Rattle.std.proofs.Common.{refl, Ordering}
 use Rattle.std.specs.Bool.{beq}
@@ -19,7 +20,8 @@ bits_eq = pointwise beq
 abbrev pub bits_cmp : List Bool → List Bool → Ordering
 bits_cmp = slice_cmp bool_cmp
 
--- the first n words of a list of bits as a hasher is fed them: 64 bits each, the last one fewer where the list ends in it
+-- the first n words of a list of bits as a hasher is fed them: 64 bits each, the last one fewer
+-- where the list ends in it
 unfoldable pub words_fed : List Bool → ℕ → HashWrites
 words_fed list n = map (λ k. fed.le_bytes 8 (number (take 64 (drop (64 * k) list)))) (range_with_len 0 n)
 

@@ -12,8 +12,8 @@ use crate::turns::Turns;
 use crate::window::{lowest, lowest_wide};
 use std::alloc::AllocError;
 
-/// Writes into zero bits that a buffer has appended. When it ends, the buffer holds its old bits, then what was pushed,
-/// in order, then zeros for the room that is left.
+/// Writes into zero bits that a buffer has appended. When it ends, the buffer holds its old bits,
+/// then what was pushed, in order, then zeros for the room that is left.
 #[derive(Drop)]
 pub struct BitAppender<'a> {
     buffer: &'a mut BitBuffer,
@@ -27,8 +27,8 @@ impl BitBuffer {
     ghost use Rattle.asn1_bits.specs.contracts.bit_buffer.BitBuffer.{the_row};
     ghost use Rattle.asn1_bits.specs.BitAppender.{bits_written, room, lender_of, EndsInZeros};
 
-    /// Appends `additional` zero bits, by one growth, for the appender to fill. Where memory is wanting, the bits stay.
-    /// The new length fits `usize`.
+    /// Appends `additional` zero bits, by one growth, for the appender to fill. Where memory is
+    /// wanting, the bits stay. The new length fits `usize`.
     pub fn appender(&mut self, additional: usize) -> Result<BitAppender<'_>, AllocError>
         requires { length self.old + additional < 2 ^ 64 }
         // Where memory is wanting, the buffer is as before; else it ends as the appender leaves it.
@@ -61,8 +61,8 @@ impl<'a> BitAppender<'a> {
         self.buffer.len() - self.position
     }
 
-    /// Pushes the lowest `width` binary digits of `value`, most significant first. `width` is at most 32 and at most
-    /// the room.
+    /// Pushes the lowest `width` binary digits of `value`, most significant first. `width` is at
+    /// most 32 and at most the room.
     #[inline]
     pub fn push(&mut self, value: u32, width: usize)
         requires width { width ≤ 32 }
@@ -82,8 +82,8 @@ impl<'a> BitAppender<'a> {
             .put_number(position, number, width, &mut Turns::new());
     }
 
-    /// Pushes the lowest `width` binary digits of `value`, most significant first, and ticks once for each 64 of them.
-    /// `width` is at most 128 and at most the room.
+    /// Pushes the lowest `width` binary digits of `value`, most significant first, and ticks once
+    /// for each 64 of them. `width` is at most 128 and at most the room.
     #[inline(always)]
     pub fn push_wide(&mut self, value: u128, width: usize, turns: &mut Turns)
         requires width { width ≤ 128 }
@@ -98,8 +98,8 @@ impl<'a> BitAppender<'a> {
         self.push_number(lowest_wide(value, width), width, turns);
     }
 
-    /// Pushes a number below 2 to the `width` by its `width` binary digits, most significant first, and ticks once for
-    /// each 64 of them. `width` is at most 128 and at most the room.
+    /// Pushes a number below 2 to the `width` by its `width` binary digits, most significant first,
+    /// and ticks once for each 64 of them. `width` is at most 128 and at most the room.
     #[inline(always)]
     pub fn push_number(&mut self, number: u128, width: usize, turns: &mut Turns)
         requires width { width ≤ 128 }
@@ -115,7 +115,8 @@ impl<'a> BitAppender<'a> {
         let position = self.position;
         // A length fits `usize`.
         let _len = self.buffer.len();
-        // Move the position first. The invariant `zeros` then covers only bits that this write leaves zero.
+        // Move the position first. The invariant `zeros` then covers only bits that this write
+        // leaves zero.
         self.position += width;
         self.buffer.put_number(position, number, width, turns);
     }

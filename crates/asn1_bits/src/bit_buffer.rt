@@ -18,8 +18,8 @@ use std::marker::Model;
 /// How many zero octets `push_bits` adds at a time, so that later pushes need no growth.
 const READY: usize = 32;
 
-/// A growable list of bits. The vector may be longer than the list: every bit behind the list is zero, so a short
-/// number is stored as one word. Two buffers are equal if their lists are.
+/// A growable list of bits. The vector may be longer than the list: every bit behind the list is
+/// zero, so a short number is stored as one word. Two buffers are equal if their lists are.
 #[derive(Debug, Drop)]
 pub struct BitBuffer {
     bytes: Vec<u8>,
@@ -48,8 +48,8 @@ impl BitBuffer {
         }
     }
 
-    /// An empty buffer that reuses the vector's allocation. The vector's octets are dropped; `BitString::from_vec`
-    /// keeps them.
+    /// An empty buffer that reuses the vector's allocation. The vector's octets are dropped;
+    /// `BitString::from_vec` keeps them.
     pub fn from_vec(mut bytes: Vec<u8>) -> BitBuffer
         ensures { result ≡ [] }
     {
@@ -130,8 +130,8 @@ impl BitBuffer {
         set_bit(self.bytes.as_mut_slice(), index, bit);
     }
 
-    /// Makes room for `additional` more octets, or is refused for want of memory. The bits stay. Appending that many
-    /// octets then allocates nothing; no clause says so.
+    /// Makes room for `additional` more octets, or is refused for want of memory. The bits stay.
+    /// Appending that many octets then allocates nothing; no clause says so.
     pub fn reserve_bytes(&mut self, additional: usize) -> Result<(), AllocError>
         ensures same { self.new ≡ self.old }
         // For no octet it asks for no memory.
@@ -143,8 +143,8 @@ impl BitBuffer {
         self.bytes.reserve(additional)
     }
 
-    /// Appends copies of `bit` until there are `new_len` bits. `new_len` is at least the length. Refused for want of
-    /// memory, and then the bits stay.
+    /// Appends copies of `bit` until there are `new_len` bits. `new_len` is at least the length.
+    /// Refused for want of memory, and then the bits stay.
     pub fn resize(&mut self, new_len: usize, bit: bool) -> Result<(), AllocError>
         requires { length self.old ≤ new_len }
         ensures ok { OnOk result
@@ -177,8 +177,8 @@ impl BitBuffer {
         Ok(())
     }
 
-    /// Appends the lowest `width` binary digits of `value`, most significant first. Where memory is wanting, the bits
-    /// stay. `width` is at most 128, and the new length fits `usize`.
+    /// Appends the lowest `width` binary digits of `value`, most significant first. Where memory is
+    /// wanting, the bits stay. `width` is at most 128, and the new length fits `usize`.
     #[inline(always)]
     pub fn push_bits(&mut self, value: u128, width: usize) -> Result<(), AllocError>
         requires width { width ≤ 128 }
@@ -209,7 +209,8 @@ impl BitBuffer {
         Ok(())
     }
 
-    /// The general path of `push_bits`. Not inlined, so that callers inline only the path for short numbers.
+    /// The general path of `push_bits`. Not inlined, so that callers inline only the path for short
+    /// numbers.
     #[inline(never)]
     fn push_digits(&mut self, value: u128, width: usize) -> Result<(), AllocError>
         requires width { width ≤ 128 }
@@ -226,7 +227,8 @@ impl BitBuffer {
         Ok(())
     }
 
-    /// Appends the bits of the octets. Where memory is wanting, the bits stay. The new length fits `usize`.
+    /// Appends the bits of the octets. Where memory is wanting, the bits stay. The new length fits
+    /// `usize`.
     pub fn extend_from_bytes(&mut self, src: &[u8]) -> Result<(), AllocError>
         requires { length self.old + 8 * length src.now < 2 ^ 64 }
         ensures ok { OnOk result (self.new ≡ self.old ++ bits src.now) }
@@ -245,7 +247,8 @@ impl BitBuffer {
         self.extend_from_bitslice(BitStr::from_octets(src))
     }
 
-    /// Appends the bits of the view. Where memory is wanting, the bits stay. The new length fits `usize`.
+    /// Appends the bits of the view. Where memory is wanting, the bits stay. The new length fits
+    /// `usize`.
     pub fn extend_from_bitslice(&mut self, src: BitStr<'_>) -> Result<(), AllocError>
         requires { length self.old + (view_of src).len < 2 ^ 64 }
         ensures ok { OnOk result (self.new ≡ self.old ++ bits_of src.entry) }
@@ -260,7 +263,8 @@ impl BitBuffer {
         Ok(())
     }
 
-    /// Appends the bits of the other buffer. Where memory is wanting, the bits stay. The new length fits `usize`.
+    /// Appends the bits of the other buffer. Where memory is wanting, the bits stay. The new length
+    /// fits `usize`.
     pub fn extend_from_buffer(&mut self, src: &BitBuffer) -> Result<(), AllocError>
         requires { length self.old + length src.now < 2 ^ 64 }
         ensures ok { OnOk result (self.new ≡ self.old ++ src.now) }
@@ -307,7 +311,8 @@ impl BitBuffer {
         Ok(())
     }
 
-    /// Writes a number of `width` binary digits over the zeros from bit `position` on, 64 bits a turn.
+    /// Writes a number of `width` binary digits over the zeros from bit `position` on, 64 bits a
+    /// turn.
     #[inline(always)]
     pub(crate) fn put_number(
         &mut self,

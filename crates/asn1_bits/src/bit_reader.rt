@@ -62,8 +62,8 @@ impl<'a> BitReader<'a> {
         self.view.aligned()
     }
 
-    /// The octets that are left, copied only where they do not lie on octet boundaries of the storage. What is left is
-    /// whole octets. Refused for want of memory alone.
+    /// The octets that are left, copied only where they do not lie on octet boundaries of the
+    /// storage. What is left is whole octets. Refused for want of memory alone.
     pub fn octets(&self, alloc: Global) -> Result<Octets<'a>, AllocError>
         requires { (view_left self.now).len % 8 ≡ 0 }
         ensures bits { IfOk result (λ o. bits (octets_in o) ≡ bits_left self.now) }
@@ -82,8 +82,8 @@ impl<'a> BitReader<'a> {
         Ok(Octets::Owned(octets))
     }
 
-    /// Takes the first `count` bits. If fewer are left, the reader stays, and the error is the number of bits that are
-    /// missing.
+    /// Takes the first `count` bits. If fewer are left, the reader stays, and the error is the
+    /// number of bits that are missing.
     #[inline(always)]
     pub fn split(&mut self, count: usize) -> Result<BitReader<'a>, usize>
         ensures short { IsErr result ↔ ((view_left self.old).len < count) }
@@ -92,7 +92,8 @@ impl<'a> BitReader<'a> {
         ensures front { IfOk result (λ r. view_left r ≡ part (view_left self.old) 0 count) }
         ensures front_list { IfOk result (λ r. bits_left r ≡ take count (bits_left self.old)) }
         ensures rest { OnOk result
-            (view_left self.new ≡ part (view_left self.old) count ((view_left self.old).len - count)) }
+            (view_left self.new
+            ≡ part (view_left self.old) count ((view_left self.old).len - count)) }
         ensures rest_list { OnOk result (bits_left self.new ≡ drop count (bits_left self.old)) }
         ensures lacks { IfErr result (λ n. (view_left self.old).len + n ≡ count) }
         ensures lacks_bits { IfErr result (λ n. length (bits_left self.old) + n ≡ count) }
@@ -115,8 +116,8 @@ impl<'a> BitReader<'a> {
         self.view.get(0)
     }
 
-    /// The number of the first `width` bits, the first of them its highest digit. `width` is at most 32, and at most
-    /// the length.
+    /// The number of the first `width` bits, the first of them its highest digit. `width` is at
+    /// most 32, and at most the length.
     #[inline(always)]
     pub fn first_bits(&self, width: usize) -> u32
         requires width { width ≤ 32 }
@@ -129,8 +130,8 @@ impl<'a> BitReader<'a> {
         number as u32
     }
 
-    /// The number of the first `width` bits, the first of them its highest digit. `width` is at most 128, and at most
-    /// the length.
+    /// The number of the first `width` bits, the first of them its highest digit. `width` is at
+    /// most 128, and at most the length.
     #[inline(always)]
     pub fn first_u128(&self, width: usize) -> u128
         requires width { width ≤ 128 }

@@ -13,8 +13,8 @@ use std::alloc::AllocError;
 use std::cmp::Ordering;
 use std::hash::{Hash, Hasher};
 
-/// A view of `len` bits of a storage of octets, from any of its bits on. Its equality, order and hash are those of its
-/// list of bits.
+/// A view of `len` bits of a storage of octets, from any of its bits on. Its equality, order and
+/// hash are those of its list of bits.
 #[derive(Clone, Copy, Debug)]
 pub struct BitStr<'a> {
     storage: &'a [u8],
@@ -171,8 +171,8 @@ impl<'a> BitStr<'a> {
         read_word(octets, low % 8, width)
     }
 
-    /// ORs the `width` bits from bit `at` on into the front of an octet of the target. They complete a word whose first
-    /// bits are stored.
+    /// ORs the `width` bits from bit `at` on into the front of an octet of the target. They
+    /// complete a word whose first bits are stored.
     #[inline]
     pub(crate) fn or_edge(
         &self,
@@ -207,8 +207,8 @@ impl<'a> BitStr<'a> {
         whole_word(self.storage, self.octet + at / 8 + low / 8, low % 8)
     }
 
-    /// ORs `count` words of 64 bits, taken from bit `at` on, into `dst` from octet `first` on. Ticks once for each
-    /// word.
+    /// ORs `count` words of 64 bits, taken from bit `at` on, into `dst` from octet `first` on.
+    /// Ticks once for each word.
     pub(crate) fn or_words(
         &self,
         at: usize,
@@ -221,7 +221,8 @@ impl<'a> BitStr<'a> {
         requires within { at + 64 * count ≤ (view_of self.now).len }
         requires room { first + 8 * count ≤ length dst.old.octets.now }
         ensures bits { bits dst.new.octets.now
-            ≡ ored (bits dst.old.octets.now) (8 * first) (take (64 * count) (drop at (bits_of self.now))) }
+            ≡ ored (bits dst.old.octets.now) (8 * first)
+            (take (64 * count) (drop at (bits_of self.now))) }
         ensures same_reference { dst.new.octets.ghost_name ≡ dst.old.octets.ghost_name }
         ensures length { length dst.new.octets.now ≡ length dst.old.octets.now }
         ensures each_turn_places { turns.new.count + dst.old.placed.count
@@ -233,13 +234,15 @@ impl<'a> BitStr<'a> {
         if low % 8 == 0 {
             or_words(dst, first, from_octet(self.storage, octet), count, turns);
         } else {
-            // Start seven octets earlier, so that the second load of each pair does not read past the last octet.
+            // Start seven octets earlier, so that the second load of each pair does not read past
+            // the last octet.
             let src = from_octet(self.storage, octet - 7);
             or_shifted_words(dst, first, src, 56 + low % 8, count, turns);
         }
     }
 
-    /// Appends the octets to the vector. Refused for want of memory, and then the vector stays as it was.
+    /// Appends the octets to the vector. Refused for want of memory, and then the vector stays as
+    /// it was.
     pub(crate) fn push_octets_to(&self, octets: &mut Vec<u8>) -> Result<(), AllocError>
         requires { (view_of self.now).len % 8 ≡ 0 }
         ensures ok { OnOk result
@@ -261,7 +264,8 @@ impl<'a> BitStr<'a> {
         self.push_moved_octets_to(octets)
     }
 
-    /// The path of `push_octets_to` for views off the octet boundary: the octets are ORed into zeros.
+    /// The path of `push_octets_to` for views off the octet boundary: the octets are ORed into
+    /// zeros.
     fn push_moved_octets_to(&self, octets: &mut Vec<u8>) -> Result<(), AllocError>
         requires { (view_of self.now).len % 8 ≡ 0 }
         ensures ok { OnOk result

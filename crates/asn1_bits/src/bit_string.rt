@@ -11,8 +11,8 @@ use std::cmp::Ordering;
 use std::hash::{Hash, Hasher};
 use std::marker::Model;
 
-/// An owned list of bits, from the first bit of its octets on. Unused bits are zero. Its equality, order and hash are
-/// those of the list.
+/// An owned list of bits, from the first bit of its octets on. Unused bits are zero. Its equality,
+/// order and hash are those of the list.
 #[derive(Debug, Drop)]
 pub struct BitString {
     buffer: BitBuffer,
@@ -108,7 +108,8 @@ impl BitString {
     }
 }
 
-/// Appends the bits of the view. Where memory is wanting, the bits stay. The new length fits `usize`.
+/// Appends the bits of the view. Where memory is wanting, the bits stay. The new length fits
+/// `usize`.
 pub fn extend_bitstring(dst: &mut BitString, src: BitStr<'_>) -> Result<(), AllocError>
     requires { length dst.old + (view_of src).len < 2 ^ 64 }
     ensures ok { OnOk result (dst.new ≡ dst.old ++ bits_of src.entry) }

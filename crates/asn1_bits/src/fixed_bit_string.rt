@@ -11,8 +11,8 @@ use crate::turns::Turns;
 use std::cmp::Ordering;
 use std::hash::{Hash, Hasher};
 
-/// `N` bits, in the first of `N` octets' bits; the others are zero. Its equality, order and hash are those of the `N`
-/// bits.
+/// `N` bits, in the first of `N` octets' bits; the others are zero. Its equality, order and hash
+/// are those of the `N` bits.
 #[derive(Clone, Copy, Debug)]
 pub struct FixedBitString<const N: usize> {
     octets: [u8; N],

@@ -15,8 +15,8 @@ use crate::turns::Turns;
 use crate::window::{eight, load, or_words, whole_word, wide_of_seventeen, word_of_nine};
 use std::alloc::AllocError;
 
-/// ORs the first `count` bits of `src` into `dst` from bit `position` on, and leaves every other bit. Both lie within
-/// their octets, and end at a bit that `usize` counts.
+/// ORs the first `count` bits of `src` into `dst` from bit `position` on, and leaves every other
+/// bit. Both lie within their octets, and end at a bit that `usize` counts.
 pub fn or_bits(dst: &mut [u8], position: usize, src: &[u8], count: usize, turns: &mut Turns)
     requires source { count ≤ 8 * length src.now }
     requires room { position + count ≤ 8 * length dst.old }
@@ -28,10 +28,11 @@ pub fn or_bits(dst: &mut [u8], position: usize, src: &[u8], count: usize, turns:
     write_bitslice(dst, position, BitStr::front_of(src, count), turns);
 }
 
-/// ORs the view into `dst` from bit `position` on, and leaves every other bit. It ends within `dst`, at a bit that
-/// `usize` counts.
-// The counted work is `or_view`, whose clause `each_turn_places` ties each store to a turn. It can't see a walk that only
-// reads, nor a store that would stand here, before the target is made: so this is one line, as is `put_bitslice`.
+/// ORs the view into `dst` from bit `position` on, and leaves every other bit. It ends within
+/// `dst`, at a bit that `usize` counts.
+// The counted work is `or_view`, whose clause `each_turn_places` ties each store to a turn. It
+// can't see a walk that only reads, nor a store that would stand here, before the target is made:
+// so this is one line, as is `put_bitslice`.
 #[inline(always)]
 pub fn write_bitslice(dst: &mut [u8], position: usize, src: BitStr<'_>, turns: &mut Turns)
     requires room { position + (view_of src).len ≤ 8 * length dst.old }
@@ -63,8 +64,8 @@ fn or_view(dst: &mut Target<'_>, position: usize, src: BitStr<'_>, turns: &mut T
     }
 }
 
-/// The path of `or_view` for more than a word. Not inlined, so that callers inline only the path for short views. The
-/// target is passed and given back by value, so its place stays in registers.
+/// The path of `or_view` for more than a word. Not inlined, so that callers inline only the path
+/// for short views. The target is passed and given back by value, so its place stays in registers.
 #[inline(never)]
 fn or_long<'a>(
     target: Target<'a>,
@@ -116,8 +117,9 @@ fn or_each_word(dst: &mut Target<'_>, position: usize, src: BitStr<'_>, turns: &
     }
 }
 
-/// ORs a view of whole words of 64 bits, and ticks once for each. If `position` is off the octet boundary, the first
-/// `64 - position % 8` bits go first, then aligned words, then the `position % 8` bits that are left.
+/// ORs a view of whole words of 64 bits, and ticks once for each. If `position` is off the octet
+/// boundary, the first `64 - position % 8` bits go first, then aligned words, then the `position %
+/// 8` bits that are left.
 #[inline(always)]
 fn or_whole_words(dst: &mut Target<'_>, position: usize, src: BitStr<'_>, turns: &mut Turns)
     requires some { 64 ≤ (view_of src).len }
@@ -181,9 +183,9 @@ fn put_view(dst: &mut Target<'_>, position: usize, src: BitStr<'_>, turns: &mut 
     or_view(dst, position, src, turns);
 }
 
-/// Copies octets over the zeros from octet `first` on, and ticks once for each eight of them and once for the rest. Not
-/// inlined, so that callers inline only the path for short views. The target is passed and given back by value, so its
-/// place stays in registers.
+/// Copies octets over the zeros from octet `first` on, and ticks once for each eight of them and
+/// once for the rest. Not inlined, so that callers inline only the path for short views. The target
+/// is passed and given back by value, so its place stays in registers.
 #[inline(never)]
 fn copy_octets<'a>(target: Target<'a>, first: usize, src: &[u8], turns: &mut Turns) -> Target<'a>
     requires room { first + length src.now ≤ length target.octets.now }
@@ -224,8 +226,8 @@ fn copy_each_word(dst: &mut Target<'_>, first: usize, src: &[u8], turns: &mut Tu
     or_view(dst, 8 * (first + 8 * words), tail, turns);
 }
 
-/// The number of the `width` bits from bit `position` on, the first of them its highest digit. `width` is at most 128,
-/// and the bits lie within the octets.
+/// The number of the `width` bits from bit `position` on, the first of them its highest digit.
+/// `width` is at most 128, and the bits lie within the octets.
 #[inline(always)]
 pub fn read_wide(bytes: &[u8], position: usize, width: usize) -> u128
     requires width { width ≤ 128 }
@@ -237,8 +239,8 @@ pub fn read_wide(bytes: &[u8], position: usize, width: usize) -> u128
     read_front(from_octet(bytes, position / 8), position % 8, width)
 }
 
-/// The number of the `width` bits from bit `shift` of the first octet on, the first of them its highest digit. `width`
-/// is at most 128, and the bits lie within the octets.
+/// The number of the `width` bits from bit `shift` of the first octet on, the first of them its
+/// highest digit. `width` is at most 128, and the bits lie within the octets.
 #[inline(always)]
 pub(crate) fn read_front(octets: &[u8], shift: usize, width: usize) -> u128
     requires shift { shift < 8 }
@@ -251,7 +253,8 @@ pub(crate) fn read_front(octets: &[u8], shift: usize, width: usize) -> u128
     read_number(octets, shift, width)
 }
 
-/// The number of `width` bits, read from seventeen octets at once or, near the end of the octets, from two words.
+/// The number of `width` bits, read from seventeen octets at once or, near the end of the octets,
+/// from two words.
 #[inline(always)]
 fn read_number(octets: &[u8], shift: usize, width: usize) -> u128
     requires shift { shift < 8 }
@@ -288,8 +291,8 @@ pub(crate) fn read_word(octets: &[u8], shift: usize, width: usize) -> u64
     read_octets(octets, shift, width)
 }
 
-/// The number of `width` bits within eight octets, read octet by octet. Slow path for the last octets of a slice; not
-/// inlined.
+/// The number of `width` bits within eight octets, read octet by octet. Slow path for the last
+/// octets of a slice; not inlined.
 #[inline(never)]
 fn read_octets(octets: &[u8], shift: usize, width: usize) -> u64
     requires shift { shift < 8 }
@@ -309,8 +312,8 @@ fn read_octets(octets: &[u8], shift: usize, width: usize) -> u64
     value >> excess
 }
 
-/// The number of the `width` bits from bit `position` on, the first of them its highest digit. `width` is at most 32,
-/// and the bits lie within the octets.
+/// The number of the `width` bits from bit `position` on, the first of them its highest digit.
+/// `width` is at most 32, and the bits lie within the octets.
 pub fn read_bits(bytes: &[u8], position: usize, width: usize) -> u32
     requires width { width ≤ 32 }
     requires within { position + width ≤ 8 * length bytes.now }
@@ -321,7 +324,8 @@ pub fn read_bits(bytes: &[u8], position: usize, width: usize) -> u32
     read_wide(bytes, position, width) as u32
 }
 
-/// The number of the view's bits, the first of them its highest digit. The view has at most 128 bits.
+/// The number of the view's bits, the first of them its highest digit. The view has at most 128
+/// bits.
 pub fn read_u128(src: BitStr<'_>) -> u128
     requires { (view_of src).len ≤ 128 }
     ensures number { result ≡ number (bits_of src.entry) }
@@ -349,8 +353,8 @@ pub fn aligned_octets(src: BitStr<'_>) -> Option<&[u8]>
     src.aligned()
 }
 
-/// Appends the octets of the view to the vector. Where memory is wanting, the vector is as before. The view is whole
-/// octets.
+/// Appends the octets of the view to the vector. Where memory is wanting, the vector is as before.
+/// The view is whole octets.
 pub fn extend_vec_from_bitslice(dst: &mut Vec<u8>, src: BitStr<'_>) -> Result<(), AllocError>
     requires { (view_of src).len % 8 ≡ 0 }
     ensures ok { OnOk result (bits dst.new.items ≡ bits dst.old.items ++ bits_of src.entry) }

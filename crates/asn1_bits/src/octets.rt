@@ -3,8 +3,8 @@
 ghost use Rattle.std.specs.Prelude.{◌≡◌, ◌<◌, All};
 ghost use Rattle.asn1_bits.specs.Octets.{octets_in};
 
-/// Octets that were read: borrowed from the storage if they lie on its octet boundaries, else copied. Two are equal if
-/// they hold the same octets, borrowed or copied.
+/// Octets that were read: borrowed from the storage if they lie on its octet boundaries, else
+/// copied. Two are equal if they hold the same octets, borrowed or copied.
 #[derive(Debug, Drop)]
 pub enum Octets<'a> {
     /// Octets of the storage.

@@ -11,8 +11,9 @@ use crate::kernels::write_bitslice;
 use crate::target::Target;
 use crate::turns::Turns;
 
-/// Writes the view over the bits of `dst` from bit `position` on, and leaves every other bit. It clears the bits first,
-/// whole octets by one `fill`, and takes no turns for that. It ends within `dst`, at a bit that `usize` counts.
+/// Writes the view over the bits of `dst` from bit `position` on, and leaves every other bit. It
+/// clears the bits first, whole octets by one `fill`, and takes no turns for that. It ends within
+/// `dst`, at a bit that `usize` counts.
 #[inline]
 pub fn overwrite_bitslice(dst: &mut [u8], position: usize, src: BitStr<'_>, turns: &mut Turns)
     requires room { position + (view_of src).len ≤ 8 * length dst.old }
@@ -25,9 +26,9 @@ pub fn overwrite_bitslice(dst: &mut [u8], position: usize, src: BitStr<'_>, turn
     write_bitslice(dst, position, src, turns);
 }
 
-/// Writes the lowest `width` binary digits of `value`, most significant first, over the bits of `dst` from bit
-/// `position` on, and leaves every other bit. `width` is at most 128, and they end within `dst`, at a bit that `usize`
-/// counts.
+/// Writes the lowest `width` binary digits of `value`, most significant first, over the bits of
+/// `dst` from bit `position` on, and leaves every other bit. `width` is at most 128, and they end
+/// within `dst`, at a bit that `usize` counts.
 #[inline]
 pub fn overwrite_number(
     dst: &mut [u8],
@@ -79,8 +80,8 @@ fn overwrite_digits(
     }
 }
 
-/// Clears the `count` bits from bit `position` on: those before the first whole octet, whole octets, and those behind
-/// the last.
+/// Clears the `count` bits from bit `position` on: those before the first whole octet, whole
+/// octets, and those behind the last.
 pub(crate) fn clear_bits(dst: &mut [u8], position: usize, count: usize)
     requires room { position + count ≤ 8 * length dst.old }
     requires fits { position + count < 2 ^ 64 }

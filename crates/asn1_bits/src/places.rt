@@ -15,18 +15,20 @@ pub trait Places {
     /// The bits.
     ghost list: { Self → List Bool };
 
-    /// The number of calls of `place`. Implement it as the `count` of a `Turns` field that `place` ticks.
+    /// The number of calls of `place`. Implement it as the `count` of a `Turns` field that `place`
+    /// ticks.
     ghost placements: { Self → ℕ };
 
-    /// The ghost name of the `&mut` that this target writes through, if any. Without it a contract says nothing of the
-    /// borrowed slice.
+    /// The ghost name of the `&mut` that this target writes through, if any. Without it a contract
+    /// says nothing of the borrowed slice.
     ghost reference: { Self → ℕ } = { λ _. 0 };
 
     /// How many bits there are.
     fn len(&self) -> u128
         ensures { result ≡ length (list self.now) };
 
-    /// ORs the lowest `width` binary digits of `word` in from bit `position` on, and counts one turn.
+    /// ORs the lowest `width` binary digits of `word` in from bit `position` on, and counts one
+    /// turn.
     fn place(&mut self, position: usize, word: u64, width: usize, turns: &mut Turns)
         requires width { width ≤ 64 }
         requires within { position + width ≤ length (list self.old) }
@@ -54,8 +56,8 @@ impl Places for Target<'_> {
     }
 }
 
-/// ORs the view into the target from bit `position` on: a turn for each word of 64 bits, and one for the tail. It ends
-/// within the target, at a bit that `usize` counts.
+/// ORs the view into the target from bit `position` on: a turn for each word of 64 bits, and one
+/// for the tail. It ends within the target, at a bit that `usize` counts.
 pub fn place_bits<D: Places>(target: &mut D, position: usize, src: BitStr<'_>, turns: &mut Turns)
     requires fits { position + (view_of src).len < 2 ^ 64 }
     requires within { position + (view_of src).len ≤ length (D.list target.old) }

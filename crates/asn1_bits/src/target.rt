@@ -1,5 +1,6 @@
-//! Octets that words are stored in. The stores themselves stand in `stores`, private to this module: a body elsewhere
-//! that holds a `Target` stores by its methods alone, which count each word and take its turn.
+//! Octets that words are stored in. The stores themselves stand in `stores`, private to this
+//! module: a body elsewhere that holds a `Target` stores by its methods alone, which count each
+//! word and take its turn.
 
 ghost use Rattle.std.specs.Prelude.{◌≡◌, ◌+◌, ◌*◌, ◌++◌, ◌/◌, ◌%◌, ◌≤◌, ◌<◌, ◌^◌, length, take, drop};
 ghost use Rattle.std.specs.Int.{div_ceil};
@@ -13,17 +14,19 @@ use stores::{
 
 mod stores;
 
-/// Octets in which only these methods store. A method that places a word of at most 64 bits counts it in `placed` and
-/// takes one turn for it: in at most two stores, or octet by octet where fewer than eight octets are left. `put_pair`
-/// places up to two words so, and `or_rest` completes a word that `or_begun` has counted. So where `turns` and `placed`
-/// grow alike, no word was stored without a turn, and no turn was taken without a word. `placed` takes no bytes.
+/// Octets in which only these methods store. A method that places a word of at most 64 bits counts
+/// it in `placed` and takes one turn for it: in at most two stores, or octet by octet where fewer
+/// than eight octets are left. `put_pair` places up to two words so, and `or_rest` completes a word
+/// that `or_begun` has counted. So where `turns` and `placed` grow alike, no word was stored
+/// without a turn, and no turn was taken without a word. `placed` takes no bytes.
 #[derive(Drop)]
 pub(crate) struct Target<'a> {
     octets: &'a mut [u8],
     placed: Turns,
 }
 
-/// A begun word, of which at most `left` bits are still to be stored. Its turn is taken, and the value is used once.
+/// A begun word, of which at most `left` bits are still to be stored. Its turn is taken, and the
+/// value is used once.
 #[derive(Drop)]
 pub(crate) struct Rest {
     left: usize,
@@ -42,8 +45,9 @@ impl<'a> Target<'a> {
         }
     }
 
-    /// Takes the octets and their count out, and leaves none behind. A loop over a target of its own keeps the place of
-    /// the octets in registers; through a reference it is loaded for each word, since a store might have changed it.
+    /// Takes the octets and their count out, and leaves none behind. A loop over a target of its
+    /// own keeps the place of the octets in registers; through a reference it is loaded for each
+    /// word, since a store might have changed it.
     #[inline(always)]
     pub(crate) fn take(&mut self) -> Target<'a>
         ensures octets { result.octets.now ≡ self.old.octets.now }
@@ -103,8 +107,8 @@ impl<'a> Target<'a> {
         turns.tick();
     }
 
-    /// ORs the first bits of a word in, whose rest `or_rest` stores later, and counts one turn. The bits lie within
-    /// eight octets of the slice.
+    /// ORs the first bits of a word in, whose rest `or_rest` stores later, and counts one turn. The
+    /// bits lie within eight octets of the slice.
     #[inline(always)]
     pub(crate) fn or_begun(
         &mut self,
@@ -130,7 +134,8 @@ impl<'a> Target<'a> {
         Rest { left: 64 - width }
     }
 
-    /// ORs the rest of a begun word in, from the first bit of an octet on. `or_begun` has counted its turn.
+    /// ORs the rest of a begun word in, from the first bit of an octet on. `or_begun` has counted
+    /// its turn.
     #[inline(always)]
     pub(crate) fn or_rest(&mut self, _rest: Rest, octet: usize, word: u64, width: usize)
         requires left { width ≤ _rest.left }
@@ -153,8 +158,8 @@ impl<'a> Target<'a> {
         self.octets.len()
     }
 
-    /// Slow path of `or_word` for the last octets of a slice: digits within eight octets, octet by octet. Counts one
-    /// turn.
+    /// Slow path of `or_word` for the last octets of a slice: digits within eight octets, octet by
+    /// octet. Counts one turn.
     #[inline(always)]
     pub(crate) fn or_short(&mut self, position: usize, word: u64, width: usize, turns: &mut Turns)
         requires width { position % 8 + width ≤ 64 }
@@ -171,8 +176,8 @@ impl<'a> Target<'a> {
         turns.tick();
     }
 
-    /// Writes a number over zeros from bit `position` on, and counts one turn. Its digits lie within eight octets of
-    /// the slice.
+    /// Writes a number over zeros from bit `position` on, and counts one turn. Its digits lie
+    /// within eight octets of the slice.
     #[inline(always)]
     pub(crate) fn put_word(&mut self, position: usize, word: u64, width: usize, turns: &mut Turns)
         requires some { 0 < width }
@@ -192,8 +197,8 @@ impl<'a> Target<'a> {
         turns.tick();
     }
 
-    /// Writes a number over zeros from bit `position` on, and counts a turn for each 64 digits. They lie within sixteen
-    /// octets of the slice.
+    /// Writes a number over zeros from bit `position` on, and counts a turn for each 64 digits.
+    /// They lie within sixteen octets of the slice.
     #[inline(always)]
     pub(crate) fn put_pair(
         &mut self,

@@ -14,7 +14,8 @@ pub(crate) fn eight(octets: &[u8], first: usize) -> [u8; 8]
     requires { first + 8 ≤ length octets.now }
     ensures { result ≡ take 8 (drop first octets.now) }
 {
-    // The front has eight octets, so the second arm is never taken, and the compiler drops the test.
+    // The front has eight octets, so the second arm is never taken, and the compiler drops the
+    // test.
     let (front, _) = from_octet(octets, first).split_at(8);
     match front.first_chunk::<8>() {
         Some(chunk) => *chunk,
@@ -46,7 +47,8 @@ pub(crate) fn whole_word(octets: &[u8], first: usize, shift: usize) -> u64
     }
 }
 
-/// The word of the 64 bits from bit `shift` of the first of nine octets on, with no branch on the shift.
+/// The word of the 64 bits from bit `shift` of the first of nine octets on, with no branch on the
+/// shift.
 #[inline(always)]
 pub(crate) fn word_of_nine(octets: &[u8], shift: usize) -> u64
     requires shift { shift < 8 }
@@ -99,8 +101,8 @@ pub(crate) fn lowest_wide(value: u128, width: usize) -> u128
     }
 }
 
-/// Writes a number of `width` digits over zeros from bit `position` on. They lie within eight octets of the slice. It
-/// counts no turn.
+/// Writes a number of `width` digits over zeros from bit `position` on. They lie within eight
+/// octets of the slice. It counts no turn.
 #[inline(always)]
 pub(crate) fn put_word(dst: &mut [u8], position: usize, word: u64, width: usize)
     requires some { 0 < width }
@@ -113,8 +115,10 @@ pub(crate) fn put_word(dst: &mut [u8], position: usize, word: u64, width: usize)
     Target::new(dst).put_word(position, word, width, &mut Turns::new());
 }
 
-/// Writes a number of up to 128 digits over zeros from bit `position` on, and ticks once for each 64 of them.
-// One line, since the clause `each_turn_places` of `put_in` can't see a store that would stand here.
+/// Writes a number of up to 128 digits over zeros from bit `position` on, and ticks once for each
+/// 64 of them.
+// One line, since the clause `each_turn_places` of `put_in` can't see a store that would stand
+// here.
 #[inline(always)]
 pub(crate) fn put_digits(
     dst: &mut [u8],
@@ -168,8 +172,8 @@ fn put_in(dst: &mut Target<'_>, position: usize, number: u128, width: usize, tur
     }
 }
 
-/// The path of `put_digits` for digits that reach the last octets of the slice, or a seventeenth octet: words are ORed
-/// in. Not inlined.
+/// The path of `put_digits` for digits that reach the last octets of the slice, or a seventeenth
+/// octet: words are ORed in. Not inlined.
 #[inline(never)]
 fn put_apart(dst: &mut Target<'_>, position: usize, number: u128, width: usize, turns: &mut Turns)
     requires some { 0 < width }
@@ -194,7 +198,8 @@ fn put_apart(dst: &mut Target<'_>, position: usize, number: u128, width: usize, 
     }
 }
 
-/// ORs `count` words of the octets of `src` into `dst` from octet `first` on. Ticks once for each word.
+/// ORs `count` words of the octets of `src` into `dst` from octet `first` on. Ticks once for each
+/// word.
 pub(crate) fn or_words(
     dst: &mut Target<'_>,
     first: usize,
@@ -217,7 +222,8 @@ pub(crate) fn or_words(
     }
 }
 
-/// The path of `or_words` for bits that begin at bit `shift` of the first word: each word is made of two.
+/// The path of `or_words` for bits that begin at bit `shift` of the first word: each word is made
+/// of two.
 pub(crate) fn or_shifted_words(
     dst: &mut Target<'_>,
     first: usize,

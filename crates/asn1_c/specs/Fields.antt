@@ -47,7 +47,8 @@ AreReadAt octets from [] [] to = from ≡ to
 AreReadAt octets from (s ∷ ss) (f ∷ fs) to = IsReadAt octets from s f × AreReadAt octets (end_of f) ss fs to
 AreReadAt octets from ss fs to = ⊥
 
--- the code and the number of a refusal name the reason why no field of the shape begins what is left
+-- the code and the number of a refusal name the reason why no field of the shape begins what is
+-- left
 abbrev pub NamesReason : plain.Shape → List Bool → Refusal → Type 0
 NamesReason shape left r =
     ((r.code ≡ 2) × IsReason shape left (NumberWidth (number_of_words r.high r.low)))

@@ -12,7 +12,8 @@ use Rattle.asn1_c.specs.Fields.{number_of_words, end_of}
 abbrev pub LieIn : List ℕ → Field → List Bool → Type 0
 LieIn source f list = (end_of f ≤ 8 * length source) × (list ≡ take f.length (drop f.first (bits source)))
 
--- the bits spell the field: a number by its value, octets and bits from where they lie in the source
+-- the bits spell the field: a number by its value, octets and bits from where they lie in the
+-- source
 abbrev pub IsNamed : List ℕ → Shape → Field → List Bool → Type 0
 IsNamed source s f list =
     ((s.kind ≡ 0) × IsSpelledBy (plain.Number (number_of_words f.high f.low) s.count) list)

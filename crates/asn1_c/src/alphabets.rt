@@ -62,8 +62,8 @@ pub(crate) fn alphabet<'s>(
     Ok(alphabet_for(name, Some(set), aligned))
 }
 
-/// The code of a character in an alphabet. The set is the permitted one where `permitted` says so, and else not looked
-/// at.
+/// The code of a character in an alphabet. The set is the permitted one where `permitted` says so,
+/// and else not looked at.
 #[unsafe(no_mangle)]
 pub extern "C" fn asn1_alphabet_encode(
     kind: u32,

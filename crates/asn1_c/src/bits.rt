@@ -27,7 +27,8 @@ impl Words {
     }
 }
 
-/// Whether so many bits from a place on lie in so many octets. Octets are compared, since bits may pass `usize`.
+/// Whether so many bits from a place on lie in so many octets. Octets are compared, since bits may
+/// pass `usize`.
 #[inline(always)]
 fn lie_within(place: usize, count: usize, octets: usize) -> bool
     ensures { IsTrue result ↔ (place + count ≤ 8 * octets) }
@@ -37,7 +38,8 @@ fn lie_within(place: usize, count: usize, octets: usize) -> bool
     whole + rest <= octets
 }
 
-/// The number of `width` bits, at most 64, from bit `position` of the octets on, the first of them its highest digit.
+/// The number of `width` bits, at most 64, from bit `position` of the octets on, the first of them
+/// its highest digit.
 #[unsafe(no_mangle)]
 pub extern "C" fn asn1_read_u64(
     octets: &[u8],
@@ -92,8 +94,8 @@ pub extern "C" fn asn1_read_u128(
     DONE
 }
 
-/// ORs `count` bits of the source, from bit `first` on, into the target from bit `position` on, and leaves every other
-/// bit. Into zeros it copies.
+/// ORs `count` bits of the source, from bit `first` on, into the target from bit `position` on, and
+/// leaves every other bit. Into zeros it copies.
 #[unsafe(no_mangle)]
 #[tactic(auto, unfolding(asn1_bits::specs::View::list_of))]
 pub extern "C" fn asn1_or_bits(
@@ -120,8 +122,8 @@ pub extern "C" fn asn1_or_bits(
     DONE
 }
 
-/// ORs the `width` lowest binary digits of the number, at most 128, into the target from bit `position` on, and leaves
-/// every other bit. A number that does not fit its width is refused.
+/// ORs the `width` lowest binary digits of the number, at most 128, into the target from bit
+/// `position` on, and leaves every other bit. A number that does not fit its width is refused.
 #[unsafe(no_mangle)]
 pub extern "C" fn asn1_or_number(
     target: &mut [u8],
@@ -178,8 +180,8 @@ fn place_number(target: &mut [u8], position: usize, number: u128, width: usize)
     }
 }
 
-/// Compares two lists of bits: `a_count` bits of `a` from bit `a_first` on, and those of `b`. The order is -1, 0 or 1:
-/// by the first bit that differs, and else by length.
+/// Compares two lists of bits: `a_count` bits of `a` from bit `a_first` on, and those of `b`. The
+/// order is -1, 0 or 1: by the first bit that differs, and else by length.
 #[unsafe(no_mangle)]
 #[tactic(auto, unfolding(asn1_bits::specs::View::list_of))]
 pub extern "C" fn asn1_compare_bits(

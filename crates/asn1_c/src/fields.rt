@@ -8,8 +8,8 @@ ghost use Rattle.asn1_c.specs.Fields.{IsSpelledAt, NamesReason, IsReadAt, AreRea
 use crate::codes::{DONE, KIND, OUTSIDE, OVERFLOW, ROOM, SHORT, WIDTH};
 use asn1_values::read_wide;
 
-/// What C says of a field before it is read: `kind` is 0 for a number of `count` bits, 1 for `count` octets, and 2 for
-/// `count` bits.
+/// What C says of a field before it is read: `kind` is 0 for a number of `count` bits, 1 for
+/// `count` octets, and 2 for `count` bits.
 #[repr(C)]
 #[derive(Clone, Copy, Debug)]
 pub struct Shape {
@@ -33,8 +33,8 @@ pub struct Field {
     pub low: u64,
 }
 
-/// The first wrong field, counted from 0, and its reason: by how many bits the octets are short of it, its width, or its
-/// length.
+/// The first wrong field, counted from 0, and its reason: by how many bits the octets are short of
+/// it, its width, or its length.
 #[repr(C)]
 #[derive(Clone, Copy, Debug)]
 pub struct Refusal {
@@ -156,8 +156,8 @@ fn read_one(octets: &[u8], at: usize, shape: &Shape, field: usize) -> Result<Fie
     }
 }
 
-/// Reads fields of the shapes one after another, from bit `position` on, and tells the first bit behind them. A refusal
-/// names the first wrong field; those before it were read.
+/// Reads fields of the shapes one after another, from bit `position` on, and tells the first bit
+/// behind them. A refusal names the first wrong field; those before it were read.
 #[unsafe(no_mangle)]
 pub extern "C" fn asn1_read_fields(
     octets: &[u8],
@@ -182,7 +182,8 @@ pub extern "C" fn asn1_read_fields(
     ensures kept_end { result ≢ 0 → end.new ≡ end.old }
     ensures kept_refusal { result ≡ 0 → refusal.new ≡ refusal.old }
     // Where nothing was read, the refusal and the fields are as before.
-    ensures same_refusal { (result ≡ 1) ⊎ ((result ≡ 3) ⊎ (result ≡ 5)) → refusal.new ≡ refusal.old }
+    ensures same_refusal { (result ≡ 1) ⊎ ((result ≡ 3) ⊎ (result ≡ 5)) → refusal.new
+        ≡ refusal.old }
     ensures same_fields { (result ≡ 1) ⊎ ((result ≡ 3) ⊎ (result ≡ 5)) → fields.new ≡ fields.old }
 {
     let Some(bits) = octets.len().checked_mul(8) else {

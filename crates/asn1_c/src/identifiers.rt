@@ -70,8 +70,9 @@ pub extern "C" fn asn1_oid_contents(arcs: &[u32], room: &mut [u8], count: &mut u
 /// The largest number of a first subidentifier: 40 times 2, and the largest arc.
 const LARGEST_FIRST: u64 = 4_294_967_375;
 
-/// Writes the arcs of which the octets are the contents to the front of the room, and tells how many. For each octet
-/// one arc, and one more, are always enough; where the room is too small, it may have been written to.
+/// Writes the arcs of which the octets are the contents to the front of the room, and tells how
+/// many. For each octet one arc, and one more, are always enough; where the room is too small, it
+/// may have been written to.
 #[unsafe(no_mangle)]
 pub extern "C" fn asn1_oid_arcs(octets: &[u8], room: &mut [u32], count: &mut usize) -> u32
     ensures written { result ≡ 0 → IsContents (take count.new room.new) octets.now }
@@ -123,7 +124,8 @@ fn write_arcs(octets: &[u8], room: &mut [u32]) -> Option<usize>
     Some(count)
 }
 
-/// Writes the arcs of one more number behind `count` others, the first two arcs where there are none, if there is room.
+/// Writes the arcs of one more number behind `count` others, the first two arcs where there are
+/// none, if there is room.
 fn put_number(number: u64, count: usize, room: &mut [u32]) -> Option<usize>
     requires first { count ≡ 0 → number ≤ 4294967375 }
     requires other { count ≢ 0 → number < 2 ^ 32 }

@@ -1,4 +1,5 @@
-//! Whole numbers as two's complement octets, most significant first: the contents of INTEGER (X.690 8.3).
+//! Whole numbers as two's complement octets, most significant first: the contents of INTEGER (X.690
+//! 8.3).
 
 ghost use Rattle.std.specs.Prelude.{◌≡◌, ◌≢◌, ◌↔◌, ◌<◌, ◌≤◌, ℤ, ℕ, List, length, take, drop, IsTrue};
 ghost use Rattle.std.specs.Ordering.{int_cmp};
@@ -12,8 +13,8 @@ use crate::room::put;
 use asn1_values::{IntegerType, signed_value, without_redundant_sign_octets};
 use std::cmp::Ordering;
 
-/// Writes the shortest octets of the number into the room, of which eight are always enough. Their number is told also
-/// where the room is too small.
+/// Writes the shortest octets of the number into the room, of which eight are always enough. Their
+/// number is told also where the room is too small.
 #[unsafe(no_mangle)]
 pub extern "C" fn asn1_integer_from_i64(number: i64, room: &mut [u8], count: &mut usize) -> u32
     ensures written { result ≡ 0 → IsShortest number (take count.new room.new) }
@@ -104,7 +105,8 @@ pub extern "C" fn asn1_integer_is_shortest(octets: &[u8]) -> bool
     !octets.is_empty() && without_redundant_sign_octets(octets).len() == octets.len()
 }
 
-/// How many of the first octets only repeat the sign: behind them are the shortest octets of the same number.
+/// How many of the first octets only repeat the sign: behind them are the shortest octets of the
+/// same number.
 #[unsafe(no_mangle)]
 pub extern "C" fn asn1_integer_redundant(octets: &[u8]) -> usize
     ensures within { result ≤ length octets.now }

@@ -1,9 +1,10 @@
-//! The calls of the value layer that need no memory, for C: bits, fields, whole numbers, identifiers, strings and
-//! alphabets.
+//! The calls of the value layer that need no memory, for C: bits, fields, whole numbers,
+//! identifiers, strings and alphabets.
 //!
-//! An export takes numbers, slices and plain structs, and answers a code; 0 says that it is done. The caller's slices
-//! are the room for what is written, and unless a call says else, what is refused leaves them as they were. Each
-//! condition is tested: the one that C must keep is that pointers and lengths are right.
+//! An export takes numbers, slices and plain structs, and answers a code; 0 says that it is done.
+//! The caller's slices are the room for what is written, and unless a call says else, what is
+//! refused leaves them as they were. Each condition is tested: the one that C must keep is that
+//! pointers and lengths are right.
 #![tactic(auto)]
 
 mod alphabets;

@@ -10,8 +10,8 @@ ghost use Rattle.asn1_c.specs.Sets.{set_named, character_count, character_at};
 use crate::codes::{CHARACTER, DONE, KIND, ODD};
 use asn1_values::CharacterSetName;
 
-/// The set of a number: 0 to 7 for BMPString, GeneralString, GraphicString, IA5String, NumericString, PrintableString,
-/// TeletexString and VisibleString.
+/// The set of a number: 0 to 7 for BMPString, GeneralString, GraphicString, IA5String,
+/// NumericString, PrintableString, TeletexString and VisibleString.
 pub(crate) fn set_of_kind(kind: u32) -> Option<CharacterSetName>
     ensures { result ≡ set_named kind }
 {
@@ -70,8 +70,8 @@ fn pair_at(octets: &[u8], i: usize) -> u32
     256 * u32::from(octets[2 * i]) + u32::from(octets[2 * i + 1])
 }
 
-/// Looks for the first wrong character of a string's octets: one octet a character, two in BMPString. Its place is
-/// counted in characters.
+/// Looks for the first wrong character of a string's octets: one octet a character, two in
+/// BMPString. Its place is counted in characters.
 #[unsafe(no_mangle)]
 pub extern "C" fn asn1_string_check(
     kind: u32,

@@ -60,8 +60,8 @@ impl Decimal {
     }
 }
 
-/// Writes the dotted text of the arcs to the front of the room, of which eleven octets for each arc are always enough.
-/// How many octets the text has is told also where the room is too small.
+/// Writes the dotted text of the arcs to the front of the room, of which eleven octets for each arc
+/// are always enough. How many octets the text has is told also where the room is too small.
 #[unsafe(no_mangle)]
 pub extern "C" fn asn1_oid_text(arcs: &[u32], room: &mut [u8], count: &mut usize) -> u32
     ensures written { result ≡ 0 → take count.new room.new ≡ dotted arcs.now }
@@ -129,8 +129,9 @@ fn put_at(octets: &[u8], room: &mut [u8], at: usize) -> usize
     end
 }
 
-/// Writes the arcs of which the octets are the dotted text to the front of the room: half as many as there are octets,
-/// and one more, are always enough. How many arcs there are is told also where the room is too small.
+/// Writes the arcs of which the octets are the dotted text to the front of the room: half as many
+/// as there are octets, and one more, are always enough. How many arcs there are is told also where
+/// the room is too small.
 #[unsafe(no_mangle)]
 pub extern "C" fn asn1_oid_from_text(text: &[u8], room: &mut [u32], count: &mut usize) -> u32
     ensures written { result ≡ 0 → IsDottedText (take count.new room.new) text.now }
@@ -157,7 +158,8 @@ pub extern "C" fn asn1_oid_from_text(text: &[u8], room: &mut [u32], count: &mut 
     }
 }
 
-/// How many arcs a dotted text has. They are written to the front of the room, where it holds them all.
+/// How many arcs a dotted text has. They are written to the front of the room, where it holds them
+/// all.
 fn read_arcs(text: &[u8], room: &mut [u32]) -> Option<usize>
     ensures some { IfSome result (λ k. (arcs : List ℕ) × IsDottedText arcs text.now
         × (k ≡ length arcs)

@@ -10,9 +10,9 @@ use crate::codes::{COUNT, DONE, KIND, LENGTH, OUTSIDE, OVERFLOW, ROOM, WIDTH};
 use crate::fields::{Field, Refusal, Shape};
 use asn1_values::{BitStr, Turns, overwrite_bitslice, overwrite_number};
 
-/// Writes fields of the shapes one after another over the bits of the target from bit `position` on, and tells the
-/// first bit behind them: a number by its value, octets and bits from where they lie in the source. Every other bit
-/// stays. A refusal names the first wrong field.
+/// Writes fields of the shapes one after another over the bits of the target from bit `position`
+/// on, and tells the first bit behind them: a number by its value, octets and bits from where they
+/// lie in the source. Every other bit stays. A refusal names the first wrong field.
 #[unsafe(no_mangle)]
 pub extern "C" fn asn1_write_fields(
     target: &mut [u8],
@@ -23,8 +23,10 @@ pub extern "C" fn asn1_write_fields(
     end: &mut usize,
     refusal: &mut Refusal,
 ) -> u32
-    ensures written { result ≡ 0 → (list : List Bool) × AreNamed source.now shapes.now fields.now list
-        × (bits target.new ≡ overwritten (bits target.old) position list) × (end.new ≡ position + length list) }
+    ensures written { result ≡ 0 → (list : List Bool)
+        × AreNamed source.now shapes.now fields.now list
+        × (bits target.new ≡ overwritten (bits target.old) position list)
+        × (end.new ≡ position + length list) }
     ensures refused { result ≢ 0 → result ≢ 3 → result ≢ 18
         → IsUnnamedAt source.now shapes.now fields.now refusal.new }
     ensures code { result ≢ 0 → result ≢ 3 → result ≢ 18 → refusal.new.code ≡ result }

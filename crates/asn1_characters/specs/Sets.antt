@@ -30,7 +30,8 @@ base_set name = flat_map characters_between (ranges_of name)
 abbrev pub has_character : List ℕ → ℕ → Bool
 has_character set c = list_any (λ x. x == c) set
 
--- the largest character of a set, and 0 where it has none: none is larger, as the law `no_larger` says
+-- the largest character of a set, and 0 where it has none: none is larger, as the law `no_larger`
+-- says
 abbrev pub largest : List ℕ → ℕ
 largest set = fold max 0 set
 

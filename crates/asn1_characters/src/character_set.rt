@@ -119,7 +119,8 @@ impl CharacterSetName {
         matches!(self, CharacterSetName::Numeric)
     }
 
-    /// Whether the set has the character: for `BmpString` by its range, else by one look at four words.
+    /// Whether the set has the character: for `BmpString` by its range, else by one look at four
+    /// words.
     #[inline]
     pub fn contains(self, character: u32) -> bool
         ensures { result ≡ has_character (base_set self) character }

@@ -3,7 +3,8 @@ ghost use Rattle.std.specs.Prelude.{◌≡◌, ◌<◌, ◌∷◌, [], ◌==◌,
 ghost use Rattle.asn1_characters.specs.Sets.{has_character, largest};
 ghost use Rattle.asn1_characters.specs.Words.{in_words};
 
-/// A set of characters below 256 as four words of 64 bits: character c has bit c % 64 of word c / 64.
+/// A set of characters below 256 as four words of 64 bits: character c has bit c % 64 of word c /
+/// 64.
 #[derive(Clone, Copy, Debug)]
 pub struct CharacterWords {
     /// The words, that of the least characters first.

@@ -1,8 +1,10 @@
-//! Octet strings, the base sets of the eight restricted character strings of ASN.1, and how characters are refused.
+//! Octet strings, the base sets of the eight restricted character strings of ASN.1, and how
+//! characters are refused.
 //!
-//! An octet string is a list of octets (X.680 23), shared or in place. A base set is the list of characters that one of
-//! the eight strings may hold (X.680 41), by its ranges; one look at four words tells whether a character below 256 is
-//! among them. Each string has an error of its own, with its text.
+//! An octet string is a list of octets (X.680 23), shared or in place. A base set is the list of
+//! characters that one of the eight strings may hold (X.680 41), by its ranges; one look at four
+//! words tells whether a character below 256 is among them. Each string has an error of its own,
+//! with its text.
 #![tactic(auto)]
 
 mod character_set;

@@ -53,8 +53,8 @@ impl OctetString {
         OctetString::from_slice(alloc, &octets)
     }
 
-    /// The vector's octets, without a copy. If memory for the reference count is refused, the vector is returned. An
-    /// empty vector never fails.
+    /// The vector's octets, without a copy. If memory for the reference count is refused, the
+    /// vector is returned. An empty vector never fails.
     pub fn from_vec(octets: Vec<u8>) -> Result<OctetString, Vec<u8>>
         ensures octets { IfOk result (λ s. s ≡ octets.items) }
         ensures back { IfErr result (λ v. v.items ≡ octets.items) }
@@ -86,7 +86,8 @@ impl OctetString {
         })
     }
 
-    /// The octets as `Bytes`. They stand in one already, so the string never comes back as an `Err`.
+    /// The octets as `Bytes`. They stand in one already, so the string never comes back as an
+    /// `Err`.
     pub fn into_bytes(self, _alloc: Global) -> Result<Bytes, OctetString>
         ensures { IsOkAnd result (λ b. b ≡ self) }
     {

@@ -19,13 +19,14 @@ parts text = slice_split (λ c. c == 10) text
 abbrev pub IsLastLine : List (List ℕ) → List ℕ → Type 0
 IsLastLine ends line = (ends ≡ line ∷ [] ∷ []) ⊎ ((ends ≡ line ∷ []) × (line ≢ []))
 
--- the text is the line of shapes, that of octets and that of the first bit; the LF of the last may be missing
+-- the text is the line of shapes, that of octets and that of the first bit; the LF of the last may
+-- be missing
 abbrev pub AreLines : List ℕ → Lines → Type 0
 AreLines text lines =
     (ends : List (List ℕ)) × (parts text ≡ lines.shapes ∷ lines.octets ∷ ends) × IsLastLine ends lines.start
 
--- the text is the decimal of the number, which is below a thousand million: one to nine digits, without a leading zero
--- unless the number is 0
+-- the text is the decimal of the number, which is below a thousand million: one to nine digits,
+-- without a leading zero unless the number is 0
 abbrev pub IsNumber : List ℕ → ℕ → Type 0
 IsNumber text n = (text ≡ decimal n) × (n < 10 ^ 9)
 
@@ -39,7 +40,8 @@ IsWord word (OfIdentifier count) = (word ≡ codes "d" ++ decimal count) × (cou
 IsWord word (OfCharacter alphabet) = (word ≡ codes "a") × (alphabet ≡ effective Numeric None false)
 IsWord word OfCountedInteger = word ≡ codes "c"
 
--- the line is empty and names no shape, or each of its parts between single spaces is a word, and names one
+-- the line is empty and names no shape, or each of its parts between single spaces is a word, and
+-- names one
 abbrev pub AreWords : List ℕ → List Shape → Type 0
 AreWords [] shapes = shapes ≡ []
 AreWords (c ∷ cs) shapes = AllZip IsWord (slice_split (λ c. c == 32) (c ∷ cs)) shapes

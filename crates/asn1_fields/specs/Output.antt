@@ -38,7 +38,8 @@ field_text (Identifier arcs) = codes "d " ++ dotted arcs
 abbrev pub field_lines : List Field → List ℕ
 field_lines fields = flat_map (λ field. line (field_text field)) fields
 
--- a line for each field, one for how many bits are left, and one for the octets of the fields written again
+-- a line for each field, one for how many bits are left, and one for the octets of the fields
+-- written again
 abbrev pub printed : List Field → ℕ → List ℕ → List ℕ
 printed fields left again =
     field_lines fields ++ line (codes "rest " ++ decimal left) ++ line (codes "again " ++ octets_text again)

@@ -18,7 +18,8 @@ pub record Answer : Type 0 where
 abbrev pub Hold : List ℕ → List Bool → Type 0
 Hold octets list = All (λ octet. octet < 256) octets × (bits octets ≡ padded list)
 
--- the fields are printed, with the number of bits that are left and the octets that hold the fields' own bits
+-- the fields are printed, with the number of bits that are left and the octets that hold the
+-- fields' own bits
 abbrev pub IsPrinted : List Field → ℕ → Answer → Type 0
 IsPrinted fields left answer =
     (again : List Bool) × (octets : List ℕ) × AreSpelledBy fields again × Hold octets again
@@ -39,7 +40,8 @@ IsRefusalAnswer list shapes answer =
 abbrev pub IsBitsAnswer : List Bool → List Shape → Answer → Type 0
 IsBitsAnswer list shapes answer = IsFieldsAnswer list shapes answer ⊎ IsRefusalAnswer list shapes answer
 
--- there is one that is right, and the answer goes on from it; or there is none, and the answer is this line
+-- there is one that is right, and the answer goes on from it; or there is none, and the answer is
+-- this line
 abbrev pub OrElse : {X : Type 0} → (X → Type 0) → List ℕ → (X → Answer → Type 0) → Answer → Type 0
 OrElse {X} IsRight text Next answer =
     ((x : X) × IsRight x × Next x answer)

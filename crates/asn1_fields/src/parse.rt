@@ -24,7 +24,8 @@ pub struct Lines<'a> {
 }
 
 impl<'a> Lines<'a> {
-    /// The lines of the text; None where they are not three. The last LF may be missing where its line is not empty.
+    /// The lines of the text; None where they are not three. The last LF may be missing where its
+    /// line is not empty.
     pub fn of(text: &'a [u8]) -> Option<Lines<'a>>
         ensures { MatchOption result ((lines : input.Lines) → ¬ (AreLines text.now lines))
             (λ lines. AreLines text.now (record {
@@ -110,8 +111,8 @@ fn shape(word: &[u8], numeric: &CharacterAlphabet<'static>) -> Option<Shape<'sta
     counted_shape(*letter, count)
 }
 
-/// The shape of a letter alone: `a`, a character of the `numeric` alphabet, or `c`, an integer behind the number of its
-/// octets.
+/// The shape of a letter alone: `a`, a character of the `numeric` alphabet, or `c`, an integer
+/// behind the number of its octets.
 fn lone_shape(letter: u8, numeric: &CharacterAlphabet<'static>) -> Option<Shape<'static>>
     requires { alphabet_of numeric.now ≡ effective Numeric None false }
     ensures { MatchOption result ((shape : plain.Shape) → ¬ (IsWord (letter ∷ []) shape))
@@ -124,9 +125,9 @@ fn lone_shape(letter: u8, numeric: &CharacterAlphabet<'static>) -> Option<Shape<
     }
 }
 
-/// The shape of a letter and a number: `n` and the width of a number in bits, `o` and a number of octets, `b` and a
-/// number of bits, `i` and the number of an integer's octets, or `d` and the number of octets of an identifier's
-/// contents.
+/// The shape of a letter and a number: `n` and the width of a number in bits, `o` and a number of
+/// octets, `b` and a number of bits, `i` and the number of an integer's octets, or `d` and the
+/// number of octets of an identifier's contents.
 fn counted_shape(letter: u8, count: usize) -> Option<Shape<'static>>
     requires { count < 10 ^ 9 }
     ensures { MatchOption result ((shape : plain.Shape) → ¬ (IsWord (letter ∷ decimal count) shape))

@@ -9,7 +9,8 @@ use asn1_values::{BitStr, Field, Integer, ReadError, laws_of_shortest_octets};
 use std::alloc::{AllocError, Global};
 use std::fmt::Write;
 
-/// A line for each field, then the number of bits that are left, then the octets of the fields written again.
+/// A line for each field, then the number of bits that are left, then the octets of the fields
+/// written again.
 pub fn print_fields(
     alloc: Global,
     fields: &[Field<'_, '_>],
@@ -37,8 +38,8 @@ fn print_all(alloc: Global, fields: &[Field<'_, '_>]) -> Result<String, AllocErr
     Ok(text)
 }
 
-/// `n` and the number in decimal, `o` and the octets, `b` and the bits, `i` or `c` and the shortest octets, `a` and the
-/// character in decimal, or `d` and the arcs with full stops.
+/// `n` and the number in decimal, `o` and the octets, `b` and the bits, `i` or `c` and the shortest
+/// octets, `a` and the character in decimal, or `d` and the arcs with full stops.
 fn print_field(alloc: Global, text: &mut String, field: &Field<'_, '_>) -> Result<(), AllocError>
     ensures { OnOk result
         (string_bytes text.new

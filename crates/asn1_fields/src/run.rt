@@ -54,18 +54,20 @@ struct Answer {
     status: u8,
 }
 
-/// Reads the input to its end, writes the whole answer at once, and answers the status: 0 for fields, 1 for a refusal.
+/// Reads the input to its end, writes the whole answer at once, and answers the status: 0 for
+/// fields, 1 for a refusal.
 pub fn run<R: Read, W: Write>(alloc: Global, input: &mut R, output: &mut W) -> Result<u8, RunError>
     ensures status { IfOk result (λ status. status ≤ 1) }
-    // It has read to the end, and what it has written is the answer to what it read. Both speak of inputs and outputs
-    // whose octets are known, as those over memory.
+    // It has read to the end, and what it has written is the answer to what it read. Both speak of
+    // inputs and outputs whose octets are known, as those over memory.
     ensures end { OnOk result (IsAtEnd (R.remaining input.new)) }
     ensures answer { IfOk result (λ status. (text : List ℕ) × (answer : program.Answer)
         × Consumes (R.remaining input.old) (R.remaining input.new) text
         × IsOnly (IsAnswer text) answer
         × Appends (W.contents output.old) (W.contents output.new) answer.text
         × (status ≡ answer.status)) }
-    // Only where writing fails has anything been written, and then no more than a front of the answer.
+    // Only where writing fails has anything been written, and then no more than a front of the
+    // answer.
     ensures nothing { IfErr result (λ e. e ≢ RunError.Write → output.new ≡ output.old) }
     ensures front { IfErr result (λ e. e ≡ RunError.Write → (text : List ℕ)
         × (answer : program.Answer) × Consumes (R.remaining input.old) (R.remaining input.new) text
@@ -164,8 +166,8 @@ fn answer_to(alloc: Global, text: &[u8]) -> Result<Answer, AllocError>
     fields_of(alloc, view, shapes.as_slice())
 }
 
-/// The bits of the octets from the first bit on that the line names; None for another line. Octets whose bits are more
-/// than `usize::MAX` are want of memory.
+/// The bits of the octets from the first bit on that the line names; None for another line. Octets
+/// whose bits are more than `usize::MAX` are want of memory.
 fn view_from<'a>(octets: &'a [u8], line: &[u8]) -> Result<Option<BitStr<'a>>, AllocError>
     ensures { IfOk result (λ found. MatchOption found
         ((first : ℕ) → ¬ (IsStart line.now octets.now first))
@@ -185,7 +187,8 @@ fn view_from<'a>(octets: &'a [u8], line: &[u8]) -> Result<Option<BitStr<'a>>, Al
     Ok(Some(view))
 }
 
-/// The fields of the shapes, what is left, and the fields written again; or the line that names the first wrong field.
+/// The fields of the shapes, what is left, and the fields written again; or the line that names the
+/// first wrong field.
 fn fields_of(alloc: Global, view: BitStr<'_>, shapes: &[Shape<'_>]) -> Result<Answer, AllocError>
     requires { GiveOneSpelling (plain_shapes shapes.now) }
     ensures { IfOk result (λ answer.

@@ -24,8 +24,8 @@ IsNonNegativeUnlessNative (SignedOf size) n = ⊤
 IsNonNegativeUnlessNative (UnsignedOf size) n = ⊤
 IsNonNegativeUnlessNative Unbounded n = IsNonNegative n
 
--- o is the shortest list of octets whose value without a sign is n modulo 2^WIDTH, for a native type; n itself, for
--- `Integer`
+-- o is the shortest list of octets whose value without a sign is n modulo 2^WIDTH, for a native
+-- type; n itself, for `Integer`
 abbrev pub SpellsUnsigned : IntegerKind → ℤ → List ℕ → Type 0
 SpellsUnsigned (SignedOf size) n o =
     (r : ℕ) × IsResidue (SignedOf size) n r × IsShortestUnsigned r o
@@ -45,8 +45,8 @@ AreInReach (SignedOf size) a b n = IsInRange (SignedOf size) n
 AreInReach (UnsignedOf size) a b n = IsInRange (UnsignedOf size) n
 AreInReach Unbounded a b n = FitsI128 a × FitsI128 b × FitsI128 n
 
--- The answer is Some of n where n is in reach, and None where it is not. a and b are the operands, n is their sum or
--- difference.
+-- The answer is Some of n where n is in reach, and None where it is not. a and b are the operands,
+-- n is their sum or difference.
 abbrev pub IsChecked : {T : Type 0} → IntegerKind → (T → ℤ) → ℤ → ℤ → ℤ → Option T → Type 0
 IsChecked kind value a b n result =
     MatchOption result (¬ (AreInReach kind a b n)) (λ x. (value x ≡ n) × AreInReach kind a b n)

@@ -28,8 +28,8 @@ abbrev pub AreBitsOf : Bool → ℤ → ℕ → Type 0
 AreBitsOf true n bits = FitsI128 n × (bits ≡ cast_unsigned w128 n)
 AreBitsOf false n bits = n ≡ pos bits
 
--- The call answers as the table does: where the table has a number, its two's complement in 128 bits; where the table
--- refuses, the same refusal.
+-- The call answers as the table does: where the table has a number, its two's complement in 128
+-- bits; where the table refuses, the same refusal.
 abbrev pub ReadsBits : IntegerKind → Result ℕ IntegerError → Result ℤ IntegerError → Type 0
 ReadsBits kind (Ok bits) reading =
     (n : ℤ) × (reading ≡ Ok n) × (bits ≡ cast_unsigned w128 n) × IsInRange kind n

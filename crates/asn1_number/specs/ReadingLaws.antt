@@ -165,7 +165,8 @@ fifteen_fit o h l =
     let p : 256 ^ length o ≤ 256 ^ 15 = pow-le-pow_right (omega arith) {i = length o} {j = 15} (omega arith) in
     omega arith
 
--- more than sixteen octets with none to spare lie outside `u128` too, but for seventeen that begin with zero
+-- more than sixteen octets with none to spare lie outside `u128` too, but for seventeen that begin
+-- with zero
 pub past_u128 : (o : List ℕ) → IsOctets o → NineBitsDiffer o → 16 < length o → (length o ≡ 17 → get_or o 0 0 ≡ 0 → ⊥)
     → IsInRange (UnsignedOf 16) (signed o) → ⊥
 past_u128 [] h d l z r = d
@@ -215,7 +216,8 @@ pub low_value : (o : List ℕ) → 0 < length o → get_or o 0 0 < 128 → signe
 low_value [] some l = absurd (omega arith)
 low_value (b ∷ bs) some l = signed_low b bs l
 
--- a kept list of more than sixteen octets spells no `u128`, unless it is a zero octet and sixteen others
+-- a kept list of more than sixteen octets spells no `u128`, unless it is a zero octet and sixteen
+-- others
 pub spells_no_u128 : (n : ℤ) (o s : List ℕ) → s ≡ o → signed o ≡ n → IsShortest (signed o) o → 16 < length o
     → (length s ≡ 17 → get_or s 0 0 ≡ 0 → ⊥) → IsInRange (UnsignedOf 16) n → ⊥
 spells_no_u128 n o s e v k l d r =

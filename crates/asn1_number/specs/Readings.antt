@@ -104,8 +104,8 @@ abbrev pub MayWantMemory : IntegerKind → Result ℤ IntegerError → Type 0
 MayWantMemory Unbounded (Ok n) = ¬ (FitsI128 n)
 MayWantMemory kind reading = ⊥
 
--- The call answered what the table says: its number or its refusal. It may answer `Memory` instead only for `Integer`,
--- and only where the table's number lies outside `i128`.
+-- The call answered what the table says: its number or its refusal. It may answer `Memory` instead
+-- only for `Integer`, and only where the table's number lies outside `i128`.
 abbrev pub Answers : {T : Type 0} →
     IntegerKind → (T → ℤ) → Result T IntegerError → Result ℤ IntegerError → Type 0
 Answers kind value (Ok x) reading = reading ≡ Ok (value x)

@@ -8,12 +8,12 @@ pub enum IntegerError {
     /// There are no octets; X.690 8.3.1 asks for at least one.
     #[error("empty input")]
     UnexpectedEmptyInput,
-    /// There are more octets than the type has, without the one first zero octet that an unsigned type's
-    /// two's complement may need.
+    /// There are more octets than the type has, without the one first zero octet that an unsigned
+    /// type's two's complement may need.
     #[error("more than {max_integer_bits} bits")]
     Overflow { max_integer_bits: u32 },
-    /// The value is negative, and the type has no sign; or the octets were read without a sign, and their
-    /// value lies above the largest number of the signed type.
+    /// The value is negative, and the type has no sign; or the octets were read without a sign, and
+    /// their value lies above the largest number of the signed type.
     #[error("no value of {bits} bits")]
     TypeConversionFailed { bits: u32 },
     /// There is no memory for a number outside `i128`.

@@ -124,7 +124,8 @@ impl Integer {
     fn from_many_octets(alloc: Global, octets: &[u8]) -> Result<Integer, IntegerError>
         requires { 0 < length octets.now }
         ensures value { IfOk result (λ n. n ≡ signed octets.now) }
-        ensures memory { IfErr result (λ e. (e ≡ IntegerError.Memory) × ¬ (FitsI128 (signed octets.now))) }
+        ensures memory { IfErr result
+            (λ e. (e ≡ IntegerError.Memory) × ¬ (FitsI128 (signed octets.now))) }
     {
         let shortest = without_redundant_sign_octets(octets);
         if shortest.len() <= 16 {

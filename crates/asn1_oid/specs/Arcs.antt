@@ -3,8 +3,8 @@ use Rattle.std.specs.Prelude.{ℕ, ◌<◌, ◌≤◌, List, length, slice_index
 use Rattle.std.specs.List.{join_with_byte}
 use Rattle.std.specs.Fmt.{decimal}
 
--- There is a first arc, and it is 0, 1 or 2. Below 0 and 1 a second arc, if there is one, is at most 39; below 2 it has
--- no such bound.
+-- There is a first arc, and it is 0, 1 or 2. Below 0 and 1 a second arc, if there is one, is at
+-- most 39; below 2 it has no such bound.
 pub record IsValidArcs (arcs : List ℕ) : Type 0 where
   pub some : 0 < length arcs
   pub first : slice_index arcs 0 ≤ 2

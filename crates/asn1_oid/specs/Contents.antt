@@ -4,13 +4,15 @@ use Rattle.asn1_oid.specs.Arcs.{IsValidArcs}
 
 -- ---- subidentifiers (8.19.2)
 
--- bit 8 of each octet says whether it is the last of the series: it is zero in the last, and one in each before it
+-- bit 8 of each octet says whether it is the last of the series: it is zero in the last, and one in
+-- each before it
 abbrev pub IsSeries : List ℕ → Type 0
 IsSeries [] = ⊥
 IsSeries (octet ∷ octets) =
     ((octet < 128) × (octets ≡ [])) ⊎ ((128 ≤ octet) × (octet < 256) × IsSeries octets)
 
--- the number whose binary digits are bits 7 to 1 of each octet, the first octet the most significant
+-- the number whose binary digits are bits 7 to 1 of each octet, the first octet the most
+-- significant
 unfoldable pub base_128 : List ℕ → ℕ
 base_128 [] = 0
 base_128 (octet ∷ octets) = octet % 128 * 128 ^ length octets + base_128 octets
@@ -35,7 +37,8 @@ abbrev pub subidentifiers : List ℕ → List ℕ
 subidentifiers (x ∷ y ∷ arcs) = (40 * x + y) ∷ arcs
 subidentifiers arcs = []
 
--- the octets are the contents of the arcs, of which there are at least two; an arc may be of any size
+-- the octets are the contents of the arcs, of which there are at least two; an arc may be of any
+-- size
 pub record IsContents (arcs octets : List ℕ) : Type 0 where
   pub valid : IsValidArcs arcs
   pub two : 2 ≤ length arcs

@@ -1,5 +1,5 @@
--- Contents read from left to right, computed: how the steps of the code are stated and proved. No public contract cites
--- this.
+-- Contents read from left to right, computed: how the steps of the code are stated and proved. No
+-- public contract cites this.
 use Rattle.std.specs.Prelude.{◌≡◌, ℕ, ◌+◌, ◌-◌, ◌*◌, ◌/◌, ◌%◌, ◌<◌, ◌≤◌, ◌==◌, ◌&&◌, Bool, true, false, not, nat_lt, nat_le, if◌then◌else◌, min, List, [], ◌∷◌, ◌++◌, length, drop, Option, Some, None, Result, Ok, Err}
 use Rattle.std.specs.List.{list_all}
 use Rattle.asn1_oid.specs.declared.contents.ContentsError.{ContentsError}
@@ -10,8 +10,8 @@ abbrev pub with_front : List ℕ → Option (List ℕ) → Option (List ℕ)
 with_front front (Some numbers) = Some (front ++ numbers)
 with_front front None = None
 
--- the numbers of the subidentifiers, where the octets are subidentifiers; `begun` says that the first of them begins
--- before these octets, and n is its number so far
+-- the numbers of the subidentifiers, where the octets are subidentifiers; `begun` says that the
+-- first of them begins before these octets, and n is its number so far
 unfoldable pub numbers_from : Bool → ℕ → List ℕ → Option (List ℕ)
 numbers_from begun n [] = if begun then None else Some []
 numbers_from begun n (octet ∷ octets) =
@@ -52,7 +52,8 @@ arcs_of_numbers (Some (n ∷ numbers)) =
 unfoldable pub contents_reading : List ℕ → Result (List ℕ) ContentsError
 contents_reading octets = arcs_of_numbers (numbers_of octets)
 
--- The octets from `place` up to `next` are one subidentifier. `told` is its number, or `cap` where the number is larger.
+-- The octets from `place` up to `next` are one subidentifier. `told` is its number, or `cap` where
+-- the number is larger.
 pub record Stands (octets : List ℕ) (place told next cap : ℕ) : Type 0 where
   pub number : ℕ
   pub as_told : told ≡ min number cap

@@ -2,7 +2,8 @@
 use Rattle.std.specs.Prelude.{ℕ, zero, suc, ◌+◌, ◌-◌, ◌/◌, ◌%◌, ◌^◌, ◌<◌, ◌≤◌, ◌==◌, nat_lt, if◌then◌else◌, List, [], ◌∷◌, ◌++◌}
 use Rattle.std.specs.List.{flat_map}
 
--- the last k octets of a subidentifier of n: seven binary digits each, and bit 8 in all but the last
+-- the last k octets of a subidentifier of n: seven binary digits each, and bit 8 in all but the
+-- last
 unfoldable pub last_octets : ℕ → ℕ → List ℕ
 last_octets n zero = []
 last_octets n (suc k) = ((if k == 0 then 0 else 128) + n / 128 ^ k % 128) ∷ last_octets n k

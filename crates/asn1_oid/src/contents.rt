@@ -44,8 +44,8 @@ fn are_octets(octets: &[u8])
 /// Why octets are not the contents of an identifier, or could not be read as such.
 #[derive(Clone, Copy, Debug, Drop, Error, PartialEq, Eq, PartialOrd, Ord, Hash)]
 pub enum ContentsError {
-    /// They are the contents of no arcs of any size: the list is empty, a subidentifier begins with 80 (hexadecimal),
-    /// or the last one does not end.
+    /// They are the contents of no arcs of any size: the list is empty, a subidentifier begins with
+    /// 80 (hexadecimal), or the last one does not end.
     #[error("no contents of an object identifier")]
     Malformed,
     /// They are the contents of arcs, one of which passes `u32`.
@@ -112,7 +112,8 @@ pub(crate) fn examine<S: OctetSource>(source: &S) -> Result<(), ContentsError>
     }
 }
 
-/// The arcs of contents. None where the octets are contents of no arcs that fit, or memory is wanting.
+/// The arcs of contents. None where the octets are contents of no arcs that fit, or memory is
+/// wanting.
 pub(crate) fn arcs_in<S: OctetSource>(alloc: Global, source: &S) -> Option<Vec<u32>>
     ensures arcs { IfSome result (λ arcs. contents_reading (S.list source.now) ≡ Ok arcs.items) }
     ensures octets { All (λ octet. octet < 256) (S.list source.now) }
@@ -139,10 +140,12 @@ fn room_for(alloc: Global, count: usize) -> Option<Vec<u32>>
     Vec::with_capacity(alloc, count.checked_add(1)?).ok()
 }
 
-/// The number of the subidentifier at a place, and the place behind it; None where none stands there, or a larger one.
+/// The number of the subidentifier at a place, and the place behind it; None where none stands
+/// there, or a larger one.
 fn fitting_at<S: OctetSource>(source: &S, at: usize, largest: u64) -> Option<(u64, usize)>
     requires { at ≤ length (S.list source.now) }
-    ensures stands { IfSome result (λ r. Stands (S.list source.now) at r.0 r.1 (largest_first + 1)) }
+    ensures stands { IfSome result
+        (λ r. Stands (S.list source.now) at r.0 r.1 (largest_first + 1)) }
     ensures fits { IfSome result (λ r. r.0 ≤ largest) }
 {
     let (number, next) = subidentifier_at(source, at)?;
@@ -153,8 +156,8 @@ fn fitting_at<S: OctetSource>(source: &S, at: usize, largest: u64) -> Option<(u6
     }
 }
 
-/// The number of the subidentifier at a place, which stops growing where no arc can be so large, and the place behind it;
-/// None where none stands there.
+/// The number of the subidentifier at a place, which stops growing where no arc can be so large,
+/// and the place behind it; None where none stands there.
 fn subidentifier_at<S: OctetSource>(source: &S, at: usize) -> Option<(u64, usize)>
     requires { at ≤ length (S.list source.now) }
     ensures some { IfSome result (λ r. Stands (S.list source.now) at r.0 r.1 (largest_first + 1)) }

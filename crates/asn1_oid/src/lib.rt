@@ -1,7 +1,8 @@
 //! Object identifiers (X.660): lists of arcs that borrow or own them.
 //!
-//! An identifier holds valid arcs and no others. Equality, order and hash are those of lists of numbers, whether the
-//! arcs are borrowed or owned. Its contents (X.690 8.19) are written and read octet by octet.
+//! An identifier holds valid arcs and no others. Equality, order and hash are those of lists of
+//! numbers, whether the arcs are borrowed or owned. Its contents (X.690 8.19) are written and read
+//! octet by octet.
 #![tactic(auto)]
 
 mod contents;

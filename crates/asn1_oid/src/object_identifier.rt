@@ -77,8 +77,9 @@ impl ObjectIdentifier {
         })
     }
 
-    /// Reads an identifier from its contents octets (X.690 8.19). `Memory` is returned only for octets that are
-    /// otherwise valid. Room for one more arc than there are octets is requested before they are read, and is kept.
+    /// Reads an identifier from its contents octets (X.690 8.19). `Memory` is returned only for
+    /// octets that are otherwise valid. Room for one more arc than there are octets is requested
+    /// before they are read, and is kept.
     pub fn from_contents<S: OctetSource>(
         alloc: Global,
         source: &S,
@@ -136,8 +137,8 @@ impl ObjectIdentifier {
         self.as_ref() == arcs
     }
 
-    /// The same identifier. Arcs that are borrowed for good stay borrowed; others are copied. Refused for want of
-    /// memory alone.
+    /// The same identifier. Arcs that are borrowed for good stay borrowed; others are copied.
+    /// Refused for want of memory alone.
     pub fn clone(&self) -> Result<ObjectIdentifier, AllocError>
         ensures { IfOk result (λ copy. copy ≡ self.now) }
     {

@@ -77,7 +77,8 @@ impl<'a> Oid<'a> {
     /// How many octets its contents have; None where it has one arc.
     pub fn contents_len(&self) -> Option<u128>
         ensures len { MatchOption result (length (arcs_of self.now) ≡ 1)
-            (λ len. (octets : List ℕ) × IsContents (arcs_of self.now) octets × (len ≡ length octets)) }
+            (λ len. (octets : List ℕ) × IsContents (arcs_of self.now) octets
+            × (len ≡ length octets)) }
         ensures bound { IfSome result (λ len. len ≤ 5 * length (arcs_of self.now)) }
     {
         let (number, arcs) = self.subidentifiers()?;

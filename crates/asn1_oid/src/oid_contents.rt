@@ -12,8 +12,8 @@ use std::marker::Model;
 /// An iterator over the octets of an identifier's contents that are left, in their order.
 #[derive(Debug, Drop)]
 pub struct OidContents<'a> {
-    // The octets of the current subidentifier that are left, the first in the lowest eight bits; their number; and the
-    // arcs behind it.
+    // The octets of the current subidentifier that are left, the first in the lowest eight bits;
+    // their number; and the arcs behind it.
     octets: u64,
     left: u32,
     arcs: &'a [u32],
@@ -27,8 +27,8 @@ impl<'a> Model for OidContents<'a> {
     ghost invariant = { λ s. s.left ≤ 5 };
 }
 
-/// The number of octets of a subidentifier: its binary digits divided by seven, rounded up, and at least one (X.690
-/// 8.19.2).
+/// The number of octets of a subidentifier: its binary digits divided by seven, rounded up, and at
+/// least one (X.690 8.19.2).
 pub(crate) fn octet_count(number: u64) -> u32
     requires { number < 2 ^ 35 }
     ensures digits { HasDigits number result }
@@ -47,7 +47,8 @@ pub(crate) fn octet_count(number: u64) -> u32
     }
 }
 
-/// The octets of the subidentifier of a number, the first in the lowest eight bits, and how many they are.
+/// The octets of the subidentifier of a number, the first in the lowest eight bits, and how many
+/// they are.
 fn octets_in_word(number: u64) -> (u64, u32)
     requires { number < 2 ^ 35 }
     ensures digits { HasDigits number result.1 }
@@ -95,14 +96,17 @@ impl<'a> OidContents<'a> {
         OidContents { octets, left, arcs }
     }
 
-    /// Appends the octets that are left to the vector, faster than pushing each. It reserves once, five octets an arc,
-    /// which may be more than they take. If memory fails, the vector's octets stay.
+    /// Appends the octets that are left to the vector, faster than pushing each. It reserves once,
+    /// five octets an arc, which may be more than they take. If memory fails, the vector's octets
+    /// stay.
     pub fn append_to(self, octets: &mut Vec<u8>) -> Result<(), AllocError>
         ensures ok { OnOk result (octets.new.items ≡ octets.old.items ++ self.entry) }
         ensures err { OnErr result (octets.new.items ≡ octets.old.items) }
-        // Of no octets it asks for no memory, nor where there is room for five times the octets that are left.
+        // Of no octets it asks for no memory, nor where there is room for five times the octets
+        // that are left.
         ensures free { self.entry ≡ [] → IsOk result }
-        ensures in_room { vec_len octets.old + 5 * length self.entry ≤ vec_capacity octets.old → IsOk result }
+        ensures in_room { vec_len octets.old + 5 * length self.entry ≤ vec_capacity octets.old
+            → IsOk result }
     {
         let OidContents {
             octets: word,

@@ -22,9 +22,9 @@ pub record Alphabet : Type 0 where
   pub indexed : Bool
   pub origin : Origin
 
--- Whether the permitted alphabet takes effect: where the unrestricted type is itself written by index (`NumericString`),
--- or where a code of the unrestricted type is wider than one of the permitted alphabet. `count` is how many characters it
--- has.
+-- Whether the permitted alphabet takes effect: where the unrestricted type is itself written by
+-- index (`NumericString`), or where a code of the unrestricted type is wider than one of the
+-- permitted alphabet. `count` is how many characters it has.
 abbrev pub keeps : CharacterSetName → Bool → ℕ → Bool
 keeps name aligned count =
     base_indexed name || nat_lt (align aligned (ceil_log2 (max count 1))) (base_width name)
@@ -34,7 +34,8 @@ abbrev pub kept_set : CharacterSetName → Option (List ℕ) → Bool → Option
 kept_set name None aligned = None
 kept_set name (Some set) aligned = if keeps name aligned (length set) then Some set else None
 
--- The effective alphabet: the permitted alphabet where it takes effect, else all characters of the type.
+-- The effective alphabet: the permitted alphabet where it takes effect, else all characters of the
+-- type.
 abbrev pub counting_set : CharacterSetName → Option (List ℕ) → List ℕ
 counting_set name None = base_set name
 counting_set name (Some set) = set
@@ -96,6 +97,7 @@ Decodes alphabet k result =
     MatchResult result (λ c. IsCode alphabet c k)
     (λ e. (e ≡ uncoded_error alphabet k) × ((c : ℕ) → ¬ (IsCode alphabet c k)))
 
--- the set is ascending, no character below the one before it, and long enough for a search by halves
+-- the set is ascending, no character below the one before it, and long enough for a search by
+-- halves
 abbrev pub IsLongAscending : List ℕ → Type 0
 IsLongAscending set = IsNonDecreasing set × (64 < length set)

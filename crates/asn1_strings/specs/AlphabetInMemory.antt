@@ -24,20 +24,22 @@ pub record HasWords (set : List ℕ) (words : CharacterWords) : Type 0 where
   pub below : largest set < 256
   pub same : (c : ℕ) → c < 256 → in_words words.words c ≡ has_character set c
 
--- At least one character; each is one more than the one before it; and one more than the last is still below 2^32.
+-- At least one character; each is one more than the one before it; and one more than the last is
+-- still below 2^32.
 pub record IsRun (set : List ℕ) : Type 0 where
   pub some : 0 < length set
   pub gapless : set ≡ range_with_len (slice_index set 0) (length set)
   pub ends : slice_index set 0 + length set < 2 ^ 32
 
--- whether a set is seen to leave no gap: a permitted set wherever it leaves none, a base set exactly
--- where it lies in memory
+-- whether a set is seen to leave no gap: a permitted set wherever it leaves none, a base set
+-- exactly where it lies in memory
 abbrev pub IsSeenRun : CharacterSetName → Option (List ℕ) → Bool → Type 0
 IsSeenRun name kept run =
     ((set : List ℕ) → kept ≡ Some set → IsRun set → run ≡ true) × (kept ≡ None → run ≡ is_listed name)
 
--- What the fields of an alphabet say of the set that counts. `ascending` is of permitted sets alone: a
--- base set needs no search, since none that is written by places has more than 64 characters.
+-- What the fields of an alphabet say of the set that counts. `ascending` is of permitted sets
+-- alone: a base set needs no search, since none that is written by places has more than 64
+-- characters.
 pub record IsKnown (name : CharacterSetName) (kept : Bool) (set : Bor (List ℕ)) (width : ℕ)
     (indexed ascending run : Bool) (words : Option CharacterWords) : Type 0 where
   pub narrow : width ≤ 32

@@ -51,9 +51,9 @@ string_of_keys name get keys =
     option_map_or (λ k. Err (key_error name k (get k))) (find (is_wrong_key name get) keys)
     (Ok (filter_map get keys))
 
--- How bits are read by a map of n entries. They are cut into pieces of ceil_log2 n bits. If the map's largest character
--- needs more bits than that, each piece is a key and stands for the character that the map has there; otherwise each piece
--- is the character itself.
+-- How bits are read by a map of n entries. They are cut into pieces of ceil_log2 n bits. If the
+-- map's largest character needs more bits than that, each piece is a key and stands for the
+-- character that the map has there; otherwise each piece is the character itself.
 abbrev pub string_of_map : CharacterSetName → KeyMap → List Bool → Reading
 string_of_map name m bits =
     let w = ceil_log2 m.count in

@@ -63,8 +63,9 @@ Refuses (IndexNotFound i) read = read ≡ Err (IndexNotFound i)
 Refuses (CharacterNotFound c) read = read ≡ Err (CharacterNotFound c)
 Refuses (InvalidRestrictedString e) read = read ≡ Err (InvalidRestrictedString e)
 
--- A result answers a reading: `Ok` of a string whose characters (`view`) are those read; or the very refusal that was
--- read; or `Memory`, and then only if a string with at least one character was to be made.
+-- A result answers a reading: `Ok` of a string whose characters (`view`) are those read; or the
+-- very refusal that was read; or `Memory`, and then only if a string with at least one character
+-- was to be made.
 abbrev pub Answers : {S : Type 0} → (S → List ℕ) → Result S PermittedAlphabetError → Reading →
     Type 0
 Answers view (Ok s) read = read ≡ Ok (view s)

@@ -17,8 +17,8 @@ use asn1_characters::{
     CharacterSetName, CharacterWords, InvalidRestrictedString, PermittedAlphabetError,
 };
 
-/// Whether characters of a set are written by their places in `width` bits, since its largest character does not fit
-/// them. The largest of no characters is 0. `width` is at most 31.
+/// Whether characters of a set are written by their places in `width` bits, since its largest
+/// character does not fit them. The largest of no characters is 0. `width` is at most 31.
 pub fn should_be_indexed(width: u32, set: &[u32]) -> bool
     requires { width ≤ 31 }
     ensures { result ≡ is_indexed width set.now }
@@ -26,8 +26,8 @@ pub fn should_be_indexed(width: u32, set: &[u32]) -> bool
     1 << width <= largest_of(set)
 }
 
-/// An alphabet: a set of characters, their width in bits, and whether a character is written by its place in the set or
-/// by its value. No call allocates.
+/// An alphabet: a set of characters, their width in bits, and whether a character is written by its
+/// place in the set or by its value. No call allocates.
 #[derive(Clone, Copy, Debug)]
 pub struct CharacterAlphabet<'s> {
     name: CharacterSetName,
@@ -51,9 +51,10 @@ pub struct CharacterAlphabet<'s> {
 impl<'s> CharacterAlphabet<'s> {
     ghost use Rattle.asn1_strings.specs.AlphabetView.{alphabet_of};
 
-    /// The alphabet of the string `S` with a permitted set. The permitted set is effective if `S` is written by places
-    /// or needs more bits than the set does; else the base set is. An effective permitted set may hold characters that
-    /// the base set lacks. The permitted set has at most 2^32 characters.
+    /// The alphabet of the string `S` with a permitted set. The permitted set is effective if `S`
+    /// is written by places or needs more bits than the set does; else the base set is. An
+    /// effective permitted set may hold characters that the base set lacks. The permitted set has
+    /// at most 2^32 characters.
     #[inline(always)]
     pub fn new<S: StaticPermittedAlphabet>(
         permitted: Option<&'s [u32]>,
@@ -124,8 +125,8 @@ impl<'s> CharacterAlphabet<'s> {
         self.encode_counted(character, &mut Turns::new())
     }
 
-    /// `encode` with a counter of probes. In an ascending set of more than 64 characters it makes at most w + 1 probes,
-    /// where w is the least width in which its characters have codes.
+    /// `encode` with a counter of probes. In an ascending set of more than 64 characters it makes
+    /// at most w + 1 probes, where w is the least width in which its characters have codes.
     #[inline(always)]
     pub fn encode_counted(
         &self,
@@ -254,8 +255,8 @@ impl<'s> CharacterAlphabet<'s> {
         }
     }
 
-    /// Whether the set has the character: by its ends where it leaves no gap, by its words where it has
-    /// any.
+    /// Whether the set has the character: by its ends where it leaves no gap, by its words where it
+    /// has any.
     #[inline(always)]
     fn contains(&self, character: u32, probes: &mut Turns) -> bool
         ensures value { result ≡ has_character (alphabet_of self.now).characters character }
@@ -321,8 +322,8 @@ impl<'s> CharacterAlphabet<'s> {
     }
 }
 
-/// A place of the character: by halves where the list is long and ascending, else one by one. It sees the list
-/// through looks alone.
+/// A place of the character: by halves where the list is long and ascending, else one by one. It
+/// sees the list through looks alone.
 #[inline(always)]
 fn place_among<L: Entries>(
     entries: &mut L,
@@ -441,8 +442,8 @@ fn words_of(
     }
 }
 
-// How the effective set lies in memory: whether it is a permitted set, and whether it is known to leave no gap. In both
-// cases `set` lists it.
+// How the effective set lies in memory: whether it is a permitted set, and whether it is known to
+// leave no gap. In both cases `set` lists it.
 #[derive(Clone, Copy)]
 struct Listing<'s> {
     kept: bool,

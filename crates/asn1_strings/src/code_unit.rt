@@ -13,7 +13,8 @@ use std::alloc::{AllocError, Global};
 use std::cmp::Ordering;
 use std::fmt;
 
-/// An integer in which a string keeps one character: `u16` in `BmpString`, `u8` in the other strings.
+/// An integer in which a string keeps one character: `u16` in `BmpString`, `u8` in the other
+/// strings.
 pub trait CodeUnit: Copy + Drop + fmt::Debug {
     /// The character.
     ghost value: { Self → ℕ };
@@ -36,7 +37,8 @@ pub trait CodeUnit: Copy + Drop + fmt::Debug {
         requires { character < limit }
         ensures { value result ≡ character };
 
-    /// Whether the set has each character of these octets. No early exit, so that the loop vectorises.
+    /// Whether the set has each character of these octets. No early exit, so that the loop
+    /// vectorises.
     fn are_in(name: CharacterSetName, octets: &[u8]) -> bool
         requires { OCTETS ≡ character_octets name }
         ensures { IsTrue result ↔ All (λ c. has_character (base_set name) c ≡ true)
@@ -150,8 +152,8 @@ impl CodeUnit for u16 {
     ghost few_octets = { lit≤ tt };
 }
 
-/// Whether all octets are in `first..=last`. It takes the greatest `octet.wrapping_sub(first)`: octets below `first`
-/// wrap to large values.
+/// Whether all octets are in `first..=last`. It takes the greatest `octet.wrapping_sub(first)`:
+/// octets below `first` wrap to large values.
 fn lie_between(octets: &[u8], first: u8, last: u8) -> bool
     requires { first ≤ last }
     ensures { IsTrue result ↔ All (λ c. (first ≤ c) × (c ≤ last)) octets.now }

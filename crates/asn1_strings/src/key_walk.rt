@@ -32,7 +32,8 @@ pub(crate) fn string_at_keys<'a, S: StaticPermittedAlphabet, M: Keys>(
     }
 }
 
-/// The units of the characters at these keys, read in one walk; None where one is wrong or memory is refused.
+/// The units of the characters at these keys, read in one walk; None where one is wrong or memory
+/// is refused.
 #[inline(always)]
 fn units_at_keys<'a, S: StaticPermittedAlphabet, M: Keys>(
     alloc: Global,
@@ -116,8 +117,8 @@ fn is_in(name: CharacterSetName, character: u32) -> bool
     }
 }
 
-/// Keys per 64-bit word. Rounded down to a multiple of 8 if at least 8 fit, so that every word starts at the same bit
-/// offset.
+/// Keys per 64-bit word. Rounded down to a multiple of 8 if at least 8 fit, so that every word
+/// starts at the same bit offset.
 #[inline(always)]
 fn keys_in_word(width: usize) -> usize
     requires some { 1 ≤ width }

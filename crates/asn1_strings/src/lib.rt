@@ -1,9 +1,10 @@
-//! The eight restricted character strings and permitted alphabets of ASN.1, over the base sets and octet strings of
-//! `asn1_characters`, which are passed on.
+//! The eight restricted character strings and permitted alphabets of ASN.1, over the base sets and
+//! octet strings of `asn1_characters`, which are passed on.
 //!
-//! A string is a list of characters, each in the base set of its kind (X.680 41). It is read from its contents
-//! (X.690 8.21), a text, bits or an alphabet, whole and in order, or refused by its first wrong piece. An alphabet
-//! gives a character the code that X.691 30.5 names, and takes no memory.
+//! A string is a list of characters, each in the base set of its kind (X.680 41). It is read from
+//! its contents (X.690 8.21), a text, bits or an alphabet, whole and in order, or refused by its
+//! first wrong piece. An alphabet gives a character the code that X.691 30.5 names, and takes no
+//! memory.
 #![tactic(auto)]
 
 mod alphabet;

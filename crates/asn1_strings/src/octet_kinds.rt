@@ -68,8 +68,8 @@ impl<K: Iso646> RestrictedString<K> {
         String::from_utf8(self.into_vec()).unwrap()
     }
 
-    /// The characters as octets, without a copy. If memory for their reference count is refused, which the empty string
-    /// does not need, the string comes back.
+    /// The characters as octets, without a copy. If memory for their reference count is refused,
+    /// which the empty string does not need, the string comes back.
     pub fn into_octet_string(self) -> Result<OctetString, Self>
         ensures octets { IfOk result (λ octets. octets ≡ self) }
         ensures back { IfErr result (λ s. s ≡ self) }

@@ -69,7 +69,8 @@ pub(crate) fn is_ascending(set: &[u32]) -> bool
     true
 }
 
-/// Whether some characters follow one another without a gap, below 2^32. No early exit, so that the loop vectorises.
+/// Whether some characters follow one another without a gap, below 2^32. No early exit, so that the
+/// loop vectorises.
 pub(crate) fn is_run(set: &[u32]) -> bool
     ensures { IsTrue result ↔ IsRun set.now }
 {

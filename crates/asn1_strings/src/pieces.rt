@@ -26,7 +26,8 @@ impl<'a> OctetPieces<'a> {
     /// The character at a place.
     pub(crate) fn character(&self, i: usize) -> u32
         requires { i < length (map unsigned (pieces self.now.width self.now.octets.now)) }
-        ensures { result ≡ slice_index (map unsigned (pieces self.now.width self.now.octets.now)) i }
+        ensures { result
+            ≡ slice_index (map unsigned (pieces self.now.width self.now.octets.now)) i }
     {
         unsigned_of(piece_of(self.octets, self.width, i))
     }
@@ -52,7 +53,8 @@ impl<'a> BitPieces<'a> {
     /// The character at a place.
     pub(crate) fn character(&self, i: usize) -> u32
         requires { i < length (map number (pieces self.now.width (bits_of self.now.bits))) }
-        ensures { result ≡ slice_index (map number (pieces self.now.width (bits_of self.now.bits))) i }
+        ensures { result ≡ slice_index (map number (pieces self.now.width (bits_of self.now.bits)))
+            i }
     {
         let _len = self.bits.len();
         let piece = self.bits.slice(i * self.width, self.width);

@@ -28,8 +28,8 @@ impl Run {
         }
     }
 
-    /// A place of the character: its distance from the first, which is one probe. A character below the first wraps to
-    /// a distance past the last.
+    /// A place of the character: its distance from the first, which is one probe. A character below
+    /// the first wraps to a distance past the last.
     #[inline(always)]
     pub(crate) fn place(self, character: u32, probes: &mut Turns) -> Option<u32>
         ensures place { let set = range_with_len self.first self.count in

@@ -11,7 +11,8 @@ pub trait Entries {
     /// The list.
     ghost list: { Self → List ℕ };
 
-    /// The number of calls of `entry`. Implement it as the `count` of a `Turns` field that `entry` ticks.
+    /// The number of calls of `entry`. Implement it as the `count` of a `Turns` field that `entry`
+    /// ticks.
     ghost looks: { Self → ℕ };
 
     /// How many entries it has.
@@ -65,7 +66,8 @@ impl<'a> Entries for Looks<'a> {
     }
 }
 
-/// The first place of the character, and None where the list lacks it: entry by entry, each a look and a probe.
+/// The first place of the character, and None where the list lacks it: entry by entry, each a look
+/// and a probe.
 pub(crate) fn find_one_by_one<L: Entries>(
     entries: &mut L,
     character: u32,

@@ -22,10 +22,10 @@ use std::collections::BTreeMap;
 
 /// A restricted character string (X.680 41): a list of characters, each in the string's base set.
 ///
-/// The calls that read a string examine the whole input, whatever memory there is. They refuse it by
-/// `Other`, `InvalidData` or the first wrong character, in this order, and by `Memory` only what would
-/// else be a string that is not empty. Those that read bits ask for room for all characters before they
-/// look at the first.
+/// The calls that read a string examine the whole input, whatever memory there is. They refuse it
+/// by `Other`, `InvalidData` or the first wrong character, in this order, and by `Memory` only what
+/// would else be a string that is not empty. Those that read bits ask for room for all characters
+/// before they look at the first.
 pub trait StaticPermittedAlphabet: Sized + Drop {
     ghost use Rattle.asn1_characters.specs.declared.character_set.CharacterSetName.{CharacterSetName};
     ghost use Rattle.asn1_characters.specs.declared.character_set.CharacterRanges.{CharacterRanges};
@@ -76,8 +76,8 @@ pub trait StaticPermittedAlphabet: Sized + Drop {
         ensures ok { OnOk result (characters self.new ≡ characters self.old ++ character ∷ []) }
         ensures err { OnErr result (characters self.new ≡ characters self.old) };
 
-    /// Reserves room for so many more characters; for 0 it allocates nothing. The string stays, also if memory is
-    /// refused.
+    /// Reserves room for so many more characters; for 0 it allocates nothing. The string stays,
+    /// also if memory is refused.
     fn reserve(&mut self, additional: usize) -> Result<(), AllocError>
         ensures same { characters self.new ≡ characters self.old }
         ensures memory { OnErr result (additional ≢ 0) };
@@ -268,8 +268,8 @@ pub trait StaticPermittedAlphabet: Sized + Drop {
         c < Self.T.limit };
 }
 
-/// The string of characters of `width` octets each, one by one: they are examined first, then memory is requested. Cold
-/// path: input is mostly right and of the string's own width.
+/// The string of characters of `width` octets each, one by one: they are examined first, then
+/// memory is requested. Cold path: input is mostly right and of the string's own width.
 #[inline(never)]
 fn string_of_pieces<S: StaticPermittedAlphabet>(
     alloc: Global,

@@ -26,11 +26,11 @@ pub data Shape : Type 0 where
   OfCountedInteger : Shape
   OfIdentifier : ℕ → Shape
 
--- the field is spelled by the bits: a number by its binary digits in its width, octets by their bits, bits by
--- themselves, an integer by the bits of its shortest octets (X.690 8.3), a character by the digits of a code in the
--- width of its alphabet (X.691 30.5), a counted integer by the bits of one octet with the number of its shortest octets,
--- at most 127, and of these (the short form of a length, X.690 8.1.3.4, and contents), an identifier by the bits of its
--- contents (X.690 8.19)
+-- the field is spelled by the bits: a number by its binary digits in its width, octets by their
+-- bits, bits by themselves, an integer by the bits of its shortest octets (X.690 8.3), a character
+-- by the digits of a code in the width of its alphabet (X.691 30.5), a counted integer by the bits
+-- of one octet with the number of its shortest octets, at most 127, and of these (the short form of
+-- a length, X.690 8.1.3.4, and contents), an identifier by the bits of its contents (X.690 8.19)
 abbrev pub IsSpelledBy : Field → List Bool → Type 0
 IsSpelledBy (Number value width) list = (width ≤ 128) × (value < 2 ^ width) × (list ≡ digits value width)
 IsSpelledBy (Octets octets) list = All (λ octet. octet < 256) octets × (list ≡ bits octets)
@@ -57,7 +57,8 @@ IsOfShape (CountedInteger n) OfCountedInteger = ⊤
 IsOfShape (Identifier arcs) (OfIdentifier count) = HasContentsLength arcs count
 IsOfShape field shape = ⊥
 
--- the octets of the field's contents, if it is an identifier, are so few that a shape can name their number
+-- the octets of the field's contents, if it is an identifier, are so few that a shape can name
+-- their number
 abbrev pub HasShape : Field → Type 0
 HasShape (Identifier arcs) = (octets : List ℕ) → IsContents arcs octets → length octets < 2 ^ 64
 HasShape field = ⊤
@@ -107,7 +108,8 @@ pub record Begins (list : List Bool) (shapes : List Shape) (fields : List Field)
 
 -- ---- alphabets that repeat a character
 
--- no character has two codes, as where the alphabet is not written by places, or repeats no character
+-- no character has two codes, as where the alphabet is not written by places, or repeats no
+-- character
 abbrev pub GivesOneCodeEach : Alphabet → Type 0
 GivesOneCodeEach alphabet = (c j k : ℕ) → IsCode alphabet c j → IsCode alphabet c k → j ≡ k
 

@@ -10,7 +10,8 @@ pub mod Walk
 pub mod Steps
 -- Laws of these words, for the proofs of this crate and of those above it; no contract cites them.
 pub mod SpellingLaws
--- The words of the crates below that contracts of their public calls cite, so that a user's contracts name this crate alone.
+-- The words of the crates below that contracts of their public calls cite, so that a user's
+-- contracts name this crate alone.
 pub use Rattle.asn1_bits.specs.Bits
 pub use Rattle.asn1_bits.specs.View
 pub use Rattle.asn1_bits.specs.BitStr

@@ -35,8 +35,8 @@ plain_shape (shapes.Oid octets) = plain.OfIdentifier octets
 abbrev pub plain_shapes : List Shape → List plain.Shape
 plain_shapes ss = map plain_shape ss
 
--- the field was read at this bit of the view's storage: octets are borrowed exactly where it begins an octet, and bits
--- are a view of the same storage from this bit on
+-- the field was read at this bit of the view's storage: octets are borrowed exactly where it begins
+-- an octet, and bits are a view of the same storage from this bit on
 abbrev pub LiesAt : View → ℕ → Field → Type 0
 LiesAt view at (fields.Octets octets) = IsBorrowed octets ↔ (at % 8 ≡ 0)
 LiesAt view at (fields.Bits b) = ((view_of b).storage ≡ view.storage) × ((view_of b).first ≡ at)

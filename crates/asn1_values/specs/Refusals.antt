@@ -8,8 +8,8 @@ use Rattle.asn1_values.specs.declared.bit_fields.error.WriteError.TheVariants as
 use Rattle.asn1_values.specs.Fields.{Field, Shape, AreSpelledBy}
 use Rattle.asn1_values.specs.Wrong.{NumberWidth, NotInteger, Short, NoCharacter, NoLength, NotIdentifier, ArcOver, WidthOver, PastWidth, NotInAlphabet, PastLength, TooFewArcs, CanBegin, IsFirstFault, IsFirstMisfit}
 
--- reading fields of these shapes is refused by the first wrong field, with its reason; where none is wrong, for want of
--- memory
+-- reading fields of these shapes is refused by the first wrong field, with its reason; where none
+-- is wrong, for want of memory
 abbrev pub IsReadRefusal : List Bool → List Shape → ReadError → Type 0
 IsReadRefusal list shapes (reading.NumberWidth field width) = IsFirstFault list shapes field (NumberWidth width)
 IsReadRefusal list shapes (reading.Integer field) = IsFirstFault list shapes field NotInteger
@@ -20,8 +20,9 @@ IsReadRefusal list shapes (reading.Identifier field) = IsFirstFault list shapes 
 IsReadRefusal list shapes (reading.Arc field) = IsFirstFault list shapes field ArcOver
 IsReadRefusal list shapes reading.Memory = CanBegin list shapes
 
--- writing these fields behind n bits is refused by the first that doesn't fit, with its reason; where all fit, for the
--- new length; and for want of memory only where the new length fits and an octet is added
+-- writing these fields behind n bits is refused by the first that doesn't fit, with its reason;
+-- where all fit, for the new length; and for want of memory only where the new length fits and an
+-- octet is added
 abbrev pub IsWriteRefusal : ℕ → List Field → WriteError → Type 0
 IsWriteRefusal n fields (writing.NumberWidth field width) = IsFirstMisfit fields field (WidthOver width)
 IsWriteRefusal n fields (writing.Number field) = IsFirstMisfit fields field PastWidth
@@ -38,8 +39,8 @@ IsWriteRefusal n fields writing.Memory =
 abbrev pub IsPast : ℕ → ℕ → Type 0
 IsPast n place = (n < place) ⊎ (2 ^ 64 ≤ place)
 
--- writing these fields over n bits, from a place on, is refused by the first that doesn't fit, with its reason; where
--- all fit, for the place that they end at; and never for want of memory
+-- writing these fields over n bits, from a place on, is refused by the first that doesn't fit, with
+-- its reason; where all fit, for the place that they end at; and never for want of memory
 abbrev pub IsWriteAtRefusal : ℕ → ℕ → List Field → WriteError → Type 0
 IsWriteAtRefusal n place fields (writing.NumberWidth field width) = IsFirstMisfit fields field (WidthOver width)
 IsWriteAtRefusal n place fields (writing.Number field) = IsFirstMisfit fields field PastWidth

@@ -68,7 +68,8 @@ pub record Examines {A : Type 0} (at : ℕ) (read : Result (Field × List Bool) 
   pub ok : OnOk result (past at read ≡ Ok (bits_left new))
   pub err : IfErr result (λ e. past at read ≡ Err e)
 
--- a field of the shape was read from the front of the bits that were left, and stands behind the others
+-- a field of the shape was read from the front of the bits that were left, and stands behind the
+-- others
 pub record Appends (shape : Shape) (old new : BitReader) (before after : List InMemory) : Type 0 where
   pub field : InMemory
   pub appended : after ≡ before ++ field ∷ []
@@ -77,8 +78,8 @@ pub record Appends (shape : Shape) (old new : BitReader) (before after : List In
   pub rest : (list : List Bool) → IsSpelledBy (plain_field field) list
       → view_left new ≡ part (view_left old) (length list) ((view_left old).len - length list)
 
--- this happened, in room that was there; or the error names the fault of the field at this place, where it is not want of
--- memory
+-- the next field was read so, without growth; or the error names the fault of the field at this
+-- place, unless memory was wanting
 pub record AppendsNext {Z : Type 0} (shape : Shape) (at : ℕ) (old new : BitReader) (before after : Vec InMemory Z)
     (result : Result Unit ReadError) : Type 0 where
   pub read : OnOk result (Appends shape old new (vec_items before) (vec_items after))
@@ -112,7 +113,8 @@ NamesFirstMisfit fields writing.Memory = ⊥
 abbrev pub Spelling : Type 1
 Spelling = Field → List Bool → Type 0
 
--- the field takes the bits: they spell it, or they are as many as spell a character of its alphabet, which may lack it
+-- the field takes the bits: they spell it, or they are as many as spell a character of its
+-- alphabet, which may lack it
 abbrev pub TakesBits : Spelling
 TakesBits (Character alphabet c) list = length list ≡ alphabet.width
 TakesBits field list = IsSpelledBy field list
@@ -131,8 +133,8 @@ pub record Measures (at : ℕ) (field : Field) (result : Result ℕ WriteError) 
   pub ok : IfOk result (FitsIn field)
   pub err : IfErr result (NamesMisfit at field)
 
--- the fields all have bits of such a kind, with them the start becomes an end, and n is the end, or the greatest number
--- that the sum takes
+-- the fields all have bits of such a kind, with them the start becomes an end, and n is the end, or
+-- the greatest number that the sum takes
 pub record EndsAt (P : Spelling) (start : ℕ) (fields : List Field) (n : ℕ) : Type 0 where
   pub end : ℕ
   pub list : List Bool
@@ -221,11 +223,11 @@ pub record WritesOver (list : List Bool) (place : ℕ) (old new : List Bool) (ne
   pub written : new ≡ overwritten old place list
   pub end : next ≡ place + length list
 
--- the spelling of the field was
+-- the spelling of the field was written over them
 abbrev pub Overwrites : Field → ℕ → List Bool → List Bool → ℕ → Type 0
 Overwrites field place old new next = (list : List Bool) × IsSpelledBy field list × WritesOver list place old new next
 
--- the spellings of the fields were, one after another
+-- the spellings of the fields were written over them, one after another
 abbrev pub OverwritesAll : List Field → ℕ → List Bool → List Bool → ℕ → Type 0
 OverwritesAll fields place old new next =
     (list : List Bool) × AreSpelledBy fields list × WritesOver list place old new next

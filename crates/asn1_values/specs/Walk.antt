@@ -1,5 +1,5 @@
--- A list of bits taken apart field by field, as the code does it; it stops at the field that is not there. No public
--- contract cites this.
+-- A list of bits taken apart field by field, as the code does it; it stops at the field that is not
+-- there. No public contract cites this.
 use Rattle.std.specs.Prelude.{ℕ, zero, suc, ◌-◌, ◌*◌, ◌==◌, ◌||◌, ◌&&◌, Bool, List, [], ◌∷◌, length, take, drop, slice_get, Option, Some, None, Result, Ok, Err, nat_lt, if◌then◌else◌}
 use Rattle.asn1_bits.specs.Bits.{number}
 use Rattle.asn1_number.specs.Octets.{signed}

@@ -1,4 +1,5 @@
--- Words of the crates below, passed on for definitions and contracts that stand on this crate. Declares nothing.
+-- Words of the crates below, passed on for definitions and contracts that stand on this crate.
+-- Declares nothing.
 unfoldable pub use Rattle.asn1_bits.specs.Bits.{bits, digits, overwritten}
 pub use Rattle.asn1_bits.specs.Bits.{number, octets_for, padded}
 pub use Rattle.asn1_bits.specs.NumberLaws.{number-digits, same_octets}

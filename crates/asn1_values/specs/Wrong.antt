@@ -75,7 +75,8 @@ IsReason shape left fault = ⊥
 abbrev pub CanBegin : List Bool → List Shape → Type 0
 CanBegin list shapes = (fields : List Field) × (rest : List Bool) × Begins list shapes fields rest
 
--- i is the least place such that no fields of the shapes up to it begin the list, and the fault is its reason
+-- i is the least place such that no fields of the shapes up to it begin the list, and the fault is
+-- its reason
 pub record IsFirstFault (list : List Bool) (shapes : List Shape) (i : ℕ) (fault : Fault) : Type 0 where
   pub within : i < length shapes
   pub wrong : CanBegin list (take (i + 1) shapes) → ⊥

@@ -1,5 +1,6 @@
-//! Bit fields: numbers, octets, bits, integers, counted integers, identifiers and characters, written one after another
-//! behind the bits of a buffer or over those of octets, and read back from any bit of a storage.
+//! Bit fields: numbers, octets, bits, integers, counted integers, identifiers and characters,
+//! written one after another behind the bits of a buffer or over those of octets, and read back
+//! from any bit of a storage.
 
 mod bits;
 mod character;

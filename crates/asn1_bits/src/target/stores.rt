@@ -113,9 +113,9 @@ pub(super) fn or_short(dst: &mut [u8], position: usize, word: u64, width: usize)
     }
 }
 
-/// Writes eight octets from octet `position / 8` on. All bits from `position` on are zero, and the word has no digit
-/// before that bit. Only the partial first octet is loaded. It is added after the byte swap, since the bits do not
-/// overlap: consecutive pushes depend on one load and one add.
+/// Writes eight octets from octet `position / 8` on. All bits from `position` on are zero, and the
+/// word has no digit before that bit. Only the partial first octet is loaded. It is added after the
+/// byte swap, since the bits do not overlap: consecutive pushes depend on one load and one add.
 #[inline]
 pub(super) fn add_octets(dst: &mut [u8], position: usize, word: u64)
     requires below { word < 2 ^ (64 - position % 8) }
@@ -129,8 +129,8 @@ pub(super) fn add_octets(dst: &mut [u8], position: usize, word: u64)
     set_octets(dst, first, (begun + turned).to_le_bytes());
 }
 
-/// Writes a number of `width` digits over zeros from bit `position` on. They lie within eight octets of the slice: one
-/// octet is loaded and eight are stored.
+/// Writes a number of `width` digits over zeros from bit `position` on. They lie within eight
+/// octets of the slice: one octet is loaded and eight are stored.
 #[inline(always)]
 pub(super) fn put_word(dst: &mut [u8], position: usize, word: u64, width: usize)
     requires some { 0 < width }
@@ -143,7 +143,8 @@ pub(super) fn put_word(dst: &mut [u8], position: usize, word: u64, width: usize)
     add_octets(dst, position, word << (64 - width - position % 8));
 }
 
-/// Writes a number over zeros from bit `position` on. Its digits lie within sixteen octets of the slice.
+/// Writes a number over zeros from bit `position` on. Its digits lie within sixteen octets of the
+/// slice.
 #[inline(always)]
 pub(super) fn put_pair(dst: &mut [u8], position: usize, number: u128, width: usize)
     requires some { 0 < width }
@@ -159,7 +160,8 @@ pub(super) fn put_pair(dst: &mut [u8], position: usize, number: u128, width: usi
     set_octets(dst, position / 8 + 8, low.to_be_bytes());
 }
 
-/// ORs the lowest `width` digits of the word in from the first bit of an octet on, of which there are at most eight.
+/// ORs the lowest `width` digits of the word in from the first bit of an octet on, of which there
+/// are at most eight.
 #[inline]
 pub(super) fn or_front(dst: &mut [u8], octet: usize, word: u64, width: usize)
     requires width { width ≤ 8 }
@@ -173,7 +175,8 @@ pub(super) fn or_front(dst: &mut [u8], octet: usize, word: u64, width: usize)
     dst[octet] |= octets[0];
 }
 
-/// Replaces `width` digits of the word, from digit `shift` on, by the lowest digits of another word.
+/// Replaces `width` digits of the word, from digit `shift` on, by the lowest digits of another
+/// word.
 #[inline(always)]
 fn replaced(old: u64, word: u64, shift: usize, width: usize) -> u64
     requires some { 0 < width }
@@ -185,8 +188,8 @@ fn replaced(old: u64, word: u64, shift: usize, width: usize) -> u64
     old - there + moved
 }
 
-/// Writes the lowest `width` digits of the word over the bits from bit `position` on: some digits, in eight octets that
-/// are there.
+/// Writes the lowest `width` digits of the word over the bits from bit `position` on: some digits,
+/// in eight octets that are there.
 #[inline(always)]
 fn set_within_eight(dst: &mut [u8], position: usize, word: u64, width: usize)
     requires some { 0 < width }

@@ -26,7 +26,8 @@ pub(super) fn fitting_len(bits: &BitStr<'_>) -> u128
 #[inline(always)]
 pub(super) fn push(appender: &mut BitAppender<'_>, bits: &BitStr<'_>, turns: &mut Turns)
     requires { HasRoomFor (plain.Bits (bits_of bits.now)) (room appender.old) }
-    ensures { PushesOne (plain.Bits (bits_of bits.now)) appender.old appender.new turns.old.count turns.new.count }
+    ensures { PushesOne (plain.Bits (bits_of bits.now)) appender.old appender.new turns.old.count
+        turns.new.count }
 {
     appender.push_bitslice(*bits, turns);
 }
@@ -34,7 +35,8 @@ pub(super) fn push(appender: &mut BitAppender<'_>, bits: &BitStr<'_>, turns: &mu
 /// Writes bits over what is there, and answers with the bit behind them.
 pub(super) fn overwrite(target: &mut [u8], position: usize, view: &BitStr<'_>) -> usize
     requires { FitsWithin (8 * length target.old) position (plain.Bits (bits_of view.now)) }
-    ensures { Overwrites (plain.Bits (bits_of view.now)) position (bits target.old) (bits target.new) result }
+    ensures { Overwrites (plain.Bits (bits_of view.now)) position (bits target.old)
+        (bits target.new) result }
 {
     overwrite_view(target, position, *view)
 }
@@ -56,7 +58,8 @@ pub(super) fn examine<'a>(
     length: usize,
     field: usize,
 ) -> Result<BitReader<'a>, ReadError>
-    ensures examined { Examines field (field_at (plain.OfBits length) (bits_left reader.old)) reader.new result }
+    ensures examined { Examines field (field_at (plain.OfBits length) (bits_left reader.old))
+        reader.new result }
     ensures taken { IfOk result (λ front. Takes length reader.old reader.new front) }
 {
     take_bits(reader, length as u128, field)
@@ -71,7 +74,8 @@ pub(super) fn append<'a>(
     field: usize,
 ) -> Result<(), ReadError>
     requires { vec_len fields.old < vec_capacity fields.old }
-    ensures { AppendsNext (plain.OfBits length) field reader.old reader.new fields.old fields.new result }
+    ensures { AppendsNext (plain.OfBits length) field reader.old reader.new fields.old fields.new
+        result }
 {
     let front = examine(reader, length, field)?;
     fields.push_reserved(Field::Bits(front.bits()));

@@ -39,11 +39,13 @@ pub(super) fn push(
     character: u32,
     turns: &mut Turns,
 ) -> Option<()>
-    requires { HasRoomFor (plain.Character (alphabet_of alphabet.now) character) (room appender.old) }
+    requires { HasRoomFor (plain.Character (alphabet_of alphabet.now) character)
+        (room appender.old) }
     ensures pushed { OnSome result (PushesOne (plain.Character (alphabet_of alphabet.now) character)
         appender.old appender.new turns.old.count turns.new.count) }
     ensures refused { IfNone result
-        (PushesNone (plain.Character (alphabet_of alphabet.now) character) appender.old appender.new) }
+        (PushesNone (plain.Character (alphabet_of alphabet.now) character) appender.old
+        appender.new) }
 {
     match alphabet.encode(character) {
         Ok(code) => {
@@ -81,8 +83,10 @@ pub(super) fn examine(
     field: usize,
 ) -> Result<u32, ReadError>
     ensures examined { Examines field
-        (field_at (plain.OfCharacter (alphabet_of alphabet.now)) (bits_left reader.old)) reader.new result }
-    ensures read { IfOk result (λ c. field_at (plain.OfCharacter (alphabet_of alphabet.now)) (bits_left reader.old)
+        (field_at (plain.OfCharacter (alphabet_of alphabet.now)) (bits_left reader.old)) reader.new
+        result }
+    ensures read { IfOk result
+        (λ c. field_at (plain.OfCharacter (alphabet_of alphabet.now)) (bits_left reader.old)
         ≡ Ok (plain.Character (alphabet_of alphabet.now) c, bits_left reader.new)) }
     ensures moved { OnOk result (Moves (alphabet_of alphabet.now).width reader.old reader.new) }
 {
@@ -116,7 +120,8 @@ pub(super) fn append<'a, 's>(
 #[inline(never)]
 fn store<'a, 's>(fields: &mut Vec<Field<'a, 's>>, character: u32, alphabet: &CharacterAlphabet<'s>)
     requires { vec_len fields.old < vec_capacity fields.old }
-    ensures kept { fields.new.items ≡ fields.old.items ++ Field.Character character alphabet.now ∷ [] }
+    ensures kept { fields.new.items
+        ≡ fields.old.items ++ Field.Character character alphabet.now ∷ [] }
     ensures len { vec_len fields.new ≡ vec_len fields.old + 1 }
     ensures capacity { vec_capacity fields.new ≡ vec_capacity fields.old }
 {

@@ -1,4 +1,5 @@
-//! An integer as a field, behind the octet that counts its shortest octets (the short form of a length, X.690 8.1.3.4).
+//! An integer as a field, behind the octet that counts its shortest octets (the short form of a
+//! length, X.690 8.1.3.4).
 
 ghost use Rattle.std.specs.Prelude.{Err, ◌+◌, ◌*◌, ◌<◌, length, IfOk, Ok, take, vec_len, vec_capacity};
 ghost use Rattle.asn1_bits.specs.BitAppender.{room};
@@ -43,21 +44,23 @@ pub(super) fn push(appender: &mut BitAppender<'_>, number: &Integer, turns: &mut
 /// Writes a counted integer over what is there, and answers with the bit behind it.
 pub(super) fn overwrite(target: &mut [u8], position: usize, number: &Integer) -> usize
     requires { FitsWithin (8 * length target.old) position (plain.CountedInteger number.now) }
-    ensures { Overwrites (plain.CountedInteger number.now) position (bits target.old) (bits target.new) result }
+    ensures { Overwrites (plain.CountedInteger number.now) position (bits target.old)
+        (bits target.new) result }
 {
     let next = overwrite_digits(target, position, number.signed_len() as u128, 8);
     overwrite_shortest(target, next, number)
 }
 
-/// Goes past a counted integer, and gives the octets behind its first, if that is 1 to 127, and so many octets are the
-/// shortest of a number.
+/// Goes past a counted integer, and gives the octets behind its first, if that is 1 to 127, and so
+/// many octets are the shortest of a number.
 #[inline(always)]
 #[tactic(auto, unfolding(crate::specs::Walk::field_at, crate::specs::Walk::counted_at))]
 pub(super) fn examine<'a>(
     reader: &mut BitReader<'a>,
     field: usize,
 ) -> Result<BitReader<'a>, ReadError>
-    ensures examined { Examines field (field_at plain.OfCountedInteger (bits_left reader.old)) reader.new result }
+    ensures examined { Examines field (field_at plain.OfCountedInteger (bits_left reader.old))
+        reader.new result }
     ensures taken { IfOk result (TakesCounted reader.old reader.new) }
 {
     let octet = take_bits(reader, 8, field)?.first_u128(8) as u8;
@@ -76,7 +79,8 @@ pub(super) fn append<'a>(
     field: usize,
 ) -> Result<(), ReadError>
     requires { vec_len fields.old < vec_capacity fields.old }
-    ensures { AppendsNext plain.OfCountedInteger field reader.old reader.new fields.old fields.new result }
+    ensures { AppendsNext plain.OfCountedInteger field reader.old reader.new fields.old fields.new
+        result }
 {
     let front = examine(reader, field)?;
     let number = integer_of(alloc, &front)?;

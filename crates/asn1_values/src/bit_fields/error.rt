@@ -15,8 +15,8 @@ pub enum WriteError {
     /// A character that its alphabet has no code for.
     #[error("field {field}: character {character} is not in the alphabet")]
     Character { field: usize, character: u32 },
-    /// Every field fits, but the new length passes `usize::MAX` bits, or the fields would end behind the octets that
-    /// are written over.
+    /// Every field fits, but the new length passes `usize::MAX` bits, or the fields would end
+    /// behind the octets that are written over.
     #[error("too many bits")]
     TooLong,
     /// Every field fits, but there is no memory.

@@ -29,7 +29,8 @@ pub(super) fn examine_all(reader: BitReader<'_>, shapes: &[Shape<'_>]) -> Result
 #[inline(always)]
 #[tactic(auto, unfolding(crate::specs::Walk::field_at))]
 fn examine(reader: &mut BitReader<'_>, shape: &Shape<'_>, field: usize) -> Result<(), ReadError>
-    ensures { Examines field (field_at (plain_shape shape.now) (bits_left reader.old)) reader.new result }
+    ensures { Examines field (field_at (plain_shape shape.now) (bits_left reader.old)) reader.new
+        result }
 {
     match shape {
         Shape::Number { width } => {

@@ -19,8 +19,8 @@ use asn1_bits::{BitAppender, BitReader, Turns};
 use asn1_oid::{ContentsError, ObjectIdentifier, OidContents, check_contents};
 use std::alloc::{AllocError, Global};
 
-/// How many bits the contents have, if the identifier has two arcs. A function of its own, so that the result's stack
-/// slot is initialised only for identifiers.
+/// How many bits the contents have, if the identifier has two arcs. A function of its own, so that
+/// the result's stack slot is initialised only for identifiers.
 #[inline(always)]
 pub(super) fn fitting_len(oid: &ObjectIdentifier, place: usize) -> Result<u128, WriteError>
     ensures { Measures place (plain.Identifier oid.now) result }
@@ -52,7 +52,8 @@ fn arcs_fit(arcs: &[u32])
 #[inline(never)]
 pub(super) fn push(appender: &mut BitAppender<'_>, oid: &ObjectIdentifier, turns: &mut Turns)
     requires { HasRoomFor (plain.Identifier oid.now) (room appender.old) }
-    ensures { PushesOne (plain.Identifier oid.now) appender.old appender.new turns.old.count turns.new.count }
+    ensures { PushesOne (plain.Identifier oid.now) appender.old appender.new turns.old.count
+        turns.new.count }
 {
     match oid.as_oid().contents() {
         Some(octets) => push_each(appender, octets, turns),
@@ -85,7 +86,8 @@ fn push_each(appender: &mut BitAppender<'_>, octets: OidContents<'_>, turns: &mu
 /// Writes the contents of an identifier over what is there, and answers with the bit behind them.
 pub(super) fn overwrite(target: &mut [u8], position: usize, oid: &ObjectIdentifier) -> usize
     requires { FitsWithin (8 * length target.old) position (plain.Identifier oid.now) }
-    ensures { Overwrites (plain.Identifier oid.now) position (bits target.old) (bits target.new) result }
+    ensures { Overwrites (plain.Identifier oid.now) position (bits target.old) (bits target.new)
+        result }
 {
     match oid.as_oid().contents() {
         Some(octets) => overwrite_each(target, position, octets),
@@ -113,7 +115,8 @@ pub(super) fn examine<'a>(
     octet_count: usize,
     field: usize,
 ) -> Result<BitReader<'a>, ReadError>
-    ensures examined { Examines field (field_at (plain.OfIdentifier octet_count) (bits_left reader.old))
+    ensures examined { Examines field
+        (field_at (plain.OfIdentifier octet_count) (bits_left reader.old))
         reader.new result }
     ensures taken { IfOk result (λ front. Takes (8 * octet_count) reader.old reader.new front) }
 {
@@ -140,7 +143,8 @@ pub(super) fn append<'a>(
     field: usize,
 ) -> Result<(), ReadError>
     requires { vec_len fields.old < vec_capacity fields.old }
-    ensures { AppendsNext (plain.OfIdentifier octets) field reader.old reader.new fields.old fields.new result }
+    ensures { AppendsNext (plain.OfIdentifier octets) field reader.old reader.new fields.old
+        fields.new result }
 {
     let front = examine(reader, octets, field)?;
     let oid = identifier_of(alloc, &front)?;
@@ -152,7 +156,8 @@ pub(super) fn append<'a>(
 #[inline(never)]
 fn identifier_of(alloc: Global, reader: &BitReader<'_>) -> Result<ObjectIdentifier, AllocError>
     ensures { IfOk result (λ arcs.
-        contents_reading (octets_of ((view_left reader.now).len / 8) (bits_left reader.now)) ≡ Ok arcs) }
+        contents_reading (octets_of ((view_left reader.now).len / 8) (bits_left reader.now))
+        ≡ Ok arcs) }
 {
     let octets = ViewOctets {
         bits: reader.bits(),

@@ -29,7 +29,8 @@ pub(super) fn fitting_len(number: &Integer) -> u128
 #[inline(always)]
 pub(super) fn push(appender: &mut BitAppender<'_>, number: &Integer, turns: &mut Turns)
     requires { HasRoomFor (plain.Integer number.now) (room appender.old) }
-    ensures { PushesOne (plain.Integer number.now) appender.old appender.new turns.old.count turns.new.count }
+    ensures { PushesOne (plain.Integer number.now) appender.old appender.new turns.old.count
+        turns.new.count }
 {
     push_shortest(appender, number, turns);
 }
@@ -37,7 +38,8 @@ pub(super) fn push(appender: &mut BitAppender<'_>, number: &Integer, turns: &mut
 /// Pushes the shortest octets of a number, which fit the room: up to sixteen of them as one number.
 #[inline(always)]
 pub(super) fn push_shortest(appender: &mut BitAppender<'_>, number: &Integer, turns: &mut Turns)
-    requires { (octets : List ℕ) → IsShortest number.now octets → 8 * length octets ≤ room appender.old }
+    requires { (octets : List ℕ) → IsShortest number.now octets → 8 * length octets
+        ≤ room appender.old }
     ensures lender { lender_of appender.new ≡ lender_of appender.old }
     ensures pushed { (octets : List ℕ) → IsShortest number.now octets
         → PushesOctets octets appender.old appender.new turns.old.count turns.new.count }
@@ -54,7 +56,8 @@ pub(super) fn push_shortest(appender: &mut BitAppender<'_>, number: &Integer, tu
 /// The path of `push_shortest` for more than sixteen octets. Not inlined, since it is rare.
 #[inline(never)]
 fn push_long(appender: &mut BitAppender<'_>, number: &Integer, turns: &mut Turns)
-    requires { (octets : List ℕ) → IsShortest number.now octets → 8 * length octets ≤ room appender.old }
+    requires { (octets : List ℕ) → IsShortest number.now octets → 8 * length octets
+        ≤ room appender.old }
     ensures lender { lender_of appender.new ≡ lender_of appender.old }
     ensures pushed { (octets : List ℕ) → IsShortest number.now octets
         → PushesOctets octets appender.old appender.new turns.old.count turns.new.count }
@@ -65,7 +68,8 @@ fn push_long(appender: &mut BitAppender<'_>, number: &Integer, turns: &mut Turns
 /// Writes an integer over what is there, and answers with the bit behind it.
 pub(super) fn overwrite(target: &mut [u8], position: usize, number: &Integer) -> usize
     requires { FitsWithin (8 * length target.old) position (plain.Integer number.now) }
-    ensures { Overwrites (plain.Integer number.now) position (bits target.old) (bits target.new) result }
+    ensures { Overwrites (plain.Integer number.now) position (bits target.old) (bits target.new)
+        result }
 {
     overwrite_shortest(target, position, number)
 }
@@ -80,8 +84,8 @@ pub(super) fn overwrite_shortest(target: &mut [u8], position: usize, number: &In
     overwrite_octets(target, position, number.signed_octets().as_ref())
 }
 
-/// Goes past an integer, and gives its octets, if they are the shortest of a number: if the first nine of their bits are
-/// not all alike (X.690 8.3.2), or there is one octet.
+/// Goes past an integer, and gives its octets, if they are the shortest of a number: if the first
+/// nine of their bits are not all alike (X.690 8.3.2), or there is one octet.
 #[inline(always)]
 #[tactic(auto, unfolding(crate::specs::Walk::integer_at, crate::specs::Walk::cut_at))]
 pub(super) fn examine<'a>(
@@ -116,7 +120,8 @@ pub(super) fn append<'a>(
     field: usize,
 ) -> Result<(), ReadError>
     requires { vec_len fields.old < vec_capacity fields.old }
-    ensures { AppendsNext (plain.OfInteger octets) field reader.old reader.new fields.old fields.new result }
+    ensures { AppendsNext (plain.OfInteger octets) field reader.old reader.new fields.old fields.new
+        result }
 {
     let front = examine(reader, octets, field)?;
     let number = integer_of(alloc, &front)?;
@@ -124,8 +129,8 @@ pub(super) fn append<'a>(
     Ok(())
 }
 
-/// The two's complement value of the octets that the reader has left (X.690 8.3.3), one at least. Up to sixteen are read
-/// as a word, and take no memory; without an octet it is refused.
+/// The two's complement value of the octets that the reader has left (X.690 8.3.3), one at least.
+/// Up to sixteen are read as a word, and take no memory; without an octet it is refused.
 #[inline(always)]
 pub fn integer_of(alloc: Global, reader: &BitReader<'_>) -> Result<Integer, AllocError>
     requires whole { (view_left reader.now).len % 8 ≡ 0 }
@@ -139,7 +144,8 @@ pub fn integer_of(alloc: Global, reader: &BitReader<'_>) -> Result<Integer, Allo
     copied_integer_of(alloc, reader)
 }
 
-/// Copies the reader before the call of `integer_of` that is not inlined, so that the original stays in registers.
+/// Copies the reader before the call of `integer_of` that is not inlined, so that the original
+/// stays in registers.
 #[inline(always)]
 fn copied_integer_of(alloc: Global, reader: &BitReader<'_>) -> Result<Integer, AllocError>
     requires whole { (view_left reader.now).len % 8 ≡ 0 }

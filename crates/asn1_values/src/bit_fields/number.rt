@@ -46,7 +46,8 @@ fn fitting_wide(value: u128, width: usize, place: usize) -> Result<u128, WriteEr
 #[inline(always)]
 pub(super) fn push(appender: &mut BitAppender<'_>, value: u128, width: usize, turns: &mut Turns)
     requires { HasRoomFor (plain.Number value width) (room appender.old) }
-    ensures { PushesOne (plain.Number value width) appender.old appender.new turns.old.count turns.new.count }
+    ensures { PushesOne (plain.Number value width) appender.old appender.new turns.old.count
+        turns.new.count }
 {
     appender.push_number(value, width, turns);
 }
@@ -54,12 +55,14 @@ pub(super) fn push(appender: &mut BitAppender<'_>, value: u128, width: usize, tu
 /// Writes a number over what is there, and answers with the bit behind it.
 pub(super) fn overwrite(target: &mut [u8], position: usize, value: u128, width: usize) -> usize
     requires { FitsWithin (8 * length target.old) position (plain.Number value width) }
-    ensures { Overwrites (plain.Number value width) position (bits target.old) (bits target.new) result }
+    ensures { Overwrites (plain.Number value width) position (bits target.old) (bits target.new)
+        result }
 {
     overwrite_digits(target, position, value, width)
 }
 
-/// Writes the lowest `width` binary digits of a number over what is there, and answers with the bit behind them.
+/// Writes the lowest `width` binary digits of a number over what is there, and answers with the bit
+/// behind them.
 pub(super) fn overwrite_digits(
     target: &mut [u8],
     position: usize,
@@ -82,7 +85,8 @@ pub(super) fn examine(
     width: usize,
     field: usize,
 ) -> Result<u128, ReadError>
-    ensures examined { Examines field (field_at (plain.OfNumber width) (bits_left reader.old)) reader.new result }
+    ensures examined { Examines field (field_at (plain.OfNumber width) (bits_left reader.old))
+        reader.new result }
     ensures read { IfOk result (λ n. field_at (plain.OfNumber width) (bits_left reader.old)
         ≡ Ok (plain.Number n width, bits_left reader.new)) }
     ensures moved { OnOk result (Moves width reader.old reader.new) }
@@ -103,7 +107,8 @@ pub(super) fn append<'a>(
     field: usize,
 ) -> Result<(), ReadError>
     requires { vec_len fields.old < vec_capacity fields.old }
-    ensures { AppendsNext (plain.OfNumber width) field reader.old reader.new fields.old fields.new result }
+    ensures { AppendsNext (plain.OfNumber width) field reader.old reader.new fields.old fields.new
+        result }
 {
     let value = examine(reader, width, field)?;
     fields.push_reserved(Field::Number { value, width });

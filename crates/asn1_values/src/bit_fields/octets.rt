@@ -37,7 +37,8 @@ pub(super) fn push(appender: &mut BitAppender<'_>, octets: &Octets<'_>, turns: &
 /// Writes octets over what is there, and answers with the bit behind them.
 pub(super) fn overwrite(target: &mut [u8], position: usize, octets: &Octets<'_>) -> usize
     requires { FitsWithin (8 * length target.old) position (plain.Octets (octets_in octets.now)) }
-    ensures { Overwrites (plain.Octets (octets_in octets.now)) position (bits target.old) (bits target.new) result }
+    ensures { Overwrites (plain.Octets (octets_in octets.now)) position (bits target.old)
+        (bits target.new) result }
 {
     overwrite_octets(target, position, octets.as_ref())
 }
@@ -58,7 +59,8 @@ pub(super) fn examine<'a>(
     count: usize,
     field: usize,
 ) -> Result<BitReader<'a>, ReadError>
-    ensures examined { Examines field (field_at (plain.OfOctets count) (bits_left reader.old)) reader.new result }
+    ensures examined { Examines field (field_at (plain.OfOctets count) (bits_left reader.old))
+        reader.new result }
     ensures taken { IfOk result (λ front. Takes (8 * count) reader.old reader.new front) }
 {
     take_bits(reader, 8 * count as u128, field)
@@ -74,7 +76,8 @@ pub(super) fn append<'a>(
     field: usize,
 ) -> Result<(), ReadError>
     requires { vec_len fields.old < vec_capacity fields.old }
-    ensures { AppendsNext (plain.OfOctets count) field reader.old reader.new fields.old fields.new result }
+    ensures { AppendsNext (plain.OfOctets count) field reader.old reader.new fields.old fields.new
+        result }
 {
     let octets = examine(reader, count, field)?.octets(alloc)?;
     fields.push_reserved(Field::Octets(octets));

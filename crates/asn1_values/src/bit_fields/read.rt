@@ -21,9 +21,10 @@ use super::{bits, character, counted_integer, identifier, integer, number, octet
 use asn1_bits::BitReader;
 use std::alloc::Global;
 
-/// Reads a field of each shape from the front of the reader, which moves past them. If one is refused, the reader
-/// stays. It first asks for room for all fields; copied octets, long integers and identifiers allocate their own. Want
-/// of memory is the last refusal: if memory fails, the rest is examined without memory.
+/// Reads a field of each shape from the front of the reader, which moves past them. If one is
+/// refused, the reader stays. It first asks for room for all fields; copied octets, long integers
+/// and identifiers allocate their own. Want of memory is the last refusal: if memory fails, the
+/// rest is examined without memory.
 pub fn read_fields<'a, 's>(
     alloc: Global,
     reader: &mut BitReader<'a>,
@@ -39,9 +40,10 @@ pub fn read_fields<'a, 's>(
     // Where any fields begin them, only memory can be wanting.
     ensures accepted { CanBegin (bits_left reader.old) (plain_shapes shapes.now)
         → IsOkUnless result ReadError.Memory }
-    // The fields' concatenation, which is one list where no alphabet gives a character two codes, is the front that
-    // was read.
-    ensures front_read { GiveOneSpelling (plain_shapes shapes.now) → IfOk result (λ fields. (front : List Bool)
+    // The fields' concatenation, which is one list where no alphabet gives a character two codes,
+    // is the front that was read.
+    ensures front_read { GiveOneSpelling (plain_shapes shapes.now)
+        → IfOk result (λ fields. (front : List Bool)
         → AreSpelledBy (plain_fields fields.items) front
         → bits_left reader.old ≡ front ++ bits_left reader.new) }
     ensures one_spelling { GiveOneSpelling (plain_shapes shapes.now)
@@ -52,27 +54,30 @@ pub fn read_fields<'a, 's>(
         → AreSpelledBy (plain_fields fields.items) front
         → view_left reader.new ≡ part (view_left reader.old) (length front)
         ((view_left reader.old).len - length front)) }
-    // Octets are borrowed exactly where they lie on octet boundaries of the storage; bits are a view of it, from their
-    // own first bit on.
+    // Octets are borrowed exactly where they lie on octet boundaries of the storage; bits are a
+    // view of it, from their own first bit on.
     ensures places { IfOk result (λ fields. LieFrom (view_left reader.old) fields.items) }
 
-    // A refusal names the first wrong field, with its reason; where none is wrong, it is want of memory. The refusal is
-    // unique: if a field is wrong, exactly that field is named, independent of allocation.
-    ensures refused { IfErr result (IsReadRefusal (bits_left reader.old) (plain_shapes shapes.now)) }
+    // A refusal names the first wrong field, with its reason; where none is wrong, it is want of
+    // memory. The refusal is unique: if a field is wrong, exactly that field is named, independent
+    // of allocation.
+    ensures refused { IfErr result
+        (IsReadRefusal (bits_left reader.old) (plain_shapes shapes.now)) }
     ensures named { (e : ReadError) → e ≢ ReadError.Memory
         → IsReadRefusal (bits_left reader.old) (plain_shapes shapes.now) e → result ≡ Err e }
     ensures unchanged { OnErr result (view_left reader.new ≡ view_left reader.old) }
     ensures no_shapes { shapes.now ≡ [] → IsOk result }
 
-    // No spelling of a field begins that of another field of the same shape. So no concatenation for these shapes
-    // begins another one of other fields, and each spells one list of fields.
+    // No spelling of a field begins that of another field of the same shape. So no concatenation
+    // for these shapes begins another one of other fields, and each spells one list of fields.
     ensures each_alone { AllByRecursion NoSpellingBeginsAnother (plain_shapes shapes.now) }
     ensures none_begins_another { NoneBeginsAnother (plain_shapes shapes.now) }
     ensures one_list { (xs ys : List plain.Field) (list : List Bool)
-        → AllZip IsOfShape xs (plain_shapes shapes.now) → AllZip IsOfShape ys (plain_shapes shapes.now)
+        → AllZip IsOfShape xs (plain_shapes shapes.now)
+        → AllZip IsOfShape ys (plain_shapes shapes.now)
         → AreSpelledBy xs list → AreSpelledBy ys list → xs ≡ ys }
-    // Where each shape has its number of bits, concatenations for them are equally long, and the reader moves by as
-    // many bits.
+    // Where each shape has its number of bits, concatenations for them are equally long, and the
+    // reader moves by as many bits.
     ensures equally_long { (xs : List plain.Field) (list : List Bool)
         → AllZip IsOfShape xs (plain_shapes shapes.now) → AreSpelledBy xs list
         → IfSome (needs (plain_shapes shapes.now)) (λ n. length list ≡ n) }
@@ -89,12 +94,13 @@ pub fn read_fields<'a, 's>(
     }
 }
 
-/// Picks the refusal to report. If allocation failed, it examines the fields without memory, since a wrong field takes
-/// precedence over `Memory`.
+/// Picks the refusal to report. If allocation failed, it examines the fields without memory, since
+/// a wrong field takes precedence over `Memory`.
 #[cold]
 #[inline(never)]
 fn refusal_of(reader: BitReader<'_>, shapes: &[Shape<'_>], met: ReadError) -> ReadError
-    requires { met ≢ ReadError.Memory → IsReadRefusal (bits_left reader) (plain_shapes shapes.now) met }
+    requires { met ≢ ReadError.Memory
+        → IsReadRefusal (bits_left reader) (plain_shapes shapes.now) met }
     ensures { IsReadRefusal (bits_left reader.entry) (plain_shapes shapes.now) result }
 {
     match met {
@@ -113,7 +119,8 @@ fn collect<'a, 's>(
     reader: &mut BitReader<'a>,
     shapes: &[Shape<'s>],
 ) -> Result<Vec<Field<'a, 's>>, ReadError>
-    ensures fields { IfOk result (λ fields. fields_at (plain_shapes shapes.now) (bits_left reader.old)
+    ensures fields { IfOk result
+        (λ fields. fields_at (plain_shapes shapes.now) (bits_left reader.old)
         ≡ Ok (plain_fields fields.items, bits_left reader.new)) }
     ensures places { IfOk result (λ fields. LieFrom (view_left reader.old) fields.items) }
     ensures rest { IfOk result (λ fields. (front : List Bool)
@@ -143,7 +150,8 @@ fn append_next<'a, 's>(
     field: usize,
 ) -> Result<(), ReadError>
     requires { vec_len fields.old < vec_capacity fields.old }
-    ensures { AppendsNext (plain_shape shape.now) field reader.old reader.new fields.old fields.new result }
+    ensures { AppendsNext (plain_shape shape.now) field reader.old reader.new fields.old fields.new
+        result }
 {
     match shape {
         Shape::Number { width } => number::append(fields, reader, *width, field),

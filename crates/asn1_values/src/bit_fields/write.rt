@@ -15,9 +15,10 @@ use super::field::Field;
 use super::{bits, character, counted_integer, identifier, integer, number, octets};
 use asn1_bits::{BitAppender, BitBuffer, Turns};
 
-/// Appends the fields' bits to the buffer, one after another, in one growth. If a field does not fit, or memory fails,
-/// the buffer's bits stay; want of memory is the last refusal. Codes of characters are looked up after the growth, so a
-/// list that is refused for a character may leave the buffer with more capacity.
+/// Appends the fields' bits to the buffer, one after another, in one growth. If a field does not
+/// fit, or memory fails, the buffer's bits stay; want of memory is the last refusal. Codes of
+/// characters are looked up after the growth, so a list that is refused for a character may leave
+/// the buffer with more capacity.
 pub fn write_fields(buffer: &mut BitBuffer, fields: &[Field<'_, '_>]) -> Result<(), WriteError>
     // The old bits are followed by a concatenation of the fields' spellings.
     ensures written { OnOk result ((list : List Bool) × AreSpelledBy (plain_fields fields.now) list
@@ -27,8 +28,8 @@ pub fn write_fields(buffer: &mut BitBuffer, fields: &[Field<'_, '_>]) -> Result<
         → (list : List Bool) → AreSpelledBy (plain_fields fields.now) list
         → OnOk result (buffer.new ≡ buffer.old ++ list) }
 
-    // Where all fit, it is refused for the new length exactly where that passes `usize::MAX`, and else for memory alone,
-    // which is asked for only where an octet is added.
+    // Where all fit, it is refused for the new length exactly where that passes `usize::MAX`, and
+    // else for memory alone, which is asked for only where an octet is added.
     ensures too_long { (list : List Bool) → AreSpelledBy (plain_fields fields.now) list
         → 2 ^ 64 ≤ length buffer.old + length list → result ≡ Err WriteError.TooLong }
     ensures accepted { (list : List Bool) → AreSpelledBy (plain_fields fields.now) list
@@ -37,8 +38,9 @@ pub fn write_fields(buffer: &mut BitBuffer, fields: &[Field<'_, '_>]) -> Result<
         → length buffer.old + length list < 2 ^ 64 → AddsNoOctet (length buffer.old) (length list)
         → IsOk result }
 
-    // A refusal names the first field that doesn't fit, with its reason; where all fit, the new length or memory. The
-    // refusal is unique: if a cause other than memory applies, exactly that one is named, independent of allocation.
+    // A refusal names the first field that doesn't fit, with its reason; where all fit, the new
+    // length or memory. The refusal is unique: if a cause other than memory applies, exactly that
+    // one is named, independent of allocation.
     ensures refused { IfErr result (IsWriteRefusal (length buffer.old) (plain_fields fields.now)) }
     ensures named { (e : WriteError) → e ≢ WriteError.Memory
         → IsWriteRefusal (length buffer.old) (plain_fields fields.now) e → result ≡ Err e }
@@ -70,7 +72,8 @@ pub fn write_fields_counted(
         → IsWriteRefusal (length buffer.old) (plain_fields fields.now) e → result ≡ Err e }
     ensures unchanged { OnErr result (buffer.new ≡ buffer.old) }
 
-    // For b bits of F fields it takes at least b / 64 turns, rounded up, and at most b / 64 + 8 * F.
+    // For b bits of F fields it takes at least b / 64 turns, rounded up, and at most b / 64 + 8 *
+    // F.
     ensures turns_at_least { (list : List Bool) → AreSpelledBy (plain_fields fields.now) list
         → OnOk result (turns.old.count + div_ceil (length list) 64 ≤ turns.new.count) }
     ensures turns_at_most { (list : List Bool) → AreSpelledBy (plain_fields fields.now) list
@@ -83,15 +86,18 @@ pub fn write_fields_counted(
     }
 }
 
-/// Appends the fields' bits. `None` if a field or the new length does not fit, or memory fails; then nothing has
-/// changed. Characters are checked when their code is pushed, to avoid a second lookup.
+/// Appends the fields' bits. `None` if a field or the new length does not fit, or memory fails;
+/// then nothing has changed. Characters are checked when their code is pushed, to avoid a second
+/// lookup.
 #[inline(always)]
 fn append_all(buffer: &mut BitBuffer, fields: &[Field<'_, '_>], turns: &mut Turns) -> Option<()>
-    ensures written { OnSome result ((list : List Bool) × AreSpelledBy (plain_fields fields.now) list
+    ensures written { OnSome result
+        ((list : List Bool) × AreSpelledBy (plain_fields fields.now) list
         × (buffer.new ≡ buffer.old ++ list)) }
     ensures fits { OnSome result ((list : List Bool) → AreSpelledBy (plain_fields fields.now) list
         → length buffer.old + length list < 2 ^ 64) }
-    ensures counted { OnSome result (TakeTurns (plain_fields fields.now) turns.old.count turns.new.count) }
+    ensures counted { OnSome result
+        (TakeTurns (plain_fields fields.now) turns.old.count turns.new.count) }
     ensures refused { IfNone result (CanBeRefused (length buffer.old) (plain_fields fields.now)) }
     ensures unchanged { IfNone result (buffer.new ≡ buffer.old) }
     ensures uncounted { IfNone result (turns.new.count ≡ turns.old.count) }
@@ -104,8 +110,8 @@ fn append_all(buffer: &mut BitBuffer, fields: &[Field<'_, '_>], turns: &mut Turn
     push_or_back(buffer, end as usize - len, fields, turns)
 }
 
-/// Appends the fields' bits, which lead to length `end`. `None` if a character is not in its alphabet, or memory fails;
-/// then nothing has changed.
+/// Appends the fields' bits, which lead to length `end`. `None` if a character is not in its
+/// alphabet, or memory fails; then nothing has changed.
 #[inline(always)]
 fn push_or_back(
     buffer: &mut BitBuffer,
@@ -114,11 +120,14 @@ fn push_or_back(
     turns: &mut Turns,
 ) -> Option<()>
     requires room { HaveRoom (plain_fields fields.now) additional }
-    requires all { (list : List Bool) → AreSpelledBy (plain_fields fields.now) list → length list ≡ additional }
+    requires all { (list : List Bool) → AreSpelledBy (plain_fields fields.now) list → length list
+        ≡ additional }
     requires fits { length buffer.old + additional < 2 ^ 64 }
-    ensures written { OnSome result ((list : List Bool) × AreSpelledBy (plain_fields fields.now) list
+    ensures written { OnSome result
+        ((list : List Bool) × AreSpelledBy (plain_fields fields.now) list
         × (buffer.new ≡ buffer.old ++ list)) }
-    ensures counted { OnSome result (TakeTurns (plain_fields fields.now) turns.old.count turns.new.count) }
+    ensures counted { OnSome result
+        (TakeTurns (plain_fields fields.now) turns.old.count turns.new.count) }
     ensures refused { IfNone result (CanBeRefused (length buffer.old) (plain_fields fields.now)) }
     ensures unchanged { IfNone result (buffer.new ≡ buffer.old) }
     ensures uncounted { IfNone result (turns.new.count ≡ turns.old.count) }
@@ -140,7 +149,8 @@ fn push_or_back(
     }
 }
 
-/// Picks the refusal to report: the first field that does not fit, else the new length, else want of memory.
+/// Picks the refusal to report: the first field that does not fit, else the new length, else want
+/// of memory.
 #[cold]
 #[inline(never)]
 fn refusal_of(len: usize, fields: &[Field<'_, '_>]) -> WriteError
@@ -160,12 +170,13 @@ fn refusal_of(len: usize, fields: &[Field<'_, '_>]) -> WriteError
     }
 }
 
-/// The length behind the fields, without checking that characters have codes. `None` if a field of another kind does
-/// not fit.
+/// The length behind the fields, without checking that characters have codes. `None` if a field of
+/// another kind does not fit.
 #[inline(always)]
 fn end_of(len: usize, fields: &[Field<'_, '_>]) -> Option<u128>
     ensures some { IfSome result (EndsAt TakesBits len (plain_fields fields.now)) }
-    ensures none { IfNone result ((list : List Bool) → AreSpelledBy (plain_fields fields.now) list → ⊥) }
+    ensures none { IfNone result
+        ((list : List Bool) → AreSpelledBy (plain_fields fields.now) list → ⊥) }
 {
     let mut end = len as u128;
     for field in fields {
@@ -174,8 +185,8 @@ fn end_of(len: usize, fields: &[Field<'_, '_>]) -> Option<u128>
     Some(end)
 }
 
-/// The number of a field's bits: the alphabet's width for a character; for another kind the bits that spell it, if it
-/// fits.
+/// The number of a field's bits: the alphabet's width for a character; for another kind the bits
+/// that spell it, if it fits.
 #[inline(always)]
 fn len_of(field: &Field<'_, '_>) -> Option<u128>
     ensures some { IfSome result (HasLength TakesBits (plain_field field.now)) }
@@ -187,7 +198,8 @@ fn len_of(field: &Field<'_, '_>) -> Option<u128>
     }
 }
 
-/// The length behind the fields, if all fit. The sum saturates at `u128::MAX`, and later fields are still examined.
+/// The length behind the fields, if all fit. The sum saturates at `u128::MAX`, and later fields are
+/// still examined.
 #[inline(always)]
 pub(super) fn new_len(len: usize, fields: &[Field<'_, '_>]) -> Result<u128, WriteError>
     ensures ok { IfOk result (EndsAt IsSpelledBy len (plain_fields fields.now)) }
@@ -248,10 +260,13 @@ fn push_all(
 ) -> Option<()>
     requires { HaveRoom (plain_fields fields.now) (room appender.old) }
     ensures lender { lender_of appender.new ≡ lender_of appender.old }
-    ensures kept { (list : List Bool) × (bits_written appender.new ≡ bits_written appender.old ++ list) }
+    ensures kept { (list : List Bool)
+        × (bits_written appender.new ≡ bits_written appender.old ++ list) }
     ensures pushed { OnSome result (PushesAll (plain_fields fields.now) appender.old appender.new) }
-    ensures counted { OnSome result (TakeTurns (plain_fields fields.now) turns.old.count turns.new.count) }
-    ensures lacking { IfNone result ((list : List Bool) → AreSpelledBy (plain_fields fields.now) list → ⊥) }
+    ensures counted { OnSome result
+        (TakeTurns (plain_fields fields.now) turns.old.count turns.new.count) }
+    ensures lacking { IfNone result
+        ((list : List Bool) → AreSpelledBy (plain_fields fields.now) list → ⊥) }
 {
     for field in fields {
         push(appender, field, turns)?;
@@ -264,7 +279,8 @@ fn push_all(
 fn push(appender: &mut BitAppender<'_>, field: &Field<'_, '_>, turns: &mut Turns) -> Option<()>
     requires { HasRoomFor (plain_field field.now) (room appender.old) }
     ensures pushed { OnSome result
-        (PushesOne (plain_field field.now) appender.old appender.new turns.old.count turns.new.count) }
+        (PushesOne (plain_field field.now) appender.old appender.new turns.old.count
+        turns.new.count) }
     ensures refused { IfNone result (PushesNone (plain_field field.now) appender.old appender.new) }
 {
     match field {

@@ -12,33 +12,41 @@ use super::field::Field;
 use super::write::new_len;
 use super::{bits, character, counted_integer, identifier, integer, number, octets};
 
-/// Writes the fields' bits over those of the octets from bit `position` on, one after another, and leaves every other
-/// bit. Returns the bit behind them. It allocates nothing. The whole list is examined first; if it is refused, the
-/// octets stay.
+/// Writes the fields' bits over those of the octets from bit `position` on, one after another, and
+/// leaves every other bit. Returns the bit behind them. It allocates nothing. The whole list is
+/// examined first; if it is refused, the octets stay.
 pub fn write_fields_at(
     octets: &mut [u8],
     position: usize,
     fields: &[Field<'_, '_>],
 ) -> Result<usize, WriteError>
-    // A concatenation of the fields' spellings stands at the position, and the answer is the bit behind it.
-    ensures written { IfOk result (λ next. (list : List Bool) × AreSpelledBy (plain_fields fields.now) list
-        × (bits octets.new ≡ overwritten (bits octets.old) position list) × (next ≡ position + length list)) }
+    // A concatenation of the fields' spellings stands at the position, and the answer is the bit
+    // behind it.
+    ensures written { IfOk result
+        (λ next. (list : List Bool) × AreSpelledBy (plain_fields fields.now) list
+        × (bits octets.new ≡ overwritten (bits octets.old) position list)
+        × (next ≡ position + length list)) }
     // It is the one concatenation, where no alphabet gives a character two codes.
     ensures one { HaveOneSpelling (plain_fields fields.now)
         → (list : List Bool) → AreSpelledBy (plain_fields fields.now) list
         → OnOk result (bits octets.new ≡ overwritten (bits octets.old) position list) }
 
-    // Where all fit, it succeeds exactly where they end within the octets, at a bit that `usize` counts.
+    // Where all fit, it succeeds exactly where they end within the octets, at a bit that `usize`
+    // counts.
     ensures too_long { (list : List Bool) → AreSpelledBy (plain_fields fields.now) list
-        → IsPast (8 * length octets.old) (position + length list) → result ≡ Err WriteError.TooLong }
+        → IsPast (8 * length octets.old) (position + length list) → result
+        ≡ Err WriteError.TooLong }
     ensures accepted { (list : List Bool) → AreSpelledBy (plain_fields fields.now) list
-        → position + length list ≤ 8 * length octets.old → position + length list < 2 ^ 64 → IsOk result }
+        → position + length list ≤ 8 * length octets.old → position + length list < 2 ^ 64
+        → IsOk result }
 
-    // A refusal names the first field that doesn't fit, with its reason; where all fit, where they end. The refusal is
-    // unique.
-    ensures refused { IfErr result (IsWriteAtRefusal (8 * length octets.old) position (plain_fields fields.now)) }
+    // A refusal names the first field that doesn't fit, with its reason; where all fit, where they
+    // end. The refusal is unique.
+    ensures refused { IfErr result
+        (IsWriteAtRefusal (8 * length octets.old) position (plain_fields fields.now)) }
     ensures named { (e : WriteError)
-        → IsWriteAtRefusal (8 * length octets.old) position (plain_fields fields.now) e → result ≡ Err e }
+        → IsWriteAtRefusal (8 * length octets.old) position (plain_fields fields.now) e → result
+        ≡ Err e }
     ensures unchanged { OnErr result (octets.new ≡ octets.old) }
 {
     let end = new_len(position, fields)?;
@@ -51,7 +59,8 @@ pub fn write_fields_at(
 /// Writes fields that end within the target, and answers with the bit behind them.
 fn overwrite_all(target: &mut [u8], position: usize, fields: &[Field<'_, '_>]) -> usize
     requires { EndWithin (8 * length target.old) position (plain_fields fields.now) }
-    ensures { OverwritesAll (plain_fields fields.now) position (bits target.old) (bits target.new) result }
+    ensures { OverwritesAll (plain_fields fields.now) position (bits target.old) (bits target.new)
+        result }
 {
     let mut next = position;
     for field in fields {
@@ -63,7 +72,8 @@ fn overwrite_all(target: &mut [u8], position: usize, fields: &[Field<'_, '_>]) -
 /// Writes a field that ends within the target, and answers with the bit behind it.
 fn overwrite(target: &mut [u8], position: usize, field: &Field<'_, '_>) -> usize
     requires { FitsWithin (8 * length target.old) position (plain_field field.now) }
-    ensures { Overwrites (plain_field field.now) position (bits target.old) (bits target.new) result }
+    ensures { Overwrites (plain_field field.now) position (bits target.old) (bits target.new)
+        result }
 {
     match field {
         Field::Number { value, width } => number::overwrite(target, position, *value, *width),
