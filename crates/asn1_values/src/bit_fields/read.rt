@@ -154,12 +154,13 @@ fn append_next<'a, 's>(
         result }
 {
     match shape {
-        Shape::Number { width } => number::append(fields, reader, *width, field),
-        Shape::Octets { count } => octets::append(fields, alloc, reader, *count, field),
-        Shape::Bits { length } => bits::append(fields, reader, *length, field),
-        Shape::Integer { octets } => integer::append(fields, alloc, reader, *octets, field),
-        Shape::Character { alphabet } => character::append(fields, reader, alphabet, field),
-        Shape::CountedInteger => counted_integer::append(fields, alloc, reader, field),
-        Shape::Oid { octets } => identifier::append(fields, alloc, reader, *octets, field),
+        Shape::Number { width } => number::append(fields, reader, *width, field)?,
+        Shape::Octets { count } => octets::append(fields, alloc, reader, *count, field)?,
+        Shape::Bits { length } => bits::append(fields, reader, *length, field)?,
+        Shape::Integer { octets } => integer::append(fields, alloc, reader, *octets, field)?,
+        Shape::Character { alphabet } => character::append(fields, reader, alphabet, field)?,
+        Shape::CountedInteger => counted_integer::append(fields, alloc, reader, field)?,
+        Shape::Oid { octets } => identifier::append(fields, alloc, reader, *octets, field)?,
     }
+    Ok(())
 }
