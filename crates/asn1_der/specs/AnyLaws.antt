@@ -1,26 +1,25 @@
 -- Laws of elements of any tag.
-use Rattle.std.proofs.Common.{◌≡◌, ℕ, ◌<◌, List, ◌++◌, Bool, length, refl, sym, ◌∙◌, ap, subst}
+use Rattle.std.proofs.Common.{◌≡◌, ℕ, List, Bool, refl, sym, ◌∙◌, ap, subst}
 use Rattle.std.specs.declared.convert.Infallible.{Infallible}
 use Rattle.asn1_der.specs.declared.tag.Tag.{Tag}
 use Rattle.asn1_der.specs.declared.tag.TagFault.{TagFault}
 use Rattle.asn1_der.specs.declared.length.LengthFault.{LengthFault}
 use Rattle.asn1_der.specs.declared.tlv.ElementFault.{ElementFault}
 use Rattle.asn1_der.specs.declared.tlv.ElementFault.TheVariants as none
-use Rattle.asn1_der.specs.declared.tlv.TlvMisfit.{TlvMisfit}
 use Rattle.asn1_formats.specs.Spelling.{Starts, CanRead, ReadsOne, SpellsOne, NamesFault, NamesMisfit}
-use Rattle.asn1_formats.specs.Combined.{Both, After}
-use Rattle.asn1_formats.specs.SpellingLaws.{split, join, both_reads_one, can_first, can_second}
+use Rattle.asn1_formats.specs.Combined.{Both}
+use Rattle.asn1_formats.specs.SpellingLaws.{split, join, can_second}
 use Rattle.asn1_formats.specs.OctetStrings.{AreOctets}
-use Rattle.asn1_der.specs.Tags.{IsIdentifier, TagFaultIs}
+use Rattle.asn1_der.specs.Tags.{IsIdentifier}
 use Rattle.asn1_der.specs.TagLaws.{identifier_reads_one, identifier_names_fault}
 use Rattle.asn1_der.specs.Lengths.{IsCounted, CountFaultIs}
 use Rattle.asn1_der.specs.CountLaws.{counted_names_fault}
 use Rattle.asn1_der.specs.TlvLaws.{element_whole, tlv_reads_one, tlv_spells_one, tlv_names_misfit}
-use Rattle.asn1_der.specs.Tagged.{Begins, HasTag, AreTagged}
-use Rattle.asn1_der.specs.TaggedLaws.{one_tag, tlv_has_tag, tlv_tagged}
+use Rattle.asn1_der.specs.Tagged.{HasTag, AreTagged}
+use Rattle.asn1_der.specs.TaggedLaws.{one_tag, tlv_has_tag}
 use Rattle.asn1_der.specs.PrimitiveLaws.{octets_fill_one, octets_spell_one}
 use Rattle.asn1_der.specs.PartLaws.{none_names_misfit}
-use Rattle.asn1_der.specs.Elements.{IsElement, IsTlv, AnyFaultIs, IsAny, AnyMisfitIs}
+use Rattle.asn1_der.specs.Elements.{IsTlv, AnyFaultIs, IsAny, AnyMisfitIs}
 
 abbrev I : Tag → List Bool → Type 0
 I t l = IsIdentifier t l

@@ -1,11 +1,11 @@
 -- Laws of the contents of BIT STRING.
-use Rattle.std.proofs.Common.{◌≡◌, ℕ, ◌+◌, ◌-◌, ◌*◌, ◌/◌, ◌%◌, ◌^◌, ◌<◌, ◌≤◌, ◌⊎◌, inl, inr, List, ◌++◌, Bool, Option, length, take, drop, refl, sym, ◌∙◌, ap, subst, arith, append_assoc}
+use Rattle.std.proofs.Common.{◌≡◌, ℕ, ◌+◌, ◌-◌, ◌/◌, ◌%◌, ◌^◌, ◌<◌, ◌≤◌, ◌⊎◌, inl, inr, List, ◌++◌, Bool, Option, length, take, drop, refl, sym, ◌∙◌, ap, subst, arith}
 use Rattle.std.proofs.lemmas.List.{length-append, length-drop, take-append-drop}
 use Rattle.std.proofs.Math.Seq.{drop-append_seam}
 use Rattle.asn1_bits.specs.Bits.{digits}
 use Rattle.asn1_bits.specs.DigitLaws.{length-digits}
-use Rattle.asn1_formats.specs.Spelling.{Starts, Measures, IsLength, IsSumOf, IsWritten, SpellsOne}
-use Rattle.asn1_formats.specs.Numbers.{IsNumber, IsShort}
+use Rattle.asn1_formats.specs.Spelling.{Starts, Measures, IsLength, SpellsOne}
+use Rattle.asn1_formats.specs.Numbers.{IsNumber}
 use Rattle.asn1_formats.specs.Combined.{After}
 use Rattle.asn1_formats.specs.SpellingLaws.{same_fronts, number_reads_one}
 use Rattle.asn1_der.specs.declared.bit_string.BitStringFault.{BitStringFault}

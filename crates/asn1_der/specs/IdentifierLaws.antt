@@ -1,5 +1,5 @@
 -- Laws of the contents of object identifiers as bits.
-use Rattle.std.proofs.Common.{◌≡◌, ℕ, ◌+◌, ◌*◌, ◌<◌, ◌≤◌, List, [], ◌∷◌, ◌++◌, Bool, Option, length, refl, sym, ◌∙◌, ap, subst, arith, append_assoc}
+use Rattle.std.proofs.Common.{◌≡◌, ℕ, ◌*◌, ◌<◌, ◌≤◌, List, [], ◌∷◌, ◌++◌, Bool, Option, length, refl, sym, ◌∙◌, ap, subst, arith, append_assoc}
 use Rattle.std.specs.Prelude.{All}
 use Rattle.std.proofs.lemmas.List.{append-nil}
 use Rattle.asn1_bits.specs.Bits.{bits, digits}
@@ -8,11 +8,11 @@ use Rattle.asn1_bits.specs.NumberLaws.{same_octets}
 use Rattle.asn1_oid.specs.Contents.{IsContents, FitU32}
 use Rattle.asn1_oid.specs.ReadingLaws.{one_list_of_arcs}
 use Rattle.asn1_oid.specs.WritingLaws.{contents_only, contents_octets}
-use Rattle.asn1_values.specs.Wrong.{IsNoIdentifier, HoldsLargeArc}
+use Rattle.asn1_values.specs.Wrong.{IsNoIdentifier}
 use Rattle.asn1_der.specs.declared.object_identifier.IdentifierFault.{IdentifierFault}
 use Rattle.asn1_der.specs.declared.object_identifier.IdentifierFault.TheVariants.{Malformed, LargeArc}
 use Rattle.asn1_der.specs.declared.object_identifier.OneArc.{OneArc}
-use Rattle.asn1_formats.specs.Spelling.{Fits, Measures, IsLength, Extends, IsWritten, SpellsOne, NamesMisfit}
+use Rattle.asn1_formats.specs.Spelling.{Measures, IsLength, Extends, SpellsOne, NamesMisfit}
 use Rattle.asn1_der.specs.Contents.{FillsOne, NamesWrong, AreWhole}
 use Rattle.asn1_der.specs.Identifiers.{IsIdentifierOf, IdentifierFaultIs, HasOneArc}
 

@@ -4,6 +4,7 @@ use Rattle.std.specs.Prelude.{All}
 use Rattle.std.proofs.lemmas.List.{length-append, take_at}
 use Rattle.std.proofs.lemmas.List.Elements.{All-nil, All-cons, All-head, All-tail}
 use Rattle.std.proofs.lemmas.Bool.{cases_eq}
+use Rattle.std.specs.Bool.{Decides}
 use Rattle.asn1_bits.specs.Bits.{bits, digits, number}
 use Rattle.asn1_bits.specs.DigitLaws.{length-bits, length-digits}
 use Rattle.asn1_bits.specs.NumberLaws.{same_octets, number_of-digits, digits-append, digits-low}
@@ -184,3 +185,12 @@ integer_measured n k len counts p =
       spelled = refl;
       size = subst (λ (j : ℕ). IsLength j len) sized p;
     }
+
+-- the octets of a number spell it alone
+pub integer_equal : (list : List Bool) (h : HoldsInteger list) (n : ℤ) (octets : List ℕ) (r : Bool) → IsShortest n octets
+    → Decides r (list ≡ bits octets) → Decides r (h.1 ≡ n)
+integer_equal list h n octets r short d =
+    let only = ap (λ (o : List ℕ). bits o) (shortest_octets_only n octets short) in (
+      λ t. integer_fills_one.one list h.1 n (held list h) (d.0 t ∙ only),
+      λ e. d.1 (subst (λ (m : ℤ). IsInteger m list) e (held list h) ∙ sym only),
+    )

@@ -1,19 +1,18 @@
 -- Laws of contents that are elements of one format.
-use Rattle.std.proofs.Common.{◌≡◌, ℕ, suc, ◌+◌, ◌*◌, ◌<◌, ◌≤◌, ◌⊎◌, inl, inr, List, [], ◌∷◌, ◌++◌, Bool, length, map, take, drop, get_or, Option, refl, sym, ◌∙◌, ap, subst, arith, append_assoc}
+use Rattle.std.proofs.Common.{◌≡◌, ℕ, suc, ◌+◌, ◌*◌, ◌<◌, ◌⊎◌, inl, inr, List, [], ◌∷◌, ◌++◌, Bool, length, map, take, drop, get_or, Option, refl, sym, ◌∙◌, ap, subst, arith, append_assoc}
 use Rattle.std.proofs.lemmas.List.{length-append, append-nil, map_more, map-append, length-map, length-take-le, take-append-drop}
 use Rattle.std.proofs.Math.Seq.{drop-cons}
 use Rattle.std.specs.declared.convert.Infallible.{Infallible}
-use Rattle.asn1_values.specs.Joined.{AreJoined}
 use Rattle.asn1_formats.specs.declared.sequence_of.InSequenceOf.{InSequenceOf}
 use Rattle.asn1_formats.specs.declared.sequence_of.InSequenceOf.TheVariants.{Size, Item}
 use Rattle.asn1_formats.specs.Spelling.{Starts, CanRead, Fits, Measures, IsSumOf, IsWritten, ReadsOne, SpellsOne, NamesFault, NamesMisfit}
-use Rattle.asn1_formats.specs.Combined.{After, AreCounted, SoMany, ItemMisfit, SequenceOfMisfit}
+use Rattle.asn1_formats.specs.Combined.{AreCounted, SoMany, ItemMisfit, SequenceOfMisfit}
 use Rattle.asn1_formats.specs.ListLaws.{written_snoc, measured_snoc, counted_spells_one, counted_names_misfit}
 use Rattle.asn1_der.specs.declared.tag.Tag.{Tag}
 use Rattle.asn1_der.specs.declared.items.InItem.{InItem}
 use Rattle.asn1_der.specs.Contents.{FillsOne, NamesWrong, IsWhole, AreWhole}
-use Rattle.asn1_der.specs.Tagged.{Begins, HasTag, AreTagged}
-use Rattle.asn1_der.specs.TaggedLaws.{starts_begin, begins_more, tag_more, tag_size}
+use Rattle.asn1_der.specs.Tagged.{AreTagged}
+use Rattle.asn1_der.specs.TaggedLaws.{starts_begin, tag_size}
 use Rattle.asn1_der.specs.PartLaws.{none_names_misfit}
 use Rattle.asn1_der.specs.Items.{AreItems, ItemFaultIs, ItemMisfitIs}
 

@@ -1,17 +1,17 @@
 -- Laws of lengths, and of octets behind one.
-use Rattle.std.proofs.Common.{◌≡◌, ℕ, ◌+◌, ◌-◌, ◌*◌, ◌^◌, ◌<◌, ◌≤◌, ◌⊎◌, inl, inr, ⊎_elim, List, ◌++◌, Bool, Some, length, take, drop, refl, sym, ◌∙◌, ap, subst, arith, append_assoc}
-use Rattle.std.proofs.lemmas.List.{length-append, length-take-le, take-append-drop}
+use Rattle.std.proofs.Common.{◌≡◌, ℕ, ◌+◌, ◌-◌, ◌*◌, ◌^◌, ◌<◌, ◌≤◌, ◌⊎◌, inl, inr, ⊎_elim, List, ◌++◌, Bool, Some, length, refl, sym, ◌∙◌, ap, subst, arith}
+use Rattle.std.proofs.lemmas.List.{length-append}
 use Rattle.std.proofs.lemmas.Bool.{cases_eq}
 use Rattle.std.proofs.Math.Nat.{pow-le-pow_right}
 use Rattle.asn1_bits.specs.Bits.{digits}
 use Rattle.asn1_bits.specs.DigitLaws.{length-digits}
 use Rattle.asn1_der.specs.declared.length.LengthFault.{LengthFault}
 use Rattle.asn1_der.specs.declared.length.LengthFault.TheVariants.{Short, Indefinite, Large, NotShortest, Missing}
-use Rattle.asn1_formats.specs.Spelling.{Starts, CanRead, Measures, IsWritten, ReadsOne, SpellsOne, NamesFault}
+use Rattle.asn1_formats.specs.Spelling.{Starts, CanRead, Measures, ReadsOne, SpellsOne, NamesFault}
 use Rattle.asn1_formats.specs.Numbers.{IsNumber, IsShort}
 use Rattle.asn1_formats.specs.Combined.{Both, After}
-use Rattle.asn1_formats.specs.SpellingLaws.{same_fronts, number_reads_one, number_spells_one, number_short, split, join, both_spells_one}
-use Rattle.asn1_der.specs.Lengths.{IsPadded, IsLong, IsDefinite, LongFaultIs, IsCut, LengthFaultIs, IsCounted, AreMissing, CountFaultIs}
+use Rattle.asn1_formats.specs.SpellingLaws.{number_reads_one, number_spells_one, number_short, split, join, both_spells_one}
+use Rattle.asn1_der.specs.Lengths.{IsPadded, IsLong, IsDefinite, LongFaultIs, IsCut, LengthFaultIs}
 
 abbrev D : ℕ → List Bool → Type 0
 D n l = IsDefinite n l

@@ -24,3 +24,7 @@ pub mod ItemLaws
 pub mod AnyLaws
 pub mod IdentifierLaws
 pub mod BitStringLaws
+pub mod Alternatives
+pub mod AlternativeLaws
+pub mod NotDefaults
+pub mod NotDefaultLaws

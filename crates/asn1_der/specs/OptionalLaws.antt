@@ -1,17 +1,17 @@
 -- Laws of contents whose first element may be missing.
-use Rattle.std.proofs.Common.{◌≡◌, ℕ, ◌⊎◌, inl, inr, List, Bool, Option, Some, None, length, refl, sym, ◌∙◌, ap, subst}
+use Rattle.std.proofs.Common.{◌≡◌, ℕ, inl, inr, List, Bool, Option, Some, None, refl, sym, ◌∙◌, ap, subst}
 use Rattle.asn1_der.specs.declared.tag.Tag.{Tag}
 use Rattle.asn1_der.specs.declared.optional.OptionalMisfit.{OptionalMisfit}
 use Rattle.asn1_der.specs.declared.optional.OptionalMisfit.TheVariants as misfit
 use Rattle.asn1_formats.specs.declared.then.InThen.{InThen}
 use Rattle.asn1_formats.specs.declared.then.InThen.TheVariants.{First, Second}
-use Rattle.asn1_formats.specs.Spelling.{Starts, Fits, Measures, ReadsOne, SpellsOne, NamesFault, NamesMisfit}
+use Rattle.asn1_formats.specs.Spelling.{Measures, ReadsOne, SpellsOne, NamesFault, NamesMisfit}
 use Rattle.asn1_formats.specs.Combined.{Both, BothFault}
 use Rattle.asn1_formats.specs.SpellingLaws.{both_spells_one}
 use Rattle.asn1_der.specs.Contents.{FillsOne, NamesWrong, IsWhole, AreWhole}
 use Rattle.asn1_der.specs.Tagged.{Begins, AreTagged}
 use Rattle.asn1_der.specs.TaggedLaws.{both_begin}
-use Rattle.asn1_der.specs.Parts.{WithFirst, IsOptional, OthersFault, OptionalFaultIs, IsAmbiguous, WithFirstMisfit, OptionalMisfitIs}
+use Rattle.asn1_der.specs.Parts.{WithFirst, IsOptional, OthersFault, OptionalFaultIs, WithFirstMisfit, OptionalMisfitIs}
 use Rattle.asn1_der.specs.PartLaws.{required_fills_one, required_whole, required_names_fault}
 
 module _ {X Y : Type 0} (A : Tag → Type 0) (P : X → List Bool → Type 0) (Q : Y → List Bool → Type 0)

@@ -1,14 +1,13 @@
 -- Laws of contents that are elements one after another.
-use Rattle.std.proofs.Common.{◌≡◌, ℕ, ◌+◌, ◌*◌, ◌<◌, List, [], ◌∷◌, ◌++◌, Bool, length, refl, sym, ◌∙◌, ap, subst, arith}
-use Rattle.std.proofs.lemmas.List.{length-append}
+use Rattle.std.proofs.Common.{◌≡◌, ℕ, ◌+◌, ◌*◌, ◌<◌, List, [], ◌++◌, Bool, length, refl, sym, ◌∙◌, ap, subst, arith}
+use Rattle.std.proofs.lemmas.List.{length-append, append-nil}
 use Rattle.std.specs.declared.convert.Infallible.{Infallible}
-use Rattle.asn1_der.specs.declared.end.NotEnd.{NotEnd}
 use Rattle.asn1_formats.specs.declared.then.InThen.{InThen}
 use Rattle.asn1_formats.specs.declared.then.InThen.TheVariants.{First, Second}
-use Rattle.asn1_formats.specs.Spelling.{Starts, CanRead, Fits, ReadsOne, SpellsOne, NamesFault, NamesMisfit}
-use Rattle.asn1_formats.specs.Combined.{Both, After, BothFault}
+use Rattle.asn1_formats.specs.Spelling.{Starts, ReadsOne, SpellsOne, NamesFault, NamesMisfit}
+use Rattle.asn1_formats.specs.Combined.{Both, BothFault}
 use Rattle.asn1_der.specs.Contents.{FillsOne, NamesWrong, IsWhole, AreWhole}
-use Rattle.asn1_der.specs.Parts.{NotEndIs}
+use Rattle.asn1_der.specs.Parts.{NotEndIs, AloneFaultIs}
 
 -- ---- the end
 
@@ -94,3 +93,32 @@ module _ {X Y : Type 0} (P : X → List Bool → Type 0) (Q : Y → List Bool �
 
     pub required_names_fault : NamesWrong (λ v l. Both P Q v l) (λ list e. BothFault P W V list e)
     required_names_fault = record { wrong = wrong; one = one_fault }
+
+-- ---- one element alone
+
+module _ {X : Type 0} (P : X → List Bool → Type 0) where
+  at_end : (list : List Bool) (x : X) → P x list → Starts P list x []
+  at_end list x p = record { front = list; spelled = p; parts = sym (append-nil list) }
+
+  pub alone_is : (list rest : List Bool) (x : X) → Starts P list x rest → rest ≡ [] → P x list
+  alone_is list rest x s e =
+      subst (λ (l : List Bool). P x l)
+      (sym (s.parts ∙ ap (λ (l : List Bool). s.front ++ l) e ∙ append-nil s.front)) s.spelled
+
+  pub alone_fills_one : ReadsOne P → FillsOne P
+  alone_fills_one one = record {
+    one = λ list x y p q. (one.one list x y [] [] (at_end list x p) (at_end list y q)).0;
+  }
+
+  pub alone_whole : ((x : X) (list : List Bool) → P x list → IsWhole list) → AreWhole P
+  alone_whole whole = record { whole = whole }
+
+  pub alone_names_fault : {E : Type 0} (W : List Bool → E → Type 0) → ReadsOne P → NamesFault P W
+      → NamesWrong P (λ list e. AloneFaultIs P W list e)
+  alone_names_fault {E} W one names =
+      let both = required_names_fault P (λ (x : Unit {0}) (list : List Bool). list ≡ []) W (λ list e. NotEndIs list e) one names end_names_fault in
+      record {
+        wrong = λ list e p x q. both.wrong list e p (x, tt)
+            (record { front = list; rest = []; first = q; second = refl; parts = sym (append-nil list) });
+        one = λ list e g p q. both.one list e g p q;
+      }

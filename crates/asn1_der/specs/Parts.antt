@@ -1,6 +1,6 @@
 -- Contents that are elements one after another, and what is wrong with them. P says of a value which bits spell its
 -- first element, Q which spell the others, and A which tags the first element may have.
-use Rattle.std.specs.Prelude.{◌≡◌, ℕ, ◌<◌, ◌⊎◌, Bool, List, [], length, Option, Some, None}
+use Rattle.std.specs.Prelude.{◌≡◌, ◌<◌, ◌⊎◌, Bool, List, length, Option, Some, None}
 use Rattle.asn1_der.specs.declared.tag.Tag.{Tag}
 use Rattle.asn1_der.specs.declared.end.NotEnd.{NotEnd}
 use Rattle.asn1_der.specs.declared.optional.OptionalMisfit.{OptionalMisfit}
@@ -14,6 +14,12 @@ use Rattle.asn1_der.specs.Tagged.{Begins}
 -- so many bits are there, where no one should be
 abbrev pub NotEndIs : List Bool → NotEnd → Type 0
 NotEndIs list e = (0 < e.bits) × (e.bits ≡ length list)
+
+-- ---- one element alone: it is wrong, or it can be read, and something stands behind it
+
+abbrev pub AloneFaultIs : {X E : Type 0} → (X → List Bool → Type 0) → (List Bool → E → Type 0) → List Bool
+    → InThen E NotEnd → Type 0
+AloneFaultIs P W list e = BothFault P W (λ l g. NotEndIs l g) list e
 
 -- ---- a first element that may be missing: it is there where the bits begin with a tag of it
 

@@ -1,10 +1,10 @@
 -- Laws of the contents of BOOLEAN and OCTET STRING.
-use Rattle.std.proofs.Common.{◌≡◌, ◌≢◌, ℕ, ◌+◌, ◌*◌, ◌^◌, ◌<◌, List, [], ◌∷◌, ◌++◌, Bool, true, false, Option, Some, length, refl, sym, ◌∙◌, ap, subst, arith}
+use Rattle.std.proofs.Common.{◌≡◌, ℕ, ◌+◌, ◌*◌, ◌^◌, ◌<◌, List, [], ◌∷◌, ◌++◌, Bool, true, false, Option, Some, length, refl, sym, ◌∙◌, ap, subst, arith}
 use Rattle.std.specs.Prelude.{All}
 use Rattle.std.proofs.lemmas.List.{length-append, append-nil}
 use Rattle.asn1_bits.specs.Bits.{bits, digits}
 use Rattle.asn1_bits.specs.DigitLaws.{length-digits, length-bits}
-use Rattle.asn1_bits.specs.NumberLaws.{same_octets, number_of-digits}
+use Rattle.asn1_bits.specs.NumberLaws.{same_octets}
 use Rattle.asn1_der.specs.declared.boolean.BooleanFault.{BooleanFault}
 use Rattle.asn1_der.specs.declared.boolean.BooleanFault.TheVariants.{Octets, Other}
 use Rattle.asn1_formats.specs.Spelling.{Starts, Measures, IsLength, SpellsOne}

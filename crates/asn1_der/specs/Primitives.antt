@@ -1,9 +1,8 @@
 -- The contents of primitive elements (X.690 8.2 to 8.8, 11.1, 11.2), and what is wrong with them.
-use Rattle.std.specs.Prelude.{◌≡◌, ◌≢◌, ℕ, ℤ, ◌*◌, Bool, true, false, List, [], length}
+use Rattle.std.specs.Prelude.{◌≡◌, ◌≢◌, ℕ, ℤ, ◌*◌, Bool, true, false, List, length}
 use Rattle.asn1_bits.specs.Bits.{bits, digits}
 use Rattle.asn1_number.specs.Octets.{IsShortest}
 use Rattle.asn1_number.specs.Shortest.{shortest_octets}
-use Rattle.asn1_values.specs.Wrong.{IsNoInteger}
 use Rattle.asn1_formats.specs.Numbers.{IsNumber}
 use Rattle.asn1_der.specs.declared.boolean.BooleanFault.{BooleanFault}
 use Rattle.asn1_der.specs.declared.boolean.BooleanFault.TheVariants.{Octets, Other}

@@ -1,5 +1,5 @@
 -- Laws of tags.
-use Rattle.std.proofs.Common.{◌≡◌, ◌≢◌, ℕ, ◌+◌, ◌*◌, ◌/◌, ◌%◌, ◌<◌, ◌≤◌, List, ◌++◌, Bool, true, false, length, refl, sym, ◌∙◌, ap, subst, arith}
+use Rattle.std.proofs.Common.{◌≡◌, ℕ, ◌+◌, ◌%◌, ◌<◌, List, Bool, true, false, length, refl, sym, ◌∙◌, ap, arith}
 use Rattle.asn1_bits.specs.DigitLaws.{length-digits}
 use Rattle.asn1_der.specs.declared.tag.Class.{Class}
 use Rattle.asn1_der.specs.declared.tag.Class.TheVariants.{Universal, Application, Context, Private}
@@ -7,8 +7,7 @@ use Rattle.asn1_der.specs.declared.tag.Tag.{Tag}
 use Rattle.asn1_der.specs.declared.tag.TagFault.{TagFault}
 use Rattle.asn1_der.specs.declared.tag.TagFault.TheVariants.{Short, HighNumber, Other}
 use Rattle.asn1_formats.specs.Spelling.{Starts, CanRead, ReadsOne, SpellsOne, NamesFault}
-use Rattle.asn1_formats.specs.Numbers.{IsNumber, IsShort}
-use Rattle.asn1_formats.specs.Combined.{After}
+use Rattle.asn1_formats.specs.Numbers.{IsNumber}
 use Rattle.asn1_formats.specs.SpellingLaws.{number_reads_one, number_short}
 use Rattle.asn1_der.specs.Tags.{class_number, form_number, leading, IsIdentifier, TagFaultIs, IsTagged, OtherTagIs}
 

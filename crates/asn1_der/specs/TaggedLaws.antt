@@ -1,39 +1,15 @@
 -- Laws of the tags that bits begin with.
-use Rattle.std.proofs.Common.{◌≡◌, ℕ, ◌+◌, ◌*◌, ◌%◌, ◌<◌, ◌≤◌, List, [], ◌++◌, Bool, Option, Some, None, length, refl, sym, ◌∙◌, ap, subst, arith, append_assoc}
+use Rattle.std.proofs.Common.{◌≡◌, ◌+◌, ◌<◌, ◌≤◌, List, ◌++◌, Bool, None, length, refl, sym, ◌∙◌, ap, subst, arith, append_assoc}
 use Rattle.std.proofs.lemmas.List.{length-append}
 use Rattle.asn1_der.specs.declared.tag.Tag.{Tag}
 use Rattle.asn1_der.specs.declared.tag.TagFault.{TagFault}
-use Rattle.asn1_formats.specs.Spelling.{Starts, CanRead, IsWithin, ReadsOne, NamesFault}
+use Rattle.asn1_formats.specs.Spelling.{Starts}
 use Rattle.asn1_formats.specs.Combined.{Both}
 use Rattle.asn1_der.specs.Tags.{IsIdentifier, TagFaultIs}
 use Rattle.asn1_der.specs.TagLaws.{identifier_reads_one, identifier_names_fault, identifier_size}
-use Rattle.asn1_der.specs.Contents.{IsWhole, AreWhole}
-use Rattle.asn1_der.specs.Elements.{IsElement, IsTlv}
+use Rattle.asn1_der.specs.Elements.{IsTlv}
 use Rattle.asn1_der.specs.TlvLaws.{element_whole}
 use Rattle.asn1_der.specs.Tagged.{HasTag, Begins, FirstTag, AreTagged}
-
--- ---- relations of formats whose spellings are read alone
-
-module _ {X : Type 0} (P R : X → List Bool → Type 0) (within : IsWithin P R) where
-  pub starts_within : (list : List Bool) (x : X) (rest : List Bool) → Starts P list x rest → Starts R list x rest
-  starts_within list x rest s = record {
-    front = s.front;
-    spelled = within.each x s.front s.spelled;
-    parts = s.parts;
-  }
-
-  pub spelled_reads_one : ReadsOne R → ReadsOne P
-  spelled_reads_one one = record {
-    one = λ list x y rest other s t.
-        one.one list x y rest other (starts_within list x rest s) (starts_within list y other t);
-  }
-
-  pub spelled_names_fault : {E : Type 0} (W : List Bool → E → Type 0) → NamesFault R W → NamesFault P W
-  spelled_names_fault W names = record {
-    wrong = λ list e p can. names.wrong list e p
-        (record { value = can.value; rest = can.rest; starts = starts_within list can.value can.rest can.starts });
-    one = λ list e g p q. names.one list e g p q;
-  }
 
 -- ---- tags
 

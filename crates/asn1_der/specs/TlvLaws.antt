@@ -10,13 +10,12 @@ use Rattle.asn1_der.specs.declared.tlv.InTlv.{InTlv}
 use Rattle.asn1_der.specs.declared.tlv.InTlv.TheVariants as fault
 use Rattle.asn1_der.specs.declared.tlv.TlvMisfit.{TlvMisfit}
 use Rattle.asn1_der.specs.declared.tlv.TlvMisfit.TheVariants as misfit
-use Rattle.asn1_formats.specs.Spelling.{Starts, CanRead, Fits, Measures, IsLength, IsSumOf, IsWritten, ReadsOne, SpellsOne, NamesFault, NamesMisfit}
-use Rattle.asn1_formats.specs.Combined.{Both, After}
-use Rattle.asn1_formats.specs.SpellingLaws.{split, join, both_reads_one, both_spells_one, can_first, can_second}
-use Rattle.asn1_der.specs.Tags.{leading, IsIdentifier, IsTagged, OtherTagIs}
+use Rattle.asn1_formats.specs.Spelling.{Starts, CanRead, Fits, Measures, IsLength, IsSumOf, ReadsOne, SpellsOne, NamesFault, NamesMisfit}
+use Rattle.asn1_formats.specs.Combined.{Both}
+use Rattle.asn1_formats.specs.SpellingLaws.{join, both_reads_one, both_spells_one, can_first, can_second}
+use Rattle.asn1_der.specs.Tags.{leading, IsIdentifier, IsTagged}
 use Rattle.asn1_der.specs.TagLaws.{leading_below, identifier_size, tagged_reads_one, tagged_spells_one, tagged_names_fault}
 use Rattle.asn1_der.specs.Lengths.{IsDefinite, IsCounted, CountFaultIs}
-use Rattle.asn1_der.specs.LengthLaws.{definite_whole}
 use Rattle.asn1_der.specs.CountLaws.{counted_reads_one, counted_spells_one, counted_names_fault, counted_whole}
 use Rattle.asn1_der.specs.Contents.{FillsOne, NamesWrong, IsWhole, AreWhole}
 use Rattle.asn1_der.specs.Elements.{IsElement, IsTlv, TlvFaultIs, TlvMisfitIs}

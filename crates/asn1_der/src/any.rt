@@ -2,10 +2,10 @@
 
 ghost use Rattle.std.specs.Prelude.{◌≡◌};
 
+use crate::element::Element;
 use crate::length::next_counted;
 use crate::octet_string::{OctetStringContents, octets_of};
 use crate::tag::{Tag, next_tag};
-use crate::tagged::Tagged;
 use crate::tlv::{ElementFault, Tlv, TlvMisfit};
 use asn1_formats::{Format, Refusal};
 use asn1_values::{BitBuffer, BitReader};
@@ -69,11 +69,11 @@ impl Format for Any {
         buffer: &mut BitBuffer,
         value: &AnyValue,
     ) -> Result<(), Refusal<TlvMisfit<Infallible>>> {
-        element_of(value.tag).append(buffer, &value.octets)
+        Format::append(&element_of(value.tag), buffer, &value.octets)
     }
 
     fn measure(&self, value: &AnyValue) -> Result<Option<usize>, TlvMisfit<Infallible>> {
-        element_of(value.tag).measure(&value.octets)
+        Format::measure(&element_of(value.tag), &value.octets)
     }
 
     fn take(
@@ -122,11 +122,31 @@ impl Format for Any {
     ghost names_misfit = { λ f. any_names_misfit };
 }
 
-impl Tagged for Any {
-    ghost use Rattle.std.specs.Prelude.{⊤};
-    ghost use Rattle.asn1_der.specs.AnyLaws.{any_tagged};
+impl Element for Any {
+    ghost use Rattle.std.specs.Prelude.{ℕ, List, ⊤};
+    ghost use Rattle.asn1_der.specs.declared.tag.Tag as tags;
+    ghost use Rattle.asn1_der.specs.Elements.{IsAny, AnyFaultIs, AnyMisfitIs};
+    ghost use Rattle.asn1_der.specs.AnyLaws.{any_tagged, any_reads_one, any_spells_one, any_names_fault, any_names_misfit};
+
+    type Value = AnyValue;
+
+    type Fault = ElementFault;
+
+    type Misfit = TlvMisfit<Infallible>;
+
+    ghost Plain = { tags.Tag × List ℕ };
+
+    ghost plain = { λ v. (v.tag, v.octets.items) };
 
     ghost accepts = { λ f t. ⊤ };
+
+    ghost spells = { λ f x list. IsAny x list };
+
+    ghost is_fault = { λ f list e. AnyFaultIs list e };
+
+    ghost is_misfit = { λ f x e. AnyMisfitIs x e };
+
+    ghost owns_nothing = { λ f. ⊥ };
 
     fn accepts_tag(&self, _tag: Tag) -> bool {
         true
@@ -136,7 +156,37 @@ impl Tagged for Any {
         value.tag
     }
 
+    fn append(
+        &self,
+        buffer: &mut BitBuffer,
+        value: &AnyValue,
+    ) -> Result<(), Refusal<TlvMisfit<Infallible>>> {
+        Format::append(self, buffer, value)
+    }
+
+    fn measure(&self, value: &AnyValue) -> Result<Option<usize>, TlvMisfit<Infallible>> {
+        Format::measure(self, value)
+    }
+
+    fn take(
+        &self,
+        alloc: Global,
+        reader: &mut BitReader<'_>,
+    ) -> Result<AnyValue, Refusal<ElementFault>> {
+        Format::take(self, alloc, reader)
+    }
+
+    fn skip(&self, reader: &mut BitReader<'_>) -> Result<(), ElementFault> {
+        Format::skip(self, reader)
+    }
+
     ghost are_tagged = { λ f. any_tagged };
 
-    ghost canonical = { λ f. tt };
+    ghost reads_one = { λ f. any_reads_one };
+
+    ghost spells_one = { λ f. any_spells_one };
+
+    ghost names_fault = { λ f. any_names_fault };
+
+    ghost names_misfit = { λ f. any_names_misfit };
 }

@@ -1,5 +1,6 @@
 //! BOOLEAN.
 
+use crate::comparable::Comparable;
 use crate::contents::Contents;
 use asn1_formats::{Refusal, next_number, push_number};
 use asn1_values::{BitBuffer, BitReader};
@@ -78,6 +79,19 @@ impl Contents for BooleanContents {
     ghost names_fault = { λ f. boolean_names_fault };
 
     ghost names_misfit = { λ f. none_names_misfit (λ b list. IsBoolean b list) };
+}
+
+impl Comparable for BooleanContents {
+    fn are_equal(&self, first: &bool, second: &bool) -> bool {
+        *first == *second
+    }
+
+    fn check_equal(&self, contents: BitReader<'_>, other: &bool) -> Result<bool, BooleanFault> {
+        match boolean_of(contents) {
+            Ok(value) => Ok(value == *other),
+            Err(wrong) => Err(wrong),
+        }
+    }
 }
 
 ghost use Rattle.std.specs.Prelude.{◌≡◌, ◌%◌, IfOk, IfErr};

@@ -1,6 +1,5 @@
 //! The end of contents.
 
-use crate::contents::Contents;
 use crate::elements::Elements;
 use crate::tag::Tag;
 use asn1_formats::Refusal;
@@ -19,7 +18,7 @@ pub struct NotEnd {
     pub bits: usize,
 }
 
-impl Contents for End {
+impl Elements for End {
     ghost use Rattle.std.specs.Prelude.{◌≡◌, [], ⊤};
     ghost use Rattle.asn1_der.specs.Parts.{NotEndIs};
     ghost use Rattle.asn1_der.specs.PartLaws.{end_fills_one, end_spells_one, end_whole, end_names_fault, none_names_misfit};
@@ -41,6 +40,10 @@ impl Contents for End {
     ghost is_misfit = { λ f x e. ⊥ };
 
     ghost owns_nothing = { λ f. ⊤ };
+
+    fn first_tag(&self, _value: &()) -> Option<Tag> {
+        None
+    }
 
     fn append(&self, _buffer: &mut BitBuffer, _value: &()) -> Result<(), Refusal<Infallible>> {
         Ok(())
@@ -74,10 +77,4 @@ impl Contents for End {
     ghost names_fault = { λ f. end_names_fault };
 
     ghost names_misfit = { λ f. none_names_misfit (λ (x : ⊤) list. list ≡ []) };
-}
-
-impl Elements for End {
-    fn first_tag(&self, _value: &()) -> Option<Tag> {
-        None
-    }
 }

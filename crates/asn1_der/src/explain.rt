@@ -2,10 +2,12 @@
 
 use crate::bit_string::BitStringFault;
 use crate::boolean::BooleanFault;
+use crate::choice::ChoiceMisfit;
 use crate::end::NotEnd;
 use crate::integer::NotShortest;
 use crate::items::InItem;
 use crate::length::LengthFault;
+use crate::not_default::InDefault;
 use crate::object_identifier::{IdentifierFault, OneArc};
 use crate::optional::OptionalMisfit;
 use crate::tag::TagFault;
@@ -136,6 +138,44 @@ impl<E: Explain, F: Explain> Explain for OptionalMisfit<E, F> {
             OptionalMisfit::First(wrong) => wrong.is_reason(),
             OptionalMisfit::Second(wrong) => wrong.is_reason(),
             OptionalMisfit::Ambiguous => true,
+        }
+    }
+}
+
+impl<E: fmt::Display, F: fmt::Display> fmt::Display for ChoiceMisfit<E, F> {
+    fn fmt<W: fmt::Write>(&self, f: &mut fmt::Formatter<W>) -> fmt::Result {
+        match self {
+            ChoiceMisfit::First(wrong) => write!(f, "{wrong}"),
+            ChoiceMisfit::Other(wrong) => write!(f, "{wrong}"),
+            ChoiceMisfit::Ambiguous => write!(f, "the value has a tag of an earlier alternative"),
+        }
+    }
+}
+
+impl<E: Explain, F: Explain> Explain for ChoiceMisfit<E, F> {
+    fn is_reason(&self) -> bool {
+        match self {
+            ChoiceMisfit::First(wrong) => wrong.is_reason(),
+            ChoiceMisfit::Other(wrong) => wrong.is_reason(),
+            ChoiceMisfit::Ambiguous => true,
+        }
+    }
+}
+
+impl<E: fmt::Display> fmt::Display for InDefault<E> {
+    fn fmt<W: fmt::Write>(&self, f: &mut fmt::Formatter<W>) -> fmt::Result {
+        match self {
+            InDefault::Default => write!(f, "the default value is there"),
+            InDefault::Part(wrong) => write!(f, "{wrong}"),
+        }
+    }
+}
+
+impl<E: Explain> Explain for InDefault<E> {
+    fn is_reason(&self) -> bool {
+        match self {
+            InDefault::Default => true,
+            InDefault::Part(wrong) => wrong.is_reason(),
         }
     }
 }

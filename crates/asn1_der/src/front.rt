@@ -6,14 +6,14 @@ ghost use Rattle.asn1_formats.specs.Spelling.{Starts};
 ghost use Rattle.asn1_formats.specs.Refusals.{IsRefusal};
 ghost use Rattle.asn1_der.specs.Tagged.{Begins};
 
+use crate::element::Element;
 use crate::tag::next_tag;
-use crate::tagged::Tagged;
 use asn1_formats::Refusal;
 use asn1_values::BitReader;
 use std::alloc::Global;
 
 /// Whether the contents begin with a tag of the format.
-pub(crate) fn begins_with<F: Tagged>(format: &F, contents: &BitReader<'_>) -> bool
+pub(crate) fn begins_with<F: Element>(format: &F, contents: &BitReader<'_>) -> bool
     ensures yes { IsTrue result → Begins (F.accepts format.now) (bits_left contents.now) }
     ensures no { IsFalse result → ¬ (Begins (F.accepts format.now) (bits_left contents.now)) }
 {
@@ -25,7 +25,7 @@ pub(crate) fn begins_with<F: Tagged>(format: &F, contents: &BitReader<'_>) -> bo
 }
 
 /// Reads the value that the contents begin with.
-pub(crate) fn take_front<F: Tagged>(
+pub(crate) fn take_front<F: Element>(
     format: &F,
     alloc: Global,
     contents: &mut BitReader<'_>,
@@ -50,7 +50,7 @@ pub(crate) fn take_front<F: Tagged>(
 }
 
 /// Goes past the value that the contents begin with.
-pub(crate) fn skip_front<F: Tagged>(
+pub(crate) fn skip_front<F: Element>(
     format: &F,
     contents: &mut BitReader<'_>,
 ) -> Result<(), F::Fault>

@@ -5,10 +5,11 @@ ghost use Rattle.asn1_bits.specs.BitReader.{view_left, bits_left};
 ghost use Rattle.asn1_values.specs.Wrong.{IsNoInteger};
 ghost use Rattle.asn1_der.specs.Primitives.{HoldsInteger};
 
+use crate::comparable::Comparable;
 use crate::contents::Contents;
 use crate::octet_string::bit_count;
 use asn1_formats::{Refusal, push_octets};
-use asn1_values::{BitBuffer, BitReader, Integer, integer_of};
+use asn1_values::{BitBuffer, BitReader, BitStr, Integer, integer_of};
 use std::alloc::Global;
 use std::convert::Infallible;
 
@@ -111,4 +112,32 @@ impl Contents for IntegerContents {
     ghost names_fault = { λ f. integer_names_fault };
 
     ghost names_misfit = { λ f. none_names_misfit (λ n list. IsInteger n list) };
+}
+
+ghost use Rattle.std.specs.Prelude.{◌↔◌};
+ghost use Rattle.asn1_bits.specs.Bits.{bits};
+
+/// Whether the bits that are left are those of the octets.
+fn are_bits_of(contents: &BitReader<'_>, octets: &[u8]) -> bool
+    ensures { IsTrue result ↔ (bits_left contents.now ≡ bits octets.now) }
+{
+    let _len = contents.len();
+    if octets.len() > usize::MAX / 8 {
+        return false;
+    }
+    contents.bits() == BitStr::from_octets(octets)
+}
+
+impl Comparable for IntegerContents {
+    fn are_equal(&self, first: &Integer, second: &Integer) -> bool {
+        first == second
+    }
+
+    fn check_equal(&self, contents: BitReader<'_>, other: &Integer) -> Result<bool, NotShortest> {
+        if !is_shortest(&contents) {
+            return Err(NotShortest {});
+        }
+        let octets = other.signed_octets();
+        Ok(are_bits_of(&contents, octets.as_ref()))
+    }
 }

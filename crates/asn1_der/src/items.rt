@@ -6,8 +6,8 @@ ghost use Rattle.asn1_formats.specs.Spelling.{Measures, IsWritten, Extends};
 ghost use Rattle.asn1_formats.specs.Refusals.{IsRefusal};
 ghost use Rattle.asn1_der.specs.Items.{AreItems, ItemFaultIs, ItemMisfitIs};
 
+use crate::element::Element;
 use crate::front::{skip_front, take_front};
-use crate::tagged::Tagged;
 use asn1_formats::{Refusal, sum_of};
 use asn1_values::{BitBuffer, BitReader};
 use std::alloc::Global;
@@ -22,7 +22,7 @@ pub struct InItem<E> {
 }
 
 /// Appends the values' spellings, one after another.
-pub(crate) fn append_items<F: Tagged>(
+pub(crate) fn append_items<F: Element>(
     item: &F,
     buffer: &mut BitBuffer,
     values: &[F::Value],
@@ -44,7 +44,7 @@ pub(crate) fn append_items<F: Tagged>(
 }
 
 /// How many bits spell the values one after another.
-pub(crate) fn measure_items<F: Tagged>(
+pub(crate) fn measure_items<F: Element>(
     item: &F,
     values: &[F::Value],
 ) -> Result<Option<usize>, InItem<F::Misfit>>
@@ -64,7 +64,7 @@ pub(crate) fn measure_items<F: Tagged>(
 }
 
 /// Reads values up to the end.
-pub(crate) fn take_items<F: Tagged>(
+pub(crate) fn take_items<F: Element>(
     item: &F,
     alloc: Global,
     contents: BitReader<'_>,
@@ -94,7 +94,7 @@ pub(crate) fn take_items<F: Tagged>(
 }
 
 /// Goes past values up to the end, without memory.
-pub(crate) fn check_items<F: Tagged>(
+pub(crate) fn check_items<F: Element>(
     item: &F,
     contents: BitReader<'_>,
 ) -> Result<(), InItem<F::Fault>>

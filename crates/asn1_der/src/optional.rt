@@ -1,10 +1,9 @@
 //! An element that may be missing, and the others behind it.
 
-use crate::contents::Contents;
+use crate::element::Element;
 use crate::elements::Elements;
 use crate::front::{begins_with, skip_front, take_front};
 use crate::tag::Tag;
-use crate::tagged::Tagged;
 use asn1_formats::{InThen, Refusal, sum_of};
 use asn1_values::{BitBuffer, BitReader};
 use std::alloc::Global;
@@ -30,11 +29,10 @@ pub enum OptionalMisfit<E, F> {
     Ambiguous,
 }
 
-impl<F: Tagged, R: Elements> Contents for Optional<F, R> {
+impl<F: Element, R: Elements> Elements for Optional<F, R> {
     ghost use Rattle.std.specs.Prelude.{Option};
     ghost use Rattle.asn1_formats.specs.Combined.{plain_option};
     ghost use Rattle.asn1_der.specs.Parts.{IsOptional, OptionalFaultIs, OptionalMisfitIs};
-    ghost use Rattle.asn1_der.specs.TaggedLaws.{spelled_reads_one, spelled_names_fault};
     ghost use Rattle.asn1_der.specs.OptionalLaws.{optional_fills_one, optional_spells_one, optional_whole, optional_names_fault, optional_names_misfit};
 
     type Value = (Option<F::Value>, R::Value);
@@ -43,21 +41,28 @@ impl<F: Tagged, R: Elements> Contents for Optional<F, R> {
 
     type Misfit = OptionalMisfit<F::Misfit, R::Misfit>;
 
-    ghost Plain = { Option F.Plain × R.Contents.Plain };
+    ghost Plain = { Option F.Plain × R.Plain };
 
-    ghost plain = { λ v. (plain_option F.plain v.0, R.Contents.plain v.1) };
+    ghost plain = { λ v. (plain_option F.plain v.0, R.plain v.1) };
 
     ghost spells = { λ f x list.
-        IsOptional (F.accepts f.first) (F.spells f.first) (R.Contents.spells f.rest) x list };
+        IsOptional (F.accepts f.first) (F.spells f.first) (R.spells f.rest) x list };
 
     ghost is_fault = { λ f list e.
-        OptionalFaultIs (F.accepts f.first) (F.spells f.first) (F.is_fault f.first) (R.Contents.is_fault f.rest) list e };
+        OptionalFaultIs (F.accepts f.first) (F.spells f.first) (F.is_fault f.first) (R.is_fault f.rest) list e };
 
     ghost is_misfit = { λ f x e.
-        OptionalMisfitIs (F.accepts f.first) (F.spells f.first) (R.Contents.spells f.rest) (F.is_misfit f.first)
-        (R.Contents.is_misfit f.rest) x e };
+        OptionalMisfitIs (F.accepts f.first) (F.spells f.first) (R.spells f.rest) (F.is_misfit f.first)
+        (R.is_misfit f.rest) x e };
 
-    ghost owns_nothing = { λ f. F.owns_nothing f.first × R.Contents.owns_nothing f.rest };
+    ghost owns_nothing = { λ f. F.owns_nothing f.first × R.owns_nothing f.rest };
+
+    fn first_tag(&self, value: &(Option<F::Value>, R::Value)) -> Option<Tag> {
+        match &value.0 {
+            Some(first) => Some(self.first.tag_of(first)),
+            None => self.rest.first_tag(&value.1),
+        }
+    }
 
     fn append(
         &self,
@@ -154,55 +159,45 @@ impl<F: Tagged, R: Elements> Contents for Optional<F, R> {
     }
 
     ghost fills_one = { λ f.
-        optional_fills_one (F.accepts f.first) (F.spells f.first) (R.Contents.spells f.rest) (F.are_tagged f.first)
-        (spelled_reads_one (F.spells f.first) (F.reads f.first) (F.spelled_is_read f.first) (F.reads_one f.first))
-        (R.Contents.fills_one f.rest) };
+        optional_fills_one (F.accepts f.first) (F.spells f.first) (R.spells f.rest) (F.are_tagged f.first)
+        (F.reads_one f.first)
+        (R.fills_one f.rest) };
 
     ghost spells_one = { λ f.
-        optional_spells_one (F.accepts f.first) (F.spells f.first) (R.Contents.spells f.rest) (F.are_tagged f.first)
-        (F.spells_one f.first) (R.Contents.spells_one f.rest) };
+        optional_spells_one (F.accepts f.first) (F.spells f.first) (R.spells f.rest) (F.are_tagged f.first)
+        (F.spells_one f.first) (R.spells_one f.rest) };
 
     ghost are_whole = { λ f.
-        optional_whole (F.accepts f.first) (F.spells f.first) (R.Contents.spells f.rest) (F.are_tagged f.first)
-        (R.Contents.are_whole f.rest) };
+        optional_whole (F.accepts f.first) (F.spells f.first) (R.spells f.rest) (F.are_tagged f.first)
+        (R.are_whole f.rest) };
 
     ghost names_fault = { λ f.
-        optional_names_fault (F.accepts f.first) (F.spells f.first) (R.Contents.spells f.rest) (F.are_tagged f.first)
-        (F.is_fault f.first) (R.Contents.is_fault f.rest)
-        (spelled_reads_one (F.spells f.first) (F.reads f.first) (F.spelled_is_read f.first) (F.reads_one f.first))
-        (spelled_names_fault (F.spells f.first) (F.reads f.first) (F.spelled_is_read f.first) (F.is_fault f.first)
-        (F.names_fault f.first))
-        (R.Contents.names_fault f.rest) };
+        optional_names_fault (F.accepts f.first) (F.spells f.first) (R.spells f.rest) (F.are_tagged f.first)
+        (F.is_fault f.first) (R.is_fault f.rest)
+        (F.reads_one f.first)
+        (F.names_fault f.first)
+        (R.names_fault f.rest) };
 
     ghost names_misfit = { λ f.
-        optional_names_misfit (F.accepts f.first) (F.spells f.first) (R.Contents.spells f.rest) (F.are_tagged f.first)
-        (F.is_misfit f.first) (R.Contents.is_misfit f.rest) (R.Contents.spells_one f.rest) (F.names_misfit f.first)
-        (R.Contents.names_misfit f.rest) };
+        optional_names_misfit (F.accepts f.first) (F.spells f.first) (R.spells f.rest) (F.are_tagged f.first)
+        (F.is_misfit f.first) (R.is_misfit f.rest) (R.spells_one f.rest) (F.names_misfit f.first)
+        (R.names_misfit f.rest) };
 }
 
-impl<F: Tagged, R: Elements> Optional<F, R> {
+impl<F: Element, R: Elements> Optional<F, R> {
     ghost use Rattle.std.specs.Prelude.{List, Bool, IsTrue, IsFalse};
     ghost use Rattle.asn1_der.specs.Tagged.{Begins};
 
     /// Whether the spelling of the others begins with a tag of the element in front.
     fn goes_on_as_first(&self, rest: &R::Value) -> bool
         ensures yes { IsTrue result → (list : List Bool)
-            → R.Contents.spells self.now.rest (R.Contents.plain rest.now) list → Begins (F.accepts self.now.first) list }
+            → R.spells self.now.rest (R.plain rest.now) list → Begins (F.accepts self.now.first) list }
         ensures no { IsFalse result → (list : List Bool)
-            → R.Contents.spells self.now.rest (R.Contents.plain rest.now) list → ¬ (Begins (F.accepts self.now.first) list) }
+            → R.spells self.now.rest (R.plain rest.now) list → ¬ (Begins (F.accepts self.now.first) list) }
     {
         match self.rest.first_tag(rest) {
             Some(tag) => self.first.accepts_tag(tag),
             None => false,
-        }
-    }
-}
-
-impl<F: Tagged, R: Elements> Elements for Optional<F, R> {
-    fn first_tag(&self, value: &(Option<F::Value>, R::Value)) -> Option<Tag> {
-        match &value.0 {
-            Some(first) => Some(self.first.tag_of(first)),
-            None => self.rest.first_tag(&value.1),
         }
     }
 }

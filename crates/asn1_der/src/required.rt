@@ -1,10 +1,9 @@
 //! One element, and the others behind it.
 
-use crate::contents::Contents;
+use crate::element::Element;
 use crate::elements::Elements;
 use crate::front::{skip_front, take_front};
 use crate::tag::Tag;
-use crate::tagged::Tagged;
 use asn1_formats::{InThen, Refusal, sum_of};
 use asn1_values::{BitBuffer, BitReader};
 use std::alloc::Global;
@@ -18,11 +17,10 @@ pub struct Required<F, R> {
     pub rest: R,
 }
 
-impl<F: Tagged, R: Contents> Contents for Required<F, R> {
+impl<F: Element, R: Elements> Elements for Required<F, R> {
     ghost use Rattle.asn1_formats.specs.Combined.{Both, BothFault, BothMisfit};
     ghost use Rattle.asn1_formats.specs.SpellingLaws.{both_spells_one};
     ghost use Rattle.asn1_formats.specs.ThenLaws.{both_names_misfit};
-    ghost use Rattle.asn1_der.specs.TaggedLaws.{spelled_reads_one, spelled_names_fault};
     ghost use Rattle.asn1_der.specs.PartLaws.{required_fills_one, required_whole, required_names_fault};
 
     type Value = (F::Value, R::Value);
@@ -44,6 +42,10 @@ impl<F: Tagged, R: Contents> Contents for Required<F, R> {
         BothMisfit (F.spells f.first) (F.is_misfit f.first) (R.is_misfit f.rest) x e };
 
     ghost owns_nothing = { λ f. F.owns_nothing f.first × R.owns_nothing f.rest };
+
+    fn first_tag(&self, value: &(F::Value, R::Value)) -> Option<Tag> {
+        Some(self.first.tag_of(&value.0))
+    }
 
     fn append(
         &self,
@@ -108,7 +110,7 @@ impl<F: Tagged, R: Contents> Contents for Required<F, R> {
 
     ghost fills_one = { λ f.
         required_fills_one (F.spells f.first) (R.spells f.rest)
-        (spelled_reads_one (F.spells f.first) (F.reads f.first) (F.spelled_is_read f.first) (F.reads_one f.first))
+        (F.reads_one f.first)
         (R.fills_one f.rest) };
 
     ghost spells_one = { λ f.
@@ -119,18 +121,11 @@ impl<F: Tagged, R: Contents> Contents for Required<F, R> {
 
     ghost names_fault = { λ f.
         required_names_fault (F.spells f.first) (R.spells f.rest) (F.is_fault f.first) (R.is_fault f.rest)
-        (spelled_reads_one (F.spells f.first) (F.reads f.first) (F.spelled_is_read f.first) (F.reads_one f.first))
-        (spelled_names_fault (F.spells f.first) (F.reads f.first) (F.spelled_is_read f.first) (F.is_fault f.first)
-        (F.names_fault f.first))
+        (F.reads_one f.first)
+        (F.names_fault f.first)
         (R.names_fault f.rest) };
 
     ghost names_misfit = { λ f.
         both_names_misfit (F.spells f.first) (R.spells f.rest) (F.is_misfit f.first) (R.is_misfit f.rest)
         (F.names_misfit f.first) (R.names_misfit f.rest) };
-}
-
-impl<F: Tagged, R: Contents> Elements for Required<F, R> {
-    fn first_tag(&self, value: &(F::Value, R::Value)) -> Option<Tag> {
-        Some(self.first.tag_of(&value.0))
-    }
 }

@@ -1,8 +1,8 @@
 //! SEQUENCE OF.
 
 use crate::contents::Contents;
+use crate::element::Element;
 use crate::items::{InItem, append_items, check_items, measure_items, take_items};
-use crate::tagged::Tagged;
 use asn1_formats::Refusal;
 use asn1_values::{BitBuffer, BitReader};
 use std::alloc::Global;
@@ -14,10 +14,9 @@ pub struct SequenceOf<F> {
     pub item: F,
 }
 
-impl<F: Tagged> Contents for SequenceOf<F> {
+impl<F: Element> Contents for SequenceOf<F> {
     ghost use Rattle.std.specs.Prelude.{List, map};
     ghost use Rattle.asn1_der.specs.Items.{AreItems, ItemFaultIs, ItemMisfitIs};
-    ghost use Rattle.asn1_der.specs.TaggedLaws.{spelled_reads_one, spelled_names_fault};
     ghost use Rattle.asn1_der.specs.ItemLaws.{items_fill_one, items_spell_one, items_whole, items_name_fault, items_name_misfit};
 
     type Value = Vec<F::Value>;
@@ -68,7 +67,7 @@ impl<F: Tagged> Contents for SequenceOf<F> {
 
     ghost fills_one = { λ f.
         items_fill_one (F.spells f.item) (F.accepts f.item) (F.are_tagged f.item)
-        (spelled_reads_one (F.spells f.item) (F.reads f.item) (F.spelled_is_read f.item) (F.reads_one f.item)) };
+        (F.reads_one f.item) };
 
     ghost spells_one = { λ f. items_spell_one (F.spells f.item) (F.spells_one f.item) };
 
@@ -76,9 +75,8 @@ impl<F: Tagged> Contents for SequenceOf<F> {
 
     ghost names_fault = { λ f.
         items_name_fault (F.spells f.item) (F.accepts f.item) (F.are_tagged f.item) (F.is_fault f.item)
-        (spelled_reads_one (F.spells f.item) (F.reads f.item) (F.spelled_is_read f.item) (F.reads_one f.item))
-        (spelled_names_fault (F.spells f.item) (F.reads f.item) (F.spelled_is_read f.item) (F.is_fault f.item)
-        (F.names_fault f.item)) };
+        (F.reads_one f.item)
+        (F.names_fault f.item) };
 
     ghost names_misfit = { λ f. items_name_misfit (F.spells f.item) (F.is_misfit f.item) (F.names_misfit f.item) };
 }

@@ -6,8 +6,9 @@ ghost use Rattle.asn1_formats.specs.Spelling.{Starts};
 ghost use Rattle.asn1_der.specs.Elements.{IsElement, ElementFaultIs};
 
 use crate::contents::Contents;
+use crate::element::Element;
 use crate::length::{LengthFault, length_width, next_counted, push_length};
-use crate::tag::{Tag, TagFault, pass_tag, push_tag};
+use crate::tag::{Tag, TagFault, are_same, pass_tag, push_tag};
 use asn1_formats::{Format, Refusal, sum_of};
 use asn1_values::{BitBuffer, BitReader};
 use std::alloc::Global;
@@ -194,4 +195,75 @@ impl<C: Contents> Tlv<C> {
             Err(wrong) => Err(TlvMisfit::Contents(wrong)),
         }
     }
+}
+
+impl<C: Contents> Element for Tlv<C> {
+    ghost use Rattle.asn1_der.specs.Elements.{IsTlv, TlvFaultIs, TlvMisfitIs};
+    ghost use Rattle.asn1_der.specs.TaggedLaws.{tlv_tagged};
+    ghost use Rattle.asn1_der.specs.TlvLaws.{tlv_reads_one, tlv_spells_one, tlv_names_fault, tlv_names_misfit};
+
+    type Value = C::Value;
+
+    type Fault = InTlv<C::Fault>;
+
+    type Misfit = TlvMisfit<C::Misfit>;
+
+    ghost Plain = { C.Plain };
+
+    ghost plain = { λ v. C.plain v };
+
+    ghost accepts = { λ f t. t ≡ f.tag };
+
+    ghost spells = { λ f x list. IsTlv f.tag (C.spells f.contents) x list };
+
+    ghost is_fault = { λ f list e. TlvFaultIs f.tag (C.is_fault f.contents) list e };
+
+    ghost is_misfit = { λ f x e. TlvMisfitIs f.tag (C.spells f.contents) (C.is_misfit f.contents) x e };
+
+    ghost owns_nothing = { λ f. C.owns_nothing f.contents };
+
+    fn accepts_tag(&self, tag: Tag) -> bool {
+        are_same(tag, self.tag)
+    }
+
+    fn tag_of(&self, _value: &C::Value) -> Tag {
+        self.tag
+    }
+
+    fn append(
+        &self,
+        buffer: &mut BitBuffer,
+        value: &C::Value,
+    ) -> Result<(), Refusal<TlvMisfit<C::Misfit>>> {
+        Format::append(self, buffer, value)
+    }
+
+    fn measure(&self, value: &C::Value) -> Result<Option<usize>, TlvMisfit<C::Misfit>> {
+        Format::measure(self, value)
+    }
+
+    fn take(
+        &self,
+        alloc: Global,
+        reader: &mut BitReader<'_>,
+    ) -> Result<C::Value, Refusal<InTlv<C::Fault>>> {
+        Format::take(self, alloc, reader)
+    }
+
+    fn skip(&self, reader: &mut BitReader<'_>) -> Result<(), InTlv<C::Fault>> {
+        Format::skip(self, reader)
+    }
+
+    ghost are_tagged = { λ f. tlv_tagged f.tag (C.spells f.contents) };
+
+    ghost reads_one = { λ f. tlv_reads_one f.tag (C.spells f.contents) (C.fills_one f.contents) };
+
+    ghost spells_one = { λ f. tlv_spells_one f.tag (C.spells f.contents) (C.spells_one f.contents) };
+
+    ghost names_fault = { λ f.
+        tlv_names_fault f.tag (C.spells f.contents) (C.is_fault f.contents) (C.names_fault f.contents) };
+
+    ghost names_misfit = { λ f.
+        tlv_names_misfit f.tag (C.spells f.contents) (C.is_misfit f.contents) (C.spells_one f.contents)
+        (C.names_misfit f.contents) };
 }

@@ -1,6 +1,6 @@
 //! The calls without their contracts, so that a test's proof does not carry them.
 
-use asn1_der::{Class, Contents, Tag, Tlv};
+use asn1_der::{Class, Sequence, Tag, Tlv};
 use asn1_formats::{Format, Refusal, WriteRefusal, read, write};
 use asn1_values::{BitBuffer, BitReader};
 use std::alloc::Global;
@@ -15,11 +15,16 @@ pub(crate) fn universal(number: u64, constructed: bool) -> Tag {
 }
 
 /// An element with a tag of X.680.
-pub(crate) fn element<C: Contents>(number: u64, constructed: bool, contents: C) -> Tlv<C> {
+pub(crate) fn element<C>(number: u64, constructed: bool, contents: C) -> Tlv<C> {
     Tlv {
         tag: universal(number, constructed),
         contents,
     }
+}
+
+/// A SEQUENCE.
+pub(crate) fn sequence<E>(elements: E) -> Tlv<Sequence<E>> {
+    element(16, true, Sequence { elements })
 }
 
 /// The octets of the value.

@@ -1,9 +1,10 @@
 //! Identifier octets, lengths, and elements inside one another.
 
-use super::calls::{element, found, universal, written};
+use super::calls::{element, found, sequence, universal, written};
 use asn1_der::{
     Any, BooleanContents, End, InItem, InTlv, IntegerContents, LengthFault, NotEnd,
-    OctetStringContents, Optional, OptionalMisfit, Required, SequenceOf, TagFault, Tlv, TlvMisfit,
+    OctetStringContents, Optional, OptionalMisfit, Required, Sequence, SequenceOf, TagFault, Tlv,
+    TlvMisfit,
 };
 use asn1_formats::{InThen, Refusal, WriteRefusal};
 use asn1_values::Integer;
@@ -64,21 +65,17 @@ fn other_lengths_are_refused(rt: HostRuntime) -> Result<(), Fail> {
     Ok(())
 }
 
-type Setting = Tlv<Optional<Tlv<BooleanContents>, Required<Tlv<IntegerContents>, End>>>;
+type Setting = Tlv<Sequence<Optional<Tlv<BooleanContents>, Required<Tlv<IntegerContents>, End>>>>;
 
 /// `SEQUENCE { flag BOOLEAN OPTIONAL, level INTEGER }`
 fn setting() -> Setting {
-    element(
-        16,
-        true,
-        Optional {
-            first: element(1, false, BooleanContents {}),
-            rest: Required {
-                first: element(2, false, IntegerContents {}),
-                rest: End {},
-            },
+    sequence(Optional {
+        first: element(1, false, BooleanContents {}),
+        rest: Required {
+            first: element(2, false, IntegerContents {}),
+            rest: End {},
         },
-    )
+    })
 }
 
 #[test]
@@ -107,17 +104,13 @@ fn an_optional_element_is_told_by_its_tag(rt: HostRuntime) -> Result<(), Fail> {
 
 #[test]
 fn a_value_that_would_be_read_as_another_is_refused(rt: HostRuntime) -> Result<(), Fail> {
-    let format = element(
-        16,
-        true,
-        Optional {
-            first: element(1, false, BooleanContents {}),
-            rest: Required {
-                first: Any {},
-                rest: End {},
-            },
+    let format = sequence(Optional {
+        first: element(1, false, BooleanContents {}),
+        rest: Required {
+            first: Any {},
+            rest: End {},
         },
-    );
+    });
     let value = found(&Any {}, rt.alloc(), &[0x01, 0x01, 0xFF])?;
     assert_eq!(rt;
         written(&format, rt.alloc(), &(None, (value, ()))).err(),

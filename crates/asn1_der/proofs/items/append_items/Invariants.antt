@@ -5,5 +5,5 @@ use Rattle.asn1_der.proofs.items.append_items.Given as goal
 
 abbrev pub invariant-loop-index : goal.invariant-loop-index
 invariant-loop-index g l =
-    IsWritten (λ ys r. AreItems (g.F.Format.spells l.item) ys r) (map g.F.Format.plain (take l.index l.values))
+    IsWritten (λ ys r. AreItems (g.F.Element.spells l.item) ys r) (map g.F.Element.plain (take l.index l.values))
     l.initial.buffer l.buffer

@@ -9,7 +9,7 @@ loop-left-preserved g c =
     let q = c.in-Ok.ensures.skipped in (
       (
         p.0 ++ q.0 ∷ [],
-        many_snoc (g.F.Format.spells c.args.item.now) c.loop-left.index p.0 q.0 (bits_left c.args.contents)
+        many_snoc (g.F.Element.spells c.args.item.now) c.loop-left.index p.0 q.0 (bits_left c.args.contents)
             (bits_left c.loop-left.left) (bits_left c.skip_front.new.contents) p.1 q.1,
       ),
       c.in-Ok.ensures.whole,

@@ -6,7 +6,7 @@ use Rattle.asn1_der.proofs.items.check_items.Given as goal
 
 abbrev pub invariant-loop-left : goal.invariant-loop-left
 invariant-loop-left g l =
-    ((xs : List g.F.Format.Plain) × Starts (λ ys r. SoMany (g.F.Format.spells l.item) l.index ys r)
+    ((xs : List g.F.Element.Plain) × Starts (λ ys r. SoMany (g.F.Element.spells l.item) l.index ys r)
     (bits_left l.initial.contents) xs (bits_left l.left))
     × ((view_left l.left).len % 8 ≡ 0)
     × (l.index + length (bits_left l.left) ≤ l._len)

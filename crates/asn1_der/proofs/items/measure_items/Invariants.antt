@@ -5,4 +5,4 @@ use Rattle.asn1_der.proofs.items.measure_items.Given as goal
 
 abbrev pub invariant-loop-index : goal.invariant-loop-index
 invariant-loop-index g l =
-    Measures (λ ys r. AreItems (g.F.Format.spells l.item) ys r) (map g.F.Format.plain (take l.index l.values)) l.total
+    Measures (λ ys r. AreItems (g.F.Element.spells l.item) ys r) (map g.F.Element.plain (take l.index l.values)) l.total

@@ -6,8 +6,8 @@ use Rattle.asn1_der.proofs.items.take_items.Given as goal
 
 abbrev pub invariant-loop-left : goal.invariant-loop-left
 invariant-loop-left g l =
-    Starts (λ ys r. SoMany (g.F.Format.spells l.item) l.index ys r) (bits_left l.initial.contents)
-    (map g.F.Format.plain l.values.items) (bits_left l.left)
+    Starts (λ ys r. SoMany (g.F.Element.spells l.item) l.index ys r) (bits_left l.initial.contents)
+    (map g.F.Element.plain l.values.items) (bits_left l.left)
     × ((view_left l.left).len % 8 ≡ 0)
     × (l.index + length (bits_left l.left) ≤ l._len)
 

@@ -1,4 +1,4 @@
-use Rattle.std.proofs.Common.{◌<◌, ◌^◌, length, arith}
+use Rattle.std.proofs.Common.{arith}
 use Rattle.asn1_bits.specs.BitReader.{bits_left}
 use Rattle.asn1_der.specs.CountLaws.{counted_starts}
 use Rattle.asn1_der.proofs.length.next_counted.Goals as goal

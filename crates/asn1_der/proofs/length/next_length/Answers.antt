@@ -1,4 +1,4 @@
-use Rattle.std.proofs.Common.{◌≡◌, ◌+◌, ◌-◌, arith}
+use Rattle.std.proofs.Common.{◌-◌, arith}
 use Rattle.asn1_bits.specs.BitReader.{bits_left}
 use Rattle.asn1_der.specs.LengthLaws.{long_starts, long_fault}
 use Rattle.asn1_der.proofs.length.next_length.Goals as goal

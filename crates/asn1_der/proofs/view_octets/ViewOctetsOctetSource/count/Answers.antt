@@ -1,4 +1,4 @@
-use Rattle.std.proofs.Common.{◌/◌, sym, arith}
+use Rattle.std.proofs.Common.{◌/◌, sym}
 use Rattle.asn1_bits.specs.BitStr.{view_of, bits_of}
 use Rattle.asn1_der.specs.ViewOctets.{length-octets_in, octets_in_below}
 use Rattle.asn1_der.proofs.view_octets.ViewOctetsOctetSource.count.Goals as goal
