@@ -1,1 +1,3 @@
 pub mod ListSteps
+pub mod HeldLaws
+pub mod CharacterSteps

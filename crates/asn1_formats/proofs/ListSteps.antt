@@ -1,5 +1,5 @@
 -- Steps of the loops over several values.
-use Rattle.std.proofs.Common.{◌≡◌, ℕ, suc, ◌+◌, ◌<◌, List, [], ◌∷◌, ◌++◌, Bool, length, map, take, drop, get_or, sym, ◌∙◌, ap, arith, Option}
+use Rattle.std.proofs.Common.{◌≡◌, ℕ, suc, ◌+◌, ◌<◌, List, [], ◌∷◌, ◌++◌, Bool, length, map, take, drop, get_or, refl, sym, ◌∙◌, ap, subst, append_assoc, arith, Option}
 use Rattle.std.proofs.lemmas.List.{map_more, map-append, length-map, length-take-le, take-append-drop}
 use Rattle.std.proofs.Math.Seq.{drop-cons}
 use Rattle.asn1_values.specs.Joined.{AreJoined}
@@ -43,3 +43,17 @@ module _ {X : Type 0} (C : ℕ → List Bool → Type 0) (P : X → List Bool �
   counted_of n xs list mid rest s t =
       count_starts C P xs n list mid rest t.spelled.0 s
       (record { front = t.front; spelled = t.spelled.1; parts = t.parts })
+
+  pub counted_written : (n : ℕ) (xs : List X) (old mid new : List Bool) → length xs ≡ n → IsWritten C n old mid
+      → IsWritten (λ ys l. AreJoined P ys l) xs mid new → IsWritten (λ v l. AreCounted C P v l) xs old new
+  counted_written n xs old mid new e p q = record {
+    list = p.list ++ q.list;
+    spelled = record {
+      front = p.list;
+      rest = q.list;
+      first = subst (λ (k : ℕ). C k p.list) (sym e) p.spelled;
+      second = q.spelled;
+      parts = refl;
+    };
+    parts = q.parts ∙ ap (λ (l : List Bool). l ++ q.list) p.parts ∙ append_assoc old p.list q.list;
+  }

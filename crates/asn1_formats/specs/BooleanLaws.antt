@@ -2,7 +2,7 @@
 use Rattle.std.proofs.Common.{◌≡◌, List, [], ◌∷◌, ◌++◌, Bool, refl, sym, ap, ◌∙◌}
 use Rattle.std.specs.Prelude.{⊤}
 use Rattle.asn1_formats.specs.declared.boolean.NoBit.{NoBit}
-use Rattle.std.specs.declared.convert.Infallible.{Infallible}
+use Rattle.asn1_formats.specs.declared.never_wrong.NeverWrong.{NeverWrong}
 use Rattle.asn1_formats.specs.Spelling.{Starts, ReadsOne, SpellsOne, NamesFault, NamesMisfit}
 
 first : (list rest : List Bool) (b : Bool) → Starts (λ (x : Bool) l. l ≡ x ∷ []) list b rest → list ≡ b ∷ rest
@@ -27,7 +27,7 @@ boolean_names_fault = record {
   one = λ list e g p q. refl;
 }
 
-pub boolean_names_misfit : NamesMisfit (λ (b : Bool) l. l ≡ b ∷ []) (λ x (e : Infallible). ⊥)
+pub boolean_names_misfit : NamesMisfit (λ (b : Bool) l. l ≡ b ∷ []) (λ x (e : NeverWrong). ⊥)
 boolean_names_misfit = record { wrong = λ x e p fits. p; one = λ x e g p q. absurd p }
 
 pub null_reads_one : ReadsOne (λ (v : ⊤) (l : List Bool). l ≡ [])
@@ -42,8 +42,8 @@ null_reads_one = record {
 pub null_spells_one : SpellsOne (λ (v : ⊤) (l : List Bool). l ≡ [])
 null_spells_one = record { one = λ x a b p q. p ∙ sym q }
 
-pub null_names_fault : NamesFault (λ (v : ⊤) (l : List Bool). l ≡ []) (λ list (e : Infallible). ⊥)
+pub null_names_fault : NamesFault (λ (v : ⊤) (l : List Bool). l ≡ []) (λ list (e : NeverWrong). ⊥)
 null_names_fault = record { wrong = λ list e p can. p; one = λ list e g p q. absurd p }
 
-pub null_names_misfit : NamesMisfit (λ (v : ⊤) (l : List Bool). l ≡ []) (λ x (e : Infallible). ⊥)
+pub null_names_misfit : NamesMisfit (λ (v : ⊤) (l : List Bool). l ≡ []) (λ x (e : NeverWrong). ⊥)
 null_names_misfit = record { wrong = λ x e p fits. p; one = λ x e g p q. absurd p }

@@ -9,6 +9,7 @@ pub mod Sequences
 pub mod Defaults
 pub mod Choices
 pub mod OctetStrings
+pub mod BitStrings
 -- Laws of these words, which the formats' laws are made of.
 pub mod SpellingLaws
 pub mod WithinLaws
@@ -25,3 +26,4 @@ pub mod DefaultLaws
 pub mod AndLaws
 pub mod ChoiceLaws
 pub mod OctetStringLaws
+pub mod BitStringLaws

@@ -3,10 +3,10 @@
 use crate::bit::{next_bit, push_bit};
 use crate::compare::Compare;
 use crate::format::Format;
+use crate::never_wrong::NeverWrong;
 use crate::refusal::Refusal;
 use asn1_values::{BitBuffer, BitReader};
 use std::alloc::{AllocError, Global};
-use std::convert::Infallible;
 use thiserror::Error;
 
 /// BOOLEAN: one bit, 1 for true (X.691 12).
@@ -27,7 +27,7 @@ impl Format for Boolean {
 
     type Fault = NoBit;
 
-    type Misfit = Infallible;
+    type Misfit = NeverWrong;
 
     ghost Plain = { Bool };
 
@@ -45,14 +45,14 @@ impl Format for Boolean {
 
     ghost is_canonical = { λ f. ⊤ };
 
-    fn append(&self, buffer: &mut BitBuffer, value: &bool) -> Result<(), Refusal<Infallible>> {
+    fn append(&self, buffer: &mut BitBuffer, value: &bool) -> Result<(), Refusal<NeverWrong>> {
         match push_bit(buffer, *value) {
             Ok(()) => Ok(()),
             Err(_) => Err(Refusal::Memory),
         }
     }
 
-    fn measure(&self, _value: &bool) -> Result<Option<usize>, Infallible> {
+    fn measure(&self, _value: &bool) -> Result<Option<usize>, NeverWrong> {
         Ok(Some(1))
     }
 

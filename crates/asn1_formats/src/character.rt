@@ -49,6 +49,13 @@ impl<'s> Character<'s> {
         }
         Some(Character { alphabet })
     }
+
+    /// The alphabet.
+    pub(crate) fn alphabet(&self) -> &CharacterAlphabet<'s>
+        ensures { result.now ≡ self.now.alphabet }
+    {
+        &self.alphabet
+    }
 }
 
 impl<'s> Format for Character<'s> {

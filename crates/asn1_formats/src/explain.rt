@@ -1,9 +1,11 @@
 //! What is wrong, in words.
 
+use crate::bit_string::InBitString;
 use crate::boolean::NoBit;
 use crate::canonical_default::InDefault;
 use crate::character::{CharacterFault, NotInAlphabet};
 use crate::choice::InChoice;
+use crate::never_wrong::NeverWrong;
 use crate::number::{PastWidth, Short};
 use crate::octet_string::InOctetString;
 use crate::one_of::OneOf;
@@ -72,6 +74,27 @@ impl Explain for CharacterFault {
 impl Explain for NotInAlphabet {
     fn is_reason(&self) -> bool {
         true
+    }
+}
+
+impl Explain for NeverWrong {
+    fn is_reason(&self) -> bool {
+        true
+    }
+}
+
+impl<E: Explain> fmt::Display for InBitString<E> {
+    fn fmt<W: fmt::Write>(&self, f: &mut fmt::Formatter<W>) -> fmt::Result {
+        match self {
+            InBitString::Size(wrong) => write_part("number of bits", wrong, f),
+            InBitString::Short { missing } => write!(f, "{missing} bits are missing"),
+        }
+    }
+}
+
+impl<E: Explain> Explain for InBitString<E> {
+    fn is_reason(&self) -> bool {
+        matches!(self, InBitString::Short { .. })
     }
 }
 

@@ -1,10 +1,10 @@
 //! NULL.
 
 use crate::format::Format;
+use crate::never_wrong::NeverWrong;
 use crate::refusal::Refusal;
 use asn1_values::{BitBuffer, BitReader};
 use std::alloc::Global;
-use std::convert::Infallible;
 
 /// NULL: one value, and no bits (X.691 18).
 #[derive(Clone, Copy, Debug)]
@@ -17,9 +17,9 @@ impl Format for Null {
 
     type Value = ();
 
-    type Fault = Infallible;
+    type Fault = NeverWrong;
 
-    type Misfit = Infallible;
+    type Misfit = NeverWrong;
 
     ghost Plain = { ⊤ };
 
@@ -37,19 +37,19 @@ impl Format for Null {
 
     ghost is_canonical = { λ f. ⊤ };
 
-    fn append(&self, _buffer: &mut BitBuffer, _value: &()) -> Result<(), Refusal<Infallible>> {
+    fn append(&self, _buffer: &mut BitBuffer, _value: &()) -> Result<(), Refusal<NeverWrong>> {
         Ok(())
     }
 
-    fn measure(&self, _value: &()) -> Result<Option<usize>, Infallible> {
+    fn measure(&self, _value: &()) -> Result<Option<usize>, NeverWrong> {
         Ok(Some(0))
     }
 
-    fn take(&self, _alloc: Global, _reader: &mut BitReader<'_>) -> Result<(), Refusal<Infallible>> {
+    fn take(&self, _alloc: Global, _reader: &mut BitReader<'_>) -> Result<(), Refusal<NeverWrong>> {
         Ok(())
     }
 
-    fn skip(&self, _reader: &mut BitReader<'_>) -> Result<(), Infallible> {
+    fn skip(&self, _reader: &mut BitReader<'_>) -> Result<(), NeverWrong> {
         Ok(())
     }
 

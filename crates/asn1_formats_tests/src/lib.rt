@@ -2,6 +2,8 @@
 #![tactic(auto)]
 
 #[cfg(test)]
+mod bits;
+#[cfg(test)]
 mod calls;
 #[cfg(test)]
 mod choices;
@@ -9,6 +11,8 @@ mod choices;
 mod defaults;
 #[cfg(test)]
 mod empties;
+#[cfg(test)]
+mod known_strings;
 mod level;
 mod line;
 mod message;

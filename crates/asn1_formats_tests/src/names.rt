@@ -2,7 +2,7 @@
 
 use super::calls::{found, written};
 use asn1_formats::{
-    And, Character, Named, Number, Optional, Required, Sequence, SequenceOf, Size, Then,
+    And, Boolean, Character, Named, Number, Optional, Required, Sequence, SequenceOf, Size, Then,
 };
 use asn1_values::{CharacterAlphabet, VisibleString};
 use std::test::Fail;
@@ -85,6 +85,30 @@ fn bits_are_refused_by_a_path_in_words(rt: HostRuntime) -> Result<(), Fail> {
     assert_eq!(rt;
         wrong.as_str(),
         "children, item 0, child, age: 2 bits are missing"
+    );
+    Ok(())
+}
+
+#[test]
+fn a_named_format_with_a_boolean_says_what_is_wrong_with_values(
+    rt: HostRuntime,
+) -> Result<(), Fail> {
+    let lamp = Named {
+        name: "lamp",
+        part: Then {
+            first: Boolean {},
+            second: Named {
+                name: "level",
+                part: Number::new(3),
+            },
+        },
+    };
+    let Err(refusal) = written(&lamp, rt.alloc(), &(true, 9)) else {
+        return Err("nine needs four bits".into());
+    };
+    assert_eq!(rt;
+        format!(in rt.alloc(); "{refusal}")?.as_str(),
+        "lamp, level: the number does not fit its bits"
     );
     Ok(())
 }

@@ -3,7 +3,7 @@ use Rattle.std.proofs.Common.{◌≡◌, ℕ, ◌+◌, Bool, true, false, List, 
 use Rattle.asn1_formats.specs.declared.then.InThen.{InThen}
 use Rattle.asn1_formats.specs.declared.then.InThen.TheVariants.{First, Second}
 use Rattle.asn1_formats.specs.Spelling.{Starts, CanRead, IsWithin, ReadsOne, NamesFault}
-use Rattle.asn1_formats.specs.Combined.{Both, BothFault}
+use Rattle.asn1_formats.specs.Combined.{Both}
 use Rattle.asn1_formats.specs.Sequences.{IfThere}
 use Rattle.asn1_formats.specs.SpellingLaws.{both_reads_one, join}
 use Rattle.asn1_formats.specs.ThenLaws.{both_names_fault}

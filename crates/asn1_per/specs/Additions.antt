@@ -1,6 +1,6 @@
 -- Additions behind an extension marker (X.691 19.7 to 19.9): how many there are, a presence bit for each, and then each that
 -- is there as an open type.
-use Rattle.std.specs.Prelude.{◌≡◌, ℕ, ◌<◌, ◌≤◌, ⊤, ◌⊎◌, Bool, true, false, List, [], ◌∷◌, ◌++◌, length, take, drop, Option, Some, None, is_some}
+use Rattle.std.specs.Prelude.{◌≡◌, ℕ, ◌≤◌, ⊤, ◌⊎◌, Bool, true, false, List, [], ◌∷◌, ◌++◌, length, take, drop, Option, Some, None, is_some}
 use Rattle.asn1_formats.specs.declared.octet_string.InOctetString.{InOctetString}
 use Rattle.asn1_formats.specs.declared.then.InThen.{InThen}
 use Rattle.asn1_formats.specs.declared.then.InThen.TheVariants as then
@@ -16,7 +16,6 @@ use Rattle.asn1_per.specs.declared.additions.InAdditions.{InAdditions}
 use Rattle.asn1_per.specs.declared.additions.InAdditions.TheVariants.{Count, Presence, NoneThere, Part}
 use Rattle.asn1_per.specs.declared.additions.AdditionsMisfit.{AdditionsMisfit}
 use Rattle.asn1_per.specs.declared.additions.AdditionsMisfit.TheVariants as misfit
-use Rattle.asn1_per.specs.declared.length.LongLength.{LongLength}
 use Rattle.asn1_per.specs.declared.extensible.InRootOrAdditions.{InRootOrAdditions}
 use Rattle.asn1_per.specs.declared.extensible.InRootOrAdditions.TheVariants.{Marker, Root, Extra}
 use Rattle.asn1_per.specs.Lengths.{IsLengthDeterminant, LengthFaultIs}

@@ -19,5 +19,6 @@ pub mod NaturalLaws
 pub mod AdditionLaws
 pub mod UnreadLaws
 pub mod PresenceLaws
+pub mod BehindRootLaws
 pub mod ExtensibleLaws
 pub mod ExtensibleIntegerLaws

@@ -5,7 +5,7 @@ use Rattle.std.proofs.Math.Nat.{pow-le-pow_right}
 use Rattle.asn1_bits.specs.Bits.{digits}
 use Rattle.asn1_bits.specs.DigitLaws.{length-digits}
 use Rattle.asn1_characters.specs.WidthLaws.{ceil_log2_is_least}
-use Rattle.std.specs.declared.convert.Infallible.{Infallible}
+use Rattle.asn1_formats.specs.declared.never_wrong.NeverWrong.{NeverWrong}
 use Rattle.asn1_formats.specs.Spelling.{Starts, CanRead, Measures, IsWritten, ReadsOne, SpellsOne, NamesFault, NamesMisfit}
 use Rattle.asn1_formats.specs.Numbers.{width_to, IsNumber, IsShort}
 use Rattle.asn1_formats.specs.Combined.{After}
@@ -227,5 +227,5 @@ one_fault list NotShortest NotShortest p q = refl
 pub natural_names_fault : NamesFault (λ n l. IsNatural n l) (λ list e. NaturalFaultIs list e)
 natural_names_fault = record { wrong = wrong; one = one_fault }
 
-pub natural_names_misfit : NamesMisfit (λ n l. IsNatural n l) (λ n (e : Infallible). ⊥)
+pub natural_names_misfit : NamesMisfit (λ n l. IsNatural n l) (λ n (e : NeverWrong). ⊥)
 natural_names_misfit = record { wrong = λ x e p fits. p; one = λ x e g p q. absurd p }

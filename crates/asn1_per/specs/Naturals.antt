@@ -1,5 +1,5 @@
 -- Whole numbers from 0 on, behind the number of their octets (X.691 11.7).
-use Rattle.std.specs.Prelude.{◌≡◌, ◌≢◌, ℕ, ◌*◌, ◌^◌, ◌<◌, ◌≤◌, Bool, List}
+use Rattle.std.specs.Prelude.{◌≢◌, ℕ, ◌*◌, ◌^◌, ◌<◌, ◌≤◌, Bool, List}
 use Rattle.asn1_formats.specs.Spelling.{Starts}
 use Rattle.asn1_formats.specs.Numbers.{width_to, IsNumber, IsShort}
 use Rattle.asn1_formats.specs.Combined.{After}

@@ -3,7 +3,6 @@ use Rattle.std.proofs.Common.{◌≡◌, ℕ, ◌+◌, ◌-◌, ◌^◌, ◌<◌
 use Rattle.std.proofs.lemmas.List.{length-append, length-take-le, take-append-drop}
 use Rattle.asn1_formats.specs.declared.size.SizeMisfit.TheVariants.{AboveMost}
 use Rattle.asn1_formats.specs.Spelling.{Starts, Measures, IsLength, IsSumOf, IsWritten}
-use Rattle.asn1_formats.specs.Numbers.{IsShort}
 use Rattle.asn1_per.specs.declared.length.LongLength.{LongLength}
 use Rattle.asn1_per.specs.Extensions.{IsBeyondMisfit}
 use Rattle.asn1_per.specs.Additions.{HasOne, IsSmallLength, SpellsAdditions, IsPresence}

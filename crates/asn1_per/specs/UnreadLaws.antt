@@ -1,9 +1,9 @@
 -- Laws of additions that are not known.
-use Rattle.std.proofs.Common.{◌≡◌, ℕ, zero, suc, ◌+◌, ◌-◌, ◌<◌, Bool, true, false, List, [], ◌∷◌, ◌++◌, length, Option, Some, None, refl, sym, ap, ◌∙◌, subst, arith, append_assoc, inl, inr}
-use Rattle.std.specs.Prelude.{⊤, ◌⊎◌}
-use Rattle.std.specs.declared.convert.Infallible.{Infallible}
+use Rattle.std.proofs.Common.{◌≡◌, ℕ, ◌-◌, Bool, true, false, List, [], ◌∷◌, ◌++◌, length, Option, refl, sym, ap, ◌∙◌, subst, arith, append_assoc, inl, inr}
+use Rattle.std.specs.Prelude.{⊤}
+use Rattle.asn1_formats.specs.declared.never_wrong.NeverWrong.{NeverWrong}
 use Rattle.asn1_formats.specs.declared.octet_string.InOctetString.{InOctetString}
-use Rattle.asn1_formats.specs.Spelling.{Starts, CanRead, ReadsOne, SpellsOne, NamesFault, NamesMisfit}
+use Rattle.asn1_formats.specs.Spelling.{Starts, ReadsOne, SpellsOne, NamesFault, NamesMisfit}
 use Rattle.asn1_formats.specs.OctetStringLaws.{octet_string_reads_one, octet_string_names_fault}
 use Rattle.asn1_per.specs.declared.length.LengthFault.{LengthFault}
 use Rattle.asn1_per.specs.Lengths.{IsLengthDeterminant, LengthFaultIs}
@@ -26,7 +26,7 @@ unit_one u = refl
 pub nothing_spells_one : SpellsOne (λ u l. IsNothing u l)
 nothing_spells_one = record { one = λ u a b p q. p ∙ sym q }
 
-pub nothing_names_misfit : NamesMisfit (λ u l. IsNothing u l) (λ (u : ⊤) (e : Infallible). ⊥)
+pub nothing_names_misfit : NamesMisfit (λ u l. IsNothing u l) (λ (u : ⊤) (e : NeverWrong). ⊥)
 nothing_names_misfit = record { wrong = λ u e p f. p; one = λ u e g p q. absurd p }
 
 -- an open type passed, and the others behind it

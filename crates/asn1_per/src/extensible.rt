@@ -34,7 +34,8 @@ pub enum InRootOrAdditions<E, F> {
 impl<A: Format, D: Additions> Format for Extensible<A, D> {
     ghost use Rattle.asn1_per.specs.Extensions.{IsMarked};
     ghost use Rattle.asn1_per.specs.Additions.{IsRootAlone, IsExtended, ReadsAdditions, SpellsAdditions, AdditionsFault, IsExtensibleMisfit, ExtensibleFault};
-    ghost use Rattle.asn1_per.specs.ExtensibleLaws.{extensible_reads_one, extensible_spells_one, extensible_names_fault, extensible_names_misfit, extensible_within, additions_read_one, additions_spell_one, additions_name_fault, additions_within, spelled_some};
+    ghost use Rattle.asn1_per.specs.ExtensibleLaws.{extensible_reads_one, extensible_spells_one, extensible_names_fault, extensible_names_misfit, extensible_within};
+    ghost use Rattle.asn1_per.specs.BehindRootLaws.{additions_read_one, additions_spell_one, additions_name_fault, additions_within, spelled_some};
 
     type Value = (A::Value, D::Value);
 

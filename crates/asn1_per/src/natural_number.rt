@@ -7,10 +7,9 @@ ghost use Rattle.asn1_per.specs.Naturals.{IsNatural, NaturalFaultIs};
 
 use crate::complete::octets_of;
 use crate::length::{LengthFault, length_width, next_length, push_length};
-use asn1_formats::{Format, Refusal, next_number, push_number, width_to_hold};
+use asn1_formats::{Format, NeverWrong, Refusal, next_number, push_number, width_to_hold};
 use asn1_values::{BitBuffer, BitReader};
 use std::alloc::Global;
-use std::convert::Infallible;
 
 /// INTEGER (0..MAX), of which it holds the numbers of 64 bits: the number of the fewest octets that hold the value, and
 /// the value in these, without a sign (X.691 11.7, 13.2.3).
@@ -66,7 +65,7 @@ impl Format for NaturalNumber {
 
     type Fault = NaturalFault;
 
-    type Misfit = Infallible;
+    type Misfit = NeverWrong;
 
     ghost Plain = { ℕ };
 
@@ -84,7 +83,7 @@ impl Format for NaturalNumber {
 
     ghost is_canonical = { λ f. ⊤ };
 
-    fn append(&self, buffer: &mut BitBuffer, value: &u64) -> Result<(), Refusal<Infallible>> {
+    fn append(&self, buffer: &mut BitBuffer, value: &u64) -> Result<(), Refusal<NeverWrong>> {
         let width = width_to_hold(*value);
         let octets = octets_of(width);
         if let Err(_) = push_length(buffer, octets as u64) {
@@ -96,7 +95,7 @@ impl Format for NaturalNumber {
         }
     }
 
-    fn measure(&self, value: &u64) -> Result<Option<usize>, Infallible> {
+    fn measure(&self, value: &u64) -> Result<Option<usize>, NeverWrong> {
         let width = width_to_hold(*value);
         let octets = octets_of(width);
         Ok(Some(length_width(octets as u64) + 8 * octets))

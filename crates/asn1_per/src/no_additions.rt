@@ -3,10 +3,9 @@
 use crate::addition::skip_part;
 use crate::additions::Additions;
 use crate::length::{Length, LengthFault};
-use asn1_formats::{InOctetString, OctetString, Refusal};
+use asn1_formats::{InOctetString, NeverWrong, OctetString, Refusal};
 use asn1_values::{BitBuffer, BitReader};
 use std::alloc::{AllocError, Global};
-use std::convert::Infallible;
 
 /// No known additions, or none behind those before it. Those of a newer version of the type are passed over: open types of
 /// at most 16,383 octets each.
@@ -22,7 +21,7 @@ impl Additions for NoAdditions {
 
     type Fault = InOctetString<LengthFault>;
 
-    type Misfit = Infallible;
+    type Misfit = NeverWrong;
 
     ghost Plain = { ⊤ };
 
@@ -58,11 +57,11 @@ impl Additions for NoAdditions {
         Ok(())
     }
 
-    fn append(&self, _buffer: &mut BitBuffer, _value: &()) -> Result<(), Refusal<Infallible>> {
+    fn append(&self, _buffer: &mut BitBuffer, _value: &()) -> Result<(), Refusal<NeverWrong>> {
         Ok(())
     }
 
-    fn measure(&self, _value: &()) -> Result<Option<usize>, Infallible> {
+    fn measure(&self, _value: &()) -> Result<Option<usize>, NeverWrong> {
         Ok(Some(0))
     }
 

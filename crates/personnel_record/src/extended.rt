@@ -8,8 +8,7 @@ use asn1_formats::{
     And, ConstrainedNumber, Named, Optional, Required, Sequence, SequenceOf, Size, Then,
 };
 use asn1_per::{
-    Addition, Complete, Extended, Extensible, ExtensibleSize, NoAdditions, OpenType,
-    UnconstrainedNumber,
+    Addition, Complete, Extensible, ExtensibleNumber, ExtensibleSize, NoAdditions, OpenType,
 };
 
 /// `SEQUENCE { givenName NameString, initial NameString (SIZE (1)), familyName NameString, ... }`
@@ -33,9 +32,9 @@ type HireAndLater = And<Required<ExtensibleText>, SpouseAndChildren>;
 type TitleAndLater = And<Required<Title>, HireAndLater>;
 
 /// `INTEGER (0..9999, ...)`: a number of the root, or another one behind the marker's bit.
-pub type ExtensibleNumber = Named<Extended<ConstrainedNumber, UnconstrainedNumber>>;
+pub type EmployeeNumber = Named<ExtensibleNumber>;
 
-type NumberAndLater = And<Required<ExtensibleNumber>, TitleAndLater>;
+type NumberAndLater = And<Required<EmployeeNumber>, TitleAndLater>;
 
 /// A whole record of X.691 A.3, filled up to octets.
 pub type ExtensibleRecordFormat = Complete<
@@ -96,9 +95,8 @@ fn spouse_and_children() -> Option<SpouseAndChildren> {
 }
 
 fn number_and_later() -> Option<NumberAndLater> {
-    let number = Extended {
+    let number = ExtensibleNumber {
         root: ConstrainedNumber::new(0, 9999),
-        extension: UnconstrainedNumber {},
     };
     Some(And {
         first: Required {

@@ -14,7 +14,7 @@ mod tests;
 
 pub use asn1_per::{DecodeError, decode, encode};
 pub use extended::{
-    ExtensibleChild, ExtensibleName, ExtensibleNumber, ExtensibleRecordFormat, Sex,
+    EmployeeNumber, ExtensibleChild, ExtensibleName, ExtensibleRecordFormat, Sex,
     extensible_record_format,
 };
 pub use format::{

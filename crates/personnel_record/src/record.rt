@@ -1,4 +1,6 @@
-//! The record.
+//! The record. Contracts see its parts as nested pairs.
+
+ghost use Rattle.std.specs.Prelude.{◌≡◌};
 
 use crate::format::{ChildParts, NameParts, RecordParts};
 use asn1_formats::OfParts;
@@ -12,24 +14,32 @@ pub struct Name {
 
 impl Name {
     /// A name of a given name, an initial and a family name.
-    pub fn new(given: Vec<u32>, initial: Vec<u32>, family: Vec<u32>) -> Name {
+    pub fn new(given: Vec<u32>, initial: Vec<u32>, family: Vec<u32>) -> Name
+        ensures { result.parts ≡ (given, (initial, family)) }
+    {
         Name {
             parts: (given, (initial, family)),
         }
     }
 
     /// 1 to 64 characters.
-    pub fn given_name(&self) -> &Vec<u32> {
+    pub fn given_name(&self) -> &Vec<u32>
+        ensures { result.now ≡ self.now.parts.0 }
+    {
         &self.parts.0
     }
 
     /// One character.
-    pub fn initial(&self) -> &Vec<u32> {
+    pub fn initial(&self) -> &Vec<u32>
+        ensures { result.now ≡ self.now.parts.1.0 }
+    {
         &self.parts.1.0
     }
 
     /// 1 to 64 characters.
-    pub fn family_name(&self) -> &Vec<u32> {
+    pub fn family_name(&self) -> &Vec<u32>
+        ensures { result.now ≡ self.now.parts.1.1 }
+    {
         &self.parts.1.1
     }
 }
@@ -56,19 +66,25 @@ pub struct ChildInformation {
 
 impl ChildInformation {
     /// A child of this name, born at this date, of eight digits.
-    pub fn new(name: Name, date_of_birth: Vec<u32>) -> ChildInformation {
+    pub fn new(name: Name, date_of_birth: Vec<u32>) -> ChildInformation
+        ensures { result.parts ≡ (name, date_of_birth) }
+    {
         ChildInformation {
             parts: (name, date_of_birth),
         }
     }
 
     /// The name.
-    pub fn name(&self) -> &Name {
+    pub fn name(&self) -> &Name
+        ensures { result.now ≡ self.now.parts.0 }
+    {
         &self.parts.0
     }
 
     /// Eight digits.
-    pub fn date_of_birth(&self) -> &Vec<u32> {
+    pub fn date_of_birth(&self) -> &Vec<u32>
+        ensures { result.now ≡ self.now.parts.1 }
+    {
         &self.parts.1
     }
 }
@@ -102,7 +118,10 @@ impl PersonnelRecord {
         date_of_hire: Vec<u32>,
         name_of_spouse: Name,
         children: Vec<ChildInformation>,
-    ) -> PersonnelRecord {
+    ) -> PersonnelRecord
+        ensures { result.parts
+            ≡ (name, (number, (title, (date_of_hire, (name_of_spouse, children))))) }
+    {
         PersonnelRecord {
             parts: (
                 name,
@@ -112,32 +131,44 @@ impl PersonnelRecord {
     }
 
     /// The name of the person.
-    pub fn name(&self) -> &Name {
+    pub fn name(&self) -> &Name
+        ensures { result.now ≡ self.now.parts.0 }
+    {
         &self.parts.0
     }
 
     /// At most 16,383 characters of `VisibleString`.
-    pub fn title(&self) -> &Vec<u32> {
+    pub fn title(&self) -> &Vec<u32>
+        ensures { result.now ≡ self.now.parts.1.1.0 }
+    {
         &self.parts.1.1.0
     }
 
     /// The employee's number, of at most 16,383 octets in two's complement.
-    pub fn number(&self) -> &Integer {
+    pub fn number(&self) -> &Integer
+        ensures { result.now ≡ self.now.parts.1.0 }
+    {
         &self.parts.1.0
     }
 
     /// The date of hire: eight digits.
-    pub fn date_of_hire(&self) -> &Vec<u32> {
+    pub fn date_of_hire(&self) -> &Vec<u32>
+        ensures { result.now ≡ self.now.parts.1.1.1.0 }
+    {
         &self.parts.1.1.1.0
     }
 
     /// The name of the spouse.
-    pub fn name_of_spouse(&self) -> &Name {
+    pub fn name_of_spouse(&self) -> &Name
+        ensures { result.now ≡ self.now.parts.1.1.1.1.0 }
+    {
         &self.parts.1.1.1.1.0
     }
 
     /// The children, at most 16,383.
-    pub fn children(&self) -> &Vec<ChildInformation> {
+    pub fn children(&self) -> &Vec<ChildInformation>
+        ensures { result.now ≡ self.now.parts.1.1.1.1.1 }
+    {
         &self.parts.1.1.1.1.1
     }
 }

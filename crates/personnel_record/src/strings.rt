@@ -1,17 +1,17 @@
 //! The strings of a record.
 
-use asn1_formats::{Character, Named, SequenceOf, Size};
+use asn1_formats::{Character, KnownMultiplierString, Named, Size};
 use asn1_per::{ExtensibleSize, Length};
 use asn1_values::{CharacterAlphabet, VisibleString};
 
 /// A `VisibleString` with a SIZE and a FROM, under a name.
-pub type Text = Named<SequenceOf<Size, Character<'static>>>;
+pub type Text = Named<KnownMultiplierString<'static, Size>>;
 
 /// A `VisibleString` with a FROM, and a SIZE with an extension marker, under a name.
-pub type ExtensibleText = Named<SequenceOf<ExtensibleSize, Character<'static>>>;
+pub type ExtensibleText = Named<KnownMultiplierString<'static, ExtensibleSize>>;
 
 /// A `VisibleString` of any length, under a name.
-pub type Title = Named<SequenceOf<Length, Character<'static>>>;
+pub type Title = Named<KnownMultiplierString<'static, Length>>;
 
 /// The characters that a name permits, in their order: `-`, `.` and the letters.
 static NAME_CHARACTERS: [u32; 54] = [
@@ -38,7 +38,7 @@ pub(crate) fn name_string(name: &'static str, size: Size) -> Option<Text> {
     let item = name_character()?;
     Some(Named {
         name,
-        part: SequenceOf { size, item },
+        part: KnownMultiplierString::new(size, item),
     })
 }
 
@@ -48,10 +48,7 @@ pub(crate) fn extensible_name_string(name: &'static str) -> Option<ExtensibleTex
     let item = name_character()?;
     Some(Named {
         name,
-        part: SequenceOf {
-            size: ExtensibleSize { root },
-            item,
-        },
+        part: KnownMultiplierString::new(ExtensibleSize { root }, item),
     })
 }
 
@@ -61,7 +58,7 @@ pub(crate) fn date(name: &'static str) -> Option<Text> {
     let item = date_character()?;
     Some(Named {
         name,
-        part: SequenceOf { size, item },
+        part: KnownMultiplierString::new(size, item),
     })
 }
 
@@ -71,10 +68,7 @@ pub(crate) fn extensible_date(name: &'static str) -> Option<ExtensibleText> {
     let item = date_character()?;
     Some(Named {
         name,
-        part: SequenceOf {
-            size: ExtensibleSize { root },
-            item,
-        },
+        part: KnownMultiplierString::new(ExtensibleSize { root }, item),
     })
 }
 
@@ -84,6 +78,6 @@ pub(crate) fn visible_string(name: &'static str) -> Option<Title> {
     let item = Character::new(CharacterAlphabet::new::<VisibleString>(None, false))?;
     Some(Named {
         name,
-        part: SequenceOf { size, item },
+        part: KnownMultiplierString::new(size, item),
     })
 }

@@ -2,7 +2,7 @@
 
 use super::values::text;
 use crate::{ExtensibleRecordFormat, decode, encode, extensible_record_format};
-use asn1_formats::{Format, OneOf, push_number, read, write};
+use asn1_formats::{Format, push_number, read, write};
 use asn1_per::Complete;
 use asn1_values::{BitBuffer, BitReader, Integer};
 use std::alloc::{AllocError, Global};
@@ -14,10 +14,7 @@ type Child = ((Name, Vec<u32>), (Option<u64>, ()));
 
 type Root = (
     Name,
-    (
-        OneOf<i64, Integer>,
-        (Vec<u32>, (Vec<u32>, (Name, Option<Vec<Child>>))),
-    ),
+    (Integer, (Vec<u32>, (Vec<u32>, (Name, Option<Vec<Child>>)))),
 );
 
 /// The octets of the record (X.691 A.3.3), which the bits worked out by hand agree with.
@@ -59,7 +56,7 @@ fn record(alloc: Global) -> Result<(Root, ()), AllocError> {
     let date = text(alloc, b"19710917")?;
     let title = text(alloc, b"Director")?;
     let first = name(alloc, b"John", b"P", b"Smith")?;
-    Ok(((first, (OneOf::First(51), (title, (date, last)))), ()))
+    Ok(((first, (Integer::from(51), (title, (date, last)))), ()))
 }
 
 /// So many ones, at most eight.

@@ -1,5 +1,5 @@
 use Rattle.asn1_bits.specs.BitReader.{bits_left}
-use Rattle.asn1_per.specs.ExtensibleLaws.{additions_start}
+use Rattle.asn1_per.specs.BehindRootLaws.{additions_start}
 use Rattle.asn1_per.proofs.extension.skip_additions.Goals as goal
 
 pub returns-in-Ok-skip-clause-skipped : goal.returns-in-Ok-skip-clause-skipped

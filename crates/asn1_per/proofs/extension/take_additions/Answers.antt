@@ -1,5 +1,5 @@
 use Rattle.asn1_bits.specs.BitReader.{bits_left}
-use Rattle.asn1_per.specs.ExtensibleLaws.{additions_start}
+use Rattle.asn1_per.specs.BehindRootLaws.{additions_start}
 use Rattle.asn1_per.proofs.extension.take_additions.Goals as goal
 
 pub returns-in-Ok-take-clause-read : goal.returns-in-Ok-take-clause-read

@@ -1,4 +1,4 @@
-use Rattle.std.proofs.Common.{List, [], Bool, subst}
+use Rattle.std.proofs.Common.{List, Bool, subst}
 use Rattle.asn1_bits.specs.Bits.{bits}
 use Rattle.asn1_formats.specs.Spelling.{IsWritten}
 use Rattle.asn1_per.specs.Encodings.{IsComplete}

@@ -1,4 +1,4 @@
-use Rattle.std.proofs.Common.{◌≡◌, ℕ, ◌+◌, ◌-◌, arith, subst, sym}
+use Rattle.std.proofs.Common.{◌≡◌, ℕ, ◌+◌, ◌-◌, arith, subst}
 use Rattle.asn1_bits.specs.BitReader.{bits_left}
 use Rattle.asn1_per.specs.UnreadLaws.{IsReached, reached_start, reached_step, reached_end, reached_fault}
 use Rattle.asn1_per.proofs.no_additions.skip_unread.Goals as goal

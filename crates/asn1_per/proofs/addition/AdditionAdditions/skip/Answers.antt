@@ -1,5 +1,5 @@
 use Rattle.asn1_bits.specs.BitReader.{bits_left}
-use Rattle.asn1_per.specs.AdditionLaws.{passed_starts, passed_fault}
+use Rattle.asn1_per.specs.AdditionLaws.{passed_starts}
 use Rattle.asn1_per.proofs.addition.AdditionAdditions.skip.Goals as goal
 
 pub returns-in-Ok-skip-clause-skipped : goal.returns-in-Ok-skip-clause-skipped

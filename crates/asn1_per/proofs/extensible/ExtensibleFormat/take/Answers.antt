@@ -1,4 +1,4 @@
-use Rattle.std.proofs.Common.{Bool, ◌∷◌, refl, ap, ◌∙◌}
+use Rattle.std.proofs.Common.{Bool, ◌∷◌, ap, ◌∙◌}
 use Rattle.asn1_bits.specs.BitReader.{bits_left}
 use Rattle.asn1_per.specs.Additions.{IsRootAlone, IsExtended, ReadsAdditions}
 use Rattle.asn1_per.specs.ExtensionLaws.{root_starts, extension_starts}

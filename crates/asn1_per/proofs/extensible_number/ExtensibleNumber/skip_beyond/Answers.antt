@@ -1,4 +1,4 @@
-use Rattle.std.proofs.Common.{◌≡◌, ℤ, arith, rules, inl, inr, sym, subst}
+use Rattle.std.proofs.Common.{◌≡◌, arith, rules, inl, inr}
 use Rattle.std.proofs.lemmas.Int.{ints}
 use Rattle.asn1_bits.specs.BitReader.{bits_left}
 use Rattle.asn1_per.specs.ExtensibleIntegers.{IsOutsideRoot}

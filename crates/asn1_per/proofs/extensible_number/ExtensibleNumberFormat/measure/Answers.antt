@@ -1,7 +1,5 @@
 use Rattle.std.proofs.Common.{ℤ, ◌∙◌, subst, rules, to_z-of_z, w64}
-use Rattle.asn1_formats.specs.Spelling.{Measures}
 use Rattle.asn1_formats.specs.WholeNumbers.{IsConstrained}
-use Rattle.asn1_per.specs.Extensions.{IsMarked}
 use Rattle.asn1_per.specs.ExtensionLaws.{root_measured, extension_measured}
 use Rattle.asn1_per.specs.ExtensibleIntegers.{IsBeyondNumber}
 use Rattle.asn1_per.proofs.extensible_number.ExtensibleNumberFormat.measure.Goals as goal

@@ -1,6 +1,5 @@
-use Rattle.std.proofs.Common.{Bool, ℤ, ◌∷◌, ap, ◌∙◌, sym, subst}
+use Rattle.std.proofs.Common.{Bool, ◌∷◌, ap, ◌∙◌}
 use Rattle.asn1_bits.specs.BitReader.{bits_left}
-use Rattle.asn1_formats.specs.Spelling.{Starts}
 use Rattle.asn1_formats.specs.WholeNumbers.{IsConstrained}
 use Rattle.asn1_per.specs.ExtensionLaws.{root_starts, extension_starts}
 use Rattle.asn1_per.specs.ExtensibleIntegers.{IsBeyondNumber}
