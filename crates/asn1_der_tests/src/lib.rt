@@ -4,6 +4,8 @@
 #[cfg(test)]
 mod calls;
 #[cfg(test)]
+mod certificate;
+#[cfg(test)]
 mod combinators;
 #[cfg(test)]
 mod elements;
