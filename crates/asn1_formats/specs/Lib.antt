@@ -5,6 +5,7 @@ pub mod Numbers
 pub mod WholeNumbers
 pub mod Characters
 pub mod Combined
+pub mod Dependents
 pub mod Sequences
 pub mod Defaults
 pub mod Choices
@@ -19,6 +20,7 @@ pub mod BooleanLaws
 pub mod CharacterLaws
 pub mod NamedLaws
 pub mod ThenLaws
+pub mod DependentLaws
 pub mod ListLaws
 pub mod SequenceLaws
 pub mod ComponentLaws

@@ -53,6 +53,13 @@ impl<A: Alternatives> Choice<A> {
         }
     }
 
+    /// The alternatives.
+    pub fn alternatives(&self) -> &A
+        ensures { result.now ≡ self.now.alternatives }
+    {
+        &self.alternatives
+    }
+
     /// The place of the value's alternative.
     fn index_of(&self, value: &A::Value) -> u64
         ensures place { result ≡ A.place self.now.alternatives (A.plain value.now) }

@@ -40,6 +40,20 @@ impl<'s, N> KnownMultiplierString<'s, N> {
         let hints = hints_of(item.alphabet());
         KnownMultiplierString { size, item, hints }
     }
+
+    /// The format of the number of characters.
+    pub fn size(&self) -> &N
+        ensures { result.now ≡ self.now.size }
+    {
+        &self.size
+    }
+
+    /// The format of each character.
+    pub fn item(&self) -> &Character<'s>
+        ensures { result.now ≡ self.now.item }
+    {
+        &self.item
+    }
 }
 
 /// The codes of the characters below 256, as far as they are below 256; 0 for any other character.

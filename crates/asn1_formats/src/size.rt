@@ -22,7 +22,7 @@ pub enum SizeFault {
     Short { missing: usize },
     /// They hold a distance from the least number that passes the greatest.
     #[error("{distance} above the least number is past the greatest")]
-    PastMost { distance: u64 },
+    PastMost { distance: u128 },
 }
 
 /// Why a number is not of the range.
@@ -58,6 +58,20 @@ impl Size {
     {
         let width = width_to_hold(most - least);
         Size { least, most, width }
+    }
+
+    /// The least number.
+    pub fn least(&self) -> u64
+        ensures { result ≡ self.now.least }
+    {
+        self.least
+    }
+
+    /// The greatest number.
+    pub fn most(&self) -> u64
+        ensures { result ≡ self.now.most }
+    {
+        self.most
     }
 }
 
@@ -174,13 +188,6 @@ impl Compare for Size {
 impl Size {
     ghost use Rattle.asn1_formats.specs.Numbers.{IsSize, IsSizeFault};
 
-    /// The greatest number.
-    pub(crate) fn most(&self) -> u64
-        ensures { result ≡ self.now.most }
-    {
-        self.most
-    }
-
     /// Appends the digits of the distance.
     fn push_distance(&self, buffer: &mut BitBuffer, distance: u64) -> Result<(), AllocError>
         ensures ok { OnOk result
@@ -210,7 +217,9 @@ impl Size {
         match self.next_distance(reader) {
             Ok(distance) => {
                 if distance > self.most - self.least {
-                    return Err(SizeFault::PastMost { distance });
+                    return Err(SizeFault::PastMost {
+                        distance: distance as u128,
+                    });
                 }
                 Ok(self.least + distance)
             }

@@ -4,11 +4,15 @@
 #[cfg(test)]
 mod bits;
 #[cfg(test)]
+mod by_number;
+#[cfg(test)]
 mod calls;
 #[cfg(test)]
 mod choices;
 #[cfg(test)]
 mod defaults;
+#[cfg(test)]
+mod descriptions;
 #[cfg(test)]
 mod empties;
 #[cfg(test)]
