@@ -16,7 +16,7 @@ pub struct Addition<A, D> {
     pub others: D,
 }
 
-impl<A: Open, D: Additions> Additions for Addition<A, D> {
+impl<A: Open + Format, D: Additions> Additions for Addition<A, D> {
     ghost use Rattle.std.specs.Prelude.{◌+◌, Option, None};
     ghost use Rattle.asn1_formats.specs.Combined.{plain_option, Both, BothMisfit, MaybeMisfit};
     ghost use Rattle.asn1_formats.specs.Sequences.{IfThere};
@@ -171,7 +171,7 @@ impl<A: Open, D: Additions> Additions for Addition<A, D> {
         (D.names_misfit f.others) };
 }
 
-impl<A: Open, D: Additions> Addition<A, D> {
+impl<A: Open + Format, D: Additions> Addition<A, D> {
     ghost use Rattle.std.specs.Prelude.{◌≡◌, ⊤, Bool, true, false, List, [], ◌∷◌, ◌⊎◌, Option, OnOk, OnErr, IfOk, IfErr};
     ghost use Rattle.asn1_bits.specs.BitReader.{bits_left};
     ghost use Rattle.asn1_formats.specs.Spelling.{Starts, Measures, IsWritten, Extends};

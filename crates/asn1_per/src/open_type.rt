@@ -20,9 +20,9 @@ pub struct OpenType<F> {
 }
 
 /// The formats of open types, as each addition behind an extension marker is one (X.691 19.9).
-pub trait Open: Format {}
+pub trait Open {}
 
-impl<F: Format> Open for OpenType<F> {}
+impl<F> Open for OpenType<F> {}
 
 /// What is wrong with the bits of an open type.
 #[derive(Clone, Copy, Debug, PartialEq, Eq, Drop)]
