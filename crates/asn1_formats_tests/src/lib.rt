@@ -29,6 +29,8 @@ mod octets;
 #[cfg(test)]
 mod parts;
 #[cfg(test)]
+mod refusals;
+#[cfg(test)]
 mod strings;
 
 pub use level::{Level, LevelFormat, level_format};
