@@ -1,4 +1,5 @@
-//! How long pieces of work take: `asn1_bench` lists them, `asn1_bench ROUNDS` times each, best of so many rounds.
+//! How long pieces of work take: `asn1_bench` lists them, `asn1_bench ROUNDS` times each, best of
+//! so many rounds.
 #![tactic(auto)]
 
 mod alphabets;

@@ -2,8 +2,8 @@
 use Rattle.std.proofs.Common.{◌≡◌, ℕ, List, Bool, sym, ◌∙◌, ap, subst, Option}
 use Rattle.asn1_formats.specs.declared.then.InThen.{InThen}
 use Rattle.asn1_formats.specs.declared.then.InThen.TheVariants.{First, Second}
-use Rattle.asn1_formats.specs.Spelling.{Starts, CanRead, Fits, Measures, IsSumOf, IsWithin, ReadsOne, SpellsOne, NamesFault, NamesMisfit}
-use Rattle.asn1_formats.specs.Combined.{Both, BothMisfit, After}
+use Rattle.asn1_formats.specs.Spelling.{Starts, CanRead, Measures, IsSumOf, IsWithin, ReadsOne, SpellsOne, NamesFault, NamesMisfit}
+use Rattle.asn1_formats.specs.Combined.{After}
 use Rattle.asn1_formats.specs.Dependents.{BothInTurn, InTurnFault, InTurnMisfit}
 use Rattle.asn1_formats.specs.SpellingLaws.{split, join, measured_both, both_spells_one}
 use Rattle.asn1_formats.specs.ThenLaws.{both_names_misfit}

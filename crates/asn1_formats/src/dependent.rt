@@ -10,7 +10,8 @@ use crate::then::InThen;
 use asn1_values::{BitBuffer, BitReader};
 use std::alloc::Global;
 
-/// Says which format stands behind a number, as a length or a code that was read tells what follows.
+/// Says which format stands behind a number, as a length or a code that was read tells what
+/// follows.
 pub trait Chooses {
     /// The format behind the number.
     type Chosen: Format + Drop;
@@ -23,8 +24,8 @@ pub trait Chooses {
         ensures { result ≡ chosen self.now number };
 }
 
-/// A number, and behind it a part whose format depends on the number, with nothing between them. The number is of any
-/// format of counts.
+/// A number, and behind it a part whose format depends on the number, with nothing between them.
+/// The number is of any format of counts.
 #[derive(Clone, Copy, Debug)]
 pub struct Dependent<A, C> {
     /// The format of the number.
@@ -134,7 +135,8 @@ impl<A: Counts, C: Chooses> Format for Dependent<A, C> {
 
     ghost read_is_spelled = { λ f canonical. in_turn_within (A.counts f.number) (A.counts f.number)
         (λ n. C.Chosen.reads (C.chosen f.choice n)) (λ n. C.Chosen.spells (C.chosen f.choice n))
-        (itself (A.counts f.number)) (λ n. C.Chosen.read_is_spelled (C.chosen f.choice n) (canonical n)) };
+        (itself (A.counts f.number))
+        (λ n. C.Chosen.read_is_spelled (C.chosen f.choice n) (canonical n)) };
 
     ghost reads_one = { λ f. in_turn_reads_one (A.counts f.number)
         (λ n. C.Chosen.reads (C.chosen f.choice n)) (A.reads_one_count f.number)

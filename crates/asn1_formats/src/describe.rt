@@ -1,5 +1,5 @@
-//! Formats in words, as `SEQUENCE { age INTEGER (0..120) OPTIONAL, BOOLEAN }`: the notation of X.680 as far as it goes. A
-//! count in front of items is a format of its own, in brackets.
+//! Formats in words, as `SEQUENCE { age INTEGER (0..120) OPTIONAL, BOOLEAN }`: the notation of
+//! X.680 as far as it goes. A count in front of items is a format of its own, in brackets.
 
 use crate::alternatives::Alternatives;
 use crate::and::And;

@@ -1,5 +1,5 @@
-//! Formats: which bits spell a value, with the reader and the writer that follow from it. A format is composed of others,
-//! and what [`read`] and [`write`] promise holds of every format.
+//! Formats: which bits spell a value, with the reader and the writer that follow from it. A format
+//! is composed of others, and what [`read`] and [`write`] promise holds of every format.
 #![tactic(auto)]
 
 mod alternatives;

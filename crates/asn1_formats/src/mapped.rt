@@ -9,8 +9,8 @@ use asn1_values::{BitBuffer, BitReader};
 use std::alloc::{AllocError, Global};
 use std::marker::PhantomData;
 
-/// A value of the program's own that holds a format's value, its parts, and names them by its methods. [`Mapped`] makes a
-/// format of it.
+/// A value of the program's own that holds a format's value, its parts, and names them by its
+/// methods. [`Mapped`] makes a format of it.
 pub trait OfParts: Drop {
     /// The value of the format, such as nested pairs.
     type Parts: Drop;
@@ -27,7 +27,8 @@ pub trait OfParts: Drop {
         ensures { parts_of result ≡ parts };
 }
 
-/// A format whose values are the program's own. Its bits, and what is wrong with them, are those of the part.
+/// A format whose values are the program's own. Its bits, and what is wrong with them, are those of
+/// the part.
 #[derive(Debug, Drop)]
 pub struct Mapped<A, V> {
     part: A,

@@ -8,8 +8,8 @@ use asn1_values::{BitBuffer, BitReader};
 use std::alloc::{AllocError, Global};
 use std::fmt;
 
-/// A part with a name, by which an error says where it is: a format, or components such as a default. Values and bits are
-/// those of the part.
+/// A part with a name, by which an error says where it is: a format, or components such as a
+/// default. Values and bits are those of the part.
 #[derive(Clone, Copy, Debug)]
 pub struct Named<A> {
     /// The name.

@@ -26,7 +26,8 @@ pub struct Short {
 #[error("the number does not fit its bits")]
 pub struct PastWidth {}
 
-/// The whole numbers that so many bits hold, at most 64: their binary digits, the highest first (X.691 11.3).
+/// The whole numbers that so many bits hold, at most 64: their binary digits, the highest first
+/// (X.691 11.3).
 #[derive(Clone, Copy, Debug)]
 pub struct Number {
     width: usize,
@@ -167,7 +168,8 @@ pub(crate) fn push_wide(buffer: &mut BitBuffer, value: u128, width: usize) -> Re
 /// The number of the next bits, as many as the width, which is at most 64; or how many are missing.
 pub fn next(reader: &mut BitReader<'_>, width: usize) -> Result<u64, Short>
     requires { width ≤ 64 }
-    ensures read { IfOk result (λ x. Starts (IsNumber width) (bits_left reader.old) x (bits_left reader.new)) }
+    ensures read { IfOk result
+        (λ x. Starts (IsNumber width) (bits_left reader.old) x (bits_left reader.new)) }
     ensures short { IfErr result (λ e. IsShort width (bits_left reader.old) e.missing) }
 {
     let Ok(front) = reader.split(width) else {
@@ -178,10 +180,12 @@ pub fn next(reader: &mut BitReader<'_>, width: usize) -> Result<u64, Short>
     Ok(front.first_u128(width) as u64)
 }
 
-/// The number of the next bits, as many as the width, which is at most 128; or how many are missing.
+/// The number of the next bits, as many as the width, which is at most 128; or how many are
+/// missing.
 pub(crate) fn next_wide(reader: &mut BitReader<'_>, width: usize) -> Result<u128, Short>
     requires { width ≤ 128 }
-    ensures read { IfOk result (λ x. Starts (IsNumber width) (bits_left reader.old) x (bits_left reader.new)) }
+    ensures read { IfOk result
+        (λ x. Starts (IsNumber width) (bits_left reader.old) x (bits_left reader.new)) }
     ensures short { IfErr result (λ e. IsShort width (bits_left reader.old) e.missing) }
 {
     let Ok(front) = reader.split(width) else {
@@ -195,7 +199,8 @@ pub(crate) fn next_wide(reader: &mut BitReader<'_>, width: usize) -> Result<u128
 /// The number of the next bits.
 pub(crate) fn next32(reader: &mut BitReader<'_>, width: usize) -> Result<u32, Short>
     requires { width ≤ 32 }
-    ensures read { IfOk result (λ x. Starts (IsNumber width) (bits_left reader.old) x (bits_left reader.new)) }
+    ensures read { IfOk result
+        (λ x. Starts (IsNumber width) (bits_left reader.old) x (bits_left reader.new)) }
     ensures short { IfErr result (λ e. IsShort width (bits_left reader.old) e.missing) }
 {
     let Ok(front) = reader.split(width) else {

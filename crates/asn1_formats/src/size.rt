@@ -36,8 +36,8 @@ pub enum SizeMisfit {
     AboveMost,
 }
 
-/// The natural numbers from a least to a greatest one, as a size or an index has them: the distance from the least, in as
-/// few bits as all distances need (X.691 11.5.6, 11.9.3.3).
+/// The natural numbers from a least to a greatest one, as a size or an index has them: the distance
+/// from the least, in as few bits as all distances need (X.691 11.5.6, 11.9.3.3).
 #[derive(Clone, Copy, Debug)]
 pub struct Size {
     least: u64,
@@ -191,7 +191,8 @@ impl Size {
     /// Appends the digits of the distance.
     fn push_distance(&self, buffer: &mut BitBuffer, distance: u64) -> Result<(), AllocError>
         ensures ok { OnOk result
-            (buffer.new ≡ buffer.old ++ digits distance (width_to (self.now.most - self.now.least))) }
+            (buffer.new ≡ buffer.old
+            ++ digits distance (width_to (self.now.most - self.now.least))) }
         ensures err { OnErr result (buffer.new ≡ buffer.old) }
     {
         push(buffer, distance, self.width)
@@ -199,7 +200,8 @@ impl Size {
 
     /// The number of the next bits, as many as a distance has.
     fn next_distance(&self, reader: &mut BitReader<'_>) -> Result<u64, Short>
-        ensures read { IfOk result (λ x. Starts (IsNumber (width_to (self.now.most - self.now.least)))
+        ensures read { IfOk result
+            (λ x. Starts (IsNumber (width_to (self.now.most - self.now.least)))
             (bits_left reader.old) x (bits_left reader.new)) }
         ensures short { IfErr result (λ e. IsShort (width_to (self.now.most - self.now.least))
             (bits_left reader.old) e.missing) }

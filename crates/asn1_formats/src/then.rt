@@ -9,8 +9,8 @@ use crate::refusal::Refusal;
 use asn1_values::{BitBuffer, BitReader};
 use std::alloc::{AllocError, Global};
 
-/// One part and then another, with nothing between them, as the components of a SEQUENCE without optional ones stand
-/// (X.691 19.4).
+/// One part and then another, with nothing between them, as the components of a SEQUENCE without
+/// optional ones stand (X.691 19.4).
 #[derive(Clone, Copy, Debug)]
 pub struct Then<A, B> {
     /// The part in front.
@@ -126,17 +126,21 @@ impl<A: Format, B: Format> Format for Then<A, B> {
         (A.read_is_spelled f.first canonical.0) (B.read_is_spelled f.second canonical.1) };
 
     ghost reads_one = { λ f.
-        both_reads_one (A.reads f.first) (B.reads f.second) (A.reads_one f.first) (B.reads_one f.second) };
+        both_reads_one (A.reads f.first) (B.reads f.second) (A.reads_one f.first)
+        (B.reads_one f.second) };
 
     ghost spells_one = { λ f.
-        both_spells_one (A.spells f.first) (B.spells f.second) (A.spells_one f.first) (B.spells_one f.second) };
+        both_spells_one (A.spells f.first) (B.spells f.second) (A.spells_one f.first)
+        (B.spells_one f.second) };
 
     ghost names_fault = { λ f.
-        both_names_fault (A.reads f.first) (B.reads f.second) (A.is_fault f.first) (B.is_fault f.second)
+        both_names_fault (A.reads f.first) (B.reads f.second) (A.is_fault f.first)
+        (B.is_fault f.second)
         (A.reads_one f.first) (A.names_fault f.first) (B.names_fault f.second) };
 
     ghost names_misfit = { λ f.
-        both_names_misfit (A.spells f.first) (B.spells f.second) (A.is_misfit f.first) (B.is_misfit f.second)
+        both_names_misfit (A.spells f.first) (B.spells f.second) (A.is_misfit f.first)
+        (B.is_misfit f.second)
         (A.names_misfit f.first) (B.names_misfit f.second) };
 }
 

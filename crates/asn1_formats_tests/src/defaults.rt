@@ -76,7 +76,8 @@ fn a_default_that_is_written_is_read_by_basic_per_alone(rt: HostRuntime) -> Resu
     Ok(())
 }
 
-/// SEQUENCE { range SEQUENCE { least INTEGER (0..7), flag BOOLEAN } DEFAULT { 5, TRUE } } in CANONICAL-PER.
+/// SEQUENCE { range SEQUENCE { least INTEGER (0..7), flag BOOLEAN } DEFAULT { 5, TRUE } } in
+/// CANONICAL-PER.
 fn range() -> Sequence<CanonicalDefault<Named<Then<Size, Boolean>>>> {
     Sequence {
         components: CanonicalDefault {

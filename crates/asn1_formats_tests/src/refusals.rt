@@ -43,8 +43,8 @@ fn format() -> Result<Message, Fail> {
     })
 }
 
-/// The octets of the message behind 111: 1 for the text, 0101 and the codes of five digits, 0011 and three octets, 010 and
-/// two pairs. A digit's code is one above it, since SPACE has code 0.
+/// The octets of the message behind 111: 1 for the text, 0101 and the codes of five digits, 0011
+/// and three octets, 010 and two pairs. A digit's code is one above it, since SPACE has code 0.
 const MESSAGE: [u8; 8] = [0xF5, 0x23, 0x45, 0x63, 0xA5, 0xA5, 0xA5, 0x56];
 
 /// The text 12345, three octets and two pairs; None where memory was refused.

@@ -21,7 +21,12 @@ impl fmt::Display for Length {
 
 impl fmt::Display for ExtensibleSize {
     fn fmt<W: fmt::Write>(&self, f: &mut fmt::Formatter<W>) -> fmt::Result {
-        write!(f, "INTEGER ({}..{}, ...)", self.root.least(), self.root.most())
+        write!(
+            f,
+            "INTEGER ({}..{}, ...)",
+            self.root.least(),
+            self.root.most()
+        )
     }
 }
 
@@ -39,7 +44,12 @@ impl fmt::Display for UnconstrainedNumber {
 
 impl fmt::Display for ExtensibleNumber {
     fn fmt<W: fmt::Write>(&self, f: &mut fmt::Formatter<W>) -> fmt::Result {
-        write!(f, "INTEGER ({}..{}, ...)", self.root.least(), self.root.most())
+        write!(
+            f,
+            "INTEGER ({}..{}, ...)",
+            self.root.least(),
+            self.root.most()
+        )
     }
 }
 
