@@ -11,6 +11,7 @@ pub mod Defaults
 pub mod Choices
 pub mod OctetStrings
 pub mod BitStrings
+pub mod IntegerOctets
 -- Laws of these words, which the formats' laws are made of.
 pub mod SpellingLaws
 pub mod WithinLaws
@@ -29,3 +30,4 @@ pub mod AndLaws
 pub mod ChoiceLaws
 pub mod OctetStringLaws
 pub mod BitStringLaws
+pub mod IntegerOctetLaws

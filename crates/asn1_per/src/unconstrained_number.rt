@@ -5,10 +5,11 @@ ghost use Rattle.asn1_bits.specs.BitReader.{view_left, bits_left};
 ghost use Rattle.asn1_values.specs.Wrong.{IsNoInteger};
 ghost use Rattle.asn1_formats.specs.Spelling.{Starts};
 ghost use Rattle.asn1_number.specs.Readings.{IsInRange, SignedOf};
-ghost use Rattle.asn1_per.specs.Integers.{HoldsInteger, IsUnconstrained, UnconstrainedFaultIs};
+ghost use Rattle.asn1_formats.specs.IntegerOctets.{HoldsInteger};
+ghost use Rattle.asn1_per.specs.Integers.{IsUnconstrained, UnconstrainedFaultIs};
 
 use crate::length::{LengthFault, LongLength, length_width, next_length, push_length};
-use asn1_formats::{Format, Refusal, next_number, next_octets, push_octets};
+use asn1_formats::{Format, Refusal, are_shortest_octets, next_number, next_octets, push_octets};
 use asn1_values::{BitBuffer, BitReader, Integer, integer_of};
 use std::alloc::Global;
 
@@ -26,31 +27,6 @@ pub enum UnconstrainedFault {
     Short { missing: u128 },
     /// It has no octet, or its first nine bits are all alike, so that fewer octets hold it.
     NotShortest,
-}
-
-/// Whether the octets that are left are the shortest of a number: one, or more whose first nine
-/// bits are not all alike (X.690 8.3.2).
-fn is_shortest(front: &BitReader<'_>) -> bool
-    requires { (view_left front.now).len % 8 ≡ 0 }
-    ensures yes { IsTrue result → HoldsInteger (bits_left front.now) }
-    ensures no { IsFalse result → IsNoInteger (bits_left front.now) }
-{
-    let len = front.len();
-    if len == 0 {
-        return false;
-    }
-    if len == 8 {
-        return true;
-    }
-    // Bit 8 of the second octet is the ninth.
-    let two = front.first_bits(16);
-    if two < 0x80 {
-        return false;
-    }
-    if two >= 0xFF80 {
-        return false;
-    }
-    true
 }
 
 /// The octets of the next number, which are shortest, behind their number.
@@ -72,7 +48,7 @@ pub(crate) fn next_contents<'a>(
         Ok(front) => front,
         Err(missing) => return Err(UnconstrainedFault::Short { missing }),
     };
-    if !is_shortest(&front) {
+    if !are_shortest_octets(&front) {
         return Err(UnconstrainedFault::NotShortest);
     }
     Ok(front)
