@@ -1,5 +1,5 @@
 -- Whole numbers behind the number of their octets (X.691 11.8).
-use Rattle.std.specs.Prelude.{◌≡◌, ℕ, ℤ, ◌*◌, ◌^◌, ◌≤◌, Bool, List, length, take}
+use Rattle.std.specs.Prelude.{◌≡◌, ℤ, ◌*◌, ◌^◌, ◌≤◌, Bool, List, length, take}
 use Rattle.asn1_bits.specs.Bits.{bits}
 use Rattle.asn1_number.specs.Shortest.{shortest_octets}
 use Rattle.asn1_values.specs.Wrong.{IsNoInteger}

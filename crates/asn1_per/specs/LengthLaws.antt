@@ -3,7 +3,6 @@ use Rattle.std.proofs.Common.{◌≡◌, ℕ, ◌+◌, ◌-◌, ◌*◌, ◌/◌
 use Rattle.std.proofs.lemmas.Bool.{cases_lt}
 use Rattle.asn1_bits.specs.Bits.{digits}
 use Rattle.asn1_bits.specs.DigitLaws.{length-digits}
-use Rattle.asn1_bits.specs.NumberLaws.{digits-append, digits-low}
 use Rattle.asn1_formats.specs.Spelling.{Starts, CanRead, Measures, ReadsOne, SpellsOne, NamesFault, NamesMisfit}
 use Rattle.asn1_formats.specs.Numbers.{IsNumber, IsShort}
 use Rattle.asn1_formats.specs.SpellingLaws.{number_reads_one, number_short}
