@@ -13,35 +13,52 @@ const RECORD: [u8; 61] = [
     0x98, 0x5C, 0xE5, 0x21, 0x88, 0x5D, 0x54, 0xC1, 0x70, 0xCA, 0xC8, 0x38, 0xB8,
 ];
 
-/// The octets of a record, or why it has none.
-fn written(alloc: Global, record: &PersonnelRecord) -> Result<Vec<u8>, Fail> {
+/// The octets of a record, or why it has none, in words. Tests that call it do not state the type
+/// of the format, whose statement takes a minute.
+fn encoded(alloc: Global, record: &PersonnelRecord) -> Result<Result<Vec<u8>, String>, Fail> {
     match encode(&format()?, alloc, record) {
-        Ok(octets) => Ok(octets),
-        Err(refusal) => Err(refusal.into()),
+        Ok(octets) => Ok(Ok(octets)),
+        Err(refusal) => Ok(Err(format!(in alloc; "{refusal}")?)),
     }
 }
 
-/// The record of octets, or why they are none.
-fn found(alloc: Global, octets: &[u8]) -> Result<PersonnelRecord, Fail> {
+/// The record of octets, or why they are none, in words.
+fn decoded(alloc: Global, octets: &[u8]) -> Result<Result<PersonnelRecord, String>, Fail> {
     match decode(&format()?, alloc, octets) {
+        Ok(record) => Ok(Ok(record)),
+        Err(refusal) => Ok(Err(format!(in alloc; "{refusal}")?)),
+    }
+}
+
+/// The octets of a record that has some.
+fn written(alloc: Global, record: &PersonnelRecord) -> Result<Vec<u8>, Fail> {
+    match encoded(alloc, record)? {
+        Ok(octets) => Ok(octets),
+        Err(_) => Err("the record is right".into()),
+    }
+}
+
+/// The record of octets that are one.
+fn found(alloc: Global, octets: &[u8]) -> Result<PersonnelRecord, Fail> {
+    match decoded(alloc, octets)? {
         Ok(record) => Ok(record),
-        Err(refusal) => Err(refusal.into()),
+        Err(_) => Err("the octets are right".into()),
     }
 }
 
 /// Why the octets are no record, in words.
 fn wrong(alloc: Global, octets: &[u8]) -> Result<String, Fail> {
-    match decode(&format()?, alloc, octets) {
+    match decoded(alloc, octets)? {
         Ok(_) => Err("read".into()),
-        Err(refusal) => Ok(format!(in alloc; "{refusal}")?),
+        Err(why) => Ok(why),
     }
 }
 
 /// Why the record is not written, in words.
 fn unfit(alloc: Global, record: PersonnelRecord) -> Result<String, Fail> {
-    match encode(&format()?, alloc, &record) {
+    match encoded(alloc, &record)? {
         Ok(_) => Err("written".into()),
-        Err(refusal) => Ok(format!(in alloc; "{refusal}")?),
+        Err(why) => Ok(why),
     }
 }
 
