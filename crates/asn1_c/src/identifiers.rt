@@ -7,7 +7,7 @@ ghost use Rattle.asn1_oid.specs.Reading.{contents_reading};
 ghost use Rattle.asn1_c.specs.Arcs.{more_arcs};
 
 use crate::codes::{ARC_COUNT, ARC_TOO_LARGE, ARCS, DONE, MALFORMED, ROOM};
-use asn1_values::{ContentsError, Oid, OidContents, check_contents};
+use asn1_values::{ContentsError, OctetSource, Oid, OidContents, check_contents};
 
 /// Whether the octets are the contents of an identifier whose arcs all fit 32 bits.
 #[unsafe(no_mangle)]
@@ -19,7 +19,20 @@ pub extern "C" fn asn1_oid_check(octets: &[u8]) -> u32
     ensures malformed { result ≡ 6 ↔ ((arcs : List ℕ) → ¬ (IsContents arcs octets.now)) }
     ensures codes { result ≢ 0 → result ≢ 7 → result ≡ 6 }
 {
-    match check_contents(&octets) {
+    code_of_contents(&octets)
+}
+
+/// `asn1_oid_check` of any list of octets.
+pub(crate) fn code_of_contents<S: OctetSource>(source: &S) -> u32
+    ensures done { result ≡ 0
+        ↔ ((arcs : List ℕ) × IsContents arcs (S.list source.now) × FitU32 arcs) }
+    ensures arc_too_large { result ≡ 7
+        ↔ ((arcs : List ℕ) × IsContents arcs (S.list source.now) × ¬ (FitU32 arcs)) }
+    ensures malformed { result ≡ 6
+        ↔ ((arcs : List ℕ) → ¬ (IsContents arcs (S.list source.now))) }
+    ensures codes { result ≢ 0 → result ≢ 7 → result ≡ 6 }
+{
+    match check_contents(source) {
         Ok(()) => DONE,
         Err(ContentsError::ArcTooLarge) => ARC_TOO_LARGE,
         Err(_) => MALFORMED,
