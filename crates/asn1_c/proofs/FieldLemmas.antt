@@ -1,12 +1,12 @@
 -- Fields that are read at a place of the octets.
-use Rattle.std.proofs.Common.{◌≡◌, ◌≢◌, ℕ, zero, suc, ◌+◌, ◌-◌, ◌*◌, ◌<◌, ◌≤◌, Bool, List, [], ◌∷◌, ◌++◌, length, take, drop, get_or, ◌^◌, refl, sym, ap, subst, ◌∙◌, arith, inl, inr}
-use Rattle.std.specs.Prelude.{IfOk, IfErr, OnOk, Result, Ok, Err, Option, Some, None, MatchOption}
+use Rattle.std.proofs.Common.{◌≡◌, ◌≢◌, ℕ, ◌+◌, ◌-◌, ◌*◌, ◌<◌, ◌≤◌, Bool, List, [], ◌∷◌, ◌++◌, length, take, drop, get_or, ◌^◌, refl, sym, ap, subst, ◌∙◌, arith}
+use Rattle.std.specs.Prelude.{IfOk, IfErr, OnOk, Result, Ok, Err, Option, Some}
 use Rattle.std.proofs.lemmas.List.{take_more, take_more_set, drop-drop, drop-set-lt}
 use Rattle.std.proofs.Math.ListN.{set}
 use Rattle.asn1_bits.specs.Bits.{digits, bits}
 use Rattle.asn1_values.specs.Fields as plain
 use Rattle.asn1_values.specs.Fields.{IsSpelledBy, IsOfShape}
-use Rattle.asn1_values.specs.Wrong.{Fault, NumberWidth, NotInteger, Short, NoCharacter, NoLength, NotIdentifier, ArcOver, IsShortBy, IsReason}
+use Rattle.asn1_values.specs.Wrong.{Fault, NumberWidth, NotInteger, Short, NoCharacter, NoLength, NotIdentifier, ArcOver, IsShortBy}
 use Rattle.asn1_c.specs.declared.alphabets.Alphabet.{Alphabet}
 use Rattle.asn1_c.specs.declared.fields.Shape.{Shape}
 use Rattle.asn1_c.specs.declared.fields.Field.{Field}

@@ -1,12 +1,13 @@
 -- Octets that lie one after another in the bits of others.
-use Rattle.std.proofs.Common.{◌≡◌, ℕ, zero, suc, ◌+◌, ◌-◌, ◌*◌, ◌<◌, ◌≤◌, Bool, List, [], ◌∷◌, ◌++◌, length, take, drop, get_or, refl, sym, ap, subst, ◌∙◌, arith}
+use Rattle.std.proofs.Common.{◌≡◌, ℕ, zero, suc, ◌+◌, ◌-◌, ◌*◌, ◌<◌, ◌≤◌, Bool, List, [], ◌∷◌, ◌++◌, length, take, drop, get_or, refl, sym, ap, ◌∙◌, arith}
 use Rattle.std.specs.Prelude.{All}
-use Rattle.std.proofs.lemmas.List.{nil_from_length, length-take, length-drop, drop-drop, take_all}
+use Rattle.std.proofs.lemmas.List.{length-take, length-drop, drop-drop, take_all, take_more, take_more_set}
 use Rattle.std.proofs.Math.Seq.{take-add}
+use Rattle.std.proofs.Math.ListN.{set}
 use Rattle.std.proofs.lemmas.List.Elements.{All-nil, All-cons, All-head, All-tail}
 use Rattle.asn1_bits.specs.Bits.{digits, number, bits}
-use Rattle.asn1_bits.specs.DigitLaws.{length-bits, length-digits}
-use Rattle.asn1_bits.specs.NumberLaws.{digits_of-number, number-below, number_of-digits, same_octets}
+use Rattle.asn1_bits.specs.DigitLaws.{length-bits}
+use Rattle.asn1_bits.specs.NumberLaws.{digits_of-number, number-below, same_octets}
 use Rattle.asn1_number.specs.Octets.{IsOctets}
 use Rattle.asn1_values.specs.Fields as plain
 use Rattle.asn1_values.specs.Fields.{IsSpelledBy}
@@ -88,6 +89,18 @@ module _ (octets : List ℕ) (at count : ℕ) (le : at + 8 * count ≤ 8 * lengt
       get_or-octets_of count i (drop at (bits octets)) lt
       ∙ ap (λ (l : List Bool). number (take 8 l))
       (drop-drop (8 * i) at (bits octets))
+
+  -- one octet more is copied
+  pub one_more : (room : List ℕ) (i octet : ℕ) → i < count → i < length room
+      → octet ≡ number (take 8 (drop (at + 8 * i) (bits octets)))
+      → take i room ≡ take i (octets_at octets at count)
+      → take (i + 1) (set room i octet) ≡ take (i + 1) (octets_at octets at count)
+  one_more room i octet lt in_room is so_far =
+      let n : length (octets_at octets at count) ≡ count = length-octets_of count (drop at (bits octets)) in
+      let here : octet ≡ get_or (octets_at octets at count) i 0 = is ∙ sym (octet_of_place i lt) in
+      take_more_set room i octet in_room ∙ ap (λ (l : List ℕ). l ++ octet ∷ []) so_far
+      ∙ ap (λ (k : ℕ). take i (octets_at octets at count) ++ k ∷ []) here
+      ∙ sym (take_more (octets_at octets at count) i 0 (omega arith))
 
 -- so many octets are spelled by their bits
 pub octets_spelled : (n : ℕ) (list : List Bool) → length list ≡ 8 * n

@@ -1,11 +1,11 @@
 -- How fields are written: what a plan writes, and that it spells the field.
-use Rattle.std.proofs.Common.{◌≡◌, ◌≢◌, ℕ, ◌+◌, ◌*◌, ◌^◌, ◌<◌, ◌≤◌, ℤ, Bool, true, false, List, [], ◌∷◌, ◌++◌, length, take, drop, refl, sym, ap, subst, ◌∙◌, arith, append-nil, append_assoc}
-use Rattle.std.specs.Prelude.{nat_le, IfOk, IfErr, Result, Ok, Err}
+use Rattle.std.proofs.Common.{◌≡◌, ◌≢◌, ℕ, ◌+◌, ◌*◌, ◌^◌, ◌<◌, ◌≤◌, ℤ, Bool, true, false, List, [], ◌++◌, length, take, drop, refl, sym, ap, subst, ◌∙◌, arith, append-nil, append_assoc}
+use Rattle.std.specs.Prelude.{nat_le, IfOk, Result, Ok, Err}
 use Rattle.std.specs.Int.{cast_signed, w128}
 use Rattle.std.proofs.lemmas.Bool.{le-leb, lt-leb}
 use Rattle.std.proofs.lemmas.List.{length-append}
 use Rattle.asn1_bits.specs.Bits.{bits, digits, overwritten}
-use Rattle.asn1_bits.specs.DigitLaws.{length-digits, length-bits}
+use Rattle.asn1_bits.specs.DigitLaws.{length-digits}
 use Rattle.asn1_bits.specs.OverwrittenLaws.{overwritten-append}
 use Rattle.asn1_bits.specs.View.{View, list_of}
 use Rattle.asn1_number.specs.Octets.{IsShortest}
@@ -17,8 +17,8 @@ use Rattle.asn1_values.specs.Wrong.{WidthOver, NotInAlphabet}
 use Rattle.asn1_c.specs.declared.fields.Field.{Field}
 use Rattle.asn1_c.specs.declared.fields.Refusal.{Refusal}
 use Rattle.asn1_c.specs.declared.plans.Plan.{Plan}
-use Rattle.asn1_c.specs.Fields.{IsSpelledAt, number_of_words, signed_of_words, end_of}
-use Rattle.asn1_c.specs.Writing.{by_number, IsNamedAs, LieIn, IsSound, IsMiscounted, NamesMisfit, planned}
+use Rattle.asn1_c.specs.Fields.{IsSpelledAt, number_of_words, signed_of_words}
+use Rattle.asn1_c.specs.Writing.{by_number, IsNamedAs, LieIn, IsMiscounted, NamesMisfit, planned}
 use Rattle.asn1_c.proofs.OctetLemmas.{length-cut, octets_spelled}
 
 -- ---- the bits of a plan

@@ -1,9 +1,9 @@
 -- Fields that are written one after another.
-use Rattle.std.proofs.Common.{◌≡◌, ◌≢◌, ℕ, zero, suc, ◌+◌, ◌*◌, ◌^◌, ◌<◌, ◌≤◌, inl, inr, Bool, List, [], ◌∷◌, ◌++◌, length, take, drop, get_or, refl, sym, ap, subst, ◌∙◌, arith, append-nil, append_assoc}
-use Rattle.std.specs.Prelude.{slice_get, Option, Some, None, IfOk, IfErr, Result, Ok, Err}
-use Rattle.std.proofs.lemmas.List.{length-append, length-take, take_more, take_all}
+use Rattle.std.proofs.Common.{◌≡◌, ℕ, zero, suc, ◌+◌, ◌<◌, ◌≤◌, inl, inr, Bool, List, [], ◌∷◌, ◌++◌, length, take, get_or, refl, sym, ap, subst, ◌∙◌, arith, append-nil, append_assoc}
+use Rattle.std.specs.Prelude.{slice_get, Option, Some, None}
+use Rattle.std.proofs.lemmas.List.{length-append, take_more, take_all}
 use Rattle.std.proofs.lemmas.Option.{slice_get-get_or, get_or_from_slice_get}
-use Rattle.asn1_bits.specs.Bits.{bits, overwritten}
+use Rattle.asn1_bits.specs.Bits.{overwritten}
 use Rattle.asn1_bits.specs.OverwrittenLaws.{overwritten-append}
 use Rattle.asn1_values.specs.Fields as plain
 use Rattle.asn1_values.specs.Refusals.{IsPast}

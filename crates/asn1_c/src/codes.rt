@@ -63,7 +63,7 @@ pub const LENGTH: u32 = 17;
 pub const COUNT: u32 = 18;
 
 /// The octets are not the shortest of a number (X.690 8.3.2).
-pub const INTEGER: u32 = 19;
+pub const NOT_SHORTEST: u32 = 19;
 
 /// A counted integer has no octets, or more than 127.
 pub const OCTET_COUNT: u32 = 20;

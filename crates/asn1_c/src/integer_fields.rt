@@ -9,7 +9,7 @@ ghost use Rattle.asn1_values.specs.Fields as plain;
 ghost use Rattle.asn1_c.specs.Fields.{IsSpelledAt, NamesReason, TellsNone, signed_of_words};
 ghost use Rattle.asn1_c.specs.Octets.{octets_at};
 
-use crate::codes::{INTEGER, OCTET_COUNT};
+use crate::codes::{NOT_SHORTEST, OCTET_COUNT};
 use crate::fields::{Field, Refusal, taken};
 use crate::octets_at::octet_at;
 use asn1_values::{IntegerType, read_wide, signed_value};
@@ -79,12 +79,12 @@ pub(crate) fn read_integer(
     ensures place { IfOk result (λ f. (f.first ≡ at) × (f.length ≡ 8 * count)) }
 {
     if count == 0 {
-        return Err(Refusal::with(INTEGER, field, 0));
+        return Err(Refusal::with(NOT_SHORTEST, field, 0));
     }
     match taken(octets, at, 8 * (count as u128), field) {
         Ok(place) => {
             if !are_shortest(octets, at, count) {
-                return Err(Refusal::with(INTEGER, field, 0));
+                return Err(Refusal::with(NOT_SHORTEST, field, 0));
             }
             Ok(told(&place, octets, at, count))
         }
@@ -112,7 +112,7 @@ pub(crate) fn read_counted(octets: &[u8], at: usize, field: usize) -> Result<Fie
     match taken(octets, at, 8 + 8 * (count as u128), field) {
         Ok(place) => {
             if !are_shortest(octets, at + 8, count) {
-                return Err(Refusal::with(INTEGER, field, 0));
+                return Err(Refusal::with(NOT_SHORTEST, field, 0));
             }
             Ok(told(&place, octets, at + 8, count))
         }

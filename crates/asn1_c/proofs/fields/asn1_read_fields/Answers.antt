@@ -1,4 +1,4 @@
-use Rattle.std.proofs.Common.{◌∙◌, arith}
+use Rattle.std.proofs.Common.{arith}
 use Rattle.asn1_c.proofs.FieldLemmas.{next_read, next_kept}
 use Rattle.asn1_c.proofs.fields.asn1_read_fields.Goals as goal
 

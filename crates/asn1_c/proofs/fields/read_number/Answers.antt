@@ -1,4 +1,4 @@
-use Rattle.std.proofs.Common.{◌∙◌, arith}
+use Rattle.std.proofs.Common.{◌∙◌}
 use Rattle.asn1_c.proofs.FieldLemmas.{number_read, number_short, number_wide}
 use Rattle.asn1_c.proofs.fields.read_number.Goals as goal
 

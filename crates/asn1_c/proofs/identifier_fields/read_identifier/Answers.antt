@@ -1,4 +1,4 @@
-use Rattle.std.proofs.Common.{◌<◌, ◌≢◌, ◌∙◌, arith}
+use Rattle.std.proofs.Common.{arith}
 use Rattle.asn1_c.proofs.IdentifierFieldLemmas.{identifier_read, identifier_refused, identifier_empty, identifier_short}
 use Rattle.asn1_c.proofs.identifier_fields.read_identifier.Goals as goal
 

@@ -1,4 +1,4 @@
-use Rattle.std.proofs.Common.{arith, Bool, true, false}
+use Rattle.std.proofs.Common.{arith}
 use Rattle.asn1_c.proofs.IntegerFieldLemmas.{shortest_one, shortest_more, not_shortest, true_not, not_false}
 use Rattle.asn1_c.proofs.integer_fields.are_shortest.Goals as goal
 

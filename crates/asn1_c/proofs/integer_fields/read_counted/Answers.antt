@@ -1,5 +1,4 @@
-use Rattle.std.proofs.Common.{◌≡◌, ◌∙◌, ◌*◌, ◌≤◌, ◌+◌, length, refl, sym, arith}
-use Rattle.asn1_values.specs.Wrong.{IsCount}
+use Rattle.std.proofs.Common.{◌∙◌, refl, arith}
 use Rattle.asn1_c.proofs.IntegerFieldLemmas.{counted_read, counted_length, counted_wrong, counted_cut, counted_short}
 use Rattle.asn1_c.proofs.integer_fields.read_counted.Goals as goal
 

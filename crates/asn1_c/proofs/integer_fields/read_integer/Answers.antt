@@ -1,4 +1,4 @@
-use Rattle.std.proofs.Common.{◌∙◌, ◌<◌, refl, arith}
+use Rattle.std.proofs.Common.{◌∙◌, refl, arith}
 use Rattle.asn1_c.proofs.IntegerFieldLemmas.{integer_read, integer_wrong, integer_empty, integer_short}
 use Rattle.asn1_c.proofs.integer_fields.read_integer.Goals as goal
 

@@ -1,8 +1,4 @@
-use Rattle.std.proofs.Common.{◌≡◌, ◌<◌, ◌≤◌, ◌^◌, ap, ◌∙◌, ◌-◌, take, drop, length, to_z-of_z, List, ℕ, arith}
-use Rattle.std.proofs.lemmas.List.{take_all, length-drop}
-use Rattle.asn1_number.specs.Octets.{signed}
-use Rattle.asn1_c.specs.Octets.{octets_at}
-use Rattle.asn1_c.proofs.IntegerFieldLemmas.{octets_of_word, value_of_word}
+use Rattle.asn1_c.proofs.IntegerFieldLemmas.{value_of_word}
 use Rattle.asn1_c.proofs.integer_fields.value_at.Goals as goal
 
 pub returns : goal.returns

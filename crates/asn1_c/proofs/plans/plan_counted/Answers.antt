@@ -1,4 +1,4 @@
-use Rattle.std.proofs.Common.{◌∙◌, ℕ, refl, sym, inl, arith}
+use Rattle.std.proofs.Common.{refl, arith}
 use Rattle.asn1_values.specs.Fields as plain
 use Rattle.asn1_c.proofs.PlanLemmas.{counted_planned, read_named, is_far}
 use Rattle.asn1_c.proofs.plans.plan_counted.Goals as goal

@@ -1,4 +1,4 @@
-use Rattle.std.proofs.Common.{◌∙◌, refl, sym, arith}
+use Rattle.std.proofs.Common.{◌∙◌, refl, sym}
 use Rattle.asn1_values.specs.Fields as plain
 use Rattle.asn1_c.proofs.PlanLemmas.{read_named}
 use Rattle.asn1_c.proofs.plans.plan_identifier.Goals as goal

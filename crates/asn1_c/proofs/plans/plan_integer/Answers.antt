@@ -1,4 +1,4 @@
-use Rattle.std.proofs.Common.{◌∙◌, ℕ, refl, sym, inl, arith}
+use Rattle.std.proofs.Common.{◌∙◌, sym, inl}
 use Rattle.asn1_values.specs.Fields as plain
 use Rattle.asn1_c.proofs.PlanLemmas.{integer_planned, integer_miscounted, read_named, is_far}
 use Rattle.asn1_c.proofs.plans.plan_integer.Goals as goal

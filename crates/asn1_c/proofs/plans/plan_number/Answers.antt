@@ -1,4 +1,4 @@
-use Rattle.std.proofs.Common.{◌∙◌, refl, sym, subst, arith}
+use Rattle.std.proofs.Common.{◌∙◌, arith}
 use Rattle.asn1_c.proofs.PlanLemmas.{number_named, too_wide}
 use Rattle.asn1_c.proofs.plans.plan_number.Goals as goal
 

@@ -1,4 +1,4 @@
-use Rattle.std.proofs.Common.{◌∙◌, ap, inl, inr, ℕ, ◌+◌, arith}
+use Rattle.std.proofs.Common.{◌∙◌, ap, ℕ, ◌+◌}
 use Rattle.asn1_c.proofs.WritingLemmas.{as_many, all_length, none_named, not_past}
 use Rattle.asn1_c.proofs.writing.asn1_write_fields.Goals as goal
 

@@ -1,4 +1,4 @@
-use Rattle.std.proofs.Common.{◌≡◌, ◌++◌, ◌∙◌, [], refl, length, arith}
+use Rattle.std.proofs.Common.{◌++◌, [], refl, arith}
 use Rattle.std.proofs.lemmas.List.{length-append}
 use Rattle.asn1_c.specs.Writing.{planned}
 use Rattle.asn1_c.proofs.PlanLemmas.{length-planned}

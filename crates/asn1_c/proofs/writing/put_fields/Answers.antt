@@ -1,4 +1,4 @@
-use Rattle.std.proofs.Common.{◌≡◌, ◌≤◌, ◌+◌, ◌++◌, ◌∙◌, [], refl, sym, length, get_or, arith}
+use Rattle.std.proofs.Common.{◌≤◌, ◌++◌, ◌∙◌, [], refl, sym, length, get_or, arith}
 use Rattle.std.proofs.lemmas.List.{length-append}
 use Rattle.asn1_bits.specs.Bits.{bits}
 use Rattle.asn1_bits.specs.DigitLaws.{length-bits}

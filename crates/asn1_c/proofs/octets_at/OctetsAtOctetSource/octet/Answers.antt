@@ -1,4 +1,4 @@
-use Rattle.std.proofs.Common.{◌<◌, ◌∙◌, sym, drop, length, arith}
+use Rattle.std.proofs.Common.{◌<◌, ◌∙◌, sym, drop, arith}
 use Rattle.asn1_bits.specs.Bits.{bits}
 use Rattle.asn1_c.proofs.OctetLemmas.{length-octets_of, octet_of_place}
 use Rattle.asn1_c.proofs.octets_at.OctetsAtOctetSource.octet.Goals as goal
