@@ -3,6 +3,10 @@
 use core::fmt;
 
 /// Bits do not all lie in their octets, or a number or its width is too large.
+///
+/// ```
+/// assert_eq!(asn1_values::BitsError::Width.to_string(), "a width over 128 bits");
+/// ```
 #[derive(Clone, Copy, Debug, PartialEq, Eq, Hash)]
 #[non_exhaustive]
 pub enum BitsError {
@@ -12,9 +16,15 @@ pub enum BitsError {
     Width,
     /// A number that is not below 2 to the power of its width.
     Overflow,
+    /// The room is too short.
+    Room,
 }
 
 /// Why octets were no number, or did not hold one.
+///
+/// ```
+/// assert_eq!(asn1_values::IntegerError::Empty.to_string(), "no octets");
+/// ```
 #[derive(Clone, Copy, Debug, PartialEq, Eq, Hash)]
 #[non_exhaustive]
 pub enum IntegerError {
@@ -22,9 +32,15 @@ pub enum IntegerError {
     Empty,
     /// The number does not fit 64 bits.
     Overflow,
+    /// The room is too short.
+    Room,
 }
 
 /// Why there is no identifier.
+///
+/// ```
+/// assert_eq!(asn1_values::IdentifierError::Arcs.to_string(), "not the arcs of an identifier");
+/// ```
 #[derive(Clone, Copy, Debug, PartialEq, Eq, Hash)]
 #[non_exhaustive]
 pub enum IdentifierError {
@@ -43,6 +59,10 @@ pub enum IdentifierError {
 }
 
 /// Why octets are not the contents of a string.
+///
+/// ```
+/// assert_eq!(asn1_values::StringError::Odd.to_string(), "an odd number of octets");
+/// ```
 #[derive(Clone, Copy, Debug, PartialEq, Eq, Hash)]
 #[non_exhaustive]
 pub enum StringError {
@@ -58,6 +78,10 @@ pub enum StringError {
 }
 
 /// Why there is no code or no character.
+///
+/// ```
+/// assert_eq!(asn1_values::AlphabetError::Code(9).to_string(), "code 9 is no character");
+/// ```
 #[derive(Clone, Copy, Debug, PartialEq, Eq, Hash)]
 #[non_exhaustive]
 pub enum AlphabetError {
@@ -70,6 +94,11 @@ pub enum AlphabetError {
 }
 
 /// Why fields were not read. Fields are counted from 0, and the first wrong one is named.
+///
+/// ```
+/// let short = asn1_values::ReadError::Short { field: 1, bits: 4 };
+/// assert_eq!(short.to_string(), "field 1: 4 bits short");
+/// ```
 #[derive(Clone, Copy, Debug, PartialEq, Eq, Hash)]
 #[non_exhaustive]
 pub enum ReadError {
@@ -123,6 +152,10 @@ pub enum ReadError {
 }
 
 /// Why fields were not written. Fields are counted from 0, and the first wrong one is named.
+///
+/// ```
+/// assert_eq!(asn1_values::WriteError::Room.to_string(), "the room is too small");
+/// ```
 #[derive(Clone, Copy, Debug, PartialEq, Eq, Hash)]
 #[non_exhaustive]
 pub enum WriteError {
@@ -194,7 +227,10 @@ impl fmt::Display for WriteError {
             }
             WriteError::Length { field } => write!(f, "field {field}: not whole octets"),
             WriteError::Character { field, character } => {
-                write!(f, "field {field}: character {character} is not in the alphabet")
+                write!(
+                    f,
+                    "field {field}: character {character} is not in the alphabet"
+                )
             }
             WriteError::OctetCount { field } => {
                 write!(f, "field {field}: the integer is longer than 127 octets")
@@ -210,6 +246,7 @@ impl fmt::Display for BitsError {
             BitsError::Outside => f.write_str("the octets end before the bits do"),
             BitsError::Width => f.write_str("a width over 128 bits"),
             BitsError::Overflow => f.write_str("the number does not fit its width"),
+            BitsError::Room => f.write_str("the room is too short"),
         }
     }
 }
@@ -219,6 +256,7 @@ impl fmt::Display for IntegerError {
         match self {
             IntegerError::Empty => f.write_str("no octets"),
             IntegerError::Overflow => f.write_str("the number does not fit 64 bits"),
+            IntegerError::Room => f.write_str("the room is too short"),
         }
     }
 }

@@ -100,7 +100,6 @@ pub const CHARACTER_FIELD: u32 = 5;
 pub const IDENTIFIER: u32 = 6;
 
 pub const DONE: u32 = 0;
-pub const OUTSIDE: u32 = 1;
 pub const WIDTH: u32 = 2;
 pub const ROOM: u32 = 3;
 pub const EMPTY: u32 = 4;
@@ -110,11 +109,9 @@ pub const ARC_TOO_LARGE: u32 = 7;
 pub const ARCS: u32 = 8;
 pub const ARC_COUNT: u32 = 9;
 pub const CHARACTER: u32 = 12;
-pub const SET: u32 = 13;
 pub const CODE: u32 = 14;
 pub const SHORT: u32 = 15;
 pub const TEXT: u32 = 16;
-pub const LENGTH: u32 = 17;
 pub const NOT_SHORTEST: u32 = 19;
 pub const OCTET_COUNT: u32 = 20;
 pub const TOO_MANY: u32 = 23;
@@ -215,16 +212,8 @@ extern "C" {
         aligned: bool,
         alphabet: *mut Alphabet,
     ) -> u32;
-    pub fn asn1_alphabet_encode(
-        alphabet: *const Alphabet,
-        character: u32,
-        code: *mut u32,
-    ) -> u32;
-    pub fn asn1_alphabet_decode(
-        alphabet: *const Alphabet,
-        code: u32,
-        character: *mut u32,
-    ) -> u32;
+    pub fn asn1_alphabet_encode(alphabet: *const Alphabet, character: u32, code: *mut u32) -> u32;
+    pub fn asn1_alphabet_decode(alphabet: *const Alphabet, code: u32, character: *mut u32) -> u32;
     pub fn asn1_alphabet_width(alphabet: *const Alphabet, width: *mut usize) -> u32;
     pub fn asn1_octets_at(
         octets: *const u8,
