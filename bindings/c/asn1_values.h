@@ -1,6 +1,6 @@
-/* The proved value layer of ASN.1 for C, from the static library libasn1_c.a, for 64-bit x86 under Linux. It is built for
- * processors of x86-64-v2 (from about 2009 on), or with `scripts/install-c --plain` for every x86-64; a library that the
- * processor is too old for ends in an illegal instruction, and nothing tests for it.
+/* The proved value layer of ASN.1 for C, from the static library libasn1_c.a, for 64-bit x86 under Linux. It is built
+ * for processors of x86-64-v2 (from about 2009 on), or with `scripts/install-c --plain` for every x86-64; where the
+ * processor is too old for the library, an instruction is illegal, and nothing tests for it.
  *
  * Each function has a contract that is proved for every input; below it stands in words. What a caller must keep, and
  * nothing checks:
@@ -147,9 +147,9 @@ typedef struct asn1_shape {
     size_t count;
 } asn1_shape;
 
-/* The number is high times 2 to the power of 64, and low: of a number by its value, and of an integer of at most sixteen
- * octets in two's complement of 128 bits, so that (int64_t)low is an integer of at most eight octets. Of a character,
- * low is the character, and high is its code. In every other field both are 0. */
+/* The number is high times 2 to the power of 64, and low: of a number by its value, and of an integer of at most
+ * sixteen octets in two's complement of 128 bits, so that (int64_t)low is an integer of at most eight octets. Of a
+ * character, low is the character, and high is its code. In every other field both are 0. */
 typedef struct asn1_field {
     size_t first;  /* its first bit: of a counted integer, that of the octet that counts the others */
     size_t length; /* how many bits, with that octet */
@@ -196,8 +196,8 @@ asn1_code asn1_read_fields(const uint8_t *octets, size_t octet_count, size_t pos
  *   ASN1_WIDTH      a number of more than 128 bits: the width;
  *   ASN1_OVERFLOW   a number that is not below 2 to the power of its count, or a character past 32 bits;
  *   ASN1_CHARACTER  a character that its alphabet has no code for: the character;
- *   ASN1_LENGTH     a field that is not as long as its shape says: its length in bits; and an integer that is written by
- *                   its number: how many octets are its shortest;
+ *   ASN1_LENGTH     a field that is not as long as its shape says: its length in bits; and of an integer that is
+ *                   written by its number: how many octets are its shortest;
  *   ASN1_OUTSIDE    the source ends before the field does;
  *   those of reading the field at its place in the source.
  * ASN1_ROOM where no field is wrong and the fields end past the target, or past SIZE_MAX; then the refusal has that
