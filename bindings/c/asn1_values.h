@@ -1,11 +1,13 @@
-/* The proved value layer of ASN.1 for C, from the static library libasn1_c.a.
+/* The proved value layer of ASN.1 for C, from the static library libasn1_c.a, for 64-bit x86 under Linux. It is built
+ * for processors of x86-64-v2 (from about 2009 on), or with `scripts/install-c --plain` for every x86-64; where the
+ * processor is too old for the library, an instruction is illegal, and nothing tests for it.
  *
  * Each function has a contract that is proved for every input; below it stands in words. What a caller must keep, and
  * nothing checks:
  *   - each pointer is not null, also where its length is 0, is aligned for its type, and has at least the length that
  *     is given behind it;
  *   - what a function writes (a pointer without const) overlaps nothing else that is passed to the same call;
- *   - a bool is true or false.
+ *   - a bool is true or false, also in an asn1_alphabet, whose set is as asn1_alphabet_new took it and still there.
  * All else is tested, and answered by a code. Functions keep nothing, ask for no memory, and may be called from any
  * thread.
  *
@@ -47,6 +49,11 @@ typedef uint32_t asn1_code;
 #define ASN1_TEXT UINT32_C(16)         /* not the dotted text of an identifier whose arcs all fit 32 bits */
 #define ASN1_LENGTH UINT32_C(17)       /* a field is not as long as its shape says */
 #define ASN1_COUNT UINT32_C(18)        /* there are not as many fields as shapes */
+#define ASN1_NOT_SHORTEST UINT32_C(19)     /* octets are not the shortest of a number (X.690 8.3.2) */
+#define ASN1_OCTET_COUNT UINT32_C(20)  /* a counted integer has no octets, or more than 127 */
+#define ASN1_SHAPE UINT32_C(21)        /* a shape of an unknown kind, or of an alphabet that is not there */
+#define ASN1_ALPHABET UINT32_C(22)     /* not an alphabet as asn1_alphabet_new fills it */
+#define ASN1_TOO_MANY UINT32_C(23)     /* more bits or octets than SIZE_MAX counts */
 
 /* The eight restricted character strings (X.680 41). */
 typedef uint32_t asn1_kind;
@@ -93,57 +100,120 @@ asn1_code asn1_or_number(uint8_t *target, size_t target_count, size_t position, 
 asn1_code asn1_compare_bits(const uint8_t *a, size_t a_count, size_t a_first, size_t a_bits, const uint8_t *b,
                             size_t b_count, size_t b_first, size_t b_bits, int32_t *order);
 
+/* ---- permitted alphabets (X.691 30.5)
+ *
+ * An alphabet is that of a string with a permitted set, if there is one. It is prepared once, by asn1_alphabet_new, and
+ * refers to the set, of which it copies nothing. A function that is given another struct answers ASN1_ALPHABET. */
+
+typedef struct asn1_alphabet {
+    asn1_kind kind;      /* which string */
+    bool permitted;      /* whether there is a permitted set */
+    bool aligned;        /* whether the width is rounded up to a power of two */
+    const uint32_t *set; /* the permitted set */
+    size_t set_count;    /* how many characters it has */
+} asn1_alphabet;
+
+/* Fills the alphabet of a string. The set is the permitted one where permitted is true, and is else not looked at;
+ * aligned says that the width is rounded up to a power of two. ASN1_KIND for an unknown kind; else ASN1_SET for a
+ * permitted set of more than 2 to the power of 32 characters. */
+asn1_code asn1_alphabet_new(asn1_kind kind, bool permitted, const uint32_t *set, size_t set_count, bool aligned,
+                            asn1_alphabet *alphabet);
+
+/* The code of the character, which fits the alphabet's width. ASN1_CHARACTER where it has none. */
+asn1_code asn1_alphabet_encode(const asn1_alphabet *alphabet, uint32_t character, uint32_t *code);
+
+/* The character of the code. ASN1_CODE where it is the code of none. */
+asn1_code asn1_alphabet_decode(const asn1_alphabet *alphabet, uint32_t code, uint32_t *character);
+
+/* How many bits each code takes, at most 32. */
+asn1_code asn1_alphabet_width(const asn1_alphabet *alphabet, size_t *width);
+
 /* ---- fields
  *
- * A shape is what is known of a field before it is read: a number of count bits, at most 128; count octets; or count
- * bits. A field is told by its first bit and how many bits it has, so nothing is copied, and a number by value too. */
+ * A shape is what is known of a field before it is read: its kind, and how many bits or octets it has, or the place of
+ * its alphabet in the list of alphabets that is passed with the shapes. A field is told by its first bit and how many
+ * bits it has, so nothing is copied, and by its number where it has one of at most 128 bits. */
 
-#define ASN1_NUMBER UINT32_C(0)
-#define ASN1_OCTETS UINT32_C(1)
-#define ASN1_BITS UINT32_C(2)
+#define ASN1_NUMBER UINT32_C(0)           /* a number of count bits, at most 128 */
+#define ASN1_OCTETS UINT32_C(1)           /* count octets */
+#define ASN1_BITS UINT32_C(2)             /* count bits */
+#define ASN1_INTEGER UINT32_C(3)          /* an integer by its shortest octets, of which there are count (X.690 8.3) */
+#define ASN1_COUNTED_INTEGER UINT32_C(4)  /* the same behind an octet that counts them, 1 to 127 (X.690 8.1.3.4) */
+#define ASN1_CHARACTER_FIELD UINT32_C(5)  /* a character by its code in the alphabet at the place count (X.691 30.5) */
+#define ASN1_IDENTIFIER UINT32_C(6)       /* an identifier by its contents, of count octets (X.690 8.19) */
 
 typedef struct asn1_shape {
     uint32_t kind;
     size_t count;
 } asn1_shape;
 
+/* The number is high times 2 to the power of 64, and low: of a number by its value, and of an integer of at most
+ * sixteen octets in two's complement of 128 bits, so that (int64_t)low is an integer of at most eight octets. Of a
+ * character, low is the character, and high is its code. In every other field both are 0. */
 typedef struct asn1_field {
-    size_t first;  /* its first bit */
-    size_t length; /* how many bits */
-    uint64_t high; /* the upper 64 bits of a number, else 0 */
-    uint64_t low;  /* the lower 64 bits of a number, else 0 */
+    size_t first;  /* its first bit: of a counted integer, that of the octet that counts the others */
+    size_t length; /* how many bits, with that octet */
+    uint64_t high;
+    uint64_t low;
 } asn1_field;
 
-/* The first wrong field, counted from 0, and its reason: ASN1_WIDTH, and the width; ASN1_SHORT, and how many bits are
- * missing; or ASN1_KIND; and those that asn1_write_fields names. */
+/* The first wrong field, counted from 0, the reason, and the number that it has, else 0. */
 typedef struct asn1_refusal {
     asn1_code code;
     size_t field;
-    uint64_t high; /* the upper 64 bits of the number that the reason has, else 0 */
+    uint64_t high; /* the upper 64 bits of the number */
     uint64_t low;  /* the lower 64 bits */
 } asn1_refusal;
 
 /* Reads fields of the shapes one after another, from bit position on, into the first shape_count of the fields, and
- * tells the first bit behind them. ASN1_OVERFLOW where 8 * octet_count passes SIZE_MAX, else ASN1_OUTSIDE where the
- * position is past the last bit, else ASN1_ROOM where there are fewer fields than shapes. Any other code is that of the
- * refusal, which names the first wrong field; then the fields before it were read. */
-asn1_code asn1_read_fields(const uint8_t *octets, size_t octet_count, size_t position, const asn1_shape *shapes,
+ * tells the first bit behind them. ASN1_TOO_MANY where 8 * octet_count passes SIZE_MAX, else ASN1_OUTSIDE where the
+ * position is past the last bit, else ASN1_ROOM where there are fewer fields than shapes; then nothing was read, and
+ * refusal and fields are as before. Any other code is that of the refusal, which names the first wrong field. Then the
+ * fields before it were read, and from it on they are as before. The reasons, and their numbers:
+ *   ASN1_SHAPE        the kind is unknown, or there is no alphabet at the place;
+ *   ASN1_WIDTH        a number of more than 128 bits: the width;
+ *   ASN1_SHORT        the octets end before the field does: how many bits are missing;
+ *   ASN1_NOT_SHORTEST octets that are not the shortest of a number, or none;
+ *   ASN1_OCTET_COUNT  a counted integer whose first octet is not 1 to 127: the octet;
+ *   ASN1_CODE         a number that is the code of no character: the number;
+ *   ASN1_MALFORMED    octets that are the contents of no identifier, or none;
+ *   ASN1_ARC_TOO_LARGE  contents with an arc past 32 bits. */
+asn1_code asn1_read_fields(const uint8_t *octets, size_t octet_count, size_t position,
+                           const asn1_alphabet *alphabets, size_t alphabet_count, const asn1_shape *shapes,
                            size_t shape_count, asn1_field *fields, size_t field_count, size_t *end,
                            asn1_refusal *refusal);
 
 /* Writes fields of the shapes one after another over the bits of the target, from bit position on, and tells the first
- * bit behind them; every other bit of the target stays. A number of count bits is written by its value, and where it
- * was read is not looked at; octets and bits are those that lie in the source at the field's place. So fields that
- * asn1_read_fields told are written with the octets that they were read from as source.
+ * bit behind them; every other bit of the target stays. A number and a character are written by their number, and so is
+ * an integer whose length is at most 128 bits, or 136 if it is counted: an integer that is told by value has length 0.
+ * Of a character, high is not looked at. Every other field is written by its bits, which lie in the source where first
+ * and length say. So fields that asn1_read_fields told are written with the octets that they were read from as source.
  *
- * All fields are looked at before a bit is written. ASN1_COUNT where there are not as many fields as shapes. Else the
- * refusal names the first wrong field and the first of these reasons: ASN1_KIND; ASN1_WIDTH, and the width, for a
- * number of more than 128 bits; ASN1_OVERFLOW for a number that is not below 2 to the power of its count; ASN1_LENGTH,
- * and the length, for a field that is not as long as its shape says; ASN1_OUTSIDE where the source ends before it does.
- * ASN1_ROOM where no field is wrong and the fields end past the target, or past SIZE_MAX. */
+ * All fields are looked at before a bit is written. ASN1_COUNT where there are not as many fields as shapes, else
+ * ASN1_TOO_MANY where 8 * source_count passes SIZE_MAX; then the refusal is as before. Else the refusal names the first
+ * wrong field and the first of these reasons, with its number:
+ *   ASN1_SHAPE      the kind is unknown, or there is no alphabet at the place;
+ *   ASN1_WIDTH      a number of more than 128 bits: the width;
+ *   ASN1_OVERFLOW   a number that is not below 2 to the power of its count, or a character past 32 bits;
+ *   ASN1_CHARACTER  a character that its alphabet has no code for: the character;
+ *   ASN1_LENGTH     a field that is not as long as its shape says: its length in bits; and of an integer that is
+ *                   written by its number: how many octets are its shortest;
+ *   ASN1_OUTSIDE    the source ends before the field does;
+ *   those of reading the field at its place in the source.
+ * ASN1_ROOM where no field is wrong and the fields end past the target, or past SIZE_MAX; then the refusal has that
+ * code, shape_count as its field, and the bit that they end at as its number. */
 asn1_code asn1_write_fields(uint8_t *target, size_t target_count, size_t position, const uint8_t *source,
-                            size_t source_count, const asn1_shape *shapes, size_t shape_count,
-                            const asn1_field *fields, size_t field_count, size_t *end, asn1_refusal *refusal);
+                            size_t source_count, const asn1_alphabet *alphabets, size_t alphabet_count,
+                            const asn1_shape *shapes, size_t shape_count, const asn1_field *fields,
+                            size_t field_count, size_t *end, asn1_refusal *refusal);
+
+/* Copies count octets, which lie one after another from bit first on, to the front of the room, and leaves the octets
+ * behind them. So the octets of a field lie on a boundary, as the functions below take them: those of an integer
+ * (X.690 8.3) and of an identifier's contents from the field's first bit on, those of a counted integer eight bits
+ * behind it. ASN1_TOO_MANY where 8 * octet_count passes SIZE_MAX, else ASN1_OUTSIDE where the octets end before, else
+ * ASN1_ROOM where the room has fewer octets. */
+asn1_code asn1_octets_at(const uint8_t *octets, size_t octet_count, size_t first, size_t count, uint8_t *room,
+                         size_t room_count);
 
 /* ---- whole numbers, as two's complement octets, most significant first (X.690 8.3) */
 
@@ -175,8 +245,9 @@ asn1_code asn1_oid_check(const uint8_t *octets, size_t octet_count);
 asn1_code asn1_oid_check_arcs(const uint32_t *arcs, size_t arc_count);
 
 /* Writes the contents of the arcs to the front of the room, and leaves the octets behind them; five octets for each arc
- * are always enough. ASN1_ARCS where they are no identifier's, ASN1_ARC_COUNT for one arc, else ASN1_ROOM where the
- * contents are longer than the room. */
+ * are always enough. How many octets they are is told also where the answer is ASN1_ROOM. ASN1_ARCS where they are no
+ * identifier's, ASN1_ARC_COUNT for one arc, else ASN1_TOO_MANY where the contents have more octets than SIZE_MAX, else
+ * ASN1_ROOM where they are longer than the room. */
 asn1_code asn1_oid_contents(const uint32_t *arcs, size_t arc_count, uint8_t *room, size_t room_count, size_t *count);
 
 /* Writes the arcs of which the octets are the contents to the front of the room, and tells how many; one arc more than
@@ -186,7 +257,7 @@ asn1_code asn1_oid_arcs(const uint8_t *octets, size_t octet_count, uint32_t *roo
 
 /* Writes the dotted text of the arcs, their decimals joined by full stops, to the front of the room, and leaves the
  * octets behind it; no zero ends it, and eleven octets for each arc are always enough. How many octets it has is told
- * also where the answer is ASN1_ROOM. ASN1_ARCS where they are no identifier's; ASN1_OVERFLOW where the text would have
+ * also where the answer is ASN1_ROOM. ASN1_ARCS where they are no identifier's; ASN1_TOO_MANY where the text would have
  * more than SIZE_MAX octets. */
 asn1_code asn1_oid_text(const uint32_t *arcs, size_t arc_count, uint8_t *room, size_t room_count, size_t *count);
 
@@ -202,24 +273,6 @@ asn1_code asn1_oid_from_text(const uint8_t *text, size_t text_count, uint32_t *r
  * the character are told. ASN1_KIND for an unknown kind; ASN1_ODD for an odd number of octets of a BMPString. */
 asn1_code asn1_string_check(asn1_kind kind, const uint8_t *octets, size_t octet_count, size_t *place,
                             uint32_t *character);
-
-/* ---- permitted alphabets (X.691 30.5)
- *
- * An alphabet is that of a string with a permitted set, which is looked at only where permitted is true; aligned says
- * that the width is rounded up to a power of two. ASN1_KIND for an unknown kind; ASN1_SET for a permitted set of more
- * than 2 to the power of 32 characters. */
-
-/* The code of the character, which fits the alphabet's width. ASN1_CHARACTER where it has none. */
-asn1_code asn1_alphabet_encode(asn1_kind kind, bool permitted, const uint32_t *set, size_t set_count, bool aligned,
-                               uint32_t character, uint32_t *code);
-
-/* The character of the code. ASN1_CODE where it is the code of none. */
-asn1_code asn1_alphabet_decode(asn1_kind kind, bool permitted, const uint32_t *set, size_t set_count, bool aligned,
-                               uint32_t code, uint32_t *character);
-
-/* How many bits each code takes, at most 32. */
-asn1_code asn1_alphabet_width(asn1_kind kind, bool permitted, const uint32_t *set, size_t set_count, bool aligned,
-                              size_t *width);
 
 #ifdef __cplusplus
 }

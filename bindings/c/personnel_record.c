@@ -1,5 +1,5 @@
-/* The personnel record of X.691 A.2 in CANONICAL-PER, unaligned: its values are written, compared with the octets that the
- * standard gives, and read back. Characters are those of ISO 646. The program ends with 0 where all are right. */
+/* The personnel record of X.691 A.2 in CANONICAL-PER, unaligned: its values are written, compared with the octets that
+ * the standard gives, and read back. Characters are those of ISO 646. The program ends with 0 where all are right. */
 #include <inttypes.h>
 #include <stdio.h>
 #include <stdlib.h>
@@ -69,49 +69,53 @@ static void need(bool right, const char *what)
     }
 }
 
-static size_t permitted_set(const string_type *type, uint32_t *set)
+/* The alphabet of a string, which refers to the set. */
+static asn1_alphabet alphabet_of(const string_type *type, uint32_t *set)
 {
     size_t count = type->permitted == NULL ? 0 : strlen(type->permitted);
     for (size_t i = 0; i < count; i++) {
         set[i] = (uint32_t)type->permitted[i];
     }
-    return count;
-}
-
-static size_t code_width(const string_type *type, const uint32_t *set, size_t count)
-{
-    size_t width = 0;
-    need(asn1_alphabet_width(ASN1_VISIBLE_STRING, type->permitted != NULL, set, count, false, &width) == ASN1_DONE,
+    asn1_alphabet alphabet;
+    need(asn1_alphabet_new(ASN1_VISIBLE_STRING, type->permitted != NULL, set, count, false, &alphabet) == ASN1_DONE,
          "an alphabet");
-    return width;
+    return alphabet;
 }
 
 /* ---- writing */
+
+static void write_fields(message *m, const asn1_alphabet *alphabet, const asn1_shape *shapes, const asn1_field *fields,
+                         size_t count, const char *what)
+{
+    const uint8_t nothing = 0;
+    asn1_refusal refusal;
+    need(asn1_write_fields(m->octets, m->count, m->at, &nothing, 0, alphabet, 1, shapes, count, fields, count, &m->at,
+                           &refusal) == ASN1_DONE, what);
+}
 
 static void write_number(message *m, uint64_t value, size_t width, const char *what)
 {
     const asn1_shape shape = {ASN1_NUMBER, width};
     const asn1_field field = {0, 0, 0, value};
-    const uint8_t nothing = 0;
-    asn1_refusal refusal;
-    need(asn1_write_fields(m->octets, m->count, m->at, &nothing, 0, &shape, 1, &field, 1, &m->at, &refusal)
-         == ASN1_DONE, what);
+    uint32_t set[64];
+    asn1_alphabet unused = alphabet_of(&TITLE, set);
+    write_fields(m, &unused, &shape, &field, 1, what);
 }
 
 static void write_string(message *m, const string_type *type, const char *value, const char *what)
 {
     uint32_t set[64];
-    size_t count = permitted_set(type, set);
-    size_t width = code_width(type, set, count);
+    asn1_alphabet alphabet = alphabet_of(type, set);
     size_t length = strlen(value);
     need(type->least <= length && length <= type->most, what);
     write_number(m, length - type->least, type->width, what);
+    asn1_shape shapes[MOST_CHARACTERS];
+    asn1_field fields[MOST_CHARACTERS];
     for (size_t i = 0; i < length; i++) {
-        uint32_t code = 0;
-        need(asn1_alphabet_encode(ASN1_VISIBLE_STRING, type->permitted != NULL, set, count, false,
-                                  (uint32_t)(unsigned char)value[i], &code) == ASN1_DONE, what);
-        write_number(m, code, width, what);
+        shapes[i] = (asn1_shape){ASN1_CHARACTER_FIELD, 0};
+        fields[i] = (asn1_field){0, 0, 0, (uint64_t)(unsigned char)value[i]};
     }
+    write_fields(m, &alphabet, shapes, fields, length, what);
 }
 
 static void write_name(message *m, const name *value, const char *what)
@@ -121,17 +125,14 @@ static void write_name(message *m, const name *value, const char *what)
     write_string(m, &NAME_STRING, value->family, what);
 }
 
-/* One octet with how many octets the number has, and these. */
+/* Behind an octet that counts its octets: a number below zero has ones above. */
 static void write_integer(message *m, int64_t number, const char *what)
 {
-    uint8_t octets[8];
-    size_t count = 0;
-    need(asn1_integer_from_i64(number, octets, sizeof octets, &count) == ASN1_DONE, what);
-    const asn1_shape shapes[2] = {{ASN1_NUMBER, 8}, {ASN1_OCTETS, count}};
-    const asn1_field fields[2] = {{0, 0, 0, count}, {0, 8 * count, 0, 0}};
-    asn1_refusal refusal;
-    need(asn1_write_fields(m->octets, m->count, m->at, octets, count, shapes, 2, fields, 2, &m->at, &refusal)
-         == ASN1_DONE, what);
+    const asn1_shape shape = {ASN1_COUNTED_INTEGER, 0};
+    const asn1_field field = {0, 0, number < 0 ? UINT64_MAX : 0, (uint64_t)number};
+    uint32_t set[64];
+    asn1_alphabet unused = alphabet_of(&TITLE, set);
+    write_fields(m, &unused, &shape, &field, 1, what);
 }
 
 static void write_record(message *m, const record *r)
@@ -153,11 +154,20 @@ static void write_record(message *m, const record *r)
 
 /* ---- reading */
 
+static void read_fields(message *m, const asn1_alphabet *alphabet, const asn1_shape *shapes, asn1_field *fields,
+                        size_t count, const char *what)
+{
+    asn1_refusal refusal;
+    need(asn1_read_fields(m->octets, m->count, m->at, alphabet, 1, shapes, count, fields, count, &m->at, &refusal)
+         == ASN1_DONE, what);
+}
+
 static asn1_field read_field(message *m, asn1_shape shape, const char *what)
 {
     asn1_field field = {0, 0, 0, 0};
-    asn1_refusal refusal;
-    need(asn1_read_fields(m->octets, m->count, m->at, &shape, 1, &field, 1, &m->at, &refusal) == ASN1_DONE, what);
+    uint32_t set[64];
+    asn1_alphabet unused = alphabet_of(&TITLE, set);
+    read_fields(m, &unused, &shape, &field, 1, what);
     return field;
 }
 
@@ -169,16 +179,18 @@ static uint64_t read_number(message *m, size_t width, const char *what)
 static void read_string(message *m, const string_type *type, char *value, const char *what)
 {
     uint32_t set[64];
-    size_t count = permitted_set(type, set);
-    size_t width = code_width(type, set, count);
+    asn1_alphabet alphabet = alphabet_of(type, set);
     uint64_t more = read_number(m, type->width, what);
     need(more <= type->most - type->least, what);
     size_t length = type->least + (size_t)more;
+    asn1_shape shapes[MOST_CHARACTERS];
+    asn1_field fields[MOST_CHARACTERS];
     for (size_t i = 0; i < length; i++) {
-        uint32_t character = 0;
-        need(asn1_alphabet_decode(ASN1_VISIBLE_STRING, type->permitted != NULL, set, count, false,
-                                  (uint32_t)read_number(m, width, what), &character) == ASN1_DONE, what);
-        value[i] = (char)character;
+        shapes[i] = (asn1_shape){ASN1_CHARACTER_FIELD, 0};
+    }
+    read_fields(m, &alphabet, shapes, fields, length, what);
+    for (size_t i = 0; i < length; i++) {
+        value[i] = (char)fields[i].low;
     }
     value[length] = '\0';
 }
@@ -192,20 +204,9 @@ static void read_name(message *m, name *value, const char *what)
 
 static int64_t read_integer(message *m, const char *what)
 {
-    uint64_t count = read_number(m, 8, what);
-    need(1 <= count && count <= 8, what);
-    asn1_field field = read_field(m, (asn1_shape){ASN1_OCTETS, (size_t)count}, what);
-    /* The octets, laid at the front of their own. */
-    uint8_t octets[8] = {0};
-    const asn1_shape shape = {ASN1_OCTETS, (size_t)count};
-    size_t end = 0;
-    asn1_refusal refusal;
-    need(asn1_write_fields(octets, sizeof octets, 0, m->octets, m->count, &shape, 1, &field, 1, &end, &refusal)
-         == ASN1_DONE, what);
-    int64_t number = 0;
-    need(asn1_integer_is_shortest(octets, (size_t)count)
-         && asn1_integer_to_i64(octets, (size_t)count, &number) == ASN1_DONE, what);
-    return number;
+    asn1_field field = read_field(m, (asn1_shape){ASN1_COUNTED_INTEGER, 0}, what);
+    need(field.length <= 8 + 64, what);
+    return (int64_t)field.low;
 }
 
 static void read_record(message *m, record *r)

@@ -10,10 +10,14 @@ fn main() {
         Some(folder) => PathBuf::from(folder),
         None => Path::new(env!("CARGO_MANIFEST_DIR")).join("../../../crates/asn1_c/out"),
     };
-    println!(
-        "cargo:rerun-if-changed={}",
-        folder.join("libasn1_c.a").display()
-    );
+    let library = folder.join("libasn1_c.a");
+    println!("cargo:rerun-if-changed={}", library.display());
+    if !library.exists() {
+        panic!(
+            "{} is not there: run `rt lib` in crates/asn1_c, or set ASN1_VALUES_LIBRARY to the folder of libasn1_c.a",
+            library.display()
+        );
+    }
     println!("cargo:rustc-link-search=native={}", folder.display());
     println!("cargo:rustc-link-lib=static=asn1_c");
 }

@@ -1,57 +1,20 @@
 -- Fields that are read at a place of the octets.
-use Rattle.std.proofs.Common.{◌≡◌, ℕ, zero, suc, ◌+◌, ◌-◌, ◌*◌, ◌<◌, ◌≤◌, Bool, List, [], ◌∷◌, ◌++◌, length, take, drop, get_or, ◌^◌, refl, sym, ap, subst, ◌∙◌, arith, inr}
-use Rattle.std.specs.Prelude.{All, IfOk, IfErr, OnOk, Result, Ok, Err}
-use Rattle.std.proofs.lemmas.List.{nil_from_length, length-take, length-drop, take-append-drop, take_more, take_more_set}
+use Rattle.std.proofs.Common.{◌≡◌, ◌≢◌, ℕ, ◌+◌, ◌-◌, ◌*◌, ◌<◌, ◌≤◌, Bool, List, [], ◌∷◌, ◌++◌, length, take, drop, get_or, ◌^◌, refl, sym, ap, subst, ◌∙◌, arith}
+use Rattle.std.specs.Prelude.{IfOk, IfErr, OnOk, Result, Ok, Err, Option, Some}
+use Rattle.std.proofs.lemmas.List.{take_more, take_more_set, drop-drop, drop-set-lt}
 use Rattle.std.proofs.Math.ListN.{set}
-use Rattle.std.proofs.lemmas.List.Elements.{All-nil, All-cons}
-use Rattle.asn1_bits.specs.Bits.{digits, number, bits}
-use Rattle.asn1_bits.specs.DigitLaws.{length-bits}
-use Rattle.asn1_bits.specs.NumberLaws.{digits_of-number, number-below}
+use Rattle.asn1_bits.specs.Bits.{digits, bits}
 use Rattle.asn1_values.specs.Fields as plain
 use Rattle.asn1_values.specs.Fields.{IsSpelledBy, IsOfShape}
-use Rattle.asn1_values.specs.Walk.{octets_of}
-use Rattle.asn1_values.specs.Wrong.{IsShortBy}
+use Rattle.asn1_values.specs.Wrong.{Fault, NumberWidth, NotInteger, Short, NoCharacter, NoLength, NotIdentifier, ArcOver, IsShortBy}
+use Rattle.asn1_c.specs.declared.alphabets.Alphabet.{Alphabet}
 use Rattle.asn1_c.specs.declared.fields.Shape.{Shape}
 use Rattle.asn1_c.specs.declared.fields.Field.{Field}
 use Rattle.asn1_c.specs.declared.fields.Refusal.{Refusal}
-use Rattle.asn1_c.specs.Fields.{IsSpelledAt, NamesReason, IsReadAt, AreReadAt, end_of, number_of_words}
-
--- ---- octets of bits
-
-length-octets_of : (n : ℕ) (list : List Bool) → length (octets_of n list) ≡ n
-length-octets_of zero list = refl
-length-octets_of (suc n) list = ap suc (length-octets_of n (drop 8 list))
-
-octets-octets_of : (n : ℕ) (list : List Bool) → 8 * n ≤ length list → All (λ octet. octet < 256) (octets_of n list)
-octets-octets_of zero list le = All-nil (λ octet. octet < 256)
-octets-octets_of (suc n) list le =
-    All-cons (λ octet. octet < 256) (number (take 8 list)) (octets_of n (drop 8 list))
-    (number-below (take 8 list) 8 (omega (arith, length-take 8 list)))
-    (octets-octets_of n (drop 8 list) (omega (arith, length-drop 8 list)))
-
-bits-octets_of : (n : ℕ) (list : List Bool) → length list ≡ 8 * n → bits (octets_of n list) ≡ list
-unfolding bits
-bits-octets_of zero list e = sym (nil_from_length list (omega arith))
-bits-octets_of (suc n) list e =
-    rw (
-      digits_of-number (take 8 list) 8 (omega (arith, length-take 8 list)),
-      bits-octets_of n (drop 8 list)
-          (omega (arith, length-drop 8 list)),
-    ) (take-append-drop 8 list)
-
--- so many octets are spelled by their bits
-pub octets_spelled : (n : ℕ) (list : List Bool) → length list ≡ 8 * n
-    → (o : List ℕ) × (length o ≡ n) × IsSpelledBy (plain.Octets o) list
-octets_spelled n list e =
-    (octets_of n list, length-octets_of n list, (octets-octets_of n list (omega arith), sym (bits-octets_of n list e)))
+use Rattle.asn1_c.specs.Fields.{IsSpelledAt, NamesReason, Names, IsReadAt, AreReadAt, end_of, number_of_words}
+use Rattle.asn1_c.proofs.OctetLemmas.{length-left, length-cut, octets_spelled}
 
 -- ---- what is left
-
-pub length-left : (octets : List ℕ) (at : ℕ) → length (drop at (bits octets)) ≡ 8 * length octets - at
-length-left octets at = length-drop at (bits octets) ∙ ap (λ (k : ℕ). k - at) (length-bits octets)
-
-pub length-cut : (octets : List ℕ) (at n : ℕ) → at + n ≤ 8 * length octets → length (take n (drop at (bits octets))) ≡ n
-length-cut octets at n le = omega (arith, length-take n (drop at (bits octets)), length-left octets at)
 
 pub is_short : (octets : List ℕ) (at need n : ℕ) → at ≤ 8 * length octets → n ≡ at + need - 8 * length octets → 0 < n
     → IsShortBy need (drop at (bits octets)) n
@@ -103,19 +66,27 @@ pub bits_short : (octets : List ℕ) (at count : ℕ) (r : Refusal) → at ≤ 8
     → 8 * length octets < at + count
     → number_of_words r.high r.low ≡ at + count - 8 * length octets
     → NamesReason (plain.OfBits count) (drop at (bits octets)) r
-bits_short octets at count r le code lt n = inr (code, is_short octets at count _ le n (omega arith))
+bits_short octets at count r le code lt n =
+    record { fault = Short _; names = (code, refl); reason = is_short octets at count _ le n (omega arith) }
 
 pub octets_short : (octets : List ℕ) (at count : ℕ) (r : Refusal) → at ≤ 8 * length octets → r.code ≡ 15
     → 8 * length octets < at + 8 * count
     → number_of_words r.high r.low ≡ at + 8 * count - 8 * length octets
     → NamesReason (plain.OfOctets count) (drop at (bits octets)) r
-octets_short octets at count r le code lt n = inr (code, is_short octets at (8 * count) _ le n (omega arith))
+octets_short octets at count r le code lt n =
+    record { fault = Short _; names = (code, refl); reason = is_short octets at (8 * count) _ le n (omega arith) }
 
 pub number_short : (octets : List ℕ) (at width : ℕ) (r : Refusal) → at ≤ 8 * length octets → r.code ≡ 15
     → 8 * length octets < at + width
     → number_of_words r.high r.low ≡ at + width - 8 * length octets → width ≤ 128
     → NamesReason (plain.OfNumber width) (drop at (bits octets)) r
-number_short octets at width r le code lt n wide = inr (code, (wide, is_short octets at width _ le n (omega arith)))
+number_short octets at width r le code lt n wide =
+    record { fault = Short _; names = (code, refl); reason = (wide, is_short octets at width _ le n (omega arith)) }
+
+pub number_wide : (left : List Bool) (width : ℕ) (r : Refusal) → r.code ≡ 2 → number_of_words r.high r.low ≡ width
+    → 128 < width → NamesReason (plain.OfNumber width) left r
+number_wide left width r code n wide =
+    record { fault = NumberWidth width; names = (code, n); reason = (refl, wide) }
 
 abbrev Taken : Type 0
 Taken = Result Field Refusal
@@ -150,19 +121,53 @@ octets_refused octets at count i (Err e) within code short =
 
 -- ---- fields one after another
 
-pub read_more : (octets : List ℕ) (from at : ℕ) (ss : List Shape) (fs : List Field) (s : Shape) (f : Field)
-    → AreReadAt octets from ss fs at
-    → IsReadAt octets at s f → AreReadAt octets from (ss ++ s ∷ []) (fs ++ f ∷ []) (end_of f)
-read_more octets from at [] [] s f e h = (subst (λ (k : ℕ). IsReadAt octets k s f) (sym e) h, refl)
-read_more octets from at (x ∷ ss) (y ∷ fs) s f p h = (p.0, read_more octets (end_of y) at ss fs s f p.1 h)
-read_more octets from at [] (y ∷ fs) s f p h = absurd p
-read_more octets from at (x ∷ ss) [] s f p h = absurd p
+pub read_more : (octets : List ℕ) (alphabets : List Alphabet) (from at : ℕ) (ss : List Shape) (fs : List Field) (s : Shape)
+    (f : Field) → AreReadAt octets alphabets from ss fs at
+    → IsReadAt octets alphabets at s f → AreReadAt octets alphabets from (ss ++ s ∷ []) (fs ++ f ∷ []) (end_of f)
+read_more octets alphabets from at [] [] s f e h = (subst (λ (k : ℕ). IsReadAt octets alphabets k s f) (sym e) h, refl)
+read_more octets alphabets from at (x ∷ ss) (y ∷ fs) s f p h = (p.0, read_more octets alphabets (end_of y) at ss fs s f p.1 h)
+read_more octets alphabets from at [] (y ∷ fs) s f p h = absurd p
+read_more octets alphabets from at (x ∷ ss) [] s f p h = absurd p
 
 -- one field more, in the caller's lists
-pub next_read : (octets : List ℕ) (from at i : ℕ) (ss : List Shape) (fs : List Field) (d : Shape) (f : Field)
-    → i < length ss → i < length fs
-    → AreReadAt octets from (take i ss) (take i fs) at → IsReadAt octets at (get_or ss i d) f
-    → AreReadAt octets from (take (i + 1) ss) (take (i + 1) (set fs i f)) (end_of f)
-next_read octets from at i ss fs d f in_shapes in_fields p h =
+pub next_read : (octets : List ℕ) (alphabets : List Alphabet) (from at i : ℕ) (ss : List Shape) (fs : List Field) (d : Shape)
+    (f : Field) → i < length ss → i < length fs
+    → AreReadAt octets alphabets from (take i ss) (take i fs) at → IsReadAt octets alphabets at (get_or ss i d) f
+    → AreReadAt octets alphabets from (take (i + 1) ss) (take (i + 1) (set fs i f)) (end_of f)
+next_read octets alphabets from at i ss fs d f in_shapes in_fields p h =
     rw (take_more ss i d in_shapes, take_more_set fs i f in_fields)
-    (read_more octets from at (take i ss) (take i fs) (get_or ss i d) f p h)
+    (read_more octets alphabets from at (take i ss) (take i fs) (get_or ss i d) f p h)
+
+-- what stands behind it is as before
+pub next_kept : (fs old : List Field) (i : ℕ) (f : Field) → drop i fs ≡ drop i old
+    → drop (i + 1) (set fs i f) ≡ drop (i + 1) old
+next_kept fs old i f e =
+    drop-set-lt (i + 1) fs i f (omega arith) ∙ sym (drop-drop 1 i fs) ∙ ap (drop 1) e ∙ drop-drop 1 i old
+
+-- ---- codes
+
+named_code : (fault : Fault) (r : Refusal) → Names fault r
+    → (r.code ≢ 0) × (r.code ≢ 1) × (r.code ≢ 3) × (r.code ≢ 23)
+named_code (NumberWidth w) r s = let e = s.0 in (λ z. omega arith, λ z. omega arith, λ z. omega arith, λ z. omega arith)
+named_code NotInteger r s = let e = s.0 in (λ z. omega arith, λ z. omega arith, λ z. omega arith, λ z. omega arith)
+named_code (Short n) r s = let e = s.0 in (λ z. omega arith, λ z. omega arith, λ z. omega arith, λ z. omega arith)
+named_code (NoCharacter k) r s = let e = s.0 in (λ z. omega arith, λ z. omega arith, λ z. omega arith, λ z. omega arith)
+named_code (NoLength k) r s = let e = s.0 in (λ z. omega arith, λ z. omega arith, λ z. omega arith, λ z. omega arith)
+named_code NotIdentifier r s = let e = s.0 in (λ z. omega arith, λ z. omega arith, λ z. omega arith, λ z. omega arith)
+named_code ArcOver r s = let e = s.0 in (λ z. omega arith, λ z. omega arith, λ z. omega arith, λ z. omega arith)
+
+pub refused_code : (shape : plain.Shape) (left : List Bool) (r : Taken) → IfErr r (NamesReason shape left)
+    → IfErr r (λ e. (e.code ≢ 0) × (e.code ≢ 1) × (e.code ≢ 3) × (e.code ≢ 23))
+refused_code shape left (Ok f) h = tt
+refused_code shape left (Err e) h = named_code h.fault e h.names
+
+pub read_as : (octets : List ℕ) (from : ℕ) (shape : plain.Shape) (named : Option plain.Shape) (r : Taken)
+    → named ≡ Some shape → IfOk r (IsSpelledAt octets from shape)
+    → IfOk r (λ f. (s : plain.Shape) × (named ≡ Some s) × IsSpelledAt octets from s f)
+read_as octets from shape named (Ok f) e h = (shape, e, h)
+read_as octets from shape named (Err r) e h = tt
+
+pub read_end : (octets : List ℕ) (from : ℕ) (shape : plain.Shape) (r : Taken) → IfOk r (IsSpelledAt octets from shape)
+    → IfOk r (λ f. end_of f ≤ 8 * length octets)
+read_end octets from shape (Ok f) h = h.within
+read_end octets from shape (Err r) h = tt

@@ -1,6 +1,12 @@
 pub mod ArcLemmas
 pub mod BitLemmas
+pub mod CharacterFieldLemmas
 pub mod FieldLemmas
+pub mod IdentifierFieldLemmas
+pub mod IntegerFieldLemmas
 pub mod IntegerLemmas
+pub mod NoneLemmas
+pub mod OctetLemmas
+pub mod PlanLemmas
 pub mod TextLemmas
 pub mod WritingLemmas

@@ -1,6 +1,7 @@
 -- The words of the contracts.
 pub mod Codes
 pub mod Fields
+pub mod Octets
 pub mod Sets
 pub mod Text
 pub mod Writing

@@ -1,9 +1,10 @@
 -- The sets that C names by numbers, and the characters of a string's octets.
-use Rattle.std.specs.Prelude.{◌+◌, ◌*◌, ◌/◌, ℕ, Bool, List, [], ◌∷◌, Option, Some, None, length, slice_get, slice_index, if◌then◌else◌}
-use Rattle.std.specs.Option.{option_map}
+use Rattle.std.specs.Prelude.{◌+◌, ◌*◌, ◌/◌, ◌^◌, ◌&&◌, nat_lt, ℕ, Bool, List, [], ◌∷◌, Option, Some, None, length, slice_get, slice_index, if◌then◌else◌}
+use Rattle.std.specs.Option.{option_map, option_and_then}
 use Rattle.asn1_characters.specs.declared.character_set.CharacterSetName.{CharacterSetName}
 use Rattle.asn1_characters.specs.declared.character_set.CharacterSetName.TheVariants.{Bmp, General, Graphic, IA5, Numeric, Printable, Teletex, Visible}
 use Rattle.asn1_strings.specs.Alphabet.{Alphabet, effective}
+use Rattle.asn1_c.specs.declared.alphabets.Alphabet.{Alphabet as InC}
 use Rattle.asn1_strings.specs.Strings.{character_octets}
 
 -- the set of a number
@@ -28,3 +29,13 @@ permitted_set permitted set = if permitted then Some set else None
 abbrev pub alphabet_named : ℕ → Bool → List ℕ → Bool → Option Alphabet
 alphabet_named kind permitted set aligned =
     option_map (λ name. effective name (permitted_set permitted set) aligned) (set_named kind)
+
+-- the alphabet that C's struct names; a permitted set of more than 2 ^ 32 characters is none
+abbrev pub alphabet_in : InC → Option Alphabet
+alphabet_in a =
+    if a.permitted && nat_lt (2 ^ 32) (length a.set.now) then None
+    else alphabet_named a.kind a.permitted a.set.now a.aligned
+
+-- the alphabet at a place of C's list
+abbrev pub alphabet_at : List InC → ℕ → Option Alphabet
+alphabet_at alphabets i = option_and_then alphabet_in (slice_get alphabets i)

@@ -35,7 +35,7 @@ pub const ARCS: u32 = 8;
 /// There is one arc, which has no contents.
 pub const ARC_COUNT: u32 = 9;
 
-/// The number names none of the eight strings.
+/// The number names none of the eight strings (X.680 41).
 pub const KIND: u32 = 10;
 
 /// The octets are not whole characters.
@@ -61,6 +61,21 @@ pub const LENGTH: u32 = 17;
 
 /// There are not as many fields as shapes.
 pub const COUNT: u32 = 18;
+
+/// The octets are not the shortest of a number (X.690 8.3.2).
+pub const NOT_SHORTEST: u32 = 19;
+
+/// A counted integer has no octets, or more than 127.
+pub const OCTET_COUNT: u32 = 20;
+
+/// A shape's kind is unknown, or there is no alphabet at the place that it has.
+pub const SHAPE: u32 = 21;
+
+/// A struct is no alphabet as `asn1_alphabet_new` fills it.
+pub const ALPHABET: u32 = 22;
+
+/// There are more bits, or more octets, than `usize` counts.
+pub const TOO_MANY: u32 = 23;
 
 /// Below, equal and above, as -1, 0 and 1.
 pub(crate) fn number_of_order(order: Ordering) -> i32

@@ -1,25 +1,35 @@
 //! Fields of the caller's octets, from any bit on.
 
-ghost use Rattle.std.specs.Prelude.{◌≡◌, ◌≢◌, ◌↔◌, ◌+◌, ◌-◌, ◌*◌, ◌/◌, ◌^◌, ◌<◌, ◌≤◌, ◌⊎◌, Some, length, take, drop, IfOk, IfErr, OnOk};
+ghost use Rattle.std.specs.Prelude.{◌≡◌, ◌≢◌, ◌↔◌, ◌+◌, ◌-◌, ◌*◌, ◌/◌, ◌^◌, ◌<◌, ◌≤◌, ◌⊎◌, Some, None, length, take, drop, IfOk, IfErr, OnOk, MatchOption};
+ghost use Rattle.std.specs.Option.{option_map};
 ghost use Rattle.asn1_bits.specs.Bits.{bits, number};
 ghost use Rattle.asn1_values.specs.Fields as plain;
-ghost use Rattle.asn1_c.specs.Fields.{IsSpelledAt, NamesReason, IsReadAt, AreReadAt, IsRefusal, IsRefusedAt, number_of_words, end_of};
+ghost use Rattle.asn1_values.specs.Plain.{plain_shape};
+ghost use Rattle.asn1_c.specs.Sets.{alphabet_at};
+ghost use Rattle.asn1_c.specs.Fields.{IsSpelledAt, NamesReason, IsReadAt, AreReadAt, IsRefusal, IsRefusedAt, number_of_words, end_of, shape_named};
 
-use crate::codes::{DONE, KIND, OUTSIDE, OVERFLOW, ROOM, SHORT, WIDTH};
-use asn1_values::read_wide;
+use crate::alphabets::Alphabet;
+use crate::character_fields::read_character;
+use crate::codes::{DONE, OUTSIDE, ROOM, SHAPE, SHORT, TOO_MANY, WIDTH};
+use crate::identifier_fields::read_identifier;
+use crate::integer_fields::{read_counted, read_integer};
+use asn1_values::{Shape as Known, read_wide};
 
 /// What C says of a field before it is read: `kind` is 0 for a number of `count` bits, 1 for
-/// `count` octets, and 2 for `count` bits.
+/// `count` octets, 2 for `count` bits, 3 for an integer of `count` octets, 4 for an integer behind
+/// an octet that counts its octets, 5 for a character of the alphabet at the place `count`, and 6
+/// for an identifier whose contents have `count` octets.
 #[repr(C)]
 #[derive(Clone, Copy, Debug)]
 pub struct Shape {
     /// Which kind of field it is.
     pub kind: u32,
-    /// How many bits or octets.
+    /// How many bits or octets, or the place of the alphabet.
     pub count: usize,
 }
 
-/// A field: where its bits lie, and the number of a number.
+/// A field: where its bits lie, and its number: that of a number, of an integer of up to sixteen
+/// octets in two's complement, or of a character with its code above.
 #[repr(C)]
 #[derive(Clone, Copy, Debug)]
 pub struct Field {
@@ -27,14 +37,13 @@ pub struct Field {
     pub first: usize,
     /// How many bits.
     pub length: usize,
-    /// The upper 64 bits of a number, else 0.
+    /// The upper 64 bits of a number or an integer, the code of a character, else 0.
     pub high: u64,
-    /// The lower 64 bits of a number, else 0.
+    /// The lower 64 bits, a character, else 0.
     pub low: u64,
 }
 
-/// The first wrong field, counted from 0, and its reason: by how many bits the octets are short of
-/// it, its width, or its length.
+/// The first wrong field, counted from 0, and its reason, with the number that the reason has.
 #[repr(C)]
 #[derive(Clone, Copy, Debug)]
 pub struct Refusal {
@@ -65,7 +74,7 @@ impl Refusal {
 }
 
 /// A field of so many bits from a place on, without a number, if the octets have them.
-fn taken(octets: &[u8], at: usize, need: u128, field: usize) -> Result<Field, Refusal>
+pub(crate) fn taken(octets: &[u8], at: usize, need: u128, field: usize) -> Result<Field, Refusal>
     requires few { 8 * length octets.now < 2 ^ 64 }
     requires within { at ≤ 8 * length octets.now }
     requires small { need < 2 ^ 70 }
@@ -89,6 +98,27 @@ fn taken(octets: &[u8], at: usize, need: u128, field: usize) -> Result<Field, Re
     })
 }
 
+impl Field {
+    /// The number.
+    pub(crate) fn number(&self) -> u128
+        ensures { result ≡ number_of_words self.now.high self.now.low }
+    {
+        u128::from(self.high) * (1 << 64) + u128::from(self.low)
+    }
+
+    /// The field with another number.
+    pub(crate) fn with_number(&self, number: u128) -> Field
+        ensures place { (result.first ≡ self.now.first) × (result.length ≡ self.now.length) }
+        ensures number { number_of_words result.high result.low ≡ number }
+    {
+        Field {
+            high: (number >> 64) as u64,
+            low: (number % (1 << 64)) as u64,
+            ..*self
+        }
+    }
+}
+
 /// Reads a number.
 fn read_number(octets: &[u8], at: usize, width: usize, field: usize) -> Result<Field, Refusal>
     requires few { 8 * length octets.now < 2 ^ 64 }
@@ -102,14 +132,7 @@ fn read_number(octets: &[u8], at: usize, width: usize, field: usize) -> Result<F
         return Err(Refusal::with(WIDTH, field, width as u128));
     }
     match taken(octets, at, width as u128, field) {
-        Ok(place) => {
-            let number = read_wide(octets, at, width);
-            Ok(Field {
-                high: (number >> 64) as u64,
-                low: (number % (1 << 64)) as u64,
-                ..place
-            })
-        }
+        Ok(place) => Ok(place.with_number(read_wide(octets, at, width))),
         Err(refusal) => Err(refusal),
     }
 }
@@ -138,21 +161,90 @@ fn read_bits(octets: &[u8], at: usize, count: usize, field: usize) -> Result<Fie
     taken(octets, at, count as u128, field)
 }
 
-/// Reads a field of the shape, if one begins there.
-fn read_one(octets: &[u8], at: usize, shape: &Shape, field: usize) -> Result<Field, Refusal>
-    requires few { 8 * length octets.now < 2 ^ 64 }
-    requires within { at ≤ 8 * length octets.now }
-    ensures read { IfOk result (IsReadAt octets.now at shape.now) }
-    ensures end { IfOk result (λ f. end_of f ≤ 8 * length octets.now) }
-    ensures refused { IfErr result (IsRefusal shape.now (drop at (bits octets.now))) }
-    ensures codes { IfErr result (λ r. (r.code ≡ 10) ⊎ ((r.code ≡ 2) ⊎ (r.code ≡ 15))) }
-    ensures field { IfErr result (λ r. r.field ≡ field) }
+/// The shape that the numbers name.
+pub(crate) fn known_shape<'s>(alphabets: &[Alphabet<'s>], shape: &Shape) -> Option<Known<'s>>
+    ensures { MatchOption result (shape_named alphabets.now shape.now ≡ None)
+        (λ s. shape_named alphabets.now shape.now ≡ Some (plain_shape s)) }
 {
     match shape.kind {
-        0 => read_number(octets, at, shape.count, field),
-        1 => read_octets(octets, at, shape.count, field),
-        2 => read_bits(octets, at, shape.count, field),
-        _ => Err(Refusal::with(KIND, field, 0)),
+        0 => Some(Known::Number { width: shape.count }),
+        1 => Some(Known::Octets { count: shape.count }),
+        2 => Some(Known::Bits {
+            length: shape.count,
+        }),
+        3 => Some(Known::Integer {
+            octets: shape.count,
+        }),
+        4 => Some(Known::CountedInteger),
+        5 => character_shape(alphabets, shape.count),
+        6 => Some(Known::Oid {
+            octets: shape.count,
+        }),
+        _ => None,
+    }
+}
+
+/// The shape of a character of the alphabet at a place.
+fn character_shape<'s>(alphabets: &[Alphabet<'s>], place: usize) -> Option<Known<'s>>
+    ensures { MatchOption result (alphabet_at alphabets.now place ≡ None)
+        (λ s. option_map (λ a. plain.OfCharacter a) (alphabet_at alphabets.now place)
+        ≡ Some (plain_shape s)) }
+{
+    let Some(alphabet) = alphabets.get(place) else {
+        return None;
+    };
+    match alphabet.read() {
+        Some(alphabet) => Some(Known::Character { alphabet }),
+        None => None,
+    }
+}
+
+/// Reads a field of the shape, if one begins there.
+pub(crate) fn read_known(
+    octets: &[u8],
+    at: usize,
+    shape: &Known<'_>,
+    field: usize,
+) -> Result<Field, Refusal>
+    requires few { 8 * length octets.now < 2 ^ 64 }
+    requires within { at ≤ 8 * length octets.now }
+    ensures read { IfOk result (IsSpelledAt octets.now at (plain_shape shape.now)) }
+    ensures refused { IfErr result
+        (NamesReason (plain_shape shape.now) (drop at (bits octets.now))) }
+    ensures field { IfErr result (λ r. r.field ≡ field) }
+{
+    match shape {
+        Known::Number { width } => read_number(octets, at, *width, field),
+        Known::Octets { count } => read_octets(octets, at, *count, field),
+        Known::Bits { length } => read_bits(octets, at, *length, field),
+        Known::Integer { octets: count } => read_integer(octets, at, *count, field),
+        Known::Character { alphabet } => read_character(octets, at, alphabet, field),
+        Known::CountedInteger => read_counted(octets, at, field),
+        Known::Oid { octets: count } => read_identifier(octets, at, *count, field),
+    }
+}
+
+/// Reads a field of the shape that the numbers name, if one begins there.
+fn read_one(
+    octets: &[u8],
+    at: usize,
+    alphabets: &[Alphabet<'_>],
+    shape: &Shape,
+    field: usize,
+) -> Result<Field, Refusal>
+    requires few { 8 * length octets.now < 2 ^ 64 }
+    requires within { at ≤ 8 * length octets.now }
+    ensures read { IfOk result (IsReadAt octets.now alphabets.now at shape.now) }
+    ensures end { IfOk result (λ f. end_of f ≤ 8 * length octets.now) }
+    ensures refused { IfErr result
+        (IsRefusal alphabets.now shape.now (drop at (bits octets.now))) }
+    ensures codes { IfErr result
+        (λ r. (r.code ≢ 0) × (r.code ≢ 1) × (r.code ≢ 3) × (r.code ≢ 23)) }
+    ensures field { IfErr result (λ r. r.field ≡ field) }
+{
+    match known_shape(alphabets, shape) {
+        Some(known) => read_known(octets, at, &known, field),
+        None => Err(Refusal::with(SHAPE, field, 0)),
     }
 }
 
@@ -162,32 +254,38 @@ fn read_one(octets: &[u8], at: usize, shape: &Shape, field: usize) -> Result<Fie
 pub extern "C" fn asn1_read_fields(
     octets: &[u8],
     position: usize,
+    alphabets: &[Alphabet<'_>],
     shapes: &[Shape],
     fields: &mut [Field],
     end: &mut usize,
     refusal: &mut Refusal,
 ) -> u32
-    ensures read { result ≡ 0
-        → AreReadAt octets.now position shapes.now (take (length shapes.now) fields.new) end.new }
-    ensures refused { result ≢ 0 → result ≢ 1 → result ≢ 3 → result ≢ 5
-        → IsRefusedAt octets.now position shapes.now fields.new refusal.new }
-    ensures code { result ≢ 0 → result ≢ 1 → result ≢ 3 → result ≢ 5 → refusal.new.code ≡ result }
-    ensures overflow { result ≡ 5 ↔ (2 ^ 64 ≤ 8 * length octets.now) }
+    ensures read { result ≡ 0 → AreReadAt octets.now alphabets.now position shapes.now
+        (take (length shapes.now) fields.new) end.new }
+    ensures refused { result ≢ 0 → result ≢ 1 → result ≢ 3 → result ≢ 23
+        → IsRefusedAt octets.now alphabets.now position shapes.now fields.new refusal.new }
+    ensures code { result ≢ 0 → result ≢ 1 → result ≢ 3 → result ≢ 23 → refusal.new.code ≡ result }
+    ensures too_many { result ≡ 23 ↔ (2 ^ 64 ≤ 8 * length octets.now) }
     ensures outside { result ≡ 1 → 8 * length octets.now < position }
     ensures room { result ≡ 3 → length fields.old < length shapes.now }
-    ensures within { result ≢ 5 → result ≢ 1 → position ≤ 8 * length octets.now }
-    ensures enough { result ≢ 5 → result ≢ 1 → result ≢ 3 → length shapes.now ≤ length fields.old }
+    ensures within { result ≢ 23 → result ≢ 1 → position ≤ 8 * length octets.now }
+    ensures enough { result ≢ 23 → result ≢ 1 → result ≢ 3
+        → length shapes.now ≤ length fields.old }
     ensures same_length { length fields.new ≡ length fields.old }
-    ensures rest { drop (length shapes.now) fields.new ≡ drop (length shapes.now) fields.old }
+    // Behind what was read nothing changes.
+    ensures rest { result ≡ 0
+        → drop (length shapes.now) fields.new ≡ drop (length shapes.now) fields.old }
+    ensures kept_fields { result ≢ 0 → result ≢ 1 → result ≢ 3 → result ≢ 23
+        → drop refusal.new.field fields.new ≡ drop refusal.new.field fields.old }
     ensures kept_end { result ≢ 0 → end.new ≡ end.old }
     ensures kept_refusal { result ≡ 0 → refusal.new ≡ refusal.old }
     // Where nothing was read, the refusal and the fields are as before.
-    ensures same_refusal { (result ≡ 1) ⊎ ((result ≡ 3) ⊎ (result ≡ 5)) → refusal.new
+    ensures same_refusal { (result ≡ 1) ⊎ ((result ≡ 3) ⊎ (result ≡ 23)) → refusal.new
         ≡ refusal.old }
-    ensures same_fields { (result ≡ 1) ⊎ ((result ≡ 3) ⊎ (result ≡ 5)) → fields.new ≡ fields.old }
+    ensures same_fields { (result ≡ 1) ⊎ ((result ≡ 3) ⊎ (result ≡ 23)) → fields.new ≡ fields.old }
 {
     let Some(bits) = octets.len().checked_mul(8) else {
-        return OVERFLOW;
+        return TOO_MANY;
     };
     if position > bits {
         return OUTSIDE;
@@ -197,7 +295,7 @@ pub extern "C" fn asn1_read_fields(
     }
     let mut at = position;
     for (i, shape) in shapes.iter().enumerate() {
-        match read_one(octets, at, shape, i) {
+        match read_one(octets, at, alphabets, shape, i) {
             Ok(field) => {
                 fields[i] = field;
                 at = field.first + field.length;

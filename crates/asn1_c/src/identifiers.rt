@@ -1,13 +1,13 @@
 //! Object identifiers (X.660) and their contents (X.690 8.19).
 
-ghost use Rattle.std.specs.Prelude.{◌≡◌, ◌≢◌, ◌↔◌, ◌<◌, ◌≤◌, ◌^◌, ℕ, List, Ok, IfSome, IfNone, length, take, drop};
+ghost use Rattle.std.specs.Prelude.{◌≡◌, ◌≢◌, ◌↔◌, ◌⊎◌, ◌<◌, ◌≤◌, ◌^◌, ℕ, List, Ok, IfSome, IfNone, length, take, drop};
 ghost use Rattle.asn1_oid.specs.Arcs.{IsValidArcs};
 ghost use Rattle.asn1_oid.specs.Contents.{IsContents, FitU32};
 ghost use Rattle.asn1_oid.specs.Reading.{contents_reading};
 ghost use Rattle.asn1_c.specs.Arcs.{more_arcs};
 
-use crate::codes::{ARC_COUNT, ARC_TOO_LARGE, ARCS, DONE, MALFORMED, ROOM};
-use asn1_values::{ContentsError, Oid, OidContents, check_contents};
+use crate::codes::{ARC_COUNT, ARC_TOO_LARGE, ARCS, DONE, MALFORMED, ROOM, TOO_MANY};
+use asn1_values::{ContentsError, OctetSource, Oid, OidContents, check_contents};
 
 /// Whether the octets are the contents of an identifier whose arcs all fit 32 bits.
 #[unsafe(no_mangle)]
@@ -19,7 +19,20 @@ pub extern "C" fn asn1_oid_check(octets: &[u8]) -> u32
     ensures malformed { result ≡ 6 ↔ ((arcs : List ℕ) → ¬ (IsContents arcs octets.now)) }
     ensures codes { result ≢ 0 → result ≢ 7 → result ≡ 6 }
 {
-    match check_contents(&octets) {
+    code_of_contents(&octets)
+}
+
+/// `asn1_oid_check` of any list of octets.
+pub(crate) fn code_of_contents<S: OctetSource>(source: &S) -> u32
+    ensures done { result ≡ 0
+        ↔ ((arcs : List ℕ) × IsContents arcs (S.list source.now) × FitU32 arcs) }
+    ensures arc_too_large { result ≡ 7
+        ↔ ((arcs : List ℕ) × IsContents arcs (S.list source.now) × ¬ (FitU32 arcs)) }
+    ensures malformed { result ≡ 6
+        ↔ ((arcs : List ℕ) → ¬ (IsContents arcs (S.list source.now))) }
+    ensures codes { result ≢ 0 → result ≢ 7 → result ≡ 6 }
+{
+    match check_contents(source) {
         Ok(()) => DONE,
         Err(ContentsError::ArcTooLarge) => ARC_TOO_LARGE,
         Err(_) => MALFORMED,
@@ -38,7 +51,8 @@ pub extern "C" fn asn1_oid_check_arcs(arcs: &[u32]) -> u32
     }
 }
 
-/// Writes the contents of the arcs into the room, of which five octets an arc are always enough.
+/// Writes the contents of the arcs into the room, of which five octets an arc are always enough. How
+/// many octets they are is told also where the room is too small.
 #[unsafe(no_mangle)]
 #[tactic(auto, using(asn1_oid::specs::WritingLaws::contents_only))]
 pub extern "C" fn asn1_oid_contents(arcs: &[u32], room: &mut [u8], count: &mut usize) -> u32
@@ -49,9 +63,13 @@ pub extern "C" fn asn1_oid_contents(arcs: &[u32], room: &mut [u8], count: &mut u
     ensures arc_count { result ≡ 9 ↔ (IsValidArcs arcs.now × (length arcs.now ≡ 1)) }
     ensures room { result ≡ 3 → (octets : List ℕ) → IsContents arcs.now octets
         → length room.old < length octets }
-    ensures codes { result ≢ 0 → result ≢ 8 → result ≢ 9 → result ≡ 3 }
+    ensures count { (result ≡ 0) ⊎ (result ≡ 3) → (octets : List ℕ) → IsContents arcs.now octets
+        → count.new ≡ length octets }
+    ensures too_many { result ≡ 23 → (octets : List ℕ) → IsContents arcs.now octets
+        → 2 ^ 64 ≤ length octets }
+    ensures codes { result ≢ 0 → result ≢ 8 → result ≢ 9 → result ≢ 23 → result ≡ 3 }
     ensures unchanged { result ≢ 0 → room.new ≡ room.old }
-    ensures kept { result ≢ 0 → count.new ≡ count.old }
+    ensures kept { result ≢ 0 → result ≢ 3 → count.new ≡ count.old }
 {
     let Some(oid) = Oid::new(arcs) else {
         return ARCS;
@@ -59,10 +77,13 @@ pub extern "C" fn asn1_oid_contents(arcs: &[u32], room: &mut [u8], count: &mut u
     let (Some(contents), Some(len)) = (oid.contents(), oid.contents_len()) else {
         return ARC_COUNT;
     };
+    if len > usize::MAX as u128 {
+        return TOO_MANY;
+    }
+    *count = len as usize;
     if len > room.len() as u128 {
         return ROOM;
     }
-    *count = len as usize;
     put_each(contents, room);
     DONE
 }

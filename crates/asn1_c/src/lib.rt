@@ -9,10 +9,15 @@
 
 mod alphabets;
 mod bits;
+mod character_fields;
 mod codes;
 mod fields;
+mod identifier_fields;
 mod identifiers;
+mod integer_fields;
 mod integers;
+mod octets_at;
+mod plans;
 mod room;
 mod strings;
 mod text;

@@ -6,7 +6,7 @@ ghost use Rattle.std.specs.Option.{option_map_or};
 ghost use Rattle.asn1_oid.specs.Arcs.{IsValidArcs, dotted, full_stop};
 ghost use Rattle.asn1_c.specs.Text.{IsDottedText};
 
-use crate::codes::{ARCS, DONE, OVERFLOW, ROOM, TEXT};
+use crate::codes::{ARCS, DONE, ROOM, TEXT, TOO_MANY};
 use asn1_values::Oid;
 use std::str;
 
@@ -68,11 +68,11 @@ pub extern "C" fn asn1_oid_text(arcs: &[u32], room: &mut [u8], count: &mut usize
     ensures rest { result ≡ 0 → drop count.new room.new ≡ drop count.new room.old }
     ensures count { (result ≡ 0) ⊎ (result ≡ 3) → count.new ≡ length (dotted arcs.now) }
     ensures arcs { result ≡ 8 ↔ ¬ (IsValidArcs arcs.now) }
-    ensures overflow { result ≡ 5
+    ensures too_many { result ≡ 23
         ↔ (IsValidArcs arcs.now × (2 ^ 64 ≤ length (dotted arcs.now))) }
     ensures room { result ≡ 3 → length room.old < length (dotted arcs.now) }
     ensures enough { result ≡ 0 → length (dotted arcs.now) ≤ length room.old }
-    ensures codes { result ≢ 0 → result ≢ 8 → result ≢ 5 → result ≡ 3 }
+    ensures codes { result ≢ 0 → result ≢ 8 → result ≢ 23 → result ≡ 3 }
     ensures unchanged { result ≢ 0 → room.new ≡ room.old }
     ensures kept { result ≢ 0 → result ≢ 3 → count.new ≡ count.old }
 {
@@ -84,7 +84,7 @@ pub extern "C" fn asn1_oid_text(arcs: &[u32], room: &mut [u8], count: &mut usize
     };
     let length = text_length(*first, others);
     if length > usize::MAX as u128 {
-        return OVERFLOW;
+        return TOO_MANY;
     }
     *count = length as usize;
     if length > room.len() as u128 {

@@ -2,8 +2,7 @@
 //! standard gives, and read back. Characters are those of ISO 646.
 
 use asn1_values::{
-    integer_from_octets, integer_octets, is_shortest, read_fields, write_fields, Alphabet, Bits,
-    Field, Shape, StringKind,
+    read_field, write_fields, Alphabet, AlphabetError, Field, Integer, Shape, StringKind,
 };
 use std::error::Error;
 
@@ -66,12 +65,8 @@ impl StringType {
         }
     }
 
-    fn alphabet(&self) -> Alphabet<'_> {
-        Alphabet {
-            kind: StringKind::Visible,
-            permitted: self.permitted.as_deref(),
-            aligned: false,
-        }
+    fn alphabet(&self) -> Result<Alphabet<'_>, AlphabetError> {
+        Alphabet::new(StringKind::Visible, self.permitted.as_deref(), false)
     }
 }
 
@@ -91,7 +86,7 @@ struct Message {
 type Done<T> = Result<T, Box<dyn Error>>;
 
 impl Message {
-    fn put(&mut self, fields: &[Field<'_>]) -> Done<()> {
+    fn put(&mut self, fields: &[Field<'_, '_>]) -> Done<()> {
         self.at = write_fields(&mut self.octets, self.at, fields)?;
         Ok(())
     }
@@ -106,12 +101,12 @@ impl Message {
             return Err("so many characters are not permitted".into());
         }
         self.put_number(text.len() - string.least, string.width)?;
-        let alphabet = string.alphabet();
-        let width = alphabet.width()?;
-        for character in text.chars() {
-            self.put_number(alphabet.encode(character.into())? as usize, width)?;
-        }
-        Ok(())
+        let alphabet = string.alphabet()?;
+        let characters = text.chars().map(|c| Field::Character {
+            character: c.into(),
+            alphabet,
+        });
+        self.put(&characters.collect::<Vec<_>>())
     }
 
     fn put_name(&mut self, types: &Types, name: &Name) -> Done<()> {
@@ -120,18 +115,12 @@ impl Message {
         self.put_string(&types.name, &name.family)
     }
 
-    /// One octet with how many octets the number has, and these.
-    fn put_integer(&mut self, number: i64) -> Done<()> {
-        let mut room = [0; 8];
-        let octets = integer_octets(number, &mut room);
-        self.put_number(octets.len(), 8)?;
-        self.put(&[Field::Octets(Bits::of(octets))])
-    }
-
     fn put_record(&mut self, types: &Types, record: &Record) -> Done<()> {
         self.put_number(usize::from(!record.children.is_empty()), 1)?;
         self.put_name(types, &record.name)?;
-        self.put_integer(record.number)?;
+        self.put(&[Field::CountedInteger(Integer::from(i128::from(
+            record.number,
+        )))])?;
         self.put_string(&types.title, &record.title)?;
         self.put_string(&types.date, &record.date_of_hire)?;
         self.put_name(types, &record.spouse)?;
@@ -145,11 +134,15 @@ impl Message {
         Ok(())
     }
 
-    fn take_number(&mut self, width: usize) -> Done<usize> {
-        let (fields, end) = read_fields(&self.octets, self.at, &[Shape::Number { width }])?;
+    fn take<'s>(&mut self, shape: &Shape<'s>) -> Done<Field<'_, 's>> {
+        let (field, end) = read_field(&self.octets, self.at, shape)?;
         self.at = end;
-        match fields[..] {
-            [Field::Number { value, .. }] => Ok(value as usize),
+        Ok(field)
+    }
+
+    fn take_number(&mut self, width: usize) -> Done<usize> {
+        match self.take(&Shape::Number { width })? {
+            Field::Number { value, .. } => Ok(value as usize),
             _ => Err("no number".into()),
         }
     }
@@ -159,12 +152,12 @@ impl Message {
         if length > string.most {
             return Err("so many characters are not permitted".into());
         }
-        let alphabet = string.alphabet();
-        let width = alphabet.width()?;
+        let alphabet = string.alphabet()?;
         let mut text = String::new();
         for _ in 0..length {
-            let character = alphabet.decode(self.take_number(width)? as u32)?;
-            text.push(char::from_u32(character).ok_or("no character")?);
+            if let Field::Character { character, .. } = self.take(&Shape::Character { alphabet })? {
+                text.push(char::from_u32(character).ok_or("no character")?);
+            }
         }
         Ok(text)
     }
@@ -178,15 +171,13 @@ impl Message {
     }
 
     fn take_integer(&mut self) -> Done<i64> {
-        let count = self.take_number(8)?;
-        let (fields, end) = read_fields(&self.octets, self.at, &[Shape::Octets { count }])?;
-        self.at = end;
-        let mut octets = vec![0; count];
-        write_fields(&mut octets, 0, &fields)?;
-        if !is_shortest(&octets) {
-            return Err("no integer".into());
+        match self.take(&Shape::CountedInteger)? {
+            Field::CountedInteger(number) => {
+                let value = number.value().ok_or("a large integer")?;
+                Ok(i64::try_from(value)?)
+            }
+            _ => Err("no integer".into()),
         }
-        Ok(integer_from_octets(&octets)?)
     }
 
     fn take_record(&mut self, types: &Types) -> Done<Record> {

@@ -1,12 +1,242 @@
 use crate::error::BitsError;
 use crate::sys::{self, Words};
 use core::cmp::Ordering;
+use core::hash::{Hash, Hasher};
 
 pub(crate) fn ordering(order: i32) -> Ordering {
     order.cmp(&0)
 }
 
+/// Some bits of octets, from any bit on. Two are equal where their lists of bits are, wherever they lie, and they are
+/// ordered by the first bit that differs, and else by length.
+///
+/// ```
+/// use asn1_values::Bits;
+/// let bits = Bits::new(&[0x5A, 0x5B], 4, 8).unwrap();
+/// assert_eq!(bits, Bits::of(&[0xA5]));
+/// assert!(Bits::new(&[0x5A], 1, 8).is_none());
+/// ```
+#[derive(Clone, Copy, Debug)]
+pub struct Bits<'a> {
+    octets: &'a [u8],
+    first: usize,
+    length: usize,
+}
+
+impl<'a> Bits<'a> {
+    /// So many bits of the octets, from the bit `first` on; None where the octets end before.
+    ///
+    /// ```
+    /// use asn1_values::Bits;
+    /// assert_eq!(Bits::new(&[0x0F], 4, 4).unwrap().number(0, 4), Some(15));
+    /// assert!(Bits::new(&[0x0F], usize::MAX, 2).is_none());
+    /// ```
+    #[must_use]
+    pub fn new(octets: &'a [u8], first: usize, length: usize) -> Option<Bits<'a>> {
+        if first as u128 + length as u128 > 8 * octets.len() as u128 {
+            return None;
+        }
+        Some(Bits {
+            octets,
+            first,
+            length,
+        })
+    }
+
+    /// All bits of the octets, or as many as `usize` counts.
+    ///
+    /// ```
+    /// assert_eq!(asn1_values::Bits::of(&[0, 1]).len(), 16);
+    /// ```
+    #[must_use]
+    pub fn of(octets: &'a [u8]) -> Bits<'a> {
+        Bits {
+            octets,
+            first: 0,
+            length: octets.len().saturating_mul(8),
+        }
+    }
+
+    /// How many bits.
+    ///
+    /// ```
+    /// assert_eq!(asn1_values::Bits::new(&[0xFF], 1, 5).unwrap().len(), 5);
+    /// ```
+    #[must_use]
+    pub fn len(&self) -> usize {
+        self.length
+    }
+
+    /// Whether there are none.
+    ///
+    /// ```
+    /// assert!(asn1_values::Bits::of(&[]).is_empty());
+    /// ```
+    #[must_use]
+    pub fn is_empty(&self) -> bool {
+        self.length == 0
+    }
+
+    /// The octets in which the bits lie.
+    ///
+    /// ```
+    /// assert_eq!(asn1_values::Bits::new(&[1, 2], 3, 4).unwrap().storage(), [1, 2]);
+    /// ```
+    #[must_use]
+    pub fn storage(&self) -> &'a [u8] {
+        self.octets
+    }
+
+    /// The first bit of them, counted from that of the octets.
+    ///
+    /// ```
+    /// assert_eq!(asn1_values::Bits::new(&[1, 2], 3, 4).unwrap().first(), 3);
+    /// ```
+    #[must_use]
+    pub fn first(&self) -> usize {
+        self.first
+    }
+
+    /// So many of the bits, from the bit `from` of them on; None where they end before.
+    ///
+    /// ```
+    /// use asn1_values::Bits;
+    /// assert_eq!(Bits::of(&[0xA5]).part(4, 4), Bits::new(&[0x05], 4, 4));
+    /// ```
+    #[must_use]
+    pub fn part(&self, from: usize, length: usize) -> Option<Bits<'a>> {
+        if from as u128 + length as u128 > self.length as u128 {
+            return None;
+        }
+        Bits::new(self.octets, self.first + from, length)
+    }
+
+    /// The number of `width` bits from bit `from` on, at most 128; None where they are not there.
+    ///
+    /// ```
+    /// assert_eq!(asn1_values::Bits::of(&[0xA5]).number(4, 4), Some(5));
+    /// ```
+    #[must_use]
+    pub fn number(&self, from: usize, width: usize) -> Option<u128> {
+        if from.checked_add(width)? > self.length {
+            return None;
+        }
+        read_bits(self.octets, self.first.checked_add(from)?, width).ok()
+    }
+
+    /// Octet `i` of those that lie in the bits one after another; None where they end before.
+    ///
+    /// ```
+    /// assert_eq!(asn1_values::Bits::new(&[0x5A, 0x5B], 4, 8).unwrap().octet(0), Some(0xA5));
+    /// ```
+    #[must_use]
+    pub fn octet(&self, i: usize) -> Option<u8> {
+        Some(self.number(i.checked_mul(8)?, 8)? as u8)
+    }
+
+    /// Copies the whole octets that lie in the bits one after another to the front of the room, and answers them.
+    ///
+    /// # Errors
+    ///
+    /// `BitsError::Room` where the room is too short.
+    ///
+    /// ```
+    /// use asn1_values::Bits;
+    /// let mut room = [0; 4];
+    /// assert_eq!(Bits::new(&[0x5A, 0x5B], 4, 8).unwrap().copy_octets(&mut room), Ok(&[0xA5][..]));
+    /// ```
+    pub fn copy_octets<'r>(&self, room: &'r mut [u8]) -> Result<&'r [u8], BitsError> {
+        let count = self.length / 8;
+        // SAFETY: pointers and lengths are those of slices, of which the mutable one overlaps no other.
+        let code = unsafe {
+            sys::asn1_octets_at(
+                self.octets.as_ptr(),
+                self.octets.len(),
+                self.first,
+                count,
+                room.as_mut_ptr(),
+                room.len(),
+            )
+        };
+        match code {
+            sys::DONE => Ok(&room[..count]),
+            sys::ROOM => Err(BitsError::Room),
+            _ => Err(BitsError::Outside),
+        }
+    }
+
+    /// The whole octets that lie in the bits one after another.
+    ///
+    /// ```
+    /// assert_eq!(asn1_values::Bits::new(&[0x5A, 0x5B], 4, 8).unwrap().to_octets(), [0xA5]);
+    /// ```
+    #[cfg(feature = "alloc")]
+    #[must_use]
+    pub fn to_octets(&self) -> alloc::vec::Vec<u8> {
+        let mut room = alloc::vec![0; self.length / 8];
+        // The room has as many octets as there are, and the bits lie within their own.
+        let _ = self.copy_octets(&mut room);
+        room
+    }
+}
+
+impl Ord for Bits<'_> {
+    fn cmp(&self, other: &Self) -> Ordering {
+        let mut order = 0;
+        // SAFETY: pointers and lengths are those of slices, and `order` is a place of its own. Bits lie within their
+        // octets, so the answer is always `DONE`.
+        unsafe {
+            sys::asn1_compare_bits(
+                self.octets.as_ptr(),
+                self.octets.len(),
+                self.first,
+                self.length,
+                other.octets.as_ptr(),
+                other.octets.len(),
+                other.first,
+                other.length,
+                &mut order,
+            )
+        };
+        ordering(order)
+    }
+}
+
+impl PartialOrd for Bits<'_> {
+    fn partial_cmp(&self, other: &Self) -> Option<Ordering> {
+        Some(self.cmp(other))
+    }
+}
+
+impl PartialEq for Bits<'_> {
+    fn eq(&self, other: &Self) -> bool {
+        self.cmp(other) == Ordering::Equal
+    }
+}
+
+impl Eq for Bits<'_> {}
+
+impl Hash for Bits<'_> {
+    fn hash<H: Hasher>(&self, state: &mut H) {
+        self.length.hash(state);
+        let mut at = 0;
+        while at < self.length {
+            let width = (self.length - at).min(128);
+            self.number(at, width).hash(state);
+            at += width;
+        }
+    }
+}
+
 /// The number of the `width` bits from bit `position` on, at most 128, the first of them its highest digit.
+///
+/// # Errors
+///
+/// `BitsError::Width` for a width over 128, else `BitsError::Outside` where the octets end before.
+///
+/// ```
+/// assert_eq!(asn1_values::read_bits(&[0xB4, 0xA0], 3, 8), Ok(0xA5));
+/// ```
 pub fn read_bits(octets: &[u8], position: usize, width: usize) -> Result<u128, BitsError> {
     let mut value = Words::ZERO;
     // SAFETY: pointer and length are those of a slice, and `value` is a place of its own.
@@ -18,25 +248,29 @@ pub fn read_bits(octets: &[u8], position: usize, width: usize) -> Result<u128, B
     }
 }
 
-/// ORs `count` bits of the source, from its bit `first` on, into the target from bit `position` on. Every other bit of
-/// the target stays; into zeros it copies.
-pub fn or_bits(
-    target: &mut [u8],
-    position: usize,
-    source: &[u8],
-    first: usize,
-    count: usize,
-) -> Result<(), BitsError> {
+/// ORs the bits into the target from its bit `position` on. Every other bit of the target stays; into zeros it copies.
+///
+/// # Errors
+///
+/// `BitsError::Outside` where the target ends before; then nothing has changed.
+///
+/// ```
+/// use asn1_values::{or_bits, Bits};
+/// let mut message = [0; 2];
+/// or_bits(&mut message, 3, Bits::of(&[0xA5])).unwrap();
+/// assert_eq!(message, [0x14, 0xA0]);
+/// ```
+pub fn or_bits(target: &mut [u8], position: usize, source: Bits<'_>) -> Result<(), BitsError> {
     // SAFETY: pointers and lengths are those of slices, of which the mutable one overlaps no other.
     let code = unsafe {
         sys::asn1_or_bits(
             target.as_mut_ptr(),
             target.len(),
             position,
-            source.as_ptr(),
-            source.len(),
-            first,
-            count,
+            source.octets.as_ptr(),
+            source.octets.len(),
+            source.first,
+            source.length,
         )
     };
     match code {
@@ -47,6 +281,17 @@ pub fn or_bits(
 
 /// ORs the `width` lowest binary digits of the number, at most 128, into the target from bit `position` on. Every other
 /// bit of the target stays.
+///
+/// # Errors
+///
+/// `BitsError::Width` for a width over 128, `BitsError::Overflow` for a number that is not below 2 to its power, else
+/// `BitsError::Outside` where the target ends before; then nothing has changed.
+///
+/// ```
+/// let mut message = [0x80, 0];
+/// asn1_values::or_number(&mut message, 1, 5, 3).unwrap();
+/// assert_eq!(message, [0xD0, 0]);
+/// ```
 pub fn or_number(
     target: &mut [u8],
     position: usize,
@@ -61,33 +306,6 @@ pub fn or_number(
         sys::DONE => Ok(()),
         sys::WIDTH => Err(BitsError::Width),
         sys::OVERFLOW => Err(BitsError::Overflow),
-        _ => Err(BitsError::Outside),
-    }
-}
-
-/// Compares two lists of bits, each of them octets, the first bit, and how many bits: by the first bit that differs, and
-/// else by length.
-pub fn compare_bits(
-    a: (&[u8], usize, usize),
-    b: (&[u8], usize, usize),
-) -> Result<Ordering, BitsError> {
-    let mut order = 0;
-    // SAFETY: pointers and lengths are those of slices, and `order` is a place of its own.
-    let code = unsafe {
-        sys::asn1_compare_bits(
-            a.0.as_ptr(),
-            a.0.len(),
-            a.1,
-            a.2,
-            b.0.as_ptr(),
-            b.0.len(),
-            b.1,
-            b.2,
-            &mut order,
-        )
-    };
-    match code {
-        sys::DONE => Ok(ordering(order)),
         _ => Err(BitsError::Outside),
     }
 }

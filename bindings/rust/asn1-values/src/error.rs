@@ -3,7 +3,12 @@
 use core::fmt;
 
 /// Bits do not all lie in their octets, or a number or its width is too large.
-#[derive(Clone, Copy, Debug, PartialEq, Eq)]
+///
+/// ```
+/// assert_eq!(asn1_values::BitsError::Width.to_string(), "a width over 128 bits");
+/// ```
+#[derive(Clone, Copy, Debug, PartialEq, Eq, Hash)]
+#[non_exhaustive]
 pub enum BitsError {
     /// The octets end before the bits do.
     Outside,
@@ -11,19 +16,33 @@ pub enum BitsError {
     Width,
     /// A number that is not below 2 to the power of its width.
     Overflow,
+    /// The room is too short.
+    Room,
 }
 
 /// Why octets were no number, or did not hold one.
-#[derive(Clone, Copy, Debug, PartialEq, Eq)]
+///
+/// ```
+/// assert_eq!(asn1_values::IntegerError::Empty.to_string(), "no octets");
+/// ```
+#[derive(Clone, Copy, Debug, PartialEq, Eq, Hash)]
+#[non_exhaustive]
 pub enum IntegerError {
     /// There are no octets.
     Empty,
     /// The number does not fit 64 bits.
     Overflow,
+    /// The room is too short.
+    Room,
 }
 
 /// Why there is no identifier.
-#[derive(Clone, Copy, Debug, PartialEq, Eq)]
+///
+/// ```
+/// assert_eq!(asn1_values::IdentifierError::Arcs.to_string(), "not the arcs of an identifier");
+/// ```
+#[derive(Clone, Copy, Debug, PartialEq, Eq, Hash)]
+#[non_exhaustive]
 pub enum IdentifierError {
     /// The octets are the contents of no identifier, however large its arcs.
     Malformed,
@@ -40,7 +59,12 @@ pub enum IdentifierError {
 }
 
 /// Why octets are not the contents of a string.
-#[derive(Clone, Copy, Debug, PartialEq, Eq)]
+///
+/// ```
+/// assert_eq!(asn1_values::StringError::Odd.to_string(), "an odd number of octets");
+/// ```
+#[derive(Clone, Copy, Debug, PartialEq, Eq, Hash)]
+#[non_exhaustive]
 pub enum StringError {
     /// An odd number of octets in a `BMPString`.
     Odd,
@@ -54,7 +78,12 @@ pub enum StringError {
 }
 
 /// Why there is no code or no character.
-#[derive(Clone, Copy, Debug, PartialEq, Eq)]
+///
+/// ```
+/// assert_eq!(asn1_values::AlphabetError::Code(9).to_string(), "code 9 is no character");
+/// ```
+#[derive(Clone, Copy, Debug, PartialEq, Eq, Hash)]
+#[non_exhaustive]
 pub enum AlphabetError {
     /// The character is not in the alphabet.
     Character(u32),
@@ -65,7 +94,13 @@ pub enum AlphabetError {
 }
 
 /// Why fields were not read. Fields are counted from 0, and the first wrong one is named.
-#[derive(Clone, Copy, Debug, PartialEq, Eq)]
+///
+/// ```
+/// let short = asn1_values::ReadError::Short { field: 1, bits: 4 };
+/// assert_eq!(short.to_string(), "field 1: 4 bits short");
+/// ```
+#[derive(Clone, Copy, Debug, PartialEq, Eq, Hash)]
+#[non_exhaustive]
 pub enum ReadError {
     /// The position is past the octets' bits.
     Outside,
@@ -78,6 +113,35 @@ pub enum ReadError {
         /// How many bits were asked for.
         width: usize,
     },
+    /// Octets that are not the shortest of a number (X.690 8.3.2), or none.
+    Integer {
+        /// Which field.
+        field: usize,
+    },
+    /// A counted integer whose first octet is not 1 to 127.
+    OctetCount {
+        /// Which field.
+        field: usize,
+        /// The octet.
+        octet: u8,
+    },
+    /// A number that is the code of no character of the alphabet.
+    Character {
+        /// Which field.
+        field: usize,
+        /// The number.
+        code: u32,
+    },
+    /// Octets that are the contents of no identifier, however large its arcs, or none.
+    Identifier {
+        /// Which field.
+        field: usize,
+    },
+    /// The contents of an identifier, one of whose arcs passes 32 bits.
+    Arc {
+        /// Which field.
+        field: usize,
+    },
     /// By how many bits the octets are short of the field.
     Short {
         /// Which field.
@@ -88,7 +152,12 @@ pub enum ReadError {
 }
 
 /// Why fields were not written. Fields are counted from 0, and the first wrong one is named.
-#[derive(Clone, Copy, Debug, PartialEq, Eq)]
+///
+/// ```
+/// assert_eq!(asn1_values::WriteError::Room.to_string(), "the room is too small");
+/// ```
+#[derive(Clone, Copy, Debug, PartialEq, Eq, Hash)]
+#[non_exhaustive]
 pub enum WriteError {
     /// A number of more than 128 bits.
     NumberWidth {
@@ -107,8 +176,15 @@ pub enum WriteError {
         /// Which field.
         field: usize,
     },
-    /// The bits of a field do not all lie in their octets.
-    Outside {
+    /// A character that the alphabet has no code for.
+    Character {
+        /// Which field.
+        field: usize,
+        /// The character.
+        character: u32,
+    },
+    /// A counted integer of more than 127 octets.
+    OctetCount {
         /// Which field.
         field: usize,
     },
@@ -124,6 +200,17 @@ impl fmt::Display for ReadError {
             ReadError::NumberWidth { field, width } => {
                 write!(f, "field {field}: width {width} is over 128")
             }
+            ReadError::Integer { field } => write!(f, "field {field}: not a shortest integer"),
+            ReadError::OctetCount { field, octet } => {
+                write!(f, "field {field}: length octet {octet} is not 1 to 127")
+            }
+            ReadError::Character { field, code } => {
+                write!(f, "field {field}: code {code} is no character")
+            }
+            ReadError::Identifier { field } => {
+                write!(f, "field {field}: not the contents of an identifier")
+            }
+            ReadError::Arc { field } => write!(f, "field {field}: an arc is past 32 bits"),
             ReadError::Short { field, bits } => write!(f, "field {field}: {bits} bits short"),
         }
     }
@@ -139,7 +226,15 @@ impl fmt::Display for WriteError {
                 write!(f, "field {field}: the number does not fit its width")
             }
             WriteError::Length { field } => write!(f, "field {field}: not whole octets"),
-            WriteError::Outside { field } => write!(f, "field {field}: past the end of its octets"),
+            WriteError::Character { field, character } => {
+                write!(
+                    f,
+                    "field {field}: character {character} is not in the alphabet"
+                )
+            }
+            WriteError::OctetCount { field } => {
+                write!(f, "field {field}: the integer is longer than 127 octets")
+            }
             WriteError::Room => f.write_str("the room is too small"),
         }
     }
@@ -151,6 +246,7 @@ impl fmt::Display for BitsError {
             BitsError::Outside => f.write_str("the octets end before the bits do"),
             BitsError::Width => f.write_str("a width over 128 bits"),
             BitsError::Overflow => f.write_str("the number does not fit its width"),
+            BitsError::Room => f.write_str("the room is too short"),
         }
     }
 }
@@ -160,6 +256,7 @@ impl fmt::Display for IntegerError {
         match self {
             IntegerError::Empty => f.write_str("no octets"),
             IntegerError::Overflow => f.write_str("the number does not fit 64 bits"),
+            IntegerError::Room => f.write_str("the room is too short"),
         }
     }
 }
@@ -200,17 +297,10 @@ impl fmt::Display for AlphabetError {
     }
 }
 
-#[cfg(feature = "std")]
-mod with_std {
-    use super::{
-        AlphabetError, BitsError, IdentifierError, IntegerError, ReadError, StringError, WriteError,
-    };
-
-    impl std::error::Error for ReadError {}
-    impl std::error::Error for WriteError {}
-    impl std::error::Error for BitsError {}
-    impl std::error::Error for IntegerError {}
-    impl std::error::Error for IdentifierError {}
-    impl std::error::Error for StringError {}
-    impl std::error::Error for AlphabetError {}
-}
+impl core::error::Error for ReadError {}
+impl core::error::Error for WriteError {}
+impl core::error::Error for BitsError {}
+impl core::error::Error for IntegerError {}
+impl core::error::Error for IdentifierError {}
+impl core::error::Error for StringError {}
+impl core::error::Error for AlphabetError {}

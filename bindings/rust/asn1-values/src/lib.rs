@@ -1,11 +1,22 @@
 //! The proved value layer of ASN.1 as a Rust crate: safe functions over the static library that `rt lib` writes.
 //!
-//! What the library's functions answer is proved; what is written here only passes slices on, and is tested. Positions
-//! and widths are in bits, and the first bit of an octet is its most significant one.
+//! What the library's functions answer is proved; what is written here passes slices on, walks over fields and turns
+//! numbers into types, and is tested. Positions and widths are in bits, and the first bit of an octet is its most
+//! significant one.
 //!
 //! Without the feature `std` it is `no_std`; the feature `alloc` adds what gives vectors.
+//!
+//! ```
+//! use asn1_values::{read_field, write_fields, Field, Integer};
+//! let fields = [Field::Number { value: 5, width: 3 }, Field::Integer(Integer::from(128))];
+//! let mut message = [0; 3];
+//! assert_eq!(write_fields(&mut message, 0, &fields), Ok(19));
+//! assert_eq!(read_field(&message, 0, &fields[0].shape()), Ok((fields[0], 3)));
+//! assert_eq!(read_field(&message, 3, &fields[1].shape()), Ok((fields[1], 19)));
+//! ```
 #![cfg_attr(not(feature = "std"), no_std)]
-#![warn(missing_docs)]
+#![deny(missing_docs)]
+#![deny(unsafe_op_in_unsafe_fn)]
 
 #[cfg(feature = "alloc")]
 extern crate alloc;
@@ -16,20 +27,22 @@ mod error;
 mod fields;
 mod identifiers;
 mod integers;
-#[cfg_attr(not(feature = "alloc"), allow(dead_code))]
 mod sys;
 
-pub use alphabets::{check_string, Alphabet, StringKind};
-pub use bits::{compare_bits, or_bits, or_number, read_bits};
+pub use alphabets::{characters, check_string, Alphabet, Characters, StringKind};
+pub use bits::{or_bits, or_number, read_bits, Bits};
 pub use error::{
     AlphabetError, BitsError, IdentifierError, IntegerError, ReadError, StringError, WriteError,
 };
 #[cfg(feature = "alloc")]
 pub use fields::read_fields;
-pub use fields::{write_fields, Bits, Field, Shape};
+pub use fields::{read_field, write_fields, Field, Shape};
 #[cfg(feature = "alloc")]
 pub use identifiers::{arcs, arcs_of_dotted, contents, dotted};
 pub use identifiers::{
     check_arcs, check_contents, write_arcs, write_arcs_of_dotted, write_contents, write_dotted,
+    Arcs, Identifier,
 };
-pub use integers::{compare_integers, integer_from_octets, integer_octets, is_shortest, shortest};
+pub use integers::{
+    compare_integers, integer_from_octets, integer_octets, is_shortest, shortest, Integer,
+};

@@ -38,6 +38,23 @@ pub struct Field {
     pub low: u64,
 }
 
+impl Field {
+    pub const NONE: Field = Field {
+        first: 0,
+        length: 0,
+        high: 0,
+        low: 0,
+    };
+
+    pub fn number(&self) -> u128 {
+        Words {
+            high: self.high,
+            low: self.low,
+        }
+        .number()
+    }
+}
+
 #[repr(C)]
 #[derive(Clone, Copy)]
 pub struct Refusal {
@@ -54,24 +71,50 @@ impl Refusal {
         high: 0,
         low: 0,
     };
+
+    pub fn number(&self) -> u128 {
+        Words {
+            high: self.high,
+            low: self.low,
+        }
+        .number()
+    }
+}
+
+#[repr(C)]
+#[derive(Clone, Copy)]
+pub struct Alphabet {
+    pub kind: u32,
+    pub permitted: bool,
+    pub aligned: bool,
+    pub set: *const u32,
+    pub set_count: usize,
 }
 
 pub const NUMBER: u32 = 0;
 pub const OCTETS: u32 = 1;
 pub const BITS: u32 = 2;
+pub const INTEGER: u32 = 3;
+pub const COUNTED_INTEGER: u32 = 4;
+pub const CHARACTER_FIELD: u32 = 5;
+pub const IDENTIFIER: u32 = 6;
 
 pub const DONE: u32 = 0;
 pub const WIDTH: u32 = 2;
 pub const ROOM: u32 = 3;
 pub const EMPTY: u32 = 4;
 pub const OVERFLOW: u32 = 5;
+pub const MALFORMED: u32 = 6;
 pub const ARC_TOO_LARGE: u32 = 7;
 pub const ARCS: u32 = 8;
 pub const ARC_COUNT: u32 = 9;
 pub const CHARACTER: u32 = 12;
-pub const SET: u32 = 13;
+pub const CODE: u32 = 14;
 pub const SHORT: u32 = 15;
 pub const TEXT: u32 = 16;
+pub const NOT_SHORTEST: u32 = 19;
+pub const OCTET_COUNT: u32 = 20;
+pub const TOO_MANY: u32 = 23;
 
 extern "C" {
     pub fn asn1_read_u128(
@@ -161,31 +204,24 @@ extern "C" {
         place: *mut usize,
         character: *mut u32,
     ) -> u32;
-    pub fn asn1_alphabet_encode(
+    pub fn asn1_alphabet_new(
         kind: u32,
         permitted: bool,
         set: *const u32,
         set_count: usize,
         aligned: bool,
-        character: u32,
-        code: *mut u32,
+        alphabet: *mut Alphabet,
     ) -> u32;
-    pub fn asn1_alphabet_decode(
-        kind: u32,
-        permitted: bool,
-        set: *const u32,
-        set_count: usize,
-        aligned: bool,
-        code: u32,
-        character: *mut u32,
-    ) -> u32;
-    pub fn asn1_alphabet_width(
-        kind: u32,
-        permitted: bool,
-        set: *const u32,
-        set_count: usize,
-        aligned: bool,
-        width: *mut usize,
+    pub fn asn1_alphabet_encode(alphabet: *const Alphabet, character: u32, code: *mut u32) -> u32;
+    pub fn asn1_alphabet_decode(alphabet: *const Alphabet, code: u32, character: *mut u32) -> u32;
+    pub fn asn1_alphabet_width(alphabet: *const Alphabet, width: *mut usize) -> u32;
+    pub fn asn1_octets_at(
+        octets: *const u8,
+        octet_count: usize,
+        first: usize,
+        count: usize,
+        room: *mut u8,
+        room_count: usize,
     ) -> u32;
     pub fn asn1_write_fields(
         target: *mut u8,
@@ -193,6 +229,8 @@ extern "C" {
         position: usize,
         source: *const u8,
         source_count: usize,
+        alphabets: *const Alphabet,
+        alphabet_count: usize,
         shapes: *const Shape,
         shape_count: usize,
         fields: *const Field,
@@ -204,6 +242,8 @@ extern "C" {
         octets: *const u8,
         octet_count: usize,
         position: usize,
+        alphabets: *const Alphabet,
+        alphabet_count: usize,
         shapes: *const Shape,
         shape_count: usize,
         fields: *mut Field,

@@ -2,12 +2,13 @@
 
 use asn1_values::*;
 use core::cmp::Ordering;
+use core::hash::{Hash, Hasher};
 
 #[test]
 fn bits_are_read_placed_and_compared() {
     let mut message = [0; 2];
-    or_bits(&mut message, 0, &[0xA0], 0, 3).unwrap();
-    or_bits(&mut message, 3, &[0xA5], 0, 8).unwrap();
+    or_bits(&mut message, 0, Bits::new(&[0xA0], 0, 3).unwrap()).unwrap();
+    or_bits(&mut message, 3, Bits::of(&[0xA5])).unwrap();
     assert_eq!(message, [0xB4, 0xA0]);
     assert_eq!(read_bits(&message, 3, 8), Ok(0xA5));
     let mut numbers = [0x80, 0];
@@ -20,26 +21,51 @@ fn bits_are_read_placed_and_compared() {
     assert_eq!(read_bits(&[0; 17], 0, 129), Err(BitsError::Width));
     assert_eq!(read_bits(&[0xFF; 17], 3, 128), Ok(u128::MAX));
     assert_eq!(
-        or_bits(&mut message, 9, &[0xFF], 0, 8),
+        or_bits(&mut message, 9, Bits::of(&[0xFF])),
         Err(BitsError::Outside)
     );
     assert_eq!(message, [0xB4, 0xA0]);
+    let here = |first, length| Bits::new(&message, first, length);
+    let octet = Bits::of(&[0xA5]);
+    assert_eq!(here(3, 8), Some(octet));
+    assert_eq!(here(3, 7).unwrap().cmp(&octet), Ordering::Less);
     assert_eq!(
-        compare_bits((&message, 3, 8), (&[0xA5], 0, 8)),
-        Ok(Ordering::Equal)
+        here(3, 8).unwrap().cmp(&Bits::of(&[0xA4])),
+        Ordering::Greater
     );
-    assert_eq!(
-        compare_bits((&message, 3, 7), (&[0xA5], 0, 8)),
-        Ok(Ordering::Less)
-    );
-    assert_eq!(
-        compare_bits((&message, 3, 8), (&[0xA4], 0, 8)),
-        Ok(Ordering::Greater)
-    );
-    assert_eq!(
-        compare_bits((&message, 3, 14), (&[], 0, 0)),
-        Err(BitsError::Outside)
-    );
+    assert_eq!(here(3, 14), None);
+    assert_eq!(here(usize::MAX, usize::MAX), None);
+    let hashed = |bits: &Bits<'_>| {
+        let mut hasher = std::collections::hash_map::DefaultHasher::new();
+        bits.hash(&mut hasher);
+        hasher.finish()
+    };
+    assert_eq!(hashed(&here(3, 8).unwrap()), hashed(&octet));
+    assert_ne!(hashed(&here(3, 7).unwrap()), hashed(&octet));
+    assert_eq!(octet.copy_octets(&mut []), Err(BitsError::Room));
+}
+
+#[test]
+fn integers_are_ordered_by_value() {
+    let large = [1; 17];
+    let larger = [2; 17];
+    let below = [0x80; 17];
+    let longer = [0x81; 18];
+    let rows = [
+        Integer::from_octets(&longer).unwrap(),
+        Integer::from_octets(&below).unwrap(),
+        Integer::from(i128::MIN),
+        Integer::from(-1),
+        Integer::from(0),
+        Integer::from(i128::MAX),
+        Integer::from_octets(&large).unwrap(),
+        Integer::from_octets(&larger).unwrap(),
+    ];
+    for (i, a) in rows.iter().enumerate() {
+        for (j, b) in rows.iter().enumerate() {
+            assert_eq!(a.cmp(b), i.cmp(&j), "{a:?} {b:?}");
+        }
+    }
 }
 
 #[test]
@@ -179,26 +205,21 @@ fn strings_and_alphabets() {
     assert_eq!(check_string(StringKind::Bmp, &[0]), Err(StringError::Odd));
 
     let letters = [97, 98];
-    let two = Alphabet {
-        kind: StringKind::Ia5,
-        permitted: Some(&letters),
-        aligned: false,
-    };
+    let two = Alphabet::new(StringKind::Ia5, Some(&letters), false).unwrap();
     assert_eq!(
         (two.width(), two.encode(98), two.decode(0)),
-        (Ok(1), Ok(1), Ok(97))
+        (1, Ok(1), Ok(97))
     );
     assert_eq!(two.encode(99), Err(AlphabetError::Character(99)));
-    let digits = Alphabet {
-        kind: StringKind::Numeric,
-        permitted: None,
-        aligned: false,
-    };
+    let digits = Alphabet::new(StringKind::Numeric, None, false).unwrap();
     assert_eq!(
         (digits.width(), digits.encode(0x20), digits.decode(10)),
-        (Ok(4), Ok(0), Ok(0x39))
+        (4, Ok(0), Ok(0x39))
     );
     assert_eq!(digits.decode(11), Err(AlphabetError::Code(11)));
+    assert!(characters(StringKind::Bmp, &[0, 65, 4, 16])
+        .unwrap()
+        .eq([0x41, 0x410]));
 }
 
 #[test]
@@ -207,11 +228,7 @@ fn fields_are_written_read_and_refused() {
     let fields = [
         Field::Number { value: 5, width: 3 },
         Field::Octets(Bits::of(&octets)),
-        Field::Bits(Bits {
-            octets: &[0x7C],
-            first: 1,
-            length: 5,
-        }),
+        Field::Bits(Bits::new(&[0x7C], 1, 5).unwrap()),
     ];
     let mut message = [0; 4];
     assert_eq!(write_fields(&mut message, 1, &fields), Ok(25));
@@ -246,23 +263,28 @@ fn fields_are_written_read_and_refused() {
         write_fields(&mut room, 0, &large),
         Err(WriteError::Number { field: 1 })
     );
-    let outside = [Field::Bits(Bits {
-        octets: &[0],
-        first: 5,
-        length: 4,
-    })];
-    assert_eq!(
-        write_fields(&mut room, 0, &outside),
-        Err(WriteError::Outside { field: 0 })
-    );
-    let seven = [Field::Octets(Bits {
-        octets: &[0],
-        first: 0,
-        length: 7,
-    })];
+    let seven = [Field::Octets(Bits::new(&[0], 0, 7).unwrap())];
     assert_eq!(
         write_fields(&mut room, 0, &seven),
         Err(WriteError::Length { field: 0 })
+    );
+    let long = [1; 128];
+    let counted = [Field::CountedInteger(Integer::from_octets(&long).unwrap())];
+    assert_eq!(
+        write_fields(&mut room, 0, &counted),
+        Err(WriteError::OctetCount { field: 0 })
+    );
+    let alphabet = Alphabet::new(StringKind::Numeric, None, false).unwrap();
+    let letter = [Field::Character {
+        character: 97,
+        alphabet,
+    }];
+    assert_eq!(
+        write_fields(&mut room, 0, &letter),
+        Err(WriteError::Character {
+            field: 0,
+            character: 97
+        })
     );
     assert_eq!(room, [0, 0]);
     let error: Box<dyn std::error::Error> = Box::new(WriteError::Room);

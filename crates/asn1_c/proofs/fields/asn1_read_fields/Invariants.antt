@@ -4,8 +4,8 @@ use Rattle.asn1_c.proofs.fields.asn1_read_fields.Given as goal
 
 abbrev pub invariant-loop-i : goal.invariant-loop-i
 invariant-loop-i l = record {
-  read : AreReadAt l.octets l.position (take l.i l.shapes) (take l.i l.fields) l.at;
+  read : AreReadAt l.octets l.alphabets l.position (take l.i l.shapes) (take l.i l.fields) l.at;
   within : l.at ≤ 8 * length l.octets;
-  rest : drop (length l.shapes) l.fields ≡ drop (length l.shapes) l.initial.fields;
+  rest : drop l.i l.fields ≡ drop l.i l.initial.fields;
   kept : l.refusal ≡ l.initial.refusal;
 }

@@ -1,86 +1,86 @@
-use Rattle.std.proofs.Common.{◌≤◌, ◌+◌, ◌∙◌, refl, sym, ap, length, take, take_all, arith}
-use Rattle.asn1_bits.specs.Bits.{bits, overwritten}
+use Rattle.std.proofs.Common.{◌≤◌, ◌++◌, ◌∙◌, [], refl, sym, length, get_or, arith}
+use Rattle.std.proofs.lemmas.List.{length-append}
+use Rattle.asn1_bits.specs.Bits.{bits}
 use Rattle.asn1_bits.specs.DigitLaws.{length-bits}
 use Rattle.asn1_bits.specs.OverwrittenLaws.{overwritten-none}
-use Rattle.asn1_c.specs.Writing.{all_named}
-use Rattle.asn1_c.proofs.WritingLemmas.{no_shape, no_field, put_more, length-all_more, front_fits, named_at, named_small, named_lies, as_many}
+use Rattle.asn1_c.specs.Writing.{planned}
+use Rattle.asn1_c.proofs.WritingLemmas.{no_shape, no_field, named_more, named_all, named_at, front_fits, put_more, as_many, unnamed_wrong}
 use Rattle.asn1_c.proofs.writing.put_fields.Goals as goal
 
 pub loop-i-init : goal.loop-i-init
 loop-i-init c =
     record {
-      written = sym (overwritten-none (bits c.args.target.now) c.args.position);
-      place = omega arith;
-      kept =
-          refl;
+      written = ([], refl, sym (overwritten-none (bits c.args.target.now) c.args.position), omega arith);
+      kept = refl;
     }
 
 pub bounds-fields-i : goal.bounds-fields-i
 bounds-fields-i c =
-    omega (arith, as_many c.args.source.now c.args.shapes.now c.args.fields.now _ c.requires.named, c.loop-i-test.true)
+    let all = c.requires.named in
+    omega (
+      arith,
+      as_many c.args.source.now c.args.alphabets.now c.args.shapes.now c.args.fields.now all.0 all.1,
+      c.loop-i-test.true,
+    )
 
-pub put_field-at-requires-clause-number : goal.put_field-at-requires-clause-number
-put_field-at-requires-clause-number c = λ zero.
-    let here =
-    named_at c.args.source.now c.args.shapes.now c.args.fields.now _ c.loop-i.i no_shape no_field c.requires.named
-    c.loop-i-test.true in
-    named_small c.args.source.now _ _ here.0 here.1 zero
-
-pub put_field-at-requires-clause-lies : goal.put_field-at-requires-clause-lies
-put_field-at-requires-clause-lies c = λ some.
-    let here =
-    named_at c.args.source.now c.args.shapes.now c.args.fields.now _ c.loop-i.i no_shape no_field c.requires.named
-    c.loop-i-test.true in
-    named_lies c.args.source.now _ _ here.0 here.1 some
-
-pub put_field-at-requires-clause-within : goal.put_field-at-requires-clause-within
-put_field-at-requires-clause-within c =
+pub put-at-requires-clause-within : goal.put-at-requires-clause-within
+put-at-requires-clause-within c =
     let inv = c.loop-i.invariant in
-    let same = as_many c.args.source.now c.args.shapes.now c.args.fields.now _ c.requires.named in
-    let more =
-    length-all_more c.args.source.now c.args.shapes.now c.args.fields.now c.loop-i.i no_shape no_field same
-    c.loop-i-test.true in
-    let fits = front_fits c.args.source.now c.args.shapes.now c.args.fields.now (c.loop-i.i + 1) in
-    omega (arith, inv.place, more, fits, c.requires.within, inv.kept)
+    let all = c.requires.named in
+    let fits =
+    front_fits c.args.source.now c.args.alphabets.now c.args.shapes.now c.args.fields.now c.loop-i.i no_shape no_field
+    all.0 inv.written.0 (planned c.args.source.now c.in-Ok.plan) all.1 c.loop-i-test.true inv.written.1
+    c.in-Ok.ensures.named in
+    omega (arith, inv.written.3, fits, all.2, inv.kept)
 
-pub put_field-at-requires-clause-fits : goal.put_field-at-requires-clause-fits
-put_field-at-requires-clause-fits c =
+pub put-at-requires-clause-fits : goal.put-at-requires-clause-fits
+put-at-requires-clause-fits c =
     let inv = c.loop-i.invariant in
-    let same = as_many c.args.source.now c.args.shapes.now c.args.fields.now _ c.requires.named in
-    let more =
-    length-all_more c.args.source.now c.args.shapes.now c.args.fields.now c.loop-i.i no_shape no_field same
-    c.loop-i-test.true in
-    let fits = front_fits c.args.source.now c.args.shapes.now c.args.fields.now (c.loop-i.i + 1) in
-    omega (arith, inv.place, more, fits, c.requires.fits)
+    let all = c.requires.named in
+    let fits =
+    front_fits c.args.source.now c.args.alphabets.now c.args.shapes.now c.args.fields.now c.loop-i.i no_shape no_field
+    all.0 inv.written.0 (planned c.args.source.now c.in-Ok.plan) all.1 c.loop-i-test.true inv.written.1
+    c.in-Ok.ensures.named in
+    omega (arith, inv.written.3, fits, all.3)
+
+pub unreachable-requires : goal.unreachable-requires
+unreachable-requires c =
+    let all = c.requires.named in
+    let here =
+    named_at c.args.source.now c.args.alphabets.now c.args.shapes.now c.args.fields.now all.0 c.loop-i.i no_shape
+    no_field all.1 c.loop-i-test.true in
+    unnamed_wrong c.args.source.now c.args.alphabets.now (get_or c.args.shapes.now c.loop-i.i no_shape)
+    (get_or c.args.fields.now c.loop-i.i no_field) c.in-Err.field-0 here.0 c.in-Err.ensures.wrong here.1
 
 pub loop-i-preserved : goal.loop-i-preserved
 loop-i-preserved c =
     let inv = c.loop-i.invariant in
-    let same = as_many c.args.source.now c.args.shapes.now c.args.fields.now _ c.requires.named in
+    let all = c.requires.named in
+    let part = planned c.args.source.now c.in-Ok.plan in
+    let same = as_many c.args.source.now c.args.alphabets.now c.args.shapes.now c.args.fields.now all.0 all.1 in
     let within : c.args.position ≤ length (bits c.args.target.now) =
-    omega (arith, c.requires.within, length-bits c.args.target.now) in
+    omega (arith, all.2, length-bits c.args.target.now) in
     record {
-      written =
-          put_more c.args.source.now c.args.shapes.now c.args.fields.now c.loop-i.i c.loop-i.at c.args.position no_shape
-          no_field (bits c.args.target.now) (bits c.loop-i.target) (bits c.put_field-at.new.target)
-          same c.loop-i-test.true within inv.place inv.written c.put_field-at.ensures.bits;
-      place =
-          omega (
-            arith,
-            inv.place,
-            c.put_field-at.ensures.place,
-            length-all_more c.args.source.now c.args.shapes.now
-                c.args.fields.now c.loop-i.i no_shape no_field same c.loop-i-test.true,
-          );
-      kept = c.put_field-at.auto.target ∙ inv.kept;
+      written = (
+        inv.written.0 ++ part,
+        named_more c.args.source.now c.args.alphabets.now c.args.shapes.now c.args.fields.now c.loop-i.i no_shape
+            no_field inv.written.0 part same c.loop-i-test.true inv.written.1 c.in-Ok.ensures.named,
+        put_more c.args.source.now c.args.alphabets.now c.loop-i.at c.args.position (bits c.args.target.now)
+            (bits c.loop-i.target) (bits c.put-at.new.target) inv.written.0 part within inv.written.3 inv.written.2
+            c.put-at.ensures.written,
+        omega (arith, inv.written.3, c.put-at.ensures.end, length-append inv.written.0 part),
+      );
+      kept = c.put-at.auto.target ∙ inv.kept;
     }
 
 pub returns : goal.returns
 returns c =
-    let same = as_many c.args.source.now c.args.shapes.now c.args.fields.now _ c.requires.named in
-    c.loop-i.invariant.written
-    ∙ ap (λ l. overwritten (bits c.args.target.now) c.args.position
-    (all_named c.args.source.now l (take c.loop-i.i c.args.fields.now)))
-    (take_all c.loop-i.i c.args.shapes.now c.loop-i-test.false)
-    ∙ ap (λ l. overwritten (bits c.args.target.now) c.args.position (all_named c.args.source.now c.args.shapes.now l))
-    (take_all c.loop-i.i c.args.fields.now (omega (arith, same, c.loop-i-test.false)))
+    let inv = c.loop-i.invariant in
+    let all = c.requires.named in
+    let same = as_many c.args.source.now c.args.alphabets.now c.args.shapes.now c.args.fields.now all.0 all.1 in (
+      inv.written.0,
+      named_all c.args.source.now c.args.alphabets.now c.args.shapes.now c.args.fields.now c.loop-i.i inv.written.0
+          same c.loop-i-test.false inv.written.1,
+      inv.written.2,
+      inv.written.3,
+    )
