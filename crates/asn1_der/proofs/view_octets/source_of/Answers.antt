@@ -3,7 +3,7 @@ use Rattle.asn1_bits.specs.View.{View, list_of}
 use Rattle.asn1_bits.specs.BitStr.{view_of, bits_of}
 use Rattle.asn1_bits.specs.ViewLaws.{length-list_of}
 use Rattle.asn1_der.specs.ViewOctets.{bits-octets_in}
-use Rattle.asn1_der.proofs.object_identifier.source_of.Goals as goal
+use Rattle.asn1_der.proofs.view_octets.source_of.Goals as goal
 
 pub returns : goal.returns
 returns c =
