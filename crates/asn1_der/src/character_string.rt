@@ -8,13 +8,12 @@ ghost use Rattle.asn1_der.specs.Strings.{IsCharacterString, IsOutside};
 use crate::contents::Contents;
 use crate::octet_string::{are_octets, bit_count, octets_of};
 use crate::view_octets::source_of;
-use asn1_formats::{Refusal, push_octets};
+use asn1_formats::{NeverWrong, Refusal, push_octets};
 use asn1_values::{
     BitBuffer, BitReader, CharacterSetName, OctetSource, RestrictedString, StaticPermittedAlphabet,
     StringKind,
 };
 use std::alloc::Global;
-use std::convert::Infallible;
 
 /// The contents of a string whose characters are octets (X.690 8.23): NumericString, PrintableString, VisibleString,
 /// IA5String, TeletexString, GeneralString or GraphicString, by the kind. The values are the kind's strings; escape
@@ -60,7 +59,7 @@ impl<K: StringKind<T = u8>> Contents for CharacterStringContents<K> {
 
     type Fault = NotInSet;
 
-    type Misfit = Infallible;
+    type Misfit = NeverWrong;
 
     ghost Plain = { List ℕ };
 
@@ -78,14 +77,14 @@ impl<K: StringKind<T = u8>> Contents for CharacterStringContents<K> {
         &self,
         buffer: &mut BitBuffer,
         value: &RestrictedString<K>,
-    ) -> Result<(), Refusal<Infallible>> {
+    ) -> Result<(), Refusal<NeverWrong>> {
         match push_octets(buffer, value.as_slice()) {
             Ok(()) => Ok(()),
             Err(_) => Err(Refusal::Memory),
         }
     }
 
-    fn measure(&self, value: &RestrictedString<K>) -> Result<Option<usize>, Infallible> {
+    fn measure(&self, value: &RestrictedString<K>) -> Result<Option<usize>, NeverWrong> {
         let octets = value.as_slice();
         are_octets(octets);
         Ok(bit_count(octets.len()))

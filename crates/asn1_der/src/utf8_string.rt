@@ -9,10 +9,9 @@ ghost use Rattle.asn1_der.specs.Strings.{IsText, IsNotUtf8};
 use crate::contents::Contents;
 use crate::octet_string::{are_octets, bit_count, octets_of};
 use crate::view_octets::source_of;
-use asn1_formats::{Refusal, push_octets};
+use asn1_formats::{NeverWrong, Refusal, push_octets};
 use asn1_values::{BitBuffer, BitReader, OctetSource};
 use std::alloc::Global;
-use std::convert::Infallible;
 
 /// The contents of a UTF8String: its text in UTF-8 (X.690 8.23.10).
 #[derive(Clone, Copy, Debug)]
@@ -83,7 +82,7 @@ impl Contents for Utf8StringContents {
 
     type Fault = NotUtf8;
 
-    type Misfit = Infallible;
+    type Misfit = NeverWrong;
 
     ghost Plain = { List ℕ };
 
@@ -97,14 +96,14 @@ impl Contents for Utf8StringContents {
 
     ghost owns_nothing = { λ f. ⊥ };
 
-    fn append(&self, buffer: &mut BitBuffer, value: &String) -> Result<(), Refusal<Infallible>> {
+    fn append(&self, buffer: &mut BitBuffer, value: &String) -> Result<(), Refusal<NeverWrong>> {
         match push_octets(buffer, value.as_str().as_bytes()) {
             Ok(()) => Ok(()),
             Err(_) => Err(Refusal::Memory),
         }
     }
 
-    fn measure(&self, value: &String) -> Result<Option<usize>, Infallible> {
+    fn measure(&self, value: &String) -> Result<Option<usize>, NeverWrong> {
         let octets = value.as_str().as_bytes();
         are_octets(octets);
         Ok(bit_count(octets.len()))
