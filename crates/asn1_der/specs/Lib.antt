@@ -36,3 +36,5 @@ pub mod Moments
 pub mod Times
 pub mod TimeLaws
 pub mod CalendarLaws
+pub mod Messages
+pub mod MessageLaws
