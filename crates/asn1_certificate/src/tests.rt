@@ -1,0 +1,4 @@
+//! Worked certificates, and damaged ones.
+
+mod certificates;
+mod program;
