@@ -12,7 +12,8 @@ use asn1_x509::{
 use std::alloc::{AllocError, Global};
 use std::fmt::Write;
 
-/// The lines of the certificate that the octets are, from `version` to `end`; or the first part that is wrong.
+/// The lines of the certificate that the octets are, from `version` to `end`; or the first part
+/// that is wrong.
 pub fn lines_of(alloc: Global, octets: &[u8]) -> Result<String, Stop> {
     let parts = value_of(&certificate_format(), alloc, octets)?;
     text_of(alloc, &parts)
@@ -106,7 +107,8 @@ fn push_extensions(alloc: Global, text: &mut String, extensions: &[Extension]) -
     Ok(())
 }
 
-/// Appends the line of an extension: its identifier, whether it is critical, and the number of its value's octets.
+/// Appends the line of an extension: its identifier, whether it is critical, and the number of its
+/// value's octets.
 fn push_extension(text: &mut String, extension: &Extension) -> Result<(), AllocError> {
     let identifier = &extension.0;
     let critical = match extension.1.0 {

@@ -21,7 +21,8 @@ pub fn name_text(alloc: Global, part: &str, name: &Name) -> Result<String, Stop>
     Ok(text)
 }
 
-/// A set has an attribute, and the encodings of its attributes ascend (X.690 11.6). None begins another.
+/// A set has an attribute, and the encodings of its attributes ascend (X.690 11.6). None begins
+/// another.
 fn examine_order(
     alloc: Global,
     part: &str,
@@ -95,7 +96,8 @@ fn push_escaped(text: &mut String, characters: &str) -> Result<(), AllocError> {
     Ok(())
 }
 
-/// Whether a text is `#` and lower-case hexadecimal digits, as a value that is no string is printed.
+/// Whether a text is `#` and lower-case hexadecimal digits, as a value that is no string is
+/// printed.
 fn looks_like_an_encoding(characters: &str) -> bool {
     match characters.as_bytes() {
         [b'#', digits @ ..] => digits.iter().all(|octet| is_digit(*octet)),

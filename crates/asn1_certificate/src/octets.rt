@@ -1,5 +1,5 @@
-//! Octets and values. These functions have no contract, so that what calls them is proved without those of `decode` and
-//! `write`.
+//! Octets and values. These functions have no contract, so that what calls them is proved without
+//! those of `decode` and `write`.
 
 use crate::refusal::Stop;
 use asn1_der::{DecodeError, decode};
@@ -8,7 +8,8 @@ use asn1_values::BitBuffer;
 use asn1_x509::Tell;
 use std::alloc::{AllocError, Global};
 
-/// The value that the octets are, all of them: by the contract of `decode`, it is written as these octets and no others.
+/// The value that the octets are, all of them: by the contract of `decode`, it is written as these
+/// octets and no others.
 pub fn value_of<F: Format>(format: &F, alloc: Global, octets: &[u8]) -> Result<F::Value, Stop>
 where
     F::Fault: Tell,

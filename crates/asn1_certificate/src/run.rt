@@ -38,8 +38,8 @@ struct Answer {
     status: u8,
 }
 
-/// Reads the input to its end, writes the whole answer at once, and answers the status: 0 for the lines of a certificate,
-/// 1 for a refusal.
+/// Reads the input to its end, writes the whole answer at once, and answers the status: 0 for the
+/// lines of a certificate, 1 for a refusal.
 pub fn run<R: Read, W: Write>(
     alloc: Global,
     input: &mut R,

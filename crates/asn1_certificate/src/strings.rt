@@ -32,8 +32,8 @@ fn octet_set(number: u64) -> Option<CharacterSetName> {
     }
 }
 
-/// The characters of a value that is a string. The octets of the strings of one octet a character are taken for those of
-/// ISO 8859-1.
+/// The characters of a value that is a string. The octets of the strings of one octet a character
+/// are taken for those of ISO 8859-1.
 pub fn characters_of(alloc: Global, value: &AnyValue) -> Result<Characters, AllocError> {
     if value.tag.class != Class::Universal {
         return Ok(Characters::None);

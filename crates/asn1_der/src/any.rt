@@ -11,7 +11,8 @@ use asn1_formats::{Format, NeverWrong, Refusal};
 use asn1_values::{BitBuffer, BitReader};
 use std::alloc::Global;
 
-/// An element of any tag, kept as it is: ANY of the older notation, an open type, or a part that is not looked into.
+/// An element of any tag, kept as it is: ANY of the older notation, an open type, or a part that is
+/// not looked into.
 #[derive(Clone, Copy, Debug)]
 pub struct Any {}
 

@@ -9,8 +9,8 @@ use asn1_formats::{NeverWrong, Refusal, next_number, push_number};
 use asn1_values::{BitBuffer, BitReader, BitString, to_bitstring};
 use std::alloc::Global;
 
-/// The contents of a BIT STRING: an octet that says how many bits of the last octet are unused, the bits, and zeros for
-/// the unused ones (X.690 8.6, 11.2.1).
+/// The contents of a BIT STRING: an octet that says how many bits of the last octet are unused, the
+/// bits, and zeros for the unused ones (X.690 8.6, 11.2.1).
 #[derive(Clone, Copy, Debug)]
 pub struct BitStringContents {}
 

@@ -15,9 +15,9 @@ use asn1_values::{
 };
 use std::alloc::Global;
 
-/// The contents of a string whose characters are octets (X.690 8.23): NumericString, PrintableString, VisibleString,
-/// IA5String, TeletexString, GeneralString or GraphicString, by the kind. The values are the kind's strings; escape
-/// sequences are not looked into.
+/// The contents of a string whose characters are octets (X.690 8.23): NumericString,
+/// PrintableString, VisibleString, IA5String, TeletexString, GeneralString or GraphicString, by the
+/// kind. The values are the kind's strings; escape sequences are not looked into.
 #[derive(Clone, Copy, Debug)]
 pub struct CharacterStringContents<K> {
     /// The kind, such as `Printable`.

@@ -14,8 +14,8 @@ use asn1_formats::{Refusal, push_octets};
 use asn1_values::{BitBuffer, BitReader, OctetSource};
 use std::alloc::Global;
 
-/// The contents of a GeneralizedTime without a fraction of a second: `YYYYMMDDhhmmssZ` (X.690 11.7, RFC 5280 4.1.2.5.2).
-/// A fraction is refused by the number of octets.
+/// The contents of a GeneralizedTime without a fraction of a second: `YYYYMMDDhhmmssZ` (X.690 11.7,
+/// RFC 5280 4.1.2.5.2). A fraction is refused by the number of octets.
 #[derive(Clone, Copy, Debug)]
 pub struct GeneralizedTimeContents {}
 
@@ -45,7 +45,8 @@ fn octets_of(moment: &Moment) -> [u8; 15]
     ]
 }
 
-/// Whether the type has the moment: the year has four digits, and there is such a day and such a time of day.
+/// Whether the type has the moment: the year has four digits, and there is such a day and such a
+/// time of day.
 fn is_in(moment: &Moment) -> bool
     ensures { IsTrue result ↔ IsInGeneralized moment.now }
 {

@@ -12,15 +12,18 @@ use asn1_formats::{NeverWrong, Refusal, push_octets};
 use asn1_values::{BitBuffer, BitReader, BitStr, Integer, integer_of};
 use std::alloc::Global;
 
-/// The contents of an INTEGER or an ENUMERATED: the fewest two's complement octets of the number (X.690 8.3, 8.4).
+/// The contents of an INTEGER or an ENUMERATED: the fewest two's complement octets of the number
+/// (X.690 8.3, 8.4).
 #[derive(Clone, Copy, Debug)]
 pub struct IntegerContents {}
 
-/// There is no octet, or the first nine bits are all alike, so that fewer octets hold the number (X.690 8.3.2).
+/// There is no octet, or the first nine bits are all alike, so that fewer octets hold the number
+/// (X.690 8.3.2).
 #[derive(Clone, Copy, Debug, PartialEq, Eq, Drop)]
 pub struct NotShortest {}
 
-/// Whether the octets that are left are the shortest of a number: one, or more whose first nine bits are not all alike.
+/// Whether the octets that are left are the shortest of a number: one, or more whose first nine
+/// bits are not all alike.
 fn is_shortest(contents: &BitReader<'_>) -> bool
     requires { (view_left contents.now).len % 8 ≡ 0 }
     ensures yes { IsTrue result → HoldsInteger (bits_left contents.now) }

@@ -21,8 +21,8 @@ pub enum DecodeError<E> {
     Memory,
 }
 
-/// The value that the octets are, all of them. Refused where their bits pass `usize`; by the first part that is wrong,
-/// whatever memory there is; by what stands behind; for want of memory.
+/// The value that the octets are, all of them. Refused where their bits pass `usize`; by the first
+/// part that is wrong, whatever memory there is; by what stands behind; for want of memory.
 pub fn decode<F: Format>(
     format: &F,
     alloc: Global,
@@ -30,7 +30,8 @@ pub fn decode<F: Format>(
 ) -> Result<F::Value, DecodeError<F::Fault>>
     ensures read { IfOk result (λ x. F.reads format.now (F.plain x) (bits octets.now)) }
     // They are read as no other value.
-    ensures only { (y : F.Plain) → F.reads format.now y (bits octets.now) → IfOk result (λ x. F.plain x ≡ y) }
+    ensures only { (y : F.Plain) → F.reads format.now y (bits octets.now)
+        → IfOk result (λ x. F.plain x ≡ y) }
     // Of a canonical format, the value written again is these octets.
     ensures again { F.is_canonical format.now → IfOk result (λ x. (list : List Bool)
         → F.spells format.now (F.plain x) list → list ≡ bits octets.now) }

@@ -23,8 +23,8 @@ pub struct ObjectIdentifierContents {}
 /// What is wrong with the contents of an OBJECT IDENTIFIER.
 #[derive(Clone, Copy, Debug, PartialEq, Eq, Drop)]
 pub enum IdentifierFault {
-    /// The octets are the contents of no identifier: there is none, or they end within a subidentifier, or one has more
-    /// octets than it needs (8.19.2).
+    /// The octets are the contents of no identifier: there is none, or they end within a
+    /// subidentifier, or one has more octets than it needs (8.19.2).
     Malformed,
     /// An arc does not fit 32 bits.
     LargeArc,

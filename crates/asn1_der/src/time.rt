@@ -10,8 +10,8 @@ use asn1_values::OctetSource;
 pub enum TimeFault {
     /// There are so many octets, and a time of this type has not.
     Octets { count: usize },
-    /// The octet at the index, counted from 0, is no digit, or not the letter or the full stop that stands there; those
-    /// before it are right.
+    /// The octet at the index, counted from 0, is no digit, or not the letter or the full stop that
+    /// stands there; those before it are right.
     Other { index: usize, octet: u8 },
     /// There is no such day, or no such time of day.
     NoSuchTime,

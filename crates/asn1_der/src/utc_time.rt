@@ -31,7 +31,8 @@ pub struct UtcTime {
     pub second: u8,
 }
 
-/// The contents of a UTCTime: `YYMMDDhhmmssZ` (X.690 11.8). The day has to be one of the years 1950 to 2049.
+/// The contents of a UTCTime: `YYMMDDhhmmssZ` (X.690 11.8). The day has to be one of the years 1950
+/// to 2049.
 #[derive(Clone, Copy, Debug)]
 pub struct UtcTimeContents {}
 
@@ -54,7 +55,8 @@ impl UtcTime {
         }
     }
 
-    /// Whether the type has the time: the year has two digits, and there is such a day and such a time of day.
+    /// Whether the type has the time: the year has two digits, and there is such a day and such a
+    /// time of day.
     pub fn exists(&self) -> bool
         ensures { IsTrue result ↔ IsInUtc self.now }
     {

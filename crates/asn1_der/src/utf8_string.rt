@@ -57,8 +57,10 @@ fn text_len<S: OctetSource>(source: &S, from: usize) -> usize
 /// Whether the octets are a text, or how many of them are.
 fn check_text(contents: BitReader<'_>) -> Result<(), NotUtf8>
     requires { (view_left contents).len % 8 ≡ 0 }
-    ensures ok { OnOk result ((x : List ℕ) × IsInOctets (λ y o. IsText y o) x (bits_left contents.entry)) }
-    ensures fault { IfErr result (IsWrongInOctets (λ o e. IsNotUtf8 o e) (bits_left contents.entry)) }
+    ensures ok { OnOk result ((x : List ℕ) ×
+        IsInOctets (λ y o. IsText y o) x (bits_left contents.entry)) }
+    ensures fault { IfErr result
+        (IsWrongInOctets (λ o e. IsNotUtf8 o e) (bits_left contents.entry)) }
 {
     let source = source_of(contents);
     let count = source.count();
@@ -134,5 +136,6 @@ impl Contents for Utf8StringContents {
 
     ghost names_fault = { λ f. text_names_fault };
 
-    ghost names_misfit = { λ f. none_names_misfit (λ x list. IsInOctets (λ y o. IsText y o) x list) };
+    ghost names_misfit = { λ f. none_names_misfit
+        (λ x list. IsInOctets (λ y o. IsText y o) x list) };
 }

@@ -16,7 +16,10 @@ fn a_printable_string_has_an_octet_for_each_character(rt: HostRuntime) -> Result
     let format = element(19, false, CharacterStringContents { kind: Printable });
     let octets = b"\x13\x0BTest User 1";
     let value = PrintableString::try_from_slice(rt.alloc(), b"Test User 1")?;
-    assert_eq!(rt; written(&format, rt.alloc(), &value)?.as_slice(), octets.as_slice());
+    assert_eq!(rt;
+        written(&format, rt.alloc(), &value)?.as_slice(),
+        octets.as_slice()
+    );
     assert_eq!(rt; found(&format, rt.alloc(), octets)?, value);
     assert_eq!(rt;
         found(&format, rt.alloc(), b"\x13\x03a@*").err(),
@@ -57,8 +60,14 @@ fn a_text_is_in_utf8(rt: HostRuntime) -> Result<(), Fail> {
     let format = element(12, false, Utf8StringContents {});
     let octets = b"\x0C\x06a\xC3\xA9\xE2\x82\xAC";
     let value = String::from_str(rt.alloc(), "a\u{e9}\u{20ac}")?;
-    assert_eq!(rt; written(&format, rt.alloc(), &value)?.as_slice(), octets.as_slice());
-    assert_eq!(rt; found(&format, rt.alloc(), octets)?.as_str(), "a\u{e9}\u{20ac}");
+    assert_eq!(rt;
+        written(&format, rt.alloc(), &value)?.as_slice(),
+        octets.as_slice()
+    );
+    assert_eq!(rt;
+        found(&format, rt.alloc(), octets)?.as_str(),
+        "a\u{e9}\u{20ac}"
+    );
     // A character that is cut, a surrogate, and an octet that begins none.
     let rows: [(&[u8], usize); 3] = [
         (b"\x0C\x03a\xE2\x82", 1),

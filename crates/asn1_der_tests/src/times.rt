@@ -24,7 +24,10 @@ fn a_utc_time_has_two_digits_of_the_year(rt: HostRuntime) -> Result<(), Fail> {
     let format = element(23, false, UtcTimeContents {});
     // `openssl asn1parse -genstr UTC:130626133828Z`
     let octets = b"\x17\x0D130626133828Z";
-    assert_eq!(rt; written(&format, rt.alloc(), &utc(13, 6, 26))?.as_slice(), octets.as_slice());
+    assert_eq!(rt;
+        written(&format, rt.alloc(), &utc(13, 6, 26))?.as_slice(),
+        octets.as_slice()
+    );
     let time = found(&format, rt.alloc(), octets)?;
     assert_eq!(rt; time, utc(13, 6, 26));
     // RFC 5280 4.1.2.5.1
@@ -39,14 +42,20 @@ fn a_wrong_utc_time_is_refused(rt: HostRuntime) -> Result<(), Fail> {
     let format = element(23, false, UtcTimeContents {});
     let rows: [(&[u8], TimeFault); 6] = [
         (b"\x17\x0B1306261338Z", TimeFault::Octets { count: 11 }),
-        (b"\x17\x0D13062613382xZ", TimeFault::Other {
-            index: 11,
-            octet: b'x',
-        }),
-        (b"\x17\x0D130626133828z", TimeFault::Other {
-            index: 12,
-            octet: b'z',
-        }),
+        (
+            b"\x17\x0D13062613382xZ",
+            TimeFault::Other {
+                index: 11,
+                octet: b'x',
+            },
+        ),
+        (
+            b"\x17\x0D130626133828z",
+            TimeFault::Other {
+                index: 12,
+                octet: b'z',
+            },
+        ),
         (b"\x17\x0D130229133828Z", TimeFault::NoSuchTime),
         (b"\x17\x0D130626240000Z", TimeFault::NoSuchTime),
         (b"\x17\x0D130026133828Z", TimeFault::NoSuchTime),
@@ -58,8 +67,14 @@ fn a_wrong_utc_time_is_refused(rt: HostRuntime) -> Result<(), Fail> {
         );
     }
     // 2012 and 2000 have a 29 February.
-    assert_eq!(rt; found(&format, rt.alloc(), b"\x17\x0D120229133828Z")?, utc(12, 2, 29));
-    assert_eq!(rt; found(&format, rt.alloc(), b"\x17\x0D000229133828Z")?, utc(0, 2, 29));
+    assert_eq!(rt;
+        found(&format, rt.alloc(), b"\x17\x0D120229133828Z")?,
+        utc(12, 2, 29)
+    );
+    assert_eq!(rt;
+        found(&format, rt.alloc(), b"\x17\x0D000229133828Z")?,
+        utc(0, 2, 29)
+    );
     assert_eq!(rt;
         written(&format, rt.alloc(), &utc(100, 1, 1)).err(),
         Some(WriteRefusal::Wrong(TlvMisfit::Contents(NoTime {})))
@@ -85,7 +100,10 @@ fn a_generalized_time_has_four_digits_of_the_year(rt: HostRuntime) -> Result<(),
     // `openssl asn1parse -genstr GENTIME:20501231235959Z`
     let octets = b"\x18\x0F20501231235959Z";
     let value = last_second(2050, 12, 31);
-    assert_eq!(rt; written(&format, rt.alloc(), &value)?.as_slice(), octets.as_slice());
+    assert_eq!(rt;
+        written(&format, rt.alloc(), &value)?.as_slice(),
+        octets.as_slice()
+    );
     assert_eq!(rt; found(&format, rt.alloc(), octets)?, value);
     // 2100 has no 29 February, 2400 has one.
     assert_eq!(rt;

@@ -17,7 +17,8 @@ pub type CertificateFormat = Tlv<
     Sequence<Required<Named<TbsFormat>, Required<Named<AlgorithmFormat>, Signature>>>,
 >;
 
-/// The format of a certificate (RFC 5280 4.1). That its two algorithms are the same, and its signature, are not examined.
+/// The format of a certificate (RFC 5280 4.1). That its two algorithms are the same, and its
+/// signature, are not examined.
 pub fn certificate_format() -> CertificateFormat {
     let bits = Named {
         name: "signatureValue",

@@ -7,8 +7,8 @@ use asn1_der::{
 };
 use asn1_values::ObjectIdentifier;
 
-/// What an extension is; `Some(true)` where a reader that does not know it has to refuse the certificate; and the octets of
-/// its value, which are not looked into (RFC 5280 4.2).
+/// What an extension is; `Some(true)` where a reader that does not know it has to refuse the
+/// certificate; and the octets of its value, which are not looked into (RFC 5280 4.2).
 pub type Extension = (ObjectIdentifier, (Option<bool>, (Vec<u8>, ())));
 
 /// `SEQUENCE { extnID OBJECT IDENTIFIER, critical BOOLEAN DEFAULT FALSE, extnValue OCTET STRING }`.

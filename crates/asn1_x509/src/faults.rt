@@ -1,8 +1,8 @@
-//! What is wrong with octets, in words: the names of parts from the outside in, each behind a comma, and the reason behind
-//! a colon.
+//! What is wrong with octets, in words: the names of parts from the outside in, each behind a
+//! comma, and the reason behind a colon.
 //!
-//! `Explain` of `asn1_formats` gives the same words. It stands above `Display`, so that the proof of a type of this depth
-//! would name each level twice; this trait stands alone.
+//! `Explain` of `asn1_formats` gives the same words. It stands above `Display`, so that the proof
+//! of a type of this depth would name each level twice; this trait stands alone.
 
 use asn1_der::{
     BitStringFault, BooleanFault, ElementFault, IdentifierFault, InDefault, InItem, InTlv, NotEnd,

@@ -1,7 +1,8 @@
 //! A certificate of RFC 5280 in DER, composed of the parts of `asn1_der`.
 //!
-//! [`certificate_format`] is the format: `read` and `write` of `asn1_formats` and `decode` of `asn1_der` take it, and
-//! promise of it what they promise of each format; it is canonical. There is no proof here.
+//! [`certificate_format`] is the format: `read` and `write` of `asn1_formats` and `decode` of
+//! `asn1_der` take it, and promise of it what they promise of each format; it is canonical. There
+//! is no proof here.
 #![tactic(auto)]
 
 mod algorithm;

@@ -12,8 +12,8 @@ pub type AttributeFormat = Tlv<
     Sequence<Required<Tlv<ObjectIdentifierContents>, Required<Any, End>>>,
 >;
 
-/// `SEQUENCE OF SET OF AttributeTypeAndValue`. That the attributes of a set stand in ascending order (X.690 11.6) is not
-/// examined.
+/// `SEQUENCE OF SET OF AttributeTypeAndValue`. That the attributes of a set stand in ascending
+/// order (X.690 11.6) is not examined.
 pub type NameFormat = Tlv<SequenceOf<Tlv<SequenceOf<AttributeFormat>>>>;
 
 /// A name: sets of attributes (RFC 5280 4.1.2.4).
