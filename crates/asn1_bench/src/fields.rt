@@ -13,7 +13,8 @@ const LETTERS: [u32; 32] = [
     88, 89, 90, 91, 92, 93, 94, 95,
 ];
 
-/// Writes the fields behind three bits and reads them from there; so many bits, or 0 where they are not read.
+/// Writes the fields behind three bits and reads them from there; so many bits, or 0 where they are
+/// not read.
 fn there_and_back(
     alloc: Global,
     fields: &[Field<'_, '_>],

@@ -1,5 +1,5 @@
-//! Contents of identifiers (X.690 8.19), read and written by the crate, and by loops of which it is proved alone that
-//! they stay in range and end.
+//! Contents of identifiers (X.690 8.19), read and written by the crate, and by loops of which it is
+//! proved alone that they stay in range and end.
 
 ghost use Rattle.std.specs.Prelude.{◌<◌, ◌≤◌, length, IfSome};
 

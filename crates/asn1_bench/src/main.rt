@@ -1,9 +1,11 @@
-//! How long pieces of work take: `asn1_bench` lists them, `asn1_bench ROUNDS` times each, best of so many rounds.
+//! How long pieces of work take: `asn1_bench` lists them, `asn1_bench ROUNDS` times each, best of
+//! so many rounds.
 #![tactic(auto)]
 
 mod alphabets;
 mod bits;
 mod fields;
+mod formats;
 mod identifiers;
 mod numbers;
 mod row;
@@ -42,7 +44,7 @@ fn main(rt: HostRuntime) -> anyhow::Result<()> {
     show(&rt, &mut Integers::new(alloc)?, rounds)?;
     show(&rt, &mut Characters::new(alloc)?, rounds)?;
     show(&rt, &mut Message::new(alloc)?, rounds)?;
-    Ok(())
+    show_formats(&rt, rounds)
 }
 
 /// The rows of identifiers, each with that of a loop.
@@ -77,4 +79,43 @@ fn show_strings(rt: &HostRuntime, rounds: u32) -> anyhow::Result<()> {
     }
     show(rt, &mut Bits::new(alloc, true)?, rounds)?;
     show(rt, &mut Bits::new(alloc, false)?, rounds)
+}
+
+/// The rows of formats.
+fn show_formats(rt: &HostRuntime, rounds: u32) -> anyhow::Result<()> {
+    let alloc = rt.alloc();
+    let (four, values) = (formats::numbers(), (5, (4000, (123456, 99))));
+    let mut row = formats::Read::new(alloc, four, &values, "four numbers read by a format")?;
+    show(rt, &mut row, rounds)?;
+    let mut row = formats::Written::new(four, values, "four numbers written by a format");
+    show(rt, &mut row, rounds)?;
+    show_characters(rt, rounds)
+}
+
+/// The rows of a string, and of the same as a list of characters.
+fn show_characters(rt: &HostRuntime, rounds: u32) -> anyhow::Result<()> {
+    let alloc = rt.alloc();
+    let text = formats::letters(alloc)?;
+    if let Some(string) = formats::string() {
+        let name = "64 characters read as a string";
+        show(
+            rt,
+            &mut formats::Read::new(alloc, string, &text, name)?,
+            rounds,
+        )?;
+        let name = "64 characters written as a string";
+        let text = formats::letters(alloc)?;
+        show(rt, &mut formats::Written::new(string, text, name), rounds)?;
+    }
+    if let Some(list) = formats::list() {
+        let name = "64 characters read as a list";
+        show(
+            rt,
+            &mut formats::Read::new(alloc, list, &text, name)?,
+            rounds,
+        )?;
+        let name = "64 characters written as a list";
+        show(rt, &mut formats::Written::new(list, text, name), rounds)?;
+    }
+    Ok(())
 }

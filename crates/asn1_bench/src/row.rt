@@ -19,7 +19,8 @@ pub trait Row {
     fn round(&mut self, alloc: Global) -> Result<u64, AllocError>;
 }
 
-/// A line for the row: what its round answers; or, where it is timed, how long a piece takes in its best round.
+/// A line for the row: what its round answers; or, where it is timed, how long a piece takes in its
+/// best round.
 pub fn show<R: Row>(rt: &HostRuntime, row: &mut R, rounds: u32) -> anyhow::Result<()> {
     let name = row.name();
     if rounds == 0 {

@@ -94,7 +94,8 @@ impl Row for Text {
     }
 }
 
-/// Strings of 1,024 characters from the bits of their codes: of `NumericString` four a character, of `Ia5String` seven.
+/// Strings of 1,024 characters from the bits of their codes: of `NumericString` four a character,
+/// of `Ia5String` seven.
 #[derive(Drop)]
 pub struct Bits {
     numeric: bool,

@@ -1,4 +1,5 @@
-//! Callers that are proved from the contracts alone: none of their proofs names a lemma of the library.
+//! Callers that are proved from the contracts alone: none of their proofs names a lemma of the
+//! library.
 
 ghost use Rattle.std.specs.Prelude.{◌≡◌, ◌+◌, ◌%◌, ◌^◌, ◌<◌, ◌++◌, length, replicate, false, take, drop, OnOk, OnErr, IfOk, IsOk};
 ghost use Rattle.asn1_bits.specs.Bits.{digits};

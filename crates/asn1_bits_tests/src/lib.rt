@@ -1,8 +1,8 @@
-//! Tests of bits: worked rows, comparisons with a plain definition on lists of truth values, and callers that stand on
-//! the contracts alone.
+//! Tests of bits: worked rows, comparisons with a plain definition on lists of truth values, and
+//! callers that stand on the contracts alone.
 //!
-//! They use public names only and are a crate of their own, so that `asn1_bits` is proved once and not again with its
-//! tests.
+//! They use public names only and are a crate of their own, so that `asn1_bits` is proved once and
+//! not again with its tests.
 #![tactic(auto)]
 
 #[cfg(test)]

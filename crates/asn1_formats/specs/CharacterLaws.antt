@@ -7,7 +7,6 @@ use Rattle.asn1_strings.specs.Alphabet.{Alphabet, IsCode}
 use Rattle.asn1_strings.specs.AlphabetLaws.{code_is_one}
 use Rattle.asn1_formats.specs.declared.character.CharacterFault.{CharacterFault}
 use Rattle.asn1_formats.specs.declared.character.CharacterFault.TheVariants.{Short, NoCharacter}
-use Rattle.asn1_formats.specs.declared.character.NotInAlphabet.{NotInAlphabet}
 use Rattle.asn1_formats.specs.Spelling.{Starts, CanRead, ReadsOne, SpellsOne, NamesFault, NamesMisfit}
 use Rattle.asn1_formats.specs.Numbers.{IsNumber}
 use Rattle.asn1_formats.specs.Characters.{IsCharacter, IsCharacterFault, IsNoCharacter}

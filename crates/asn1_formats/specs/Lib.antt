@@ -5,11 +5,13 @@ pub mod Numbers
 pub mod WholeNumbers
 pub mod Characters
 pub mod Combined
+pub mod Dependents
 pub mod Sequences
 pub mod Defaults
 pub mod Choices
 pub mod OctetStrings
 pub mod BitStrings
+pub mod IntegerOctets
 -- Laws of these words, which the formats' laws are made of.
 pub mod SpellingLaws
 pub mod WithinLaws
@@ -19,6 +21,7 @@ pub mod BooleanLaws
 pub mod CharacterLaws
 pub mod NamedLaws
 pub mod ThenLaws
+pub mod DependentLaws
 pub mod ListLaws
 pub mod SequenceLaws
 pub mod ComponentLaws
@@ -27,3 +30,4 @@ pub mod AndLaws
 pub mod ChoiceLaws
 pub mod OctetStringLaws
 pub mod BitStringLaws
+pub mod IntegerOctetLaws

@@ -1,5 +1,6 @@
 -- Laws of one value and then another.
-use Rattle.std.proofs.Common.{◌≡◌, List, Bool, ap, subst}
+use Rattle.std.proofs.Common.{◌≡◌, List, Bool, ◌∙◌, ap, subst}
+use Rattle.std.specs.Prelude.{◌↔◌, IsTrue}
 use Rattle.asn1_formats.specs.declared.then.InThen.{InThen}
 use Rattle.asn1_formats.specs.declared.then.InThen.TheVariants.{First, Second}
 use Rattle.asn1_formats.specs.Spelling.{CanRead, Fits, ReadsOne, NamesFault, NamesMisfit}
@@ -40,3 +41,12 @@ module _ {X Y E F : Type 0} (P : X → List Bool → Type 0) (Q : Y → List Boo
 
   pub both_names_misfit : NamesMisfit (λ w l. Both P Q w l) (λ v e. BothMisfit P W V v e)
   both_names_misfit = record { wrong = misfits; one = one_misfit }
+
+-- pairs are equal where both parts are
+pub both_equal : {X Y : Type 0} (first second both : Bool) (x v : X) (y w : Y) → (IsTrue first ↔ (x ≡ v))
+    → (IsTrue second ↔ (y ≡ w)) → (IsTrue both ↔ (IsTrue first × IsTrue second))
+    → (let p : X × Y = (x, y) in let q : X × Y = (v, w) in IsTrue both ↔ (p ≡ q))
+both_equal {X = X} {Y = Y} first second both x v y w p q r = (
+  λ is. ap (λ (z : X). (z, y)) (p.0 (r.0 is).0) ∙ ap (λ (z : Y). (v, z)) (q.0 (r.0 is).1),
+  λ e. r.1 (p.1 (ap (λ (z : X × Y). z.0) e), q.1 (ap (λ (z : X × Y). z.1) e)),
+)

@@ -1,11 +1,11 @@
 -- Laws of whole numbers.
-use Rattle.std.proofs.Common.{◌≡◌, ℕ, ℤ, pos, ◌+ℤ◌, ◌≤◌, List, Bool, refl, sym, ap, ◌∙◌, subst, arith}
+use Rattle.std.proofs.Common.{◌≡◌, ℕ, ℤ, pos, ◌+ℤ◌, ◌-◌, ◌^◌, ◌<◌, ◌≤◌, Some, List, Bool, refl, sym, ap, ◌∙◌, subst, arith}
 use Rattle.std.proofs.lemmas.Int.{ints}
 use Rattle.asn1_formats.specs.declared.size.SizeMisfit.{SizeMisfit}
 use Rattle.asn1_formats.specs.declared.size.SizeMisfit.TheVariants.{BelowLeast, AboveMost}
-use Rattle.asn1_formats.specs.Spelling.{Starts, Fits, ReadsOne, SpellsOne, NamesFault, NamesMisfit}
-use Rattle.asn1_formats.specs.Numbers.{IsSize, IsSizeFault}
-use Rattle.asn1_formats.specs.NumberLaws.{size_reads_one, size_spells_one, size_names_fault}
+use Rattle.asn1_formats.specs.Spelling.{Starts, Fits, Measures, ReadsOne, SpellsOne, NamesFault, NamesMisfit}
+use Rattle.asn1_formats.specs.Numbers.{IsSize, IsSizeFault, width_to}
+use Rattle.asn1_formats.specs.NumberLaws.{size_measured, size_reads_one, size_spells_one, size_names_fault}
 use Rattle.asn1_formats.specs.WholeNumbers.{IsConstrained, IsConstrainedFault, IsConstrainedMisfit}
 
 -- one place has one distance
@@ -86,3 +86,15 @@ module _ (least most : ℤ) where
     spelled = record { reach = reach; whole = e; distance = d; place = refl; spelled = s.spelled };
     parts = s.parts;
   }
+
+  pub constrained_measured : (reach : ℕ) → most ≡ least +ℤ pos reach → (n : ℤ) (d w : ℕ) → n ≡ least +ℤ pos d
+      → d ≤ reach → w ≡ width_to reach → reach < 2 ^ w → Measures (IsConstrained least most) n (Some w)
+  constrained_measured reach e n d w place within is holds =
+      let all : reach - 0 ≡ reach = omega arith in
+      let below : reach - 0 < 2 ^ w = omega arith in
+      let m = size_measured 0 reach d w (is ∙ ap width_to (sym all)) (omega arith) within below in
+      record {
+        list = m.list;
+        spelled = record { reach = reach; whole = e; distance = d; place = place; spelled = m.spelled };
+        size = m.size;
+      }

@@ -10,8 +10,8 @@ use crate::refusal::Refusal;
 use asn1_values::{BitBuffer, BitReader};
 use std::alloc::Global;
 
-/// The alternatives of a CHOICE: values, the place of a value's alternative, and the bits that spell the value behind it.
-/// [`Choice`](crate::Choice) makes a format of them.
+/// The alternatives of a CHOICE: values, the place of a value's alternative, and the bits that
+/// spell the value behind it. [`Choice`](crate::Choice) makes a format of them.
 pub trait Alternatives {
     /// The values.
     type Value: Drop;
@@ -65,7 +65,8 @@ pub trait Alternatives {
         buffer: &mut BitBuffer,
         value: &Self::Value,
     ) -> Result<(), Refusal<Self::Misfit>>
-        ensures written { OnOk result (IsWritten (spells self.now) (plain value.now) buffer.old buffer.new) }
+        ensures written { OnOk result
+            (IsWritten (spells self.now) (plain value.now) buffer.old buffer.new) }
         ensures refused { IfErr result (IsRefusal (is_misfit self.now (plain value.now)) ⊤) }
         ensures kept { OnErr result (Extends buffer.old buffer.new) };
 
@@ -90,7 +91,8 @@ pub trait Alternatives {
     /// Goes past a value of the alternative at a place, without memory.
     fn skip(&self, index: usize, reader: &mut BitReader<'_>) -> Result<(), Self::Fault>
         requires { index < count self.now }
-        ensures skipped { OnOk result ((x : Plain) × Starts (At (place self.now) (reads self.now) index)
+        ensures skipped { OnOk result
+            ((x : Plain) × Starts (At (place self.now) (reads self.now) index)
             (bits_left reader.old) x (bits_left reader.new)) }
         ensures fault { IfErr result (is_fault self.now index (bits_left reader.old)) };
 
@@ -110,7 +112,8 @@ pub trait Alternatives {
     ghost spells_one: { (f : Self) → SpellsOne (spells f) };
 
     /// What is wrong is one thing, and where there is one, nothing can be read.
-    ghost names_fault: { (f : Self) (k : ℕ) → NamesFault (At (place f) (reads f) k) (is_fault f k) };
+    ghost names_fault: { (f : Self) (k : ℕ)
+        → NamesFault (At (place f) (reads f) k) (is_fault f k) };
 
     /// What is wrong is one thing, and where there is one, nothing can be written.
     ghost names_misfit: { (f : Self) → NamesMisfit (spells f) (is_misfit f) };

@@ -7,7 +7,8 @@ use crate::then::InThen;
 use asn1_values::{BitBuffer, BitReader};
 use std::alloc::{AllocError, Global};
 
-/// One component and the others behind it: first the presence bits of all, and then all that are there.
+/// One component and the others behind it: first the presence bits of all, and then all that are
+/// there.
 #[derive(Clone, Copy, Debug)]
 pub struct And<C, D> {
     /// The component in front.
@@ -132,11 +133,13 @@ impl<C: Components, D: Components> Components for And<C, D> {
     }
 
     ghost as_many = { λ f.
-        both_size (C.shows f.first) (D.shows f.second) (C.count f.first) (D.count f.second) (C.as_many f.first)
+        both_size (C.shows f.first) (D.shows f.second) (C.count f.first) (D.count f.second)
+        (C.as_many f.first)
         (D.as_many f.second) };
 
     ghost shows_one = { λ f.
-        both_spells_one (C.shows f.first) (D.shows f.second) (C.shows_one f.first) (D.shows_one f.second) };
+        both_spells_one (C.shows f.first) (D.shows f.second) (C.shows_one f.first)
+        (D.shows_one f.second) };
 
     ghost spelled_is_read = { λ f.
         and_within (C.shows f.first) (D.shows f.second) (C.spells f.first) (D.spells f.second)
@@ -145,7 +148,8 @@ impl<C: Components, D: Components> Components for And<C, D> {
 
     ghost read_is_spelled = { λ f canonical.
         and_alone (C.shows f.first) (D.shows f.second) (C.spells f.first) (D.spells f.second)
-        (C.reads f.first) (D.reads f.second) (C.count f.first) (C.read_is_spelled f.first canonical.0)
+        (C.reads f.first) (D.reads f.second) (C.count f.first)
+        (C.read_is_spelled f.first canonical.0)
         (D.read_is_spelled f.second canonical.1) };
 
     ghost reads_one = { λ f p.
@@ -153,7 +157,8 @@ impl<C: Components, D: Components> Components for And<C, D> {
         (C.reads_one f.first p) (D.reads_one f.second (drop (C.count f.first) p)) };
 
     ghost spells_one = { λ f.
-        both_spells_one (C.spells f.first) (D.spells f.second) (C.spells_one f.first) (D.spells_one f.second) };
+        both_spells_one (C.spells f.first) (D.spells f.second) (C.spells_one f.first)
+        (D.spells_one f.second) };
 
     ghost names_fault = { λ f p.
         and_names_fault (C.reads f.first) (D.reads f.second) (C.count f.first) (D.count f.second) p
@@ -162,6 +167,7 @@ impl<C: Components, D: Components> Components for And<C, D> {
         (D.names_fault f.second (drop (C.count f.first) p)) };
 
     ghost names_misfit = { λ f.
-        both_names_misfit (C.spells f.first) (D.spells f.second) (C.is_misfit f.first) (D.is_misfit f.second)
+        both_names_misfit (C.spells f.first) (D.spells f.second) (C.is_misfit f.first)
+        (D.is_misfit f.second)
         (C.names_misfit f.first) (D.names_misfit f.second) };
 }

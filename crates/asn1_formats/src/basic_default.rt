@@ -7,8 +7,8 @@ use crate::refusal::Refusal;
 use asn1_values::{BitBuffer, BitReader};
 use std::alloc::{AllocError, Global};
 
-/// DEFAULT in BASIC-PER: a presence bit of 0 stands for the default value. Reading also takes it where
-/// it is written out. Writing leaves it out, as CANONICAL-PER does (X.691 19.5).
+/// DEFAULT in BASIC-PER: a presence bit of 0 stands for the default value. Reading also takes it
+/// where it is written out. Writing leaves it out, as CANONICAL-PER does (X.691 19.5).
 #[derive(Debug, Drop)]
 pub struct BasicDefault<A: Compare> {
     /// The format of the value, where it is written.
@@ -117,7 +117,8 @@ impl<A: Compare> Components for BasicDefault<A> {
     ghost shows_one = { λ f. default_shows_one (A.plain f.default) };
 
     ghost spelled_is_read = { λ f.
-        basic_within (A.spells f.part) (A.reads f.part) (A.spelled_is_read f.part) (A.plain f.default) };
+        basic_within (A.spells f.part) (A.reads f.part) (A.spelled_is_read f.part)
+        (A.plain f.default) };
 
     ghost read_is_spelled = { λ f canonical.
         basic_alone (λ x p. ShowsDefault (A.plain f.default) x p)
@@ -127,11 +128,14 @@ impl<A: Compare> Components for BasicDefault<A> {
     ghost reads_one = { λ f p.
         basic_reads_one (A.reads f.part) (A.plain f.default) p (A.reads_one f.part) };
 
-    ghost spells_one = { λ f. default_spells_one (A.spells f.part) (A.plain f.default) (A.spells_one f.part) };
+    ghost spells_one = { λ f.
+        default_spells_one (A.spells f.part) (A.plain f.default) (A.spells_one f.part) };
 
     ghost names_fault = { λ f p.
-        basic_names_fault (A.reads f.part) (A.plain f.default) p (A.is_fault f.part) (A.names_fault f.part) };
+        basic_names_fault (A.reads f.part) (A.plain f.default) p (A.is_fault f.part)
+        (A.names_fault f.part) };
 
     ghost names_misfit = { λ f.
-        default_names_misfit (A.spells f.part) (A.plain f.default) (A.is_misfit f.part) (A.names_misfit f.part) };
+        default_names_misfit (A.spells f.part) (A.plain f.default) (A.is_misfit f.part)
+        (A.names_misfit f.part) };
 }

@@ -41,17 +41,21 @@ impl<N: Counts, A: Format> Components for BasicEmpty<N, A> {
     ghost shows = { λ f x p. ShowsDefault [] x p };
 
     ghost spells = { λ f x list.
-        SpellsDefault (λ ys l. AreCounted (N.counts f.part.size) (A.spells f.part.item) ys l) [] x list };
+        SpellsDefault (λ ys l. AreCounted (N.counts f.part.size) (A.spells f.part.item) ys l)
+        [] x list };
 
     ghost reads = { λ f p x list.
-        ReadsBasic (λ ys l. AreCounted (N.counts f.part.size) (A.reads f.part.item) ys l) [] p x list };
+        ReadsBasic (λ ys l. AreCounted (N.counts f.part.size) (A.reads f.part.item) ys l)
+        [] p x list };
 
     ghost is_fault = { λ f p list e.
-        IfThereFault (λ l e. SequenceOfFault (N.counts f.part.size) (A.reads f.part.item) (N.is_count_fault
+        IfThereFault (λ l e. SequenceOfFault (N.counts f.part.size) (A.reads f.part.item)
+        (N.is_count_fault
         f.part.size) (A.is_fault f.part.item) l e) p list e };
 
     ghost is_misfit = { λ f x e.
-        DefaultMisfit (λ ys e. SequenceOfMisfit (N.counts f.part.size) (A.spells f.part.item) (N.is_count_misfit
+        DefaultMisfit (λ ys e.
+        SequenceOfMisfit (N.counts f.part.size) (A.spells f.part.item) (N.is_count_misfit
         f.part.size) (A.is_misfit f.part.item) ys e) [] x e };
 
     ghost owns_nothing = { λ f. ⊥ };
@@ -135,36 +139,51 @@ impl<N: Counts, A: Format> Components for BasicEmpty<N, A> {
     ghost shows_one = { λ f. default_shows_one [] };
 
     ghost spelled_is_read = { λ f.
-        basic_within (λ ys l. AreCounted (N.counts f.part.size) (A.spells f.part.item) ys l) (λ ys l. AreCounted
-        (N.counts f.part.size) (A.reads f.part.item) ys l) (counted_within (N.counts f.part.size) (A.spells
+        basic_within (λ ys l. AreCounted (N.counts f.part.size) (A.spells f.part.item) ys l)
+        (λ ys l. AreCounted
+        (N.counts f.part.size) (A.reads f.part.item) ys l)
+        (counted_within (N.counts f.part.size) (A.spells
         f.part.item) (A.reads f.part.item) (A.spelled_is_read f.part.item)) [] };
 
     ghost read_is_spelled = { λ f canonical.
         basic_alone (λ x p. ShowsDefault [] x p)
-        (λ x l. SpellsDefault (λ ys l. AreCounted (N.counts f.part.size) (A.spells f.part.item) ys l) [] x l)
-        (λ p x l. ReadsBasic (λ ys l. AreCounted (N.counts f.part.size) (A.reads f.part.item) ys l) [] p x l)
+        (λ x l. SpellsDefault
+        (λ ys l. AreCounted (N.counts f.part.size) (A.spells f.part.item) ys l) [] x l)
+        (λ p x l. ReadsBasic (λ ys l. AreCounted (N.counts f.part.size) (A.reads f.part.item) ys l)
+        [] p x l)
         canonical };
 
     ghost reads_one = { λ f p.
         basic_reads_one (λ ys l. AreCounted (N.counts f.part.size) (A.reads f.part.item) ys l) [] p
-        (counted_reads_one (N.counts f.part.size) (A.reads f.part.item) (N.reads_one_count f.part.size)
+        (counted_reads_one (N.counts f.part.size) (A.reads f.part.item)
+        (N.reads_one_count f.part.size)
         (A.reads_one f.part.item)) };
 
     ghost spells_one = { λ f.
-        default_spells_one (λ ys l. AreCounted (N.counts f.part.size) (A.spells f.part.item) ys l) []
-        (counted_spells_one (N.counts f.part.size) (A.spells f.part.item) (N.spells_one_count f.part.size)
+        default_spells_one (λ ys l. AreCounted (N.counts f.part.size) (A.spells f.part.item) ys l)
+        []
+        (counted_spells_one (N.counts f.part.size) (A.spells f.part.item)
+        (N.spells_one_count f.part.size)
         (A.spells_one f.part.item)) };
 
     ghost names_fault = { λ f p.
-        basic_names_fault (λ ys l. AreCounted (N.counts f.part.size) (A.reads f.part.item) ys l) [] p (λ l e.
-        SequenceOfFault (N.counts f.part.size) (A.reads f.part.item) (N.is_count_fault f.part.size) (A.is_fault
-        f.part.item) l e) (counted_names_fault (N.counts f.part.size) (A.reads f.part.item) (N.is_count_fault
-        f.part.size) (A.is_fault f.part.item) (N.reads_one_count f.part.size) (A.reads_one f.part.item)
+        basic_names_fault (λ ys l. AreCounted (N.counts f.part.size) (A.reads f.part.item) ys l) []
+        p (λ l e.
+        SequenceOfFault (N.counts f.part.size) (A.reads f.part.item) (N.is_count_fault f.part.size)
+        (A.is_fault
+        f.part.item) l e) (counted_names_fault (N.counts f.part.size) (A.reads f.part.item)
+        (N.is_count_fault
+        f.part.size) (A.is_fault f.part.item) (N.reads_one_count f.part.size)
+        (A.reads_one f.part.item)
         (N.names_count_fault f.part.size) (A.names_fault f.part.item)) };
 
     ghost names_misfit = { λ f.
-        default_names_misfit (λ ys l. AreCounted (N.counts f.part.size) (A.spells f.part.item) ys l) [] (λ ys e.
-        SequenceOfMisfit (N.counts f.part.size) (A.spells f.part.item) (N.is_count_misfit f.part.size) (A.is_misfit
-        f.part.item) ys e) (counted_names_misfit (N.counts f.part.size) (A.spells f.part.item) (N.is_count_misfit
-        f.part.size) (A.is_misfit f.part.item) (N.names_count_misfit f.part.size) (A.names_misfit f.part.item)) };
+        default_names_misfit (λ ys l. AreCounted (N.counts f.part.size) (A.spells f.part.item) ys l)
+        [] (λ ys e.
+        SequenceOfMisfit (N.counts f.part.size) (A.spells f.part.item)
+        (N.is_count_misfit f.part.size) (A.is_misfit
+        f.part.item) ys e) (counted_names_misfit (N.counts f.part.size) (A.spells f.part.item)
+        (N.is_count_misfit
+        f.part.size) (A.is_misfit f.part.item) (N.names_count_misfit f.part.size)
+        (A.names_misfit f.part.item)) };
 }

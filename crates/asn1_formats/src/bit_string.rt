@@ -11,8 +11,9 @@ use crate::refusal::Refusal;
 use asn1_values::{BitBuffer, BitReader, to_bitstring};
 use std::alloc::Global;
 
-/// BIT STRING: the number of its bits, and then the bits (X.691 16). The number's format says how many there may be:
-/// [`Size`](crate::Size) for a SIZE without extension marker, which has no bits where it allows one number alone.
+/// BIT STRING: the number of its bits, and then the bits (X.691 16). The number's format says how
+/// many there may be: [`Size`](crate::Size) for a SIZE without extension marker, which has no bits
+/// where it allows one number alone.
 #[derive(Clone, Copy, Debug)]
 pub struct BitString<N> {
     /// The format of the number of bits.
@@ -61,7 +62,8 @@ impl<N: Counts> Format for BitString<N> {
 
     ghost reads = { λ f x list. IsBitString (N.counts f.size) x list };
 
-    ghost is_fault = { λ f list e. BitStringFault (N.counts f.size) (N.is_count_fault f.size) list e };
+    ghost is_fault = { λ f list e.
+        BitStringFault (N.counts f.size) (N.is_count_fault f.size) list e };
 
     ghost is_misfit = { λ f x e. N.is_count_misfit f.size (length x) e };
 
@@ -127,7 +129,8 @@ impl<N: Counts> Format for BitString<N> {
 
     ghost spelled_is_read = { λ f. itself (λ x list. IsBitString (N.counts f.size) x list) };
 
-    ghost read_is_spelled = { λ f canonical. itself (λ x list. IsBitString (N.counts f.size) x list) };
+    ghost read_is_spelled = { λ f canonical.
+        itself (λ x list. IsBitString (N.counts f.size) x list) };
 
     ghost reads_one = { λ f. bit_string_reads_one (N.counts f.size) (N.reads_one_count f.size) };
 
@@ -138,5 +141,6 @@ impl<N: Counts> Format for BitString<N> {
         (N.reads_one_count f.size) (N.names_count_fault f.size) };
 
     ghost names_misfit = { λ f.
-        bit_string_names_misfit (N.counts f.size) (N.is_count_misfit f.size) (N.names_count_misfit f.size) };
+        bit_string_names_misfit (N.counts f.size) (N.is_count_misfit f.size)
+        (N.names_count_misfit f.size) };
 }

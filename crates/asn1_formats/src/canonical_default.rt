@@ -7,8 +7,8 @@ use crate::refusal::Refusal;
 use asn1_values::{BitBuffer, BitReader};
 use std::alloc::{AllocError, Global};
 
-/// DEFAULT in CANONICAL-PER: a presence bit of 0 stands for the default value, which is never written. Bits that write it
-/// are refused (X.691 19.5).
+/// DEFAULT in CANONICAL-PER: a presence bit of 0 stands for the default value, which is never
+/// written. Bits that write it are refused (X.691 19.5).
 #[derive(Debug, Drop)]
 pub struct CanonicalDefault<A: Compare> {
     /// The format of the value, where it is written.
@@ -132,7 +132,8 @@ impl<A: Compare> Components for CanonicalDefault<A> {
     ghost shows_one = { λ f. default_shows_one (A.plain f.default) };
 
     ghost spelled_is_read = { λ f.
-        canonical_within (A.spells f.part) (A.reads f.part) (A.spelled_is_read f.part) (A.plain f.default) };
+        canonical_within (A.spells f.part) (A.reads f.part) (A.spelled_is_read f.part)
+        (A.plain f.default) };
 
     ghost read_is_spelled = { λ f canonical.
         canonical_alone (A.reads f.part) (A.spells f.part) (A.read_is_spelled f.part canonical)
@@ -141,12 +142,15 @@ impl<A: Compare> Components for CanonicalDefault<A> {
     ghost reads_one = { λ f p.
         canonical_reads_one (A.reads f.part) (A.plain f.default) p (A.reads_one f.part) };
 
-    ghost spells_one = { λ f. default_spells_one (A.spells f.part) (A.plain f.default) (A.spells_one f.part) };
+    ghost spells_one = { λ f.
+        default_spells_one (A.spells f.part) (A.plain f.default) (A.spells_one f.part) };
 
     ghost names_fault = { λ f p.
-        canonical_names_fault (A.reads f.part) (A.plain f.default) p (A.is_fault f.part) (A.reads_one f.part)
+        canonical_names_fault (A.reads f.part) (A.plain f.default) p (A.is_fault f.part)
+        (A.reads_one f.part)
         (A.names_fault f.part) };
 
     ghost names_misfit = { λ f.
-        default_names_misfit (A.spells f.part) (A.plain f.default) (A.is_misfit f.part) (A.names_misfit f.part) };
+        default_names_misfit (A.spells f.part) (A.plain f.default) (A.is_misfit f.part)
+        (A.names_misfit f.part) };
 }

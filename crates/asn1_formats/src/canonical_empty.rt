@@ -10,8 +10,8 @@ use crate::sequence_of::{InSequenceOf, SequenceOf};
 use asn1_values::{BitBuffer, BitReader};
 use std::alloc::{AllocError, Global};
 
-/// `DEFAULT {}` in CANONICAL-PER: a presence bit of 0 stands for the empty list, which is never written. Bits that write it
-/// are refused (X.691 19.5).
+/// `DEFAULT {}` in CANONICAL-PER: a presence bit of 0 stands for the empty list, which is never
+/// written. Bits that write it are refused (X.691 19.5).
 #[derive(Clone, Copy, Debug)]
 pub struct CanonicalEmpty<N, A> {
     /// The format of the list, where it is written.
@@ -41,18 +41,23 @@ impl<N: Counts, A: Format> Components for CanonicalEmpty<N, A> {
     ghost shows = { λ f x p. ShowsDefault [] x p };
 
     ghost spells = { λ f x list.
-        SpellsDefault (λ ys l. AreCounted (N.counts f.part.size) (A.spells f.part.item) ys l) [] x list };
+        SpellsDefault (λ ys l. AreCounted (N.counts f.part.size) (A.spells f.part.item) ys l)
+        [] x list };
 
     ghost reads = { λ f p x list.
-        ReadsCanonical (λ ys l. AreCounted (N.counts f.part.size) (A.reads f.part.item) ys l) [] p x list };
+        ReadsCanonical (λ ys l. AreCounted (N.counts f.part.size) (A.reads f.part.item) ys l)
+        [] p x list };
 
     ghost is_fault = { λ f p list e.
-        DefaultFault (λ ys l. AreCounted (N.counts f.part.size) (A.reads f.part.item) ys l) [] (λ l e.
-        SequenceOfFault (N.counts f.part.size) (A.reads f.part.item) (N.is_count_fault f.part.size) (A.is_fault
+        DefaultFault (λ ys l. AreCounted (N.counts f.part.size) (A.reads f.part.item) ys l) []
+        (λ l e.
+        SequenceOfFault (N.counts f.part.size) (A.reads f.part.item) (N.is_count_fault f.part.size)
+        (A.is_fault
         f.part.item) l e) p list e };
 
     ghost is_misfit = { λ f x e.
-        DefaultMisfit (λ ys e. SequenceOfMisfit (N.counts f.part.size) (A.spells f.part.item) (N.is_count_misfit
+        DefaultMisfit (λ ys e.
+        SequenceOfMisfit (N.counts f.part.size) (A.spells f.part.item) (N.is_count_misfit
         f.part.size) (A.is_misfit f.part.item) ys e) [] x e };
 
     ghost owns_nothing = { λ f. ⊥ };
@@ -142,38 +147,54 @@ impl<N: Counts, A: Format> Components for CanonicalEmpty<N, A> {
     ghost shows_one = { λ f. default_shows_one [] };
 
     ghost spelled_is_read = { λ f.
-        canonical_within (λ ys l. AreCounted (N.counts f.part.size) (A.spells f.part.item) ys l) (λ ys l.
-        AreCounted (N.counts f.part.size) (A.reads f.part.item) ys l) (counted_within (N.counts f.part.size)
+        canonical_within (λ ys l. AreCounted (N.counts f.part.size) (A.spells f.part.item) ys l)
+        (λ ys l.
+        AreCounted (N.counts f.part.size) (A.reads f.part.item) ys l)
+        (counted_within (N.counts f.part.size)
         (A.spells f.part.item) (A.reads f.part.item) (A.spelled_is_read f.part.item)) [] };
 
     ghost read_is_spelled = { λ f canonical.
-        canonical_alone (λ ys l. AreCounted (N.counts f.part.size) (A.reads f.part.item) ys l) (λ ys l. AreCounted
-        (N.counts f.part.size) (A.spells f.part.item) ys l) (counted_within (N.counts f.part.size) (A.reads
-        f.part.item) (A.spells f.part.item) (A.read_is_spelled f.part.item canonical))
-        [] };
+        canonical_alone (λ ys l. AreCounted (N.counts f.part.size) (A.reads f.part.item) ys l)
+        (λ ys l. AreCounted
+        (N.counts f.part.size) (A.spells f.part.item) ys l)
+        (counted_within (N.counts f.part.size) (A.reads
+        f.part.item) (A.spells f.part.item) (A.read_is_spelled f.part.item canonical)) [] };
 
     ghost reads_one = { λ f p.
-        canonical_reads_one (λ ys l. AreCounted (N.counts f.part.size) (A.reads f.part.item) ys l) [] p
-        (counted_reads_one (N.counts f.part.size) (A.reads f.part.item) (N.reads_one_count f.part.size)
+        canonical_reads_one (λ ys l. AreCounted (N.counts f.part.size) (A.reads f.part.item) ys l)
+        [] p
+        (counted_reads_one (N.counts f.part.size) (A.reads f.part.item)
+        (N.reads_one_count f.part.size)
         (A.reads_one f.part.item)) };
 
     ghost spells_one = { λ f.
-        default_spells_one (λ ys l. AreCounted (N.counts f.part.size) (A.spells f.part.item) ys l) []
-        (counted_spells_one (N.counts f.part.size) (A.spells f.part.item) (N.spells_one_count f.part.size)
+        default_spells_one (λ ys l. AreCounted (N.counts f.part.size) (A.spells f.part.item) ys l)
+        []
+        (counted_spells_one (N.counts f.part.size) (A.spells f.part.item)
+        (N.spells_one_count f.part.size)
         (A.spells_one f.part.item)) };
 
     ghost names_fault = { λ f p.
-        canonical_names_fault (λ ys l. AreCounted (N.counts f.part.size) (A.reads f.part.item) ys l) [] p (λ l e.
-        SequenceOfFault (N.counts f.part.size) (A.reads f.part.item) (N.is_count_fault f.part.size) (A.is_fault
-        f.part.item) l e) (counted_reads_one (N.counts f.part.size) (A.reads f.part.item) (N.reads_one_count
+        canonical_names_fault
+        (λ ys l. AreCounted (N.counts f.part.size) (A.reads f.part.item) ys l) [] p (λ l e.
+        SequenceOfFault (N.counts f.part.size) (A.reads f.part.item) (N.is_count_fault f.part.size)
+        (A.is_fault
+        f.part.item) l e) (counted_reads_one (N.counts f.part.size) (A.reads f.part.item)
+        (N.reads_one_count
         f.part.size) (A.reads_one f.part.item))
-        (counted_names_fault (N.counts f.part.size) (A.reads f.part.item) (N.is_count_fault f.part.size)
-        (A.is_fault f.part.item) (N.reads_one_count f.part.size) (A.reads_one f.part.item) (N.names_count_fault
+        (counted_names_fault (N.counts f.part.size) (A.reads f.part.item)
+        (N.is_count_fault f.part.size)
+        (A.is_fault f.part.item) (N.reads_one_count f.part.size) (A.reads_one f.part.item)
+        (N.names_count_fault
         f.part.size) (A.names_fault f.part.item)) };
 
     ghost names_misfit = { λ f.
-        default_names_misfit (λ ys l. AreCounted (N.counts f.part.size) (A.spells f.part.item) ys l) [] (λ ys e.
-        SequenceOfMisfit (N.counts f.part.size) (A.spells f.part.item) (N.is_count_misfit f.part.size) (A.is_misfit
-        f.part.item) ys e) (counted_names_misfit (N.counts f.part.size) (A.spells f.part.item) (N.is_count_misfit
-        f.part.size) (A.is_misfit f.part.item) (N.names_count_misfit f.part.size) (A.names_misfit f.part.item)) };
+        default_names_misfit (λ ys l. AreCounted (N.counts f.part.size) (A.spells f.part.item) ys l)
+        [] (λ ys e.
+        SequenceOfMisfit (N.counts f.part.size) (A.spells f.part.item)
+        (N.is_count_misfit f.part.size) (A.is_misfit
+        f.part.item) ys e) (counted_names_misfit (N.counts f.part.size) (A.spells f.part.item)
+        (N.is_count_misfit
+        f.part.size) (A.is_misfit f.part.item) (N.names_count_misfit f.part.size)
+        (A.names_misfit f.part.item)) };
 }

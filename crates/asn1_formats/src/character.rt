@@ -30,8 +30,8 @@ pub struct NotInAlphabet {
     pub character: u32,
 }
 
-/// The characters of an alphabet, each by its code (X.691 30.5). [`SequenceOf`](crate::SequenceOf) makes a
-/// known-multiplier string of them, with its SIZE.
+/// The characters of an alphabet, each by its code (X.691 30.5). [`SequenceOf`](crate::SequenceOf)
+/// makes a known-multiplier string of them, with its SIZE.
 #[derive(Clone, Copy, Debug)]
 pub struct Character<'s> {
     alphabet: CharacterAlphabet<'s>,
@@ -42,7 +42,8 @@ impl<'s> Character<'s> {
     /// The characters of the alphabet. None where it gives a character two codes.
     pub fn new(alphabet: CharacterAlphabet<'s>) -> Option<Character<'s>>
         ensures some { IfSome result (λ f. alphabet_of f.alphabet ≡ alphabet_of alphabet.entry) }
-        ensures none { IfNone result (¬ (AllPairs (λ a b. a ≢ b) (alphabet_of alphabet.entry).characters)) }
+        ensures none { IfNone result
+            (¬ (AllPairs (λ a b. a ≢ b) (alphabet_of alphabet.entry).characters)) }
     {
         if alphabet.repeats() {
             return None;
@@ -145,7 +146,8 @@ impl<'s> Character<'s> {
     fn next_of(&self, reader: &mut BitReader<'_>) -> Result<u32, CharacterFault>
         ensures read { IfOk result (λ c. Starts (IsCharacter (alphabet_of self.now.alphabet))
             (bits_left reader.old) c (bits_left reader.new)) }
-        ensures fault { IfErr result (IsCharacterFault (alphabet_of self.now.alphabet) (bits_left reader.old)) }
+        ensures fault { IfErr result
+            (IsCharacterFault (alphabet_of self.now.alphabet) (bits_left reader.old)) }
     {
         match next32(reader, self.alphabet.width()) {
             Ok(code) => match self.alphabet.decode(code) {

@@ -10,8 +10,9 @@ use crate::size::{Size, SizeFault};
 use asn1_values::{BitBuffer, BitReader};
 use std::alloc::Global;
 
-/// CHOICE: the place of the alternative that was chosen, in as few bits as all places need, and then its value
-/// (X.691 23). The alternatives are in the order of their tags, without an extension marker.
+/// CHOICE: the place of the alternative that was chosen, in as few bits as all places need, and
+/// then its value (X.691 23). The alternatives are in the order of their tags, without an extension
+/// marker.
 #[derive(Debug, Drop)]
 pub struct Choice<A: Alternatives> {
     alternatives: A,
@@ -32,7 +33,8 @@ pub enum InChoice<E, F> {
 impl<A: Alternatives> Choice<A> {
     ghost use Rattle.std.specs.Prelude.{IfErr, IfOk, IsOk, ◌<◌, ◌^◌};
 
-    /// The choice among the alternatives. They are given back where there are none, or where `usize` can't count them.
+    /// The choice among the alternatives. They are given back where there are none, or where
+    /// `usize` can't count them.
     pub fn new(alternatives: A) -> Result<Choice<A>, A>
         ensures same { IfOk result (λ f. f.alternatives ≡ alternatives) }
         ensures accepted { 0 < A.count alternatives → A.count alternatives < 2 ^ 64 → IsOk result }
@@ -51,6 +53,13 @@ impl<A: Alternatives> Choice<A> {
             }
             None => Err(alternatives),
         }
+    }
+
+    /// The alternatives.
+    pub fn alternatives(&self) -> &A
+        ensures { result.now ≡ self.now.alternatives }
+    {
+        &self.alternatives
     }
 
     /// The place of the value's alternative.
@@ -86,10 +95,12 @@ impl<A: Alternatives> Format for Choice<A> {
     ghost plain = { λ v. A.plain v };
 
     ghost spells = { λ f v list.
-        Numbered (IsSize f.index.least f.index.most) (A.place f.alternatives) (A.spells f.alternatives) v list };
+        Numbered (IsSize f.index.least f.index.most) (A.place f.alternatives)
+        (A.spells f.alternatives) v list };
 
     ghost reads = { λ f v list.
-        Numbered (IsSize f.index.least f.index.most) (A.place f.alternatives) (A.reads f.alternatives) v list };
+        Numbered (IsSize f.index.least f.index.most) (A.place f.alternatives)
+        (A.reads f.alternatives) v list };
 
     ghost is_fault = { λ f list e.
         ChoiceFault (IsSize f.index.least f.index.most) (IsSizeFault f.index.least f.index.most)
@@ -151,26 +162,33 @@ impl<A: Alternatives> Format for Choice<A> {
     }
 
     ghost spelled_is_read = { λ f.
-        numbered_within (IsSize f.index.least f.index.most) (A.place f.alternatives) (A.spells f.alternatives) (A.reads f.alternatives) (A.spelled_is_read f.alternatives) };
+        numbered_within (IsSize f.index.least f.index.most) (A.place f.alternatives)
+        (A.spells f.alternatives) (A.reads f.alternatives) (A.spelled_is_read f.alternatives) };
 
     ghost read_is_spelled = { λ f canonical.
-        numbered_within (IsSize f.index.least f.index.most) (A.place f.alternatives) (A.reads f.alternatives) (A.spells f.alternatives) (A.read_is_spelled f.alternatives canonical) };
+        numbered_within (IsSize f.index.least f.index.most) (A.place f.alternatives)
+        (A.reads f.alternatives) (A.spells f.alternatives)
+        (A.read_is_spelled f.alternatives canonical) };
 
     ghost reads_one = { λ f.
-        numbered_reads_one (IsSize f.index.least f.index.most) (A.place f.alternatives) (A.reads f.alternatives)
+        numbered_reads_one (IsSize f.index.least f.index.most) (A.place f.alternatives)
+        (A.reads f.alternatives)
         (size_reads_one f.index.least f.index.most) (A.reads_one f.alternatives) };
 
     ghost spells_one = { λ f.
-        numbered_spells_one (IsSize f.index.least f.index.most) (A.place f.alternatives) (A.spells f.alternatives)
+        numbered_spells_one (IsSize f.index.least f.index.most) (A.place f.alternatives)
+        (A.spells f.alternatives)
         (size_spells_one f.index.least f.index.most) (A.spells_one f.alternatives) };
 
     ghost names_fault = { λ f.
-        choice_names_fault (IsSize f.index.least f.index.most) (A.place f.alternatives) (A.reads f.alternatives)
+        choice_names_fault (IsSize f.index.least f.index.most) (A.place f.alternatives)
+        (A.reads f.alternatives)
         (IsSizeFault f.index.least f.index.most) (A.is_fault f.alternatives)
         (size_reads_one f.index.least f.index.most) (size_names_fault f.index.least f.index.most)
         (A.names_fault f.alternatives) };
 
     ghost names_misfit = { λ f.
-        numbered_names_misfit (IsSize f.index.least f.index.most) (A.place f.alternatives) (A.spells f.alternatives)
+        numbered_names_misfit (IsSize f.index.least f.index.most) (A.place f.alternatives)
+        (A.spells f.alternatives)
         (A.is_misfit f.alternatives) (A.names_misfit f.alternatives) };
 }

@@ -26,7 +26,8 @@ pub trait Compare: Format {
         reader: &mut BitReader<'_>,
         other: &Self::Value,
     ) -> Result<bool, Self::Fault>
-        ensures skipped { IfOk result (λ is. (x : Self.Plain) × Starts (Self.reads self.now) (bits_left reader.old) x
+        ensures skipped { IfOk result
+            (λ is. (x : Self.Plain) × Starts (Self.reads self.now) (bits_left reader.old) x
             (bits_left reader.new) × (IsTrue is ↔ (x ≡ Self.plain other.now))) }
         ensures fault { IfErr result (Self.is_fault self.now (bits_left reader.old)) };
 }

@@ -10,8 +10,8 @@ use crate::refusal::Refusal;
 use asn1_values::{BitBuffer, BitReader};
 use std::alloc::{AllocError, Global};
 
-/// The components of a SEQUENCE: values, their presence bits, which stand together in front, and the bits that spell what
-/// is there. [`Sequence`](crate::Sequence) makes a format of them.
+/// The components of a SEQUENCE: values, their presence bits, which stand together in front, and
+/// the bits that spell what is there. [`Sequence`](crate::Sequence) makes a format of them.
 pub trait Components {
     /// The values.
     type Value: Drop;
@@ -57,7 +57,8 @@ pub trait Components {
 
     /// Appends the presence bits. Where it is refused, some may have been appended.
     fn append_presence(&self, buffer: &mut BitBuffer, value: &Self::Value) -> Result<(), AllocError>
-        ensures ok { OnOk result (IsWritten (shows self.now) (plain value.now) buffer.old buffer.new) }
+        ensures ok { OnOk result
+            (IsWritten (shows self.now) (plain value.now) buffer.old buffer.new) }
         ensures err { OnErr result (Extends buffer.old buffer.new) };
 
     /// Appends the components that are there. Where it is refused, a part may have been appended.
@@ -66,7 +67,8 @@ pub trait Components {
         buffer: &mut BitBuffer,
         value: &Self::Value,
     ) -> Result<(), Refusal<Self::Misfit>>
-        ensures written { OnOk result (IsWritten (spells self.now) (plain value.now) buffer.old buffer.new) }
+        ensures written { OnOk result
+            (IsWritten (spells self.now) (plain value.now) buffer.old buffer.new) }
         ensures refused { IfErr result (IsRefusal (is_misfit self.now (plain value.now)) ⊤) }
         ensures kept { OnErr result (Extends buffer.old buffer.new) };
 
@@ -86,9 +88,11 @@ pub trait Components {
         requires { count self.now ≤ length (bits_left presence.old) }
         ensures read { IfOk result (λ x. Starts (Behind (reads self.now) (count self.now)
             (bits_left presence.old)) (bits_left reader.old) (plain x) (bits_left reader.new)) }
-        ensures moved { OnOk result (bits_left presence.new ≡ drop (count self.now) (bits_left presence.old)) }
+        ensures moved { OnOk result
+            (bits_left presence.new ≡ drop (count self.now) (bits_left presence.old)) }
         ensures refused { IfErr result (IsRefusal
-            (is_fault self.now (bits_left presence.old) (bits_left reader.old)) (¬ (owns_nothing self.now))) };
+            (is_fault self.now (bits_left presence.old) (bits_left reader.old))
+            (¬ (owns_nothing self.now))) };
 
     /// Goes past the components that the presence bits tell of, without memory.
     fn skip(
@@ -97,10 +101,13 @@ pub trait Components {
         reader: &mut BitReader<'_>,
     ) -> Result<(), Self::Fault>
         requires { count self.now ≤ length (bits_left presence.old) }
-        ensures skipped { OnOk result ((x : Plain) × Starts (Behind (reads self.now) (count self.now)
+        ensures skipped { OnOk result
+            ((x : Plain) × Starts (Behind (reads self.now) (count self.now)
             (bits_left presence.old)) (bits_left reader.old) x (bits_left reader.new)) }
-        ensures moved { OnOk result (bits_left presence.new ≡ drop (count self.now) (bits_left presence.old)) }
-        ensures fault { IfErr result (is_fault self.now (bits_left presence.old) (bits_left reader.old)) };
+        ensures moved { OnOk result
+            (bits_left presence.new ≡ drop (count self.now) (bits_left presence.old)) }
+        ensures fault { IfErr result
+            (is_fault self.now (bits_left presence.old) (bits_left reader.old)) };
 
     /// Each value has as many presence bits.
     ghost as_many: { (f : Self) (x : Plain) (p : List Bool) → shows f x p → length p ≡ count f };
@@ -111,8 +118,10 @@ pub trait Components {
     /// What spells a value is read as it behind its presence bits.
     ghost spelled_is_read: { (f : Self) → IsShown (shows f) (spells f) (reads f) };
 
-    /// Of canonical components, what is read as a value spells it, and the presence bits are its own.
-    ghost read_is_spelled: { (f : Self) → is_canonical f → ShowsAlone (shows f) (spells f) (reads f) };
+    /// Of canonical components, what is read as a value spells it, and the presence bits are its
+    /// own.
+    ghost read_is_spelled: { (f : Self) → is_canonical f
+        → ShowsAlone (shows f) (spells f) (reads f) };
 
     /// Behind presence bits, what a list begins with is read as one value at most.
     ghost reads_one: { (f : Self) (p : List Bool) → ReadsOne (Behind (reads f) (count f) p) };
@@ -121,7 +130,8 @@ pub trait Components {
     ghost spells_one: { (f : Self) → SpellsOne (spells f) };
 
     /// What is wrong is one thing, and where there is one, nothing can be read.
-    ghost names_fault: { (f : Self) (p : List Bool) → NamesFault (Behind (reads f) (count f) p) (is_fault f p) };
+    ghost names_fault: { (f : Self) (p : List Bool)
+        → NamesFault (Behind (reads f) (count f) p) (is_fault f p) };
 
     /// What is wrong is one thing, and where there is one, nothing can be written.
     ghost names_misfit: { (f : Self) → NamesMisfit (spells f) (is_misfit f) };

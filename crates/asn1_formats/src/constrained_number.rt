@@ -9,8 +9,8 @@ use crate::size::{Size, SizeFault, SizeMisfit};
 use asn1_values::{BitBuffer, BitReader};
 use std::alloc::{AllocError, Global};
 
-/// The whole numbers from a least to a greatest one: the distance from the least, in as few bits as all distances need
-/// (X.691 11.5.6).
+/// The whole numbers from a least to a greatest one: the distance from the least, in as few bits as
+/// all distances need (X.691 11.5.6).
 #[derive(Clone, Copy, Debug)]
 pub struct ConstrainedNumber {
     least: i64,
@@ -111,7 +111,8 @@ impl Format for ConstrainedNumber {
 
     ghost spelled_is_read = { λ f. itself (λ n list. IsConstrained f.least f.most n list) };
 
-    ghost read_is_spelled = { λ f canonical. itself (λ n list. IsConstrained f.least f.most n list) };
+    ghost read_is_spelled = { λ f canonical.
+        itself (λ n list. IsConstrained f.least f.most n list) };
 
     ghost reads_one = { λ f. constrained_reads_one f.least f.most };
 

@@ -11,7 +11,8 @@ use crate::size::{Size, SizeFault, SizeMisfit};
 use asn1_values::{BitBuffer, BitReader};
 
 /// A format of counts: how many items or octets follow, as [`SequenceOf`](crate::SequenceOf) and
-/// [`OctetString`](crate::OctetString) have it in front. A count is read from its spelling alone, and without memory.
+/// [`OctetString`](crate::OctetString) have it in front. A count is read from its spelling alone,
+/// and without memory.
 pub trait Counts {
     /// Why bits hold no count.
     type Fault: Drop;

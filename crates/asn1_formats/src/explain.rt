@@ -15,14 +15,16 @@ use crate::size::{SizeFault, SizeMisfit};
 use crate::then::InThen;
 use std::fmt;
 
-/// What is wrong, in words: the names of parts from the outside in, joined by commas, and the reason behind a colon, as
-/// `children, item 2, name: 3 bits are missing`. [`Named`](crate::Named) gives names; items are counted from 0.
+/// What is wrong, in words: the names of parts from the outside in, joined by commas, and the
+/// reason behind a colon, as `children, item 2, name: 3 bits are missing`. [`Named`](crate::Named)
+/// gives names; items are counted from 0.
 pub trait Explain: fmt::Display {
     /// Whether the text is a reason alone, without a part before it.
     fn is_reason(&self) -> bool;
 }
 
-/// Writes the name of a part, and behind it what is wrong with it: for the texts of formats elsewhere.
+/// Writes the name of a part, and behind it what is wrong with it: for the texts of formats
+/// elsewhere.
 pub fn write_part<E: Explain, W: fmt::Write>(
     part: &str,
     wrong: &E,

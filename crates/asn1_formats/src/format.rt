@@ -9,8 +9,9 @@ use crate::refusal::Refusal;
 use asn1_values::{BitBuffer, BitReader};
 use std::alloc::Global;
 
-/// A format: values, and the bits that spell them. [`write`](crate::write) and [`read`](crate::read) are what a program
-/// calls; the methods here are the steps that they and the formats made of others are built from.
+/// A format: values, and the bits that spell them. [`write`](crate::write) and
+/// [`read`](crate::read) are what a program calls; the methods here are the steps that they and the
+/// formats made of others are built from.
 pub trait Format {
     /// The values.
     type Value: Drop;
@@ -29,7 +30,8 @@ pub trait Format {
     /// The bits spell the value: writing appends them.
     ghost spells: { Self → Plain → List Bool → Type 0 };
 
-    /// The bits are read as the value: those that spell it, and others where the standard lets a sender choose.
+    /// The bits are read as the value: those that spell it, and others where the standard lets a
+    /// sender choose.
     ghost reads: { Self → Plain → List Bool → Type 0 };
 
     /// What the bits begin with is wrong, there.
@@ -44,23 +46,26 @@ pub trait Format {
     /// No bits are read as a value but those that spell it.
     ghost is_canonical: { Self → Type 0 };
 
-    /// Appends a spelling. Where it is refused, a part may have been appended; `Memory` also where the length in bits
-    /// passes `usize`.
+    /// Appends a spelling. Where it is refused, a part may have been appended; `Memory` also where
+    /// the length in bits passes `usize`.
     fn append(
         &self,
         buffer: &mut BitBuffer,
         value: &Self::Value,
     ) -> Result<(), Refusal<Self::Misfit>>
-        ensures written { OnOk result (IsWritten (spells self.now) (plain value.now) buffer.old buffer.new) }
+        ensures written { OnOk result
+            (IsWritten (spells self.now) (plain value.now) buffer.old buffer.new) }
         ensures refused { IfErr result (IsRefusal (is_misfit self.now (plain value.now)) ⊤) }
         ensures kept { OnErr result (Extends buffer.old buffer.new) };
 
-    /// How many bits spell the value, `None` where `usize` can't count them; or what is wrong with it.
+    /// How many bits spell the value, `None` where `usize` can't count them; or what is wrong with
+    /// it.
     fn measure(&self, value: &Self::Value) -> Result<Option<usize>, Self::Misfit>
         ensures measured { IfOk result (Measures (spells self.now) (plain value.now)) }
         ensures misfit { IfErr result (is_misfit self.now (plain value.now)) };
 
-    /// Reads a value. Where it is refused, the reader may have moved, and `Memory` may hide what is wrong behind.
+    /// Reads a value. Where it is refused, the reader may have moved, and `Memory` may hide what is
+    /// wrong behind.
     fn take(
         &self,
         alloc: Global,

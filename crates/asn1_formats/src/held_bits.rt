@@ -9,7 +9,8 @@ use crate::number::{next, push};
 use asn1_values::{BitBuffer, BitReader};
 use std::alloc::AllocError;
 
-/// At most 64 bits, held as the number that they are the digits of: they wait to be written, or were read ahead.
+/// At most 64 bits, held as the number that they are the digits of: they wait to be written, or
+/// were read ahead.
 #[derive(Clone, Copy)]
 pub(crate) struct HeldBits {
     number: u64,
@@ -32,7 +33,8 @@ impl HeldBits {
         requires below { number < 2 ^ width }
         requires narrow { width < 64 }
         requires room { self.len + width ≤ 64 }
-        ensures { digits result.number result.len ≡ digits self.number self.len ++ digits number width }
+        ensures { digits result.number result.len ≡ digits self.number self.len
+            ++ digits number width }
     {
         HeldBits {
             number: (self.number << width) + number,
@@ -99,8 +101,8 @@ impl HeldBits {
         }
     }
 
-    /// The number of the next bits, held or else of the reader, and what is held behind them. None where there are
-    /// too few.
+    /// The number of the next bits, held or else of the reader, and what is held behind them. None
+    /// where there are too few.
     #[inline(always)]
     pub(crate) fn next(self, reader: &mut BitReader<'_>, width: usize) -> Option<(u64, HeldBits)>
         requires { 1 ≤ width }

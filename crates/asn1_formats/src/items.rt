@@ -26,9 +26,11 @@ pub(crate) fn append_items<A: Format>(
     buffer: &mut BitBuffer,
     values: &[A::Value],
 ) -> Result<(), Refusal<AtItem<A::Misfit>>>
-    ensures written { OnOk result (IsWritten (λ ys l. AreJoined (A.spells item.now) ys l) (map A.plain values.now)
+    ensures written { OnOk result
+        (IsWritten (λ ys l. AreJoined (A.spells item.now) ys l) (map A.plain values.now)
         buffer.old buffer.new) }
-    ensures refused { IfErr result (IsRefusal (λ e. ItemMisfit (A.spells item.now) (A.is_misfit item.now)
+    ensures refused { IfErr result
+        (IsRefusal (λ e. ItemMisfit (A.spells item.now) (A.is_misfit item.now)
         (map A.plain values.now) e.index e.wrong) ⊤) }
     ensures kept { OnErr result (Extends buffer.old buffer.new) }
 {
@@ -69,10 +71,12 @@ pub(crate) fn take_items<A: Format>(
     reader: &mut BitReader<'_>,
     count: usize,
 ) -> Result<Vec<A::Value>, Refusal<AtItem<A::Fault>>>
-    ensures read { IfOk result (λ xs. Starts (λ ys l. SoMany (A.reads item.now) count ys l) (bits_left reader.old)
+    ensures read { IfOk result
+        (λ xs. Starts (λ ys l. SoMany (A.reads item.now) count ys l) (bits_left reader.old)
         (map A.plain xs.items) (bits_left reader.new)) }
     ensures refused { IfErr result (IsRefusal (λ e. (e.index < count) × After
-        (λ ys l. SoMany (A.reads item.now) e.index ys l) (λ ys rest. A.is_fault item.now rest e.wrong)
+        (λ ys l. SoMany (A.reads item.now) e.index ys l)
+        (λ ys rest. A.is_fault item.now rest e.wrong)
         (bits_left reader.old)) ⊤) }
 {
     let mut values = Vec::new(alloc);
@@ -96,10 +100,12 @@ pub(crate) fn skip_items<A: Format>(
     reader: &mut BitReader<'_>,
     count: usize,
 ) -> Result<(), AtItem<A::Fault>>
-    ensures skipped { OnOk result ((xs : List A.Plain) × Starts (λ ys l. SoMany (A.reads item.now) count ys l)
+    ensures skipped { OnOk result
+        ((xs : List A.Plain) × Starts (λ ys l. SoMany (A.reads item.now) count ys l)
         (bits_left reader.old) xs (bits_left reader.new)) }
     ensures fault { IfErr result (λ e. (e.index < count) × After
-        (λ ys l. SoMany (A.reads item.now) e.index ys l) (λ ys rest. A.is_fault item.now rest e.wrong)
+        (λ ys l. SoMany (A.reads item.now) e.index ys l)
+        (λ ys rest. A.is_fault item.now rest e.wrong)
         (bits_left reader.old)) }
 {
     for index in 0..count {

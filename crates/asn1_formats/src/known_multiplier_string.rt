@@ -20,14 +20,16 @@ use crate::sequence_of::InSequenceOf;
 use asn1_values::{BitBuffer, BitReader, CharacterAlphabet};
 use std::alloc::Global;
 
-/// A known-multiplier character string with SIZE and FROM: the number of its characters, and then the code of each in an
-/// alphabet, all of one width (X.691 30.4, 30.5). Its bits and its refusals are those of
-/// [`SequenceOf`](crate::SequenceOf) with [`Character`] items; it reads and writes several codes at a time.
+/// A known-multiplier character string with SIZE and FROM: the number of its characters, and then
+/// the code of each in an alphabet, all of one width (X.691 30.4, 30.5). Its bits and its refusals
+/// are those of [`SequenceOf`](crate::SequenceOf) with [`Character`] items; it reads and writes
+/// several codes at a time.
 #[derive(Clone, Copy)]
 pub struct KnownMultiplierString<'s, N> {
     size: N,
     item: Character<'s>,
-    // A code to try first for each character below 256. It is looked up in the alphabet before it is taken.
+    // A code to try first for each character below 256. It is looked up in the alphabet before it
+    // is taken.
     hints: [u8; 256],
 }
 
@@ -39,6 +41,20 @@ impl<'s, N> KnownMultiplierString<'s, N> {
     {
         let hints = hints_of(item.alphabet());
         KnownMultiplierString { size, item, hints }
+    }
+
+    /// The format of the number of characters.
+    pub fn size(&self) -> &N
+        ensures { result.now ≡ self.now.size }
+    {
+        &self.size
+    }
+
+    /// The format of each character.
+    pub fn item(&self) -> &Character<'s>
+        ensures { result.now ≡ self.now.item }
+    {
+        &self.item
     }
 }
 
@@ -71,14 +87,16 @@ fn code_of(alphabet: &CharacterAlphabet<'_>, hints: &[u8; 256], character: u32) 
     alphabet.encode(character).ok()
 }
 
-/// Appends the codes of the characters, several at a time. False where one has no code, or memory is wanting.
+/// Appends the codes of the characters, several at a time. False where one has no code, or memory
+/// is wanting.
 fn push_characters(
     alphabet: &CharacterAlphabet<'_>,
     hints: &[u8; 256],
     buffer: &mut BitBuffer,
     characters: &[u32],
 ) -> bool
-    ensures written { IsTrue result → IsWritten (λ cs l. AreJoined (IsCharacter (alphabet_of alphabet.now)) cs l)
+    ensures written { IsTrue result
+        → IsWritten (λ cs l. AreJoined (IsCharacter (alphabet_of alphabet.now)) cs l)
         characters.now buffer.old buffer.new }
     ensures kept { Extends buffer.old buffer.new }
 {
@@ -99,8 +117,8 @@ fn push_characters(
     }
 }
 
-/// The characters of so many codes at the front of what the reader has, several at a time. None where a code is missing
-/// or no character's, or memory is wanting.
+/// The characters of so many codes at the front of what the reader has, several at a time. None
+/// where a code is missing or no character's, or memory is wanting.
 fn characters_at(
     alphabet: &CharacterAlphabet<'_>,
     alloc: Global,
@@ -127,15 +145,16 @@ fn characters_at(
     Some(characters)
 }
 
-/// Reads so many characters, several at a time. None where a code is missing or no character's, where codes have no bits,
-/// or memory is wanting: then the reader stays.
+/// Reads so many characters, several at a time. None where a code is missing or no character's,
+/// where codes have no bits, or memory is wanting: then the reader stays.
 fn take_characters(
     alphabet: &CharacterAlphabet<'_>,
     alloc: Global,
     reader: &mut BitReader<'_>,
     count: u64,
 ) -> Option<Vec<u32>>
-    ensures read { IfSome result (λ cs. Starts (λ ds l. SoMany (IsCharacter (alphabet_of alphabet.now)) count ds l)
+    ensures read { IfSome result
+        (λ cs. Starts (λ ds l. SoMany (IsCharacter (alphabet_of alphabet.now)) count ds l)
         (bits_left reader.old) cs.items (bits_left reader.new)) }
     ensures none { IfNone result (bits_left reader.new ≡ bits_left reader.old) }
 {
@@ -272,7 +291,8 @@ impl<'s, N: Counts> Format for KnownMultiplierString<'s, N> {
 
     ghost spells_one = { λ f.
         counted_spells_one (N.counts f.size) (IsCharacter (alphabet_of f.item.alphabet))
-        (N.spells_one_count f.size) (character_spells_one (alphabet_of f.item.alphabet) f.item.once) };
+        (N.spells_one_count f.size)
+        (character_spells_one (alphabet_of f.item.alphabet) f.item.once) };
 
     ghost names_fault = { λ f.
         counted_names_fault (N.counts f.size) (IsCharacter (alphabet_of f.item.alphabet))

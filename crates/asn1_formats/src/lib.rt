@@ -1,5 +1,5 @@
-//! Formats: which bits spell a value, with the reader and the writer that follow from it. A format is composed of others,
-//! and what [`read`] and [`write`] promise holds of every format.
+//! Formats: which bits spell a value, with the reader and the writer that follow from it. A format
+//! is composed of others, and what [`read`] and [`write`] promise holds of every format.
 #![tactic(auto)]
 
 mod alternatives;
@@ -17,9 +17,12 @@ mod compare;
 mod components;
 mod constrained_number;
 mod counts;
+mod dependent;
+mod describe;
 mod explain;
 mod format;
 mod held_bits;
+mod integer_octets;
 mod items;
 mod known_multiplier_string;
 mod last;
@@ -40,6 +43,7 @@ mod sequence;
 mod sequence_of;
 mod size;
 mod then;
+mod wide_constrained_number;
 mod writing;
 
 pub use alternatives::Alternatives;
@@ -57,8 +61,10 @@ pub use compare::Compare;
 pub use components::Components;
 pub use constrained_number::ConstrainedNumber;
 pub use counts::Counts;
+pub use dependent::{Chooses, Dependent};
 pub use explain::{Explain, write_part};
 pub use format::Format;
+pub use integer_octets::are_shortest_octets;
 pub use known_multiplier_string::KnownMultiplierString;
 pub use last::Last;
 pub use length::sum_of;
@@ -77,4 +83,5 @@ pub use sequence::{InSequence, Sequence};
 pub use sequence_of::{InSequenceOf, SequenceOf};
 pub use size::{Size, SizeFault, SizeMisfit, width_to_hold};
 pub use then::{InThen, Then};
+pub use wide_constrained_number::WideConstrainedNumber;
 pub use writing::write;

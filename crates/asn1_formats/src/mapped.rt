@@ -2,14 +2,15 @@
 
 ghost use Rattle.std.specs.Prelude.{◌≡◌};
 
+use crate::compare::Compare;
 use crate::format::Format;
 use crate::refusal::Refusal;
 use asn1_values::{BitBuffer, BitReader};
-use std::alloc::Global;
+use std::alloc::{AllocError, Global};
 use std::marker::PhantomData;
 
-/// A value of the program's own that holds a format's value, its parts, and names them by its methods. [`Mapped`] makes a
-/// format of it.
+/// A value of the program's own that holds a format's value, its parts, and names them by its
+/// methods. [`Mapped`] makes a format of it.
 pub trait OfParts: Drop {
     /// The value of the format, such as nested pairs.
     type Parts: Drop;
@@ -26,7 +27,8 @@ pub trait OfParts: Drop {
         ensures { parts_of result ≡ parts };
 }
 
-/// A format whose values are the program's own. Its bits, and what is wrong with them, are those of the part.
+/// A format whose values are the program's own. Its bits, and what is wrong with them, are those of
+/// the part.
 #[derive(Debug, Drop)]
 pub struct Mapped<A, V> {
     part: A,
@@ -106,4 +108,21 @@ impl<A: Format, V: OfParts<Parts = A::Value>> Format for Mapped<A, V> {
     ghost names_fault = { λ f. A.names_fault f.part };
 
     ghost names_misfit = { λ f. A.names_misfit f.part };
+}
+
+impl<A: Compare, V: OfParts<Parts = A::Value>> Compare for Mapped<A, V> {
+    fn are_equal(&self, first: &V, second: &V) -> bool {
+        self.part.are_equal(first.parts(), second.parts())
+    }
+
+    fn copy(&self, alloc: Global, value: &V) -> Result<V, AllocError> {
+        match self.part.copy(alloc, value.parts()) {
+            Ok(parts) => Ok(V::from_parts(parts)),
+            Err(wanting) => Err(wanting),
+        }
+    }
+
+    fn skip_equal(&self, reader: &mut BitReader<'_>, other: &V) -> Result<bool, A::Fault> {
+        self.part.skip_equal(reader, other.parts())
+    }
 }

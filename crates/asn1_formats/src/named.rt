@@ -1,14 +1,15 @@
 //! A part with a name.
 
+use crate::compare::Compare;
 use crate::explain::{Explain, write_part};
 use crate::format::Format;
 use crate::refusal::Refusal;
 use asn1_values::{BitBuffer, BitReader};
-use std::alloc::Global;
+use std::alloc::{AllocError, Global};
 use std::fmt;
 
-/// A part with a name, by which an error says where it is: a format, or components such as a default. Values and bits are
-/// those of the part.
+/// A part with a name, by which an error says where it is: a format, or components such as a
+/// default. Values and bits are those of the part.
 #[derive(Clone, Copy, Debug)]
 pub struct Named<A> {
     /// The name.
@@ -130,4 +131,25 @@ impl<A: Format> Format for Named<A> {
 
     ghost names_misfit = { λ f.
         named_names_misfit f (A.spells f.part) (A.is_misfit f.part) (A.names_misfit f.part) };
+}
+
+impl<A: Compare> Compare for Named<A> {
+    fn are_equal(&self, first: &A::Value, second: &A::Value) -> bool {
+        self.part.are_equal(first, second)
+    }
+
+    fn copy(&self, alloc: Global, value: &A::Value) -> Result<A::Value, AllocError> {
+        self.part.copy(alloc, value)
+    }
+
+    fn skip_equal(
+        &self,
+        reader: &mut BitReader<'_>,
+        other: &A::Value,
+    ) -> Result<bool, InNamed<A::Fault>> {
+        match self.part.skip_equal(reader, other) {
+            Ok(is_equal) => Ok(is_equal),
+            Err(wrong) => Err(self.at(wrong)),
+        }
+    }
 }

@@ -26,7 +26,8 @@ pub struct Short {
 #[error("the number does not fit its bits")]
 pub struct PastWidth {}
 
-/// The whole numbers that so many bits hold, at most 64: their binary digits, the highest first (X.691 11.3).
+/// The whole numbers that so many bits hold, at most 64: their binary digits, the highest first
+/// (X.691 11.3).
 #[derive(Clone, Copy, Debug)]
 pub struct Number {
     width: usize,
@@ -40,6 +41,13 @@ impl Number {
         ensures { result.width ≡ width }
     {
         Number { width }
+    }
+
+    /// How many bits hold each number.
+    pub fn width(&self) -> usize
+        ensures { result ≡ self.now.width }
+    {
+        self.width
     }
 }
 
@@ -142,16 +150,26 @@ pub fn push(buffer: &mut BitBuffer, value: u64, width: usize) -> Result<(), Allo
     ensures ok { OnOk result (buffer.new ≡ buffer.old ++ digits value width) }
     ensures err { OnErr result (buffer.new ≡ buffer.old) }
 {
+    push_wide(buffer, value as u128, width)
+}
+
+/// Appends the number's digits, as many as the width, which is at most 128.
+pub(crate) fn push_wide(buffer: &mut BitBuffer, value: u128, width: usize) -> Result<(), AllocError>
+    requires { width ≤ 128 }
+    ensures ok { OnOk result (buffer.new ≡ buffer.old ++ digits value width) }
+    ensures err { OnErr result (buffer.new ≡ buffer.old) }
+{
     if buffer.len() > usize::MAX - width {
         return Err(AllocError);
     }
-    buffer.push_bits(value as u128, width)
+    buffer.push_bits(value, width)
 }
 
 /// The number of the next bits, as many as the width, which is at most 64; or how many are missing.
 pub fn next(reader: &mut BitReader<'_>, width: usize) -> Result<u64, Short>
     requires { width ≤ 64 }
-    ensures read { IfOk result (λ x. Starts (IsNumber width) (bits_left reader.old) x (bits_left reader.new)) }
+    ensures read { IfOk result
+        (λ x. Starts (IsNumber width) (bits_left reader.old) x (bits_left reader.new)) }
     ensures short { IfErr result (λ e. IsShort width (bits_left reader.old) e.missing) }
 {
     let Ok(front) = reader.split(width) else {
@@ -162,10 +180,27 @@ pub fn next(reader: &mut BitReader<'_>, width: usize) -> Result<u64, Short>
     Ok(front.first_u128(width) as u64)
 }
 
+/// The number of the next bits, as many as the width, which is at most 128; or how many are
+/// missing.
+pub(crate) fn next_wide(reader: &mut BitReader<'_>, width: usize) -> Result<u128, Short>
+    requires { width ≤ 128 }
+    ensures read { IfOk result
+        (λ x. Starts (IsNumber width) (bits_left reader.old) x (bits_left reader.new)) }
+    ensures short { IfErr result (λ e. IsShort width (bits_left reader.old) e.missing) }
+{
+    let Ok(front) = reader.split(width) else {
+        return Err(Short {
+            missing: width - reader.len(),
+        });
+    };
+    Ok(front.first_u128(width))
+}
+
 /// The number of the next bits.
 pub(crate) fn next32(reader: &mut BitReader<'_>, width: usize) -> Result<u32, Short>
     requires { width ≤ 32 }
-    ensures read { IfOk result (λ x. Starts (IsNumber width) (bits_left reader.old) x (bits_left reader.new)) }
+    ensures read { IfOk result
+        (λ x. Starts (IsNumber width) (bits_left reader.old) x (bits_left reader.new)) }
     ensures short { IfErr result (λ e. IsShort width (bits_left reader.old) e.missing) }
 {
     let Ok(front) = reader.split(width) else {

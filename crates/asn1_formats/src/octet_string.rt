@@ -13,8 +13,9 @@ use crate::refusal::Refusal;
 use asn1_values::{BitBuffer, BitReader, extend_vec_from_bitslice};
 use std::alloc::{AllocError, Global};
 
-/// OCTET STRING: the number of its octets, and then the octets (X.691 17). The number's format says how many there may be:
-/// [`Size`](crate::Size) for a SIZE without extension marker, which has no bits where it allows one number alone.
+/// OCTET STRING: the number of its octets, and then the octets (X.691 17). The number's format says
+/// how many there may be: [`Size`](crate::Size) for a SIZE without extension marker, which has no
+/// bits where it allows one number alone.
 #[derive(Clone, Copy, Debug)]
 pub struct OctetString<N> {
     /// The format of the number of octets.
@@ -45,8 +46,8 @@ fn are_octets(octets: &[u8])
     ensures { All (λ octet. octet < 256) octets.now }
 {}
 
-/// Appends the octets' digits, eight for each. Where it is refused, for want of memory or since the length in bits would
-/// pass `usize`, the bits stay.
+/// Appends the octets' digits, eight for each. Where it is refused, for want of memory or since the
+/// length in bits would pass `usize`, the bits stay.
 pub fn push_octets(buffer: &mut BitBuffer, octets: &[u8]) -> Result<(), AllocError>
     ensures ok { OnOk result (buffer.new ≡ buffer.old ++ bits octets.now) }
     ensures err { OnErr result (buffer.new ≡ buffer.old) }
@@ -109,7 +110,8 @@ impl<N: Counts> Format for OctetString<N> {
 
     ghost reads = { λ f x list. IsOctetString (N.counts f.size) x list };
 
-    ghost is_fault = { λ f list e. OctetStringFault (N.counts f.size) (N.is_count_fault f.size) list e };
+    ghost is_fault = { λ f list e.
+        OctetStringFault (N.counts f.size) (N.is_count_fault f.size) list e };
 
     ghost is_misfit = { λ f x e. N.is_count_misfit f.size (length x) e };
 
@@ -170,13 +172,19 @@ impl<N: Counts> Format for OctetString<N> {
 
     ghost spelled_is_read = { λ f. itself (λ x list. IsOctetString (N.counts f.size) x list) };
 
-    ghost read_is_spelled = { λ f canonical. itself (λ x list. IsOctetString (N.counts f.size) x list) };
+    ghost read_is_spelled = { λ f canonical.
+        itself (λ x list. IsOctetString (N.counts f.size) x list) };
 
     ghost reads_one = { λ f. octet_string_reads_one (N.counts f.size) (N.reads_one_count f.size) };
 
-    ghost spells_one = { λ f. octet_string_spells_one (N.counts f.size) (N.spells_one_count f.size) };
+    ghost spells_one = { λ f.
+        octet_string_spells_one (N.counts f.size) (N.spells_one_count f.size) };
 
-    ghost names_fault = { λ f. octet_string_names_fault (N.counts f.size) (N.is_count_fault f.size) (N.reads_one_count f.size) (N.names_count_fault f.size) };
+    ghost names_fault = { λ f.
+        octet_string_names_fault (N.counts f.size) (N.is_count_fault f.size)
+        (N.reads_one_count f.size) (N.names_count_fault f.size) };
 
-    ghost names_misfit = { λ f. octet_string_names_misfit (N.counts f.size) (N.is_count_misfit f.size) (N.names_count_misfit f.size) };
+    ghost names_misfit = { λ f.
+        octet_string_names_misfit (N.counts f.size) (N.is_count_misfit f.size)
+        (N.names_count_misfit f.size) };
 }

@@ -142,7 +142,8 @@ impl<A: Format, B: Alternatives> Alternatives for Or<A, B> {
     }
 
     ghost below = { λ f.
-        place_below (A.spells f.first) (B.spells f.others) (B.place f.others) (B.count f.others) (B.below f.others) };
+        place_below (A.spells f.first) (B.spells f.others) (B.place f.others) (B.count f.others)
+        (B.below f.others) };
 
     ghost spelled_is_read = { λ f.
         one_within (A.spells f.first) (A.reads f.first) (B.spells f.others) (B.reads f.others)
@@ -153,18 +154,22 @@ impl<A: Format, B: Alternatives> Alternatives for Or<A, B> {
         (A.read_is_spelled f.first canonical.0) (B.read_is_spelled f.others canonical.1) };
 
     ghost reads_one = { λ f k.
-        one_reads_one (A.reads f.first) (B.reads f.others) (B.place f.others) k (A.reads_one f.first)
+        one_reads_one (A.reads f.first) (B.reads f.others) (B.place f.others) k
+        (A.reads_one f.first)
         (B.reads_one f.others (k - 1)) };
 
     ghost spells_one = { λ f.
-        one_spells_one (A.spells f.first) (B.spells f.others) (B.place f.others) (A.spells_one f.first)
+        one_spells_one (A.spells f.first) (B.spells f.others) (B.place f.others)
+        (A.spells_one f.first)
         (B.spells_one f.others) };
 
     ghost names_fault = { λ f k.
-        one_names_fault (A.reads f.first) (B.reads f.others) (B.place f.others) k (A.is_fault f.first)
+        one_names_fault (A.reads f.first) (B.reads f.others) (B.place f.others) k
+        (A.is_fault f.first)
         (B.is_fault f.others) (A.names_fault f.first) (B.names_fault f.others (k - 1)) };
 
     ghost names_misfit = { λ f.
-        one_names_misfit (A.spells f.first) (B.spells f.others) (B.place f.others) (A.is_misfit f.first)
+        one_names_misfit (A.spells f.first) (B.spells f.others) (B.place f.others)
+        (A.is_misfit f.first)
         (B.is_misfit f.others) (A.names_misfit f.first) (B.names_misfit f.others) };
 }

@@ -86,10 +86,12 @@ impl<A: Format> Components for Required<A> {
     ghost shows_one = { λ f. equal_one (λ x. []) };
 
     ghost spelled_is_read = { λ f.
-        shown_within (λ y q. q ≡ []) (A.spells f.part) (A.reads f.part) (A.spelled_is_read f.part) };
+        shown_within (λ y q. q ≡ []) (A.spells f.part) (A.reads f.part)
+        (A.spelled_is_read f.part) };
 
     ghost read_is_spelled = { λ f canonical.
-        shown_alone (λ y q. q ≡ []) (A.spells f.part) (A.reads f.part) (A.read_is_spelled f.part canonical) };
+        shown_alone (λ y q. q ≡ []) (A.spells f.part) (A.reads f.part)
+        (A.read_is_spelled f.part canonical) };
 
     ghost reads_one = { λ f. required_reads_one (A.reads f.part) (A.reads_one f.part) };
 

@@ -7,8 +7,8 @@ use crate::refusal::Refusal;
 use asn1_values::{BitBuffer, BitReader};
 use std::alloc::Global;
 
-/// SEQUENCE: the presence bits of its optional components together in front, 1 for one that is there, and then the
-/// components (X.691 19.2).
+/// SEQUENCE: the presence bits of its optional components together in front, 1 for one that is
+/// there, and then the components (X.691 19.2).
 #[derive(Clone, Copy, Debug)]
 pub struct Sequence<C> {
     /// Its components.
@@ -40,9 +40,11 @@ impl<C: Components> Format for Sequence<C> {
 
     ghost spells = { λ f v list. IsSequence (C.shows f.components) (C.spells f.components) v list };
 
-    ghost reads = { λ f v list. ReadsSequence (C.reads f.components) (C.count f.components) v list };
+    ghost reads = { λ f v list.
+        ReadsSequence (C.reads f.components) (C.count f.components) v list };
 
-    ghost is_fault = { λ f list e. SequenceFault (C.count f.components) (C.is_fault f.components) list e };
+    ghost is_fault = { λ f list e.
+        SequenceFault (C.count f.components) (C.is_fault f.components) list e };
 
     ghost is_misfit = { λ f v e. C.is_misfit f.components v e };
 
@@ -104,10 +106,12 @@ impl<C: Components> Format for Sequence<C> {
         (C.count f.components) (C.read_is_spelled f.components canonical) };
 
     ghost reads_one = { λ f.
-        sequence_reads_one (C.reads f.components) (C.count f.components) (C.reads_one f.components) };
+        sequence_reads_one (C.reads f.components) (C.count f.components)
+        (C.reads_one f.components) };
 
     ghost spells_one = { λ f.
-        sequence_spells_one (C.shows f.components) (C.spells f.components) (C.shows_one f.components)
+        sequence_spells_one (C.shows f.components) (C.spells f.components)
+        (C.shows_one f.components)
         (C.spells_one f.components) };
 
     ghost names_fault = { λ f.
@@ -115,7 +119,8 @@ impl<C: Components> Format for Sequence<C> {
         (C.names_fault f.components) };
 
     ghost names_misfit = { λ f.
-        sequence_names_misfit (C.shows f.components) (C.spells f.components) (C.is_misfit f.components)
+        sequence_names_misfit (C.shows f.components) (C.spells f.components)
+        (C.is_misfit f.components)
         (C.names_misfit f.components) };
 }
 

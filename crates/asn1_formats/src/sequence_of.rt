@@ -8,8 +8,8 @@ use crate::refusal::Refusal;
 use asn1_values::{BitBuffer, BitReader};
 use std::alloc::Global;
 
-/// SEQUENCE OF: the number of its items, and then the items (X.691 20.5, 20.6). The number's format says how many there may
-/// be: [`Size`](crate::Size) for a SIZE without extension marker.
+/// SEQUENCE OF: the number of its items, and then the items (X.691 20.5, 20.6). The number's format
+/// says how many there may be: [`Size`](crate::Size) for a SIZE without extension marker.
 #[derive(Clone, Copy, Debug)]
 pub struct SequenceOf<N, A> {
     /// The format of the number of items.
@@ -122,10 +122,12 @@ impl<N: Counts, A: Format> Format for SequenceOf<N, A> {
     }
 
     ghost spelled_is_read = { λ f.
-        counted_within (N.counts f.size) (A.spells f.item) (A.reads f.item) (A.spelled_is_read f.item) };
+        counted_within (N.counts f.size) (A.spells f.item) (A.reads f.item)
+        (A.spelled_is_read f.item) };
 
     ghost read_is_spelled = { λ f canonical.
-        counted_within (N.counts f.size) (A.reads f.item) (A.spells f.item) (A.read_is_spelled f.item canonical) };
+        counted_within (N.counts f.size) (A.reads f.item) (A.spells f.item)
+        (A.read_is_spelled f.item canonical) };
 
     ghost reads_one = { λ f.
         counted_reads_one (N.counts f.size) (A.reads f.item)
@@ -166,9 +168,11 @@ impl<N: Counts, A: Format> SequenceOf<N, A> {
         reader: &mut BitReader<'_>,
     ) -> Result<bool, InSequenceOf<N::Fault, A::Fault>>
         ensures skipped { IfOk result (λ is. (xs : List A.Plain) × Starts (λ ys list.
-            AreCounted (N.counts self.now.size) (A.reads self.now.item) ys list) (bits_left reader.old) xs
+            AreCounted (N.counts self.now.size) (A.reads self.now.item) ys list)
+            (bits_left reader.old) xs
             (bits_left reader.new) × (IsTrue is ↔ (xs ≡ []))) }
-        ensures fault { IfErr result (SequenceOfFault (N.counts self.now.size) (A.reads self.now.item)
+        ensures fault { IfErr result
+            (SequenceOfFault (N.counts self.now.size) (A.reads self.now.item)
             (N.is_count_fault self.now.size) (A.is_fault self.now.item) (bits_left reader.old)) }
     {
         let count = match self.size.next_count(reader) {

@@ -22,7 +22,7 @@ pub enum SizeFault {
     Short { missing: usize },
     /// They hold a distance from the least number that passes the greatest.
     #[error("{distance} above the least number is past the greatest")]
-    PastMost { distance: u64 },
+    PastMost { distance: u128 },
 }
 
 /// Why a number is not of the range.
@@ -36,8 +36,8 @@ pub enum SizeMisfit {
     AboveMost,
 }
 
-/// The natural numbers from a least to a greatest one, as a size or an index has them: the distance from the least, in as
-/// few bits as all distances need (X.691 11.5.6, 11.9.3.3).
+/// The natural numbers from a least to a greatest one, as a size or an index has them: the distance
+/// from the least, in as few bits as all distances need (X.691 11.5.6, 11.9.3.3).
 #[derive(Clone, Copy, Debug)]
 pub struct Size {
     least: u64,
@@ -58,6 +58,20 @@ impl Size {
     {
         let width = width_to_hold(most - least);
         Size { least, most, width }
+    }
+
+    /// The least number.
+    pub fn least(&self) -> u64
+        ensures { result ≡ self.now.least }
+    {
+        self.least
+    }
+
+    /// The greatest number.
+    pub fn most(&self) -> u64
+        ensures { result ≡ self.now.most }
+    {
+        self.most
     }
 }
 
@@ -174,17 +188,11 @@ impl Compare for Size {
 impl Size {
     ghost use Rattle.asn1_formats.specs.Numbers.{IsSize, IsSizeFault};
 
-    /// The greatest number.
-    pub(crate) fn most(&self) -> u64
-        ensures { result ≡ self.now.most }
-    {
-        self.most
-    }
-
     /// Appends the digits of the distance.
     fn push_distance(&self, buffer: &mut BitBuffer, distance: u64) -> Result<(), AllocError>
         ensures ok { OnOk result
-            (buffer.new ≡ buffer.old ++ digits distance (width_to (self.now.most - self.now.least))) }
+            (buffer.new ≡ buffer.old
+            ++ digits distance (width_to (self.now.most - self.now.least))) }
         ensures err { OnErr result (buffer.new ≡ buffer.old) }
     {
         push(buffer, distance, self.width)
@@ -192,7 +200,8 @@ impl Size {
 
     /// The number of the next bits, as many as a distance has.
     fn next_distance(&self, reader: &mut BitReader<'_>) -> Result<u64, Short>
-        ensures read { IfOk result (λ x. Starts (IsNumber (width_to (self.now.most - self.now.least)))
+        ensures read { IfOk result
+            (λ x. Starts (IsNumber (width_to (self.now.most - self.now.least)))
             (bits_left reader.old) x (bits_left reader.new)) }
         ensures short { IfErr result (λ e. IsShort (width_to (self.now.most - self.now.least))
             (bits_left reader.old) e.missing) }
@@ -210,7 +219,9 @@ impl Size {
         match self.next_distance(reader) {
             Ok(distance) => {
                 if distance > self.most - self.least {
-                    return Err(SizeFault::PastMost { distance });
+                    return Err(SizeFault::PastMost {
+                        distance: distance as u128,
+                    });
                 }
                 Ok(self.least + distance)
             }

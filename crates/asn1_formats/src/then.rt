@@ -1,13 +1,16 @@
 //! One part and then another.
 
+ghost use Rattle.std.specs.Prelude.{◌↔◌, IsTrue};
+
+use crate::compare::Compare;
 use crate::format::Format;
 use crate::length::sum_of;
 use crate::refusal::Refusal;
 use asn1_values::{BitBuffer, BitReader};
-use std::alloc::Global;
+use std::alloc::{AllocError, Global};
 
-/// One part and then another, with nothing between them, as the components of a SEQUENCE without optional ones stand
-/// (X.691 19.4).
+/// One part and then another, with nothing between them, as the components of a SEQUENCE without
+/// optional ones stand (X.691 19.4).
 #[derive(Clone, Copy, Debug)]
 pub struct Then<A, B> {
     /// The part in front.
@@ -123,16 +126,63 @@ impl<A: Format, B: Format> Format for Then<A, B> {
         (A.read_is_spelled f.first canonical.0) (B.read_is_spelled f.second canonical.1) };
 
     ghost reads_one = { λ f.
-        both_reads_one (A.reads f.first) (B.reads f.second) (A.reads_one f.first) (B.reads_one f.second) };
+        both_reads_one (A.reads f.first) (B.reads f.second) (A.reads_one f.first)
+        (B.reads_one f.second) };
 
     ghost spells_one = { λ f.
-        both_spells_one (A.spells f.first) (B.spells f.second) (A.spells_one f.first) (B.spells_one f.second) };
+        both_spells_one (A.spells f.first) (B.spells f.second) (A.spells_one f.first)
+        (B.spells_one f.second) };
 
     ghost names_fault = { λ f.
-        both_names_fault (A.reads f.first) (B.reads f.second) (A.is_fault f.first) (B.is_fault f.second)
+        both_names_fault (A.reads f.first) (B.reads f.second) (A.is_fault f.first)
+        (B.is_fault f.second)
         (A.reads_one f.first) (A.names_fault f.first) (B.names_fault f.second) };
 
     ghost names_misfit = { λ f.
-        both_names_misfit (A.spells f.first) (B.spells f.second) (A.is_misfit f.first) (B.is_misfit f.second)
+        both_names_misfit (A.spells f.first) (B.spells f.second) (A.is_misfit f.first)
+        (B.is_misfit f.second)
         (A.names_misfit f.first) (B.names_misfit f.second) };
+}
+
+/// Whether both are true.
+fn are_both(first: bool, second: bool) -> bool
+    ensures { IsTrue result ↔ (IsTrue first × IsTrue second) }
+{
+    first && second
+}
+
+impl<A: Compare, B: Compare> Compare for Then<A, B> {
+    fn are_equal(&self, first: &(A::Value, B::Value), second: &(A::Value, B::Value)) -> bool {
+        self.first.are_equal(&first.0, &second.0) && self.second.are_equal(&first.1, &second.1)
+    }
+
+    fn copy(
+        &self,
+        alloc: Global,
+        value: &(A::Value, B::Value),
+    ) -> Result<(A::Value, B::Value), AllocError> {
+        let first = match self.first.copy(alloc, &value.0) {
+            Ok(first) => first,
+            Err(wanting) => return Err(wanting),
+        };
+        match self.second.copy(alloc, &value.1) {
+            Ok(second) => Ok((first, second)),
+            Err(wanting) => Err(wanting),
+        }
+    }
+
+    fn skip_equal(
+        &self,
+        reader: &mut BitReader<'_>,
+        other: &(A::Value, B::Value),
+    ) -> Result<bool, InThen<A::Fault, B::Fault>> {
+        let is_first = match self.first.skip_equal(reader, &other.0) {
+            Ok(is_first) => is_first,
+            Err(e) => return Err(InThen::First(e)),
+        };
+        match self.second.skip_equal(reader, &other.1) {
+            Ok(is_second) => Ok(are_both(is_first, is_second)),
+            Err(e) => Err(InThen::Second(e)),
+        }
+    }
 }

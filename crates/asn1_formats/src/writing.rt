@@ -8,22 +8,25 @@ use crate::format::Format;
 use crate::refusal::{Refusal, WriteRefusal};
 use asn1_values::BitBuffer;
 
-/// Appends the value's spelling to the buffer's bits. Refused by the first part of the value that is wrong, whatever
-/// memory there is; then where the new length in bits passes `usize::MAX`; then for want of memory. Where it is refused,
-/// the bits stay.
+/// Appends the value's spelling to the buffer's bits. Refused by the first part of the value that
+/// is wrong, whatever memory there is; then where the new length in bits passes `usize::MAX`; then
+/// for want of memory. Where it is refused, the bits stay.
 pub fn write<F: Format>(
     format: &F,
     buffer: &mut BitBuffer,
     value: &F::Value,
 ) -> Result<(), WriteRefusal<F::Misfit>>
     // The old bits are followed by a spelling of the value.
-    ensures written { OnOk result (IsWritten (F.spells format.now) (F.plain value.now) buffer.old buffer.new) }
+    ensures written { OnOk result
+        (IsWritten (F.spells format.now) (F.plain value.now) buffer.old buffer.new) }
     // What was appended is read as the value.
-    ensures read_back { OnOk result (IsWritten (F.reads format.now) (F.plain value.now) buffer.old buffer.new) }
+    ensures read_back { OnOk result
+        (IsWritten (F.reads format.now) (F.plain value.now) buffer.old buffer.new) }
     // It has no other.
     ensures one { (list : List Bool) → F.spells format.now (F.plain value.now) list
         → OnOk result (buffer.new ≡ buffer.old ++ list) }
-    // Where it has one, it is refused for the new length exactly where that passes 64 bits, and else for memory alone.
+    // Where it has one, it is refused for the new length exactly where that passes 64 bits, and
+    // else for memory alone.
     ensures too_long { (list : List Bool) → F.spells format.now (F.plain value.now) list
         → 2 ^ 64 ≤ length buffer.old + length list → result ≡ Err WriteRefusal.TooLong }
     ensures accepted { (list : List Bool) → F.spells format.now (F.plain value.now) list
@@ -53,10 +56,12 @@ pub fn write<F: Format>(
     }
 }
 
-/// Why the value was not written behind so many bits, where no part was found wrong before memory was.
+/// Why the value was not written behind so many bits, where no part was found wrong before memory
+/// was.
 #[cold]
 fn refusal_of<F: Format>(format: &F, len: usize, value: &F::Value) -> WriteRefusal<F::Misfit>
-    ensures { IsWriteRefusal (F.spells format.now) (F.is_misfit format.now) len (F.plain value.now) result }
+    ensures { IsWriteRefusal (F.spells format.now) (F.is_misfit format.now) len
+        (F.plain value.now) result }
 {
     match format.measure(value) {
         Ok(Some(more)) => {

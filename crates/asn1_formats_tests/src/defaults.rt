@@ -2,8 +2,8 @@
 
 use super::calls::{found, written};
 use asn1_formats::{
-    And, BasicDefault, Boolean, CanonicalDefault, InDefault, InSequence, InThen, Refusal, Required,
-    Sequence, Size, SizeMisfit, WriteRefusal,
+    And, BasicDefault, Boolean, CanonicalDefault, InDefault, InSequence, InThen, Named, Refusal,
+    Required, Sequence, Size, SizeMisfit, Then, WriteRefusal,
 };
 use std::test::Fail;
 
@@ -72,6 +72,41 @@ fn a_default_that_is_written_is_read_by_basic_per_alone(rt: HostRuntime) -> Resu
     assert_eq!(rt;
         found(&canonical(), rt.alloc(), &[0xE8], 8).err(),
         Some(Refusal::Wrong(InSequence::Presence))
+    );
+    Ok(())
+}
+
+/// SEQUENCE { range SEQUENCE { least INTEGER (0..7), flag BOOLEAN } DEFAULT { 5, TRUE } } in
+/// CANONICAL-PER.
+fn range() -> Sequence<CanonicalDefault<Named<Then<Size, Boolean>>>> {
+    Sequence {
+        components: CanonicalDefault {
+            part: Named {
+                name: "range",
+                part: Then {
+                    first: Size::new(0, 7),
+                    second: Boolean {},
+                },
+            },
+            default: (5, true),
+        },
+    }
+}
+
+#[test]
+fn a_default_may_have_several_parts(rt: HostRuntime) -> Result<(), Fail> {
+    // 111 | 0
+    let buffer = written(&range(), rt.alloc(), &(5, true))?;
+    assert_eq!(rt; buffer.len(), 4);
+    assert_eq!(rt; buffer.as_bytes(), [0xE0].as_slice());
+    assert_eq!(rt; found(&range(), rt.alloc(), &[0xE0], 3)?, ((5, true), 4));
+    // 111 | 1 | 101 | 0
+    let buffer = written(&range(), rt.alloc(), &(5, false))?;
+    assert_eq!(rt; buffer.as_bytes(), [0xFA].as_slice());
+    assert_eq!(rt; found(&range(), rt.alloc(), &[0xFA], 3)?, ((5, false), 0));
+    assert_eq!(rt;
+        found(&range(), rt.alloc(), &[0xFB], 3).err(),
+        Some(Refusal::Wrong(InSequence::Component(InDefault::Written)))
     );
     Ok(())
 }

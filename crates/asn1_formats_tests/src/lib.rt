@@ -4,11 +4,15 @@
 #[cfg(test)]
 mod bits;
 #[cfg(test)]
+mod by_number;
+#[cfg(test)]
 mod calls;
 #[cfg(test)]
 mod choices;
 #[cfg(test)]
 mod defaults;
+#[cfg(test)]
+mod descriptions;
 #[cfg(test)]
 mod empties;
 #[cfg(test)]
@@ -24,6 +28,8 @@ mod names;
 mod octets;
 #[cfg(test)]
 mod parts;
+#[cfg(test)]
+mod refusals;
 #[cfg(test)]
 mod strings;
 

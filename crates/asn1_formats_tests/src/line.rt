@@ -23,7 +23,8 @@ pub fn points_format() -> SequenceOf<Size, Point> {
     }
 }
 
-/// SEQUENCE { kind ENUMERATED {a, b, c}, flag BOOLEAN OPTIONAL, points (SIZE (2..9)) OF Point OPTIONAL }
+/// SEQUENCE { kind ENUMERATED {a, b, c}, flag BOOLEAN OPTIONAL, points (SIZE (2..9)) OF Point
+/// OPTIONAL }
 pub type Drawing = Sequence<
     And<Required<Size>, And<Optional<Boolean>, Optional<SequenceOf<Size, Point>>>>,
 >;

@@ -59,7 +59,8 @@ pub fn read_message(
     alloc: Global,
     reader: &mut BitReader<'_>,
 ) -> Result<Values, Refusal<<Message as Format>::Fault>>
-    ensures read { IfOk result (λ x. Starts (⟦<Message as Format>⟧.reads format.now) (bits_left reader.old)
+    ensures read { IfOk result
+        (λ x. Starts (⟦<Message as Format>⟧.reads format.now) (bits_left reader.old)
         (⟦<Message as Format>⟧.plain x) (bits_left reader.new)) }
     ensures accepted { CanRead (⟦<Message as Format>⟧.reads format.now) (bits_left reader.old)
         → IsOkUnless result Refusal.Memory }
@@ -81,7 +82,8 @@ pub fn write_message(
     write(format, buffer, value)
 }
 
-/// A value of any format that was read, written again. Of a canonical format it is the front of what was there.
+/// A value of any format that was read, written again. Of a canonical format it is the front of
+/// what was there.
 pub fn copy<F: Format>(format: &F, alloc: Global, reader: &mut BitReader<'_>) -> Option<BitBuffer>
     ensures { F.is_canonical format.now
         → IfSome result (λ front. bits_left reader.old ≡ front ++ bits_left reader.new) }

@@ -76,7 +76,8 @@ fn a_value_is_refused_by_a_path_in_words(rt: HostRuntime) -> Result<(), Fail> {
 #[test]
 fn bits_are_refused_by_a_path_in_words(rt: HostRuntime) -> Result<(), Fail> {
     let format = family()?;
-    // From bit 4 on: presence 1, family name 00 00, one child 01, given name 00 00, and one bit of the age.
+    // From bit 4 on: presence 1, family name 00 00, one child 01, given name 00 00, and one bit of
+    // the age.
     let octets = [0b0000_1000u8, 0b0010_0000];
     let wrong = match found(&format, rt.alloc(), &octets, 4).err() {
         Some(wrong) => format!(in rt.alloc(); "{wrong}")?,

@@ -3,7 +3,7 @@
 use super::calls::{found, written};
 use asn1_formats::{
     Boolean, ConstrainedNumber, NoBit, Null, Number, PastWidth, Refusal, Short, Size, SizeFault,
-    SizeMisfit, WriteRefusal,
+    SizeMisfit, WideConstrainedNumber, WriteRefusal,
 };
 use std::test::Fail;
 
@@ -81,5 +81,38 @@ fn truth_and_nothing(rt: HostRuntime) -> Result<(), Fail> {
     let buffer = written(&Null {}, rt.alloc(), &())?;
     assert_eq!(rt; buffer.len(), 3);
     assert_eq!(rt; found(&Null {}, rt.alloc(), &[], 0)?, ((), 0));
+    Ok(())
+}
+
+#[test]
+fn numbers_between_bounds_of_128_bits(rt: HostRuntime) -> Result<(), Fail> {
+    // Three numbers from -2 to the 127 on have two bits.
+    let format = WideConstrainedNumber::new(i128::MIN, i128::MIN + 2);
+    let buffer = written(&format, rt.alloc(), &(i128::MIN + 2))?;
+    assert_eq!(rt; buffer.as_bytes(), [0b1111_0000].as_slice());
+    assert_eq!(rt;
+        found(&format, rt.alloc(), &[0b1111_0000], 3)?,
+        (i128::MIN + 2, 3)
+    );
+    assert_eq!(rt;
+        found(&format, rt.alloc(), &[0b1111_1000], 3).err(),
+        Some(Refusal::Wrong(SizeFault::PastMost { distance: 3 }))
+    );
+    assert_eq!(rt;
+        written(&format, rt.alloc(), &-5).err(),
+        Some(WriteRefusal::Wrong(SizeMisfit::AboveMost))
+    );
+    // All numbers have 128 bits: -1 lies 2 to the 127 less 1 above the least.
+    let whole = WideConstrainedNumber::new(i128::MIN, i128::MAX);
+    let buffer = written(&whole, rt.alloc(), &-1)?;
+    assert_eq!(rt; buffer.len(), 131);
+    let mut octets = [0xFF; 17];
+    octets[0] = 0xEF;
+    octets[16] = 0xE0;
+    assert_eq!(rt; buffer.as_bytes(), octets.as_slice());
+    let octets = [0xFF; 16];
+    assert_eq!(rt; found(&whole, rt.alloc(), &octets, 0)?, (i128::MAX, 0));
+    let octets = [0; 16];
+    assert_eq!(rt; found(&whole, rt.alloc(), &octets, 0)?, (i128::MIN, 0));
     Ok(())
 }

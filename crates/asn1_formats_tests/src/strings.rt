@@ -12,7 +12,8 @@ fn the_date_of_the_standard(rt: HostRuntime) -> Result<(), Fail> {
     let digits = [48, 49, 50, 51, 52, 53, 54, 55, 56, 57];
     let alphabet = CharacterAlphabet::new::<VisibleString>(Some(&digits), false);
     let item = Character::new(alphabet).ok_or("no digit stands twice")?;
-    // X.691 A.2: VisibleString (SIZE (8)) (FROM ("0".."9")), 19710917, has no length and four bits a character.
+    // X.691 A.2: VisibleString (SIZE (8)) (FROM ("0".."9")), 19710917, has no length and four bits
+    // a character.
     let date = SequenceOf {
         size: Size::new(8, 8),
         item,

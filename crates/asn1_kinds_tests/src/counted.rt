@@ -97,7 +97,8 @@ fn read_one(alloc: Global, view: BitStr<'_>) -> (Option<ReadError>, usize) {
 
 #[test]
 fn each_first_octet_is_a_length_or_refused(rt: HostRuntime) -> Result<(), Fail> {
-    // Behind the first octet stand 127 others, which begin with 01 AA: so many of them as may be are shortest.
+    // Behind the first octet stand 127 others, which begin with 01 AA: so many of them as may be
+    // are shortest.
     let behind = long(rt.alloc(), &[0x01], 0xAA, 126)?;
     for octet in 0..=255u8 {
         let mut octets = Vec::from_slice(rt.alloc(), &[octet])?;

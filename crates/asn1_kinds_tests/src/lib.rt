@@ -1,7 +1,7 @@
 //! Tests of the kinds of fields, and of long inputs: worked rows.
 //!
-//! They use public names only and are a crate of their own, so that `asn1_values` is proved once and not again with
-//! its tests.
+//! They use public names only and are a crate of their own, so that `asn1_values` is proved once
+//! and not again with its tests.
 #![tactic(auto)]
 
 #[cfg(test)]

@@ -20,8 +20,8 @@ fn reader_at_bit_3(octets: &[u8], len: usize) -> Result<BitReader<'_>, Fail> {
     Ok(BitReader::new(BitStr::new(octets, 3, count).ok_or("there")?))
 }
 
-/// Writes the fields behind three bits, and reads fields of the shapes back: whether they are the same, and nothing is
-/// left.
+/// Writes the fields behind three bits, and reads fields of the shapes back: whether they are the
+/// same, and nothing is left.
 fn is_read_back(
     alloc: Global,
     fields: &[Field<'_, '_>],

@@ -26,7 +26,8 @@ use Rattle.asn1_per.specs.declared.extensible_number.BeyondNumberFault.TheVarian
 use Rattle.asn1_per.specs.declared.length.LongLength.{LongLength}
 use Rattle.asn1_per.specs.Extensions.{IsMarked, MarkedFault}
 use Rattle.asn1_per.specs.ExtensionLaws.{marked_reads_one, marked_spells_one, marked_names_fault}
-use Rattle.asn1_per.specs.Integers.{IsUnconstrained, HoldsInteger, IsLongInteger}
+use Rattle.asn1_formats.specs.IntegerOctets.{HoldsInteger}
+use Rattle.asn1_per.specs.Integers.{IsUnconstrained, IsLongInteger}
 use Rattle.asn1_per.specs.IntegerLaws.{unconstrained_reads_one, unconstrained_spells_one, unconstrained_names_fault, unconstrained_names_misfit}
 use Rattle.asn1_per.specs.ExtensibleIntegers.{IsWithinRoot, IsOutsideRoot, IsBeyondNumber, IsBeyondNumberFault, IsBeyondNumberMisfit}
 

@@ -1,7 +1,6 @@
 -- Whole numbers behind the number of their octets (X.691 11.8).
 use Rattle.std.specs.Prelude.{◌≡◌, ℕ, ℤ, ◌*◌, ◌^◌, ◌≤◌, Bool, List, length, take}
 use Rattle.asn1_bits.specs.Bits.{bits}
-use Rattle.asn1_number.specs.Octets.{IsShortest}
 use Rattle.asn1_number.specs.Shortest.{shortest_octets}
 use Rattle.asn1_values.specs.Wrong.{IsNoInteger}
 use Rattle.asn1_formats.specs.Numbers.{IsShort}
@@ -15,10 +14,6 @@ use Rattle.asn1_per.specs.Lengths.{IsLengthDeterminant, LengthFaultIs}
 abbrev pub IsUnconstrained : ℤ → List Bool → Type 0
 IsUnconstrained n list =
     Numbered (λ k l. IsLengthDeterminant k l) (λ m. length (shortest_octets m)) (λ m l. l ≡ bits (shortest_octets m)) n list
-
--- the bits are those of the shortest octets of a number
-abbrev pub HoldsInteger : List Bool → Type 0
-HoldsInteger list = (octets : List ℕ) × (n : ℤ) × IsShortest n octets × (list ≡ bits octets)
 
 -- their number is wrong, or bits of them are missing, or they are not the shortest of a number
 abbrev pub UnconstrainedFaultIs : List Bool → UnconstrainedFault → Type 0

@@ -7,23 +7,11 @@ use Rattle.asn1_bits.specs.NumberLaws.{digits-append, digits-low}
 use Rattle.asn1_formats.specs.Spelling.{Starts, CanRead, Measures, ReadsOne, SpellsOne, NamesFault, NamesMisfit}
 use Rattle.asn1_formats.specs.Numbers.{IsNumber, IsShort}
 use Rattle.asn1_formats.specs.SpellingLaws.{number_reads_one, number_short}
+use Rattle.asn1_formats.specs.IntegerOctetLaws.{two_octets}
 use Rattle.asn1_per.specs.declared.length.LengthFault.{LengthFault}
 use Rattle.asn1_per.specs.declared.length.LengthFault.TheVariants.{Short, Longer, Fragment}
 use Rattle.asn1_per.specs.declared.length.LongLength.{LongLength}
 use Rattle.asn1_per.specs.Lengths.{IsLengthDeterminant, IsCut, LengthFaultIs}
-
--- ---- two octets as one number
-
--- the digits of two octets, one after another
-pub two_octets : (a b : ℕ) → b < 256 → digits (256 * a + b) 16 ≡ digits a 8 ++ digits b 8
-two_octets a b lt =
-    let n = 256 * a + b in
-    let high : n / 2 ^ 8 ≡ a = omega arith in
-    let same : n ≡ a * 2 ^ 8 + b = omega arith in
-    digits-append n 8 8
-    ∙ ap (λ (k : ℕ). digits k 8 ++ digits n 8) high
-    ∙ ap (λ (k : ℕ). digits a 8 ++ digits k 8) same
-    ∙ ap (λ (l : List Bool). digits a 8 ++ l) (digits-low a b 8)
 
 pub joined : (list mid rest : List Bool) (a b : ℕ) → Starts (IsNumber 8) list a mid → Starts (IsNumber 8) mid b rest
     → Starts (IsNumber 16) list (256 * a + b) rest

@@ -6,8 +6,8 @@ use asn1_formats::{Format, InThen, Refusal, next_bit, push_bit, sum_of};
 use asn1_values::{BitBuffer, BitReader};
 use std::alloc::{AllocError, Global};
 
-/// A known addition behind an extension marker, OPTIONAL as a sender of an older version leaves it out, and those that
-/// follow it.
+/// A known addition behind an extension marker, OPTIONAL as a sender of an older version leaves it
+/// out, and those that follow it.
 #[derive(Clone, Copy, Debug)]
 pub struct Addition<A, D> {
     /// The addition's [`OpenType`](crate::OpenType).
@@ -16,7 +16,7 @@ pub struct Addition<A, D> {
     pub others: D,
 }
 
-impl<A: Open, D: Additions> Additions for Addition<A, D> {
+impl<A: Open + Format, D: Additions> Additions for Addition<A, D> {
     ghost use Rattle.std.specs.Prelude.{◌+◌, Option, None};
     ghost use Rattle.asn1_formats.specs.Combined.{plain_option, Both, BothMisfit, MaybeMisfit};
     ghost use Rattle.asn1_formats.specs.Sequences.{IfThere};
@@ -42,7 +42,8 @@ impl<A: Open, D: Additions> Additions for Addition<A, D> {
 
     ghost shows = { λ f v. shows_addition (D.shows f.others) v };
 
-    ghost spells = { λ f v list. Both (λ o l. IfThere (A.spells f.part) o l) (D.spells f.others) v list };
+    ghost spells = { λ f v list.
+        Both (λ o l. IfThere (A.spells f.part) o l) (D.spells f.others) v list };
 
     ghost reads = { λ f p v list. ReadsAddition (A.reads f.part) (D.reads f.others) p v list };
 
@@ -50,7 +51,8 @@ impl<A: Open, D: Additions> Additions for Addition<A, D> {
         AdditionFault (A.reads f.part) (A.is_fault f.part) (D.is_fault f.others) p list e };
 
     ghost is_misfit = { λ f v e.
-        BothMisfit (λ o l. IfThere (A.spells f.part) o l) (λ o e. MaybeMisfit (A.is_misfit f.part) o e)
+        BothMisfit (λ o l. IfThere (A.spells f.part) o l)
+        (λ o e. MaybeMisfit (A.is_misfit f.part) o e)
         (D.is_misfit f.others) v e };
 
     ghost owns_nothing = { λ f. A.owns_nothing f.part × D.owns_nothing f.others };
@@ -143,25 +145,31 @@ impl<A: Open, D: Additions> Additions for Addition<A, D> {
         }
     }
 
-    ghost as_many = { λ f v. addition_size (D.shows f.others) (D.count f.others) (D.as_many f.others) v };
+    ghost as_many = { λ f v.
+        addition_size (D.shows f.others) (D.count f.others) (D.as_many f.others) v };
 
-    ghost some = { λ f v other. addition_some (D.shows f.others) (D.none f.others) (D.some f.others) v other };
+    ghost some = { λ f v other.
+        addition_some (D.shows f.others) (D.none f.others) (D.some f.others) v other };
 
-    ghost alone = { λ f v same. addition_alone (D.shows f.others) (D.none f.others) (D.alone f.others) v same };
+    ghost alone = { λ f v same.
+        addition_alone (D.shows f.others) (D.none f.others) (D.alone f.others) v same };
 
     ghost spelled_is_read = { λ f v list s.
-        addition_read (A.spells f.part) (A.reads f.part) (D.shows f.others) (D.spells f.others) (D.reads f.others)
+        addition_read (A.spells f.part) (A.reads f.part) (D.shows f.others) (D.spells f.others)
+        (D.reads f.others)
         (A.spelled_is_read f.part) (D.spelled_is_read f.others) v list s };
 
     ghost reads_one = { λ f p.
-        addition_reads_one (A.reads f.part) (D.reads f.others) (A.reads_one f.part) (D.reads_one f.others) p };
+        addition_reads_one (A.reads f.part) (D.reads f.others) (A.reads_one f.part)
+        (D.reads_one f.others) p };
 
     ghost spells_one = { λ f.
         both_spells_one (λ o l. IfThere (A.spells f.part) o l) (D.spells f.others)
         (optional_spells_one (A.spells f.part) (A.spells_one f.part)) (D.spells_one f.others) };
 
     ghost names_fault = { λ f p.
-        addition_names_fault (A.reads f.part) (A.is_fault f.part) (D.reads f.others) (D.is_fault f.others)
+        addition_names_fault (A.reads f.part) (A.is_fault f.part) (D.reads f.others)
+        (D.is_fault f.others)
         (A.reads_one f.part) (A.names_fault f.part) (D.names_fault f.others) p };
 
     ghost names_misfit = { λ f.
@@ -171,7 +179,7 @@ impl<A: Open, D: Additions> Additions for Addition<A, D> {
         (D.names_misfit f.others) };
 }
 
-impl<A: Open, D: Additions> Addition<A, D> {
+impl<A: Open + Format, D: Additions> Addition<A, D> {
     ghost use Rattle.std.specs.Prelude.{◌≡◌, ⊤, Bool, true, false, List, [], ◌∷◌, ◌⊎◌, Option, OnOk, OnErr, IfOk, IfErr};
     ghost use Rattle.asn1_bits.specs.BitReader.{bits_left};
     ghost use Rattle.asn1_formats.specs.Spelling.{Starts, Measures, IsWritten, Extends};
@@ -202,7 +210,8 @@ impl<A: Open, D: Additions> Addition<A, D> {
     fn measure_part(&self, value: &Option<A::Value>) -> Result<Option<usize>, A::Misfit>
         ensures measured { IfOk result (Measures (λ o l. IfThere (A.spells self.now.part) o l)
             (plain_option A.plain value.now)) }
-        ensures misfit { IfErr result (λ e. MaybeMisfit (A.is_misfit self.now.part) (plain_option A.plain value.now) e) }
+        ensures misfit { IfErr result
+            (λ e. MaybeMisfit (A.is_misfit self.now.part) (plain_option A.plain value.now) e) }
     {
         match value {
             None => Ok(Some(0)),
@@ -218,8 +227,10 @@ impl<A: Open, D: Additions> Addition<A, D> {
         reader: &mut BitReader<'_>,
     ) -> Result<Option<A::Value>, Refusal<A::Fault>>
         ensures read { IfOk result (λ x. IsPassed (A.reads self.now.part) (bits_left presence.old)
-            (bits_left presence.new) (bits_left reader.old) (bits_left reader.new) (plain_option A.plain x)) }
-        ensures refused { IfErr result (IsRefusal (IsPassFault (A.is_fault self.now.part) (bits_left presence.old)
+            (bits_left presence.new) (bits_left reader.old) (bits_left reader.new)
+            (plain_option A.plain x)) }
+        ensures refused { IfErr result
+            (IsRefusal (IsPassFault (A.is_fault self.now.part) (bits_left presence.old)
             (bits_left reader.old)) (¬ (A.owns_nothing self.now.part))) }
     {
         if presence.len() == 0 {
@@ -247,9 +258,11 @@ pub(crate) fn skip_part<F: Format>(
     presence: &mut BitReader<'_>,
     reader: &mut BitReader<'_>,
 ) -> Result<(), F::Fault>
-    ensures skipped { OnOk result ((o : Option F.Plain) × IsPassed (F.reads format.now) (bits_left presence.old)
+    ensures skipped { OnOk result
+        ((o : Option F.Plain) × IsPassed (F.reads format.now) (bits_left presence.old)
         (bits_left presence.new) (bits_left reader.old) (bits_left reader.new) o) }
-    ensures fault { IfErr result (IsPassFault (F.is_fault format.now) (bits_left presence.old) (bits_left reader.old)) }
+    ensures fault { IfErr result
+        (IsPassFault (F.is_fault format.now) (bits_left presence.old) (bits_left reader.old)) }
 {
     if presence.len() == 0 {
         return Ok(());

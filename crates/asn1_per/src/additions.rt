@@ -13,8 +13,8 @@ use asn1_values::{BitBuffer, BitReader};
 use std::alloc::{AllocError, Global};
 
 /// The known additions of a SEQUENCE or SET with an extension marker, which follow it in this order
-/// ([`Addition`](crate::Addition), and [`NoAdditions`](crate::NoAdditions) at the end). [`Extensible`](crate::Extensible) makes
-/// a format of a root and its additions.
+/// ([`Addition`](crate::Addition), and [`NoAdditions`](crate::NoAdditions) at the end).
+/// [`Extensible`](crate::Extensible) makes a format of a root and its additions.
 pub trait Additions {
     /// The values.
     type Value: Drop;
@@ -77,7 +77,8 @@ pub trait Additions {
         buffer: &mut BitBuffer,
         value: &Self::Value,
     ) -> Result<(), Refusal<Self::Misfit>>
-        ensures written { OnOk result (IsWritten (spells self.now) (plain value.now) buffer.old buffer.new) }
+        ensures written { OnOk result
+            (IsWritten (spells self.now) (plain value.now) buffer.old buffer.new) }
         ensures refused { IfErr result (IsRefusal (is_misfit self.now (plain value.now)) ⊤) }
         ensures kept { OnErr result (Extends buffer.old buffer.new) };
 
@@ -86,8 +87,8 @@ pub trait Additions {
         ensures measured { IfOk result (Measures (spells self.now) (plain value.now)) }
         ensures misfit { IfErr result (is_misfit self.now (plain value.now)) };
 
-    /// Reads the additions that the presence bits tell of. Where there are fewer bits than known additions, the others are
-    /// missing; where there are more, what they tell of is passed over.
+    /// Reads the additions that the presence bits tell of. Where there are fewer bits than known
+    /// additions, the others are missing; where there are more, what they tell of is passed over.
     fn take(
         &self,
         alloc: Global,
@@ -97,7 +98,8 @@ pub trait Additions {
         ensures read { IfOk result (λ x. Starts (reads self.now (bits_left presence.old))
             (bits_left reader.old) (plain x) (bits_left reader.new)) }
         ensures refused { IfErr result (IsRefusal
-            (is_fault self.now (bits_left presence.old) (bits_left reader.old)) (¬ (owns_nothing self.now))) };
+            (is_fault self.now (bits_left presence.old) (bits_left reader.old))
+            (¬ (owns_nothing self.now))) };
 
     /// Goes past the additions that the presence bits tell of, without memory.
     fn skip(
@@ -105,9 +107,11 @@ pub trait Additions {
         presence: &mut BitReader<'_>,
         reader: &mut BitReader<'_>,
     ) -> Result<(), Self::Fault>
-        ensures skipped { OnOk result ((x : Plain) × Starts (reads self.now (bits_left presence.old))
+        ensures skipped { OnOk result
+            ((x : Plain) × Starts (reads self.now (bits_left presence.old))
             (bits_left reader.old) x (bits_left reader.new)) }
-        ensures fault { IfErr result (is_fault self.now (bits_left presence.old) (bits_left reader.old)) };
+        ensures fault { IfErr result
+            (is_fault self.now (bits_left presence.old) (bits_left reader.old)) };
 
     /// Each value has a presence bit for each known addition.
     ghost as_many: { (f : Self) (x : Plain) → length (shows f x) ≡ count f };
@@ -119,7 +123,8 @@ pub trait Additions {
     ghost alone: { (f : Self) (x : Plain) → x ≡ none f → ¬ (HasOne (shows f x)) };
 
     /// What spells a value is read as it behind its presence bits.
-    ghost spelled_is_read: { (f : Self) (x : Plain) (list : List Bool) → spells f x list → reads f (shows f x) x list };
+    ghost spelled_is_read: { (f : Self) (x : Plain) (list : List Bool) → spells f x list
+        → reads f (shows f x) x list };
 
     /// Behind presence bits, a list begins with one value at most.
     ghost reads_one: { (f : Self) (p : List Bool) → ReadsOne (reads f p) };

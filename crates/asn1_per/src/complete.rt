@@ -7,8 +7,8 @@ use asn1_formats::{Format, Refusal, next_number, push_number};
 use asn1_values::{BitBuffer, BitReader};
 use std::alloc::Global;
 
-/// A complete encoding of a value: its bits, and zeros to the end of their last octet; one zero octet where it has none
-/// (X.691 11.1). What stands behind the octets is left.
+/// A complete encoding of a value: its bits, and zeros to the end of their last octet; one zero
+/// octet where it has none (X.691 11.1). What stands behind the octets is left.
 #[derive(Clone, Copy, Debug)]
 pub struct Complete<F> {
     /// The value's format.
@@ -138,7 +138,8 @@ impl<F: Format> Format for Complete<F> {
         }
     }
 
-    ghost spelled_is_read = { λ f. complete_within (F.spells f.part) (F.reads f.part) (F.spelled_is_read f.part) };
+    ghost spelled_is_read = { λ f.
+        complete_within (F.spells f.part) (F.reads f.part) (F.spelled_is_read f.part) };
 
     ghost read_is_spelled = { λ f canonical.
         complete_within (F.reads f.part) (F.spells f.part) (F.read_is_spelled f.part canonical) };
@@ -148,7 +149,8 @@ impl<F: Format> Format for Complete<F> {
     ghost spells_one = { λ f. complete_spells_one (F.spells f.part) (F.spells_one f.part) };
 
     ghost names_fault = { λ f.
-        complete_names_fault (F.reads f.part) (F.is_fault f.part) (F.reads_one f.part) (F.names_fault f.part) };
+        complete_names_fault (F.reads f.part) (F.is_fault f.part) (F.reads_one f.part)
+        (F.names_fault f.part) };
 
     ghost names_misfit = { λ f.
         complete_names_misfit (F.spells f.part) (F.is_misfit f.part) (F.names_misfit f.part) };

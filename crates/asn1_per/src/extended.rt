@@ -5,8 +5,8 @@ use asn1_formats::{Format, OneOf, Refusal, next_bit, push_bit, sum_of};
 use asn1_values::{BitBuffer, BitReader};
 use std::alloc::Global;
 
-/// Values of a root and of its extension, told apart by a bit: 0 and the root's form, or 1 and the extension's. So CHOICE
-/// and ENUMERATED with an extension marker have them (X.691 14.3, 23.5).
+/// Values of a root and of its extension, told apart by a bit: 0 and the root's form, or 1 and the
+/// extension's. So CHOICE and ENUMERATED with an extension marker have them (X.691 14.3, 23.5).
 #[derive(Clone, Copy, Debug)]
 pub struct Extended<A, B> {
     /// The values in front of the marker.
@@ -32,12 +32,15 @@ impl<A: Format, B: Format> Format for Extended<A, B> {
     ghost plain = { λ v. plain_one_of A.plain B.plain v };
 
     ghost spells = { λ f v list.
-        IsMarked (λ w l. IsFirst (A.spells f.root) w l) (λ w l. IsOther (B.spells f.extension) w l) v list };
+        IsMarked (λ w l. IsFirst (A.spells f.root) w l)
+        (λ w l. IsOther (B.spells f.extension) w l) v list };
 
     ghost reads = { λ f v list.
-        IsMarked (λ w l. IsFirst (A.reads f.root) w l) (λ w l. IsOther (B.reads f.extension) w l) v list };
+        IsMarked (λ w l. IsFirst (A.reads f.root) w l)
+        (λ w l. IsOther (B.reads f.extension) w l) v list };
 
-    ghost is_fault = { λ f list e. MarkedFault (A.is_fault f.root) (B.is_fault f.extension) list e };
+    ghost is_fault = { λ f list e.
+        MarkedFault (A.is_fault f.root) (B.is_fault f.extension) list e };
 
     ghost is_misfit = { λ f v e. EitherMisfit (A.is_misfit f.root) (B.is_misfit f.extension) v e };
 
@@ -125,24 +128,30 @@ impl<A: Format, B: Format> Format for Extended<A, B> {
     }
 
     ghost spelled_is_read = { λ f.
-        extended_within (A.spells f.root) (A.reads f.root) (B.spells f.extension) (B.reads f.extension)
+        extended_within (A.spells f.root) (A.reads f.root) (B.spells f.extension)
+        (B.reads f.extension)
         (A.spelled_is_read f.root) (B.spelled_is_read f.extension) };
 
     ghost read_is_spelled = { λ f canonical.
-        extended_within (A.reads f.root) (A.spells f.root) (B.reads f.extension) (B.spells f.extension)
+        extended_within (A.reads f.root) (A.spells f.root) (B.reads f.extension)
+        (B.spells f.extension)
         (A.read_is_spelled f.root canonical.0) (B.read_is_spelled f.extension canonical.1) };
 
     ghost reads_one = { λ f.
-        extended_reads_one (A.reads f.root) (B.reads f.extension) (A.reads_one f.root) (B.reads_one f.extension) };
+        extended_reads_one (A.reads f.root) (B.reads f.extension) (A.reads_one f.root)
+        (B.reads_one f.extension) };
 
     ghost spells_one = { λ f.
-        extended_spells_one (A.spells f.root) (B.spells f.extension) (A.spells_one f.root) (B.spells_one f.extension) };
+        extended_spells_one (A.spells f.root) (B.spells f.extension) (A.spells_one f.root)
+        (B.spells_one f.extension) };
 
     ghost names_fault = { λ f.
-        extended_names_fault (A.reads f.root) (B.reads f.extension) (A.is_fault f.root) (B.is_fault f.extension)
+        extended_names_fault (A.reads f.root) (B.reads f.extension) (A.is_fault f.root)
+        (B.is_fault f.extension)
         (A.names_fault f.root) (B.names_fault f.extension) };
 
     ghost names_misfit = { λ f.
-        extended_names_misfit (A.spells f.root) (B.spells f.extension) (A.is_misfit f.root) (B.is_misfit f.extension)
+        extended_names_misfit (A.spells f.root) (B.spells f.extension) (A.is_misfit f.root)
+        (B.is_misfit f.extension)
         (A.names_misfit f.root) (B.names_misfit f.extension) };
 }

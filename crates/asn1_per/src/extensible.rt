@@ -6,12 +6,12 @@ use asn1_formats::{Format, InThen, Refusal, next_bit, push_bit, sum_of};
 use asn1_values::{BitBuffer, BitReader};
 use std::alloc::Global;
 
-/// A SEQUENCE or SET with an extension marker: a bit, the root, and where the bit is 1 the additions, as many presence bits
-/// as the sender knows additions and then an open type for each that is there (X.691 19.1, 19.7 to 19.9). The bit is 1 where
-/// an addition is there.
+/// A SEQUENCE or SET with an extension marker: a bit, the root, and where the bit is 1 the
+/// additions, as many presence bits as the sender knows additions and then an open type for each
+/// that is there (X.691 19.1, 19.7 to 19.9). The bit is 1 where an addition is there.
 ///
-/// Reading takes additions of other versions too: those that a sender does not know are missing, and those that are not
-/// known here are passed over. So more is read than is written.
+/// Reading takes additions of other versions too: those that a sender does not know are missing,
+/// and those that are not known here are passed over. So more is read than is written.
 #[derive(Clone, Copy, Debug)]
 pub struct Extensible<A, D> {
     /// The components in front of the marker, mostly a [`Sequence`](asn1_formats::Sequence).
@@ -54,14 +54,17 @@ impl<A: Format, D: Additions> Format for Extensible<A, D> {
 
     ghost reads = { λ f v list.
         IsMarked (λ w m. IsRootAlone (D.none f.additions) (A.reads f.root) w m)
-        (λ w m. IsExtended (A.reads f.root) (λ y l. ReadsAdditions (D.reads f.additions) y l) w m) v list };
+        (λ w m. IsExtended (A.reads f.root) (λ y l. ReadsAdditions (D.reads f.additions) y l) w m)
+        v list };
 
     ghost is_fault = { λ f list e.
-        ExtensibleFault (A.reads f.root) (A.is_fault f.root) (λ m h. AdditionsFault (D.is_fault f.additions) m h)
+        ExtensibleFault (A.reads f.root) (A.is_fault f.root)
+        (λ m h. AdditionsFault (D.is_fault f.additions) m h)
         list e };
 
     ghost is_misfit = { λ f v e.
-        IsExtensibleMisfit (D.none f.additions) (A.spells f.root) (A.is_misfit f.root) (D.count f.additions)
+        IsExtensibleMisfit (D.none f.additions) (A.spells f.root) (A.is_misfit f.root)
+        (D.count f.additions)
         (D.is_misfit f.additions) v e };
 
     ghost owns_nothing = { λ f. A.owns_nothing f.root × D.owns_nothing f.additions };
@@ -163,15 +166,19 @@ impl<A: Format, D: Additions> Format for Extensible<A, D> {
     ghost spells_one = { λ f.
         extensible_spells_one (D.none f.additions) (A.spells f.root)
         (λ y l. SpellsAdditions (D.shows f.additions) (D.spells f.additions) y l)
-        (spelled_some (D.none f.additions) (D.shows f.additions) (D.spells f.additions) (D.alone f.additions))
+        (spelled_some (D.none f.additions) (D.shows f.additions) (D.spells f.additions)
+        (D.alone f.additions))
         (A.spells_one f.root)
-        (additions_spell_one (D.shows f.additions) (D.spells f.additions) (D.spells_one f.additions)) };
+        (additions_spell_one (D.shows f.additions) (D.spells f.additions)
+        (D.spells_one f.additions)) };
 
     ghost names_fault = { λ f.
         extensible_names_fault (D.none f.additions) (A.reads f.root)
         (λ y l. ReadsAdditions (D.reads f.additions) y l) (A.is_fault f.root)
-        (λ m h. AdditionsFault (D.is_fault f.additions) m h) (A.reads_one f.root) (A.names_fault f.root)
-        (additions_name_fault (D.reads f.additions) (D.is_fault f.additions) (D.names_fault f.additions)) };
+        (λ m h. AdditionsFault (D.is_fault f.additions) m h) (A.reads_one f.root)
+        (A.names_fault f.root)
+        (additions_name_fault (D.reads f.additions) (D.is_fault f.additions)
+        (D.names_fault f.additions)) };
 
     ghost names_misfit = { λ f.
         extensible_names_misfit (D.none f.additions) (A.spells f.root) (D.shows f.additions)
@@ -195,7 +202,8 @@ impl<A: Format, D: Additions> Extensible<A, D> {
         ensures read { IfOk result (λ v. Starts (λ w m. IsExtended (A.reads self.now.root)
             (λ y l. ReadsAdditions (D.reads self.now.additions) y l) w m) (bits_left reader.old)
             (A.plain v.0, D.plain v.1) (bits_left reader.new)) }
-        ensures refused { IfErr result (IsRefusal (λ e. ExtendedFault (A.reads self.now.root) (A.is_fault self.now.root)
+        ensures refused { IfErr result
+            (IsRefusal (λ e. ExtendedFault (A.reads self.now.root) (A.is_fault self.now.root)
             (λ m h. AdditionsFault (D.is_fault self.now.additions) m h) (bits_left reader.old) e)
             (¬ (A.owns_nothing self.now.root × D.owns_nothing self.now.additions))) }
     {
@@ -216,10 +224,12 @@ impl<A: Format, D: Additions> Extensible<A, D> {
         &self,
         reader: &mut BitReader<'_>,
     ) -> Result<(), InRootOrAdditions<A::Fault, InAdditions<D::Fault>>>
-        ensures skipped { OnOk result ((v : A.Plain × D.Plain) × Starts (λ w m. IsExtended (A.reads self.now.root)
+        ensures skipped { OnOk result
+            ((v : A.Plain × D.Plain) × Starts (λ w m. IsExtended (A.reads self.now.root)
             (λ y l. ReadsAdditions (D.reads self.now.additions) y l) w m) (bits_left reader.old)
             v (bits_left reader.new)) }
-        ensures fault { IfErr result (λ e. ExtendedFault (A.reads self.now.root) (A.is_fault self.now.root)
+        ensures fault { IfErr result
+            (λ e. ExtendedFault (A.reads self.now.root) (A.is_fault self.now.root)
             (λ m h. AdditionsFault (D.is_fault self.now.additions) m h) (bits_left reader.old) e) }
     {
         match self.root.skip(reader) {

@@ -9,8 +9,9 @@ use asn1_formats::{ConstrainedNumber, Format, Refusal, SizeFault, next_bit, push
 use asn1_values::{BitBuffer, BitReader, Integer};
 use std::alloc::Global;
 
-/// INTEGER with an extension marker, as `INTEGER (0..9999, ...)`: a bit 0 and the form of the root for its numbers, a bit 1
-/// and the form without bounds for any other (X.691 13.1). A number of the root behind a bit 1 is refused.
+/// INTEGER with an extension marker, as `INTEGER (0..9999, ...)`: a bit 0 and the form of the root
+/// for its numbers, a bit 1 and the form without bounds for any other (X.691 13.1). A number of the
+/// root behind a bit 1 is refused.
 #[derive(Clone, Copy, Debug)]
 pub struct ExtensibleNumber {
     /// The numbers in front of the marker.
@@ -70,13 +71,16 @@ impl Format for ExtensibleNumber {
     ghost plain = { λ n. n };
 
     ghost spells = { λ f n list.
-        IsMarked (IsConstrained f.root.least f.root.most) (IsBeyondNumber f.root.least f.root.most) n list };
+        IsMarked (IsConstrained f.root.least f.root.most)
+        (IsBeyondNumber f.root.least f.root.most) n list };
 
     ghost reads = { λ f n list.
-        IsMarked (IsConstrained f.root.least f.root.most) (IsBeyondNumber f.root.least f.root.most) n list };
+        IsMarked (IsConstrained f.root.least f.root.most)
+        (IsBeyondNumber f.root.least f.root.most) n list };
 
     ghost is_fault = { λ f list e.
-        MarkedFault (IsConstrainedFault f.root.least f.root.most) (IsBeyondNumberFault f.root.least f.root.most) list e };
+        MarkedFault (IsConstrainedFault f.root.least f.root.most)
+        (IsBeyondNumberFault f.root.least f.root.most) list e };
 
     ghost is_misfit = { λ f n e. IsBeyondNumberMisfit f.root.least f.root.most n e };
 
@@ -153,10 +157,12 @@ impl Format for ExtensibleNumber {
     }
 
     ghost spelled_is_read = { λ f. itself (λ n list.
-        IsMarked (IsConstrained f.root.least f.root.most) (IsBeyondNumber f.root.least f.root.most) n list) };
+        IsMarked (IsConstrained f.root.least f.root.most)
+        (IsBeyondNumber f.root.least f.root.most) n list) };
 
     ghost read_is_spelled = { λ f canonical. itself (λ n list.
-        IsMarked (IsConstrained f.root.least f.root.most) (IsBeyondNumber f.root.least f.root.most) n list) };
+        IsMarked (IsConstrained f.root.least f.root.most)
+        (IsBeyondNumber f.root.least f.root.most) n list) };
 
     ghost reads_one = { λ f. number_reads_one f.root.least f.root.most };
 
@@ -177,9 +183,11 @@ impl ExtensibleNumber {
         alloc: Global,
         reader: &mut BitReader<'_>,
     ) -> Result<Integer, Refusal<BeyondNumberFault>>
-        ensures read { IfOk result (λ n. Starts (IsBeyondNumber self.now.root.least self.now.root.most)
+        ensures read { IfOk result
+            (λ n. Starts (IsBeyondNumber self.now.root.least self.now.root.most)
             (bits_left reader.old) n (bits_left reader.new)) }
-        ensures refused { IfErr result (IsRefusal (IsBeyondNumberFault self.now.root.least self.now.root.most
+        ensures refused { IfErr result
+            (IsRefusal (IsBeyondNumberFault self.now.root.least self.now.root.most
             (bits_left reader.old)) (¬ ⊥)) }
     {
         match (UnconstrainedNumber {}).take(alloc, reader) {
@@ -194,7 +202,8 @@ impl ExtensibleNumber {
 
     /// Goes past a number outside the root, without memory.
     fn skip_beyond(&self, reader: &mut BitReader<'_>) -> Result<(), BeyondNumberFault>
-        ensures skipped { OnOk result ((n : ℤ) × Starts (IsBeyondNumber self.now.root.least self.now.root.most)
+        ensures skipped { OnOk result
+            ((n : ℤ) × Starts (IsBeyondNumber self.now.root.least self.now.root.most)
             (bits_left reader.old) n (bits_left reader.new)) }
         ensures fault { IfErr result (IsBeyondNumberFault self.now.root.least self.now.root.most
             (bits_left reader.old)) }

@@ -9,8 +9,9 @@ use asn1_formats::{Counts, Format, Refusal, Size, SizeFault, next_bit, push_bit,
 use asn1_values::{BitBuffer, BitReader};
 use std::alloc::Global;
 
-/// A size with an extension marker, as `SIZE (1..64, ...)` has it: a bit 0 and the root's form for a size of the root, a bit
-/// 1 and a length without bounds for any other (X.691 17.3, 20.4, 30.4). A size of the root behind a bit 1 is refused.
+/// A size with an extension marker, as `SIZE (1..64, ...)` has it: a bit 0 and the root's form for
+/// a size of the root, a bit 1 and a length without bounds for any other (X.691 17.3, 20.4, 30.4).
+/// A size of the root behind a bit 1 is refused.
 #[derive(Clone, Copy, Debug)]
 pub struct ExtensibleSize {
     /// The sizes in front of the marker.
@@ -61,7 +62,8 @@ impl Format for ExtensibleSize {
         IsMarked (IsSize f.root.least f.root.most) (IsBeyondRoot f.root.least f.root.most) n list };
 
     ghost is_fault = { λ f list e.
-        MarkedFault (IsSizeFault f.root.least f.root.most) (IsBeyondRootFault f.root.least f.root.most) list e };
+        MarkedFault (IsSizeFault f.root.least f.root.most)
+        (IsBeyondRootFault f.root.least f.root.most) list e };
 
     ghost is_misfit = { λ f n e. IsBeyondMisfit f.root.least f.root.most n e };
 
@@ -116,18 +118,22 @@ impl Format for ExtensibleSize {
     }
 
     ghost spelled_is_read = { λ f. itself (λ n list.
-        IsMarked (IsSize f.root.least f.root.most) (IsBeyondRoot f.root.least f.root.most) n list) };
+        IsMarked (IsSize f.root.least f.root.most)
+        (IsBeyondRoot f.root.least f.root.most) n list) };
 
     ghost read_is_spelled = { λ f canonical. itself (λ n list.
-        IsMarked (IsSize f.root.least f.root.most) (IsBeyondRoot f.root.least f.root.most) n list) };
+        IsMarked (IsSize f.root.least f.root.most)
+        (IsBeyondRoot f.root.least f.root.most) n list) };
 
     ghost reads_one = { λ f. extensible_size_reads_one f.root.least f.root.most };
 
     ghost spells_one = { λ f. extensible_size_spells_one f.root.least f.root.most f.root.ordered };
 
-    ghost names_fault = { λ f. extensible_size_names_fault f.root.least f.root.most f.root.ordered };
+    ghost names_fault = { λ f.
+        extensible_size_names_fault f.root.least f.root.most f.root.ordered };
 
-    ghost names_misfit = { λ f. extensible_size_names_misfit f.root.least f.root.most f.root.ordered };
+    ghost names_misfit = { λ f.
+        extensible_size_names_misfit f.root.least f.root.most f.root.ordered };
 }
 
 impl Counts for ExtensibleSize {
@@ -143,7 +149,8 @@ impl Counts for ExtensibleSize {
         IsMarked (IsSize f.root.least f.root.most) (IsBeyondRoot f.root.least f.root.most) n list };
 
     ghost is_count_fault = { λ f list e.
-        MarkedFault (IsSizeFault f.root.least f.root.most) (IsBeyondRootFault f.root.least f.root.most) list e };
+        MarkedFault (IsSizeFault f.root.least f.root.most)
+        (IsBeyondRootFault f.root.least f.root.most) list e };
 
     ghost is_count_misfit = { λ f n e. IsBeyondMisfit f.root.least f.root.most n e };
 
@@ -174,11 +181,14 @@ impl Counts for ExtensibleSize {
 
     ghost reads_one_count = { λ f. extensible_size_reads_one f.root.least f.root.most };
 
-    ghost spells_one_count = { λ f. extensible_size_spells_one f.root.least f.root.most f.root.ordered };
+    ghost spells_one_count = { λ f.
+        extensible_size_spells_one f.root.least f.root.most f.root.ordered };
 
-    ghost names_count_fault = { λ f. extensible_size_names_fault f.root.least f.root.most f.root.ordered };
+    ghost names_count_fault = { λ f.
+        extensible_size_names_fault f.root.least f.root.most f.root.ordered };
 
-    ghost names_count_misfit = { λ f. extensible_size_names_misfit f.root.least f.root.most f.root.ordered };
+    ghost names_count_misfit = { λ f.
+        extensible_size_names_misfit f.root.least f.root.most f.root.ordered };
 }
 
 ghost use Rattle.std.specs.Prelude.{⊤, OnOk, OnErr, ◌^◌, ◌≤◌};
@@ -190,7 +200,8 @@ ghost use Rattle.asn1_per.specs.Lengths.{IsLengthDeterminant};
 /// Appends a bit 1 and a length without bounds.
 fn append_beyond_root(buffer: &mut BitBuffer, value: &u64) -> Result<(), Refusal<LongLength>>
     ensures written { OnOk result
-        (IsWritten (λ n list. BehindOne (λ m l. IsLengthDeterminant m l) n list) value.now buffer.old buffer.new) }
+        (IsWritten (λ n list. BehindOne (λ m l. IsLengthDeterminant m l) n list) value.now
+        buffer.old buffer.new) }
     ensures refused { IfErr result (IsRefusal (λ e. 2 ^ 14 ≤ value.now) ⊤) }
     ensures kept { OnErr result (Extends buffer.old buffer.new) }
 {
@@ -204,7 +215,8 @@ fn append_beyond_root(buffer: &mut BitBuffer, value: &u64) -> Result<(), Refusal
 fn next_beyond_root(root: &Size, reader: &mut BitReader<'_>) -> Result<u64, BeyondRootFault>
     ensures read { IfOk result (λ n. Starts (IsBeyondRoot root.now.least root.now.most)
         (bits_left reader.old) n (bits_left reader.new)) }
-    ensures fault { IfErr result (IsBeyondRootFault root.now.least root.now.most (bits_left reader.old)) }
+    ensures fault { IfErr result
+        (IsBeyondRootFault root.now.least root.now.most (bits_left reader.old)) }
 {
     match next_length(reader) {
         Ok(size) => match root.measure(&size) {

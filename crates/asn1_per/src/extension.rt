@@ -95,9 +95,11 @@ pub(crate) fn skip_additions<D: Additions>(
     additions: &D,
     reader: &mut BitReader<'_>,
 ) -> Result<(), InAdditions<D::Fault>>
-    ensures skipped { OnOk result ((y : D.Plain) × Starts (λ z l. ReadsAdditions (D.reads additions.now) z l)
+    ensures skipped { OnOk result
+        ((y : D.Plain) × Starts (λ z l. ReadsAdditions (D.reads additions.now) z l)
         (bits_left reader.old) y (bits_left reader.new)) }
-    ensures fault { IfErr result (λ e. AdditionsFault (D.is_fault additions.now) (bits_left reader.old) e) }
+    ensures fault { IfErr result
+        (λ e. AdditionsFault (D.is_fault additions.now) (bits_left reader.old) e) }
 {
     let mut presence = match next_presence(additions, reader) {
         Ok(presence) => presence,

@@ -8,8 +8,8 @@ use asn1_formats::{Counts, Format, Refusal, next_number, push_number};
 use asn1_values::{BitBuffer, BitReader};
 use std::alloc::{AllocError, Global};
 
-/// A length without bounds: one octet below 128, two below 16,384 (X.691 11.9.3.6, 11.9.3.7). What is longer stands in
-/// fragments (11.9.3.8), which this format refuses.
+/// A length without bounds: one octet below 128, two below 16,384 (X.691 11.9.3.6, 11.9.3.7). What
+/// is longer stands in fragments (11.9.3.8), which this format refuses.
 #[derive(Clone, Copy, Debug)]
 pub struct Length {}
 
@@ -158,7 +158,8 @@ pub(crate) fn length_width(length: u64) -> usize
 /// Appends the length's octets.
 pub(crate) fn push_length(buffer: &mut BitBuffer, length: u64) -> Result<(), AllocError>
     requires { length < 2 ^ 14 }
-    ensures ok { OnOk result (IsWritten (λ n list. IsLengthDeterminant n list) length buffer.old buffer.new) }
+    ensures ok { OnOk result
+        (IsWritten (λ n list. IsLengthDeterminant n list) length buffer.old buffer.new) }
     ensures err { OnErr result (buffer.new ≡ buffer.old) }
 {
     if length < 128 {
@@ -170,7 +171,8 @@ pub(crate) fn push_length(buffer: &mut BitBuffer, length: u64) -> Result<(), All
 /// The length of the next octets.
 pub(crate) fn next_length(reader: &mut BitReader<'_>) -> Result<u64, LengthFault>
     ensures read { IfOk result (λ n.
-        Starts (λ m list. IsLengthDeterminant m list) (bits_left reader.old) n (bits_left reader.new)) }
+        Starts (λ m list. IsLengthDeterminant m list) (bits_left reader.old) n
+        (bits_left reader.new)) }
     ensures below { IfOk result (λ n. n < 2 ^ 14) }
     ensures fault { IfErr result (λ e. LengthFaultIs (bits_left reader.old) e) }
 {

@@ -4,6 +4,7 @@
 mod addition;
 mod additions;
 mod complete;
+mod describe;
 mod explain;
 mod extended;
 mod extensible;

@@ -24,8 +24,8 @@ pub enum DecodeError<E> {
     Memory,
 }
 
-/// The octets of a message (X.691 11.1). Refused by the first part of the value that is wrong, whatever memory there is;
-/// then where their bits pass `usize`; then for want of memory.
+/// The octets of a message (X.691 11.1). Refused by the first part of the value that is wrong,
+/// whatever memory there is; then where their bits pass `usize`; then for want of memory.
 pub fn encode<F: Format>(
     format: &Complete<F>,
     alloc: Global,
@@ -35,7 +35,8 @@ pub fn encode<F: Format>(
     ensures written { IfOk result (λ octets.
         IsComplete (F.spells format.now.part) (F.plain value.now) (bits octets.items)) }
     // Where it has a spelling of fewer than 2 to the 64 bits, only memory can be wanting.
-    ensures accepted { (list : List Bool) → IsComplete (F.spells format.now.part) (F.plain value.now) list
+    ensures accepted { (list : List Bool)
+        → IsComplete (F.spells format.now.part) (F.plain value.now) list
         → length list < 2 ^ 64 → IsOkUnless result WriteRefusal.Memory }
     // What is wrong is named, whatever memory there is.
     ensures named { (e : F.Misfit) → F.is_misfit format.now.part (F.plain value.now) e
@@ -48,15 +49,16 @@ pub fn encode<F: Format>(
     }
 }
 
-/// The value of a message's octets. Refused where their bits pass `usize`; by the first part that is wrong, then by what
-/// stands behind, whatever memory there is; then for want of memory.
+/// The value of a message's octets. Refused where their bits pass `usize`; by the first part that
+/// is wrong, then by what stands behind, whatever memory there is; then for want of memory.
 pub fn decode<F: Format>(
     format: &Complete<F>,
     alloc: Global,
     octets: &[u8],
 ) -> Result<F::Value, DecodeError<F::Fault>>
     // The octets are read as the value, and as no other.
-    ensures read { IfOk result (λ x. IsComplete (F.reads format.now.part) (F.plain x) (bits octets.now)) }
+    ensures read { IfOk result
+        (λ x. IsComplete (F.reads format.now.part) (F.plain x) (bits octets.now)) }
     ensures only { (y : F.Plain) → IsComplete (F.reads format.now.part) y (bits octets.now)
         → IfOk result (λ x. F.plain x ≡ y) }
     // Where they are read as a value, only memory can be wanting.
@@ -86,7 +88,8 @@ pub fn decode<F: Format>(
 /// What is wrong with the bits besides want of memory, else that.
 #[cold]
 fn without_memory<F: Format>(format: &Complete<F>, start: BitReader<'_>) -> DecodeError<F::Fault>
-    ensures { IsBitsRefusal (F.reads format.now.part) (F.is_fault format.now.part) (bits_left start.entry) result }
+    ensures { IsBitsRefusal (F.reads format.now.part) (F.is_fault format.now.part)
+        (bits_left start.entry) result }
 {
     let mut reader = start;
     match format.skip(&mut reader) {

@@ -11,8 +11,8 @@ use asn1_formats::{Format, NeverWrong, Refusal, next_number, push_number, width_
 use asn1_values::{BitBuffer, BitReader};
 use std::alloc::Global;
 
-/// INTEGER (0..MAX), of which it holds the numbers of 64 bits: the number of the fewest octets that hold the value, and
-/// the value in these, without a sign (X.691 11.7, 13.2.3).
+/// INTEGER (0..MAX), of which it holds the numbers of 64 bits: the number of the fewest octets that
+/// hold the value, and the value in these, without a sign (X.691 11.7, 13.2.3).
 #[derive(Clone, Copy, Debug)]
 pub struct NaturalNumber {}
 

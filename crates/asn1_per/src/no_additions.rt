@@ -7,8 +7,8 @@ use asn1_formats::{InOctetString, NeverWrong, OctetString, Refusal};
 use asn1_values::{BitBuffer, BitReader};
 use std::alloc::{AllocError, Global};
 
-/// No known additions, or none behind those before it. Those of a newer version of the type are passed over: open types of
-/// at most 16,383 octets each.
+/// No known additions, or none behind those before it. Those of a newer version of the type are
+/// passed over: open types of at most 16,383 octets each.
 #[derive(Clone, Copy, Debug)]
 pub struct NoAdditions {}
 
@@ -113,8 +113,10 @@ fn skip_unread(
     reader: &mut BitReader<'_>,
 ) -> Result<(), InOctetString<LengthFault>>
     ensures skipped { OnOk result
-        (Starts (AreUnread (bits_left presence.old)) (bits_left reader.old) tt (bits_left reader.new)) }
-    ensures fault { IfErr result (λ e. AreUnreadFault (bits_left presence.old) (bits_left reader.old) e) }
+        (Starts (AreUnread (bits_left presence.old)) (bits_left reader.old) tt
+        (bits_left reader.new)) }
+    ensures fault { IfErr result
+        (λ e. AreUnreadFault (bits_left presence.old) (bits_left reader.old) e) }
 {
     let count = presence.len();
     let octets = OctetString { size: Length {} };

@@ -11,8 +11,8 @@ use asn1_formats::{Format, Refusal, next_number, next_octets, push_number};
 use asn1_values::{BitBuffer, BitReader};
 use std::alloc::Global;
 
-/// An open type, and what stands like one, as an addition behind an extension marker: the number of the octets of a
-/// complete encoding, and the encoding (X.691 11.2). It has at most 16,383 octets.
+/// An open type, and what stands like one, as an addition behind an extension marker: the number of
+/// the octets of a complete encoding, and the encoding (X.691 11.2). It has at most 16,383 octets.
 #[derive(Clone, Copy, Debug)]
 pub struct OpenType<F> {
     /// The format of the value in it.
@@ -20,9 +20,9 @@ pub struct OpenType<F> {
 }
 
 /// The formats of open types, as each addition behind an extension marker is one (X.691 19.9).
-pub trait Open: Format {}
+pub trait Open {}
 
-impl<F: Format> Open for OpenType<F> {}
+impl<F> Open for OpenType<F> {}
 
 /// What is wrong with the bits of an open type.
 #[derive(Clone, Copy, Debug, PartialEq, Eq, Drop)]
@@ -59,7 +59,8 @@ pub enum OpenMisfit<E> {
 fn examine_end(octets: u64, left: &mut BitReader<'_>) -> Result<(), EndFault>
     requires few { octets < 2 ^ 14 }
     requires within { length (bits_left left.old) ≤ 8 * octets }
-    ensures octets { OnOk result (octets ≡ encodings.octet_count (8 * octets - length (bits_left left.old))) }
+    ensures octets { OnOk result
+        (octets ≡ encodings.octet_count (8 * octets - length (bits_left left.old))) }
     ensures zero { OnOk result (bits_left left.old ≡ digits 0 (length (bits_left left.old))) }
     ensures fault { IfErr result (λ e. encodings.EndFaultIs octets (bits_left left.old) e) }
 {
@@ -171,7 +172,8 @@ impl<F: Format> Format for OpenType<F> {
         }
     }
 
-    ghost spelled_is_read = { λ f. open_within (F.spells f.part) (F.reads f.part) (F.spelled_is_read f.part) };
+    ghost spelled_is_read = { λ f.
+        open_within (F.spells f.part) (F.reads f.part) (F.spelled_is_read f.part) };
 
     ghost read_is_spelled = { λ f canonical.
         open_within (F.reads f.part) (F.spells f.part) (F.read_is_spelled f.part canonical) };
@@ -181,10 +183,12 @@ impl<F: Format> Format for OpenType<F> {
     ghost spells_one = { λ f. open_spells_one (F.spells f.part) (F.spells_one f.part) };
 
     ghost names_fault = { λ f.
-        open_names_fault (F.reads f.part) (F.reads_one f.part) (F.is_fault f.part) (F.names_fault f.part) };
+        open_names_fault (F.reads f.part) (F.reads_one f.part) (F.is_fault f.part)
+        (F.names_fault f.part) };
 
     ghost names_misfit = { λ f.
-        open_names_misfit (F.spells f.part) (F.is_misfit f.part) (F.spells_one f.part) (F.names_misfit f.part) };
+        open_names_misfit (F.spells f.part) (F.is_misfit f.part) (F.spells_one f.part)
+        (F.names_misfit f.part) };
 }
 
 impl<F: Format> OpenType<F> {
@@ -194,10 +198,12 @@ impl<F: Format> OpenType<F> {
 
     /// How many bits the value has, in few enough octets.
     fn len_of(&self, value: &F::Value) -> Result<usize, OpenMisfit<F::Misfit>>
-        ensures measured { IfOk result (λ len. Measures (F.spells self.now.part) (F.plain value.now) (Some len)) }
+        ensures measured { IfOk result
+            (λ len. Measures (F.spells self.now.part) (F.plain value.now) (Some len)) }
         ensures few { IfOk result (λ len. octet_count len < 2 ^ 14) }
         ensures misfit { IfErr result
-            (OpenTypeMisfit (F.spells self.now.part) (F.is_misfit self.now.part) (F.plain value.now)) }
+            (OpenTypeMisfit (F.spells self.now.part) (F.is_misfit self.now.part)
+            (F.plain value.now)) }
     {
         match self.part.measure(value) {
             Ok(Some(len)) => {

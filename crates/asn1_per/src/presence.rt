@@ -18,7 +18,8 @@ pub(crate) fn push_small_length(
     buffer: &mut BitBuffer,
     length: u64,
 ) -> Result<(), Refusal<LongLength>>
-    ensures written { OnOk result (IsWritten (λ n l. IsSmallLength n l) length buffer.old buffer.new) }
+    ensures written { OnOk result
+        (IsWritten (λ n l. IsSmallLength n l) length buffer.old buffer.new) }
     ensures refused { IfErr result (IsRefusal (λ e. IsBeyondMisfit 1 64 length e) ⊤) }
     ensures kept { OnErr result (Extends buffer.old buffer.new) }
 {
@@ -70,8 +71,10 @@ pub(crate) fn next_presence<'a, D: Additions>(
     additions: &D,
     reader: &mut BitReader<'a>,
 ) -> Result<BitReader<'a>, InAdditions<D::Fault>>
-    ensures read { IfOk result (λ p. IsPresence (bits_left reader.old) (bits_left p) (bits_left reader.new)) }
-    ensures fault { IfErr result (λ e. AdditionsFault (D.is_fault additions.now) (bits_left reader.old) e) }
+    ensures read { IfOk result
+        (λ p. IsPresence (bits_left reader.old) (bits_left p) (bits_left reader.new)) }
+    ensures fault { IfErr result
+        (λ e. AdditionsFault (D.is_fault additions.now) (bits_left reader.old) e) }
 {
     let count = match next_small_length(reader) {
         Ok(count) => count,

@@ -5,15 +5,16 @@ ghost use Rattle.asn1_bits.specs.BitReader.{view_left, bits_left};
 ghost use Rattle.asn1_values.specs.Wrong.{IsNoInteger};
 ghost use Rattle.asn1_formats.specs.Spelling.{Starts};
 ghost use Rattle.asn1_number.specs.Readings.{IsInRange, SignedOf};
-ghost use Rattle.asn1_per.specs.Integers.{HoldsInteger, IsUnconstrained, UnconstrainedFaultIs};
+ghost use Rattle.asn1_formats.specs.IntegerOctets.{HoldsInteger};
+ghost use Rattle.asn1_per.specs.Integers.{IsUnconstrained, UnconstrainedFaultIs};
 
 use crate::length::{LengthFault, LongLength, length_width, next_length, push_length};
-use asn1_formats::{Format, Refusal, next_number, next_octets, push_octets};
+use asn1_formats::{Format, Refusal, are_shortest_octets, next_number, next_octets, push_octets};
 use asn1_values::{BitBuffer, BitReader, Integer, integer_of};
 use std::alloc::Global;
 
-/// INTEGER without bounds: the number of its shortest two's complement octets, and these (X.691 11.8, 13.2.4). It has at
-/// most 16,383 octets.
+/// INTEGER without bounds: the number of its shortest two's complement octets, and these (X.691
+/// 11.8, 13.2.4). It has at most 16,383 octets.
 #[derive(Clone, Copy, Debug)]
 pub struct UnconstrainedNumber {}
 
@@ -28,31 +29,6 @@ pub enum UnconstrainedFault {
     NotShortest,
 }
 
-/// Whether the octets that are left are the shortest of a number: one, or more whose first nine bits are not all alike
-/// (X.690 8.3.2).
-fn is_shortest(front: &BitReader<'_>) -> bool
-    requires { (view_left front.now).len % 8 ≡ 0 }
-    ensures yes { IsTrue result → HoldsInteger (bits_left front.now) }
-    ensures no { IsFalse result → IsNoInteger (bits_left front.now) }
-{
-    let len = front.len();
-    if len == 0 {
-        return false;
-    }
-    if len == 8 {
-        return true;
-    }
-    // Bit 8 of the second octet is the ninth.
-    let two = front.first_bits(16);
-    if two < 0x80 {
-        return false;
-    }
-    if two >= 0xFF80 {
-        return false;
-    }
-    true
-}
-
 /// The octets of the next number, which are shortest, behind their number.
 pub(crate) fn next_contents<'a>(
     reader: &mut BitReader<'a>,
@@ -60,7 +36,8 @@ pub(crate) fn next_contents<'a>(
     ensures whole { IfOk result (λ front. (view_left front).len % 8 ≡ 0) }
     ensures holds { IfOk result (λ front. HoldsInteger (bits_left front)) }
     ensures read { IfOk result (λ front. (h : HoldsInteger (bits_left front))
-        → Starts (λ n list. IsUnconstrained n list) (bits_left reader.old) h.1 (bits_left reader.new)) }
+        → Starts (λ n list. IsUnconstrained n list) (bits_left reader.old) h.1
+        (bits_left reader.new)) }
     ensures fault { IfErr result (λ e. UnconstrainedFaultIs (bits_left reader.old) e) }
 {
     let octets = match next_length(reader) {
@@ -71,7 +48,7 @@ pub(crate) fn next_contents<'a>(
         Ok(front) => front,
         Err(missing) => return Err(UnconstrainedFault::Short { missing }),
     };
-    if !is_shortest(&front) {
+    if !are_shortest_octets(&front) {
         return Err(UnconstrainedFault::NotShortest);
     }
     Ok(front)
@@ -96,7 +73,8 @@ fn signed_of(word: u64, width: usize) -> i128
 /// The value of octets that are shortest, at most eight; without memory.
 pub(crate) fn short_value(front: &BitReader<'_>) -> Option<i128>
     ensures some { IfSome result (λ v. (h : HoldsInteger (bits_left front.now)) → v ≡ h.1) }
-    ensures none { IfNone result ((h : HoldsInteger (bits_left front.now)) → ¬ (IsInRange (SignedOf 8) h.1)) }
+    ensures none { IfNone result
+        ((h : HoldsInteger (bits_left front.now)) → ¬ (IsInRange (SignedOf 8) h.1)) }
 {
     let width = front.len();
     if width == 0 {

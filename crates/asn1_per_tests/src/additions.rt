@@ -81,7 +81,8 @@ fn additions_of_other_versions_are_read(rt: HostRuntime) -> Result<(), Fail> {
         found(&one(), rt.alloc(), &octets, 3)?,
         ((true, (None, ())), 2)
     );
-    // An older one, which knows the first addition alone: 111 | 1 | 0 | 0000000 | 1 | 00000001 10100000
+    // An older one, which knows the first addition alone: 111 | 1 | 0 | 0000000 | 1 | 00000001
+    // 10100000
     let octets = [0xF0, 0x08, 0x0D, 0x00];
     assert_eq!(rt;
         found(&two(), rt.alloc(), &octets, 3)?,
@@ -102,7 +103,8 @@ fn what_is_wrong_with_additions_is_named(rt: HostRuntime) -> Result<(), Fail> {
         found(&one(), rt.alloc(), &[0xF8, 0x78], 3).err(),
         Some(Refusal::Wrong(InRootOrAdditions::Extra(InAdditions::Presence { missing: 4 })))
     );
-    // 111 | 1 | 1 | 0000001 | 01 | 00000010 11111111 00: six bits of an addition that is not known are missing.
+    // 111 | 1 | 1 | 0000001 | 01 | 00000010 11111111 00: six bits of an addition that is not known
+    // are missing.
     assert_eq!(rt;
         found(&one(), rt.alloc(), &[0xF8, 0x14, 0x0B, 0xFC], 3).err(),
         Some(Refusal::Wrong(InRootOrAdditions::Extra(InAdditions::Part(InThen::Second(

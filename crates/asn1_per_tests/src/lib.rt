@@ -4,6 +4,8 @@
 #[cfg(test)]
 mod additions;
 #[cfg(test)]
+mod bit_strings;
+#[cfg(test)]
 mod calls;
 #[cfg(test)]
 mod encodings;

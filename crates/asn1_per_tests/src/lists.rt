@@ -1,4 +1,5 @@
-//! Lists and octets behind counts with an extension marker, and without bounds: bits worked by hand behind three ones.
+//! Lists and octets behind counts with an extension marker, and without bounds: bits worked by hand
+//! behind three ones.
 
 use super::calls::{found, written};
 use asn1_formats::{Boolean, InSequenceOf, OctetString, Refusal, SequenceOf, Size};

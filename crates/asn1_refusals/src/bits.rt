@@ -36,7 +36,8 @@ fn is_three_ones(buffer: &BitBuffer) -> bool {
     buffer.len() == 3 && buffer.as_bytes() == [0xE0].as_slice()
 }
 
-/// Whether the buffer holds 111, and the 64 octets 5A behind it: the octets EB and 4B in turn, and the last three bits.
+/// Whether the buffer holds 111, and the 64 octets 5A behind it: the octets EB and 4B in turn, and
+/// the last three bits.
 fn is_followed_by_octets(buffer: &BitBuffer) -> bool {
     let octets = buffer.as_bytes();
     buffer.len() == 515

@@ -24,8 +24,8 @@ const POWER: [u8; 26] = [
     0x00, 0x80, 0, 0, 0, 0, 0, 0, 0, 0, 0, 0, 0, 0, 0, 0, 0, 0, 0, 0, 0, 0, 0, 0, 0, 0,
 ];
 
-/// A field of each kind, without memory: five bits, octets, integers, an identifier, zero octets, three bits and a
-/// character of one bit.
+/// A field of each kind, without memory: five bits, octets, integers, an identifier, zero octets,
+/// three bits and a character of one bit.
 fn message() -> Result<[Field<'static, 'static>; 8], Fail> {
     let arcs = CowSlice::Borrowed(&[2, 16, 840, 1, 101, 3, 4, 2, 3]);
     let bits = BitStr::new(&[0xE0], 0, 3).ok_or("there")?;
@@ -85,7 +85,8 @@ fn read<'a, 's>(
     read_fields(alloc, reader, shapes)
 }
 
-/// A call wrote the message behind 111, or met want of memory and left 111; another answer fails the test.
+/// A call wrote the message behind 111, or met want of memory and left 111; another answer fails
+/// the test.
 fn answers(
     rt: &HostRuntime,
     call: &str,
@@ -148,7 +149,8 @@ fn a_wrong_field_keeps_its_name_in_writing(rt: HostRuntime) -> Result<(), Fail> 
     Ok(())
 }
 
-/// Six bits, octets off the boundary, and an integer past `i128`, behind 111; None where memory was refused.
+/// Six bits, octets off the boundary, and an integer past `i128`, behind 111; None where memory was
+/// refused.
 fn bits_to_read(alloc: Global) -> Option<BitBuffer> {
     let mut buffer = three_ones(alloc)?;
     let fields = [
@@ -164,7 +166,8 @@ fn bits_to_read(alloc: Global) -> Option<BitBuffer> {
     Some(buffer)
 }
 
-/// Whether these are the fields that were written, the last octets as an integer, a counted one and an identifier.
+/// Whether these are the fields that were written, the last octets as an integer, a counted one and
+/// an identifier.
 fn are_those(fields: &[Field<'_, '_>]) -> bool {
     let [number, octets, power, integer, counted, oid] = fields else {
         return false;

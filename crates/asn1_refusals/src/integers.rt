@@ -4,7 +4,8 @@ use crate::refusal::{met, met_before};
 use asn1_values::{ConstrainedInteger, Integer, IntegerError, IntegerType};
 use std::test::Fail;
 
-/// The shortest octets of 2 to the power of 199: 24 zero octets behind 80, and a zero octet for the sign.
+/// The shortest octets of 2 to the power of 199: 24 zero octets behind 80, and a zero octet for the
+/// sign.
 const POWER: [u8; 26] = [
     0x00, 0x80, 0, 0, 0, 0, 0, 0, 0, 0, 0, 0, 0, 0, 0, 0, 0, 0, 0, 0, 0, 0, 0, 0, 0, 0,
 ];

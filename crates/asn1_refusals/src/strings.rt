@@ -21,7 +21,8 @@ fn has<S: StaticPermittedAlphabet>(string: &S, count: usize, character: u32) -> 
     string.len() == count && string.chars().all(|c| c == character)
 }
 
-/// A call answered with so many times one character, or with want of memory; another answer fails the test.
+/// A call answered with so many times one character, or with want of memory; another answer fails
+/// the test.
 fn gives<S: StaticPermittedAlphabet>(
     rt: &HostRuntime,
     call: &str,

@@ -1,4 +1,5 @@
-//! The two calls under their own names and without their contracts: a test that goes through them is quick to prove.
+//! The two calls under their own names and without their contracts: a test that goes through them
+//! is quick to prove.
 
 use asn1_values::{
     BitBuffer, BitReader, BitStr, CharacterAlphabet, Field, Ia5String, Integer, ReadError, Shape,

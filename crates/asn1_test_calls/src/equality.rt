@@ -1,5 +1,5 @@
-//! Fields, compared by their kinds and values. There is a function for each kind, since one match on both fields is
-//! slow to prove.
+//! Fields, compared by their kinds and values. There is a function for each kind, since one match
+//! on both fields is slow to prove.
 
 use asn1_values::{
     BitStr, CharacterAlphabet, Field, Integer, ObjectIdentifier, PermittedAlphabetError,

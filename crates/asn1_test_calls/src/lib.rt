@@ -1,5 +1,5 @@
-//! The calls of fields without their contracts, for the crates of tests above: a test that goes through them is quick to
-//! prove. No program should use this crate.
+//! The calls of fields without their contracts, for the crates of tests above: a test that goes
+//! through them is quick to prove. No program should use this crate.
 #![tactic(auto)]
 
 mod calls;

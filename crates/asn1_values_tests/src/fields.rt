@@ -105,7 +105,8 @@ fn a_wide_number_is_written_and_read_behind_up_to_seven_ones(rt: HostRuntime) ->
         write_fields(&mut buffer, &[Field::Number { value, width: 128 }])?;
         assert_eq!(rt; buffer.len(), ones + 128);
         let octets = buffer.into_vec();
-        // To the end of the last octet, which has up to seven zeros behind the number: one behind seven ones.
+        // To the end of the last octet, which has up to seven zeros behind the number: one behind
+        // seven ones.
         let behind = (8 - ones) % 8;
         let view = BitStr::new(octets.as_slice(), ones, 128 + behind).ok_or("within")?;
         let mut reader = BitReader::new(view);
@@ -122,7 +123,8 @@ fn a_wide_number_is_written_and_read_behind_up_to_seven_ones(rt: HostRuntime) ->
     Ok(())
 }
 
-/// Whether these are the shapes of the five fields: each of its kind, with its number of bits, octets or elements.
+/// Whether these are the shapes of the five fields: each of its kind, with its number of bits,
+/// octets or elements.
 fn are_five_shapes(shapes: &[Shape<'_>; 5]) -> bool {
     matches!(&shapes[0], Shape::Number { width: 3 })
         && matches!(&shapes[1], Shape::Octets { count: 1 })

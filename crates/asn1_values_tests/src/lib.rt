@@ -1,7 +1,8 @@
-//! Tests of fields: worked rows, the texts of errors, and callers that stand on the contracts alone.
+//! Tests of fields: worked rows, the texts of errors, and callers that stand on the contracts
+//! alone.
 //!
-//! They use public names only and are a crate of their own, so that `asn1_values` is proved once and not again with
-//! its tests.
+//! They use public names only and are a crate of their own, so that `asn1_values` is proved once
+//! and not again with its tests.
 #![tactic(auto)]
 
 #[cfg(test)]

@@ -171,7 +171,8 @@ fn fields_that_end_past_the_octets_are_refused(rt: HostRuntime) -> Result<(), Fa
     refuses(&rt, 25, &[], WriteError::TooLong)
 }
 
-/// Compares how a field is refused behind one that would end past the octets, and before one that does not fit.
+/// Compares how a field is refused behind one that would end past the octets, and before one that
+/// does not fit.
 fn names<R: Abort + AllocGlobal>(
     rt: &R,
     field: Field<'_, '_>,

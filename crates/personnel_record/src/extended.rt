@@ -16,10 +16,12 @@ pub type ExtensibleName = Named<
     Extensible<Then<ExtensibleText, Then<Text, ExtensibleText>>, NoAdditions>,
 >;
 
-/// `sex [1] ENUMERATED { male(1), female(2), unknown(3) } OPTIONAL`, behind a marker: the index 0, 1 or 2.
+/// `sex [1] ENUMERATED { male(1), female(2), unknown(3) } OPTIONAL`, behind a marker: the index 0,
+/// 1 or 2.
 pub type Sex = Addition<OpenType<Named<Size>>, NoAdditions>;
 
-/// `SET { name Name, dateOfBirth [0] Date, ..., sex [1] ENUMERATED { male(1), female(2), unknown(3) } OPTIONAL }`
+/// `SET { name Name, dateOfBirth [0] Date, ..., sex [1] ENUMERATED { male(1), female(2), unknown(3)
+/// } OPTIONAL }`
 pub type ExtensibleChild = Extensible<Then<ExtensibleName, ExtensibleText>, Sex>;
 
 /// `children [3] SEQUENCE (SIZE (2, ...)) OF ChildInformation OPTIONAL`
@@ -119,7 +121,8 @@ fn number_and_later() -> Option<NumberAndLater> {
     })
 }
 
-/// The format of records with extension markers. No character of its strings is there twice, so there is one.
+/// The format of records with extension markers. No character of its strings is there twice, so
+/// there is one.
 pub fn extensible_record_format() -> Option<ExtensibleRecordFormat> {
     let components = And {
         first: Required {

@@ -38,8 +38,8 @@ type TitleAndLater = And<Required<Title>, HireAndLater>;
 
 type NumberAndLater = And<Required<Named<UnconstrainedNumber>>, TitleAndLater>;
 
-/// A whole record, filled up to octets. The components of a SET go by their tags (X.680 8.6): those of the application, and
-/// then those of the context.
+/// A whole record, filled up to octets. The components of a SET go by their tags (X.680 8.6): those
+/// of the application, and then those of the context.
 pub type RecordFormat = Complete<
     Mapped<Sequence<And<Required<NameFormat>, NumberAndLater>>, PersonnelRecord>,
 >;

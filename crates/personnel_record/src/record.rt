@@ -6,7 +6,8 @@ use crate::format::{ChildParts, NameParts, RecordParts};
 use asn1_formats::OfParts;
 use asn1_values::Integer;
 
-/// A name (X.691 A.2.1), of letters, `-` and `.`. Strings are lists of characters, by their numbers in ISO 646.
+/// A name (X.691 A.2.1), of letters, `-` and `.`. Strings are lists of characters, by their numbers
+/// in ISO 646.
 #[derive(Debug, Drop)]
 pub struct Name {
     parts: NameParts,

@@ -1,5 +1,4 @@
-use Rattle.std.proofs.Common.{List, [], map}
-use Rattle.asn1_formats.specs.Combined.{AreCounted}
+use Rattle.std.proofs.Common.{[], map}
 use Rattle.asn1_formats.specs.DefaultLaws.{default_fits}
 use Rattle.asn1_formats.proofs.basic_empty.BasicEmptyComponents.measure.Goals as goal
 

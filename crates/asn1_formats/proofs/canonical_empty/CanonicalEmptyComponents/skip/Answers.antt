@@ -1,4 +1,4 @@
-use Rattle.std.proofs.Common.{List, [], map}
+use Rattle.std.proofs.Common.{List, []}
 use Rattle.asn1_formats.specs.Combined.{AreCounted}
 use Rattle.std.proofs.Common.{Bool, ◌∷◌, refl, ap, ◌∙◌}
 use Rattle.asn1_bits.specs.BitReader.{bits_left}

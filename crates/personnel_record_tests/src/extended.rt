@@ -1,10 +1,10 @@
 //! The record of X.691 A.3, and octets that differ from it.
 
-use super::values::text;
-use crate::{ExtensibleRecordFormat, decode, encode, extensible_record_format};
+use crate::values::text;
 use asn1_formats::{Format, push_number, read, write};
 use asn1_per::Complete;
 use asn1_values::{BitBuffer, BitReader, Integer};
+use personnel_record::{ExtensibleRecordFormat, decode, encode, extensible_record_format};
 use std::alloc::{AllocError, Global};
 use std::test::Fail;
 
@@ -67,10 +67,10 @@ fn ones(alloc: Global, start: usize) -> Result<BitBuffer, AllocError> {
 }
 
 /// The record's bits behind so many ones.
-fn shifted(alloc: Global, format: &ExtensibleRecordFormat, start: usize) -> Result<Vec<u8>, Fail> {
+fn shifted(alloc: Global, start: usize) -> Result<Vec<u8>, Fail> {
     let record = record(alloc)?;
     let mut buffer = ones(alloc, start)?;
-    if let Err(_) = write(format, &mut buffer, &record) {
+    if let Err(_) = write(&format()?, &mut buffer, &record) {
         return Err("the record is right".into());
     }
     Ok(buffer.into_vec())
@@ -96,6 +96,12 @@ fn again<F: Format>(
         Ok(()) => Ok(Some(buffer.into_vec())),
         Err(_) => Ok(None),
     }
+}
+
+/// A record that is read from a bit on, written again behind so many ones; `None` where it is
+/// refused. Tests that call it do not state the type of records.
+fn record_again(alloc: Global, octets: &[u8], start: usize) -> Result<Option<Vec<u8>>, Fail> {
+    Ok(again(&format()?, alloc, octets, start)?)
 }
 
 /// The octets with a bit turned.
@@ -144,16 +150,15 @@ fn its_octets_are_a_record_with_markers(rt: HostRuntime) -> Result<(), Fail> {
 
 #[test]
 fn a_bit_turned_is_refused_or_another_record(rt: HostRuntime) -> Result<(), Fail> {
-    let format = format()?;
     for start in 0..8usize {
-        let octets = shifted(rt.alloc(), &format, start)?;
+        let octets = shifted(rt.alloc(), start)?;
         assert_eq!(rt;
-            again(&format, rt.alloc(), &octets, start)?.ok_or("read")?,
+            record_again(rt.alloc(), &octets, start)?.ok_or("read")?,
             octets
         );
         for bit in start..start + 8 * RECORD.len() {
             let other = turned(rt.alloc(), &octets, bit)?;
-            if let Some(again) = again(&format, rt.alloc(), &other, start)? {
+            if let Some(again) = record_again(rt.alloc(), &other, start)? {
                 assert_ne!(rt; again, octets);
             }
         }
@@ -172,11 +177,10 @@ fn front(octets: &[u8], count: usize) -> &[u8] {
 
 #[test]
 fn a_cut_record_is_refused(rt: HostRuntime) -> Result<(), Fail> {
-    let format = format()?;
     for start in 0..8usize {
-        let octets = shifted(rt.alloc(), &format, start)?;
+        let octets = shifted(rt.alloc(), start)?;
         for length in 1..RECORD.len() {
-            assert!(rt; again(&format, rt.alloc(), front(&octets, length), start)?.is_none());
+            assert!(rt; record_again(rt.alloc(), front(&octets, length), start)?.is_none());
         }
     }
     Ok(())

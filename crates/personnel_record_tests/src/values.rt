@@ -1,19 +1,19 @@
 //! The record of the standard, and its parts compared.
 
-use crate::{ChildInformation, Name, PersonnelRecord, RecordFormat, record_format};
 use asn1_values::Integer;
+use personnel_record::{ChildInformation, Name, PersonnelRecord, RecordFormat, record_format};
 use std::alloc::{AllocError, Global};
 use std::test::Fail;
 
 /// The format of records.
-pub(super) fn format() -> Result<RecordFormat, Fail> {
+pub(crate) fn format() -> Result<RecordFormat, Fail> {
     match record_format() {
         Some(format) => Ok(format),
         None => Err("no character is there twice".into()),
     }
 }
 
-pub(super) fn text(alloc: Global, octets: &[u8]) -> Result<Vec<u32>, AllocError> {
+pub(crate) fn text(alloc: Global, octets: &[u8]) -> Result<Vec<u32>, AllocError> {
     let mut text = Vec::new(alloc);
     for octet in octets {
         text.push(u32::from(*octet))?;
@@ -21,7 +21,7 @@ pub(super) fn text(alloc: Global, octets: &[u8]) -> Result<Vec<u32>, AllocError>
     Ok(text)
 }
 
-pub(super) fn name(
+pub(crate) fn name(
     alloc: Global,
     given: &[u8],
     initial: &[u8],
@@ -35,7 +35,7 @@ pub(super) fn name(
 }
 
 /// The children of the record (X.691 A.2.2).
-pub(super) fn children(alloc: Global) -> Result<Vec<ChildInformation>, AllocError> {
+pub(crate) fn children(alloc: Global) -> Result<Vec<ChildInformation>, AllocError> {
     let mut children = Vec::new(alloc);
     let ralph = name(alloc, b"Ralph", b"T", b"Smith")?;
     children.push(ChildInformation::new(ralph, text(alloc, b"19571111")?))?;
@@ -45,7 +45,7 @@ pub(super) fn children(alloc: Global) -> Result<Vec<ChildInformation>, AllocErro
 }
 
 /// The record (X.691 A.2.2), with these children.
-pub(super) fn smith(
+pub(crate) fn smith(
     alloc: Global,
     children: Vec<ChildInformation>,
 ) -> Result<PersonnelRecord, AllocError> {
@@ -59,7 +59,7 @@ pub(super) fn smith(
     ))
 }
 
-pub(super) fn is_text(text: &Vec<u32>, octets: &[u8]) -> bool {
+pub(crate) fn is_text(text: &Vec<u32>, octets: &[u8]) -> bool {
     text.len() == octets.len()
         && text
             .iter()
@@ -67,14 +67,14 @@ pub(super) fn is_text(text: &Vec<u32>, octets: &[u8]) -> bool {
             .all(|(character, octet)| *character == u32::from(*octet))
 }
 
-pub(super) fn is_name(name: &Name, given: &[u8], initial: &[u8], family: &[u8]) -> bool {
+pub(crate) fn is_name(name: &Name, given: &[u8], initial: &[u8], family: &[u8]) -> bool {
     is_text(name.given_name(), given)
         && is_text(name.initial(), initial)
         && is_text(name.family_name(), family)
 }
 
 /// Whether the record is that of the standard, but for its children.
-pub(super) fn is_smith(record: &PersonnelRecord) -> bool {
+pub(crate) fn is_smith(record: &PersonnelRecord) -> bool {
     is_name(record.name(), b"John", b"P", b"Smith")
         && is_text(record.title(), b"Director")
         && record.number().to_i128() == Some(51)

@@ -1,7 +1,7 @@
 //! The record of X.691 A.2, and octets that differ from it.
 
-use super::values::{children, format, is_name, is_smith, is_text, name, smith, text};
-use crate::{ChildInformation, PersonnelRecord, decode, encode};
+use crate::values::{children, format, is_name, is_smith, is_text, name, smith, text};
+use personnel_record::{ChildInformation, PersonnelRecord, decode, encode};
 use std::alloc::Global;
 use std::test::Fail;
 
@@ -140,7 +140,8 @@ fn unfit_parts_are_named(rt: HostRuntime) -> Result<(), Fail> {
 fn no_children_are_not_written_and_may_be_read(rt: HostRuntime) -> Result<(), Fail> {
     let record = smith(rt.alloc(), Vec::new(rt.alloc()))?;
     let octets = written(rt.alloc(), &record)?;
-    // The presence bit 0, and the octets of the standard up to the spouse, of which seven bits are in octet 33.
+    // The presence bit 0, and the octets of the standard up to the spouse, of which seven bits are
+    // in octet 33.
     assert_eq!(rt; octets.len(), 33);
     assert_eq!(rt; octets[0], 0x06);
     assert_eq!(rt; octets[1..32], RECORD[1..32]);

@@ -1,24 +1,24 @@
 use Rattle.std.proofs.Common.{◌≡◌, ◌*◌, ◌/◌, ◌≤◌, ◌<◌, length, take, arith}
 use Rattle.asn1_bits.specs.Bits.{number}
 use Rattle.asn1_bits.specs.BitReader.{bits_left}
-use Rattle.asn1_per.specs.IntegerLaws.{holds_one, holds_more, holds_none, holds_low, holds_high}
-use Rattle.asn1_per.proofs.unconstrained_number.is_shortest.Goals as goal
+use Rattle.asn1_formats.specs.IntegerOctetLaws.{holds_one, holds_more, holds_none, holds_low, holds_high}
+use Rattle.asn1_formats.proofs.integer_octets.are_shortest_octets.Goals as goal
 
 pub returns-then-len-eq0-clause-no : goal.returns-then-len-eq0-clause-no
 returns-then-len-eq0-clause-no c = λ f.
-    let list = bits_left c.args.front.now in
+    let list = bits_left c.args.octets.now in
     let sized : length list ≡ 8 * 0 = omega (arith, c.len-len.ensures.list) in
     holds_none list 0 sized (omega arith)
 
 pub returns-then-len-eq8-clause-yes : goal.returns-then-len-eq8-clause-yes
 returns-then-len-eq8-clause-yes c = λ t.
-    let list = bits_left c.args.front.now in
+    let list = bits_left c.args.octets.now in
     let sized : length list ≡ 8 * 1 = omega (arith, c.len-len.ensures.list) in
     holds_one list 1 sized (omega arith)
 
 pub returns-then-two-lt128-clause-no : goal.returns-then-two-lt128-clause-no
 returns-then-two-lt128-clause-no c = λ f.
-    let list = bits_left c.args.front.now in
+    let list = bits_left c.args.octets.now in
     let n = c.len-len.result / 8 in
     let sized : length list ≡ 8 * n = omega (arith, c.len-len.ensures.list, c.len-len.ensures.len, c.requires) in
     let some : 2 ≤ n = omega (arith, c.len-len.ensures.len, c.requires) in
@@ -27,7 +27,7 @@ returns-then-two-lt128-clause-no c = λ f.
 
 pub returns-then-two-ge65408-clause-no : goal.returns-then-two-ge65408-clause-no
 returns-then-two-ge65408-clause-no c = λ f.
-    let list = bits_left c.args.front.now in
+    let list = bits_left c.args.octets.now in
     let n = c.len-len.result / 8 in
     let sized : length list ≡ 8 * n = omega (arith, c.len-len.ensures.list, c.len-len.ensures.len, c.requires) in
     let some : 2 ≤ n = omega (arith, c.len-len.ensures.len, c.requires) in
@@ -36,7 +36,7 @@ returns-then-two-ge65408-clause-no c = λ f.
 
 pub returns-clause-yes : goal.returns-clause-yes
 returns-clause-yes c = λ t.
-    let list = bits_left c.args.front.now in
+    let list = bits_left c.args.octets.now in
     let n = c.len-len.result / 8 in
     let sized : length list ≡ 8 * n = omega (arith, c.len-len.ensures.list, c.len-len.ensures.len, c.requires) in
     let some : 2 ≤ n = omega (arith, c.len-len.ensures.len, c.requires) in
