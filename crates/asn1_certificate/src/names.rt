@@ -65,7 +65,7 @@ fn push_set(
 }
 
 /// Appends the value of an attribute, or says what is wrong with it.
-fn push_value(
+pub fn push_value(
     alloc: Global,
     text: &mut String,
     value: &AnyValue,

@@ -2,3 +2,4 @@
 
 mod certificates;
 mod program;
+mod values;
