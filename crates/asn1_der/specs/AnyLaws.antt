@@ -1,6 +1,6 @@
 -- Laws of elements of any tag.
 use Rattle.std.proofs.Common.{◌≡◌, ℕ, List, Bool, refl, sym, ◌∙◌, ap, subst}
-use Rattle.std.specs.declared.convert.Infallible.{Infallible}
+use Rattle.asn1_formats.specs.declared.never_wrong.NeverWrong.{NeverWrong}
 use Rattle.asn1_der.specs.declared.tag.Tag.{Tag}
 use Rattle.asn1_der.specs.declared.tag.TagFault.{TagFault}
 use Rattle.asn1_der.specs.declared.length.LengthFault.{LengthFault}
@@ -117,10 +117,10 @@ any_names_fault = record { wrong = wrong; one = one_fault }
 pub any_names_misfit : NamesMisfit (λ v l. IsAny v l) (λ v e. AnyMisfitIs v e)
 any_names_misfit = record {
   wrong = λ v e p f.
-      (tlv_names_misfit v.0 O (λ x (i : Infallible). ⊥) octets_spell_one (none_names_misfit O)).wrong v.1 e p
+      (tlv_names_misfit v.0 O (λ x (i : NeverWrong). ⊥) octets_spell_one (none_names_misfit O)).wrong v.1 e p
       (record { list = f.list; spelled = f.spelled });
   one = λ v e g p q.
-      (tlv_names_misfit v.0 O (λ x (i : Infallible). ⊥) octets_spell_one (none_names_misfit O)).one v.1 e g p q;
+      (tlv_names_misfit v.0 O (λ x (i : NeverWrong). ⊥) octets_spell_one (none_names_misfit O)).one v.1 e g p q;
 }
 
 pub any_tagged : AreTagged (λ (t : Tag). Unit {0}) (λ v l. IsAny v l)

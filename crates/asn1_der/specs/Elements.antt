@@ -7,7 +7,7 @@ use Rattle.asn1_der.specs.declared.tlv.ElementFault.{ElementFault}
 use Rattle.asn1_der.specs.declared.tlv.ElementFault.TheVariants as none
 use Rattle.asn1_der.specs.declared.tlv.TlvMisfit.{TlvMisfit}
 use Rattle.asn1_der.specs.declared.tlv.TlvMisfit.TheVariants as misfit
-use Rattle.std.specs.declared.convert.Infallible.{Infallible}
+use Rattle.asn1_formats.specs.declared.never_wrong.NeverWrong.{NeverWrong}
 use Rattle.asn1_formats.specs.OctetStrings.{AreOctets}
 use Rattle.asn1_formats.specs.Spelling.{Starts}
 use Rattle.asn1_formats.specs.Combined.{Both, After}
@@ -52,5 +52,5 @@ TlvMisfitIs tag P W x misfit.TooLong =
 abbrev pub IsAny : Tag × List ℕ → List Bool → Type 0
 IsAny v list = IsTlv v.0 (λ x l. AreOctets x l) v.1 list
 
-abbrev pub AnyMisfitIs : Tag × List ℕ → TlvMisfit Infallible → Type 0
-AnyMisfitIs v e = TlvMisfitIs v.0 (λ x l. AreOctets x l) (λ x (i : Infallible). ⊥) v.1 e
+abbrev pub AnyMisfitIs : Tag × List ℕ → TlvMisfit NeverWrong → Type 0
+AnyMisfitIs v e = TlvMisfitIs v.0 (λ x l. AreOctets x l) (λ x (i : NeverWrong). ⊥) v.1 e

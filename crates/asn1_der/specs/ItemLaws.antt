@@ -2,7 +2,7 @@
 use Rattle.std.proofs.Common.{◌≡◌, ℕ, suc, ◌+◌, ◌*◌, ◌<◌, ◌⊎◌, inl, inr, List, [], ◌∷◌, ◌++◌, Bool, length, map, take, drop, get_or, Option, refl, sym, ◌∙◌, ap, subst, arith, append_assoc}
 use Rattle.std.proofs.lemmas.List.{length-append, append-nil, map_more, map-append, length-map, length-take-le, take-append-drop}
 use Rattle.std.proofs.Math.Seq.{drop-cons}
-use Rattle.std.specs.declared.convert.Infallible.{Infallible}
+use Rattle.asn1_formats.specs.declared.never_wrong.NeverWrong.{NeverWrong}
 use Rattle.asn1_formats.specs.declared.sequence_of.InSequenceOf.{InSequenceOf}
 use Rattle.asn1_formats.specs.declared.sequence_of.InSequenceOf.TheVariants.{Size, Item}
 use Rattle.asn1_formats.specs.Spelling.{Starts, CanRead, Fits, Measures, IsSumOf, IsWritten, ReadsOne, SpellsOne, NamesFault, NamesMisfit}
@@ -39,19 +39,19 @@ module _ {X : Type 0} (P : X → List Bool → Type 0) where
 
   counted_misfit : {E : Type 0} (W : X → E → Type 0) → NamesMisfit P W
       → NamesMisfit (λ xs l. AreCounted (λ n m. None n m) P xs l)
-      (λ xs (e : InSequenceOf Infallible E). SequenceOfMisfit (λ n l. None n l) P (λ n e. ⊥) W xs e)
+      (λ xs (e : InSequenceOf NeverWrong E). SequenceOfMisfit (λ n l. None n l) P (λ n e. ⊥) W xs e)
   counted_misfit W names =
-      counted_names_misfit (λ n l. None n l) P (λ n (e : Infallible). ⊥) W (none_names_misfit (λ n l. None n l)) names
+      counted_names_misfit (λ n l. None n l) P (λ n (e : NeverWrong). ⊥) W (none_names_misfit (λ n l. None n l)) names
 
-  index_of : {E : Type 0} → InSequenceOf Infallible E → ℕ
+  index_of : {E : Type 0} → InSequenceOf NeverWrong E → ℕ
   index_of (Size e) = 0
   index_of (Item i e) = i
 
-  wrong_of : {E : Type 0} → E → InSequenceOf Infallible E → E
+  wrong_of : {E : Type 0} → E → InSequenceOf NeverWrong E → E
   wrong_of d (Size e) = d
   wrong_of d (Item i e) = e
 
-  counted_item : {E : Type 0} → InItem E → InSequenceOf Infallible E
+  counted_item : {E : Type 0} → InItem E → InSequenceOf NeverWrong E
   counted_item e = Item e.index e.wrong
 
   same_item : {E : Type 0} (e g : InItem E) → counted_item e ≡ counted_item g → e ≡ g

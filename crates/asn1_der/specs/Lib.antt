@@ -28,3 +28,13 @@ pub mod Alternatives
 pub mod AlternativeLaws
 pub mod NotDefaults
 pub mod NotDefaultLaws
+pub mod OctetContents
+pub mod OctetContentsLaws
+pub mod Strings
+pub mod StringLaws
+pub mod Moments
+pub mod Times
+pub mod TimeLaws
+pub mod CalendarLaws
+pub mod Messages
+pub mod MessageLaws

@@ -1,7 +1,7 @@
 -- Laws of contents that are elements one after another.
 use Rattle.std.proofs.Common.{◌≡◌, ℕ, ◌+◌, ◌*◌, ◌<◌, List, [], ◌++◌, Bool, length, refl, sym, ◌∙◌, ap, subst, arith}
 use Rattle.std.proofs.lemmas.List.{length-append, append-nil}
-use Rattle.std.specs.declared.convert.Infallible.{Infallible}
+use Rattle.asn1_formats.specs.declared.never_wrong.NeverWrong.{NeverWrong}
 use Rattle.asn1_formats.specs.declared.then.InThen.{InThen}
 use Rattle.asn1_formats.specs.declared.then.InThen.TheVariants.{First, Second}
 use Rattle.asn1_formats.specs.Spelling.{Starts, ReadsOne, SpellsOne, NamesFault, NamesMisfit}
@@ -31,10 +31,10 @@ end_names_fault = record {
 }
 
 -- what is never wrong
-pub none_names_misfit : {X : Type 0} (P : X → List Bool → Type 0) → NamesMisfit P (λ x (e : Infallible). ⊥)
+pub none_names_misfit : {X : Type 0} (P : X → List Bool → Type 0) → NamesMisfit P (λ x (e : NeverWrong). ⊥)
 none_names_misfit P = record { wrong = λ x e p f. p; one = λ x e g p q. absurd p }
 
-pub none_names_fault : {X : Type 0} (P : X → List Bool → Type 0) → NamesWrong P (λ list (e : Infallible). ⊥)
+pub none_names_fault : {X : Type 0} (P : X → List Bool → Type 0) → NamesWrong P (λ list (e : NeverWrong). ⊥)
 none_names_fault P = record { wrong = λ list e p x q. p; one = λ list e g p q. absurd p }
 
 -- ---- one element, and the others behind it

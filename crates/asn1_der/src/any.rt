@@ -7,12 +7,12 @@ use crate::length::next_counted;
 use crate::octet_string::{OctetStringContents, octets_of};
 use crate::tag::{Tag, next_tag};
 use crate::tlv::{ElementFault, Tlv, TlvMisfit};
-use asn1_formats::{Format, Refusal};
+use asn1_formats::{Format, NeverWrong, Refusal};
 use asn1_values::{BitBuffer, BitReader};
 use std::alloc::Global;
-use std::convert::Infallible;
 
-/// An element of any tag, kept as it is: ANY of the older notation, an open type, or a part that is not looked into.
+/// An element of any tag, kept as it is: ANY of the older notation, an open type, or a part that is
+/// not looked into.
 #[derive(Clone, Copy, Debug)]
 pub struct Any {}
 
@@ -46,7 +46,7 @@ impl Format for Any {
 
     type Fault = ElementFault;
 
-    type Misfit = TlvMisfit<Infallible>;
+    type Misfit = TlvMisfit<NeverWrong>;
 
     ghost Plain = { tags.Tag × List ℕ };
 
@@ -68,11 +68,11 @@ impl Format for Any {
         &self,
         buffer: &mut BitBuffer,
         value: &AnyValue,
-    ) -> Result<(), Refusal<TlvMisfit<Infallible>>> {
+    ) -> Result<(), Refusal<TlvMisfit<NeverWrong>>> {
         Format::append(&element_of(value.tag), buffer, &value.octets)
     }
 
-    fn measure(&self, value: &AnyValue) -> Result<Option<usize>, TlvMisfit<Infallible>> {
+    fn measure(&self, value: &AnyValue) -> Result<Option<usize>, TlvMisfit<NeverWrong>> {
         Format::measure(&element_of(value.tag), &value.octets)
     }
 
@@ -132,7 +132,7 @@ impl Element for Any {
 
     type Fault = ElementFault;
 
-    type Misfit = TlvMisfit<Infallible>;
+    type Misfit = TlvMisfit<NeverWrong>;
 
     ghost Plain = { tags.Tag × List ℕ };
 
@@ -160,11 +160,11 @@ impl Element for Any {
         &self,
         buffer: &mut BitBuffer,
         value: &AnyValue,
-    ) -> Result<(), Refusal<TlvMisfit<Infallible>>> {
+    ) -> Result<(), Refusal<TlvMisfit<NeverWrong>>> {
         Format::append(self, buffer, value)
     }
 
-    fn measure(&self, value: &AnyValue) -> Result<Option<usize>, TlvMisfit<Infallible>> {
+    fn measure(&self, value: &AnyValue) -> Result<Option<usize>, TlvMisfit<NeverWrong>> {
         Format::measure(self, value)
     }
 

@@ -5,13 +5,12 @@ ghost use Rattle.asn1_bits.specs.BitReader.{view_left, bits_left};
 ghost use Rattle.asn1_der.specs.BitStrings.{IsBitString, BitStringFaultIs};
 
 use crate::contents::Contents;
-use asn1_formats::{Refusal, next_number, push_number};
+use asn1_formats::{NeverWrong, Refusal, next_number, push_number};
 use asn1_values::{BitBuffer, BitReader, BitString, to_bitstring};
 use std::alloc::Global;
-use std::convert::Infallible;
 
-/// The contents of a BIT STRING: an octet that says how many bits of the last octet are unused, the bits, and zeros for
-/// the unused ones (X.690 8.6, 11.2.1).
+/// The contents of a BIT STRING: an octet that says how many bits of the last octet are unused, the
+/// bits, and zeros for the unused ones (X.690 8.6, 11.2.1).
 #[derive(Clone, Copy, Debug)]
 pub struct BitStringContents {}
 
@@ -79,7 +78,7 @@ impl Contents for BitStringContents {
 
     type Fault = BitStringFault;
 
-    type Misfit = Infallible;
+    type Misfit = NeverWrong;
 
     ghost Plain = { List Bool };
 
@@ -93,7 +92,7 @@ impl Contents for BitStringContents {
 
     ghost owns_nothing = { λ f. ⊥ };
 
-    fn append(&self, buffer: &mut BitBuffer, value: &BitString) -> Result<(), Refusal<Infallible>> {
+    fn append(&self, buffer: &mut BitBuffer, value: &BitString) -> Result<(), Refusal<NeverWrong>> {
         let unused = unused_bits(value.len());
         if let Err(_) = push_number(buffer, unused as u64, 8) {
             return Err(Refusal::Memory);
@@ -110,7 +109,7 @@ impl Contents for BitStringContents {
         }
     }
 
-    fn measure(&self, value: &BitString) -> Result<Option<usize>, Infallible> {
+    fn measure(&self, value: &BitString) -> Result<Option<usize>, NeverWrong> {
         let len = value.len();
         let unused = unused_bits(len);
         if len > usize::MAX - 8 - unused {

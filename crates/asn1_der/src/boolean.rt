@@ -2,10 +2,9 @@
 
 use crate::comparable::Comparable;
 use crate::contents::Contents;
-use asn1_formats::{Refusal, next_number, push_number};
+use asn1_formats::{NeverWrong, Refusal, next_number, push_number};
 use asn1_values::{BitBuffer, BitReader};
 use std::alloc::Global;
-use std::convert::Infallible;
 
 /// The contents of a BOOLEAN: the octet 00 for false, FF for true (X.690 8.2, 11.1).
 #[derive(Clone, Copy, Debug)]
@@ -30,7 +29,7 @@ impl Contents for BooleanContents {
 
     type Fault = BooleanFault;
 
-    type Misfit = Infallible;
+    type Misfit = NeverWrong;
 
     ghost Plain = { Bool };
 
@@ -44,7 +43,7 @@ impl Contents for BooleanContents {
 
     ghost owns_nothing = { λ f. ⊤ };
 
-    fn append(&self, buffer: &mut BitBuffer, value: &bool) -> Result<(), Refusal<Infallible>> {
+    fn append(&self, buffer: &mut BitBuffer, value: &bool) -> Result<(), Refusal<NeverWrong>> {
         let octet = if *value { 255 } else { 0 };
         match push_number(buffer, octet, 8) {
             Ok(()) => Ok(()),
@@ -52,7 +51,7 @@ impl Contents for BooleanContents {
         }
     }
 
-    fn measure(&self, _value: &bool) -> Result<Option<usize>, Infallible> {
+    fn measure(&self, _value: &bool) -> Result<Option<usize>, NeverWrong> {
         Ok(Some(8))
     }
 

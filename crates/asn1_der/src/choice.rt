@@ -7,7 +7,8 @@ use asn1_formats::{OneOf, Refusal};
 use asn1_values::{BitBuffer, BitReader};
 use std::alloc::Global;
 
-/// CHOICE: an element of the first alternative, or of the others. The tag in front tells which (X.690 8.13, X.680 29.3).
+/// CHOICE: an element of the first alternative, or of the others. The tag in front tells which
+/// (X.690 8.13, X.680 29.3).
 #[derive(Clone, Copy, Debug)]
 pub struct Or<A, B> {
     /// The first alternative.
@@ -23,7 +24,8 @@ pub enum ChoiceMisfit<E, F> {
     First(E),
     /// The value of the others.
     Other(F),
-    /// The value is of the others, and begins with a tag of the first alternative, so that it would be read as such.
+    /// The value is of the others, and begins with a tag of the first alternative, so that it would
+    /// be read as such.
     Ambiguous,
 }
 

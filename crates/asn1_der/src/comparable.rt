@@ -6,7 +6,8 @@ ghost use Rattle.asn1_bits.specs.BitReader.{view_left, bits_left};
 use crate::contents::Contents;
 use asn1_values::BitReader;
 
-/// Contents whose values can be compared, as a default value has to be ([`NotDefault`](crate::NotDefault)).
+/// Contents whose values can be compared, as a default value has to be
+/// ([`NotDefault`](crate::NotDefault)).
 pub trait Comparable: Contents {
     /// Whether contracts see the same in both values.
     fn are_equal(&self, first: &Self::Value, second: &Self::Value) -> bool

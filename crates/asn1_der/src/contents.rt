@@ -10,8 +10,8 @@ use asn1_formats::Refusal;
 use asn1_values::{BitBuffer, BitReader};
 use std::alloc::Global;
 
-/// The contents of an element: values, and whole octets that spell them. They do not say where they end, which is for
-/// the length before them to say: [`Tlv`](crate::Tlv) makes a format of them.
+/// The contents of an element: values, and whole octets that spell them. They do not say where they
+/// end, which is for the length before them to say: [`Tlv`](crate::Tlv) makes a format of them.
 pub trait Contents {
     /// The values.
     type Value: Drop;
@@ -39,8 +39,8 @@ pub trait Contents {
     /// No value owns memory, so reading asks for none.
     ghost owns_nothing: { Self → Type 0 };
 
-    /// Appends the spelling. Where it is refused, a part may have been appended; `Memory` also where the length in bits
-    /// passes `usize`.
+    /// Appends the spelling. Where it is refused, a part may have been appended; `Memory` also
+    /// where the length in bits passes `usize`.
     fn append(
         &self,
         buffer: &mut BitBuffer,
@@ -50,7 +50,8 @@ pub trait Contents {
         ensures refused { IfErr result (IsRefusal (is_misfit self.now (plain value.now)) ⊤) }
         ensures kept { OnErr result (Extends buffer.old buffer.new) };
 
-    /// How many bits spell the value, `None` where `usize` can't count them; or what is wrong with it.
+    /// How many bits spell the value, `None` where `usize` can't count them; or what is wrong with
+    /// it.
     fn measure(&self, value: &Self::Value) -> Result<Option<usize>, Self::Misfit>
         ensures measured { IfOk result (Measures (spells self.now) (plain value.now)) }
         ensures misfit { IfErr result (is_misfit self.now (plain value.now)) };

@@ -12,8 +12,9 @@ use asn1_formats::Refusal;
 use asn1_values::{BitBuffer, BitReader};
 use std::alloc::Global;
 
-/// An element: values whose spellings are whole octets and begin with a tag, by which OPTIONAL, DEFAULT and CHOICE tell
-/// whether a value begins (X.680 25.6, 29.3). Contents that are elements are composed of these.
+/// An element: values whose spellings are whole octets and begin with a tag, by which OPTIONAL,
+/// DEFAULT and CHOICE tell whether a value begins (X.680 25.6, 29.3). Contents that are elements
+/// are composed of these.
 pub trait Element {
     /// The values.
     type Value: Drop;
@@ -53,8 +54,8 @@ pub trait Element {
     fn tag_of(&self, value: &Self::Value) -> Tag
         ensures { (list : List Bool) → spells self.now (plain value.now) list → HasTag result list };
 
-    /// Appends the spelling. Where it is refused, a part may have been appended; `Memory` also where the length in bits
-    /// passes `usize`.
+    /// Appends the spelling. Where it is refused, a part may have been appended; `Memory` also
+    /// where the length in bits passes `usize`.
     fn append(
         &self,
         buffer: &mut BitBuffer,
@@ -64,12 +65,14 @@ pub trait Element {
         ensures refused { IfErr result (IsRefusal (is_misfit self.now (plain value.now)) ⊤) }
         ensures kept { OnErr result (Extends buffer.old buffer.new) };
 
-    /// How many bits spell the value, `None` where `usize` can't count them; or what is wrong with it.
+    /// How many bits spell the value, `None` where `usize` can't count them; or what is wrong with
+    /// it.
     fn measure(&self, value: &Self::Value) -> Result<Option<usize>, Self::Misfit>
         ensures measured { IfOk result (Measures (spells self.now) (plain value.now)) }
         ensures misfit { IfErr result (is_misfit self.now (plain value.now)) };
 
-    /// Reads a value. Where it is refused, the reader may have moved, and `Memory` may hide what is wrong behind.
+    /// Reads a value. Where it is refused, the reader may have moved, and `Memory` may hide what is
+    /// wrong behind.
     fn take(
         &self,
         alloc: Global,

@@ -12,8 +12,8 @@ use asn1_formats::Refusal;
 use asn1_values::{BitBuffer, BitReader};
 use std::alloc::Global;
 
-/// Elements one after another, up to the end of the contents that they are. [`Sequence`](crate::Sequence) makes contents
-/// of them.
+/// Elements one after another, up to the end of the contents that they are.
+/// [`Sequence`](crate::Sequence) makes contents of them.
 pub trait Elements {
     /// The values.
     type Value: Drop;
@@ -45,8 +45,8 @@ pub trait Elements {
     fn first_tag(&self, value: &Self::Value) -> Option<Tag>
         ensures { (list : List Bool) → spells self.now (plain value.now) list → FirstTag list result };
 
-    /// Appends the spelling. Where it is refused, a part may have been appended; `Memory` also where the length in bits
-    /// passes `usize`.
+    /// Appends the spelling. Where it is refused, a part may have been appended; `Memory` also
+    /// where the length in bits passes `usize`.
     fn append(
         &self,
         buffer: &mut BitBuffer,
@@ -56,7 +56,8 @@ pub trait Elements {
         ensures refused { IfErr result (IsRefusal (is_misfit self.now (plain value.now)) ⊤) }
         ensures kept { OnErr result (Extends buffer.old buffer.new) };
 
-    /// How many bits spell the value, `None` where `usize` can't count them; or what is wrong with it.
+    /// How many bits spell the value, `None` where `usize` can't count them; or what is wrong with
+    /// it.
     fn measure(&self, value: &Self::Value) -> Result<Option<usize>, Self::Misfit>
         ensures measured { IfOk result (Measures (spells self.now) (plain value.now)) }
         ensures misfit { IfErr result (is_misfit self.now (plain value.now)) };

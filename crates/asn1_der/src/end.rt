@@ -2,10 +2,9 @@
 
 use crate::elements::Elements;
 use crate::tag::Tag;
-use asn1_formats::Refusal;
+use asn1_formats::{NeverWrong, Refusal};
 use asn1_values::{BitBuffer, BitReader};
 use std::alloc::Global;
-use std::convert::Infallible;
 
 /// The end of contents: no element.
 #[derive(Clone, Copy, Debug)]
@@ -27,7 +26,7 @@ impl Elements for End {
 
     type Fault = NotEnd;
 
-    type Misfit = Infallible;
+    type Misfit = NeverWrong;
 
     ghost Plain = { ⊤ };
 
@@ -45,11 +44,11 @@ impl Elements for End {
         None
     }
 
-    fn append(&self, _buffer: &mut BitBuffer, _value: &()) -> Result<(), Refusal<Infallible>> {
+    fn append(&self, _buffer: &mut BitBuffer, _value: &()) -> Result<(), Refusal<NeverWrong>> {
         Ok(())
     }
 
-    fn measure(&self, _value: &()) -> Result<Option<usize>, Infallible> {
+    fn measure(&self, _value: &()) -> Result<Option<usize>, NeverWrong> {
         Ok(Some(0))
     }
 

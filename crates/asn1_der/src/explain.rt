@@ -1,14 +1,10 @@
 //! What is wrong, in words.
 
-use crate::bit_string::BitStringFault;
-use crate::boolean::BooleanFault;
 use crate::choice::ChoiceMisfit;
 use crate::end::NotEnd;
-use crate::integer::NotShortest;
 use crate::items::InItem;
 use crate::length::LengthFault;
 use crate::not_default::InDefault;
-use crate::object_identifier::{IdentifierFault, OneArc};
 use crate::optional::OptionalMisfit;
 use crate::tag::TagFault;
 use crate::tlv::{ElementFault, InTlv, TlvMisfit};
@@ -195,75 +191,5 @@ impl<E: Explain> fmt::Display for InItem<E> {
 impl<E: Explain> Explain for InItem<E> {
     fn is_reason(&self) -> bool {
         false
-    }
-}
-
-impl fmt::Display for BooleanFault {
-    fn fmt<W: fmt::Write>(&self, f: &mut fmt::Formatter<W>) -> fmt::Result {
-        match self {
-            BooleanFault::Octets { count } => write!(f, "{count} octets, and not one"),
-            BooleanFault::Other { octet } => write!(f, "the octet is {octet}, and not 0 or 255"),
-        }
-    }
-}
-
-impl Explain for BooleanFault {
-    fn is_reason(&self) -> bool {
-        true
-    }
-}
-
-impl fmt::Display for NotShortest {
-    fn fmt<W: fmt::Write>(&self, f: &mut fmt::Formatter<W>) -> fmt::Result {
-        write!(f, "not a shortest integer")
-    }
-}
-
-impl Explain for NotShortest {
-    fn is_reason(&self) -> bool {
-        true
-    }
-}
-
-impl fmt::Display for IdentifierFault {
-    fn fmt<W: fmt::Write>(&self, f: &mut fmt::Formatter<W>) -> fmt::Result {
-        match self {
-            IdentifierFault::Malformed => write!(f, "no object identifier"),
-            IdentifierFault::LargeArc => write!(f, "an arc passes 32 bits"),
-        }
-    }
-}
-
-impl Explain for IdentifierFault {
-    fn is_reason(&self) -> bool {
-        true
-    }
-}
-
-impl fmt::Display for OneArc {
-    fn fmt<W: fmt::Write>(&self, f: &mut fmt::Formatter<W>) -> fmt::Result {
-        write!(f, "the identifier has one arc")
-    }
-}
-
-impl Explain for OneArc {
-    fn is_reason(&self) -> bool {
-        true
-    }
-}
-
-impl fmt::Display for BitStringFault {
-    fn fmt<W: fmt::Write>(&self, f: &mut fmt::Formatter<W>) -> fmt::Result {
-        match self {
-            BitStringFault::Empty => write!(f, "no octet"),
-            BitStringFault::Unused { count } => write!(f, "{count} bits are said to be unused"),
-            BitStringFault::NotZero => write!(f, "the unused bits are not zero"),
-        }
-    }
-}
-
-impl Explain for BitStringFault {
-    fn is_reason(&self) -> bool {
-        true
     }
 }

@@ -8,20 +8,22 @@ ghost use Rattle.asn1_der.specs.Primitives.{HoldsInteger};
 use crate::comparable::Comparable;
 use crate::contents::Contents;
 use crate::octet_string::bit_count;
-use asn1_formats::{Refusal, push_octets};
+use asn1_formats::{NeverWrong, Refusal, push_octets};
 use asn1_values::{BitBuffer, BitReader, BitStr, Integer, integer_of};
 use std::alloc::Global;
-use std::convert::Infallible;
 
-/// The contents of an INTEGER or an ENUMERATED: the fewest two's complement octets of the number (X.690 8.3, 8.4).
+/// The contents of an INTEGER or an ENUMERATED: the fewest two's complement octets of the number
+/// (X.690 8.3, 8.4).
 #[derive(Clone, Copy, Debug)]
 pub struct IntegerContents {}
 
-/// There is no octet, or the first nine bits are all alike, so that fewer octets hold the number (X.690 8.3.2).
+/// There is no octet, or the first nine bits are all alike, so that fewer octets hold the number
+/// (X.690 8.3.2).
 #[derive(Clone, Copy, Debug, PartialEq, Eq, Drop)]
 pub struct NotShortest {}
 
-/// Whether the octets that are left are the shortest of a number: one, or more whose first nine bits are not all alike.
+/// Whether the octets that are left are the shortest of a number: one, or more whose first nine
+/// bits are not all alike.
 fn is_shortest(contents: &BitReader<'_>) -> bool
     requires { (view_left contents.now).len % 8 ≡ 0 }
     ensures yes { IsTrue result → HoldsInteger (bits_left contents.now) }
@@ -55,7 +57,7 @@ impl Contents for IntegerContents {
 
     type Fault = NotShortest;
 
-    type Misfit = Infallible;
+    type Misfit = NeverWrong;
 
     ghost Plain = { ℤ };
 
@@ -69,7 +71,7 @@ impl Contents for IntegerContents {
 
     ghost owns_nothing = { λ f. ⊥ };
 
-    fn append(&self, buffer: &mut BitBuffer, value: &Integer) -> Result<(), Refusal<Infallible>> {
+    fn append(&self, buffer: &mut BitBuffer, value: &Integer) -> Result<(), Refusal<NeverWrong>> {
         let octets = value.signed_octets();
         match push_octets(buffer, octets.as_ref()) {
             Ok(()) => Ok(()),
@@ -77,7 +79,7 @@ impl Contents for IntegerContents {
         }
     }
 
-    fn measure(&self, value: &Integer) -> Result<Option<usize>, Infallible> {
+    fn measure(&self, value: &Integer) -> Result<Option<usize>, NeverWrong> {
         let count = value.signed_len();
         Ok(bit_count(count))
     }

@@ -6,8 +6,9 @@ use asn1_formats::Refusal;
 use asn1_values::{BitBuffer, BitReader};
 use std::alloc::Global;
 
-/// The contents of an element that has a DEFAULT, where it is there: each value but the default, which is never encoded
-/// (X.690 11.5). An [`Optional`](crate::Optional) of such an element is the component: a missing one has the default.
+/// The contents of an element that has a DEFAULT, where it is there: each value but the default,
+/// which is never encoded (X.690 11.5). An [`Optional`](crate::Optional) of such an element is the
+/// component: a missing one has the default.
 #[derive(Debug, Drop)]
 pub struct NotDefault<C: Comparable> {
     /// The contents.

@@ -9,7 +9,7 @@ ghost use Rattle.asn1_formats.specs.Spelling.{Extends};
 ghost use Rattle.asn1_der.specs.ViewOctets.{octets_in};
 
 use crate::contents::Contents;
-use crate::view_octets::ViewOctets;
+use crate::view_octets::source_of;
 use asn1_formats::{Refusal, push_number};
 use asn1_values::{
     BitBuffer, BitReader, ContentsError, ObjectIdentifier, OidContents, check_contents,
@@ -23,8 +23,8 @@ pub struct ObjectIdentifierContents {}
 /// What is wrong with the contents of an OBJECT IDENTIFIER.
 #[derive(Clone, Copy, Debug, PartialEq, Eq, Drop)]
 pub enum IdentifierFault {
-    /// The octets are the contents of no identifier: there is none, or they end within a subidentifier, or one has more
-    /// octets than it needs (8.19.2).
+    /// The octets are the contents of no identifier: there is none, or they end within a
+    /// subidentifier, or one has more octets than it needs (8.19.2).
     Malformed,
     /// An arc does not fit 32 bits.
     LargeArc,
@@ -33,17 +33,6 @@ pub enum IdentifierFault {
 /// The identifier has one arc, and so no contents: 8.19.4 takes two.
 #[derive(Clone, Copy, Debug, PartialEq, Eq, Drop)]
 pub struct OneArc {}
-
-/// The octets that are left, where they lie.
-fn source_of(contents: BitReader<'_>) -> ViewOctets<'_>
-    requires { (view_left contents).len % 8 ≡ 0 }
-    ensures { bits_left contents.entry
-        ≡ bits (octets_in ((view_of result.bits).len / 8) (bits_of result.bits)) }
-{
-    ViewOctets {
-        bits: contents.bits(),
-    }
-}
 
 /// Arcs fit 32 bits. It does nothing.
 fn arcs_fit(arcs: &[u32])

@@ -6,10 +6,9 @@ ghost use Rattle.asn1_bits.specs.BitReader.{view_left, bits_left};
 ghost use Rattle.asn1_formats.specs.Spelling.{IsLength};
 
 use crate::contents::Contents;
-use asn1_formats::{Refusal, push_octets};
+use asn1_formats::{NeverWrong, Refusal, push_octets};
 use asn1_values::{BitBuffer, BitReader, extend_vec_from_bitslice};
 use std::alloc::{AllocError, Global};
-use std::convert::Infallible;
 
 /// The contents of an OCTET STRING: its octets (X.690 8.7, 10.2).
 #[derive(Clone, Copy, Debug)]
@@ -49,9 +48,9 @@ impl Contents for OctetStringContents {
 
     type Value = Vec<u8>;
 
-    type Fault = Infallible;
+    type Fault = NeverWrong;
 
-    type Misfit = Infallible;
+    type Misfit = NeverWrong;
 
     ghost Plain = { List ℕ };
 
@@ -65,26 +64,26 @@ impl Contents for OctetStringContents {
 
     ghost owns_nothing = { λ f. ⊥ };
 
-    fn append(&self, buffer: &mut BitBuffer, value: &Vec<u8>) -> Result<(), Refusal<Infallible>> {
+    fn append(&self, buffer: &mut BitBuffer, value: &Vec<u8>) -> Result<(), Refusal<NeverWrong>> {
         match push_octets(buffer, value.as_slice()) {
             Ok(()) => Ok(()),
             Err(_) => Err(Refusal::Memory),
         }
     }
 
-    fn measure(&self, value: &Vec<u8>) -> Result<Option<usize>, Infallible> {
+    fn measure(&self, value: &Vec<u8>) -> Result<Option<usize>, NeverWrong> {
         are_octets(value.as_slice());
         Ok(bit_count(value.len()))
     }
 
-    fn take(&self, alloc: Global, contents: BitReader<'_>) -> Result<Vec<u8>, Refusal<Infallible>> {
+    fn take(&self, alloc: Global, contents: BitReader<'_>) -> Result<Vec<u8>, Refusal<NeverWrong>> {
         match octets_of(alloc, contents) {
             Ok(octets) => Ok(octets),
             Err(_) => Err(Refusal::Memory),
         }
     }
 
-    fn check(&self, contents: BitReader<'_>) -> Result<(), Infallible> {
+    fn check(&self, contents: BitReader<'_>) -> Result<(), NeverWrong> {
         let _len = contents.len();
         Ok(())
     }

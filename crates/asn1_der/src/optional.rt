@@ -8,13 +8,14 @@ use asn1_formats::{InThen, Refusal, sum_of};
 use asn1_values::{BitBuffer, BitReader};
 use std::alloc::Global;
 
-/// OPTIONAL: an element that may be missing, and the others behind it. It is there where the octets go on with a tag of
-/// it (X.680 25.6, X.690 8.9.3).
+/// OPTIONAL: an element that may be missing, and the others behind it. It is there where the octets
+/// go on with a tag of it (X.680 25.6, X.690 8.9.3).
 #[derive(Clone, Copy, Debug)]
 pub struct Optional<F, R> {
     /// The element in front, where it is there.
     pub first: F,
-    /// The others: a [`Required`](crate::Required), an `Optional` or their like, or [`End`](crate::End).
+    /// The others: a [`Required`](crate::Required), an `Optional` or their like, or
+    /// [`End`](crate::End).
     pub rest: R,
 }
 
@@ -25,7 +26,8 @@ pub enum OptionalMisfit<E, F> {
     First(E),
     /// The others, where that in front is right or missing.
     Second(F),
-    /// The element in front is missing, and the others begin with a tag of it, so that they would be read as it.
+    /// The element in front is missing, and the others begin with a tag of it, so that they would
+    /// be read as it.
     Ambiguous,
 }
 

@@ -13,7 +13,8 @@ use std::alloc::Global;
 pub struct Required<F, R> {
     /// The element in front.
     pub first: F,
-    /// The others: a `Required`, an [`Optional`](crate::Optional) or their like, or [`End`](crate::End).
+    /// The others: a `Required`, an [`Optional`](crate::Optional) or their like, or
+    /// [`End`](crate::End).
     pub rest: R,
 }
 

@@ -23,7 +23,8 @@ pub enum Class {
     Private,
 }
 
-/// What the identifier octets of an element say: its tag, and whether its contents are elements (X.690 8.1.2).
+/// What the identifier octets of an element say: its tag, and whether its contents are elements
+/// (X.690 8.1.2).
 #[derive(Clone, Copy, Debug, PartialEq, Eq)]
 pub struct Tag {
     /// The class.

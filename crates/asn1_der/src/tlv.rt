@@ -13,8 +13,8 @@ use asn1_formats::{Format, Refusal, sum_of};
 use asn1_values::{BitBuffer, BitReader};
 use std::alloc::Global;
 
-/// An element: the identifier octets of a tag, the number of its octets in the fewest octets, and contents that fill
-/// these exactly (X.690 8.1.1, 10.1).
+/// An element: the identifier octets of a tag, the number of its octets in the fewest octets, and
+/// contents that fill these exactly (X.690 8.1.1, 10.1).
 #[derive(Clone, Copy, Debug)]
 pub struct Tlv<C> {
     /// The tag.

@@ -1,10 +1,12 @@
 //! The octets that contents have.
 
-ghost use Rattle.std.specs.Prelude.{◌/◌};
+ghost use Rattle.std.specs.Prelude.{◌≡◌, ◌/◌, ◌%◌};
+ghost use Rattle.asn1_bits.specs.Bits.{bits};
 ghost use Rattle.asn1_bits.specs.BitStr.{view_of, bits_of};
+ghost use Rattle.asn1_bits.specs.BitReader.{view_left, bits_left};
 ghost use Rattle.asn1_der.specs.ViewOctets.{octets_in};
 
-use asn1_values::{BitStr, OctetSource, read_u128};
+use asn1_values::{BitReader, BitStr, OctetSource, read_u128};
 
 /// The octets that lie in a view one after another, wherever the first bit is.
 #[derive(Clone, Copy)]
@@ -23,5 +25,16 @@ impl OctetSource for ViewOctets<'_> {
         // A length fits `usize`, and so do its places.
         let _len = self.bits.len();
         read_u128(self.bits.slice(8 * i, 8)) as u8
+    }
+}
+
+/// The octets that are left, where they lie.
+pub(crate) fn source_of(contents: BitReader<'_>) -> ViewOctets<'_>
+    requires { (view_left contents).len % 8 ≡ 0 }
+    ensures { bits_left contents.entry
+        ≡ bits (octets_in ((view_of result.bits).len / 8) (bits_of result.bits)) }
+{
+    ViewOctets {
+        bits: contents.bits(),
     }
 }

@@ -11,3 +11,7 @@ mod combinators;
 mod elements;
 #[cfg(test)]
 mod primitives;
+#[cfg(test)]
+mod strings;
+#[cfg(test)]
+mod times;

@@ -1,0 +1,5 @@
+//! Worked certificates, and damaged ones.
+
+mod certificates;
+mod program;
+mod values;

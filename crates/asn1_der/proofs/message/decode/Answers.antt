@@ -1,0 +1,12 @@
+use Rattle.std.proofs.Common.{List, [], Bool, sym, subst}
+use Rattle.asn1_bits.specs.Bits.{bits}
+use Rattle.asn1_formats.specs.Spelling.{Starts}
+use Rattle.asn1_der.specs.MessageLaws.{starts_all}
+use Rattle.asn1_der.proofs.message.decode.Goals as goal
+
+pub returns-else-bits-gt0-clause-only : goal.returns-else-bits-gt0-clause-only
+returns-else-bits-gt0-clause-only g c = λ y p.
+    let P = g.F.Format.reads c.args.format.now in
+    let list = bits c.args.octets.now in
+    (c.in-Ok.ensures.only y []
+    (subst (λ (l : List Bool). Starts P l y []) (sym c.from_octets-reader.ensures.list) (starts_all P list y p))).0

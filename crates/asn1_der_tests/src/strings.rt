@@ -1,0 +1,84 @@
+//! Strings.
+
+use super::calls::{element, found, written};
+use asn1_der::{CharacterStringContents, InTlv, NotInSet, NotUtf8, Utf8StringContents};
+use asn1_formats::Refusal;
+use asn1_values::{
+    Ia5, Ia5String, Numeric, Printable, PrintableString, StaticPermittedAlphabet, Teletex, Visible,
+    VisibleString,
+};
+use std::test::Fail;
+
+// Expected octets from `openssl asn1parse -genstr PRINTABLE:..`, and so on.
+
+#[test]
+fn a_printable_string_has_an_octet_for_each_character(rt: HostRuntime) -> Result<(), Fail> {
+    let format = element(19, false, CharacterStringContents { kind: Printable });
+    let octets = b"\x13\x0BTest User 1";
+    let value = PrintableString::try_from_slice(rt.alloc(), b"Test User 1")?;
+    assert_eq!(rt;
+        written(&format, rt.alloc(), &value)?.as_slice(),
+        octets.as_slice()
+    );
+    assert_eq!(rt; found(&format, rt.alloc(), octets)?, value);
+    assert_eq!(rt;
+        found(&format, rt.alloc(), b"\x13\x03a@*").err(),
+        Some(Refusal::Wrong(InTlv::Contents(NotInSet {
+            index: 1,
+            character: b'@'
+        })))
+    );
+    Ok(())
+}
+
+#[test]
+fn other_sets_have_other_characters(rt: HostRuntime) -> Result<(), Fail> {
+    // X.690 8.23.11: the VisibleString "Jones".
+    let visible = element(26, false, CharacterStringContents { kind: Visible });
+    let value = VisibleString::try_from_slice(rt.alloc(), b"Jones")?;
+    assert_eq!(rt; found(&visible, rt.alloc(), b"\x1A\x05Jones")?, value);
+    let ia5 = element(22, false, CharacterStringContents { kind: Ia5 });
+    let value = Ia5String::try_from_slice(rt.alloc(), b"a@b")?;
+    assert_eq!(rt; found(&ia5, rt.alloc(), b"\x16\x03a@b")?, value);
+    assert_eq!(rt;
+        found(&ia5, rt.alloc(), b"\x16\x01\x80").err(),
+        Some(Refusal::Wrong(InTlv::Contents(NotInSet {
+            index: 0,
+            character: 0x80
+        })))
+    );
+    let numeric = element(18, false, CharacterStringContents { kind: Numeric });
+    assert_eq!(rt; found(&numeric, rt.alloc(), b"\x12\x0412 3")?.len(), 4);
+    assert_eq!(rt; found(&numeric, rt.alloc(), b"\x12\x041-23").is_err(), true);
+    let teletex = element(20, false, CharacterStringContents { kind: Teletex });
+    assert_eq!(rt; found(&teletex, rt.alloc(), b"\x14\x01\xE9")?.len(), 1);
+    Ok(())
+}
+
+#[test]
+fn a_text_is_in_utf8(rt: HostRuntime) -> Result<(), Fail> {
+    let format = element(12, false, Utf8StringContents {});
+    let octets = b"\x0C\x06a\xC3\xA9\xE2\x82\xAC";
+    let value = String::from_str(rt.alloc(), "a\u{e9}\u{20ac}")?;
+    assert_eq!(rt;
+        written(&format, rt.alloc(), &value)?.as_slice(),
+        octets.as_slice()
+    );
+    assert_eq!(rt;
+        found(&format, rt.alloc(), octets)?.as_str(),
+        "a\u{e9}\u{20ac}"
+    );
+    // A character that is cut, a surrogate, and an octet that begins none.
+    let rows: [(&[u8], usize); 3] = [
+        (b"\x0C\x03a\xE2\x82", 1),
+        (b"\x0C\x05ab\xED\xA0\x80", 2),
+        (b"\x0C\x05\xC3\xA9\xC3\xA9\xFF", 4),
+    ];
+    for (octets, index) in rows {
+        assert_eq!(rt;
+            found(&format, rt.alloc(), octets).err(),
+            Some(Refusal::Wrong(InTlv::Contents(NotUtf8 { index })))
+        );
+    }
+    Ok(())
+}

@@ -1,0 +1,122 @@
+//! Times.
+
+use super::calls::{element, found, written};
+use asn1_der::{
+    GeneralizedTimeContents, InTlv, Moment, NoTime, TimeFault, TlvMisfit, UtcTime, UtcTimeContents,
+};
+use asn1_formats::{Refusal, WriteRefusal};
+use std::test::Fail;
+
+/// A time in two digits of the year.
+fn utc(year: u8, month: u8, day: u8) -> UtcTime {
+    UtcTime {
+        year,
+        month,
+        day,
+        hour: 13,
+        minute: 38,
+        second: 28,
+    }
+}
+
+#[test]
+fn a_utc_time_has_two_digits_of_the_year(rt: HostRuntime) -> Result<(), Fail> {
+    let format = element(23, false, UtcTimeContents {});
+    // `openssl asn1parse -genstr UTC:130626133828Z`
+    let octets = b"\x17\x0D130626133828Z";
+    assert_eq!(rt;
+        written(&format, rt.alloc(), &utc(13, 6, 26))?.as_slice(),
+        octets.as_slice()
+    );
+    let time = found(&format, rt.alloc(), octets)?;
+    assert_eq!(rt; time, utc(13, 6, 26));
+    // RFC 5280 4.1.2.5.1
+    assert_eq!(rt; time.moment().year, 2013);
+    assert_eq!(rt; utc(49, 1, 1).moment().year, 2049);
+    assert_eq!(rt; utc(50, 1, 1).moment().year, 1950);
+    Ok(())
+}
+
+#[test]
+fn a_wrong_utc_time_is_refused(rt: HostRuntime) -> Result<(), Fail> {
+    let format = element(23, false, UtcTimeContents {});
+    let rows: [(&[u8], TimeFault); 6] = [
+        (b"\x17\x0B1306261338Z", TimeFault::Octets { count: 11 }),
+        (
+            b"\x17\x0D13062613382xZ",
+            TimeFault::Other {
+                index: 11,
+                octet: b'x',
+            },
+        ),
+        (
+            b"\x17\x0D130626133828z",
+            TimeFault::Other {
+                index: 12,
+                octet: b'z',
+            },
+        ),
+        (b"\x17\x0D130229133828Z", TimeFault::NoSuchTime),
+        (b"\x17\x0D130626240000Z", TimeFault::NoSuchTime),
+        (b"\x17\x0D130026133828Z", TimeFault::NoSuchTime),
+    ];
+    for (octets, fault) in rows {
+        assert_eq!(rt;
+            found(&format, rt.alloc(), octets).err(),
+            Some(Refusal::Wrong(InTlv::Contents(fault)))
+        );
+    }
+    // 2012 and 2000 have a 29 February.
+    assert_eq!(rt;
+        found(&format, rt.alloc(), b"\x17\x0D120229133828Z")?,
+        utc(12, 2, 29)
+    );
+    assert_eq!(rt;
+        found(&format, rt.alloc(), b"\x17\x0D000229133828Z")?,
+        utc(0, 2, 29)
+    );
+    assert_eq!(rt;
+        written(&format, rt.alloc(), &utc(100, 1, 1)).err(),
+        Some(WriteRefusal::Wrong(TlvMisfit::Contents(NoTime {})))
+    );
+    Ok(())
+}
+
+/// The last second of a day.
+fn last_second(year: u16, month: u8, day: u8) -> Moment {
+    Moment {
+        year,
+        month,
+        day,
+        hour: 23,
+        minute: 59,
+        second: 59,
+    }
+}
+
+#[test]
+fn a_generalized_time_has_four_digits_of_the_year(rt: HostRuntime) -> Result<(), Fail> {
+    let format = element(24, false, GeneralizedTimeContents {});
+    // `openssl asn1parse -genstr GENTIME:20501231235959Z`
+    let octets = b"\x18\x0F20501231235959Z";
+    let value = last_second(2050, 12, 31);
+    assert_eq!(rt;
+        written(&format, rt.alloc(), &value)?.as_slice(),
+        octets.as_slice()
+    );
+    assert_eq!(rt; found(&format, rt.alloc(), octets)?, value);
+    // 2100 has no 29 February, 2400 has one.
+    assert_eq!(rt;
+        found(&format, rt.alloc(), b"\x18\x0F21000229235959Z").err(),
+        Some(Refusal::Wrong(InTlv::Contents(TimeFault::NoSuchTime)))
+    );
+    assert_eq!(rt;
+        found(&format, rt.alloc(), b"\x18\x0F24000229235959Z")?,
+        last_second(2400, 2, 29)
+    );
+    assert_eq!(rt;
+        found(&format, rt.alloc(), b"\x18\x1120501231235959.5Z").err(),
+        Some(Refusal::Wrong(InTlv::Contents(TimeFault::Octets { count: 17 })))
+    );
+    Ok(())
+}

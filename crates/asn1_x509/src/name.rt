@@ -1,0 +1,40 @@
+//! Names.
+
+use crate::elements::{identifier, required, sequence, universal};
+use asn1_der::{Any, AnyValue, End, ObjectIdentifierContents, Required, Sequence, SequenceOf, Tlv};
+use asn1_values::ObjectIdentifier;
+
+/// What an attribute is, and its value, mostly a string, as an element that is not looked into.
+pub type AttributeTypeAndValue = (ObjectIdentifier, (AnyValue, ()));
+
+/// `SEQUENCE { type OBJECT IDENTIFIER, value ANY }`.
+pub type AttributeFormat = Tlv<
+    Sequence<Required<Tlv<ObjectIdentifierContents>, Required<Any, End>>>,
+>;
+
+/// `SEQUENCE OF SET OF AttributeTypeAndValue`. That the attributes of a set stand in ascending
+/// order (X.690 11.6) is not examined.
+pub type NameFormat = Tlv<SequenceOf<Tlv<SequenceOf<AttributeFormat>>>>;
+
+/// A name: sets of attributes (RFC 5280 4.1.2.4).
+pub type Name = Vec<Vec<AttributeTypeAndValue>>;
+
+/// The format of an attribute.
+pub fn attribute_format() -> AttributeFormat {
+    sequence(required(identifier(), required(Any {}, End {})))
+}
+
+/// The format of a name.
+pub fn name_format() -> NameFormat {
+    Tlv {
+        tag: universal(16, true),
+        contents: SequenceOf {
+            item: Tlv {
+                tag: universal(17, true),
+                contents: SequenceOf {
+                    item: attribute_format(),
+                },
+            },
+        },
+    }
+}
