@@ -1,5 +1,5 @@
 -- Laws of UTCTime and GeneralizedTime: their fields.
-use Rattle.std.proofs.Common.{◌≡◌, ℕ, zero, suc, ◌+◌, ◌*◌, ◌/◌, ◌%◌, ◌<◌, ◌≤◌, List, [], ◌∷◌, length, get_or, refl, sym, ◌∙◌, ap, arith}
+use Rattle.std.proofs.Common.{◌≡◌, ℕ, zero, suc, ◌+◌, ◌*◌, ◌/◌, ◌%◌, ◌<◌, ◌≤◌, List, get_or, refl, sym, ◌∙◌, ap, arith}
 use Rattle.asn1_der.specs.declared.moment.Moment.{Moment}
 use Rattle.asn1_der.specs.declared.utc_time.UtcTime.{UtcTime}
 use Rattle.asn1_der.specs.Contents.{FillsOne, NamesWrong}

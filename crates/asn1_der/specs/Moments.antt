@@ -1,5 +1,5 @@
 -- Days of the Gregorian calendar, and times of day.
-use Rattle.std.specs.Prelude.{◌≡◌, ℕ, ◌+◌, ◌%◌, ◌<◌, ◌≤◌, ◌==◌, ◌&&◌, ◌||◌, Bool, not, if◌then◌else◌, nat_lt}
+use Rattle.std.specs.Prelude.{ℕ, ◌%◌, ◌<◌, ◌≤◌, ◌==◌, ◌&&◌, ◌||◌, Bool, not, if◌then◌else◌}
 use Rattle.asn1_der.specs.declared.moment.Moment.{Moment}
 
 -- a year with a 29 February

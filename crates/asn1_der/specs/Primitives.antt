@@ -1,7 +1,6 @@
 -- The contents of primitive elements (X.690 8.2 to 8.8, 11.1, 11.2), and what is wrong with them.
 use Rattle.std.specs.Prelude.{◌≡◌, ◌≢◌, ℕ, ℤ, ◌*◌, Bool, true, false, List, length}
 use Rattle.asn1_bits.specs.Bits.{bits, digits}
-use Rattle.asn1_number.specs.Octets.{IsShortest}
 use Rattle.asn1_number.specs.Shortest.{shortest_octets}
 use Rattle.asn1_formats.specs.Numbers.{IsNumber}
 use Rattle.asn1_der.specs.declared.boolean.BooleanFault.{BooleanFault}
@@ -23,7 +22,3 @@ BooleanFaultIs list (Other octet) = (octet ≢ 0) × (octet ≢ 255) × IsNumber
 -- the shortest two's complement octets of the number (8.3.2, 8.3.3)
 abbrev pub IsInteger : ℤ → List Bool → Type 0
 IsInteger n list = list ≡ bits (shortest_octets n)
-
--- the bits are those of the shortest octets of a number
-abbrev pub HoldsInteger : List Bool → Type 0
-HoldsInteger list = (octets : List ℕ) × (n : ℤ) × IsShortest n octets × (list ≡ bits octets)

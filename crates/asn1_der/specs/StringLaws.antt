@@ -1,5 +1,5 @@
 -- Laws of strings by the octets of their contents.
-use Rattle.std.proofs.Common.{◌≡◌, ℕ, zero, suc, ◌+◌, ◌-◌, ◌<◌, ◌≤◌, ◌⊎◌, inl, inr, Bool, true, false, ◌&&◌, min, map, List, [], ◌∷◌, ◌++◌, length, take, drop, get_or, refl, sym, ◌∙◌, ap, subst, arith}
+use Rattle.std.proofs.Common.{◌≡◌, ℕ, zero, suc, ◌+◌, ◌-◌, ◌<◌, ◌≤◌, ◌⊎◌, inl, inr, Bool, true, false, ◌&&◌, min, map, List, [], ◌∷◌, length, take, drop, get_or, refl, sym, ◌∙◌, ap, subst, arith}
 use Rattle.std.proofs.lemmas.Bool.{cases_order}
 use Rattle.std.proofs.lemmas.List.{get_or_default, length-append, length-take, length-drop, take-take, drop-take, append-nil, take_all}
 use Rattle.std.proofs.lemmas.Str.{utf8_valid_len-IsUtf8, utf8_valid_len-IsValidUpTo, length-encode, len_utf8_bounds, IsCharBoundary-from_take, IsUtf8-drop}
@@ -14,7 +14,6 @@ use Rattle.asn1_characters.specs.declared.character_set.CharacterSetName.{Charac
 use Rattle.asn1_formats.specs.Spelling.{SpellsOne}
 use Rattle.asn1_formats.specs.OctetStrings.{AreOctets}
 use Rattle.asn1_der.specs.declared.character_string.NotInSet.{NotInSet}
-use Rattle.asn1_der.specs.declared.utf8_string.NotUtf8.{NotUtf8}
 use Rattle.asn1_der.specs.Contents.{FillsOne, NamesWrong, AreWhole}
 use Rattle.asn1_der.specs.OctetContents.{IsInOctets, IsWrongInOctets}
 use Rattle.asn1_der.specs.OctetContentsLaws.{in_octets_fill_one, in_octets_spell_one, in_octets_whole, in_octets_name_wrong, in_octets_are}

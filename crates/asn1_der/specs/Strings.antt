@@ -1,5 +1,5 @@
 -- Strings by the octets of their contents (X.680 41, X.690 8.21, 8.23), and what is wrong with one.
-use Rattle.std.specs.Prelude.{◌≡◌, ℕ, ◌<◌, Bool, true, false, List, All, length, slice_index}
+use Rattle.std.specs.Prelude.{◌≡◌, ℕ, ◌<◌, true, false, List, All, length, slice_index}
 use Rattle.std.specs.Str.{IsUtf8, IsValidUpTo}
 use Rattle.asn1_characters.specs.Sets.{base_set, has_character}
 use Rattle.asn1_characters.specs.declared.character_set.CharacterSetName.{CharacterSetName}

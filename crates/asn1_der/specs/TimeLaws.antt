@@ -1,5 +1,5 @@
 -- Laws of times by the octets of their contents.
-use Rattle.std.proofs.Common.{◌≡◌, ◌≢◌, ℕ, zero, suc, ◌+◌, ◌-◌, ◌*◌, ◌/◌, ◌%◌, ◌<◌, ◌≤◌, ◌⊎◌, inl, inr, List, [], ◌∷◌, length, drop, get_or, refl, sym, ◌∙◌, ap, subst, arith}
+use Rattle.std.proofs.Common.{◌≡◌, ℕ, zero, suc, ◌+◌, ◌-◌, ◌*◌, ◌/◌, ◌%◌, ◌<◌, ◌≤◌, ◌⊎◌, inl, inr, List, [], ◌∷◌, length, drop, get_or, refl, sym, ◌∙◌, ap, subst, arith}
 use Rattle.std.proofs.lemmas.Bool.{cases_order}
 use Rattle.std.proofs.lemmas.List.{length-drop}
 use Rattle.std.proofs.Math.Seq.{drop-cons}
@@ -10,7 +10,7 @@ use Rattle.asn1_der.specs.declared.time.NoTime.{NoTime}
 use Rattle.asn1_der.specs.Contents.{FillsOne, NamesWrong, AreWhole}
 use Rattle.asn1_der.specs.OctetContents.{IsInOctets, IsWrongInOctets}
 use Rattle.asn1_der.specs.OctetContentsLaws.{in_octets_fill_one, in_octets_spell_one, in_octets_whole, in_octets_name_wrong}
-use Rattle.asn1_der.specs.Times.{IsDigit, digit_pairs, pair_at, numbers_at, IsTimePlace, IsMisplaced, PlaceFaultIs, AreTwoDigits, IsTimeOf, IsNoTime, TimeFaultIs}
+use Rattle.asn1_der.specs.Times.{IsDigit, digit_pairs, pair_at, numbers_at, IsTimePlace, IsMisplaced, PlaceFaultIs, AreTwoDigits, IsTimeOf, TimeFaultIs}
 
 -- ---- pairs of digits
 

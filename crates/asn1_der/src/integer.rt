@@ -1,14 +1,13 @@
 //! INTEGER.
 
-ghost use Rattle.std.specs.Prelude.{◌≡◌, ◌%◌, IsTrue, IsFalse};
-ghost use Rattle.asn1_bits.specs.BitReader.{view_left, bits_left};
+ghost use Rattle.std.specs.Prelude.{◌≡◌, IsTrue};
+ghost use Rattle.asn1_bits.specs.BitReader.{bits_left};
 ghost use Rattle.asn1_values.specs.Wrong.{IsNoInteger};
-ghost use Rattle.asn1_der.specs.Primitives.{HoldsInteger};
 
 use crate::comparable::Comparable;
 use crate::contents::Contents;
 use crate::octet_string::bit_count;
-use asn1_formats::{NeverWrong, Refusal, push_octets};
+use asn1_formats::{NeverWrong, Refusal, are_shortest_octets, push_octets};
 use asn1_values::{BitBuffer, BitReader, BitStr, Integer, integer_of};
 use std::alloc::Global;
 
@@ -21,31 +20,6 @@ pub struct IntegerContents {}
 /// (X.690 8.3.2).
 #[derive(Clone, Copy, Debug, PartialEq, Eq, Drop)]
 pub struct NotShortest {}
-
-/// Whether the octets that are left are the shortest of a number: one, or more whose first nine
-/// bits are not all alike.
-fn is_shortest(contents: &BitReader<'_>) -> bool
-    requires { (view_left contents.now).len % 8 ≡ 0 }
-    ensures yes { IsTrue result → HoldsInteger (bits_left contents.now) }
-    ensures no { IsFalse result → IsNoInteger (bits_left contents.now) }
-{
-    let len = contents.len();
-    if len == 0 {
-        return false;
-    }
-    if len == 8 {
-        return true;
-    }
-    // Bit 8 of the second octet is the ninth.
-    let two = contents.first_bits(16);
-    if two < 0x80 {
-        return false;
-    }
-    if two >= 0xFF80 {
-        return false;
-    }
-    true
-}
 
 impl Contents for IntegerContents {
     ghost use Rattle.std.specs.Prelude.{ℤ};
@@ -89,7 +63,7 @@ impl Contents for IntegerContents {
         alloc: Global,
         contents: BitReader<'_>,
     ) -> Result<Integer, Refusal<NotShortest>> {
-        if !is_shortest(&contents) {
+        if !are_shortest_octets(&contents) {
             return Err(Refusal::Wrong(NotShortest {}));
         }
         match integer_of(alloc, &contents) {
@@ -99,7 +73,7 @@ impl Contents for IntegerContents {
     }
 
     fn check(&self, contents: BitReader<'_>) -> Result<(), NotShortest> {
-        if !is_shortest(&contents) {
+        if !are_shortest_octets(&contents) {
             return Err(NotShortest {});
         }
         Ok(())
@@ -136,7 +110,7 @@ impl Comparable for IntegerContents {
     }
 
     fn check_equal(&self, contents: BitReader<'_>, other: &Integer) -> Result<bool, NotShortest> {
-        if !is_shortest(&contents) {
+        if !are_shortest_octets(&contents) {
             return Err(NotShortest {});
         }
         let octets = other.signed_octets();

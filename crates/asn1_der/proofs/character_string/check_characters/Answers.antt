@@ -1,4 +1,4 @@
-use Rattle.std.proofs.Common.{ℕ, ◌/◌, refl, arith}
+use Rattle.std.proofs.Common.{◌/◌, refl, arith}
 use Rattle.asn1_bits.specs.BitStr.{view_of, bits_of}
 use Rattle.asn1_der.specs.ViewOctets.{octets_in, octets_in_below}
 use Rattle.asn1_der.specs.StringLaws.{of_set}

@@ -1,4 +1,4 @@
-use Rattle.std.proofs.Common.{◌≡◌, ◌≤◌, ℕ, List, false, true, ◌/◌, refl, sym, subst, arith}
+use Rattle.std.proofs.Common.{◌≡◌, ℕ, List, false, true, ◌/◌, refl, sym, subst, arith}
 use Rattle.asn1_bits.specs.BitStr.{view_of, bits_of}
 use Rattle.asn1_der.specs.Times.{IsInGeneralized, generalized_fields, AreTwoDigits}
 use Rattle.asn1_der.specs.TimeLaws.{place_fault, numbers_small, time_read}

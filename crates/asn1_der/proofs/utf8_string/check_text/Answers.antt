@@ -1,4 +1,4 @@
-use Rattle.std.proofs.Common.{ℕ, List, ◌/◌, length, take, drop, sym, subst, arith}
+use Rattle.std.proofs.Common.{◌/◌, take, drop, sym, subst, arith}
 use Rattle.std.proofs.Math.Seq.{take-add}
 use Rattle.std.proofs.lemmas.Str.{IsUtf8-append}
 use Rattle.std.specs.Str.{IsUtf8}

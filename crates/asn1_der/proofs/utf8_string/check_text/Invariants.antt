@@ -1,4 +1,4 @@
-use Rattle.std.proofs.Common.{◌-◌, ◌/◌, ◌≤◌, length, take}
+use Rattle.std.proofs.Common.{◌-◌, ◌/◌, ◌≤◌, take}
 use Rattle.std.specs.Str.{IsUtf8}
 use Rattle.asn1_bits.specs.BitStr.{view_of, bits_of}
 use Rattle.asn1_der.specs.ViewOctets.{octets_in}

@@ -1,4 +1,4 @@
-use Rattle.std.proofs.Common.{◌≡◌, ℕ, ◌∙◌, sym, drop}
+use Rattle.std.proofs.Common.{◌∙◌, sym, drop}
 use Rattle.std.specs.Str.{valid_up_to}
 use Rattle.asn1_der.specs.StringLaws.{none_begins}
 use Rattle.asn1_der.proofs.utf8_string.text_len.Goals as goal
