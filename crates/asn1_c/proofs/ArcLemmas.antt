@@ -1,5 +1,5 @@
 -- The arcs of contents, read octet by octet.
-use Rattle.std.proofs.Common.{◌≡◌, ◌≢◌, ℕ, ◌+◌, ◌*◌, ◌%◌, ◌^◌, ◌<◌, ◌≤◌, Bool, true, false, cond, leb, List, [], ◌∷◌, ◌++◌, length, take, drop, get_or, min, Option, Some, None, Result, Ok, Err, refl, sym, ap, subst, ◌∙◌, append_assoc, arith}
+use Rattle.std.proofs.Common.{◌≡◌, ◌≢◌, ℕ, zero, suc, ◌+◌, ◌*◌, ◌%◌, ◌^◌, ◌<◌, ◌≤◌, Bool, true, false, cond, leb, List, [], ◌∷◌, ◌++◌, length, take, drop, get_or, min, Option, Some, None, Result, Ok, Err, refl, sym, ap, subst, ◌∙◌, append_assoc, arith}
 use Rattle.std.specs.Prelude.{◌&&◌}
 use Rattle.std.specs.List.{list_all}
 use Rattle.std.proofs.lemmas.Bool.{leb-true, and_parts}
@@ -283,3 +283,53 @@ none_before room count e = ap (λ (k : ℕ). take k room) e
 pub some_before : (room : List ℕ) (count : ℕ) → count ≤ length room → count ≢ 0 → take count room ≢ []
 some_before room count le ne e = let n : length (take count room) ≡ 0 =
     ap length e in absurd (ne (omega (arith, length-take count room)))
+
+-- ---- arcs that are counted
+
+-- up to a place of the octets so many arcs are done
+pub record Counted (octets : List ℕ) (i count : ℕ) : Type 0 where
+  pub told : ℕ
+  pub arcs : List ℕ
+  pub reads : Reads octets i told arcs
+  pub count_is : count ≡ length arcs
+
+pub counted_none : (octets : List ℕ) → Counted octets 0 0
+counted_none octets = record { told = 0; arcs = []; reads = reads_none octets; count_is = refl }
+
+pub counted_on : (octets : List ℕ) (i count : ℕ) (all : List ℕ) → contents_reading octets ≡ Ok all
+    → Counted octets i count → i < length octets → 128 ≤ get_or octets i 0 → Counted octets (i + 1) count
+counted_on octets i count all a c lt ge = record {
+  told = _;
+  arcs = c.arcs;
+  reads = reads_on octets i c.told c.arcs all (all_fit octets all a) c.reads lt ge;
+  count_is = c.count_is;
+}
+
+length-more_arcs : (arcs : List ℕ) (n count new : ℕ) → count ≡ length arcs → (count ≡ 0 → new ≡ 2)
+    → (count ≢ 0 → new ≡ count + 1) → new ≡ length (more_arcs arcs n)
+length-more_arcs [] n count new e first other = first e
+length-more_arcs (x ∷ xs) n count new e first other =
+    other (λ z. omega arith) ∙ omega (arith, length-append (x ∷ xs) (n ∷ []))
+
+pub counted_end : (octets : List ℕ) (i count new : ℕ) (all : List ℕ) → contents_reading octets ≡ Ok all
+    → Counted octets i count → i < length octets → get_or octets i 0 < 128
+    → (count ≡ 0 → new ≡ 2) → (count ≢ 0 → new ≡ count + 1) → Counted octets (i + 1) new
+counted_end octets i count new all a c lt small first other =
+    let e = reads_end octets i c.told c.arcs all (all_fit octets all a) c.reads lt small in
+    record {
+      told = 0;
+      arcs = _;
+      reads = e.next;
+      count_is = length-more_arcs c.arcs _ count new c.count_is first other;
+    }
+
+pub counted_all : (octets : List ℕ) (i count : ℕ) (all : List ℕ) → contents_reading octets ≡ Ok all
+    → Counted octets i count → length octets ≤ i → count ≡ length all
+counted_all octets i count all a c le =
+    c.count_is ∙ ap length (reads_all octets i c.told c.arcs all (all_fit octets all a) c.reads le)
+
+-- there are no more than one arc more than octets
+pub most_next : (count new i : ℕ) → count ≤ i + 1 → (count ≡ 0 → new ≡ 2) → (count ≢ 0 → new ≡ count + 1)
+    → new ≤ i + 1 + 1
+most_next zero new i le first other = let e = first refl in omega arith
+most_next (suc k) new i le first other = let e = other (λ z. omega arith) in omega arith

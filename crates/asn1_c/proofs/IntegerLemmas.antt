@@ -1,6 +1,6 @@
 -- Numbers of 64 bits and their octets.
-use Rattle.std.proofs.Common.{ℕ, ◌<◌, ℤ, List, [], ◌∷◌, length, arith}
-use Rattle.std.proofs.lemmas.Bool.{lt-ltb}
+use Rattle.std.proofs.Common.{ℕ, ◌<◌, ◌≤◌, inl, inr, ℤ, List, [], ◌∷◌, length, arith}
+use Rattle.std.proofs.lemmas.Bool.{lt-ltb, cases_lt}
 use Rattle.asn1_number.specs.Octets.{IsShortest}
 use Rattle.asn1_number.specs.Readings.{IsInRange, kind_i64, signed_reading}
 use Rattle.asn1_number.specs.ReadingLaws.{signed_law}
@@ -14,3 +14,9 @@ no_more_than_eight n (b ∷ bs) s more r =
     let l = lt-ltb _ _ more in
     let d = rw l at e in
     absurd cc
+
+pub eight_at_most : (n : ℤ) (o : List ℕ) → IsShortest n o → IsInRange kind_i64 n → length o ≤ 8
+eight_at_most n o s r = elim (cases_lt 8 (length o)) [
+  | inl lt ↦ absurd (no_more_than_eight n o s lt r)
+  | inr le ↦ le
+]

@@ -1,6 +1,6 @@
 //! Object identifiers (X.660) and their contents (X.690 8.19).
 
-ghost use Rattle.std.specs.Prelude.{◌≡◌, ◌≢◌, ◌↔◌, ◌⊎◌, ◌<◌, ◌≤◌, ◌^◌, ℕ, List, Ok, IfSome, IfNone, length, take, drop};
+ghost use Rattle.std.specs.Prelude.{◌≡◌, ◌≢◌, ◌↔◌, ◌⊎◌, ◌+◌, ◌-◌, ◌<◌, ◌≤◌, ◌^◌, ℕ, List, Ok, IfSome, IfNone, length, take, drop};
 ghost use Rattle.asn1_oid.specs.Arcs.{IsValidArcs};
 ghost use Rattle.asn1_oid.specs.Contents.{IsContents, FitU32};
 ghost use Rattle.asn1_oid.specs.Reading.{contents_reading};
@@ -92,8 +92,7 @@ pub extern "C" fn asn1_oid_contents(arcs: &[u32], room: &mut [u8], count: &mut u
 const LARGEST_FIRST: u64 = 4_294_967_375;
 
 /// Writes the arcs of which the octets are the contents to the front of the room, and tells how
-/// many. For each octet one arc, and one more, are always enough; where the room is too small, it
-/// may have been written to.
+/// many, also where the room is too small. One arc more than there are octets is always enough.
 #[unsafe(no_mangle)]
 pub extern "C" fn asn1_oid_arcs(octets: &[u8], room: &mut [u32], count: &mut usize) -> u32
     ensures written { result ≡ 0 → IsContents (take count.new room.new) octets.now }
@@ -101,24 +100,57 @@ pub extern "C" fn asn1_oid_arcs(octets: &[u8], room: &mut [u32], count: &mut usi
     ensures arc_too_large { result ≡ 7
         ↔ ((arcs : List ℕ) × IsContents arcs octets.now × ¬ (FitU32 arcs)) }
     ensures malformed { result ≡ 6 ↔ ((arcs : List ℕ) → ¬ (IsContents arcs octets.now)) }
-    ensures room { result ≡ 3 → (arcs : List ℕ) → IsContents arcs octets.now
-        → length room.old < length arcs }
+    ensures room { result ≡ 3 → length room.old < count.new }
+    ensures count { result ≡ 3 → (arcs : List ℕ) → IsContents arcs octets.now
+        → count.new ≡ length arcs }
+    ensures most { (result ≡ 0) ⊎ (result ≡ 3) → count.new ≤ length octets.now + 1 }
     ensures codes { result ≢ 0 → result ≢ 7 → result ≢ 6 → result ≡ 3 }
     ensures same_length { length room.new ≡ length room.old }
-    ensures unchanged { result ≢ 0 → result ≢ 3 → room.new ≡ room.old }
-    ensures kept { result ≢ 0 → count.new ≡ count.old }
+    ensures unchanged { result ≢ 0 → room.new ≡ room.old }
+    ensures kept { result ≢ 0 → result ≢ 3 → count.new ≡ count.old }
 {
     match check_contents(&octets) {
-        Ok(()) => match write_arcs(octets, room) {
-            Some(written) => {
-                *count = written;
-                DONE
+        Ok(()) => {
+            let needed = count_arcs(octets);
+            *count = needed;
+            if needed > room.len() {
+                return ROOM;
             }
-            None => ROOM,
-        },
+            match write_arcs(octets, room) {
+                Some(written) => {
+                    *count = written;
+                    DONE
+                }
+                None => unreachable!(),
+            }
+        }
         Err(ContentsError::ArcTooLarge) => ARC_TOO_LARGE,
         Err(_) => MALFORMED,
     }
+}
+
+/// How many arcs contents have.
+fn count_arcs(octets: &[u8]) -> usize
+    ensures counted { (arcs : List ℕ) → contents_reading octets.now ≡ Ok arcs
+        → result ≡ length arcs }
+    ensures most { result ≤ length octets.now + 1 }
+{
+    let mut count = 0;
+    for octet in octets {
+        if *octet <= 127 {
+            count = next_count(count);
+        }
+    }
+    count
+}
+
+/// How many arcs there are with one number more: the first two arcs have one number.
+fn next_count(count: usize) -> usize
+    requires { count < 2 ^ 64 - 1 }
+    ensures first { count ≡ 0 → result ≡ 2 }
+    ensures other { count ≢ 0 → result ≡ count + 1 }
+{
+    if count == 0 { 2 } else { count + 1 }
 }
 
 /// Writes the arcs of contents, if there is room for them, and tells how many.

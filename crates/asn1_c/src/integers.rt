@@ -19,6 +19,7 @@ use std::cmp::Ordering;
 pub extern "C" fn asn1_integer_from_i64(number: i64, room: &mut [u8], count: &mut usize) -> u32
     ensures written { result ≡ 0 → IsShortest number (take count.new room.new) }
     ensures count { (o : List ℕ) → IsShortest number o → count.new ≡ length o }
+    ensures most { count.new ≤ 8 }
     ensures done { result ≡ 0 ↔ (count.new ≤ length room.old) }
     ensures rest { result ≡ 0 → drop count.new room.new ≡ drop count.new room.old }
     ensures room { result ≢ 0 → result ≡ 3 }

@@ -1,0 +1,8 @@
+use Rattle.std.proofs.Common.{arith}
+use Rattle.asn1_c.proofs.IntegerLemmas.{eight_at_most}
+use Rattle.asn1_c.proofs.integers.asn1_integer_from_i64.Goals as goal
+
+pub returns-clause-most : goal.returns-clause-most
+returns-clause-most c =
+    let made = c.to_signed_bytes_be-octets.ensures in
+    omega (arith, eight_at_most _ _ made.shortest made.in_range, c.len.ensures)
