@@ -87,27 +87,10 @@ fn push_encoding(alloc: Global, text: &mut String, value: &AnyValue) -> Result<(
 
 /// Appends the characters, with a backslash before those that mean something else in a name.
 fn push_escaped(text: &mut String, characters: &str) -> Result<(), AllocError> {
-    if looks_like_an_encoding(characters) {
-        text.push('\\')?;
-    }
     for character in characters.chars() {
         push_character(text, character)?;
     }
     Ok(())
-}
-
-/// Whether a text is `#` and lower-case hexadecimal digits, as a value that is no string is
-/// printed.
-fn looks_like_an_encoding(characters: &str) -> bool {
-    match characters.as_bytes() {
-        [b'#', digits @ ..] => digits.iter().all(|octet| is_digit(*octet)),
-        _ => false,
-    }
-}
-
-/// Whether the octet is a lower-case hexadecimal digit.
-fn is_digit(octet: u8) -> bool {
-    matches!(octet, b'0'..=b'9' | b'a'..=b'f')
 }
 
 /// Appends a character; a control character as a backslash and two hexadecimal digits.

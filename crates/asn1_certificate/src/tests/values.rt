@@ -30,7 +30,7 @@ fn values_are_printed_in_utf8(rt: HostRuntime) -> Result<(), Fail> {
     let rows: [(u64, &[u8], &str); 10] = [
         (12, b"a,b+c=d\\e", "a\\,b\\+c\\=d\\\\e"),
         (12, b"\x01\x7F", "\\01\\7F"),
-        (12, b"#05", "\\#05"),
+        (12, b"#05", "#05"),
         (12, b"#x", "#x"),
         (19, b"Test User 1", "Test User 1"),
         (20, b"\xE9", "\u{e9}"),
