@@ -142,6 +142,7 @@ pub extern "C" fn asn1_oid_from_text(text: &[u8], room: &mut [u32], count: &mut 
     ensures text { result ≡ 16 ↔ ((arcs : List ℕ) → ¬ (IsDottedText arcs text.now)) }
     ensures count { result ≢ 16 → (arcs : List ℕ) → IsDottedText arcs text.now
         → count.new ≡ length arcs }
+    ensures most { result ≢ 16 → 2 * count.new ≤ length text.now + 1 }
     ensures room { result ≡ 3 → length room.old < count.new }
     ensures codes { result ≢ 0 → result ≢ 16 → result ≡ 3 }
     ensures unchanged { result ≢ 0 → room.new ≡ room.old }
@@ -166,6 +167,7 @@ fn read_arcs(text: &[u8], room: &mut [u32]) -> Option<usize>
     ensures some { IfSome result (λ k. (arcs : List ℕ) × IsDottedText arcs text.now
         × (k ≡ length arcs)
         × (k ≤ length room.old → room.new ≡ arcs ++ drop k room.old)) }
+    ensures most { IfSome result (λ k. 2 * k ≤ length text.now + 1) }
     ensures none { IfNone result ((arcs : List ℕ) → ¬ (IsDottedText arcs text.now)) }
     ensures same_length { length room.new ≡ length room.old }
 {
