@@ -14,7 +14,8 @@
  * Units: a position, a width and a count of bits are in bits, and the first bit of an octet is its most significant
  * one. Bits count from 0, through the octets in their order. A length of octets, arcs or characters is in those.
  *
- * Where a code is not ASN1_DONE, what the function would have written is as before, unless its text says else.
+ * Where a code is not ASN1_DONE, what the function would have written is as before, unless its text says else: a length
+ * that is needed is told beside ASN1_ROOM.
  */
 #ifndef ASN1_VALUES_H
 #define ASN1_VALUES_H
@@ -250,9 +251,9 @@ asn1_code asn1_oid_check_arcs(const uint32_t *arcs, size_t arc_count);
  * ASN1_ROOM where they are longer than the room. */
 asn1_code asn1_oid_contents(const uint32_t *arcs, size_t arc_count, uint8_t *room, size_t room_count, size_t *count);
 
-/* Writes the arcs of which the octets are the contents to the front of the room, and tells how many; one arc more than
- * there are octets is always enough. ASN1_MALFORMED and ASN1_ARC_TOO_LARGE as asn1_oid_check says; else ASN1_ROOM where
- * there are more arcs than the room holds, and then the room may have been written to. */
+/* Writes the arcs of which the octets are the contents to the front of the room; one arc more than there are octets is
+ * always enough. How many arcs there are is told also where the answer is ASN1_ROOM, and then the room is as before.
+ * ASN1_MALFORMED and ASN1_ARC_TOO_LARGE as asn1_oid_check says. */
 asn1_code asn1_oid_arcs(const uint8_t *octets, size_t octet_count, uint32_t *room, size_t room_count, size_t *count);
 
 /* Writes the dotted text of the arcs, their decimals joined by full stops, to the front of the room, and leaves the

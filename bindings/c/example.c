@@ -255,7 +255,9 @@ static void identifiers(void)
     size_t arc_count = 0;
     expect("they are the contents of 2.100.3", asn1_oid_arcs(room, count, read, 4, &arc_count) == ASN1_DONE
            && arc_count == 3 && memcmp(read, arcs, sizeof arcs) == 0);
-    expect("for which two arcs are no room", asn1_oid_arcs(room, count, read, 2, &arc_count) == ASN1_ROOM
+    arc_count = 0;
+    expect("for which two arcs are no room, and three are told",
+           asn1_oid_arcs(room, count, read, 2, &arc_count) == ASN1_ROOM
            && arc_count == 3);
     const uint32_t none[2] = {1, 40};
     expect("two octets are no room for three, which are told",

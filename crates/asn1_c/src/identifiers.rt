@@ -1,6 +1,6 @@
 //! Object identifiers (X.660) and their contents (X.690 8.19).
 
-ghost use Rattle.std.specs.Prelude.{◌≡◌, ◌≢◌, ◌↔◌, ◌⊎◌, ◌+◌, ◌-◌, ◌<◌, ◌≤◌, ◌^◌, ℕ, List, Ok, IfSome, IfNone, length, take, drop};
+ghost use Rattle.std.specs.Prelude.{◌≡◌, ◌≢◌, ◌↔◌, ◌⊎◌, ◌+◌, ◌-◌, ◌*◌, ◌<◌, ◌≤◌, ◌^◌, ℕ, List, Ok, IfSome, IfNone, length, take, drop};
 ghost use Rattle.asn1_oid.specs.Arcs.{IsValidArcs};
 ghost use Rattle.asn1_oid.specs.Contents.{IsContents, FitU32};
 ghost use Rattle.asn1_oid.specs.Reading.{contents_reading};
@@ -65,6 +65,7 @@ pub extern "C" fn asn1_oid_contents(arcs: &[u32], room: &mut [u8], count: &mut u
         → length room.old < length octets }
     ensures count { (result ≡ 0) ⊎ (result ≡ 3) → (octets : List ℕ) → IsContents arcs.now octets
         → count.new ≡ length octets }
+    ensures most { (result ≡ 0) ⊎ (result ≡ 3) → count.new ≤ 5 * length arcs.now }
     ensures too_many { result ≡ 23 → (octets : List ℕ) → IsContents arcs.now octets
         → 2 ^ 64 ≤ length octets }
     ensures codes { result ≢ 0 → result ≢ 8 → result ≢ 9 → result ≢ 23 → result ≡ 3 }

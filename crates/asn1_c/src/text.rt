@@ -1,6 +1,6 @@
 //! The dotted text of object identifiers: the decimals of the arcs, joined by full stops.
 
-ghost use Rattle.std.specs.Prelude.{◌≡◌, ◌≢◌, ◌↔◌, ◌⊎◌, ◌<◌, ◌≤◌, ◌+◌, ◌==◌, ◌^◌, ℕ, List, [], ◌∷◌, ◌++◌, IfSome, IfNone, IsTrue, length, take, drop, decimal, slice_set};
+ghost use Rattle.std.specs.Prelude.{◌≡◌, ◌≢◌, ◌↔◌, ◌⊎◌, ◌<◌, ◌≤◌, ◌+◌, ◌*◌, ◌==◌, ◌^◌, ℕ, List, [], ◌∷◌, ◌++◌, IfSome, IfNone, IsTrue, length, take, drop, decimal, slice_set};
 ghost use Rattle.std.specs.List.{slice_split};
 ghost use Rattle.std.specs.Option.{option_map_or};
 ghost use Rattle.asn1_oid.specs.Arcs.{IsValidArcs, dotted, full_stop};
@@ -67,6 +67,7 @@ pub extern "C" fn asn1_oid_text(arcs: &[u32], room: &mut [u8], count: &mut usize
     ensures written { result ≡ 0 → take count.new room.new ≡ dotted arcs.now }
     ensures rest { result ≡ 0 → drop count.new room.new ≡ drop count.new room.old }
     ensures count { (result ≡ 0) ⊎ (result ≡ 3) → count.new ≡ length (dotted arcs.now) }
+    ensures most { (result ≡ 0) ⊎ (result ≡ 3) → count.new ≤ 11 * length arcs.now }
     ensures arcs { result ≡ 8 ↔ ¬ (IsValidArcs arcs.now) }
     ensures too_many { result ≡ 23
         ↔ (IsValidArcs arcs.now × (2 ^ 64 ≤ length (dotted arcs.now))) }
@@ -96,7 +97,8 @@ pub extern "C" fn asn1_oid_text(arcs: &[u32], room: &mut [u8], count: &mut usize
 
 /// How many octets the dotted text has.
 fn text_length(first: u32, others: &[u32]) -> u128
-    ensures { result ≡ length (dotted (first ∷ others.now)) }
+    ensures length { result ≡ length (dotted (first ∷ others.now)) }
+    ensures most { result ≤ 11 * (length others.now + 1) }
 {
     let mut total = Decimal::of(first).digits().len() as u128;
     for arc in others {
@@ -140,6 +142,7 @@ pub extern "C" fn asn1_oid_from_text(text: &[u8], room: &mut [u32], count: &mut 
     ensures text { result ≡ 16 ↔ ((arcs : List ℕ) → ¬ (IsDottedText arcs text.now)) }
     ensures count { result ≢ 16 → (arcs : List ℕ) → IsDottedText arcs text.now
         → count.new ≡ length arcs }
+    ensures most { result ≢ 16 → 2 * count.new ≤ length text.now + 1 }
     ensures room { result ≡ 3 → length room.old < count.new }
     ensures codes { result ≢ 0 → result ≢ 16 → result ≡ 3 }
     ensures unchanged { result ≢ 0 → room.new ≡ room.old }
@@ -164,6 +167,7 @@ fn read_arcs(text: &[u8], room: &mut [u32]) -> Option<usize>
     ensures some { IfSome result (λ k. (arcs : List ℕ) × IsDottedText arcs text.now
         × (k ≡ length arcs)
         × (k ≤ length room.old → room.new ≡ arcs ++ drop k room.old)) }
+    ensures most { IfSome result (λ k. 2 * k ≤ length text.now + 1) }
     ensures none { IfNone result ((arcs : List ℕ) → ¬ (IsDottedText arcs text.now)) }
     ensures same_length { length room.new ≡ length room.old }
 {

@@ -186,7 +186,7 @@ pub fn write_contents<'a>(arcs: &[u32], room: &'a mut [u8]) -> Result<&'a [u8], 
 }
 
 /// The arcs of which the octets are the contents, at the front of the room: one arc more than there are octets is always
-/// enough. Where the room is too small, it may have been written to.
+/// enough.
 ///
 /// # Errors
 ///

@@ -1,4 +1,4 @@
-use Rattle.std.proofs.Common.{◌≡◌, ◌<◌, ◌∙◌, ℕ, List, length, refl, sym, ap, subst, arith}
+use Rattle.std.proofs.Common.{◌∙◌, length, refl, ap, arith}
 use Rattle.std.proofs.lemmas.List.{length-take}
 use Rattle.asn1_oid.specs.ReadingLaws.{contents_read, arcs_from_reading, one_list_of_arcs}
 use Rattle.asn1_oid.specs.WritingLaws.{contents_octets}

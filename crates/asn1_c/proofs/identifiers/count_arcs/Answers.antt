@@ -1,4 +1,4 @@
-use Rattle.std.proofs.Common.{◌^◌, arith}
+use Rattle.std.proofs.Common.{arith}
 use Rattle.asn1_c.proofs.ArcLemmas.{counted_none, counted_on, counted_end, counted_all, most_next}
 use Rattle.asn1_c.proofs.identifiers.count_arcs.Goals as goal
 use Rattle.asn1_c.proofs.identifiers.count_arcs.Goals.{then-octet-le127, else-octet-le127}

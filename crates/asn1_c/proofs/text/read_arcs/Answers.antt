@@ -1,4 +1,4 @@
-use Rattle.std.proofs.Common.{◌≡◌, ◌+◌, Some, None, length, take, min, true, false, sym, subst, ◌∙◌}
+use Rattle.std.proofs.Common.{◌≡◌, ◌+◌, Some, None, length, take, min, true, false, sym, subst, ◌∙◌, arith}
 use Rattle.asn1_oid.specs.Arcs.{IsValidArcs}
 use Rattle.std.proofs.Math.ListN.{set}
 use Rattle.asn1_c.proofs.TextLemmas.{Reads, reads_more, no_number, all_read, none_valid, part_few}
@@ -59,3 +59,10 @@ returns-clause-some c =
       inv.counted,
       inv.written,
     )
+
+pub returns-clause-most : goal.returns-clause-most
+returns-clause-most c =
+    let inv : Reads c.args.text.now None c.loop-left.count c.loop-left.front c.loop-left.room c.args.room.now =
+    subst (λ o. Reads c.args.text.now o c.loop-left.count c.loop-left.front c.loop-left.room c.args.room.now)
+    c.in_default.is c.loop-left.invariant in
+    omega (arith, inv.few)

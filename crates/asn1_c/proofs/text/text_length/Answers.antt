@@ -35,7 +35,7 @@ loop-arc-preserved c =
       bounded = omega (arith, inv.bounded, ap length is, few);
     }
 
-pub returns : goal.returns
-returns c =
+pub returns-clause-length : goal.returns-clause-length
+returns-clause-length c =
     c.loop-arc.invariant.total ∙ ap (λ l. length (dotted_from c.args.first l)) (take_all _ _ c.loop-arc-test.false)
     ∙ ap length (joined c.args.first c.args.others.now)
