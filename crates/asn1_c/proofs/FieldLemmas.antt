@@ -1,17 +1,16 @@
 -- Fields that are read at a place of the octets.
-use Rattle.std.proofs.Common.{◌≡◌, ◌≢◌, ℕ, ◌+◌, ◌-◌, ◌*◌, ◌<◌, ◌≤◌, Bool, List, [], ◌∷◌, ◌++◌, length, take, drop, get_or, ◌^◌, refl, sym, ap, subst, ◌∙◌, arith}
-use Rattle.std.specs.Prelude.{IfOk, IfErr, OnOk, Result, Ok, Err, Option, Some}
+use Rattle.std.proofs.Common.{◌≡◌, ℕ, ◌+◌, ◌-◌, ◌*◌, ◌<◌, ◌≤◌, Bool, List, [], ◌∷◌, ◌++◌, length, take, drop, get_or, ◌^◌, refl, sym, ap, subst, ◌∙◌, arith}
+use Rattle.std.specs.Prelude.{IfOk, IfErr, OnOk, Result, Ok, Err}
 use Rattle.std.proofs.lemmas.List.{take_more, take_more_set, drop-drop, drop-set-lt}
 use Rattle.std.proofs.Math.ListN.{set}
 use Rattle.asn1_bits.specs.Bits.{digits, bits}
 use Rattle.asn1_values.specs.Fields as plain
-use Rattle.asn1_values.specs.Fields.{IsSpelledBy, IsOfShape}
-use Rattle.asn1_values.specs.Wrong.{Fault, NumberWidth, NotInteger, Short, NoCharacter, NoLength, NotIdentifier, ArcOver, IsShortBy}
+use Rattle.asn1_values.specs.Wrong.{NumberWidth, Short, IsShortBy}
 use Rattle.asn1_c.specs.declared.alphabets.Alphabet.{Alphabet}
 use Rattle.asn1_c.specs.declared.fields.Shape.{Shape}
 use Rattle.asn1_c.specs.declared.fields.Field.{Field}
 use Rattle.asn1_c.specs.declared.fields.Refusal.{Refusal}
-use Rattle.asn1_c.specs.Fields.{IsSpelledAt, NamesReason, Names, IsReadAt, AreReadAt, end_of, number_of_words}
+use Rattle.asn1_c.specs.Fields.{IsSpelledAt, NamesReason, IsReadAt, AreReadAt, end_of, number_of_words}
 use Rattle.asn1_c.proofs.OctetLemmas.{length-left, length-cut, octets_spelled}
 
 -- ---- what is left
@@ -143,31 +142,3 @@ pub next_kept : (fs old : List Field) (i : ℕ) (f : Field) → drop i fs ≡ dr
     → drop (i + 1) (set fs i f) ≡ drop (i + 1) old
 next_kept fs old i f e =
     drop-set-lt (i + 1) fs i f (omega arith) ∙ sym (drop-drop 1 i fs) ∙ ap (drop 1) e ∙ drop-drop 1 i old
-
--- ---- codes
-
-named_code : (fault : Fault) (r : Refusal) → Names fault r
-    → (r.code ≢ 0) × (r.code ≢ 1) × (r.code ≢ 3) × (r.code ≢ 23)
-named_code (NumberWidth w) r s = let e = s.0 in (λ z. omega arith, λ z. omega arith, λ z. omega arith, λ z. omega arith)
-named_code NotInteger r s = let e = s.0 in (λ z. omega arith, λ z. omega arith, λ z. omega arith, λ z. omega arith)
-named_code (Short n) r s = let e = s.0 in (λ z. omega arith, λ z. omega arith, λ z. omega arith, λ z. omega arith)
-named_code (NoCharacter k) r s = let e = s.0 in (λ z. omega arith, λ z. omega arith, λ z. omega arith, λ z. omega arith)
-named_code (NoLength k) r s = let e = s.0 in (λ z. omega arith, λ z. omega arith, λ z. omega arith, λ z. omega arith)
-named_code NotIdentifier r s = let e = s.0 in (λ z. omega arith, λ z. omega arith, λ z. omega arith, λ z. omega arith)
-named_code ArcOver r s = let e = s.0 in (λ z. omega arith, λ z. omega arith, λ z. omega arith, λ z. omega arith)
-
-pub refused_code : (shape : plain.Shape) (left : List Bool) (r : Taken) → IfErr r (NamesReason shape left)
-    → IfErr r (λ e. (e.code ≢ 0) × (e.code ≢ 1) × (e.code ≢ 3) × (e.code ≢ 23))
-refused_code shape left (Ok f) h = tt
-refused_code shape left (Err e) h = named_code h.fault e h.names
-
-pub read_as : (octets : List ℕ) (from : ℕ) (shape : plain.Shape) (named : Option plain.Shape) (r : Taken)
-    → named ≡ Some shape → IfOk r (IsSpelledAt octets from shape)
-    → IfOk r (λ f. (s : plain.Shape) × (named ≡ Some s) × IsSpelledAt octets from s f)
-read_as octets from shape named (Ok f) e h = (shape, e, h)
-read_as octets from shape named (Err r) e h = tt
-
-pub read_end : (octets : List ℕ) (from : ℕ) (shape : plain.Shape) (r : Taken) → IfOk r (IsSpelledAt octets from shape)
-    → IfOk r (λ f. end_of f ≤ 8 * length octets)
-read_end octets from shape (Ok f) h = h.within
-read_end octets from shape (Err r) h = tt

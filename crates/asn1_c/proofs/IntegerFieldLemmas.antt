@@ -42,9 +42,6 @@ repeats_not (b ∷ c ∷ bs) two (inl z) d = let le = d.0 z.0 in let lt = z.1 in
 repeats_not (b ∷ c ∷ bs) two (inr z) d = let lt = d.1 z.0 in let le = z.1 in omega arith
 
 module _ (octets : List ℕ) (at count : ℕ) (some : 0 < count) (le : at + 8 * count ≤ 8 * length octets) where
-  here : List ℕ
-  here = octets_at octets at count
-
   octets_here : IsOctets (octets_at octets at count)
   octets_here = IsOctets_from_All (octets_at octets at count) (are_octets_at octets at count le)
 
@@ -174,9 +171,6 @@ integer_short octets at count r some le code lt n = record {
 
 module _ (octets : List ℕ) (at count : ℕ) (le : at ≤ 8 * length octets)
     (is : count ≡ number (take 8 (drop at (bits octets)))) where
-  left : List Bool
-  left = drop at (bits octets)
-
   behind : drop 8 (drop at (bits octets)) ≡ drop (at + 8) (bits octets)
   behind = drop-drop 8 at (bits octets)
 

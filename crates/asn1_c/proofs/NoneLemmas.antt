@@ -65,9 +65,6 @@ same_length source shape f a b x y = elim (either (by_number shape f)) [
 
 -- ---- what has a reason has no spelling
 
-Never : List ℕ → plain.Shape → Field → Refusal → Type 0
-Never source shape f r = (list : List Bool) → IsWrong source shape f r → IsNamedAs source shape f list → ⊥
-
 lying_length : (source : List ℕ) (f : Field) (list : List Bool) → LieIn source f list → length list ≡ f.length
 lying_length source f list lies = ap length lies.1 ∙ length-cut source f.first f.length lies.0
 

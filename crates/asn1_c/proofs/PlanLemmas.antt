@@ -1,5 +1,5 @@
 -- How fields are written: what a plan writes, and that it spells the field.
-use Rattle.std.proofs.Common.{◌≡◌, ◌≢◌, ℕ, ◌+◌, ◌*◌, ◌^◌, ◌<◌, ◌≤◌, ℤ, Bool, true, false, List, [], ◌++◌, length, take, drop, refl, sym, ap, subst, ◌∙◌, arith, append-nil, append_assoc}
+use Rattle.std.proofs.Common.{◌≡◌, ◌≢◌, ℕ, ◌+◌, ◌*◌, ◌^◌, ◌<◌, ◌≤◌, Bool, true, false, List, [], ◌++◌, length, take, drop, refl, sym, ap, subst, ◌∙◌, arith, append-nil, append_assoc}
 use Rattle.std.specs.Prelude.{nat_le, IfOk, Result, Ok, Err}
 use Rattle.std.specs.Int.{cast_signed, w128}
 use Rattle.std.proofs.lemmas.Bool.{le-leb, lt-leb}
@@ -12,7 +12,7 @@ use Rattle.asn1_number.specs.Octets.{IsShortest}
 use Rattle.asn1_number.specs.LawsHold.{one_shortest_list}
 use Rattle.asn1_strings.specs.Alphabet.{Alphabet, IsCode}
 use Rattle.asn1_values.specs.Fields as plain
-use Rattle.asn1_values.specs.Fields.{IsOfShape, IsSpelledBy}
+use Rattle.asn1_values.specs.Fields.{IsSpelledBy}
 use Rattle.asn1_values.specs.Wrong.{WidthOver, NotInAlphabet}
 use Rattle.asn1_c.specs.declared.fields.Field.{Field}
 use Rattle.asn1_c.specs.declared.fields.Refusal.{Refusal}
@@ -181,9 +181,6 @@ module _ (source : List ℕ) (f : Field) (word octets : ℕ) (p : Plan)
     (spells : (o : List ℕ) → IsShortest (signed_of_words f.high f.low) o → digits word (8 * octets) ≡ bits o)
     (counts : (o : List ℕ) → IsShortest (signed_of_words f.high f.low) o → octets ≡ length o)
     (no_bits : p.length ≡ 0) (number : p.number ≡ word) (wide : p.width ≡ 8 * octets) where
-  n : ℤ
-  n = signed_of_words f.high f.low
-
   abbrev one : (o : List ℕ) × IsShortest (signed_of_words f.high f.low) o
   one = (let s = one_shortest_list (signed_of_words f.high f.low) in (s.0, s.1))
 
