@@ -19,7 +19,7 @@ fn bits(alloc: Global, octet: u8, len: usize) -> Result<asn1_values::BitString, 
 
 /// Whether the bits are written as these octets behind three ones, and read from them with so many
 /// bits left.
-fn has_form<N: Counts>(
+fn has_form<N: Counts + Drop>(
     alloc: Global,
     size: N,
     value: &asn1_values::BitString,
