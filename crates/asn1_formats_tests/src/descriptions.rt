@@ -3,8 +3,8 @@
 use super::level::level_format;
 use super::line::drawing_format;
 use asn1_formats::{
-    Boolean, CanonicalEmpty, Choice, Last, Named, Null, Number, OctetString, Or, Sequence,
-    SequenceOf, Size, WideConstrainedNumber,
+    Boolean, CanonicalEmpty, Choice, Last, Null, Number, OctetString, Or, Sequence, SequenceOf,
+    Size, WideConstrainedNumber,
 };
 use std::test::Fail;
 
@@ -25,13 +25,10 @@ fn a_format_is_described_part_by_part(rt: HostRuntime) -> Result<(), Fail> {
 }
 
 #[test]
-fn names_choices_and_lists_are_described(rt: HostRuntime) -> Result<(), Fail> {
+fn choices_and_lists_are_described(rt: HostRuntime) -> Result<(), Fail> {
     let choice = Choice::new(Or {
-        first: Named {
-            name: "key",
-            part: OctetString {
-                size: Size::new(16, 16),
-            },
+        first: OctetString {
+            size: Size::new(16, 16),
         },
         others: Last { part: Null {} },
     });
@@ -41,7 +38,7 @@ fn names_choices_and_lists_are_described(rt: HostRuntime) -> Result<(), Fail> {
     let text = format!(in rt.alloc(); "{choice}")?;
     assert_eq!(rt;
         text.as_str(),
-        "CHOICE { key OCTET STRING (count INTEGER (16..16)), NULL }"
+        "CHOICE { OCTET STRING (count INTEGER (16..16)), NULL }"
     );
     let lists = Sequence {
         components: CanonicalEmpty {
