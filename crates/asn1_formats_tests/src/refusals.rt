@@ -98,19 +98,22 @@ fn a_message_is_written(rt: HostRuntime) -> Result<(), Fail> {
     let (Ok(values), Ok(mut buffer)) = (values(rt.alloc()), three_ones(rt.alloc())) else {
         return met_before(&rt, "write");
     };
-    match append(&format, &mut buffer, &values) {
-        Ok(()) => {
-            assert_eq!(rt; buffer.len(), 63);
+    // The first one fits the octets that the buffer has; some later one asks for more.
+    for count in 0..12usize {
+        match append(&format, &mut buffer, &values) {
+            Ok(()) => {}
+            Err(WriteRefusal::Memory) => {
+                assert_eq!(rt; buffer.len(), 3 + 60 * count);
+                return met(&rt, "write");
+            }
+            Err(_) => return Err("the values are right".into()),
+        }
+        if count == 0 {
             assert_eq!(rt; buffer.as_bytes(), MESSAGE.as_slice());
-            Ok(())
         }
-        Err(WriteRefusal::Memory) => {
-            assert_eq!(rt; buffer.len(), 3);
-            assert_eq!(rt; buffer.as_bytes(), [0xE0].as_slice());
-            met(&rt, "write")
-        }
-        Err(_) => Err("the values are right".into()),
     }
+    assert_eq!(rt; buffer.len(), 723);
+    Ok(())
 }
 
 #[test]
