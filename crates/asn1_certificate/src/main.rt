@@ -1,23 +1,9 @@
-//! The lines of a certificate (RFC 5280), read from its octets in DER.
-//!
-//! `decode` of `asn1_der` reads the whole certificate by one format. By its contract the value is
-//! the only one that the octets are read as (`only`), and written again it is these octets
-//! (`again`).
+//! The program: the lines of a certificate, from standard input to standard output.
 #![tactic(auto)]
-
-mod lines;
-mod names;
-mod octets;
-mod refusal;
-mod run;
-mod strings;
-#[cfg(test)]
-mod tests;
-mod times;
 
 ghost use Rattle.std.specs.Prelude.{◌≡◌, MatchResult};
 
-use crate::run::{RunError, run};
+use certificate_lines::{RunError, run};
 use std::process::ExitCode;
 
 /// Runs on standard input and output.

@@ -1,129 +1,11 @@
-//! A certificate (RFC 5280 4.1) as a composition.
+//! `asn1_x509`, over a certificate that `openssl` made.
 
-use super::calls::{element, found, sequence, written};
-use asn1_der::{
-    Any, BitStringContents, BooleanContents, Class, End, Explicit, IntegerContents,
-    ObjectIdentifierContents, OctetStringContents, Optional, Required, Sequence, SequenceOf, Tag,
-    Tlv,
-};
-use asn1_formats::Format;
+use asn1_der::{DecodeError, decode};
+use asn1_formats::{Format, write};
+use asn1_values::BitBuffer;
+use asn1_x509::{CertificateParts, Tell, certificate_format, moment_of};
 use std::alloc::Global;
 use std::test::Fail;
-
-type Parts<E> = Tlv<Sequence<E>>;
-
-type Algorithm = Parts<Required<Tlv<ObjectIdentifierContents>, Optional<Any, End>>>;
-
-type Attribute = Parts<Required<Tlv<ObjectIdentifierContents>, Required<Any, End>>>;
-
-type Name = Tlv<SequenceOf<Tlv<SequenceOf<Attribute>>>>;
-
-type Validity = Parts<Required<Any, Required<Any, End>>>;
-
-type PublicKey = Parts<Required<Algorithm, Required<Tlv<BitStringContents>, End>>>;
-
-type Extension = Parts<
-    Required<
-        Tlv<ObjectIdentifierContents>,
-        Optional<Tlv<BooleanContents>, Required<Tlv<OctetStringContents>, End>>,
-    >,
->;
-
-type Extensions = Tlv<Explicit<Tlv<SequenceOf<Extension>>>>;
-
-type Names = Required<
-    Name,
-    Required<Validity, Required<Name, Required<PublicKey, Optional<Extensions, End>>>>,
->;
-
-type Tbs = Parts<
-    Optional<
-        Tlv<Explicit<Tlv<IntegerContents>>>,
-        Required<Tlv<IntegerContents>, Required<Algorithm, Names>>,
-    >,
->;
-
-type Certificate = Parts<Required<Tbs, Required<Algorithm, Required<Tlv<BitStringContents>, End>>>>;
-
-fn explicit<F>(number: u64, inner: F) -> Tlv<Explicit<F>> {
-    Tlv {
-        tag: Tag {
-            class: Class::Context,
-            constructed: true,
-            number,
-        },
-        contents: Explicit { element: inner },
-    }
-}
-
-fn required<F, R>(first: F, rest: R) -> Required<F, R> {
-    Required { first, rest }
-}
-
-fn identifier() -> Tlv<ObjectIdentifierContents> {
-    element(6, false, ObjectIdentifierContents {})
-}
-
-fn integer() -> Tlv<IntegerContents> {
-    element(2, false, IntegerContents {})
-}
-
-fn bits() -> Tlv<BitStringContents> {
-    element(3, false, BitStringContents {})
-}
-
-fn algorithm() -> Algorithm {
-    sequence(required(
-        identifier(),
-        Optional {
-            first: Any {},
-            rest: End {},
-        },
-    ))
-}
-
-fn name() -> Name {
-    let attribute = sequence(required(identifier(), required(Any {}, End {})));
-    element(
-        16,
-        true,
-        SequenceOf {
-            item: element(17, true, SequenceOf { item: attribute }),
-        },
-    )
-}
-
-fn extensions() -> Extensions {
-    let extension = sequence(required(
-        identifier(),
-        Optional {
-            first: element(1, false, BooleanContents {}),
-            rest: required(element(4, false, OctetStringContents {}), End {}),
-        },
-    ));
-    explicit(3, element(16, true, SequenceOf { item: extension }))
-}
-
-fn names() -> Names {
-    let validity = sequence(required(Any {}, required(Any {}, End {})));
-    let key = sequence(required(algorithm(), required(bits(), End {})));
-    let last = Optional {
-        first: extensions(),
-        rest: End {},
-    };
-    required(
-        name(),
-        required(validity, required(name(), required(key, last))),
-    )
-}
-
-fn certificate() -> Certificate {
-    let tbs = sequence(Optional {
-        first: explicit(0, integer()),
-        rest: required(integer(), required(algorithm(), names())),
-    });
-    sequence(required(tbs, required(algorithm(), required(bits(), End {}))))
-}
 
 /// `openssl req -x509 -newkey ed25519 -nodes -subj /CN=a -days 1 -set_serial 1 -outform DER`
 const CERTIFICATE: [u8; 285] = [
@@ -147,22 +29,94 @@ const CERTIFICATE: [u8; 285] = [
     0x0E, 0x55, 0x52, 0x84, 0xCC, 0x82, 0x8D, 0xD6, 0x46, 0xBA, 0x7D, 0xC7, 0x0B,
 ];
 
-/// The octets of the value that the octets are.
-fn written_again<F: Format>(format: &F, alloc: Global, octets: &[u8]) -> Option<Vec<u8>> {
-    match found(format, alloc, octets) {
-        Ok(value) => match written(format, alloc, &value) {
-            Ok(again) => Some(again),
-            Err(_) => None,
-        },
-        Err(_) => None,
+/// The value that the octets are, and the octets that are written of it; or what is wrong.
+fn again<F: Format>(format: &F, alloc: Global, octets: &[u8]) -> Result<(F::Value, Vec<u8>), String>
+where
+    F::Fault: Tell,
+{
+    let mut text = String::new(alloc);
+    let value = match decode(format, alloc, octets) {
+        Ok(value) => value,
+        Err(DecodeError::Wrong(fault)) => {
+            let _ = fault.tell(&mut text);
+            return Err(text);
+        }
+        Err(_) => return Err(text),
+    };
+    let mut buffer = BitBuffer::new(alloc);
+    match write(format, &mut buffer, &value) {
+        Ok(()) => Ok((value, buffer.into_vec())),
+        Err(_) => Err(text),
     }
 }
 
-#[test]
-fn a_certificate_is_read_and_written_again(rt: HostRuntime) -> Result<(), Fail> {
-    match written_again(&certificate(), rt.alloc(), CERTIFICATE.as_slice()) {
-        Some(again) => assert_eq!(rt; again.as_slice(), CERTIFICATE.as_slice()),
-        None => return Err("it is a certificate".into()),
+/// The parts of the certificate, and its octets written again; or what is wrong.
+fn parts_of(alloc: Global, octets: &[u8]) -> Result<(CertificateParts, Vec<u8>), String> {
+    again(&certificate_format(), alloc, octets)
+}
+
+/// What is wrong with the certificate, of which one octet is another.
+fn refusal_of(alloc: Global, at: usize, octet: u8) -> Option<String> {
+    let mut octets = CERTIFICATE;
+    match octets.get_mut(at) {
+        Some(place) => *place = octet,
+        None => return None,
     }
+    parts_of(alloc, octets.as_slice()).err()
+}
+
+#[test]
+fn what_is_wrong_is_named(rt: HostRuntime) -> Result<(), Fail> {
+    // Places from `openssl asn1parse`.
+    let rows = [
+        (0, 0x31, ": another tag, of number 17"),
+        (
+            11,
+            0,
+            ", tbsCertificate, version: the default value is there",
+        ),
+        (
+            17,
+            5,
+            ", tbsCertificate, signature: another tag, of number 5",
+        ),
+        (
+            44,
+            0x33,
+            ", tbsCertificate, validity, notBefore: no such day or time of day",
+        ),
+        (
+            203,
+            0,
+            ", tbsCertificate, extensions, item 2: the default value is there",
+        ),
+    ];
+    for (at, octet, expected) in rows {
+        let text = refusal_of(rt.alloc(), at, octet).ok_or("it is wrong")?;
+        assert_eq!(rt; text.as_str(), expected);
+    }
+    Ok(())
+}
+
+#[test]
+fn a_certificate_has_its_parts(rt: HostRuntime) -> Result<(), Fail> {
+    let (parts, written) = parts_of(rt.alloc(), CERTIFICATE.as_slice())
+        .ok()
+        .ok_or("it is right")?;
+    assert_eq!(rt; written.as_slice(), CERTIFICATE.as_slice());
+    // As `openssl x509 -text` prints it.
+    let ed25519: &[u32] = &[1, 3, 101, 112];
+    assert_eq!(rt; parts.1.0.0.as_ref(), ed25519);
+    assert_eq!(rt; parts.1.1.0.len(), 512);
+    let tbs = &parts.0;
+    assert_eq!(rt; tbs.1.0.to_i128(), Some(1));
+    assert_eq!(rt; tbs.1.1.0.0.as_ref(), ed25519);
+    let middle = &tbs.1.1.1;
+    assert_eq!(rt; middle.0.len(), 1);
+    let from = moment_of(&middle.1.0.0);
+    assert_eq!(rt; (from.year, from.month, from.day), (2026, 11, 25));
+    assert_eq!(rt; (from.hour, from.minute, from.second), (12, 44, 28));
+    assert_eq!(rt; moment_of(&middle.1.0.1.0).day, 26);
+    assert_eq!(rt; middle.1.1.1.0.1.0.len(), 256);
     Ok(())
 }

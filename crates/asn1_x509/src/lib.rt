@@ -13,8 +13,6 @@ mod faults;
 mod key;
 mod name;
 mod tbs_certificate;
-#[cfg(test)]
-mod tests;
 mod validity;
 
 pub use algorithm::{AlgorithmFormat, AlgorithmIdentifier, algorithm_format};

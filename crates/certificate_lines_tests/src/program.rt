@@ -1,7 +1,7 @@
 //! Rows on the program, over memory. What is expected is written by hand from `openssl asn1parse`.
 
-use super::certificates::{EC, ED25519, RSA};
-use crate::run::{RunError, run};
+use crate::certificates::{EC, ED25519, RSA};
+use certificate_lines::{RunError, run};
 use std::alloc::Global;
 use std::process::Abort;
 use std::test::Fail;

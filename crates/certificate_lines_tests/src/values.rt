@@ -1,8 +1,7 @@
 //! Rows on the values of attributes.
 
-use crate::names::push_value;
-use crate::refusal::Reason;
 use asn1_der::{AnyValue, Class, Tag};
+use certificate_lines::{Reason, push_value};
 use std::alloc::{AllocError, Global};
 use std::test::Fail;
 

@@ -1,5 +1,0 @@
-//! Worked certificates, and damaged ones.
-
-mod certificates;
-mod program;
-mod values;
