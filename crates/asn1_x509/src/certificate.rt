@@ -12,7 +12,8 @@ pub type CertificateParts = (TbsParts, (AlgorithmIdentifier, (BitString, ())));
 
 type Signature = Required<Named<Tlv<BitStringContents>>, End>;
 
-/// `SEQUENCE { tbsCertificate TBSCertificate, signatureAlgorithm AlgorithmIdentifier, signatureValue BIT STRING }`.
+/// `Certificate ::= SEQUENCE { tbsCertificate TBSCertificate,
+/// signatureAlgorithm AlgorithmIdentifier, signatureValue BIT STRING }`.
 pub type CertificateFormat = Tlv<
     Sequence<Required<Named<TbsFormat>, Required<Named<AlgorithmFormat>, Signature>>>,
 >;
