@@ -8,6 +8,8 @@
 #[cfg(test)]
 mod callers;
 #[cfg(test)]
+mod calls;
+#[cfg(test)]
 mod comparisons;
 #[cfg(test)]
 mod equality;
