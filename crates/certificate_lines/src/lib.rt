@@ -8,12 +8,12 @@
 mod lines;
 mod names;
 mod octets;
+mod program;
 mod refusal;
-mod run;
 mod strings;
 mod times;
 
 pub use lines::lines_of;
 pub use names::push_value;
+pub use program::{RunError, run};
 pub use refusal::{Reason, Stop};
-pub use run::{RunError, run};
