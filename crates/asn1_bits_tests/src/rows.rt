@@ -26,19 +26,27 @@ fn a_view_lies_within_its_octets(rt: HostRuntime) -> Result<(), Fail> {
     Ok(())
 }
 
-/// The parts of a view: so many bits from one on, and both sides of a place.
-fn parts(whole: BitStr<'_>, from: usize, len: usize, at: usize) -> Result<[BitStr<'_>; 3], Fail> {
-    if whole.len() != 8 || from > 4 || len > 4 || at > 8 {
+/// So many bits of a view, from one on.
+fn slice(whole: BitStr<'_>, from: usize, len: usize) -> Result<BitStr<'_>, Fail> {
+    if from > whole.len() || len > whole.len() - from {
         return Err("past the view".into());
     }
-    let (front, back) = whole.split_at(at);
-    Ok([whole.slice(from, len), front, back])
+    Ok(whole.slice(from, len))
+}
+
+/// What lies before a place of a view, and behind it.
+fn sides(whole: BitStr<'_>, at: usize) -> Result<(BitStr<'_>, BitStr<'_>), Fail> {
+    if at > whole.len() {
+        return Err("past the view".into());
+    }
+    Ok(whole.split_at(at))
 }
 
 #[test]
 fn a_view_has_parts(rt: HostRuntime) -> Result<(), Fail> {
-    let [part, front, back] = parts(view(&[0xA5, 0x5A], 4, 8)?, 1, 3, 5)?;
-    assert!(rt; are_equal(part, view(&[0b1010_0000], 0, 3)?));
+    let whole = view(&[0xA5, 0x5A], 4, 8)?;
+    let (front, back) = sides(whole, 5)?;
+    assert!(rt; are_equal(slice(whole, 1, 3)?, view(&[0b1010_0000], 0, 3)?));
     assert!(rt; are_equal(front, view(&[0b0101_0000], 0, 5)?));
     assert!(rt; are_equal(back, view(&[0b1010_0000], 0, 3)?));
     Ok(())
