@@ -55,6 +55,7 @@ typedef uint32_t asn1_code;
 #define ASN1_SHAPE UINT32_C(21)        /* a shape of an unknown kind, or of an alphabet that is not there */
 #define ASN1_ALPHABET UINT32_C(22)     /* not an alphabet as asn1_alphabet_new fills it */
 #define ASN1_TOO_MANY UINT32_C(23)     /* more bits or octets than SIZE_MAX counts */
+#define ASN1_DECIMAL UINT32_C(24)      /* not the decimal text of a number of 128 bits, with a sign or without */
 
 /* The eight restricted character strings (X.680 41). */
 typedef uint32_t asn1_kind;
@@ -225,6 +226,38 @@ asn1_code asn1_integer_from_i64(int64_t number, uint8_t *room, size_t room_count
 /* The number of the octets, which need not be the shortest. ASN1_EMPTY for none, ASN1_OVERFLOW where it does not fit 64
  * bits. */
 asn1_code asn1_integer_to_i64(const uint8_t *octets, size_t octet_count, int64_t *number);
+
+/* As asn1_integer_from_i64, of a number without a sign: at most 9 octets. */
+asn1_code asn1_integer_from_u64(uint64_t number, uint8_t *room, size_t room_count, size_t *count);
+
+/* As asn1_integer_to_i64. ASN1_OVERFLOW also where the number is below zero. */
+asn1_code asn1_integer_to_u64(const uint8_t *octets, size_t octet_count, uint64_t *number);
+
+/* As asn1_integer_from_i64, of a number in two's complement of 128 bits: at most 16 octets. */
+asn1_code asn1_integer_from_i128(const asn1_words *number, uint8_t *room, size_t room_count, size_t *count);
+
+/* As asn1_integer_to_i64, in two's complement of 128 bits. */
+asn1_code asn1_integer_to_i128(const uint8_t *octets, size_t octet_count, asn1_words *number);
+
+/* As asn1_integer_from_i64, of a number of 128 bits without a sign: at most 17 octets. */
+asn1_code asn1_integer_from_u128(const asn1_words *number, uint8_t *room, size_t room_count, size_t *count);
+
+/* As asn1_integer_to_u64, of 128 bits. */
+asn1_code asn1_integer_to_u128(const uint8_t *octets, size_t octet_count, asn1_words *number);
+
+/* Writes the decimal text of the number of the octets to the front of the room, and leaves the octets behind it: the
+ * digits, with no zero in front of others, behind a minus sign where the number is below zero. Nothing ends it. Its
+ * length, at most 40, is told also where the answer is ASN1_ROOM. ASN1_EMPTY for no octets, ASN1_OVERFLOW where the
+ * number fits 128 bits neither with a sign nor without. */
+asn1_code asn1_integer_text(const uint8_t *octets, size_t octet_count, uint8_t *room, size_t room_count,
+                            size_t *count);
+
+/* Writes the shortest octets of the number of which the octets of the text, all of them, are the decimal text as
+ * asn1_integer_text writes it, to the front of the room, and leaves the octets behind them. Their count, at most 17, is
+ * told also where the answer is ASN1_ROOM. ASN1_DECIMAL for any other text: so for a plus sign, a zero in front of other
+ * digits, -0, and a number that fits 128 bits neither with a sign nor without. */
+asn1_code asn1_integer_from_text(const uint8_t *text, size_t text_count, uint8_t *room, size_t room_count,
+                                 size_t *count);
 
 /* Compares the numbers of two lists of octets of any length, by value: -1, 0 or 1. ASN1_EMPTY where either has none. */
 asn1_code asn1_integer_compare(const uint8_t *a, size_t a_count, const uint8_t *b, size_t b_count, int32_t *order);

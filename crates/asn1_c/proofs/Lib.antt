@@ -1,6 +1,7 @@
 pub mod ArcLemmas
 pub mod BitLemmas
 pub mod CharacterFieldLemmas
+pub mod DecimalLemmas
 pub mod FieldLemmas
 pub mod IdentifierFieldLemmas
 pub mod IntegerFieldLemmas
@@ -9,4 +10,5 @@ pub mod NoneLemmas
 pub mod OctetLemmas
 pub mod PlanLemmas
 pub mod TextLemmas
+pub mod WideLemmas
 pub mod WritingLemmas

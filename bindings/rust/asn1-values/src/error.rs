@@ -30,8 +30,10 @@ pub enum BitsError {
 pub enum IntegerError {
     /// There are no octets.
     Empty,
-    /// The number does not fit 64 bits.
+    /// The number does not fit the type.
     Overflow,
+    /// The text is not the decimal text of a number of 128 bits, with a sign or without.
+    Decimal,
     /// The room is too short.
     Room,
 }
@@ -255,7 +257,8 @@ impl fmt::Display for IntegerError {
     fn fmt(&self, f: &mut fmt::Formatter<'_>) -> fmt::Result {
         match self {
             IntegerError::Empty => f.write_str("no octets"),
-            IntegerError::Overflow => f.write_str("the number does not fit 64 bits"),
+            IntegerError::Overflow => f.write_str("the number does not fit"),
+            IntegerError::Decimal => f.write_str("not the decimal text of a number of 128 bits"),
             IntegerError::Room => f.write_str("the room is too short"),
         }
     }

@@ -115,6 +115,7 @@ pub const TEXT: u32 = 16;
 pub const NOT_SHORTEST: u32 = 19;
 pub const OCTET_COUNT: u32 = 20;
 pub const TOO_MANY: u32 = 23;
+pub const DECIMAL: u32 = 24;
 
 extern "C" {
     pub fn asn1_read_u128(
@@ -158,6 +159,41 @@ extern "C" {
         count: *mut usize,
     ) -> u32;
     pub fn asn1_integer_to_i64(octets: *const u8, octet_count: usize, number: *mut i64) -> u32;
+    pub fn asn1_integer_from_u64(
+        number: u64,
+        room: *mut u8,
+        room_count: usize,
+        count: *mut usize,
+    ) -> u32;
+    pub fn asn1_integer_to_u64(octets: *const u8, octet_count: usize, number: *mut u64) -> u32;
+    pub fn asn1_integer_from_i128(
+        number: *const Words,
+        room: *mut u8,
+        room_count: usize,
+        count: *mut usize,
+    ) -> u32;
+    pub fn asn1_integer_to_i128(octets: *const u8, octet_count: usize, number: *mut Words) -> u32;
+    pub fn asn1_integer_from_u128(
+        number: *const Words,
+        room: *mut u8,
+        room_count: usize,
+        count: *mut usize,
+    ) -> u32;
+    pub fn asn1_integer_to_u128(octets: *const u8, octet_count: usize, number: *mut Words) -> u32;
+    pub fn asn1_integer_text(
+        octets: *const u8,
+        octet_count: usize,
+        room: *mut u8,
+        room_count: usize,
+        count: *mut usize,
+    ) -> u32;
+    pub fn asn1_integer_from_text(
+        text: *const u8,
+        text_count: usize,
+        room: *mut u8,
+        room_count: usize,
+        count: *mut usize,
+    ) -> u32;
     pub fn asn1_integer_compare(
         a: *const u8,
         a_count: usize,
