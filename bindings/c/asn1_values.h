@@ -56,6 +56,9 @@ typedef uint32_t asn1_code;
 #define ASN1_ALPHABET UINT32_C(22)     /* not an alphabet as asn1_alphabet_new fills it */
 #define ASN1_TOO_MANY UINT32_C(23)     /* more bits or octets than SIZE_MAX counts */
 #define ASN1_DECIMAL UINT32_C(24)      /* not the decimal text of a number of 128 bits, with a sign or without */
+#define ASN1_NO_UNICODE UINT32_C(25)   /* a string whose characters are not those of Unicode */
+#define ASN1_SURROGATE UINT32_C(26)    /* a character is a surrogate, which UTF-8 has no octets for */
+#define ASN1_NOT_UTF8 UINT32_C(27)     /* octets are not UTF-8 */
 
 /* The eight restricted character strings (X.680 41). */
 typedef uint32_t asn1_kind;
@@ -307,6 +310,28 @@ asn1_code asn1_oid_from_text(const uint8_t *text, size_t text_count, uint32_t *r
  * the character are told. ASN1_KIND for an unknown kind; ASN1_ODD for an odd number of octets of a BMPString. */
 asn1_code asn1_string_check(asn1_kind kind, const uint8_t *octets, size_t octet_count, size_t *place,
                             uint32_t *character);
+
+/* How many characters the octets of a string are, whichever they are. ASN1_KIND and ASN1_ODD as of
+ * asn1_string_check. */
+asn1_code asn1_string_count(asn1_kind kind, const uint8_t *octets, size_t octet_count, size_t *count);
+
+/* Writes the characters of a string's octets in UTF-8 to the front of the room, and leaves the octets behind them. How
+ * many octets they are, at most three for each character, is told also where the answer is ASN1_ROOM. ASN1_KIND for an
+ * unknown kind; else ASN1_NO_UNICODE for a GeneralString, a GraphicString and a TeletexString; else ASN1_ODD for an odd
+ * number of octets of a BMPString. Else the first wrong character is told, and its place, counted in characters from 0:
+ * ASN1_CHARACTER where it is not in the set, ASN1_SURROGATE where it is in the set and UTF-8 has no octets for it.
+ * Else ASN1_TOO_MANY where the count passes SIZE_MAX. */
+asn1_code asn1_string_to_utf8(asn1_kind kind, const uint8_t *octets, size_t octet_count, uint8_t *room,
+                              size_t room_count, size_t *count, size_t *place, uint32_t *character);
+
+/* Writes the octets of the string that has the characters of a text in UTF-8 to the front of the room, and leaves the
+ * octets behind them. How many octets they are is told also where the answer is ASN1_ROOM: at most as many as the text
+ * has, and for a BMPString twice as many. ASN1_KIND for an unknown kind; else ASN1_NO_UNICODE as of asn1_string_to_utf8;
+ * else ASN1_NOT_UTF8, and the place is how many octets the longest front of the text has that is UTF-8; else
+ * ASN1_CHARACTER for the first character that is not in the set, which is told, and its place, counted in characters
+ * from 0; else ASN1_TOO_MANY where the count passes SIZE_MAX. */
+asn1_code asn1_string_from_utf8(asn1_kind kind, const uint8_t *text, size_t text_count, uint8_t *room,
+                                size_t room_count, size_t *count, size_t *place, uint32_t *character);
 
 #ifdef __cplusplus
 }

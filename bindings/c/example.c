@@ -382,6 +382,40 @@ static void strings(void)
     expect("11 is the code of none", asn1_alphabet_decode(&numeric, 11, &character) == ASN1_CODE);
 }
 
+static void strings_in_utf8(void)
+{
+    uint8_t room[12];
+    size_t count = 0;
+    size_t place = 9;
+    uint32_t character = 0;
+    const uint8_t two[4] = {0x00, 0x41, 0x20, 0xAC};
+    expect("four octets are two characters", asn1_string_count(ASN1_BMP_STRING, two, 4, &count) == ASN1_DONE
+           && count == 2);
+    expect("three are none", asn1_string_count(ASN1_BMP_STRING, two, 3, &count) == ASN1_ODD && count == 2);
+    expect("A and the euro sign in UTF-8",
+           asn1_string_to_utf8(ASN1_BMP_STRING, two, 4, room, sizeof room, &count, &place, &character) == ASN1_DONE
+           && is_text(room, count, "A\xE2\x82\xAC"));
+    expect("need four octets",
+           asn1_string_to_utf8(ASN1_BMP_STRING, two, 4, room, 3, &count, &place, &character) == ASN1_ROOM
+           && count == 4);
+    const uint8_t surrogate[4] = {0x00, 0x41, 0xD8, 0x00};
+    expect("a surrogate has none",
+           asn1_string_to_utf8(ASN1_BMP_STRING, surrogate, 4, room, sizeof room, &count, &place, &character)
+           == ASN1_SURROGATE && place == 1 && character == 0xD800);
+    expect("a TeletexString is not in Unicode",
+           asn1_string_to_utf8(ASN1_TELETEX_STRING, two, 4, room, sizeof room, &count, &place, &character)
+           == ASN1_NO_UNICODE);
+    expect("they are a BMPString again",
+           asn1_string_from_utf8(ASN1_BMP_STRING, (const uint8_t *)"A\xE2\x82\xAC", 4, room, sizeof room, &count, &place,
+                                 &character) == ASN1_DONE && count == 4 && memcmp(room, two, 4) == 0);
+    expect("and no PrintableString",
+           asn1_string_from_utf8(ASN1_PRINTABLE_STRING, (const uint8_t *)"A\xE2\x82\xAC", 4, room, sizeof room, &count,
+                                 &place, &character) == ASN1_CHARACTER && place == 1 && character == 0x20AC);
+    expect("half a character is no text",
+           asn1_string_from_utf8(ASN1_BMP_STRING, (const uint8_t *)"A\xE2\x82", 3, room, sizeof room, &count, &place,
+                                 &character) == ASN1_NOT_UTF8 && place == 1);
+}
+
 int main(void)
 {
     bits();
@@ -394,5 +428,6 @@ int main(void)
     identifiers();
     dotted_text();
     strings();
+    strings_in_utf8();
     return wrong;
 }

@@ -10,5 +10,7 @@ pub mod NoneLemmas
 pub mod OctetLemmas
 pub mod PlanLemmas
 pub mod TextLemmas
+pub mod TextCharacterLemmas
+pub mod Utf8Lemmas
 pub mod WideLemmas
 pub mod WritingLemmas

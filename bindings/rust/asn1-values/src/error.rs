@@ -60,7 +60,7 @@ pub enum IdentifierError {
     Room,
 }
 
-/// Why octets are not the contents of a string.
+/// Why octets are not the contents of a string, or a text is none.
 ///
 /// ```
 /// assert_eq!(asn1_values::StringError::Odd.to_string(), "an odd number of octets");
@@ -70,6 +70,19 @@ pub enum IdentifierError {
 pub enum StringError {
     /// An odd number of octets in a `BMPString`.
     Odd,
+    /// A `GeneralString`, a `GraphicString` or a `TeletexString`, whose characters are not those of Unicode.
+    NoUnicode,
+    /// The first surrogate, which UTF-8 has no octets for. Its place is counted in characters, from 0.
+    Surrogate {
+        /// Its place.
+        place: usize,
+        /// The surrogate.
+        character: u32,
+    },
+    /// The octets, or the room for them, would pass `usize::MAX`.
+    TooMany,
+    /// The room is too short.
+    Room,
     /// The first character that is not in the set. Its place is counted in characters, from 0.
     Character {
         /// Its place.
@@ -281,6 +294,12 @@ impl fmt::Display for StringError {
     fn fmt(&self, f: &mut fmt::Formatter<'_>) -> fmt::Result {
         match self {
             StringError::Odd => f.write_str("an odd number of octets"),
+            StringError::NoUnicode => f.write_str("a string whose characters are not those of Unicode"),
+            StringError::Surrogate { place, character } => {
+                write!(f, "character {place}: {character} is a surrogate")
+            }
+            StringError::TooMany => f.write_str("too many octets"),
+            StringError::Room => f.write_str("the room is too short"),
             StringError::Character { place, character } => {
                 write!(f, "character {place}: {character} is not in the set")
             }

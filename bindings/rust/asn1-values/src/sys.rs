@@ -108,6 +108,7 @@ pub const MALFORMED: u32 = 6;
 pub const ARC_TOO_LARGE: u32 = 7;
 pub const ARCS: u32 = 8;
 pub const ARC_COUNT: u32 = 9;
+pub const ODD: u32 = 11;
 pub const CHARACTER: u32 = 12;
 pub const CODE: u32 = 14;
 pub const SHORT: u32 = 15;
@@ -116,6 +117,8 @@ pub const NOT_SHORTEST: u32 = 19;
 pub const OCTET_COUNT: u32 = 20;
 pub const TOO_MANY: u32 = 23;
 pub const DECIMAL: u32 = 24;
+pub const NO_UNICODE: u32 = 25;
+pub const SURROGATE: u32 = 26;
 
 extern "C" {
     pub fn asn1_read_u128(
@@ -237,6 +240,32 @@ extern "C" {
         kind: u32,
         octets: *const u8,
         octet_count: usize,
+        place: *mut usize,
+        character: *mut u32,
+    ) -> u32;
+    pub fn asn1_string_count(
+        kind: u32,
+        octets: *const u8,
+        octet_count: usize,
+        count: *mut usize,
+    ) -> u32;
+    pub fn asn1_string_to_utf8(
+        kind: u32,
+        octets: *const u8,
+        octet_count: usize,
+        room: *mut u8,
+        room_count: usize,
+        count: *mut usize,
+        place: *mut usize,
+        character: *mut u32,
+    ) -> u32;
+    pub fn asn1_string_from_utf8(
+        kind: u32,
+        text: *const u8,
+        text_count: usize,
+        room: *mut u8,
+        room_count: usize,
+        count: *mut usize,
         place: *mut usize,
         character: *mut u32,
     ) -> u32;
