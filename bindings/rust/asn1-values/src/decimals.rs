@@ -59,10 +59,7 @@ pub fn decimal(octets: &[u8]) -> Result<alloc::string::String, IntegerError> {
 /// assert_eq!(octets_of_decimal("-129", &mut [0; 17]), Ok(&[0xFF, 0x7F][..]));
 /// assert_eq!(octets_of_decimal("+1", &mut [0; 17]), Err(IntegerError::Decimal));
 /// ```
-pub fn octets_of_decimal<'a>(
-    text: &str,
-    room: &'a mut [u8; 17],
-) -> Result<&'a [u8], IntegerError> {
+pub fn octets_of_decimal<'a>(text: &str, room: &'a mut [u8; 17]) -> Result<&'a [u8], IntegerError> {
     let mut count = 0;
     // SAFETY: pointers and lengths are those of a text and of an array, which do not overlap.
     let code = unsafe {

@@ -294,7 +294,9 @@ impl fmt::Display for StringError {
     fn fmt(&self, f: &mut fmt::Formatter<'_>) -> fmt::Result {
         match self {
             StringError::Odd => f.write_str("an odd number of octets"),
-            StringError::NoUnicode => f.write_str("a string whose characters are not those of Unicode"),
+            StringError::NoUnicode => {
+                f.write_str("a string whose characters are not those of Unicode")
+            }
             StringError::Surrogate { place, character } => {
                 write!(f, "character {place}: {character} is a surrogate")
             }

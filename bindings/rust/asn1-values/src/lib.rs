@@ -52,9 +52,9 @@ pub use identifiers::{
 pub use integers::{
     compare_integers, integer_from_octets, integer_octets, is_shortest, shortest, Integer,
 };
+pub use strings::{count_characters, write_string_from_utf8, write_string_to_utf8};
 #[cfg(feature = "alloc")]
 pub use strings::{string_from_utf8, string_to_utf8};
-pub use strings::{count_characters, write_string_from_utf8, write_string_to_utf8};
 pub use wide_integers::{
     i128_from_octets, i128_octets, u128_from_octets, u128_octets, u64_from_octets, u64_octets,
 };

@@ -15,9 +15,8 @@ use crate::sys;
 pub fn count_characters(kind: StringKind, octets: &[u8]) -> Result<usize, StringError> {
     let mut count = 0;
     // SAFETY: pointer and length are those of a slice, and `count` is a place of its own.
-    match unsafe {
-        sys::asn1_string_count(kind as u32, octets.as_ptr(), octets.len(), &mut count)
-    } {
+    match unsafe { sys::asn1_string_count(kind as u32, octets.as_ptr(), octets.len(), &mut count) }
+    {
         sys::DONE => Ok(count),
         _ => Err(StringError::Odd),
     }
@@ -184,10 +183,7 @@ pub fn string_to_utf8(
 /// assert_eq!(string_from_utf8(StringKind::Bmp, "A\u{20AC}"), Ok(vec![0, 65, 0x20, 0xAC]));
 /// ```
 #[cfg(feature = "alloc")]
-pub fn string_from_utf8(
-    kind: StringKind,
-    text: &str,
-) -> Result<alloc::vec::Vec<u8>, StringError> {
+pub fn string_from_utf8(kind: StringKind, text: &str) -> Result<alloc::vec::Vec<u8>, StringError> {
     let answer = from_utf8(kind, text, &mut []);
     let mut room = match answer.code {
         sys::DONE => alloc::vec::Vec::new(),

@@ -116,7 +116,6 @@ pub const TEXT: u32 = 16;
 pub const NOT_SHORTEST: u32 = 19;
 pub const OCTET_COUNT: u32 = 20;
 pub const TOO_MANY: u32 = 23;
-pub const DECIMAL: u32 = 24;
 pub const NO_UNICODE: u32 = 25;
 pub const SURROGATE: u32 = 26;
 
