@@ -55,6 +55,10 @@ typedef uint32_t asn1_code;
 #define ASN1_SHAPE UINT32_C(21)        /* a shape of an unknown kind, or of an alphabet that is not there */
 #define ASN1_ALPHABET UINT32_C(22)     /* not an alphabet as asn1_alphabet_new fills it */
 #define ASN1_TOO_MANY UINT32_C(23)     /* more bits or octets than SIZE_MAX counts */
+#define ASN1_DECIMAL UINT32_C(24)      /* not the decimal text of a number of 128 bits, with a sign or without */
+#define ASN1_NO_UNICODE UINT32_C(25)   /* a string whose characters are not those of Unicode */
+#define ASN1_SURROGATE UINT32_C(26)    /* a character is a surrogate, which UTF-8 has no octets for */
+#define ASN1_NOT_UTF8 UINT32_C(27)     /* octets are not UTF-8 */
 
 /* The eight restricted character strings (X.680 41). */
 typedef uint32_t asn1_kind;
@@ -226,6 +230,38 @@ asn1_code asn1_integer_from_i64(int64_t number, uint8_t *room, size_t room_count
  * bits. */
 asn1_code asn1_integer_to_i64(const uint8_t *octets, size_t octet_count, int64_t *number);
 
+/* As asn1_integer_from_i64, of a number without a sign: at most 9 octets. */
+asn1_code asn1_integer_from_u64(uint64_t number, uint8_t *room, size_t room_count, size_t *count);
+
+/* As asn1_integer_to_i64. ASN1_OVERFLOW also where the number is below zero. */
+asn1_code asn1_integer_to_u64(const uint8_t *octets, size_t octet_count, uint64_t *number);
+
+/* As asn1_integer_from_i64, of a number in two's complement of 128 bits: at most 16 octets. */
+asn1_code asn1_integer_from_i128(const asn1_words *number, uint8_t *room, size_t room_count, size_t *count);
+
+/* As asn1_integer_to_i64, in two's complement of 128 bits. */
+asn1_code asn1_integer_to_i128(const uint8_t *octets, size_t octet_count, asn1_words *number);
+
+/* As asn1_integer_from_i64, of a number of 128 bits without a sign: at most 17 octets. */
+asn1_code asn1_integer_from_u128(const asn1_words *number, uint8_t *room, size_t room_count, size_t *count);
+
+/* As asn1_integer_to_u64, of 128 bits. */
+asn1_code asn1_integer_to_u128(const uint8_t *octets, size_t octet_count, asn1_words *number);
+
+/* Writes the decimal text of the number of the octets to the front of the room, and leaves the octets behind it: the
+ * digits, with no zero in front of others, behind a minus sign where the number is below zero. Nothing ends it. Its
+ * length, at most 40, is told also where the answer is ASN1_ROOM. ASN1_EMPTY for no octets, ASN1_OVERFLOW where the
+ * number fits 128 bits neither with a sign nor without. */
+asn1_code asn1_integer_text(const uint8_t *octets, size_t octet_count, uint8_t *room, size_t room_count,
+                            size_t *count);
+
+/* Writes the shortest octets of the number of which the octets of the text, all of them, are the decimal text as
+ * asn1_integer_text writes it, to the front of the room, and leaves the octets behind them. Their count, at most 17, is
+ * told also where the answer is ASN1_ROOM. ASN1_DECIMAL for any other text: so for a plus sign, a zero in front of other
+ * digits, -0, and a number that fits 128 bits neither with a sign nor without. */
+asn1_code asn1_integer_from_text(const uint8_t *text, size_t text_count, uint8_t *room, size_t room_count,
+                                 size_t *count);
+
 /* Compares the numbers of two lists of octets of any length, by value: -1, 0 or 1. ASN1_EMPTY where either has none. */
 asn1_code asn1_integer_compare(const uint8_t *a, size_t a_count, const uint8_t *b, size_t b_count, int32_t *order);
 
@@ -274,6 +310,28 @@ asn1_code asn1_oid_from_text(const uint8_t *text, size_t text_count, uint32_t *r
  * the character are told. ASN1_KIND for an unknown kind; ASN1_ODD for an odd number of octets of a BMPString. */
 asn1_code asn1_string_check(asn1_kind kind, const uint8_t *octets, size_t octet_count, size_t *place,
                             uint32_t *character);
+
+/* How many characters the octets of a string are, whichever they are. ASN1_KIND and ASN1_ODD as of
+ * asn1_string_check. */
+asn1_code asn1_string_count(asn1_kind kind, const uint8_t *octets, size_t octet_count, size_t *count);
+
+/* Writes the characters of a string's octets in UTF-8 to the front of the room, and leaves the octets behind them. How
+ * many octets they are, at most three for each character, is told also where the answer is ASN1_ROOM. ASN1_KIND for an
+ * unknown kind; else ASN1_NO_UNICODE for a GeneralString, a GraphicString and a TeletexString; else ASN1_ODD for an odd
+ * number of octets of a BMPString. Else the first wrong character is told, and its place, counted in characters from 0:
+ * ASN1_CHARACTER where it is not in the set, ASN1_SURROGATE where it is in the set and UTF-8 has no octets for it.
+ * Else ASN1_TOO_MANY where the count passes SIZE_MAX. */
+asn1_code asn1_string_to_utf8(asn1_kind kind, const uint8_t *octets, size_t octet_count, uint8_t *room,
+                              size_t room_count, size_t *count, size_t *place, uint32_t *character);
+
+/* Writes the octets of the string that has the characters of a text in UTF-8 to the front of the room, and leaves the
+ * octets behind them. How many octets they are is told also where the answer is ASN1_ROOM: at most as many as the text
+ * has, and for a BMPString twice as many. ASN1_KIND for an unknown kind; else ASN1_NO_UNICODE as of asn1_string_to_utf8;
+ * else ASN1_NOT_UTF8, and the place is how many octets the longest front of the text has that is UTF-8; else
+ * ASN1_CHARACTER for the first character that is not in the set, which is told, and its place, counted in characters
+ * from 0; else ASN1_TOO_MANY where the count passes SIZE_MAX. */
+asn1_code asn1_string_from_utf8(asn1_kind kind, const uint8_t *text, size_t text_count, uint8_t *room,
+                                size_t room_count, size_t *count, size_t *place, uint32_t *character);
 
 #ifdef __cplusplus
 }

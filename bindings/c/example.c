@@ -241,6 +241,53 @@ static void integers(void)
     expect("no octets are no number", asn1_integer_to_i64(padded, 0, &number) == ASN1_EMPTY);
 }
 
+static bool is_text(const uint8_t *octets, size_t count, const char *text)
+{
+    return count == strlen(text) && memcmp(octets, text, count) == 0;
+}
+
+static void wide_integers(void)
+{
+    uint8_t room[40];
+    size_t count = 0;
+    uint64_t number = 0;
+    const uint8_t large[9] = {0x00, 0x80, 0, 0, 0, 0, 0, 0, 0};
+    expect("2 to the power of 63 without a sign", asn1_integer_to_u64(large, sizeof large, &number) == ASN1_DONE
+           && number == UINT64_C(1) << 63);
+    expect("has nine octets", asn1_integer_from_u64(number, room, sizeof room, &count) == ASN1_DONE && count == 9
+           && memcmp(room, large, 9) == 0);
+    const uint8_t below[1] = {0xFF};
+    expect("-1 has a sign", asn1_integer_to_u64(below, 1, &number) == ASN1_OVERFLOW && number == UINT64_C(1) << 63);
+
+    const uint8_t least[16] = {0x80};
+    asn1_words words = {0, 0};
+    expect("the least number of 128 bits", asn1_integer_to_i128(least, sizeof least, &words) == ASN1_DONE
+           && words.high == UINT64_C(1) << 63 && words.low == 0);
+    expect("has sixteen octets", asn1_integer_from_i128(&words, room, sizeof room, &count) == ASN1_DONE && count == 16
+           && memcmp(room, least, 16) == 0);
+    expect("without a sign the same words have seventeen",
+           asn1_integer_from_u128(&words, room, sizeof room, &count) == ASN1_DONE && count == 17 && room[0] == 0);
+    asn1_words back = {0, 0};
+    expect("which are read back", asn1_integer_to_u128(room, 17, &back) == ASN1_DONE && back.high == words.high);
+    expect("and have no sign to lose", asn1_integer_to_i128(room, 17, &back) == ASN1_OVERFLOW);
+
+    expect("it is written in decimal", asn1_integer_text(least, sizeof least, room, sizeof room, &count) == ASN1_DONE
+           && is_text(room, count, "-170141183460469231731687303715884105728"));
+    expect("39 octets are no room for it", asn1_integer_text(least, sizeof least, room, 39, &count) == ASN1_ROOM
+           && count == 40);
+    const uint8_t seventeen[18] = {0, 1};
+    expect("17 octets with a sign are too many",
+           asn1_integer_text(seventeen, sizeof seventeen, room, sizeof room, &count) == ASN1_OVERFLOW && count == 40);
+    expect("a number is read in decimal", asn1_integer_from_text((const uint8_t *)"-129", 4, room, sizeof room, &count)
+           == ASN1_DONE && count == 2 && room[0] == 0xFF && room[1] == 0x7F);
+    expect("also where it has no sign to spare",
+           asn1_integer_from_text((const uint8_t *)"340282366920938463463374607431768211455", 39, room, sizeof room,
+                                  &count) == ASN1_DONE && count == 17 && room[0] == 0 && room[16] == 0xFF);
+    expect("a zero in front is refused",
+           asn1_integer_from_text((const uint8_t *)"01", 2, room, sizeof room, &count) == ASN1_DECIMAL);
+    expect("and so is -0", asn1_integer_from_text((const uint8_t *)"-0", 2, room, sizeof room, &count) == ASN1_DECIMAL);
+}
+
 static void identifiers(void)
 {
     /* The example of X.690 8.19.5: 2.100.3. */
@@ -335,6 +382,40 @@ static void strings(void)
     expect("11 is the code of none", asn1_alphabet_decode(&numeric, 11, &character) == ASN1_CODE);
 }
 
+static void strings_in_utf8(void)
+{
+    uint8_t room[12];
+    size_t count = 0;
+    size_t place = 9;
+    uint32_t character = 0;
+    const uint8_t two[4] = {0x00, 0x41, 0x20, 0xAC};
+    expect("four octets are two characters", asn1_string_count(ASN1_BMP_STRING, two, 4, &count) == ASN1_DONE
+           && count == 2);
+    expect("three are none", asn1_string_count(ASN1_BMP_STRING, two, 3, &count) == ASN1_ODD && count == 2);
+    expect("A and the euro sign in UTF-8",
+           asn1_string_to_utf8(ASN1_BMP_STRING, two, 4, room, sizeof room, &count, &place, &character) == ASN1_DONE
+           && is_text(room, count, "A\xE2\x82\xAC"));
+    expect("need four octets",
+           asn1_string_to_utf8(ASN1_BMP_STRING, two, 4, room, 3, &count, &place, &character) == ASN1_ROOM
+           && count == 4);
+    const uint8_t surrogate[4] = {0x00, 0x41, 0xD8, 0x00};
+    expect("a surrogate has none",
+           asn1_string_to_utf8(ASN1_BMP_STRING, surrogate, 4, room, sizeof room, &count, &place, &character)
+           == ASN1_SURROGATE && place == 1 && character == 0xD800);
+    expect("a TeletexString is not in Unicode",
+           asn1_string_to_utf8(ASN1_TELETEX_STRING, two, 4, room, sizeof room, &count, &place, &character)
+           == ASN1_NO_UNICODE);
+    expect("they are a BMPString again",
+           asn1_string_from_utf8(ASN1_BMP_STRING, (const uint8_t *)"A\xE2\x82\xAC", 4, room, sizeof room, &count, &place,
+                                 &character) == ASN1_DONE && count == 4 && memcmp(room, two, 4) == 0);
+    expect("and no PrintableString",
+           asn1_string_from_utf8(ASN1_PRINTABLE_STRING, (const uint8_t *)"A\xE2\x82\xAC", 4, room, sizeof room, &count,
+                                 &place, &character) == ASN1_CHARACTER && place == 1 && character == 0x20AC);
+    expect("half a character is no text",
+           asn1_string_from_utf8(ASN1_BMP_STRING, (const uint8_t *)"A\xE2\x82", 3, room, sizeof room, &count, &place,
+                                 &character) == ASN1_NOT_UTF8 && place == 1);
+}
+
 int main(void)
 {
     bits();
@@ -343,8 +424,10 @@ int main(void)
     seven_kinds();
     refused_kinds();
     integers();
+    wide_integers();
     identifiers();
     dotted_text();
     strings();
+    strings_in_utf8();
     return wrong;
 }

@@ -1,6 +1,7 @@
 pub mod ArcLemmas
 pub mod BitLemmas
 pub mod CharacterFieldLemmas
+pub mod DecimalLemmas
 pub mod FieldLemmas
 pub mod IdentifierFieldLemmas
 pub mod IntegerFieldLemmas
@@ -9,4 +10,7 @@ pub mod NoneLemmas
 pub mod OctetLemmas
 pub mod PlanLemmas
 pub mod TextLemmas
+pub mod TextCharacterLemmas
+pub mod Utf8Lemmas
+pub mod WideLemmas
 pub mod WritingLemmas

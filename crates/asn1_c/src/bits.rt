@@ -19,6 +19,16 @@ pub struct Words {
 }
 
 impl Words {
+    /// The words of a number.
+    pub(crate) fn of(number: u128) -> Words
+        ensures { result.high * 2 ^ 64 + result.low ≡ number }
+    {
+        Words {
+            high: (number >> 64) as u64,
+            low: (number % (1 << 64)) as u64,
+        }
+    }
+
     /// The number.
     pub(crate) fn number(&self) -> u128
         ensures { result ≡ self.now.high * 2 ^ 64 + self.now.low }
@@ -86,11 +96,7 @@ pub extern "C" fn asn1_read_u128(
     if !lie_within(position, width, octets.len()) {
         return OUTSIDE;
     }
-    let number = read_wide(octets, position, width);
-    *value = Words {
-        high: (number >> 64) as u64,
-        low: (number % (1 << 64)) as u64,
-    };
+    *value = Words::of(read_wide(octets, position, width));
     DONE
 }
 

@@ -77,6 +77,18 @@ pub const ALPHABET: u32 = 22;
 /// There are more bits, or more octets, than `usize` counts.
 pub const TOO_MANY: u32 = 23;
 
+/// The octets are not the decimal text of a number of 128 bits, with a sign or without.
+pub const DECIMAL: u32 = 24;
+
+/// The characters of the string are not those of Unicode.
+pub const NO_UNICODE: u32 = 25;
+
+/// A character is a surrogate, which UTF-8 has no octets for.
+pub const SURROGATE: u32 = 26;
+
+/// The octets are not UTF-8.
+pub const NOT_UTF8: u32 = 27;
+
 /// Below, equal and above, as -1, 0 and 1.
 pub(crate) fn number_of_order(order: Ordering) -> i32
     ensures { result ≡ order_number order }

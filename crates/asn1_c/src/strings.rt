@@ -63,7 +63,7 @@ fn first_wrong_pair(octets: &[u8]) -> Option<usize>
 }
 
 /// The number of a pair of octets.
-fn pair_at(octets: &[u8], i: usize) -> u32
+pub(crate) fn pair_at(octets: &[u8], i: usize) -> u32
     requires { 2 * i + 1 < length octets.now }
     ensures { result ≡ character_at Bmp octets.now i }
 {

@@ -120,7 +120,7 @@ fn put_text(first: u32, others: &[u32], room: &mut [u8])
 }
 
 /// Writes the octets to a place of the room, and answers the place behind them.
-fn put_at(octets: &[u8], room: &mut [u8], at: usize) -> usize
+pub(crate) fn put_at(octets: &[u8], room: &mut [u8], at: usize) -> usize
     requires { at + length octets.now ≤ length room.old }
     ensures put { room.new
         ≡ take at room.old ++ (octets.now ++ drop (at + length octets.now) room.old) }

@@ -30,8 +30,10 @@ pub enum BitsError {
 pub enum IntegerError {
     /// There are no octets.
     Empty,
-    /// The number does not fit 64 bits.
+    /// The number does not fit the type.
     Overflow,
+    /// The text is not the decimal text of a number of 128 bits, with a sign or without.
+    Decimal,
     /// The room is too short.
     Room,
 }
@@ -58,7 +60,7 @@ pub enum IdentifierError {
     Room,
 }
 
-/// Why octets are not the contents of a string.
+/// Why octets are not the contents of a string, or a text is none.
 ///
 /// ```
 /// assert_eq!(asn1_values::StringError::Odd.to_string(), "an odd number of octets");
@@ -68,6 +70,19 @@ pub enum IdentifierError {
 pub enum StringError {
     /// An odd number of octets in a `BMPString`.
     Odd,
+    /// A `GeneralString`, a `GraphicString` or a `TeletexString`, whose characters are not those of Unicode.
+    NoUnicode,
+    /// The first surrogate, which UTF-8 has no octets for. Its place is counted in characters, from 0.
+    Surrogate {
+        /// Its place.
+        place: usize,
+        /// The surrogate.
+        character: u32,
+    },
+    /// The octets, or the room for them, would pass `usize::MAX`.
+    TooMany,
+    /// The room is too short.
+    Room,
     /// The first character that is not in the set. Its place is counted in characters, from 0.
     Character {
         /// Its place.
@@ -255,7 +270,8 @@ impl fmt::Display for IntegerError {
     fn fmt(&self, f: &mut fmt::Formatter<'_>) -> fmt::Result {
         match self {
             IntegerError::Empty => f.write_str("no octets"),
-            IntegerError::Overflow => f.write_str("the number does not fit 64 bits"),
+            IntegerError::Overflow => f.write_str("the number does not fit"),
+            IntegerError::Decimal => f.write_str("not the decimal text of a number of 128 bits"),
             IntegerError::Room => f.write_str("the room is too short"),
         }
     }
@@ -278,6 +294,14 @@ impl fmt::Display for StringError {
     fn fmt(&self, f: &mut fmt::Formatter<'_>) -> fmt::Result {
         match self {
             StringError::Odd => f.write_str("an odd number of octets"),
+            StringError::NoUnicode => {
+                f.write_str("a string whose characters are not those of Unicode")
+            }
+            StringError::Surrogate { place, character } => {
+                write!(f, "character {place}: {character} is a surrogate")
+            }
+            StringError::TooMany => f.write_str("too many octets"),
+            StringError::Room => f.write_str("the room is too short"),
             StringError::Character { place, character } => {
                 write!(f, "character {place}: {character} is not in the set")
             }

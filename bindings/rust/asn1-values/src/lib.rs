@@ -23,14 +23,20 @@ extern crate alloc;
 
 mod alphabets;
 mod bits;
+mod decimals;
 mod error;
 mod fields;
 mod identifiers;
 mod integers;
+mod strings;
 mod sys;
+mod wide_integers;
 
 pub use alphabets::{characters, check_string, Alphabet, Characters, StringKind};
 pub use bits::{or_bits, or_number, read_bits, Bits};
+#[cfg(feature = "alloc")]
+pub use decimals::decimal;
+pub use decimals::{octets_of_decimal, write_decimal};
 pub use error::{
     AlphabetError, BitsError, IdentifierError, IntegerError, ReadError, StringError, WriteError,
 };
@@ -45,4 +51,10 @@ pub use identifiers::{
 };
 pub use integers::{
     compare_integers, integer_from_octets, integer_octets, is_shortest, shortest, Integer,
+};
+pub use strings::{count_characters, write_string_from_utf8, write_string_to_utf8};
+#[cfg(feature = "alloc")]
+pub use strings::{string_from_utf8, string_to_utf8};
+pub use wide_integers::{
+    i128_from_octets, i128_octets, u128_from_octets, u128_octets, u64_from_octets, u64_octets,
 };

@@ -108,6 +108,7 @@ pub const MALFORMED: u32 = 6;
 pub const ARC_TOO_LARGE: u32 = 7;
 pub const ARCS: u32 = 8;
 pub const ARC_COUNT: u32 = 9;
+pub const ODD: u32 = 11;
 pub const CHARACTER: u32 = 12;
 pub const CODE: u32 = 14;
 pub const SHORT: u32 = 15;
@@ -115,6 +116,8 @@ pub const TEXT: u32 = 16;
 pub const NOT_SHORTEST: u32 = 19;
 pub const OCTET_COUNT: u32 = 20;
 pub const TOO_MANY: u32 = 23;
+pub const NO_UNICODE: u32 = 25;
+pub const SURROGATE: u32 = 26;
 
 extern "C" {
     pub fn asn1_read_u128(
@@ -158,6 +161,41 @@ extern "C" {
         count: *mut usize,
     ) -> u32;
     pub fn asn1_integer_to_i64(octets: *const u8, octet_count: usize, number: *mut i64) -> u32;
+    pub fn asn1_integer_from_u64(
+        number: u64,
+        room: *mut u8,
+        room_count: usize,
+        count: *mut usize,
+    ) -> u32;
+    pub fn asn1_integer_to_u64(octets: *const u8, octet_count: usize, number: *mut u64) -> u32;
+    pub fn asn1_integer_from_i128(
+        number: *const Words,
+        room: *mut u8,
+        room_count: usize,
+        count: *mut usize,
+    ) -> u32;
+    pub fn asn1_integer_to_i128(octets: *const u8, octet_count: usize, number: *mut Words) -> u32;
+    pub fn asn1_integer_from_u128(
+        number: *const Words,
+        room: *mut u8,
+        room_count: usize,
+        count: *mut usize,
+    ) -> u32;
+    pub fn asn1_integer_to_u128(octets: *const u8, octet_count: usize, number: *mut Words) -> u32;
+    pub fn asn1_integer_text(
+        octets: *const u8,
+        octet_count: usize,
+        room: *mut u8,
+        room_count: usize,
+        count: *mut usize,
+    ) -> u32;
+    pub fn asn1_integer_from_text(
+        text: *const u8,
+        text_count: usize,
+        room: *mut u8,
+        room_count: usize,
+        count: *mut usize,
+    ) -> u32;
     pub fn asn1_integer_compare(
         a: *const u8,
         a_count: usize,
@@ -201,6 +239,32 @@ extern "C" {
         kind: u32,
         octets: *const u8,
         octet_count: usize,
+        place: *mut usize,
+        character: *mut u32,
+    ) -> u32;
+    pub fn asn1_string_count(
+        kind: u32,
+        octets: *const u8,
+        octet_count: usize,
+        count: *mut usize,
+    ) -> u32;
+    pub fn asn1_string_to_utf8(
+        kind: u32,
+        octets: *const u8,
+        octet_count: usize,
+        room: *mut u8,
+        room_count: usize,
+        count: *mut usize,
+        place: *mut usize,
+        character: *mut u32,
+    ) -> u32;
+    pub fn asn1_string_from_utf8(
+        kind: u32,
+        text: *const u8,
+        text_count: usize,
+        room: *mut u8,
+        room_count: usize,
+        count: *mut usize,
         place: *mut usize,
         character: *mut u32,
     ) -> u32;

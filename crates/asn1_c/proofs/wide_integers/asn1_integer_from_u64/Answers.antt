@@ -1,0 +1,8 @@
+use Rattle.std.proofs.Common.{arith}
+use Rattle.asn1_c.proofs.WideLemmas.{one_more_at_most}
+use Rattle.asn1_c.proofs.wide_integers.asn1_integer_from_u64.Goals as goal
+
+pub returns-clause-most : goal.returns-clause-most
+returns-clause-most c =
+    let made = c.to_signed_bytes_be-shortest.ensures in
+    omega (arith, one_more_at_most 8 _ _ (omega arith) made.shortest made.in_range, c.put_octets.ensures.count)
