@@ -1,5 +1,5 @@
-//! Whole numbers of 64 bits without a sign, and of 128 bits with one and without, as two's complement
-//! octets (X.690 8.3).
+//! Whole numbers of 64 bits without a sign, and of 128 bits with one and without, by two's
+//! complement octets (X.690 8.3).
 
 ghost use Rattle.std.specs.Prelude.{◌≡◌, ◌≢◌, ◌↔◌, ◌<◌, ◌≤◌, ℤ, ℕ, pos, List, length, take, drop, MatchOption};
 ghost use Rattle.asn1_number.specs.Octets.{IsShortest, signed};
@@ -112,8 +112,8 @@ pub extern "C" fn asn1_integer_from_i128(number: &Words, room: &mut [u8], count:
     put_signed(number.number().cast_signed(), room, count)
 }
 
-/// The number that the octets spell in two's complement of 128 bits, if it fits these. They need not
-/// be shortest.
+/// The number that the octets spell in two's complement of 128 bits, if it fits these. They need
+/// not be shortest.
 #[unsafe(no_mangle)]
 pub extern "C" fn asn1_integer_to_i128(octets: &[u8], number: &mut Words) -> u32
     ensures read { result ≡ 0 → signed_of_words number.new.high number.new.low ≡ signed octets.now }
@@ -138,9 +138,10 @@ pub extern "C" fn asn1_integer_to_i128(octets: &[u8], number: &mut Words) -> u32
 /// seventeen are always enough. Their number is told also where the room is too small.
 #[unsafe(no_mangle)]
 pub extern "C" fn asn1_integer_from_u128(number: &Words, room: &mut [u8], count: &mut usize) -> u32
-    ensures written { result ≡ 0 → IsShortest (pos (number_of_words number.now.high number.now.low))
-        (take count.new room.new) }
-    ensures count { (o : List ℕ) → IsShortest (pos (number_of_words number.now.high number.now.low)) o
+    ensures written { result ≡ 0 → IsShortest
+        (pos (number_of_words number.now.high number.now.low)) (take count.new room.new) }
+    ensures count { (o : List ℕ)
+        → IsShortest (pos (number_of_words number.now.high number.now.low)) o
         → count.new ≡ length o }
     ensures most { count.new ≤ 17 }
     ensures done { result ≡ 0 ↔ (count.new ≤ length room.old) }
