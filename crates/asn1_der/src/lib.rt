@@ -32,6 +32,7 @@ mod required;
 mod sequence;
 mod sequence_of;
 mod tag;
+mod tag_number;
 mod time;
 mod tlv;
 mod utc_time;
