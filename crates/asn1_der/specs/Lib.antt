@@ -35,6 +35,8 @@ pub mod OctetContents
 pub mod OctetContentsLaws
 pub mod Strings
 pub mod StringLaws
+pub mod BmpStrings
+pub mod BmpStringLaws
 pub mod Moments
 pub mod Times
 pub mod TimeLaws
