@@ -41,16 +41,14 @@ TlvFaultIs tag W list (fault.Length e) = After (λ t l. IsTagged tag t l) (λ t 
 TlvFaultIs tag W list (fault.Contents e) =
     (contents : List Bool) × (rest : List Bool) × Starts (λ c l. IsElement tag c l) list contents rest × W contents e
 
--- the tag's number is 31 or more, or the value is wrong, or its contents have 2 to the 64 bits or more
-abbrev pub TlvMisfitIs : {X E : Type 0} → Tag → (X → List Bool → Type 0) → (X → E → Type 0) → X → TlvMisfit E → Type 0
-TlvMisfitIs tag P W x misfit.HighNumber = 31 ≤ tag.number
-TlvMisfitIs tag P W x (misfit.Contents e) = (tag.number < 31) × W x e
-TlvMisfitIs tag P W x misfit.TooLong =
-    (tag.number < 31) × ((list : List Bool) × P x list × (2 ^ 64 ≤ length list))
+-- the value is wrong, or its contents have 2 to the 64 bits or more
+abbrev pub TlvMisfitIs : {X E : Type 0} → (X → List Bool → Type 0) → (X → E → Type 0) → X → TlvMisfit E → Type 0
+TlvMisfitIs P W x (misfit.Contents e) = W x e
+TlvMisfitIs P W x misfit.TooLong = (list : List Bool) × P x list × (2 ^ 64 ≤ length list)
 
 -- an element of any tag, with these octets
 abbrev pub IsAny : Tag × List ℕ → List Bool → Type 0
 IsAny v list = IsTlv v.0 (λ x l. AreOctets x l) v.1 list
 
 abbrev pub AnyMisfitIs : Tag × List ℕ → TlvMisfit NeverWrong → Type 0
-AnyMisfitIs v e = TlvMisfitIs v.0 (λ x l. AreOctets x l) (λ x (i : NeverWrong). ⊥) v.1 e
+AnyMisfitIs v e = TlvMisfitIs (λ x l. AreOctets x l) (λ x (i : NeverWrong). ⊥) v.1 e

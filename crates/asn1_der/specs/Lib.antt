@@ -1,5 +1,6 @@
 -- The words of the contracts.
 pub mod Tags
+pub mod TagNumbers
 pub mod Lengths
 pub mod Contents
 pub mod Elements
@@ -12,6 +13,8 @@ pub mod Identifiers
 pub mod ViewOctets
 -- Laws of these words, which the formats' laws are made of.
 pub mod TagLaws
+pub mod TagNumberLaws
+pub mod TagNumberSteps
 pub mod LengthLaws
 pub mod CountLaws
 pub mod TlvLaws
@@ -32,6 +35,8 @@ pub mod OctetContents
 pub mod OctetContentsLaws
 pub mod Strings
 pub mod StringLaws
+pub mod BmpStrings
+pub mod BmpStringLaws
 pub mod Moments
 pub mod Times
 pub mod TimeLaws

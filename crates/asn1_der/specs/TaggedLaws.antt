@@ -28,7 +28,7 @@ tag_more list more t p = (
 
 pub tag_size : (list : List Bool) (t : Tag) → HasTag t list → 8 ≤ length list
 tag_size list t p =
-    let a : length p.1.front ≡ 8 = identifier_size t p.1.front p.1.spelled in
+    let a : 8 ≤ length p.1.front = identifier_size t p.1.front p.1.spelled in
     let b : length list ≡ length p.1.front + length p.0 = ap length p.1.parts ∙ length-append p.1.front p.0 in
     omega arith
 

@@ -1,8 +1,6 @@
 -- Laws of elements.
 use Rattle.std.proofs.Common.{◌≡◌, ℕ, ◌+◌, ◌*◌, ◌/◌, ◌^◌, ◌<◌, ◌≤◌, List, ◌++◌, Bool, Some, Option, length, refl, sym, ◌∙◌, ap, subst, arith, append_assoc}
 use Rattle.std.proofs.lemmas.List.{length-append}
-use Rattle.asn1_bits.specs.Bits.{digits}
-use Rattle.asn1_bits.specs.DigitLaws.{length-digits}
 use Rattle.asn1_der.specs.declared.tag.Tag.{Tag}
 use Rattle.asn1_der.specs.declared.tag.TagFault.{TagFault}
 use Rattle.asn1_der.specs.declared.length.LengthFault.{LengthFault}
@@ -13,8 +11,8 @@ use Rattle.asn1_der.specs.declared.tlv.TlvMisfit.TheVariants as misfit
 use Rattle.asn1_formats.specs.Spelling.{Starts, CanRead, Fits, Measures, IsLength, IsSumOf, ReadsOne, SpellsOne, NamesFault, NamesMisfit}
 use Rattle.asn1_formats.specs.Combined.{Both}
 use Rattle.asn1_formats.specs.SpellingLaws.{join, both_reads_one, both_spells_one, can_first, can_second}
-use Rattle.asn1_der.specs.Tags.{leading, IsIdentifier, IsTagged}
-use Rattle.asn1_der.specs.TagLaws.{leading_below, identifier_size, tagged_reads_one, tagged_spells_one, tagged_names_fault}
+use Rattle.asn1_der.specs.Tags.{IsIdentifier, IsTagged}
+use Rattle.asn1_der.specs.TagLaws.{identifier_whole, tagged_reads_one, tagged_spells_one, tagged_names_fault}
 use Rattle.asn1_der.specs.Lengths.{IsDefinite, IsCounted, CountFaultIs}
 use Rattle.asn1_der.specs.CountLaws.{counted_reads_one, counted_spells_one, counted_names_fault, counted_whole}
 use Rattle.asn1_der.specs.Contents.{FillsOne, NamesWrong, IsWhole, AreWhole}
@@ -48,11 +46,12 @@ module _ (tag : Tag) where
 
   pub element_whole : (c list : List Bool) → IsElement tag c list → IsWhole list
   element_whole c list p =
-      let a = identifier_size tag p.front p.first.1 in
+      let a = identifier_whole tag p.front p.first.1 in
       let b = counted_whole c p.rest p.second in
+      let tagged : length p.front ≡ 8 * a.0 = a.1 in
       let sized : length p.rest ≡ 8 * b.0 = b.1 in
       let whole : length list ≡ length p.front + length p.rest = ap length p.parts ∙ length-append p.front p.rest in
-      (1 + b.0, omega arith)
+      (a.0 + b.0, omega arith)
 
   can_tag : (list c rest : List Bool) → Starts L list c rest → CanRead T list
   can_tag list c rest s =
@@ -118,13 +117,13 @@ module _ (tag : Tag) where
           };
         }
 
-    pub tlv_measured : SpellsOne P → AreWhole P → (x : X) (len w front : ℕ) (sum : Option ℕ) → tag.number < 31
-        → Measures P x (Some len) → len < 2 ^ 64 → front ≡ 8 + w → Measures (λ n l. IsDefinite n l) (len / 8) (Some w)
-        → IsSumOf (Some front) (Some len) sum → Measures (λ y l. IsTlv tag P y l) x sum
-    tlv_measured one whole x len w front sum low m below e d s =
-        let first = digits (leading tag) 8 in
-        let octet : leading tag < 2 ^ 8 = leading_below tag low in
-        let sized : length first ≡ 8 = length-digits (leading tag) 8 in
+    pub tlv_measured : SpellsOne P → AreWhole P → (x : X) (len t w front : ℕ) (sum : Option ℕ)
+        → Measures (λ u l. IsIdentifier u l) tag (Some t) → Measures P x (Some len) → len < 2 ^ 64 → front ≡ t + w
+        → Measures (λ n l. IsDefinite n l) (len / 8) (Some w) → IsSumOf (Some front) (Some len) sum
+        → Measures (λ y l. IsTlv tag P y l) x sum
+    tlv_measured one whole x len t w front sum i m below e d s =
+        let first = i.list in
+        let sized : length first ≡ t = i.size in
         let head : length (first ++ d.list) ≡ length first + length d.list = length-append first d.list in
         let a : length d.list ≡ w = d.size in
         let fronts : length (first ++ d.list) ≡ front = omega arith in
@@ -132,7 +131,7 @@ module _ (tag : Tag) where
         ap length (sym (append_assoc first d.list m.list)) ∙ length-append (first ++ d.list) m.list in
         record {
           list = first ++ (d.list ++ m.list);
-          spelled = tlv_is one x len first d.list m.list m below whole (low, (octet, refl)) d.spelled m.spelled;
+          spelled = tlv_is one x len first d.list m.list m below whole i.spelled d.spelled m.spelled;
           size = subst (λ (n : ℕ). IsLength n sum) (sym all) (s (length (first ++ d.list)) (length m.list) fronts m.size);
         }
 
@@ -177,31 +176,23 @@ module _ (tag : Tag) where
       tlv_names_fault = record { wrong = wrong; one = one_fault }
 
     module _ {F : Type 0} (W : X → F → Type 0) (one : SpellsOne P) (names : NamesMisfit P W) where
-      misfits : (x : X) (e : TlvMisfit F) → TlvMisfitIs tag P W x e → Fits E x → ⊥
-      misfits x misfit.HighNumber p f =
-          let low : tag.number < 31 = f.spelled.element.first.1.0 in
-          omega arith
+      misfits : (x : X) (e : TlvMisfit F) → TlvMisfitIs P W x e → Fits E x → ⊥
       misfits x (misfit.Contents e) p f =
-          names.wrong x e p.1 (record { list = f.spelled.contents; spelled = f.spelled.spelled })
+          names.wrong x e p (record { list = f.spelled.contents; spelled = f.spelled.spelled })
       misfits x misfit.TooLong p f =
-          let same = ap length (one.one x f.spelled.contents p.1.0 f.spelled.spelled p.1.1) in
+          let same = ap length (one.one x f.spelled.contents p.0 f.spelled.spelled p.1) in
           let few : length f.spelled.contents < 2 ^ 64 = f.spelled.element.second.within in
-          let many : 2 ^ 64 ≤ length p.1.0 = p.1.2 in
+          let many : 2 ^ 64 ≤ length p.0 = p.2 in
           omega arith
 
-      one_misfit : (x : X) (e g : TlvMisfit F) → TlvMisfitIs tag P W x e → TlvMisfitIs tag P W x g → e ≡ g
-      one_misfit x misfit.HighNumber misfit.HighNumber p q = refl
-      one_misfit x misfit.HighNumber (misfit.Contents g) p q = let low = q.0 in absurd (omega arith)
-      one_misfit x misfit.HighNumber misfit.TooLong p q = let low = q.0 in absurd (omega arith)
-      one_misfit x (misfit.Contents e) misfit.HighNumber p q = let low = p.0 in absurd (omega arith)
+      one_misfit : (x : X) (e g : TlvMisfit F) → TlvMisfitIs P W x e → TlvMisfitIs P W x g → e ≡ g
       one_misfit x (misfit.Contents e) (misfit.Contents g) p q =
-          ap (λ (y : F). misfit.Contents y) (names.one x e g p.1 q.1)
+          ap (λ (y : F). misfit.Contents y) (names.one x e g p q)
       one_misfit x (misfit.Contents e) misfit.TooLong p q =
-          absurd (names.wrong x e p.1 (record { list = q.1.0; spelled = q.1.1 }))
-      one_misfit x misfit.TooLong misfit.HighNumber p q = let low = p.0 in absurd (omega arith)
+          absurd (names.wrong x e p (record { list = q.0; spelled = q.1 }))
       one_misfit x misfit.TooLong (misfit.Contents g) p q =
-          absurd (names.wrong x g q.1 (record { list = p.1.0; spelled = p.1.1 }))
+          absurd (names.wrong x g q (record { list = p.0; spelled = p.1 }))
       one_misfit x misfit.TooLong misfit.TooLong p q = refl
 
-      pub tlv_names_misfit : NamesMisfit (λ x l. IsTlv tag P x l) (λ x e. TlvMisfitIs tag P W x e)
+      pub tlv_names_misfit : NamesMisfit (λ x l. IsTlv tag P x l) (λ x e. TlvMisfitIs P W x e)
       tlv_names_misfit = record { wrong = misfits; one = one_misfit }

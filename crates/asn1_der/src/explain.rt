@@ -15,7 +15,9 @@ impl fmt::Display for TagFault {
     fn fmt<W: fmt::Write>(&self, f: &mut fmt::Formatter<W>) -> fmt::Result {
         match self {
             TagFault::Short { missing } => write!(f, "{missing} bits of the tag are missing"),
-            TagFault::HighNumber => write!(f, "the tag's number is 31 or more"),
+            TagFault::Padded => write!(f, "fewer octets hold the tag's number"),
+            TagFault::Low => write!(f, "one octet holds the tag, and more do here"),
+            TagFault::Large => write!(f, "the tag's number passes 64 bits"),
             TagFault::Other { found } => {
                 let number = found.number;
                 write!(f, "another tag, of number {number}")
@@ -87,7 +89,6 @@ impl<E: Explain> Explain for InTlv<E> {
 impl<E: fmt::Display> fmt::Display for TlvMisfit<E> {
     fn fmt<W: fmt::Write>(&self, f: &mut fmt::Formatter<W>) -> fmt::Result {
         match self {
-            TlvMisfit::HighNumber => write!(f, "the tag's number is 31 or more"),
             TlvMisfit::Contents(wrong) => write!(f, "{wrong}"),
             TlvMisfit::TooLong => write!(f, "too many bits"),
         }

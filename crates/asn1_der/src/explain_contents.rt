@@ -1,6 +1,7 @@
 //! What is wrong with contents, in words.
 
 use crate::bit_string::BitStringFault;
+use crate::bmp_string::BmpStringFault;
 use crate::boolean::BooleanFault;
 use crate::character_string::NotInSet;
 use crate::integer::NotShortest;
@@ -92,6 +93,24 @@ impl fmt::Display for NotInSet {
 }
 
 impl Explain for NotInSet {
+    fn is_reason(&self) -> bool {
+        true
+    }
+}
+
+impl fmt::Display for BmpStringFault {
+    fn fmt<W: fmt::Write>(&self, f: &mut fmt::Formatter<W>) -> fmt::Result {
+        match self {
+            BmpStringFault::HalfCharacter => write!(f, "the octets end within a character"),
+            BmpStringFault::NotInSet { index, character } => write!(
+                f,
+                "character {index} is {character}, which the string can't hold"
+            ),
+        }
+    }
+}
+
+impl Explain for BmpStringFault {
     fn is_reason(&self) -> bool {
         true
     }

@@ -3,6 +3,7 @@
 
 mod any;
 mod bit_string;
+mod bmp_string;
 mod boolean;
 mod character_string;
 mod choice;
@@ -32,6 +33,7 @@ mod required;
 mod sequence;
 mod sequence_of;
 mod tag;
+mod tag_number;
 mod time;
 mod tlv;
 mod utc_time;
@@ -40,6 +42,7 @@ mod view_octets;
 
 pub use any::{Any, AnyValue};
 pub use bit_string::{BitStringContents, BitStringFault};
+pub use bmp_string::{BmpStringContents, BmpStringFault};
 pub use boolean::{BooleanContents, BooleanFault};
 pub use character_string::{CharacterStringContents, NotInSet};
 pub use choice::{ChoiceMisfit, Or};

@@ -1,11 +1,11 @@
 //! Tags, and the identifier octets that hold them.
 
-ghost use Rattle.std.specs.Prelude.{◌≡◌, ◌≢◌, ℕ, ◌+◌, ◌*◌, ◌<◌, ◌≤◌, ◌++◌, OnOk, OnErr, IfOk, IfErr, IsTrue, IsFalse};
-ghost use Rattle.asn1_bits.specs.Bits.{digits};
+ghost use Rattle.std.specs.Prelude.{◌≡◌, ◌≢◌, ℕ, ◌<◌, ◌≤◌, OnOk, OnErr, IfOk, IfErr, IsTrue, IsFalse, Some};
 ghost use Rattle.asn1_bits.specs.BitReader.{bits_left};
-ghost use Rattle.asn1_formats.specs.Spelling.{Starts, IsWritten};
+ghost use Rattle.asn1_formats.specs.Spelling.{Starts, Measures, IsWritten, Extends};
 ghost use Rattle.asn1_der.specs.Tags.{class_number, leading, IsIdentifier, IsTagged, TagFaultIs, OtherTagIs};
 
+use crate::tag_number::{next_subsequent, push_subsequent, subsequent_count};
 use asn1_formats::{next_number, push_number};
 use asn1_values::{BitBuffer, BitReader};
 use std::alloc::AllocError;
@@ -40,8 +40,14 @@ pub struct Tag {
 pub enum TagFault {
     /// So many bits of them are missing.
     Short { missing: usize },
-    /// The number is 31 or more.
-    HighNumber,
+    /// The first octet of a number of 31 or more is 80 (hexadecimal), so that fewer octets hold it
+    /// (8.1.2.4.2).
+    Padded,
+    /// The number in the octets behind the leading one is below 31, so that the leading octet holds
+    /// it (8.1.2.3).
+    Low,
+    /// The number does not fit 64 bits.
+    Large,
     /// They hold another tag.
     Other { found: Tag },
 }
@@ -72,23 +78,38 @@ fn number_of(class: Class) -> u64
     }
 }
 
-/// The leading octet, where bits 5 to 1 hold the number.
-fn leading_octet(tag: Tag) -> u64
-    requires { tag.number < 31 }
-    ensures octet { result ≡ leading tag }
+/// The leading octet, where bits 5 to 1 hold a number below 32.
+fn leading_octet(tag: Tag, low: u64) -> u64
+    requires { low < 32 }
+    ensures octet { result ≡ leading tag low }
     ensures below { result < 256 }
 {
     let form = if tag.constructed { 32 } else { 0 };
-    64 * number_of(tag.class) + form + tag.number
+    64 * number_of(tag.class) + form + low
 }
 
-/// Appends the identifier octets.
-pub(crate) fn push_tag(buffer: &mut BitBuffer, tag: Tag) -> Result<(), AllocError>
-    requires { tag.number < 31 }
-    ensures ok { OnOk result (IsWritten (λ t list. IsIdentifier t list) tag buffer.old buffer.new) }
-    ensures err { OnErr result (buffer.new ≡ buffer.old) }
+/// How many bits the identifier octets of a tag have.
+pub(crate) fn tag_width(tag: Tag) -> usize
+    ensures few { result ≤ 88 }
+    ensures measured { Measures (λ t list. IsIdentifier t list) tag (Some result) }
 {
-    push_number(buffer, leading_octet(tag), 8)
+    if tag.number < 31 {
+        return 8;
+    }
+    8 + 8 * subsequent_count(tag.number)
+}
+
+/// Appends the identifier octets. Where it is refused, the first may have been appended.
+pub(crate) fn push_tag(buffer: &mut BitBuffer, tag: Tag) -> Result<(), AllocError>
+    ensures ok { OnOk result
+        (IsWritten (λ t list. IsIdentifier t list) tag buffer.old buffer.new) }
+    ensures err { OnErr result (Extends buffer.old buffer.new) }
+{
+    if tag.number < 31 {
+        return push_number(buffer, leading_octet(tag, tag.number), 8);
+    }
+    push_number(buffer, leading_octet(tag, 31), 8)?;
+    push_subsequent(buffer, tag.number)
 }
 
 /// The tag of the next octets.
@@ -105,15 +126,24 @@ pub(crate) fn next_tag(reader: &mut BitReader<'_>) -> Result<Tag, TagFault>
             });
         }
     };
-    let number = first % 32;
-    if number == 31 {
-        return Err(TagFault::HighNumber);
+    let class = class_of(first / 64);
+    let constructed = first / 32 % 2 == 1;
+    let low = first % 32;
+    if low < 31 {
+        return Ok(Tag {
+            class,
+            constructed,
+            number: low,
+        });
     }
-    Ok(Tag {
-        class: class_of(first / 64),
-        constructed: first / 32 % 2 == 1,
-        number,
-    })
+    match next_subsequent(reader) {
+        Ok(number) => Ok(Tag {
+            class,
+            constructed,
+            number,
+        }),
+        Err(fault) => Err(fault),
+    }
 }
 
 /// Whether the tags are the same.

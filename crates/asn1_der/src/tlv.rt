@@ -8,7 +8,7 @@ ghost use Rattle.asn1_der.specs.Elements.{IsElement, ElementFaultIs};
 use crate::contents::Contents;
 use crate::element::Element;
 use crate::length::{LengthFault, length_width, next_counted, push_length};
-use crate::tag::{Tag, TagFault, are_same, pass_tag, push_tag};
+use crate::tag::{Tag, TagFault, are_same, pass_tag, push_tag, tag_width};
 use asn1_formats::{Format, Refusal, sum_of};
 use asn1_values::{BitBuffer, BitReader};
 use std::alloc::Global;
@@ -37,8 +37,6 @@ pub enum InTlv<E> {
 /// What is wrong with a value for an element.
 #[derive(Clone, Copy, Debug, PartialEq, Eq, Drop)]
 pub enum TlvMisfit<E> {
-    /// The number of the tag is 31 or more.
-    HighNumber,
     /// The value.
     Contents(E),
     /// The contents have more bits than `usize` counts.
@@ -95,7 +93,7 @@ impl<C: Contents> Format for Tlv<C> {
 
     ghost is_fault = { λ f list e. TlvFaultIs f.tag (C.is_fault f.contents) list e };
 
-    ghost is_misfit = { λ f x e. TlvMisfitIs f.tag (C.spells f.contents) (C.is_misfit f.contents) x e };
+    ghost is_misfit = { λ f x e. TlvMisfitIs (C.spells f.contents) (C.is_misfit f.contents) x e };
 
     ghost owns_nothing = { λ f. C.owns_nothing f.contents };
 
@@ -125,7 +123,7 @@ impl<C: Contents> Format for Tlv<C> {
 
     fn measure(&self, value: &C::Value) -> Result<Option<usize>, TlvMisfit<C::Misfit>> {
         let len = self.contents_len(value)?;
-        let front = 8 + length_width(len as u64 / 8);
+        let front = tag_width(self.tag) + length_width(len as u64 / 8);
         Ok(sum_of(Some(front), Some(len)))
     }
 
@@ -181,14 +179,10 @@ impl<C: Contents> Tlv<C> {
 
     /// How many bits the contents of the value have.
     fn contents_len(&self, value: &C::Value) -> Result<usize, TlvMisfit<C::Misfit>>
-        ensures low { OnOk result (self.now.tag.number < 31) }
         ensures measured { IfOk result (λ len. Measures (C.spells self.now.contents) (C.plain value.now) (Some len)) }
-        ensures misfit { IfErr result (TlvMisfitIs self.now.tag (C.spells self.now.contents)
+        ensures misfit { IfErr result (TlvMisfitIs (C.spells self.now.contents)
             (C.is_misfit self.now.contents) (C.plain value.now)) }
     {
-        if self.tag.number >= 31 {
-            return Err(TlvMisfit::HighNumber);
-        }
         match self.contents.measure(value) {
             Ok(Some(len)) => Ok(len),
             Ok(None) => Err(TlvMisfit::TooLong),
@@ -218,7 +212,7 @@ impl<C: Contents> Element for Tlv<C> {
 
     ghost is_fault = { λ f list e. TlvFaultIs f.tag (C.is_fault f.contents) list e };
 
-    ghost is_misfit = { λ f x e. TlvMisfitIs f.tag (C.spells f.contents) (C.is_misfit f.contents) x e };
+    ghost is_misfit = { λ f x e. TlvMisfitIs (C.spells f.contents) (C.is_misfit f.contents) x e };
 
     ghost owns_nothing = { λ f. C.owns_nothing f.contents };
 

@@ -14,4 +14,6 @@ mod primitives;
 #[cfg(test)]
 mod strings;
 #[cfg(test)]
+mod tags;
+#[cfg(test)]
 mod times;

@@ -1,11 +1,14 @@
 //! Strings.
 
 use super::calls::{element, found, written};
-use asn1_der::{CharacterStringContents, InTlv, NotInSet, NotUtf8, Utf8StringContents};
+use asn1_der::{
+    BmpStringContents, BmpStringFault, CharacterStringContents, InTlv, NotInSet, NotUtf8,
+    Utf8StringContents,
+};
 use asn1_formats::Refusal;
 use asn1_values::{
-    Ia5, Ia5String, Numeric, Printable, PrintableString, StaticPermittedAlphabet, Teletex, Visible,
-    VisibleString,
+    BmpString, Ia5, Ia5String, Numeric, Printable, PrintableString, StaticPermittedAlphabet,
+    Teletex, Visible, VisibleString,
 };
 use std::test::Fail;
 
@@ -80,5 +83,30 @@ fn a_text_is_in_utf8(rt: HostRuntime) -> Result<(), Fail> {
             Some(Refusal::Wrong(InTlv::Contents(NotUtf8 { index })))
         );
     }
+    Ok(())
+}
+
+#[test]
+fn a_bmp_string_has_two_octets_for_each_character(rt: HostRuntime) -> Result<(), Fail> {
+    let format = element(30, false, BmpStringContents {});
+    // `openssl asn1parse -genstr FORMAT:UTF8,BMPSTRING:Aé€`
+    let octets = b"\x1E\x06\x00\x41\x00\xE9\x20\xAC";
+    let value = BmpString::try_from_slice(rt.alloc(), b"\x00\x41\x00\xE9\x20\xAC")?;
+    assert_eq!(rt;
+        written(&format, rt.alloc(), &value)?.as_slice(),
+        octets.as_slice()
+    );
+    assert_eq!(rt; found(&format, rt.alloc(), octets)?, value);
+    assert_eq!(rt;
+        found(&format, rt.alloc(), b"\x1E\x04\xFF\xFD\xFF\xFE").err(),
+        Some(Refusal::Wrong(InTlv::Contents(BmpStringFault::NotInSet {
+            index: 1,
+            character: 0xFFFE
+        })))
+    );
+    assert_eq!(rt;
+        found(&format, rt.alloc(), b"\x1E\x03\x00\x41\x00").err(),
+        Some(Refusal::Wrong(InTlv::Contents(BmpStringFault::HalfCharacter)))
+    );
     Ok(())
 }

@@ -6,6 +6,7 @@ pub returns-clause-measured : goal.returns-clause-measured
 returns-clause-measured g c =
     let f = c.args.self.now in
     tlv_measured f.tag (g.C.Contents.spells f.contents) (g.met.C.Contents.spells_one f.contents)
-    (g.met.C.Contents.are_whole f.contents) (g.C.Contents.plain c.args.value.now) c.in_ok-len.len
-    c.length_width-front.result (8 + c.length_width-front.result) c.sum_of.result c.in_ok-len.ensures.low
-    c.in_ok-len.ensures.measured (omega arith) refl c.length_width-front.ensures.measured c.sum_of.ensures
+    (g.met.C.Contents.are_whole f.contents) (g.C.Contents.plain c.args.value.now) c.in_ok-len.len c.tag_width.result
+    c.length_width.result (c.tag_width.result + c.length_width.result) c.sum_of.result
+    c.tag_width.ensures.measured c.in_ok-len.ensures.measured (omega arith) refl c.length_width.ensures.measured
+    c.sum_of.ensures
