@@ -178,10 +178,11 @@ fn a_buffer_keeps_a_front(rt: HostRuntime) -> Result<(), Fail> {
 }
 
 /// Pushes three ones and then the pieces into room for so many bits, and compares the room that is
-/// left before and after each piece, and the octets.
+/// left before and after each piece, how many bits the buffer has then, and its octets.
 fn fills<R: Abort + AllocGlobal>(
     rt: &R,
     room: usize,
+    len: usize,
     pieces: &[Piece<'_>],
     rooms: &[usize],
     octets: &[u8],
@@ -192,13 +193,21 @@ fn fills<R: Abort + AllocGlobal>(
         append(rt.alloc(), &mut buffer, room, pieces)?.as_slice(),
         rooms
     );
+    assert_eq!(rt; buffer.len(), len);
     assert_eq!(rt; buffer.as_bytes(), octets);
     Ok(())
 }
 
 #[test]
 fn an_appender_leaves_zeros_in_its_room(rt: HostRuntime) -> Result<(), Fail> {
-    fills(&rt, 10, &[Piece::Short(0x2A5, 5)], &[10, 5], &[0xE5, 0x00])
+    fills(
+        &rt,
+        10,
+        13,
+        &[Piece::Short(0x2A5, 5)],
+        &[10, 5],
+        &[0xE5, 0x00],
+    )
 }
 
 #[test]
@@ -210,7 +219,7 @@ fn an_appender_takes_digits_octets_and_views(rt: HostRuntime) -> Result<(), Fail
         Piece::Number(0b1_0010_0011_0100, 13),
     ];
     let wanted = [0xF4, 0xAB, 0x5A, 0x76, 0x46, 0x80];
-    fills(&rt, 40, &pieces, &[40, 24, 16, 13, 0], &wanted)
+    fills(&rt, 40, 43, &pieces, &[40, 24, 16, 13, 0], &wanted)
 }
 
 #[test]
@@ -219,7 +228,7 @@ fn an_appender_fills_its_room_with_octets_and_bits(rt: HostRuntime) -> Result<()
         Piece::Octets(&[0xA5, 0x5A]),
         Piece::View((&[0x5A, 0x7F], 3, 8)),
     ];
-    fills(&rt, 24, &pieces, &[24, 8, 0], &[0xF4, 0xAB, 0x5A, 0x60])
+    fills(&rt, 24, 27, &pieces, &[24, 8, 0], &[0xF4, 0xAB, 0x5A, 0x60])
 }
 
 /// Three ones.
