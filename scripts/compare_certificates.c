@@ -1,0 +1,64 @@
+/* Times the reading of certificates by OpenSSL and by `decode` of asn1_der, in one process.
+ *
+ * usage: compare_certificates FILE ROUNDS
+ *
+ * FILE holds certificates in DER, each behind its length in four octets, the highest first. Both readers read all of them
+ * in turn, as many times as ROUNDS says, and the fastest time of each is printed: nanoseconds a certificate. With ROUNDS 0
+ * OpenSSL alone reads each once, and with -1 decode alone, so that a counter of instructions sees one of them. */
+#include <openssl/x509.h>
+#include <stdio.h>
+#include <stdlib.h>
+#include <time.h>
+
+size_t read_certificate(const unsigned char *octets, size_t octet_count, size_t rounds);
+
+static unsigned char octets[1 << 22];
+static size_t at[4096], count;
+
+static size_t by_openssl(void) {
+    size_t read = 0;
+    for (size_t i = 0; i < count; i++) {
+        const unsigned char *next = octets + at[i];
+        X509 *certificate = d2i_X509(NULL, &next, (long)(at[i + 1] - 4 - at[i]));
+        read += certificate != NULL;
+        X509_free(certificate);
+    }
+    return read;
+}
+
+static size_t by_decode(void) {
+    size_t read = 0;
+    for (size_t i = 0; i < count; i++)
+        read += read_certificate(octets + at[i], at[i + 1] - 4 - at[i], 1);
+    return read;
+}
+
+static double best(size_t (*reader)(void), long rounds) {
+    double least = 1e18;
+    for (long round = 0; round < rounds; round++) {
+        struct timespec from, until;
+        clock_gettime(CLOCK_MONOTONIC, &from);
+        if (reader() != count) exit(2);
+        clock_gettime(CLOCK_MONOTONIC, &until);
+        double took = (until.tv_sec - from.tv_sec) * 1e9 + (until.tv_nsec - from.tv_nsec);
+        if (took < least) least = took;
+    }
+    return least / count;
+}
+
+int main(int argc, char **argv) {
+    FILE *file = argc == 3 ? fopen(argv[1], "rb") : NULL;
+    if (!file) return 1;
+    size_t size = fread(octets, 1, sizeof octets, file);
+    for (size_t from = 0; from + 4 <= size && count < 4095;) {
+        size_t length = (size_t)octets[from] << 24 | octets[from + 1] << 16 | octets[from + 2] << 8 | octets[from + 3];
+        at[count++] = from + 4;
+        from += 4 + length;
+        at[count] = from + 4;
+    }
+    long rounds = atol(argv[2]);
+    if (rounds <= 0) return (rounds ? by_decode() : by_openssl()) != count;
+    printf("%zu certificates, nanoseconds a certificate: OpenSSL %.0f, decode %.0f\n", count, best(by_openssl, rounds),
+           best(by_decode, rounds));
+    return 0;
+}
