@@ -1,16 +1,22 @@
-/* Times the reading of certificates by OpenSSL and by `decode` of asn1_der, in one process.
+/* Times the reading of certificates by OpenSSL, by `decode` of asn1_der and, with WITH_RUST, by the Rust crate `asn1`, in
+ * one process.
  *
  * usage: compare_certificates FILE ROUNDS
  *
- * FILE holds certificates in DER, each behind its length in four octets, the highest first. Both readers read all of them
+ * FILE holds certificates in DER, each behind its length in four octets, the highest first. The readers read all of them
  * in turn, as many times as ROUNDS says, and the fastest time of each is printed: nanoseconds a certificate. With ROUNDS 0
- * OpenSSL alone reads each once, and with -1 decode alone, so that a counter of instructions sees one of them. */
+ * OpenSSL alone reads each once, with -1 decode alone and with -2 the Rust crate alone, so that a counter of instructions
+ * sees one of them. */
 #include <openssl/x509.h>
+#include <stdbool.h>
 #include <stdio.h>
 #include <stdlib.h>
 #include <time.h>
 
 size_t read_certificate(const unsigned char *octets, size_t octet_count, size_t rounds);
+#ifdef WITH_RUST
+bool read_by_asn1(const unsigned char *octets, size_t octet_count);
+#endif
 
 static unsigned char octets[1 << 22];
 static size_t at[4096], count;
@@ -32,6 +38,15 @@ static size_t by_decode(void) {
         read += read_certificate(octets + at[i], at[i + 1] - 4 - at[i], 1);
     return read;
 }
+
+#ifdef WITH_RUST
+static size_t by_rust(void) {
+    size_t read = 0;
+    for (size_t i = 0; i < count; i++)
+        read += read_by_asn1(octets + at[i], at[i + 1] - 4 - at[i]);
+    return read;
+}
+#endif
 
 static double best(size_t (*reader)(void), long rounds) {
     double least = 1e18;
@@ -57,8 +72,15 @@ int main(int argc, char **argv) {
         at[count] = from + 4;
     }
     long rounds = atol(argv[2]);
+#ifdef WITH_RUST
+    if (rounds == -2) return by_rust() != count;
+#endif
     if (rounds <= 0) return (rounds ? by_decode() : by_openssl()) != count;
-    printf("%zu certificates, nanoseconds a certificate: OpenSSL %.0f, decode %.0f\n", count, best(by_openssl, rounds),
+    printf("%zu certificates, nanoseconds a certificate: OpenSSL %.0f, decode %.0f", count, best(by_openssl, rounds),
            best(by_decode, rounds));
+#ifdef WITH_RUST
+    printf(", asn1 %.0f", best(by_rust, rounds));
+#endif
+    printf("\n");
     return 0;
 }
