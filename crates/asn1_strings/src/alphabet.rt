@@ -1,17 +1,20 @@
 //! The alphabets that characters are written in (X.691 30.5).
-ghost use Rattle.std.specs.Prelude.{◌≡◌, ◌≢◌, ◌≤◌, ◌+◌, ◌<◌, ◌^◌, ℕ, true, false, AllPairs, IsNone, length, slice_get, is_some, Some, OnSome, OnOk, MatchBool, MatchOption};
+ghost use Rattle.std.specs.Prelude.{◌≡◌, ◌≢◌, ◌≤◌, ◌+◌, ◌<◌, ◌^◌, ℕ, true, false, AllPairs, length, slice_get, is_some, Some, OnSome, OnOk, MatchBool, MatchOption};
 ghost use Rattle.std.specs.Option.{ForSome, option_copied};
 ghost use Rattle.std.specs.List.Sorted.{IsNonDecreasing};
 ghost use Rattle.asn1_characters.specs.Sets.{has_character, largest};
 ghost use Rattle.asn1_characters.specs.Widths.{ceil_log2};
 ghost use Rattle.asn1_strings.specs.Alphabet.{is_indexed, kept_set, alphabet_on, effective, IsCode, missing_error, uncoded_error, Encodes, Decodes, IsLongAscending};
-ghost use Rattle.asn1_strings.specs.AlphabetInMemory.{some_if, set_of, HasWords, IsKnown, IsRun, IsSeenRun};
+ghost use Rattle.asn1_strings.specs.AlphabetInMemory.{some_if, set_of, IsKnown};
 
-use crate::permitted_set::{is_ascending, is_run, largest_of, largest_of_run, repeats_in};
+use crate::effective_set::{
+    ascends_in, count_of, kept_set, largest_in, listing_of, parts_of_words, words_of,
+};
+use crate::permitted_set::{largest_of, repeats_in};
 use crate::run::Run;
 use crate::search::{Entries, Looks, find_ascending, find_one_by_one};
 use crate::static_permitted_alphabet::StaticPermittedAlphabet;
-use crate::widths::{align, ceil_log2, codes_of, width_for};
+use crate::widths::{codes_of, width_for};
 use asn1_bits::Turns;
 use asn1_characters::{
     CharacterSetName, CharacterWords, InvalidRestrictedString, PermittedAlphabetError,
@@ -365,128 +368,4 @@ fn place_by_looks(set: &[u32], ascending: bool, character: u32, probes: &mut Tur
 {
     let place = place_among(&mut Looks::at(set), ascending, character, probes)?;
     Some(place as u32)
-}
-
-/// The permitted set, where it is kept.
-#[inline]
-fn kept_set<'s>(name: CharacterSetName, set: &'s [u32], aligned: bool) -> Option<&'s [u32]>
-    requires { length set.now ≤ 2 ^ 32 }
-    ensures set { option_copied result ≡ kept_set name (Some set.now) aligned }
-    ensures few { length (set_of name result) ≤ 2 ^ 32 }
-{
-    let count = (set.len() as u64).max(1);
-    if name.is_indexed() || align(aligned, ceil_log2(count)) < name.width() as u32 {
-        Some(set)
-    } else {
-        None
-    }
-}
-
-/// The number of characters of the effective set.
-#[inline]
-fn count_of(name: CharacterSetName, kept: Option<&[u32]>) -> u64
-    ensures { result ≡ length (set_of name kept.entry) }
-{
-    match kept {
-        Some(set) => set.len() as u64,
-        None => name.count() as u64,
-    }
-}
-
-/// The largest character of the effective set.
-#[inline]
-fn largest_in(name: CharacterSetName, kept: Option<&[u32]>, run: bool) -> u32
-    requires { run ≡ true → IsRun (set_of name kept) }
-    ensures { result ≡ largest (set_of name kept.entry) }
-{
-    match kept {
-        Some(set) if run => largest_of_run(set),
-        Some(set) => largest_of(set),
-        None => name.largest(),
-    }
-}
-
-/// Whether a permitted set that was kept is ascending.
-#[inline]
-fn ascends_in(name: CharacterSetName, kept: Option<&[u32]>, run: bool) -> bool
-    requires { run ≡ true → IsRun (set_of name kept) }
-    ensures ascends { result ≡ true → IsNonDecreasing (set_of name kept.entry) }
-    ensures not_ascending { result ≡ false → is_some kept.entry ≡ true →
-        ¬ (IsNonDecreasing (set_of name kept.entry)) }
-{
-    match kept {
-        Some(set) => run || is_ascending(set),
-        None => false,
-    }
-}
-
-/// The words of the effective set, where its characters are below 256.
-#[inline]
-fn words_of(
-    name: CharacterSetName,
-    kept: Option<&[u32]>,
-    run: bool,
-    most: u32,
-) -> Option<CharacterWords>
-    requires { most ≡ largest (set_of name kept) }
-    ensures worded { ForSome result (HasWords (set_of name kept.entry)) }
-    ensures wordless { IsNone result → run ≡ false → 256 ≤ most }
-{
-    match kept {
-        Some(set) if !run && most < 256 => Some(CharacterWords::of(set)),
-        Some(_) => None,
-        None => match name {
-            CharacterSetName::Bmp => None,
-            _ => Some(name.words()),
-        },
-    }
-}
-
-// How the effective set lies in memory: whether it is a permitted set, and whether it is known to
-// leave no gap. In both cases `set` lists it.
-#[derive(Clone, Copy)]
-struct Listing<'s> {
-    kept: bool,
-    run: bool,
-    set: &'s [u32],
-}
-
-/// How the effective set lies in memory.
-#[inline]
-fn listing_of<'s>(name: CharacterSetName, kept: Option<&'s [u32]>) -> Listing<'s>
-    ensures kept { some_if result.kept result.set ≡ kept.entry }
-    ensures listing { result.run ≡ true → result.set.now ≡ set_of name kept.entry }
-    ensures gapless { result.run ≡ true → IsRun (set_of name kept.entry) }
-    ensures seen { IsSeenRun name (option_copied kept.entry) result.run }
-{
-    match kept {
-        Some(set) => Listing {
-            kept: true,
-            run: is_run(set),
-            set,
-        },
-        None => match name.table() {
-            Some(set) => Listing {
-                kept: false,
-                run: true,
-                set,
-            },
-            None => Listing {
-                kept: false,
-                run: false,
-                set: &[],
-            },
-        },
-    }
-}
-
-/// Whether there are words, and the words, or those of no character.
-#[inline]
-fn parts_of_words(words: Option<CharacterWords>) -> (bool, CharacterWords)
-    ensures { some_if result.0 result.1 ≡ words }
-{
-    match words {
-        Some(words) => (true, words),
-        None => (false, CharacterWords::new(0, 0, 0, 0)),
-    }
 }

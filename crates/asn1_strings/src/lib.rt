@@ -11,6 +11,7 @@ mod alphabet;
 mod bmp_string;
 mod chars;
 mod code_unit;
+mod effective_set;
 mod general_string;
 mod graphic_string;
 mod ia5_string;

@@ -3,7 +3,7 @@ use Rattle.asn1_characters.specs.TableLaws.{largest-base_set}
 use Rattle.asn1_characters.specs.declared.character_set.CharacterSetName.TheVariants.{Bmp}
 use Rattle.asn1_strings.specs.AlphabetInMemory.{set_of}
 use Rattle.asn1_strings.proofs.AlphabetLemmas.{worded_base, some_words}
-use Rattle.asn1_strings.proofs.alphabet.words_of.Goals as goal
+use Rattle.asn1_strings.proofs.effective_set.words_of.Goals as goal
 
 pub returns-in_default-clause-worded : goal.returns-in_default-clause-worded
 returns-in_default-clause-worded c =

@@ -5,7 +5,7 @@ use Rattle.asn1_characters.specs.Sets.{base_set, is_listed}
 use Rattle.asn1_characters.specs.declared.character_set.CharacterSetName.{CharacterSetName}
 use Rattle.asn1_characters.specs.declared.character_set.CharacterSetName.TheVariants.{Bmp, General, Graphic, IA5, Numeric, Printable, Teletex, Visible}
 use Rattle.asn1_strings.specs.AlphabetInMemory.{IsRun}
-use Rattle.asn1_strings.proofs.alphabet.listing_of.Goals as goal
+use Rattle.asn1_strings.proofs.effective_set.listing_of.Goals as goal
 
 -- the sets that lie in memory leave no gap
 ia5_run : IsRun (base_set IA5)
