@@ -55,7 +55,7 @@ typedef uint32_t asn1_code;
 #define ASN1_SHAPE UINT32_C(21)        /* a shape of an unknown kind, or of an alphabet that is not there */
 #define ASN1_ALPHABET UINT32_C(22)     /* not an alphabet as asn1_alphabet_new fills it */
 #define ASN1_TOO_MANY UINT32_C(23)     /* more bits or octets than SIZE_MAX counts */
-#define ASN1_DECIMAL UINT32_C(24)      /* not the decimal text of a number of 128 bits, with a sign or without */
+#define ASN1_DECIMAL UINT32_C(24)      /* not the decimal text of a number */
 #define ASN1_NO_UNICODE UINT32_C(25)   /* a string whose characters are not those of Unicode */
 #define ASN1_SURROGATE UINT32_C(26)    /* a character is a surrogate, which UTF-8 has no octets for */
 #define ASN1_NOT_UTF8 UINT32_C(27)     /* octets are not UTF-8 */
@@ -248,17 +248,20 @@ asn1_code asn1_integer_from_u128(const asn1_words *number, uint8_t *room, size_t
 /* As asn1_integer_to_u64, of 128 bits. */
 asn1_code asn1_integer_to_u128(const uint8_t *octets, size_t octet_count, asn1_words *number);
 
-/* Writes the decimal text of the number of the octets to the front of the room, and leaves the octets behind it: the
- * digits, with no zero in front of others, behind a minus sign where the number is below zero. Nothing ends it. Its
- * length, at most 40, is told also where the answer is ASN1_ROOM. ASN1_EMPTY for no octets, ASN1_OVERFLOW where the
- * number fits 128 bits neither with a sign nor without. */
+/* Writes the decimal text of the number of the octets, of any length, to the front of the room, and leaves the octets
+ * behind it: the digits, with no zero in front of others, behind a minus sign where the number is below zero. Nothing
+ * ends it. 5 * octet_count / 2 + 2 octets are always enough. A length that is enough is told also where the answer is
+ * ASN1_ROOM: that of the text, at most 40, where the number has 128 bits, with a sign or without; and else 5 * n / 2 +
+ * 2, of n octets behind those that only repeat the sign. ASN1_EMPTY for no octets; ASN1_TOO_MANY where 5 * octet_count
+ * / 2 + 2 passes SIZE_MAX. */
 asn1_code asn1_integer_text(const uint8_t *octets, size_t octet_count, uint8_t *room, size_t room_count,
                             size_t *count);
 
 /* Writes the shortest octets of the number of which the octets of the text, all of them, are the decimal text as
- * asn1_integer_text writes it, to the front of the room, and leaves the octets behind them. Their count, at most 17, is
- * told also where the answer is ASN1_ROOM. ASN1_DECIMAL for any other text: so for a plus sign, a zero in front of other
- * digits, -0, and a number that fits 128 bits neither with a sign nor without. */
+ * asn1_integer_text writes it, to the front of the room, and leaves the octets behind them. text_count / 2 + 1 octets
+ * are always enough. A count that is enough is told also where the answer is ASN1_ROOM: that of the octets, at most
+ * 17, where the number has 128 bits, with a sign or without; and else text_count / 2 + 1. ASN1_DECIMAL for any other
+ * text: so for a plus sign, a zero in front of other digits, and -0. */
 asn1_code asn1_integer_from_text(const uint8_t *text, size_t text_count, uint8_t *room, size_t room_count,
                                  size_t *count);
 

@@ -275,9 +275,20 @@ static void wide_integers(void)
            && is_text(room, count, "-170141183460469231731687303715884105728"));
     expect("39 octets are no room for it", asn1_integer_text(least, sizeof least, room, 39, &count) == ASN1_ROOM
            && count == 40);
-    const uint8_t seventeen[18] = {0, 1};
-    expect("17 octets with a sign are too many",
-           asn1_integer_text(seventeen, sizeof seventeen, room, sizeof room, &count) == ASN1_OVERFLOW && count == 40);
+    const uint8_t wide[18] = {0, 1};
+    uint8_t text[47];
+    expect("2 to the power of 128 has as many digits as any number of 17 octets may have",
+           asn1_integer_text(wide, sizeof wide, text, 43, &count) == ASN1_ROOM && count == 44);
+    expect("and of these 39", asn1_integer_text(wide, sizeof wide, text, 44, &count) == ASN1_DONE
+           && is_text(text, count, "340282366920938463463374607431768211456"));
+    expect("which have 17 octets", asn1_integer_from_text(text, count, room, 19, &count) == ASN1_ROOM && count == 20);
+    expect("that are read back", asn1_integer_from_text(text, 39, room, 20, &count) == ASN1_DONE && count == 17
+           && memcmp(room, wide + 1, 17) == 0);
+    const uint8_t deep[17] = {0x80};
+    expect("so has a number below zero", asn1_integer_text(deep, sizeof deep, text, sizeof text, &count) == ASN1_DONE
+           && is_text(text, count, "-43556142965880123323311949751266331066368"));
+    expect("with its octets", asn1_integer_from_text(text, count, room, sizeof room, &count) == ASN1_DONE && count == 17
+           && memcmp(room, deep, 17) == 0);
     expect("a number is read in decimal", asn1_integer_from_text((const uint8_t *)"-129", 4, room, sizeof room, &count)
            == ASN1_DONE && count == 2 && room[0] == 0xFF && room[1] == 0x7F);
     expect("also where it has no sign to spare",

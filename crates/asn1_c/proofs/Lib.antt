@@ -1,7 +1,11 @@
 pub mod ArcLemmas
 pub mod BitLemmas
 pub mod CharacterFieldLemmas
+pub mod DecimalDigitLemmas
 pub mod DecimalLemmas
+pub mod DecimalOctetLemmas
+pub mod DecimalTextLemmas
+pub mod DigitLemmas
 pub mod FieldLemmas
 pub mod IdentifierFieldLemmas
 pub mod IntegerFieldLemmas

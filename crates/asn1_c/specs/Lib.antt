@@ -5,5 +5,6 @@ pub mod Octets
 pub mod Sets
 pub mod Text
 pub mod Writing
--- How a step of the code is stated; no public contract cites this.
+-- How a step of the code is stated; no public contract cites these.
 pub mod Arcs
+pub mod Digits

@@ -77,7 +77,7 @@ pub const ALPHABET: u32 = 22;
 /// There are more bits, or more octets, than `usize` counts.
 pub const TOO_MANY: u32 = 23;
 
-/// The octets are not the decimal text of a number of 128 bits, with a sign or without.
+/// The octets are not the decimal text of a number.
 pub const DECIMAL: u32 = 24;
 
 /// The characters of the string are not those of Unicode.

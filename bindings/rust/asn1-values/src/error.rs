@@ -32,7 +32,7 @@ pub enum IntegerError {
     Empty,
     /// The number does not fit the type.
     Overflow,
-    /// The text is not the decimal text of a number of 128 bits, with a sign or without.
+    /// The text is not the decimal text of a number.
     Decimal,
     /// The room is too short.
     Room,
@@ -271,7 +271,7 @@ impl fmt::Display for IntegerError {
         match self {
             IntegerError::Empty => f.write_str("no octets"),
             IntegerError::Overflow => f.write_str("the number does not fit"),
-            IntegerError::Decimal => f.write_str("not the decimal text of a number of 128 bits"),
+            IntegerError::Decimal => f.write_str("not the decimal text of a number"),
             IntegerError::Room => f.write_str("the room is too short"),
         }
     }

@@ -36,7 +36,7 @@ pub use alphabets::{characters, check_string, Alphabet, Characters, StringKind};
 pub use bits::{or_bits, or_number, read_bits, Bits};
 #[cfg(feature = "alloc")]
 pub use decimals::decimal;
-pub use decimals::{octets_of_decimal, write_decimal};
+pub use decimals::{decimal_room, octets_of_decimal, write_decimal};
 pub use error::{
     AlphabetError, BitsError, IdentifierError, IntegerError, ReadError, StringError, WriteError,
 };
