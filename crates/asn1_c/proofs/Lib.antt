@@ -1,11 +1,13 @@
 pub mod ArcLemmas
 pub mod BitLemmas
 pub mod CharacterFieldLemmas
+pub mod ContentLemmas
 pub mod DecimalDigitLemmas
 pub mod DecimalLemmas
 pub mod DecimalOctetLemmas
 pub mod DecimalTextLemmas
 pub mod DigitLemmas
+pub mod ElementLemmas
 pub mod FieldLemmas
 pub mod IdentifierFieldLemmas
 pub mod IntegerFieldLemmas

@@ -1,5 +1,7 @@
 -- The words of the contracts.
 pub mod Codes
+pub mod Contents
+pub mod Elements
 pub mod Fields
 pub mod Octets
 pub mod Sets

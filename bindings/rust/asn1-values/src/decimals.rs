@@ -52,7 +52,7 @@ pub fn write_decimal<'a>(octets: &[u8], room: &'a mut [u8]) -> Result<&'a str, I
 /// ```
 /// assert_eq!(asn1_values::decimal(&[0, 0x80]).as_deref(), Ok("128"));
 /// let text = asn1_values::decimal(&[0x7F; 20]).unwrap();
-/// assert_eq!(text, "727836671579534215649937751485818776148942421887");
+/// assert_eq!(text, "727885129180488904360266563744972327436484050815");
 /// ```
 #[cfg(feature = "alloc")]
 pub fn decimal(octets: &[u8]) -> Result<alloc::string::String, IntegerError> {
