@@ -77,6 +77,7 @@ typedef uint32_t asn1_code;
 #define ASN1_TIME_OCTETS UINT32_C(41)       /* a time has not as many octets as its type */
 #define ASN1_TIME_CHARACTER UINT32_C(42)    /* an octet of a time is no digit, or not the Z at the end */
 #define ASN1_NO_TIME UINT32_C(43)           /* there is no such day, or no such time of day */
+#define ASN1_REPORT UINT32_C(44)            /* octets begin with no report */
 
 /* The eight restricted character strings (X.680 41). */
 typedef uint32_t asn1_kind;
@@ -398,6 +399,22 @@ asn1_code asn1_der_utc_time(const uint8_t *octets, size_t octet_count, asn1_time
 
 /* The same of a GeneralizedTime without a fraction of a second, YYYYMMDDhhmmssZ (X.690 11.7, RFC 5280 4.1.2.5.2). */
 asn1_code asn1_der_generalized_time(const uint8_t *octets, size_t octet_count, asn1_time *time);
+
+/* ---- a message that is composed of formats
+ *
+ * An example for the author of a codec: SEQUENCE { station INTEGER (0..1023), height INTEGER (0..8191) OPTIONAL,
+ * valid BOOLEAN } in unaligned PER (X.691). bindings/README.md says how a format of one's own is put behind C. */
+
+typedef struct asn1_report {
+    uint64_t station;
+    bool has_height;
+    uint64_t height; /* 0 where there is none */
+    bool valid;
+} asn1_report;
+
+/* Reads a report from the first bit of the octets on, and tells how many bits it has. ASN1_REPORT where the octets
+ * begin with none; ASN1_TOO_MANY where 8 * octet_count passes SIZE_MAX. */
+asn1_code asn1_report_read(const uint8_t *octets, size_t octet_count, asn1_report *report, size_t *count);
 
 #ifdef __cplusplus
 }

@@ -348,6 +348,20 @@ static void elements(void)
     expect("nor are two octets", asn1_der_boolean(wrong[2], 2, &value) == ASN1_BOOLEAN_OCTETS);
 }
 
+static void reports(void)
+{
+    /* A bit for the height, ten for the station 5, thirteen for the height 4096, one for true, and seven of what follows. */
+    const uint8_t with[4] = {0x80, 0xB0, 0x00, 0xFF};
+    const uint8_t without[2] = {0x00, 0xA0};
+    asn1_report report;
+    size_t count = 0;
+    expect("a report with a height", asn1_report_read(with, sizeof with, &report, &count) == ASN1_DONE && count == 25
+           && report.station == 5 && report.has_height && report.height == 4096 && report.valid);
+    expect("one without", asn1_report_read(without, sizeof without, &report, &count) == ASN1_DONE && count == 12
+           && report.station == 5 && !report.has_height && report.height == 0 && !report.valid);
+    expect("one that is cut", asn1_report_read(with, 3, &report, &count) == ASN1_REPORT && count == 12);
+}
+
 static asn1_code utc(const char *text, asn1_time *time)
 {
     return asn1_der_utc_time((const uint8_t *)text, strlen(text), time);
@@ -511,6 +525,7 @@ int main(void)
     wide_integers();
     elements();
     times();
+    reports();
     identifiers();
     dotted_text();
     strings();

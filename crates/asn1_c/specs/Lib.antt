@@ -4,6 +4,7 @@ pub mod Contents
 pub mod Elements
 pub mod Fields
 pub mod Octets
+pub mod Reports
 pub mod Sets
 pub mod Text
 pub mod Writing

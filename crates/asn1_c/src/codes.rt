@@ -137,6 +137,9 @@ pub const TIME_CHARACTER: u32 = 42;
 /// There is no such day, or no such time of day.
 pub const NO_TIME: u32 = 43;
 
+/// The octets begin with no report.
+pub const REPORT: u32 = 44;
+
 /// Below, equal and above, as -1, 0 and 1.
 pub(crate) fn number_of_order(order: Ordering) -> i32
     ensures { result ≡ order_number order }

@@ -24,6 +24,7 @@ mod integer_text;
 mod integers;
 mod octets_at;
 mod plans;
+mod reports;
 mod room;
 mod string_utf8;
 mod strings;
