@@ -38,3 +38,7 @@ pub not_read : {X : Type 0} (P : X → List Bool → Type 0) (list other : List 
     → list ≡ other → CanRead P other → ⊥
 not_read P list other h is can =
     let e : false ≡ true = h (subst (λ (l : List Bool). CanRead P l) (sym is) can) in cc
+
+pub no_height : (h : Option ℕ) (b : Bool) (n : ℕ) → b ≡ is_some h → n ≡ unwrap_or h 0 → b ≡ false → n ≡ 0
+no_height None b n e f g = f
+no_height (Some x) b n e f g = let clash : false ≡ true = sym g ∙ e in cc

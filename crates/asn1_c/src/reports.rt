@@ -4,7 +4,7 @@
 //! `Report ::= SEQUENCE { station INTEGER (0..1023), height INTEGER (0..8191) OPTIONAL, valid BOOLEAN }`
 //! in unaligned PER.
 
-ghost use Rattle.std.specs.Prelude.{◌≡◌, ◌≢◌, ◌↔◌, ◌*◌, ◌^◌, ◌<◌, ◌≤◌, length, drop};
+ghost use Rattle.std.specs.Prelude.{◌≡◌, ◌≢◌, false, ◌↔◌, ◌*◌, ◌^◌, ◌<◌, ◌≤◌, length, drop};
 ghost use Rattle.asn1_bits.specs.Bits.{bits};
 ghost use Rattle.asn1_formats.specs.Spelling.{Starts, CanRead};
 ghost use Rattle.asn1_c.specs.Reports.{ReportFormat, IsReportFormat, plain_report};
@@ -61,6 +61,7 @@ pub extern "C" fn asn1_report_read(
     ensures read { result ≡ 0 → (f : ReportFormat) × IsReportFormat f
         × Starts (⟦<ReportFormat as Format>⟧.reads f) (bits octets.now) (plain_report report.new)
         (drop count.new (bits octets.now)) }
+    ensures missing { result ≡ 0 → report.new.has_height ≡ false → report.new.height ≡ 0 }
     ensures refused { result ≡ 44 → (f : ReportFormat) × IsReportFormat f
         × ¬ (CanRead (⟦<ReportFormat as Format>⟧.reads f) (bits octets.now)) }
     ensures too_many { result ≡ 23 ↔ (2 ^ 64 ≤ 8 * length octets.now) }

@@ -1,7 +1,7 @@
 use Rattle.std.proofs.Common.{◌≡◌, ◌∙◌, ◌*◌, ◌-◌, ◌+◌, length, ap, arith, rules}
 use Rattle.asn1_bits.specs.BitReader.{bits_left}
 use Rattle.asn1_bits.specs.DigitLaws.{length-bits}
-use Rattle.asn1_c.proofs.ReportLemmas.{few_left, starts_here, told_report, not_read}
+use Rattle.asn1_c.proofs.ReportLemmas.{few_left, starts_here, told_report, not_read, no_height}
 use Rattle.asn1_c.proofs.reports.asn1_report_read.Goals as goal
 
 pub overflow_sub-count : goal.overflow_sub-count
@@ -30,3 +30,7 @@ returns-in-Err-clause-refused c = λ _. (
   c.report_format-format.ensures,
   not_read _ _ _ (c.in-Err.ensures.free (search rules)) c.from_octets-reader.ensures.list,
 )
+
+pub returns-in-Ok-clause-missing : goal.returns-in-Ok-clause-missing
+returns-in-Ok-clause-missing c = λ _ none.
+    no_height c.in-Ok.height c.is_some.result c.unwrap_or.result c.is_some.ensures c.unwrap_or.ensures none
