@@ -55,10 +55,29 @@ typedef uint32_t asn1_code;
 #define ASN1_SHAPE UINT32_C(21)        /* a shape of an unknown kind, or of an alphabet that is not there */
 #define ASN1_ALPHABET UINT32_C(22)     /* not an alphabet as asn1_alphabet_new fills it */
 #define ASN1_TOO_MANY UINT32_C(23)     /* more bits or octets than SIZE_MAX counts */
-#define ASN1_DECIMAL UINT32_C(24)      /* not the decimal text of a number of 128 bits, with a sign or without */
+#define ASN1_DECIMAL UINT32_C(24)      /* not the decimal text of a number */
 #define ASN1_NO_UNICODE UINT32_C(25)   /* a string whose characters are not those of Unicode */
 #define ASN1_SURROGATE UINT32_C(26)    /* a character is a surrogate, which UTF-8 has no octets for */
 #define ASN1_NOT_UTF8 UINT32_C(27)     /* octets are not UTF-8 */
+
+/* What is wrong with an element of DER, and with the contents of one. */
+#define ASN1_TAG_CUT UINT32_C(28)           /* the octets end within identifier octets */
+#define ASN1_TAG_PADDED UINT32_C(29)        /* the number of a tag begins with an octet that adds nothing to it */
+#define ASN1_TAG_LOW UINT32_C(30)           /* a number below 31 stands behind the leading octet */
+#define ASN1_TAG_LARGE UINT32_C(31)         /* the number of a tag does not fit 64 bits */
+#define ASN1_LENGTH_CUT UINT32_C(32)        /* the octets end within a length */
+#define ASN1_LENGTH_INDEFINITE UINT32_C(33) /* a length is indefinite */
+#define ASN1_LENGTH_LARGE UINT32_C(34)      /* more than eight octets hold a length */
+#define ASN1_LENGTH_PADDED UINT32_C(35)     /* fewer octets hold the length */
+#define ASN1_CONTENTS_CUT UINT32_C(36)      /* the octets end within contents */
+#define ASN1_BOOLEAN_OCTETS UINT32_C(37)    /* a BOOLEAN has not one octet */
+#define ASN1_BOOLEAN UINT32_C(38)           /* a BOOLEAN is neither 00 nor FF */
+#define ASN1_UNUSED UINT32_C(39)            /* a BIT STRING has more unused bits than seven, or than bits */
+#define ASN1_NOT_ZERO UINT32_C(40)          /* the unused bits of a BIT STRING are not all zero */
+#define ASN1_TIME_OCTETS UINT32_C(41)       /* a time has not as many octets as its type */
+#define ASN1_TIME_CHARACTER UINT32_C(42)    /* an octet of a time is no digit, or not the Z at the end */
+#define ASN1_NO_TIME UINT32_C(43)           /* there is no such day, or no such time of day */
+#define ASN1_REPORT UINT32_C(44)            /* octets begin with no report */
 
 /* The eight restricted character strings (X.680 41). */
 typedef uint32_t asn1_kind;
@@ -248,17 +267,20 @@ asn1_code asn1_integer_from_u128(const asn1_words *number, uint8_t *room, size_t
 /* As asn1_integer_to_u64, of 128 bits. */
 asn1_code asn1_integer_to_u128(const uint8_t *octets, size_t octet_count, asn1_words *number);
 
-/* Writes the decimal text of the number of the octets to the front of the room, and leaves the octets behind it: the
- * digits, with no zero in front of others, behind a minus sign where the number is below zero. Nothing ends it. Its
- * length, at most 40, is told also where the answer is ASN1_ROOM. ASN1_EMPTY for no octets, ASN1_OVERFLOW where the
- * number fits 128 bits neither with a sign nor without. */
+/* Writes the decimal text of the number of the octets, of any length, to the front of the room, and leaves the octets
+ * behind it: the digits, with no zero in front of others, behind a minus sign where the number is below zero. Nothing
+ * ends it. 5 * octet_count / 2 + 2 octets are always enough. A length that is enough is told also where the answer is
+ * ASN1_ROOM: that of the text, at most 40, where the number has 128 bits, with a sign or without; and else 5 * n / 2 +
+ * 2, of n octets behind those that only repeat the sign. ASN1_EMPTY for no octets; ASN1_TOO_MANY where 5 * octet_count
+ * / 2 + 2 passes SIZE_MAX. */
 asn1_code asn1_integer_text(const uint8_t *octets, size_t octet_count, uint8_t *room, size_t room_count,
                             size_t *count);
 
 /* Writes the shortest octets of the number of which the octets of the text, all of them, are the decimal text as
- * asn1_integer_text writes it, to the front of the room, and leaves the octets behind them. Their count, at most 17, is
- * told also where the answer is ASN1_ROOM. ASN1_DECIMAL for any other text: so for a plus sign, a zero in front of other
- * digits, -0, and a number that fits 128 bits neither with a sign nor without. */
+ * asn1_integer_text writes it, to the front of the room, and leaves the octets behind them. text_count / 2 + 1 octets
+ * are always enough. A count that is enough is told also where the answer is ASN1_ROOM: that of the octets, at most
+ * 17, where the number has 128 bits, with a sign or without; and else text_count / 2 + 1. ASN1_DECIMAL for any other
+ * text: so for a plus sign, a zero in front of other digits, and -0. */
 asn1_code asn1_integer_from_text(const uint8_t *text, size_t text_count, uint8_t *room, size_t room_count,
                                  size_t *count);
 
@@ -332,6 +354,67 @@ asn1_code asn1_string_to_utf8(asn1_kind kind, const uint8_t *octets, size_t octe
  * from 0; else ASN1_TOO_MANY where the count passes SIZE_MAX. */
 asn1_code asn1_string_from_utf8(asn1_kind kind, const uint8_t *text, size_t text_count, uint8_t *room,
                                 size_t room_count, size_t *count, size_t *place, uint32_t *character);
+
+/* ---- DER (X.690): elements, one after another, and contents */
+
+/* An element. Its contents are length octets from the octet first on, and the next element begins at the octet end. */
+typedef struct asn1_element {
+    uint32_t class_number; /* of the tag: 0 universal, 1 application, 2 context-specific, 3 private */
+    bool constructed;      /* whether the contents are elements */
+    uint64_t number;       /* of the tag */
+    size_t first;
+    size_t length;
+    size_t end;
+} asn1_element;
+
+/* Tells of the element that begins at the octet position, of any tag: identifier octets and a definite length, each in
+ * the fewest octets (X.690 8.1.2, 10.1), and contents, of which only that they are there is looked at. The contents of
+ * a constructed element are read by the same function, from first on and with end as octet_count. ASN1_OUTSIDE where
+ * the position is past the octets; else the first that is wrong, from ASN1_TAG_CUT to ASN1_CONTENTS_CUT; also where
+ * the position is behind the last octet. ASN1_TOO_MANY where 8 * octet_count passes SIZE_MAX, for this function and
+ * those below. */
+asn1_code asn1_der_next(const uint8_t *octets, size_t octet_count, size_t position, asn1_element *element);
+
+/* The truth value that the contents of a BOOLEAN are: one octet, 00 or FF (X.690 8.2, 11.1). Else ASN1_BOOLEAN_OCTETS,
+ * or ASN1_BOOLEAN. */
+asn1_code asn1_der_boolean(const uint8_t *octets, size_t octet_count, bool *value);
+
+/* How many bits the contents of a BIT STRING hold, the first of which is bit 8 of the contents (X.690 8.6, 11.2.1).
+ * Else ASN1_EMPTY for no octets, ASN1_UNUSED, or ASN1_NOT_ZERO. */
+asn1_code asn1_der_bit_string(const uint8_t *octets, size_t octet_count, size_t *count);
+
+/* A time in UTC: month, day from 1 on, hour 0 to 23, minute and second 0 to 59; there is such a day in the year. */
+typedef struct asn1_time {
+    uint16_t year;
+    uint8_t month;
+    uint8_t day;
+    uint8_t hour;
+    uint8_t minute;
+    uint8_t second;
+} asn1_time;
+
+/* The time that the contents of a UTCTime are, YYMMDDhhmmssZ, in the years 1950 to 2049 (X.690 11.8, RFC 5280
+ * 4.1.2.5.1). Else ASN1_TIME_OCTETS, ASN1_TIME_CHARACTER, or ASN1_NO_TIME. */
+asn1_code asn1_der_utc_time(const uint8_t *octets, size_t octet_count, asn1_time *time);
+
+/* The same of a GeneralizedTime without a fraction of a second, YYYYMMDDhhmmssZ (X.690 11.7, RFC 5280 4.1.2.5.2). */
+asn1_code asn1_der_generalized_time(const uint8_t *octets, size_t octet_count, asn1_time *time);
+
+/* ---- a message that is composed of formats
+ *
+ * An example for the author of a codec: SEQUENCE { station INTEGER (0..1023), height INTEGER (0..8191) OPTIONAL,
+ * valid BOOLEAN } in unaligned PER (X.691). bindings/README.md says how a format of one's own is put behind C. */
+
+typedef struct asn1_report {
+    uint64_t station;
+    bool has_height;
+    uint64_t height; /* 0 where there is none */
+    bool valid;
+} asn1_report;
+
+/* Reads a report from the first bit of the octets on, and tells how many bits it has. ASN1_REPORT where the octets
+ * begin with none; ASN1_TOO_MANY where 8 * octet_count passes SIZE_MAX. */
+asn1_code asn1_report_read(const uint8_t *octets, size_t octet_count, asn1_report *report, size_t *count);
 
 #ifdef __cplusplus
 }

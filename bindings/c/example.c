@@ -275,9 +275,20 @@ static void wide_integers(void)
            && is_text(room, count, "-170141183460469231731687303715884105728"));
     expect("39 octets are no room for it", asn1_integer_text(least, sizeof least, room, 39, &count) == ASN1_ROOM
            && count == 40);
-    const uint8_t seventeen[18] = {0, 1};
-    expect("17 octets with a sign are too many",
-           asn1_integer_text(seventeen, sizeof seventeen, room, sizeof room, &count) == ASN1_OVERFLOW && count == 40);
+    const uint8_t wide[18] = {0, 1};
+    uint8_t text[47];
+    expect("2 to the power of 128 has as many digits as any number of 17 octets may have",
+           asn1_integer_text(wide, sizeof wide, text, 43, &count) == ASN1_ROOM && count == 44);
+    expect("and of these 39", asn1_integer_text(wide, sizeof wide, text, 44, &count) == ASN1_DONE
+           && is_text(text, count, "340282366920938463463374607431768211456"));
+    expect("which have 17 octets", asn1_integer_from_text(text, count, room, 19, &count) == ASN1_ROOM && count == 20);
+    expect("that are read back", asn1_integer_from_text(text, 39, room, 20, &count) == ASN1_DONE && count == 17
+           && memcmp(room, wide + 1, 17) == 0);
+    const uint8_t deep[17] = {0x80};
+    expect("so has a number below zero", asn1_integer_text(deep, sizeof deep, text, sizeof text, &count) == ASN1_DONE
+           && is_text(text, count, "-43556142965880123323311949751266331066368"));
+    expect("with its octets", asn1_integer_from_text(text, count, room, sizeof room, &count) == ASN1_DONE && count == 17
+           && memcmp(room, deep, 17) == 0);
     expect("a number is read in decimal", asn1_integer_from_text((const uint8_t *)"-129", 4, room, sizeof room, &count)
            == ASN1_DONE && count == 2 && room[0] == 0xFF && room[1] == 0x7F);
     expect("also where it has no sign to spare",
@@ -286,6 +297,93 @@ static void wide_integers(void)
     expect("a zero in front is refused",
            asn1_integer_from_text((const uint8_t *)"01", 2, room, sizeof room, &count) == ASN1_DECIMAL);
     expect("and so is -0", asn1_integer_from_text((const uint8_t *)"-0", 2, room, sizeof room, &count) == ASN1_DECIMAL);
+}
+
+static void elements(void)
+{
+    /* SEQUENCE { BOOLEAN TRUE, [1] of 200 octets with an identifier in two, BIT STRING '1010'B } */
+    uint8_t octets[220] = {0x30, 0x81, 0xD3, 0x01, 0x01, 0xFF, 0x9F, 0x1F, 0x81, 0xC8};
+    const uint8_t bits[4] = {0x03, 0x02, 0x04, 0xA0};
+    memcpy(octets + 210, bits, sizeof bits);
+    asn1_element outer, inner;
+    bool value = false;
+    size_t count = 0;
+    expect("an element", asn1_der_next(octets, 214, 0, &outer) == ASN1_DONE && outer.class_number == 0
+           && outer.constructed && outer.number == 16 && outer.first == 3 && outer.length == 211 && outer.end == 214);
+    expect("holds others", asn1_der_next(octets, outer.end, outer.first, &inner) == ASN1_DONE && inner.number == 1
+           && inner.first == 5 && inner.length == 1 && inner.end == 6);
+    expect("a truth value", asn1_der_boolean(octets + inner.first, inner.length, &value) == ASN1_DONE && value);
+    expect("then one of a context", asn1_der_next(octets, outer.end, inner.end, &inner) == ASN1_DONE
+           && inner.class_number == 2 && !inner.constructed && inner.number == 31 && inner.length == 200);
+    expect("and bits", asn1_der_next(octets, outer.end, inner.end, &inner) == ASN1_DONE && inner.end == outer.end
+           && asn1_der_bit_string(octets + inner.first, inner.length, &count) == ASN1_DONE && count == 4);
+    expect("and none behind it", asn1_der_next(octets, outer.end, inner.end, &inner) == ASN1_TAG_CUT);
+    expect("which is told apart from a place past the end",
+           asn1_der_next(octets, outer.end, outer.end + 1, &inner) == ASN1_OUTSIDE && inner.number == 3);
+    expect("contents that are cut", asn1_der_next(octets, 213, 0, &outer) == ASN1_CONTENTS_CUT && outer.end == 214);
+    const struct {
+        uint8_t octets[12];
+        size_t count;
+        asn1_code code;
+    } refused[] = {
+        {{0x1F}, 1, ASN1_TAG_CUT},
+        {{0x1F, 0x80, 0x7F, 0x00}, 4, ASN1_TAG_PADDED},
+        {{0x1F, 0x1E, 0x00}, 3, ASN1_TAG_LOW},
+        {{0x1F, 0x82, 0x80, 0x80, 0x80, 0x80, 0x80, 0x80, 0x80, 0x80, 0x00, 0x00}, 12, ASN1_TAG_LARGE},
+        {{0x30}, 1, ASN1_LENGTH_CUT},
+        {{0x30, 0x82, 0x01}, 3, ASN1_LENGTH_CUT},
+        {{0x30, 0x80, 0x00, 0x00}, 4, ASN1_LENGTH_INDEFINITE},
+        {{0x04, 0x89, 0x01}, 3, ASN1_LENGTH_LARGE},
+        {{0x04, 0x81, 0x01, 0x00}, 4, ASN1_LENGTH_PADDED},
+        {{0x04, 0x02, 0x00}, 3, ASN1_CONTENTS_CUT},
+    };
+    for (size_t i = 0; i < sizeof refused / sizeof refused[0]; i++)
+        expect("the first that is wrong",
+               asn1_der_next(refused[i].octets, refused[i].count, 0, &inner) == refused[i].code);
+    const uint8_t wrong[3][2] = {{0x08, 0x00}, {0x04, 0xA1}, {0x01, 0x00}};
+    expect("eight unused bits", asn1_der_bit_string(wrong[0], 2, &count) == ASN1_UNUSED && count == 4);
+    expect("unused bits that are not zero", asn1_der_bit_string(wrong[1], 2, &count) == ASN1_NOT_ZERO);
+    expect("no octet", asn1_der_bit_string(wrong[1], 0, &count) == ASN1_EMPTY);
+    expect("01 is no truth value", asn1_der_boolean(wrong[2], 1, &value) == ASN1_BOOLEAN && value);
+    expect("nor are two octets", asn1_der_boolean(wrong[2], 2, &value) == ASN1_BOOLEAN_OCTETS);
+}
+
+static void reports(void)
+{
+    /* A bit for the height, ten for the station 5, thirteen for the height 4096, one for true, and seven of what follows. */
+    const uint8_t with[4] = {0x80, 0xB0, 0x00, 0xFF};
+    const uint8_t without[2] = {0x00, 0xA0};
+    asn1_report report;
+    size_t count = 0;
+    expect("a report with a height", asn1_report_read(with, sizeof with, &report, &count) == ASN1_DONE && count == 25
+           && report.station == 5 && report.has_height && report.height == 4096 && report.valid);
+    expect("one without", asn1_report_read(without, sizeof without, &report, &count) == ASN1_DONE && count == 12
+           && report.station == 5 && !report.has_height && report.height == 0 && !report.valid);
+    expect("one that is cut", asn1_report_read(with, 3, &report, &count) == ASN1_REPORT && count == 12);
+}
+
+static asn1_code utc(const char *text, asn1_time *time)
+{
+    return asn1_der_utc_time((const uint8_t *)text, strlen(text), time);
+}
+
+static asn1_code generalized(const char *text, asn1_time *time)
+{
+    return asn1_der_generalized_time((const uint8_t *)text, strlen(text), time);
+}
+
+static void times(void)
+{
+    asn1_time time;
+    expect("a time", utc("491231235959Z", &time) == ASN1_DONE && time.year == 2049 && time.month == 12 && time.day == 31
+           && time.hour == 23 && time.minute == 59 && time.second == 59);
+    expect("of the century before", utc("500101000000Z", &time) == ASN1_DONE && time.year == 1950);
+    expect("29 February 2000", utc("000229000000Z", &time) == ASN1_DONE && time.day == 29);
+    expect("not of 2001", utc("010229000000Z", &time) == ASN1_NO_TIME && time.year == 2000);
+    expect("without seconds", utc("0102280000Z", &time) == ASN1_TIME_OCTETS);
+    expect("with a letter", utc("01022800000AZ", &time) == ASN1_TIME_CHARACTER);
+    expect("with a year of four digits", generalized("20500101000000Z", &time) == ASN1_DONE && time.year == 2050);
+    expect("hour 24", generalized("20500101240000Z", &time) == ASN1_NO_TIME && time.year == 2050);
 }
 
 static void identifiers(void)
@@ -425,6 +523,9 @@ int main(void)
     refused_kinds();
     integers();
     wide_integers();
+    elements();
+    times();
+    reports();
     identifiers();
     dotted_text();
     strings();

@@ -1,7 +1,13 @@
 pub mod ArcLemmas
 pub mod BitLemmas
 pub mod CharacterFieldLemmas
+pub mod ContentLemmas
+pub mod DecimalDigitLemmas
 pub mod DecimalLemmas
+pub mod DecimalOctetLemmas
+pub mod DecimalTextLemmas
+pub mod DigitLemmas
+pub mod ElementLemmas
 pub mod FieldLemmas
 pub mod IdentifierFieldLemmas
 pub mod IntegerFieldLemmas
@@ -9,6 +15,7 @@ pub mod IntegerLemmas
 pub mod NoneLemmas
 pub mod OctetLemmas
 pub mod PlanLemmas
+pub mod ReportLemmas
 pub mod TextLemmas
 pub mod TextCharacterLemmas
 pub mod Utf8Lemmas

@@ -19,7 +19,7 @@ use Rattle.asn1_der.specs.Tagged.{HasTag, AreTagged}
 use Rattle.asn1_der.specs.TaggedLaws.{one_tag, tlv_has_tag}
 use Rattle.asn1_der.specs.PrimitiveLaws.{octets_fill_one, octets_spell_one}
 use Rattle.asn1_der.specs.PartLaws.{none_names_misfit}
-use Rattle.asn1_der.specs.Elements.{IsTlv, AnyFaultIs, IsAny, AnyMisfitIs}
+use Rattle.asn1_der.specs.Elements.{IsElement, IsTlv, AnyFaultIs, IsAny, AnyMisfitIs}
 
 abbrev I : Tag → List Bool → Type 0
 I t l = IsIdentifier t l
@@ -67,27 +67,31 @@ any_reads_one = record {
 pub any_spells_one : SpellsOne (λ v l. IsAny v l)
 any_spells_one = record { one = λ v a b p q. (tlv_spells_one v.0 O octets_spell_one).one v.1 a b p q }
 
-pub any_starts : (list mid rest contents : List Bool) (t : Tag) (octets : List ℕ)
-    → Starts (λ u l. IsIdentifier u l) list t mid → Starts (λ c l. IsCounted c l) mid contents rest
-    → AreOctets octets contents → Starts (λ v l. IsAny v l) list (t, octets) rest
-any_starts list mid rest contents t octets s c o =
+pub raw_starts : (list mid rest contents : List Bool) (t : Tag) → Starts (λ u l. IsIdentifier u l) list t mid
+    → Starts (λ c l. IsCounted c l) mid contents rest → Starts (λ c l. IsElement t c l) list contents rest
+raw_starts list mid rest contents t s c =
     let j = join I N list mid rest t contents s c in
     let b = j.spelled in
     record {
       front = j.front;
       spelled = record {
-        contents = contents;
-        spelled = o;
-        element = record {
-          front = b.front;
-          rest = b.rest;
-          first = (refl, b.first);
-          second = b.second;
-          parts = b.parts;
-        };
+        front = b.front;
+        rest = b.rest;
+        first = (refl, b.first);
+        second = b.second;
+        parts = b.parts;
       };
       parts = j.parts;
     }
+
+pub any_starts : (list rest contents : List Bool) (t : Tag) (octets : List ℕ)
+    → Starts (λ c l. IsElement t c l) list contents rest → AreOctets octets contents
+    → Starts (λ v l. IsAny v l) list (t, octets) rest
+any_starts list rest contents t octets s o = record {
+  front = s.front;
+  spelled = record { contents = contents; spelled = o; element = s.spelled };
+  parts = s.parts;
+}
 
 wrong : (list : List Bool) (e : ElementFault) → AnyFaultIs list e → CanRead V list → ⊥
 wrong list (none.Tag e) p can =

@@ -1,5 +1,5 @@
 -- Elements: identifier octets, a length, and contents (X.690 8.1.1).
-use Rattle.std.specs.Prelude.{ℕ, ◌^◌, ◌<◌, ◌≤◌, Bool, List, length}
+use Rattle.std.specs.Prelude.{ℕ, ◌^◌, ◌≤◌, Bool, List, length}
 use Rattle.asn1_der.specs.declared.tag.Tag.{Tag}
 use Rattle.asn1_der.specs.declared.tlv.InTlv.{InTlv}
 use Rattle.asn1_der.specs.declared.tlv.InTlv.TheVariants as fault

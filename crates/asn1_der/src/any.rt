@@ -3,9 +3,9 @@
 ghost use Rattle.std.specs.Prelude.{◌≡◌};
 
 use crate::element::Element;
-use crate::length::next_counted;
 use crate::octet_string::{OctetStringContents, octets_of};
-use crate::tag::{Tag, next_tag};
+use crate::raw_element::next_element;
+use crate::tag::Tag;
 use crate::tlv::{ElementFault, Tlv, TlvMisfit};
 use asn1_formats::{Format, NeverWrong, Refusal};
 use asn1_values::{BitBuffer, BitReader};
@@ -81,31 +81,26 @@ impl Format for Any {
         alloc: Global,
         reader: &mut BitReader<'_>,
     ) -> Result<AnyValue, Refusal<ElementFault>> {
-        let tag = match next_tag(reader) {
-            Ok(tag) => tag,
-            Err(fault) => return Err(Refusal::Wrong(ElementFault::Tag(fault))),
+        let element = match next_element(reader) {
+            Ok(element) => element,
+            Err(fault) => return Err(Refusal::Wrong(fault)),
         };
-        let contents = match next_counted(reader) {
-            Ok(contents) => contents,
-            Err(fault) => return Err(Refusal::Wrong(ElementFault::Length(fault))),
-        };
-        match octets_of(alloc, contents) {
-            Ok(octets) => Ok(AnyValue { tag, octets }),
+        match octets_of(alloc, element.contents) {
+            Ok(octets) => Ok(AnyValue {
+                tag: element.tag,
+                octets,
+            }),
             Err(_) => Err(Refusal::Memory),
         }
     }
 
     fn skip(&self, reader: &mut BitReader<'_>) -> Result<(), ElementFault> {
-        match next_tag(reader) {
-            Ok(_) => {}
-            Err(fault) => return Err(ElementFault::Tag(fault)),
-        }
-        match next_counted(reader) {
-            Ok(contents) => {
-                let _len = contents.len();
+        match next_element(reader) {
+            Ok(element) => {
+                let _len = element.contents.len();
                 Ok(())
             }
-            Err(fault) => Err(ElementFault::Length(fault)),
+            Err(fault) => Err(fault),
         }
     }
 

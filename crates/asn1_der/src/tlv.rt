@@ -53,7 +53,7 @@ pub enum ElementFault {
 }
 
 /// The contents of the next element, which has the tag.
-pub(crate) fn next_element<'a>(
+pub(crate) fn next_tagged<'a>(
     reader: &mut BitReader<'a>,
     tag: Tag,
 ) -> Result<BitReader<'a>, ElementFault>
@@ -132,7 +132,7 @@ impl<C: Contents> Format for Tlv<C> {
         alloc: Global,
         reader: &mut BitReader<'_>,
     ) -> Result<C::Value, Refusal<InTlv<C::Fault>>> {
-        let contents = match next_element(reader, self.tag) {
+        let contents = match next_tagged(reader, self.tag) {
             Ok(contents) => contents,
             Err(ElementFault::Tag(fault)) => return Err(Refusal::Wrong(InTlv::Tag(fault))),
             Err(ElementFault::Length(fault)) => return Err(Refusal::Wrong(InTlv::Length(fault))),
@@ -145,7 +145,7 @@ impl<C: Contents> Format for Tlv<C> {
     }
 
     fn skip(&self, reader: &mut BitReader<'_>) -> Result<(), InTlv<C::Fault>> {
-        let contents = match next_element(reader, self.tag) {
+        let contents = match next_tagged(reader, self.tag) {
             Ok(contents) => contents,
             Err(ElementFault::Tag(fault)) => return Err(InTlv::Tag(fault)),
             Err(ElementFault::Length(fault)) => return Err(InTlv::Length(fault)),

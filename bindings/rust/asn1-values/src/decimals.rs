@@ -1,13 +1,25 @@
 use crate::error::IntegerError;
 use crate::sys;
 
-/// The decimal text of the number that two's complement octets spell, at the front of the room: forty octets are always
-/// enough. The octets need not be the shortest.
+/// How many octets of room are always enough for the decimal text of as many octets.
+///
+/// ```
+/// assert_eq!(asn1_values::decimal_room(16), 42);
+/// ```
+#[must_use]
+pub const fn decimal_room(octets: usize) -> usize {
+    (octets / 2)
+        .saturating_mul(5)
+        .saturating_add(2 + 2 * (octets % 2))
+}
+
+/// The decimal text of the number that two's complement octets spell, at the front of the room: [`decimal_room`] says how
+/// much is always enough. The octets need not be the shortest.
 ///
 /// # Errors
 ///
-/// `IntegerError::Empty` for no octets, `IntegerError::Overflow` where the number fits 128 bits neither with a sign nor
-/// without, else `IntegerError::Room` where the room is too short.
+/// `IntegerError::Empty` for no octets, `IntegerError::Room` where the room is too short. Where the number fits 128 bits
+/// neither with a sign nor without, that is where it is shorter than `decimal_room` of the shortest octets.
 ///
 /// ```
 /// assert_eq!(asn1_values::write_decimal(&[0xFF, 0x7F], &mut [0; 40]), Ok("-129"));
@@ -27,8 +39,7 @@ pub fn write_decimal<'a>(octets: &[u8], room: &'a mut [u8]) -> Result<&'a str, I
     match code {
         sys::DONE => core::str::from_utf8(&room[..count]).map_err(|_| IntegerError::Decimal),
         sys::EMPTY => Err(IntegerError::Empty),
-        sys::ROOM => Err(IntegerError::Room),
-        _ => Err(IntegerError::Overflow),
+        _ => Err(IntegerError::Room),
     }
 }
 
@@ -36,32 +47,38 @@ pub fn write_decimal<'a>(octets: &[u8], room: &'a mut [u8]) -> Result<&'a str, I
 ///
 /// # Errors
 ///
-/// Those of [`write_decimal`] but for `IntegerError::Room`.
+/// `IntegerError::Empty` for no octets.
 ///
 /// ```
 /// assert_eq!(asn1_values::decimal(&[0, 0x80]).as_deref(), Ok("128"));
+/// let text = asn1_values::decimal(&[0x7F; 20]).unwrap();
+/// assert_eq!(text, "727885129180488904360266563744972327436484050815");
 /// ```
 #[cfg(feature = "alloc")]
 pub fn decimal(octets: &[u8]) -> Result<alloc::string::String, IntegerError> {
-    write_decimal(octets, &mut [0; 40]).map(alloc::string::String::from)
+    let mut room = alloc::vec![0; decimal_room(octets.len())];
+    write_decimal(octets, &mut room).map(alloc::string::String::from)
 }
 
 /// The shortest two's complement octets of the number of a decimal text, as [`write_decimal`] writes it, at the front of
-/// the room, which seventeen octets are always enough for.
+/// the room: half as many octets as the text has, and one more, are always enough.
 ///
 /// # Errors
 ///
-/// `IntegerError::Decimal` for any other text: so for a plus sign, a zero in front of other digits, and a number that
-/// fits 128 bits neither with a sign nor without.
+/// `IntegerError::Decimal` for any other text: so for a plus sign, and a zero in front of other digits.
+/// `IntegerError::Room` where the room is too short. Where the number fits 128 bits neither with a sign nor without, that
+/// is where it has fewer octets than are always enough.
 ///
 /// ```
 /// use asn1_values::{octets_of_decimal, IntegerError};
 /// assert_eq!(octets_of_decimal("-129", &mut [0; 17]), Ok(&[0xFF, 0x7F][..]));
 /// assert_eq!(octets_of_decimal("+1", &mut [0; 17]), Err(IntegerError::Decimal));
+/// let text = "1000000000000000000000000000000000000000000000000";
+/// assert_eq!(octets_of_decimal(text, &mut [0; 25]).map(<[u8]>::len), Ok(21));
 /// ```
-pub fn octets_of_decimal<'a>(text: &str, room: &'a mut [u8; 17]) -> Result<&'a [u8], IntegerError> {
+pub fn octets_of_decimal<'a>(text: &str, room: &'a mut [u8]) -> Result<&'a [u8], IntegerError> {
     let mut count = 0;
-    // SAFETY: pointers and lengths are those of a text and of an array, which do not overlap.
+    // SAFETY: pointers and lengths are those of a text and of a slice, which do not overlap.
     let code = unsafe {
         sys::asn1_integer_from_text(
             text.as_ptr(),
@@ -73,6 +90,7 @@ pub fn octets_of_decimal<'a>(text: &str, room: &'a mut [u8; 17]) -> Result<&'a [
     };
     match code {
         sys::DONE => Ok(&room[..count]),
+        sys::ROOM => Err(IntegerError::Room),
         _ => Err(IntegerError::Decimal),
     }
 }

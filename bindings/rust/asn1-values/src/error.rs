@@ -32,7 +32,7 @@ pub enum IntegerError {
     Empty,
     /// The number does not fit the type.
     Overflow,
-    /// The text is not the decimal text of a number of 128 bits, with a sign or without.
+    /// The text is not the decimal text of a number.
     Decimal,
     /// The room is too short.
     Room,
@@ -271,7 +271,7 @@ impl fmt::Display for IntegerError {
         match self {
             IntegerError::Empty => f.write_str("no octets"),
             IntegerError::Overflow => f.write_str("the number does not fit"),
-            IntegerError::Decimal => f.write_str("not the decimal text of a number of 128 bits"),
+            IntegerError::Decimal => f.write_str("not the decimal text of a number"),
             IntegerError::Room => f.write_str("the room is too short"),
         }
     }
@@ -321,6 +321,78 @@ impl fmt::Display for AlphabetError {
     }
 }
 
+/// What is wrong with an element of DER, or with the contents of one (X.690).
+///
+/// ```
+/// assert_eq!(asn1_values::DerError::Indefinite.to_string(), "an indefinite length");
+/// ```
+#[derive(Clone, Copy, Debug, PartialEq, Eq, Hash)]
+#[non_exhaustive]
+pub enum DerError {
+    /// The octets end within identifier octets.
+    TagCut,
+    /// The number of a tag begins with an octet that adds nothing to it.
+    TagPadded,
+    /// A number below 31 stands behind the leading octet.
+    TagLow,
+    /// The number of a tag does not fit 64 bits.
+    TagLarge,
+    /// The octets end within a length.
+    LengthCut,
+    /// A length is indefinite.
+    Indefinite,
+    /// More than eight octets hold a length.
+    LengthLarge,
+    /// Fewer octets hold the length.
+    LengthPadded,
+    /// The octets end within contents.
+    ContentsCut,
+    /// A BOOLEAN has not one octet.
+    BooleanOctets,
+    /// A BOOLEAN is neither 00 nor FF.
+    Boolean,
+    /// A BIT STRING has no octet.
+    Empty,
+    /// A BIT STRING has more unused bits than seven, or than bits.
+    Unused,
+    /// The unused bits of a BIT STRING are not all zero.
+    NotZero,
+    /// A time has not as many octets as its type.
+    TimeOctets,
+    /// An octet of a time is no digit, or not the Z at the end.
+    TimeCharacter,
+    /// There is no such day, or no such time of day.
+    NoTime,
+    /// There are more bits than `usize` counts.
+    TooMany,
+}
+
+impl fmt::Display for DerError {
+    fn fmt(&self, f: &mut fmt::Formatter<'_>) -> fmt::Result {
+        f.write_str(match self {
+            DerError::TagCut => "identifier octets that are cut",
+            DerError::TagPadded => "a padded number of a tag",
+            DerError::TagLow => "a number of a tag below 31 behind the leading octet",
+            DerError::TagLarge => "a number of a tag past 64 bits",
+            DerError::LengthCut => "a length that is cut",
+            DerError::Indefinite => "an indefinite length",
+            DerError::LengthLarge => "a length in more than eight octets",
+            DerError::LengthPadded => "a length in too many octets",
+            DerError::ContentsCut => "contents that are cut",
+            DerError::BooleanOctets => "a BOOLEAN of not one octet",
+            DerError::Boolean => "a BOOLEAN that is neither 00 nor FF",
+            DerError::Empty => "a BIT STRING of no octet",
+            DerError::Unused => "too many unused bits",
+            DerError::NotZero => "unused bits that are not zero",
+            DerError::TimeOctets => "a time of another number of octets",
+            DerError::TimeCharacter => "a wrong octet in a time",
+            DerError::NoTime => "no such day or time of day",
+            DerError::TooMany => "too many octets",
+        })
+    }
+}
+
+impl core::error::Error for DerError {}
 impl core::error::Error for ReadError {}
 impl core::error::Error for WriteError {}
 impl core::error::Error for BitsError {}

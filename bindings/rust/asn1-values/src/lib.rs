@@ -24,6 +24,7 @@ extern crate alloc;
 mod alphabets;
 mod bits;
 mod decimals;
+mod der;
 mod error;
 mod fields;
 mod identifiers;
@@ -36,9 +37,13 @@ pub use alphabets::{characters, check_string, Alphabet, Characters, StringKind};
 pub use bits::{or_bits, or_number, read_bits, Bits};
 #[cfg(feature = "alloc")]
 pub use decimals::decimal;
-pub use decimals::{octets_of_decimal, write_decimal};
+pub use decimals::{decimal_room, octets_of_decimal, write_decimal};
+pub use der::{
+    der_bits, der_boolean, der_generalized_time, der_utc_time, next_element, Class, Element, Time,
+};
 pub use error::{
-    AlphabetError, BitsError, IdentifierError, IntegerError, ReadError, StringError, WriteError,
+    AlphabetError, BitsError, DerError, IdentifierError, IntegerError, ReadError, StringError,
+    WriteError,
 };
 #[cfg(feature = "alloc")]
 pub use fields::read_fields;

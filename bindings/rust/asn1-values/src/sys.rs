@@ -24,6 +24,50 @@ impl Words {
 
 #[repr(C)]
 #[derive(Clone, Copy)]
+pub struct Element {
+    pub class: u32,
+    pub constructed: bool,
+    pub number: u64,
+    pub first: usize,
+    pub length: usize,
+    pub end: usize,
+}
+
+impl Element {
+    pub const NONE: Element = Element {
+        class: 0,
+        constructed: false,
+        number: 0,
+        first: 0,
+        length: 0,
+        end: 0,
+    };
+}
+
+#[repr(C)]
+#[derive(Clone, Copy)]
+pub struct Time {
+    pub year: u16,
+    pub month: u8,
+    pub day: u8,
+    pub hour: u8,
+    pub minute: u8,
+    pub second: u8,
+}
+
+impl Time {
+    pub const NONE: Time = Time {
+        year: 0,
+        month: 0,
+        day: 0,
+        hour: 0,
+        minute: 0,
+        second: 0,
+    };
+}
+
+#[repr(C)]
+#[derive(Clone, Copy)]
 pub struct Shape {
     pub kind: u32,
     pub count: usize,
@@ -315,4 +359,15 @@ extern "C" {
         end: *mut usize,
         refusal: *mut Refusal,
     ) -> u32;
+    pub fn asn1_der_next(
+        octets: *const u8,
+        octet_count: usize,
+        position: usize,
+        element: *mut Element,
+    ) -> u32;
+    pub fn asn1_der_boolean(octets: *const u8, octet_count: usize, value: *mut bool) -> u32;
+    pub fn asn1_der_bit_string(octets: *const u8, octet_count: usize, count: *mut usize) -> u32;
+    pub fn asn1_der_utc_time(octets: *const u8, octet_count: usize, time: *mut Time) -> u32;
+    pub fn asn1_der_generalized_time(octets: *const u8, octet_count: usize, time: *mut Time)
+        -> u32;
 }

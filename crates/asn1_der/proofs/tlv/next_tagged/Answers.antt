@@ -1,6 +1,6 @@
 use Rattle.asn1_bits.specs.BitReader.{bits_left}
 use Rattle.asn1_der.specs.TlvLaws.{element_starts}
-use Rattle.asn1_der.proofs.tlv.next_element.Goals as goal
+use Rattle.asn1_der.proofs.tlv.next_tagged.Goals as goal
 
 pub returns-in-Ok-next_counted-clause-read : goal.returns-in-Ok-next_counted-clause-read
 returns-in-Ok-next_counted-clause-read c =

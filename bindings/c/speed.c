@@ -1,0 +1,145 @@
+/* Times calls of the library from C: nanoseconds a call, the fastest of many rounds.
+ *
+ *     cc -std=c11 -O2 bindings/c/speed.c crates/asn1_c/out/libasn1_c.a -o /tmp/speed && /tmp/speed
+ *
+ * Beside the calls for numbers stands the same work in C, in the loop itself: what is left is what a call costs beyond it. */
+#define _DEFAULT_SOURCE
+#include "asn1_values.h"
+
+#include <stdio.h>
+#include <string.h>
+#include <time.h>
+
+enum { CALLS = 20000, ROUNDS = 400 };
+
+static uint8_t octets[1024];
+static uint8_t room[2600];
+static volatile uint64_t sink;
+
+static inline uint64_t nothing(size_t i)
+{
+    return asn1_integer_is_shortest(octets, i & 0);
+}
+
+static inline uint64_t number(size_t i)
+{
+    uint64_t value = 0;
+    asn1_read_u64(octets, sizeof octets, i % 8000, 13, &value);
+    return value;
+}
+
+/* The same in C: that the bits are there is tested too. */
+static inline uint64_t number_in_c(size_t i)
+{
+    const size_t first = i % 8000;
+    if (first + 13 > 8 * sizeof octets)
+        return 0;
+    const uint8_t *at = octets + first / 8;
+    const uint32_t three = (uint32_t)at[0] << 16 | (uint32_t)at[1] << 8 | at[2];
+    return three >> (11 - first % 8) & 0x1FFF;
+}
+
+static inline uint64_t integer(size_t i)
+{
+    int64_t value = 0;
+    asn1_integer_to_i64(octets + i % 1000, 3, &value);
+    return (uint64_t)value;
+}
+
+/* The same in C: octets of any length are taken, and one that does not fit is refused. */
+static inline uint64_t integer_in_c(size_t i)
+{
+    const uint8_t *at = octets + i % 1000;
+    int64_t value = (int8_t)at[0];
+    for (size_t k = 1; k < 3; k++)
+        value = value * 256 + at[k];
+    return (uint64_t)value;
+}
+
+static uint64_t text_of(size_t length)
+{
+    size_t count = 0;
+    asn1_integer_text(octets, length, room, sizeof room, &count);
+    return count;
+}
+
+static inline uint64_t text_8(size_t i) { return text_of(8 + (i & 0)); }
+static inline uint64_t text_20(size_t i) { return text_of(20 + (i & 0)); }
+static inline uint64_t text_256(size_t i) { return text_of(256 + (i & 0)); }
+
+static inline uint64_t element(size_t i)
+{
+    static const uint8_t list[4] = {0x02, 0x02, 0x10, 0x00};
+    asn1_element found = {0};
+    asn1_der_next(list, sizeof list, i & 0, &found);
+    return found.end;
+}
+
+static inline uint64_t moment(size_t i)
+{
+    static const uint8_t text[13] = "261126043000Z";
+    asn1_time time = {0};
+    asn1_der_utc_time(text, sizeof text + (i & 0), &time);
+    return time.second;
+}
+
+/* Work in a loop of its own. */
+#define LOOP(work)                                                                                                     \
+    static uint64_t work##_loop(size_t calls)                                                                          \
+    {                                                                                                                  \
+        uint64_t sum = 0;                                                                                              \
+        for (size_t i = 0; i < calls; i++)                                                                             \
+            sum += work(i);                                                                                            \
+        return sum;                                                                                                    \
+    }
+
+LOOP(nothing)
+LOOP(number)
+LOOP(number_in_c)
+LOOP(integer)
+LOOP(integer_in_c)
+LOOP(text_8)
+LOOP(text_20)
+LOOP(text_256)
+LOOP(element)
+LOOP(moment)
+
+static double best(uint64_t (*work)(size_t), size_t calls)
+{
+    double least = 1e18;
+    for (int round = 0; round < ROUNDS; round++) {
+        struct timespec from, until;
+        clock_gettime(CLOCK_MONOTONIC, &from);
+        sink = work(calls);
+        clock_gettime(CLOCK_MONOTONIC, &until);
+        const double took = (double)(until.tv_sec - from.tv_sec) * 1e9 + (double)(until.tv_nsec - from.tv_nsec);
+        if (took < least)
+            least = took;
+    }
+    return least / (double)calls;
+}
+
+int main(void)
+{
+    for (size_t i = 0; i < sizeof octets; i++)
+        octets[i] = (uint8_t)(i * 151 + 7);
+    const struct {
+        const char *what;
+        uint64_t (*work)(size_t);
+        size_t calls;
+    } rows[] = {
+        {"a call that does next to nothing", nothing_loop, CALLS},
+        {"a number of 13 bits at any bit, asn1_read_u64", number_loop, CALLS},
+        {"the same in C", number_in_c_loop, CALLS},
+        {"the number of three octets, asn1_integer_to_i64", integer_loop, CALLS},
+        {"the same in C", integer_in_c_loop, CALLS},
+        {"decimal text of 8 octets, asn1_integer_text", text_8_loop, CALLS},
+        {"decimal text of 20 octets", text_20_loop, 200},
+        {"decimal text of 256 octets", text_256_loop, 2},
+        {"an element of four octets, asn1_der_next", element_loop, CALLS},
+        {"a UTCTime, asn1_der_utc_time", moment_loop, CALLS},
+    };
+    for (size_t i = 0; i < sizeof rows / sizeof rows[0]; i++)
+        printf("%8.2f ns  %s\n", best(rows[i].work, rows[i].calls), rows[i].what);
+    return 0;
+}

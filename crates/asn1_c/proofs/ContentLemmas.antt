@@ -1,0 +1,52 @@
+-- The contents of primitive elements of DER.
+use Rattle.std.proofs.Common.{◌≡◌, ℕ, ◌+◌, ◌-◌, ◌*◌, ◌^◌, ◌<◌, ◌≤◌, Bool, List, [], ◌∷◌, ◌++◌, length, take, drop, get_or, sym, ap, subst, ◌∙◌, arith}
+use Rattle.std.proofs.Math.Seq.{take-append_seam, drop-append_seam}
+use Rattle.std.proofs.lemmas.List.{length-append}
+use Rattle.asn1_bits.specs.Bits.{bits, digits, number}
+use Rattle.asn1_bits.specs.DigitLaws.{length-bits, length-digits}
+use Rattle.asn1_bits.specs.NumberLaws.{number_of-digits}
+use Rattle.asn1_der.specs.BitStrings.{IsBitString}
+
+same_octet : (a b : ℕ) → a < 2 ^ 8 → b < 2 ^ 8 → digits a 8 ≡ digits b 8 → a ≡ b
+same_octet a b p q e = sym (number_of-digits a 8 p) ∙ ap number e ∙ number_of-digits b 8 q
+
+-- what the first octet of a string of bits says
+pub record Tells (o : List ℕ) : Type 0 where
+  pub some : 1 ≤ length o
+  pub few : get_or o 0 0 ≤ 8 * (length o - 1)
+  pub is : IsBitString (take (8 * (length o - 1) - get_or o 0 0) (drop 8 (bits o))) (bits o)
+
+pub tells : (o : List ℕ) (x : List Bool) → ((i : ℕ) → get_or o i 0 < 2 ^ 8) → IsBitString x (bits o) → Tells o
+unfolding bits
+tells [] x small h =
+    let e : length {A = Bool} [] ≡ length (digits h.unused 8) + length (x ++ digits 0 h.unused) =
+    ap length h.parts ∙ length-append (digits h.unused 8) (x ++ digits 0 h.unused) in
+    absurd (omega (arith, length-digits h.unused 8))
+tells (b ∷ bs) x small h =
+    let u : ℕ = h.unused in
+    let behind : List Bool = x ++ digits 0 u in
+    let parts : digits b 8 ++ bits bs ≡ digits u 8 ++ behind = h.parts in
+    let front : digits b 8 ≡ digits u 8 =
+    sym (take-append_seam (digits b 8) (bits bs))
+    ∙ ap (λ (k : ℕ). take k (digits b 8 ++ bits bs)) (length-digits b 8)
+    ∙ ap (take 8) parts
+    ∙ ap (λ (k : ℕ). take k (digits u 8 ++ behind)) (sym (length-digits u 8))
+    ∙ take-append_seam (digits u 8) behind in
+    let few = h.few in
+    let same : b ≡ u = same_octet b u (small 0) (omega arith) front in
+    let rest : drop 8 (bits (b ∷ bs)) ≡ behind =
+    ap (drop 8) parts ∙ ap (λ (k : ℕ). drop k (digits u 8 ++ behind)) (sym (length-digits u 8))
+    ∙ drop-append_seam (digits u 8) behind in
+    let sum : length (bits (b ∷ bs)) ≡ 8 + (length x + u) =
+    ap length h.parts ∙ length-append (digits u 8) behind
+    ∙ omega (arith, length-digits u 8, length-append x (digits 0 u), length-digits 0 u) in
+    let all : 8 * length (b ∷ bs) ≡ 8 + (length x + u) = sym (length-bits (b ∷ bs)) ∙ sum in
+    let count : 8 * (length (b ∷ bs) - 1) - b ≡ length x = omega arith in
+    let x_is : take (8 * (length (b ∷ bs) - 1) - b) (drop 8 (bits (b ∷ bs))) ≡ x =
+    ap (λ (k : ℕ). take k (drop 8 (bits (b ∷ bs)))) count ∙ ap (take (length x)) rest
+    ∙ take-append_seam x (digits 0 u) in
+    record {
+      some = omega arith;
+      few = omega arith;
+      is = subst (λ (l : List Bool). IsBitString l (bits (b ∷ bs))) (sym x_is) h;
+    }
