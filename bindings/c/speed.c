@@ -83,6 +83,47 @@ static inline uint64_t moment(size_t i)
     return time.second;
 }
 
+/* A field of each kind, in the order of the kinds: its shape, and its octets from bit 0 on. */
+static asn1_alphabet digits;
+static const asn1_shape shapes[7] = {{ASN1_NUMBER, 13},        {ASN1_OCTETS, 4},          {ASN1_BITS, 13},
+                                     {ASN1_INTEGER, 2},        {ASN1_COUNTED_INTEGER, 0}, {ASN1_CHARACTER_FIELD, 0},
+                                     {ASN1_IDENTIFIER, 3}};
+static const uint8_t spelled[7][4] = {{0x5A, 0x5A}, {1, 2, 3, 4}, {0x5A, 0x5A}, {0x12, 0x34}, {2, 0x12, 0x34},
+                                      {0x50},       {0x2A, 0x86, 0x48}};
+
+/* At bit 3 of these octets lies the field of each kind. */
+static uint8_t at_bit_3[7][8];
+static asn1_field told[7];
+
+static void prepare(void)
+{
+    asn1_refusal refusal;
+    size_t end = 0;
+    asn1_alphabet_new(ASN1_NUMERIC_STRING, false, NULL, 0, false, &digits);
+    for (size_t kind = 0; kind < 7; kind++) {
+        asn1_or_bits(at_bit_3[kind], 8, 3, spelled[kind], 4, 0, 32);
+        asn1_read_fields(at_bit_3[kind], 8, 3, &digits, 1, &shapes[kind], 1, &told[kind], 1, &end, &refusal);
+    }
+}
+
+static inline uint64_t field_read(size_t kind)
+{
+    asn1_refusal refusal;
+    asn1_field field = {0};
+    size_t end = 0;
+    asn1_read_fields(at_bit_3[kind], 8, 3, &digits, 1, &shapes[kind], 1, &field, 1, &end, &refusal);
+    return end;
+}
+
+static inline uint64_t field_written(size_t kind)
+{
+    asn1_refusal refusal;
+    size_t end = 0;
+    asn1_write_fields(room, sizeof room, 5, at_bit_3[kind], 8, &digits, 1, &shapes[kind], 1, &told[kind], 1, &end,
+                      &refusal);
+    return end;
+}
+
 /* Work in a loop of its own. */
 #define LOOP(work)                                                                                                     \
     static uint64_t work##_loop(size_t calls)                                                                          \
@@ -93,6 +134,24 @@ static inline uint64_t moment(size_t i)
         return sum;                                                                                                    \
     }
 
+/* The same of a field of one kind. */
+#define KIND_LOOP(work, kind)                                                                                          \
+    static uint64_t work##_##kind##_loop(size_t calls)                                                                 \
+    {                                                                                                                  \
+        uint64_t sum = 0;                                                                                              \
+        for (size_t i = 0; i < calls; i++)                                                                             \
+            sum += work(kind);                                                                                         \
+        return sum;                                                                                                    \
+    }
+#define KIND_LOOPS(kind) KIND_LOOP(field_read, kind) KIND_LOOP(field_written, kind)
+
+KIND_LOOPS(0)
+KIND_LOOPS(1)
+KIND_LOOPS(2)
+KIND_LOOPS(3)
+KIND_LOOPS(4)
+KIND_LOOPS(5)
+KIND_LOOPS(6)
 LOOP(nothing)
 LOOP(number)
 LOOP(number_in_c)
@@ -123,6 +182,7 @@ int main(void)
 {
     for (size_t i = 0; i < sizeof octets; i++)
         octets[i] = (uint8_t)(i * 151 + 7);
+    prepare();
     const struct {
         const char *what;
         uint64_t (*work)(size_t);
@@ -138,6 +198,20 @@ int main(void)
         {"decimal text of 256 octets", text_256_loop, 2},
         {"an element of four octets, asn1_der_next", element_loop, CALLS},
         {"a UTCTime, asn1_der_utc_time", moment_loop, CALLS},
+        {"a number of 13 bits at bit 3, asn1_read_fields", field_read_0_loop, CALLS},
+        {"four octets", field_read_1_loop, CALLS},
+        {"13 bits", field_read_2_loop, CALLS},
+        {"an integer of two octets", field_read_3_loop, CALLS},
+        {"the same, counted", field_read_4_loop, CALLS},
+        {"a character of NumericString", field_read_5_loop, CALLS},
+        {"an identifier of three octets", field_read_6_loop, CALLS},
+        {"a number of 13 bits at bit 5, asn1_write_fields", field_written_0_loop, CALLS},
+        {"four octets", field_written_1_loop, CALLS},
+        {"13 bits", field_written_2_loop, CALLS},
+        {"an integer of two octets", field_written_3_loop, CALLS},
+        {"the same, counted", field_written_4_loop, CALLS},
+        {"a character of NumericString", field_written_5_loop, CALLS},
+        {"an identifier of three octets", field_written_6_loop, CALLS},
     };
     for (size_t i = 0; i < sizeof rows / sizeof rows[0]; i++)
         printf("%8.2f ns  %s\n", best(rows[i].work, rows[i].calls), rows[i].what);

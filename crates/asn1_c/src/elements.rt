@@ -89,8 +89,7 @@ pub extern "C" fn asn1_der_next(octets: &[u8], position: usize, element: &mut El
     ensures fault { result ≢ 0 → result ≢ 1 → result ≢ 23
         → IsElementFaultAt octets.now position result }
     ensures too_many { result ≡ 23 ↔ (2 ^ 64 ≤ 8 * length octets.now) }
-    ensures outside { result ≡ 1 → length octets.now < position }
-    ensures within { result ≡ 0 → position ≤ length octets.now }
+    ensures outside { result ≢ 23 → (result ≡ 1 ↔ (length octets.now < position)) }
     ensures unchanged { result ≢ 0 → element.new ≡ element.old }
 {
     if octets.len() > usize::MAX / 8 {
