@@ -26,6 +26,7 @@ pub mod PrimitiveLaws
 pub mod IntegerLaws
 pub mod ItemLaws
 pub mod OrderLaws
+pub mod PartOrderLaws
 pub mod SetLaws
 pub mod SetSteps
 pub mod AnyLaws

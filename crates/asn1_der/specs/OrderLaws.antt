@@ -17,6 +17,7 @@ use Rattle.asn1_der.specs.declared.tag.Tag.{Tag}
 use Rattle.asn1_der.specs.TagLaws.{identifier_spells_one}
 use Rattle.asn1_der.specs.Lengths.{IsDefinite, IsLong}
 use Rattle.asn1_der.specs.LengthLaws.{fewer, definite_spells_one}
+use Rattle.asn1_der.specs.Primitives.{octet_of_bool, IsBoolean}
 use Rattle.asn1_der.specs.Elements.{IsElement, IsTlv}
 
 -- two numbers are ordered as others are
@@ -230,3 +231,18 @@ module _ {X : Type 0} (tag : Tag) (P : X → List Bool → Type 0) (one : Spells
       let level : length s.contents ≡ length t.contents = counted ∙ same ∙ sym other_counted in
       order s.contents t.contents s.spelled t.spelled level s.element.second.within
       ∙ sym (by_contents tag s.contents t.contents a b s.element t.element level)
+
+-- ---- truth values
+
+truth_order : (x y : Bool) → bits_cmp (digits (octet_of_bool x) 8) (digits (octet_of_bool y) 8) ≡ bool_cmp x y
+unfolding digits
+truth_order false false = refl
+truth_order false true = refl
+truth_order true false = refl
+truth_order true true = refl
+
+pub boolean_order : (x y : Bool) (a b : List Bool) → IsBoolean x a → IsBoolean y b → bool_cmp x y ≡ bits_cmp a b
+boolean_order x y a b p q =
+    sym
+    (ap (λ (l : List Bool). bits_cmp l b) p ∙ ap (λ (l : List Bool). bits_cmp (digits (octet_of_bool x) 8) l) q
+    ∙ truth_order x y)
