@@ -246,3 +246,41 @@ boolean_order x y a b p q =
     sym
     (ap (λ (l : List Bool). bits_cmp l b) p ∙ ap (λ (l : List Bool). bits_cmp (digits (octet_of_bool x) 8) l) q
     ∙ truth_order x y)
+
+-- ---- octets one after another
+
+module _ (x y : ℕ) (xs ys : List ℕ) (below_x : x < 256) (below_y : y < 256) where
+  pub octet_below : x < y → bits_cmp (bits (x ∷ xs)) (bits (y ∷ ys)) ≡ Less
+  unfolding bits
+  octet_below lt = number_below 8 x y (digits x 8) (digits y 8) (bits xs) (bits ys) (below_x, refl) (below_y, refl) lt
+
+  pub octet_above : y < x → bits_cmp (bits (x ∷ xs)) (bits (y ∷ ys)) ≡ Greater
+  unfolding bits
+  octet_above lt =
+      turned (bits (x ∷ xs)) (bits (y ∷ ys))
+      (number_below 8 y x (digits y 8) (digits x 8) (bits ys) (bits xs) (below_y, refl) (below_x, refl) lt)
+
+  pub octet_level : x ≡ y → bits_cmp (bits (x ∷ xs)) (bits (y ∷ ys)) ≡ bits_cmp (bits xs) (bits ys)
+  unfolding bits
+  octet_level same =
+      ap (λ (n : ℕ). bits_cmp (digits n 8 ++ bits xs) (digits y 8 ++ bits ys)) same
+      ∙ same_front (digits y 8) (bits xs) (bits ys)
+
+pub front_below : (y : ℕ) (ys : List ℕ) → bits_cmp (bits []) (bits (y ∷ ys)) ≡ Less
+unfolding bits
+front_below y ys = shown (digits y 8) (bits ys) (length-digits y 8)
+  where
+    shown : (a b : List Bool) → length a ≡ 8 → bits_cmp [] (a ++ b) ≡ Less
+    shown [] b e = absurd (omega arith)
+    shown (x ∷ a) b e = refl
+
+pub front_above : (x : ℕ) (xs : List ℕ) → bits_cmp (bits (x ∷ xs)) (bits []) ≡ Greater
+front_above x xs = turned (bits (x ∷ xs)) (bits []) (front_below x xs)
+
+pub none_level : bits_cmp (bits []) (bits []) ≡ Equal
+unfolding bits
+none_level = refl
+
+pub shown_as : (l r m n : List ℕ) → l ≡ m → r ≡ n → bits_cmp (bits l) (bits r) ≡ bits_cmp (bits m) (bits n)
+shown_as l r m n e f =
+    ap (λ (o : List ℕ). bits_cmp (bits o) (bits r)) e ∙ ap (λ (o : List ℕ). bits_cmp (bits m) (bits o)) f
