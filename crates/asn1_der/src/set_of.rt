@@ -97,10 +97,7 @@ fn take_set<F: Element>(
 }
 
 /// Goes past values up to the end, without memory.
-fn check_set<F: Element>(
-    item: &F,
-    contents: BitReader<'_>,
-) -> Result<(), InItem<InSet<F::Fault>>>
+fn check_set<F: Element>(item: &F, contents: BitReader<'_>) -> Result<(), InItem<InSet<F::Fault>>>
     requires { (view_left contents).len % 8 ≡ 0 }
     ensures checked { OnOk result ((xs : List F.Plain) × IsSet (F.spells item.now) xs (bits_left contents.entry)) }
     ensures fault { IfErr result
