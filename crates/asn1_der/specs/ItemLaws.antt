@@ -75,7 +75,7 @@ module _ {X : Type 0} (P : X → List Bool → Type 0) where
   }
 
   -- the first of several, and the others behind it
-  uncons : (x : X) (xs : List X) (list rest : List Bool) → Starts J list (x ∷ xs) rest
+  pub uncons : (x : X) (xs : List X) (list rest : List Bool) → Starts J list (x ∷ xs) rest
       → (mid : List Bool) × Starts P list x mid × Starts J mid xs rest
   uncons x xs list rest s = (
     s.spelled.1 ++ rest,
@@ -87,7 +87,7 @@ module _ {X : Type 0} (P : X → List Bool → Type 0) where
     record { front = s.spelled.1; spelled = s.spelled.3; parts = refl },
   )
 
-  empty : (list rest : List Bool) → Starts J list [] rest → list ≡ rest
+  pub empty : (list rest : List Bool) → Starts J list [] rest → list ≡ rest
   empty list rest s = s.parts ∙ ap (λ (l : List Bool). l ++ rest) s.spelled
 
   can : (list : List Bool) (x : X) (rest : List Bool) → Starts P list x rest → CanRead P list
@@ -119,11 +119,11 @@ module _ {X : Type 0} (P : X → List Bool → Type 0) where
           inl (ap (λ (v : X). v ∷ xs) e ∙ ap (λ (vs : List X). y ∷ vs) p.0, p.1)
       more x y xs ys rest other e (inr p) = inr p
 
-  whole_list : (xs : List X) (list : List Bool) → J xs list → Starts J list xs []
+  pub whole_list : (xs : List X) (list : List Bool) → J xs list → Starts J list xs []
   whole_list xs list p = record { front = list; spelled = p; parts = sym (append-nil list) }
 
   module _ (A : Tag → Type 0) (tagged : AreTagged A P) where
-    none_at_end : CanRead P [] → ⊥
+    pub none_at_end : CanRead P [] → ⊥
     none_at_end c =
         let b = starts_begin A P tagged [] c.rest c.value c.starts in
         let n = tag_size [] b.tag b.there in

@@ -91,7 +91,7 @@ definite_reads_one = record { one = one }
     one list x y rest other s t = by_case list rest other x y (cases list rest x s) (cases list other y t)
 
 -- as many octets are the fewest in one way alone
-fewer : (n j k : ℕ) → n < 2 ^ (8 * j) → 2 ^ (8 * (k - 1)) ≤ n → j < k → ⊥
+pub fewer : (n j k : ℕ) → n < 2 ^ (8 * j) → 2 ^ (8 * (k - 1)) ≤ n → j < k → ⊥
 fewer n j k p q lt =
     let under : 8 * j ≤ 8 * (k - 1) = omega arith in
     let le : 2 ^ (8 * j) ≤ 2 ^ (8 * (k - 1)) = pow-le-pow_right (omega arith) under in

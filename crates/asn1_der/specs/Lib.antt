@@ -8,6 +8,7 @@ pub mod Tagged
 pub mod Parts
 pub mod Primitives
 pub mod Items
+pub mod Sets
 pub mod BitStrings
 pub mod Identifiers
 pub mod ViewOctets
@@ -24,6 +25,10 @@ pub mod OptionalLaws
 pub mod PrimitiveLaws
 pub mod IntegerLaws
 pub mod ItemLaws
+pub mod OrderLaws
+pub mod PartOrderLaws
+pub mod SetLaws
+pub mod SetSteps
 pub mod AnyLaws
 pub mod IdentifierLaws
 pub mod BitStringLaws

@@ -17,6 +17,12 @@ class_number Application = 1
 class_number Context = 2
 class_number Private = 3
 
+-- the order of tags: by class, and in a class by the number (X.680 8.6)
+abbrev pub Precedes : Tag → Tag → Type 0
+Precedes t u =
+    (class_number t.class < class_number u.class)
+    ⊎ ((class_number t.class ≡ class_number u.class) × (t.number < u.number))
+
 -- bit 6 (8.1.2.5)
 abbrev pub form_number : Bool → ℕ
 form_number false = 0

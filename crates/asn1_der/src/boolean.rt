@@ -2,9 +2,11 @@
 
 use crate::comparable::Comparable;
 use crate::contents::Contents;
+use crate::ordered_contents::OrderedContents;
 use asn1_formats::{NeverWrong, Refusal, next_number, push_number};
 use asn1_values::{BitBuffer, BitReader};
 use std::alloc::Global;
+use std::cmp::Ordering;
 
 /// The contents of a BOOLEAN: the octet 00 for false, FF for true (X.690 8.2, 11.1).
 #[derive(Clone, Copy, Debug)]
@@ -113,5 +115,11 @@ fn boolean_of(contents: BitReader<'_>) -> Result<bool, BooleanFault>
         Ok(255) => Ok(true),
         Ok(octet) => Err(BooleanFault::Other { octet }),
         Err(_) => unreachable!(),
+    }
+}
+
+impl OrderedContents for BooleanContents {
+    fn compare(&self, left: &bool, right: &bool) -> Ordering {
+        left.cmp(right)
     }
 }

@@ -7,6 +7,7 @@ ghost use Rattle.asn1_der.specs.Strings.{IsCharacterString, IsOutside};
 
 use crate::contents::Contents;
 use crate::octet_string::{are_octets, bit_count, octets_of};
+use crate::ordered_contents::{OrderedContents, compare_octets};
 use crate::view_octets::source_of;
 use asn1_formats::{NeverWrong, Refusal, push_octets};
 use asn1_values::{
@@ -14,6 +15,7 @@ use asn1_values::{
     StringKind,
 };
 use std::alloc::Global;
+use std::cmp::Ordering;
 
 /// The contents of a string whose characters are octets (X.690 8.23): NumericString,
 /// PrintableString, VisibleString, IA5String, TeletexString, GeneralString or GraphicString, by the
@@ -118,4 +120,10 @@ impl<K: StringKind<T = u8>> Contents for CharacterStringContents<K> {
 
     ghost names_misfit = { λ f. none_names_misfit
         (λ x list. IsInOctets (λ y o. IsCharacterString K.NAME y o) x list) };
+}
+
+impl<K: StringKind<T = u8>> OrderedContents for CharacterStringContents<K> {
+    fn compare(&self, left: &RestrictedString<K>, right: &RestrictedString<K>) -> Ordering {
+        compare_octets(left.as_slice(), right.as_slice())
+    }
 }

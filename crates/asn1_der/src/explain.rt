@@ -6,6 +6,7 @@ use crate::items::InItem;
 use crate::length::LengthFault;
 use crate::not_default::InDefault;
 use crate::optional::OptionalMisfit;
+use crate::set_of::InSet;
 use crate::tag::TagFault;
 use crate::tlv::{ElementFault, InTlv, TlvMisfit};
 use asn1_formats::Explain;
@@ -192,5 +193,23 @@ impl<E: Explain> fmt::Display for InItem<E> {
 impl<E: Explain> Explain for InItem<E> {
     fn is_reason(&self) -> bool {
         false
+    }
+}
+
+impl<E: fmt::Display> fmt::Display for InSet<E> {
+    fn fmt<W: fmt::Write>(&self, f: &mut fmt::Formatter<W>) -> fmt::Result {
+        match self {
+            InSet::Item(wrong) => write!(f, "{wrong}"),
+            InSet::Descends => write!(f, "its octets are below those of the item before"),
+        }
+    }
+}
+
+impl<E: Explain> Explain for InSet<E> {
+    fn is_reason(&self) -> bool {
+        match self {
+            InSet::Item(wrong) => wrong.is_reason(),
+            InSet::Descends => true,
+        }
     }
 }

@@ -5,9 +5,12 @@ use crate::element::Element;
 use crate::elements::Elements;
 use crate::end::{End, NotEnd};
 use crate::front::{skip_front, take_front};
+use crate::ordered::Ordered;
+use crate::ordered_contents::OrderedContents;
 use asn1_formats::{InThen, Refusal};
 use asn1_values::{BitBuffer, BitReader};
 use std::alloc::Global;
+use std::cmp::Ordering;
 
 /// The contents behind an explicit tag: one element, and nothing behind it (X.690 8.14.3).
 #[derive(Clone, Copy, Debug)]
@@ -85,4 +88,10 @@ impl<F: Element> Contents for Explicit<F> {
         alone_names_fault (F.spells f.element) (F.is_fault f.element) (F.reads_one f.element) (F.names_fault f.element) };
 
     ghost names_misfit = { λ f. F.names_misfit f.element };
+}
+
+impl<F: Ordered> OrderedContents for Explicit<F> {
+    fn compare(&self, left: &F::Value, right: &F::Value) -> Ordering {
+        self.element.compare(left, right)
+    }
 }

@@ -8,11 +8,13 @@ ghost use Rattle.asn1_der.specs.Times.{IsTimePlace, IsGeneralizedTime, IsInGener
 use crate::contents::Contents;
 use crate::moment::Moment;
 use crate::octet_string::are_octets;
+use crate::ordered_contents::{OrderedContents, compare_octets};
 use crate::time::{NoTime, TimeFault, check_places, two_digits};
 use crate::view_octets::source_of;
 use asn1_formats::{Refusal, push_octets};
 use asn1_values::{BitBuffer, BitReader, OctetSource};
 use std::alloc::Global;
+use std::cmp::Ordering;
 
 /// The contents of a GeneralizedTime without a fraction of a second: `YYYYMMDDhhmmssZ` (X.690 11.7,
 /// RFC 5280 4.1.2.5.2). A fraction is refused by the number of octets.
@@ -158,4 +160,16 @@ impl Contents for GeneralizedTimeContents {
     ghost names_fault = { λ f. generalized_names_fault };
 
     ghost names_misfit = { λ f. time_names_misfit IsInGeneralized generalized_fields 14 };
+}
+
+impl OrderedContents for GeneralizedTimeContents {
+    fn compare(&self, left: &Moment, right: &Moment) -> Ordering {
+        // Of a moment that the type has not nothing is said.
+        if !is_in(left) || !is_in(right) {
+            return Ordering::Equal;
+        }
+        let first = octets_of(left);
+        let second = octets_of(right);
+        compare_octets(&first, &second)
+    }
 }

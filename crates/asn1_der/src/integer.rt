@@ -7,9 +7,11 @@ ghost use Rattle.asn1_values.specs.Wrong.{IsNoInteger};
 use crate::comparable::Comparable;
 use crate::contents::Contents;
 use crate::octet_string::bit_count;
+use crate::ordered_contents::{OrderedContents, compare_octets};
 use asn1_formats::{NeverWrong, Refusal, are_shortest_octets, push_octets};
 use asn1_values::{BitBuffer, BitReader, BitStr, Integer, integer_of};
 use std::alloc::Global;
+use std::cmp::Ordering;
 
 /// The contents of an INTEGER or an ENUMERATED: the fewest two's complement octets of the number
 /// (X.690 8.3, 8.4).
@@ -115,5 +117,13 @@ impl Comparable for IntegerContents {
         }
         let octets = other.signed_octets();
         Ok(are_bits_of(&contents, octets.as_ref()))
+    }
+}
+
+impl OrderedContents for IntegerContents {
+    fn compare(&self, left: &Integer, right: &Integer) -> Ordering {
+        let first = left.signed_octets();
+        let second = right.signed_octets();
+        compare_octets(first.as_ref(), second.as_ref())
     }
 }

@@ -1,10 +1,12 @@
 //! Elements whose values are the program's own.
 
 use crate::element::Element;
+use crate::ordered::Ordered;
 use crate::tag::Tag;
 use asn1_formats::{Mapped, OfParts, Refusal};
 use asn1_values::{BitBuffer, BitReader};
 use std::alloc::Global;
+use std::cmp::Ordering;
 
 impl<A: Element, V: OfParts<Parts = A::Value>> Element for Mapped<A, V> {
     type Value = V;
@@ -64,4 +66,10 @@ impl<A: Element, V: OfParts<Parts = A::Value>> Element for Mapped<A, V> {
     ghost names_fault = { λ f. A.names_fault f.part };
 
     ghost names_misfit = { λ f. A.names_misfit f.part };
+}
+
+impl<A: Ordered, V: OfParts<Parts = A::Value>> Ordered for Mapped<A, V> {
+    fn compare(&self, left: &V, right: &V) -> Ordering {
+        self.part().compare(left.parts(), right.parts())
+    }
 }

@@ -1,10 +1,12 @@
 //! Elements with a name.
 
 use crate::element::Element;
+use crate::ordered::Ordered;
 use crate::tag::Tag;
 use asn1_formats::{InNamed, Named, Refusal};
 use asn1_values::{BitBuffer, BitReader};
 use std::alloc::Global;
+use std::cmp::Ordering;
 
 impl<A: Element> Element for Named<A> {
     ghost use Rattle.std.specs.Prelude.{◌≡◌};
@@ -91,4 +93,10 @@ impl<A: Element> Element for Named<A> {
 
     ghost names_misfit = { λ f.
         named_names_misfit f (A.spells f.part) (A.is_misfit f.part) (A.names_misfit f.part) };
+}
+
+impl<A: Ordered> Ordered for Named<A> {
+    fn compare(&self, left: &A::Value, right: &A::Value) -> Ordering {
+        self.part.compare(left, right)
+    }
 }

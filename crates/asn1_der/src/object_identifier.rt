@@ -2,6 +2,7 @@
 
 ghost use Rattle.std.specs.Prelude.{◌≡◌, ◌/◌, ◌%◌, ◌<◌, ◌++◌, All, OnOk, OnErr};
 ghost use Rattle.asn1_bits.specs.Bits.{bits};
+ghost use Rattle.asn1_bits.specs.BitLists.{bits_cmp};
 ghost use Rattle.asn1_bits.specs.BitStr.{view_of, bits_of};
 ghost use Rattle.asn1_bits.specs.BitReader.{view_left, bits_left};
 ghost use Rattle.asn1_oid.specs.Contents.{FitU32};
@@ -9,12 +10,14 @@ ghost use Rattle.asn1_formats.specs.Spelling.{Extends};
 ghost use Rattle.asn1_der.specs.ViewOctets.{octets_in};
 
 use crate::contents::Contents;
+use crate::ordered_contents::OrderedContents;
 use crate::view_octets::source_of;
 use asn1_formats::{Refusal, push_number};
 use asn1_values::{
     BitBuffer, BitReader, ContentsError, ObjectIdentifier, OidContents, check_contents,
 };
 use std::alloc::{AllocError, Global};
+use std::cmp::Ordering;
 
 /// The contents of an OBJECT IDENTIFIER: its subidentifiers (X.690 8.19). Each arc fits 32 bits.
 #[derive(Clone, Copy, Debug)]
@@ -134,4 +137,40 @@ impl Contents for ObjectIdentifierContents {
     ghost names_fault = { λ f. identifier_names_wrong };
 
     ghost names_misfit = { λ f. identifier_names_misfit };
+}
+
+/// The order of the octets: the first in which they differ decides, and a front comes first.
+fn compare_each(left: OidContents<'_>, mut right: OidContents<'_>) -> Ordering
+    ensures order { result ≡ bits_cmp (bits left.entry) (bits right.entry) }
+{
+    for octet in left {
+        let other = match right.next() {
+            Some(other) => other,
+            None => return Ordering::Greater,
+        };
+        if octet < other {
+            return Ordering::Less;
+        }
+        if octet > other {
+            return Ordering::Greater;
+        }
+    }
+    match right.next() {
+        Some(_) => Ordering::Less,
+        None => Ordering::Equal,
+    }
+}
+
+impl OrderedContents for ObjectIdentifierContents {
+    fn compare(&self, left: &ObjectIdentifier, right: &ObjectIdentifier) -> Ordering {
+        // Of an identifier that has no contents nothing is said.
+        let first = match left.as_oid().contents() {
+            Some(first) => first,
+            None => return Ordering::Equal,
+        };
+        match right.as_oid().contents() {
+            Some(second) => compare_each(first, second),
+            None => Ordering::Equal,
+        }
+    }
 }

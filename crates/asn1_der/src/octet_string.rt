@@ -6,9 +6,11 @@ ghost use Rattle.asn1_bits.specs.BitReader.{view_left, bits_left};
 ghost use Rattle.asn1_formats.specs.Spelling.{IsLength};
 
 use crate::contents::Contents;
+use crate::ordered_contents::{OrderedContents, compare_octets};
 use asn1_formats::{NeverWrong, Refusal, push_octets};
 use asn1_values::{BitBuffer, BitReader, extend_vec_from_bitslice};
 use std::alloc::{AllocError, Global};
+use std::cmp::Ordering;
 
 /// The contents of an OCTET STRING: its octets (X.690 8.7, 10.2).
 #[derive(Clone, Copy, Debug)]
@@ -97,4 +99,10 @@ impl Contents for OctetStringContents {
     ghost names_fault = { λ f. none_names_fault (λ x list. AreOctets x list) };
 
     ghost names_misfit = { λ f. none_names_misfit (λ x list. AreOctets x list) };
+}
+
+impl OrderedContents for OctetStringContents {
+    fn compare(&self, left: &Vec<u8>, right: &Vec<u8>) -> Ordering {
+        compare_octets(left.as_slice(), right.as_slice())
+    }
 }

@@ -156,6 +156,21 @@ pub(crate) fn are_same(first: Tag, second: Tag) -> bool
         && first.number == second.number
 }
 
+impl Tag {
+    ghost use Rattle.std.specs.Prelude.{◌↔◌};
+    ghost use Rattle.asn1_der.specs.Tags.{Precedes};
+
+    /// Whether the tag comes before the other one in the order of tags (X.680 8.6): universal,
+    /// application, context, private, and in a class by the number. The elements of a SET stand in
+    /// this order (X.690 10.3).
+    pub fn precedes(self, other: Tag) -> bool
+        ensures { IsTrue result ↔ Precedes self other }
+    {
+        let (first, second) = (number_of(self.class), number_of(other.class));
+        first < second || first == second && self.number < other.number
+    }
+}
+
 /// Goes past the identifier octets of the tag.
 pub(crate) fn pass_tag(reader: &mut BitReader<'_>, tag: Tag) -> Result<(), TagFault>
     ensures read { OnOk result

@@ -178,7 +178,7 @@ impl<C: Contents> Tlv<C> {
     ghost use Rattle.asn1_der.specs.Elements.{TlvMisfitIs};
 
     /// How many bits the contents of the value have.
-    fn contents_len(&self, value: &C::Value) -> Result<usize, TlvMisfit<C::Misfit>>
+    pub(crate) fn contents_len(&self, value: &C::Value) -> Result<usize, TlvMisfit<C::Misfit>>
         ensures measured { IfOk result (λ len. Measures (C.spells self.now.contents) (C.plain value.now) (Some len)) }
         ensures misfit { IfErr result (TlvMisfitIs (C.spells self.now.contents)
             (C.is_misfit self.now.contents) (C.plain value.now)) }

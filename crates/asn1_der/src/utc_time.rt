@@ -8,11 +8,13 @@ ghost use Rattle.asn1_der.specs.Times.{IsTimePlace, IsUtcTime, UtcTimeFaultIs, u
 use crate::contents::Contents;
 use crate::moment::Moment;
 use crate::octet_string::are_octets;
+use crate::ordered_contents::{OrderedContents, compare_octets};
 use crate::time::{NoTime, TimeFault, check_places, two_digits};
 use crate::view_octets::source_of;
 use asn1_formats::{Refusal, push_octets};
 use asn1_values::{BitBuffer, BitReader, OctetSource};
 use std::alloc::Global;
+use std::cmp::Ordering;
 
 /// A day and a time of day whose year is told by its last two digits.
 #[derive(Clone, Copy, Debug, PartialEq, Eq)]
@@ -189,4 +191,12 @@ impl Contents for UtcTimeContents {
     ghost names_fault = { λ f. utc_names_fault };
 
     ghost names_misfit = { λ f. time_names_misfit IsInUtc utc_fields 12 };
+}
+
+impl OrderedContents for UtcTimeContents {
+    fn compare(&self, left: &UtcTime, right: &UtcTime) -> Ordering {
+        let first = left.octets();
+        let second = right.octets();
+        compare_octets(&first, &second)
+    }
 }

@@ -8,10 +8,12 @@ ghost use Rattle.asn1_der.specs.Strings.{IsText, IsNotUtf8};
 
 use crate::contents::Contents;
 use crate::octet_string::{are_octets, bit_count, octets_of};
+use crate::ordered_contents::{OrderedContents, compare_octets};
 use crate::view_octets::source_of;
 use asn1_formats::{NeverWrong, Refusal, push_octets};
 use asn1_values::{BitBuffer, BitReader, OctetSource};
 use std::alloc::Global;
+use std::cmp::Ordering;
 
 /// The contents of a UTF8String: its text in UTF-8 (X.690 8.23.10).
 #[derive(Clone, Copy, Debug)]
@@ -138,4 +140,10 @@ impl Contents for Utf8StringContents {
 
     ghost names_misfit = { λ f. none_names_misfit
         (λ x list. IsInOctets (λ y o. IsText y o) x list) };
+}
+
+impl OrderedContents for Utf8StringContents {
+    fn compare(&self, left: &String, right: &String) -> Ordering {
+        compare_octets(left.as_str().as_bytes(), right.as_str().as_bytes())
+    }
 }

@@ -2,12 +2,12 @@
 
 use super::calls::{element, found, sequence, universal, written};
 use asn1_der::{
-    Any, BooleanContents, End, InItem, InTlv, IntegerContents, LengthFault, NotEnd,
-    OctetStringContents, Optional, OptionalMisfit, Required, Sequence, SequenceOf, TagFault, Tlv,
-    TlvMisfit,
+    Any, BooleanContents, ElementFault, End, InItem, InTlv, IntegerContents, LengthFault, NotEnd,
+    OctetStringContents, Optional, OptionalMisfit, Required, Sequence, SequenceOf, Tag, TagFault,
+    Tlv, TlvMisfit, next_element,
 };
 use asn1_formats::{InThen, Refusal, WriteRefusal};
-use asn1_values::Integer;
+use asn1_values::{BitReader, Integer};
 use std::alloc::Global;
 use std::test::Fail;
 
@@ -155,6 +155,53 @@ fn the_first_wrong_item_is_named(rt: HostRuntime) -> Result<(), Fail> {
             );
         }
         _ => return Err("the second item is no BOOLEAN".into()),
+    }
+    Ok(())
+}
+
+/// The next element of the octets: its tag, how many bits its contents have, and how many are left
+/// behind it.
+fn next_of(octets: &[u8]) -> Result<(Tag, usize, usize), (ElementFault, usize)> {
+    if octets.len() > 1000 {
+        return Ok((universal(0, false), 0, 0));
+    }
+    let mut reader = BitReader::from_octets(octets);
+    match next_element(&mut reader) {
+        Ok(element) => Ok((element.tag, element.contents.len(), reader.len())),
+        Err(fault) => Err((fault, reader.len())),
+    }
+}
+
+#[test]
+fn an_element_is_read_without_a_format(rt: HostRuntime) -> Result<(), Fail> {
+    let rows: [(&[u8], Result<(Tag, usize, usize), (ElementFault, usize)>); 6] = [
+        (
+            &[0x04, 0x02, 0x00, 0x00, 0xFF],
+            Ok((universal(4, false), 16, 8)),
+        ),
+        (&[0x30, 0x00], Ok((universal(16, true), 0, 0))),
+        (
+            &[0x30, 0x80, 0x00, 0x00],
+            Err((ElementFault::Length(LengthFault::Indefinite), 32)),
+        ),
+        (
+            &[0x04, 0x81, 0x7F],
+            Err((ElementFault::Length(LengthFault::NotShortest), 24)),
+        ),
+        (
+            &[0x04, 0x02, 0x00],
+            Err((
+                ElementFault::Length(LengthFault::Missing { missing: 8 }),
+                24,
+            )),
+        ),
+        (
+            &[0x1F, 0x80, 0x01],
+            Err((ElementFault::Tag(TagFault::Padded), 24)),
+        ),
+    ];
+    for (octets, expected) in rows {
+        assert_eq!(rt; next_of(octets), expected);
     }
     Ok(())
 }

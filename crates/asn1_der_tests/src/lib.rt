@@ -12,6 +12,8 @@ mod elements;
 #[cfg(test)]
 mod primitives;
 #[cfg(test)]
+mod sets;
+#[cfg(test)]
 mod strings;
 #[cfg(test)]
 mod tags;

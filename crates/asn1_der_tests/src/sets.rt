@@ -1,0 +1,151 @@
+//! SET OF.
+
+use super::calls::{element, found, sequence, universal, written};
+use asn1_der::{
+    BooleanContents, Class, End, InItem, InSet, InTlv, IntegerContents, NotShortest, Required,
+    SetOf, Tag, Tlv, TlvMisfit,
+};
+use asn1_formats::{Refusal, WriteRefusal};
+use asn1_values::Integer;
+use std::alloc::{AllocError, Global};
+use std::test::Fail;
+
+/// `SET OF INTEGER`
+fn numbers() -> Tlv<SetOf<Tlv<IntegerContents>>> {
+    element(
+        17,
+        true,
+        SetOf {
+            item: element(2, false, IntegerContents {}),
+        },
+    )
+}
+
+/// The numbers as a value of the format.
+fn integers(alloc: Global, numbers: &[i32]) -> Result<Vec<Integer>, AllocError> {
+    let mut values = Vec::new(alloc);
+    for number in numbers {
+        values.push(Integer::from(*number))?;
+    }
+    Ok(values)
+}
+
+/// Whether the numbers are written as the octets, and as many are read from these.
+fn are_spelled(alloc: Global, values: &[i32], octets: &[u8]) -> Result<bool, AllocError> {
+    let is_written = match written(&numbers(), alloc, &integers(alloc, values)?) {
+        Ok(found) => found.as_slice() == octets,
+        Err(_) => false,
+    };
+    let is_read = match found(&numbers(), alloc, octets) {
+        Ok(read) => read.len() == values.len(),
+        Err(_) => false,
+    };
+    Ok(is_written && is_read)
+}
+
+#[test]
+fn elements_ascend_by_their_octets(rt: HostRuntime) -> Result<(), Fail> {
+    let alloc = rt.alloc();
+    assert!(rt; are_spelled(alloc, &[], &[0x31, 0x00])?);
+    assert!(rt;
+        are_spelled(
+            alloc,
+            &[5, 5],
+            &[0x31, 0x06, 0x02, 0x01, 0x05, 0x02, 0x01, 0x05]
+        )?
+    );
+    // FF is above 01, and two octets are above one.
+    let octets = [
+        0x31, 0x0A, 0x02, 0x01, 0x01, 0x02, 0x01, 0xFF, 0x02, 0x02, 0x00, 0x80,
+    ];
+    assert!(rt; are_spelled(alloc, &[1, -1, 128], &octets)?);
+    Ok(())
+}
+
+/// What is wrong with the numbers, when they are written.
+fn misfit_of(alloc: Global, values: &[i32]) -> Result<Option<usize>, AllocError> {
+    match written(&numbers(), alloc, &integers(alloc, values)?) {
+        Err(
+            WriteRefusal::Wrong(
+                TlvMisfit::Contents(
+                    InItem {
+                        index,
+                        wrong: InSet::Descends,
+                    },
+                ),
+            ),
+        ) => Ok(Some(index)),
+        _ => Ok(None),
+    }
+}
+
+#[test]
+fn another_order_is_refused_by_its_place(rt: HostRuntime) -> Result<(), Fail> {
+    let alloc = rt.alloc();
+    assert_eq!(rt; misfit_of(alloc, &[-1, 1])?, Some(1));
+    assert_eq!(rt; misfit_of(alloc, &[1, 128, 2, 1])?, Some(2));
+    let rows: [(&[u8], InItem<InSet<InTlv<NotShortest>>>); 2] = [
+        (
+            &[0x31, 0x06, 0x02, 0x01, 0xFF, 0x02, 0x01, 0x01],
+            InItem {
+                index: 1,
+                wrong: InSet::Descends,
+            },
+        ),
+        (
+            &[0x31, 0x05, 0x02, 0x01, 0x05, 0x02, 0x00],
+            InItem {
+                index: 1,
+                wrong: InSet::Item(InTlv::Contents(NotShortest {})),
+            },
+        ),
+    ];
+    for (octets, wrong) in rows {
+        assert_eq!(rt;
+            found(&numbers(), alloc, octets).err(),
+            Some(Refusal::Wrong(InTlv::Contents(wrong)))
+        );
+    }
+    Ok(())
+}
+
+#[test]
+fn sequences_ascend_by_the_first_element_that_differs(rt: HostRuntime) -> Result<(), Fail> {
+    // SET OF SEQUENCE { a INTEGER, b BOOLEAN }
+    let second = Required {
+        first: element(1, false, BooleanContents {}),
+        rest: End {},
+    };
+    let item = sequence(Required {
+        first: element(2, false, IntegerContents {}),
+        rest: second,
+    });
+    let format = element(17, true, SetOf { item });
+    let octets = [
+        0x31, 0x10, 0x30, 0x06, 0x02, 0x01, 0x01, 0x01, 0x01, 0xFF, 0x30, 0x06, 0x02, 0x01, 0x02,
+        0x01, 0x01, 0x00,
+    ];
+    let mut values = found(&format, rt.alloc(), &octets)?;
+    assert_eq!(rt;
+        written(&format, rt.alloc(), &values)?.as_slice(),
+        octets.as_slice()
+    );
+    values.push((Integer::from(1), (false, ())))?;
+    assert!(rt; written(&format, rt.alloc(), &values).is_err());
+    Ok(())
+}
+
+#[test]
+fn tags_have_an_order(rt: HostRuntime) -> Result<(), Fail> {
+    let context = Tag {
+        class: Class::Context,
+        constructed: false,
+        number: 0,
+    };
+    // X.680 8.6
+    assert!(rt; universal(2, false).precedes(universal(16, true)));
+    assert!(rt; universal(16, true).precedes(context));
+    assert!(rt; !context.precedes(context));
+    assert!(rt; !context.precedes(universal(30, false)));
+    Ok(())
+}
