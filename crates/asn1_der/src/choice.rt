@@ -54,7 +54,8 @@ impl<A: Element, B: Element> Element for Or<A, B> {
         ChoiceFaultIs (A.accepts f.first) (A.is_fault f.first) (B.is_fault f.others) list e };
 
     ghost is_misfit = { λ f v e.
-        ChoiceMisfitIs (A.accepts f.first) (B.spells f.others) (A.is_misfit f.first) (B.is_misfit f.others) v e };
+        ChoiceMisfitIs (A.accepts f.first) (B.spells f.others) (A.is_misfit f.first)
+        (B.is_misfit f.others) v e };
 
     ghost owns_nothing = { λ f. A.owns_nothing f.first × B.owns_nothing f.others };
 
@@ -150,24 +151,31 @@ impl<A: Element, B: Element> Element for Or<A, B> {
     }
 
     ghost are_tagged = { λ f.
-        choice_tagged (A.accepts f.first) (B.accepts f.others) (A.spells f.first) (B.spells f.others)
+        choice_tagged (A.accepts f.first) (B.accepts f.others) (A.spells f.first)
+        (B.spells f.others)
         (A.are_tagged f.first) (B.are_tagged f.others) };
 
     ghost reads_one = { λ f.
-        choice_reads_one (A.accepts f.first) (B.accepts f.others) (A.spells f.first) (B.spells f.others)
-        (A.are_tagged f.first) (B.are_tagged f.others) (A.reads_one f.first) (B.reads_one f.others) };
+        choice_reads_one (A.accepts f.first) (B.accepts f.others) (A.spells f.first)
+        (B.spells f.others)
+        (A.are_tagged f.first) (B.are_tagged f.others) (A.reads_one f.first)
+        (B.reads_one f.others) };
 
     ghost spells_one = { λ f.
-        choice_spells_one (A.accepts f.first) (B.accepts f.others) (A.spells f.first) (B.spells f.others)
-        (A.are_tagged f.first) (B.are_tagged f.others) (A.spells_one f.first) (B.spells_one f.others) };
+        choice_spells_one (A.accepts f.first) (B.accepts f.others) (A.spells f.first)
+        (B.spells f.others)
+        (A.are_tagged f.first) (B.are_tagged f.others) (A.spells_one f.first)
+        (B.spells_one f.others) };
 
     ghost names_fault = { λ f.
-        choice_names_fault (A.accepts f.first) (B.accepts f.others) (A.spells f.first) (B.spells f.others)
+        choice_names_fault (A.accepts f.first) (B.accepts f.others) (A.spells f.first)
+        (B.spells f.others)
         (A.are_tagged f.first) (B.are_tagged f.others) (A.is_fault f.first) (B.is_fault f.others)
         (A.names_fault f.first) (B.names_fault f.others) };
 
     ghost names_misfit = { λ f.
-        choice_names_misfit (A.accepts f.first) (B.accepts f.others) (A.spells f.first) (B.spells f.others)
+        choice_names_misfit (A.accepts f.first) (B.accepts f.others) (A.spells f.first)
+        (B.spells f.others)
         (A.are_tagged f.first) (B.are_tagged f.others) (A.is_misfit f.first) (B.is_misfit f.others)
         (B.spells_one f.others) (A.names_misfit f.first) (B.names_misfit f.others) };
 }
@@ -179,9 +187,11 @@ impl<A: Element, B: Element> Or<A, B> {
     /// Whether the spelling of a value of the others begins with a tag of the first alternative.
     fn begins_as_first(&self, other: &B::Value) -> bool
         ensures yes { IsTrue result → (list : List Bool)
-            → B.spells self.now.others (B.plain other.now) list → Begins (A.accepts self.now.first) list }
+            → B.spells self.now.others (B.plain other.now) list → Begins
+            (A.accepts self.now.first) list }
         ensures no { IsFalse result → (list : List Bool)
-            → B.spells self.now.others (B.plain other.now) list → ¬ (Begins (A.accepts self.now.first) list) }
+            → B.spells self.now.others (B.plain other.now) list → ¬
+            (Begins (A.accepts self.now.first) list) }
     {
         let tag = self.others.tag_of(other);
         self.first.accepts_tag(tag)

@@ -16,7 +16,8 @@ pub trait Comparable: Contents {
     /// Whether the value that all octets that are left spell equals the other, without memory.
     fn check_equal(&self, contents: BitReader<'_>, other: &Self::Value) -> Result<bool, Self::Fault>
         requires { (view_left contents).len % 8 ≡ 0 }
-        ensures checked { IfOk result (λ is. (x : Self.Plain) × Self.spells self.now x (bits_left contents.entry)
+        ensures checked { IfOk result (λ is. (x : Self.Plain) × Self.spells self.now x
+            (bits_left contents.entry)
             × (IsTrue is ↔ (x ≡ Self.plain other.now))) }
         ensures fault { IfErr result (Self.is_fault self.now (bits_left contents.entry)) };
 }

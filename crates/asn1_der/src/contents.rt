@@ -46,7 +46,8 @@ pub trait Contents {
         buffer: &mut BitBuffer,
         value: &Self::Value,
     ) -> Result<(), Refusal<Self::Misfit>>
-        ensures written { OnOk result (IsWritten (spells self.now) (plain value.now) buffer.old buffer.new) }
+        ensures written { OnOk result (IsWritten (spells self.now) (plain value.now) buffer.old
+            buffer.new) }
         ensures refused { IfErr result (IsRefusal (is_misfit self.now (plain value.now)) ⊤) }
         ensures kept { OnErr result (Extends buffer.old buffer.new) };
 
@@ -65,7 +66,8 @@ pub trait Contents {
         requires { (view_left contents).len % 8 ≡ 0 }
         ensures read { IfOk result (λ x. spells self.now (plain x) (bits_left contents.entry)) }
         ensures refused { IfErr result
-            (IsRefusal (is_fault self.now (bits_left contents.entry)) (¬ (owns_nothing self.now))) };
+            (IsRefusal (is_fault self.now (bits_left contents.entry))
+            (¬ (owns_nothing self.now))) };
 
     /// Whether all octets that are left spell a value, without memory.
     fn check(&self, contents: BitReader<'_>) -> Result<(), Self::Fault>

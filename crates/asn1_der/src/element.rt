@@ -52,7 +52,8 @@ pub trait Element {
 
     /// The tag of the value.
     fn tag_of(&self, value: &Self::Value) -> Tag
-        ensures { (list : List Bool) → spells self.now (plain value.now) list → HasTag result list };
+        ensures { (list : List Bool) → spells self.now (plain value.now) list → HasTag
+            result list };
 
     /// Appends the spelling. Where it is refused, a part may have been appended; `Memory` also
     /// where the length in bits passes `usize`.
@@ -61,7 +62,8 @@ pub trait Element {
         buffer: &mut BitBuffer,
         value: &Self::Value,
     ) -> Result<(), Refusal<Self::Misfit>>
-        ensures written { OnOk result (IsWritten (spells self.now) (plain value.now) buffer.old buffer.new) }
+        ensures written { OnOk result (IsWritten (spells self.now) (plain value.now) buffer.old
+            buffer.new) }
         ensures refused { IfErr result (IsRefusal (is_misfit self.now (plain value.now)) ⊤) }
         ensures kept { OnErr result (Extends buffer.old buffer.new) };
 

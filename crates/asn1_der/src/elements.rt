@@ -43,7 +43,8 @@ pub trait Elements {
 
     /// The tag of the first element of the value, if it has one.
     fn first_tag(&self, value: &Self::Value) -> Option<Tag>
-        ensures { (list : List Bool) → spells self.now (plain value.now) list → FirstTag list result };
+        ensures { (list : List Bool) → spells self.now (plain value.now) list → FirstTag
+            list result };
 
     /// Appends the spelling. Where it is refused, a part may have been appended; `Memory` also
     /// where the length in bits passes `usize`.
@@ -52,7 +53,8 @@ pub trait Elements {
         buffer: &mut BitBuffer,
         value: &Self::Value,
     ) -> Result<(), Refusal<Self::Misfit>>
-        ensures written { OnOk result (IsWritten (spells self.now) (plain value.now) buffer.old buffer.new) }
+        ensures written { OnOk result (IsWritten (spells self.now) (plain value.now) buffer.old
+            buffer.new) }
         ensures refused { IfErr result (IsRefusal (is_misfit self.now (plain value.now)) ⊤) }
         ensures kept { OnErr result (Extends buffer.old buffer.new) };
 
@@ -71,7 +73,8 @@ pub trait Elements {
         requires { (view_left contents).len % 8 ≡ 0 }
         ensures read { IfOk result (λ x. spells self.now (plain x) (bits_left contents.entry)) }
         ensures refused { IfErr result
-            (IsRefusal (is_fault self.now (bits_left contents.entry)) (¬ (owns_nothing self.now))) };
+            (IsRefusal (is_fault self.now (bits_left contents.entry))
+            (¬ (owns_nothing self.now))) };
 
     /// Whether all octets that are left spell a value, without memory.
     fn check(&self, contents: BitReader<'_>) -> Result<(), Self::Fault>

@@ -35,7 +35,8 @@ impl<F: Element> Contents for Explicit<F> {
 
     ghost spells = { λ f x list. F.spells f.element x list };
 
-    ghost is_fault = { λ f list e. AloneFaultIs (F.spells f.element) (F.is_fault f.element) list e };
+    ghost is_fault = { λ f list e. AloneFaultIs (F.spells f.element)
+        (F.is_fault f.element) list e };
 
     ghost is_misfit = { λ f x e. F.is_misfit f.element x e };
 
@@ -85,7 +86,8 @@ impl<F: Element> Contents for Explicit<F> {
     ghost are_whole = { λ f. alone_whole (F.spells f.element) (F.are_tagged f.element).whole };
 
     ghost names_fault = { λ f.
-        alone_names_fault (F.spells f.element) (F.is_fault f.element) (F.reads_one f.element) (F.names_fault f.element) };
+        alone_names_fault (F.spells f.element) (F.is_fault f.element) (F.reads_one f.element)
+        (F.names_fault f.element) };
 
     ghost names_misfit = { λ f. F.names_misfit f.element };
 }

@@ -32,11 +32,14 @@ pub(crate) fn take_front<F: Element>(
 ) -> Result<F::Value, Refusal<F::Fault>>
     requires { (view_left contents.old).len % 8 ≡ 0 }
     ensures read { IfOk result (λ x.
-        Starts (F.spells format.now) (bits_left contents.old) (F.plain x) (bits_left contents.new)) }
+        Starts (F.spells format.now) (bits_left contents.old) (F.plain x)
+        (bits_left contents.new)) }
     ensures whole { OnOk result ((view_left contents.new).len % 8 ≡ 0) }
-    ensures fewer { OnOk result (length (bits_left contents.new) < length (bits_left contents.old)) }
+    ensures fewer { OnOk result (length (bits_left contents.new) < length
+        (bits_left contents.old)) }
     ensures refused { IfErr result
-        (IsRefusal (F.is_fault format.now (bits_left contents.old)) (¬ (F.owns_nothing format.now))) }
+        (IsRefusal (F.is_fault format.now (bits_left contents.old))
+        (¬ (F.owns_nothing format.now))) }
 {
     let _before = contents.len();
     match format.take(alloc, contents) {
@@ -58,7 +61,8 @@ pub(crate) fn skip_front<F: Element>(
     ensures skipped { OnOk result ((x : F.Plain) ×
         Starts (F.spells format.now) (bits_left contents.old) x (bits_left contents.new)) }
     ensures whole { OnOk result ((view_left contents.new).len % 8 ≡ 0) }
-    ensures fewer { OnOk result (length (bits_left contents.new) < length (bits_left contents.old)) }
+    ensures fewer { OnOk result (length (bits_left contents.new) < length
+        (bits_left contents.old)) }
     ensures fault { IfErr result (F.is_fault format.now (bits_left contents.old)) }
 {
     let _before = contents.len();

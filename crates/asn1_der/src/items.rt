@@ -27,9 +27,11 @@ pub(crate) fn append_items<F: Element>(
     buffer: &mut BitBuffer,
     values: &[F::Value],
 ) -> Result<(), Refusal<InItem<F::Misfit>>>
-    ensures written { OnOk result (IsWritten (λ ys l. AreItems (F.spells item.now) ys l) (map F.plain values.now)
+    ensures written { OnOk result (IsWritten (λ ys l. AreItems (F.spells item.now) ys l)
+        (map F.plain values.now)
         buffer.old buffer.new) }
-    ensures refused { IfErr result (IsRefusal (λ e. ItemMisfitIs (F.spells item.now) (F.is_misfit item.now)
+    ensures refused { IfErr result (IsRefusal (λ e. ItemMisfitIs (F.spells item.now)
+        (F.is_misfit item.now)
         (map F.plain values.now) e) ⊤) }
     ensures kept { OnErr result (Extends buffer.old buffer.new) }
 {
@@ -70,9 +72,11 @@ pub(crate) fn take_items<F: Element>(
     contents: BitReader<'_>,
 ) -> Result<Vec<F::Value>, Refusal<InItem<F::Fault>>>
     requires { (view_left contents).len % 8 ≡ 0 }
-    ensures read { IfOk result (λ xs. AreItems (F.spells item.now) (map F.plain xs.items) (bits_left contents.entry)) }
+    ensures read { IfOk result (λ xs. AreItems (F.spells item.now) (map F.plain xs.items)
+        (bits_left contents.entry)) }
     ensures refused { IfErr result
-        (IsRefusal (λ e. ItemFaultIs (F.spells item.now) (F.is_fault item.now) (bits_left contents.entry) e) ⊤) }
+        (IsRefusal (λ e. ItemFaultIs (F.spells item.now) (F.is_fault item.now)
+        (bits_left contents.entry) e) ⊤) }
 {
     let mut values = Vec::new(alloc);
     let mut left = contents;

@@ -53,7 +53,8 @@ pub(crate) fn length_width(length: u64) -> usize
 
 /// Appends the octets of a length. Where it is refused, the first may have been appended.
 pub(crate) fn push_length(buffer: &mut BitBuffer, length: u64) -> Result<(), AllocError>
-    ensures ok { OnOk result (IsWritten (λ n list. IsDefinite n list) length buffer.old buffer.new) }
+    ensures ok { OnOk result (IsWritten (λ n list. IsDefinite n list) length buffer.old
+        buffer.new) }
     ensures err { OnErr result (Extends buffer.old buffer.new) }
 {
     if length < 128 {
@@ -97,7 +98,8 @@ pub(crate) fn next_length(reader: &mut BitReader<'_>) -> Result<u64, LengthFault
 fn next_long(reader: &mut BitReader<'_>, octets: usize) -> Result<u64, LengthFault>
     requires some { 0 < octets }
     requires few { octets ≤ 8 }
-    ensures read { IfOk result (λ n. Starts (IsNumber (8 * octets)) (bits_left reader.old) n (bits_left reader.new)) }
+    ensures read { IfOk result (λ n. Starts (IsNumber (8 * octets)) (bits_left reader.old) n
+        (bits_left reader.new)) }
     ensures long { IfOk result (λ n. 128 ≤ n) }
     ensures least { IfOk result (λ n. 2 ^ (8 * (octets - 1)) ≤ n) }
     ensures fault { IfErr result (λ e. LongFaultIs (128 + octets) (bits_left reader.old) e) }
@@ -125,7 +127,8 @@ ghost use Rattle.asn1_der.specs.Lengths.{LongFaultIs};
 /// The octets behind the next length.
 pub(crate) fn next_counted<'a>(reader: &mut BitReader<'a>) -> Result<BitReader<'a>, LengthFault>
     ensures read { IfOk result (λ r.
-        Starts (λ c list. IsCounted c list) (bits_left reader.old) (bits_left r) (bits_left reader.new)) }
+        Starts (λ c list. IsCounted c list) (bits_left reader.old) (bits_left r)
+        (bits_left reader.new)) }
     ensures whole { IfOk result (λ r. (view_left r).len % 8 ≡ 0) }
     ensures fault { IfErr result (λ e. CountFaultIs (bits_left reader.old) e) }
 {

@@ -105,12 +105,15 @@ impl<C: Comparable> Contents for NotDefault<C> {
     ghost spells_one = { λ f.
         not_default_spells_one (C.plain f.default) (C.spells f.part) (C.spells_one f.part) };
 
-    ghost are_whole = { λ f. not_default_whole (C.plain f.default) (C.spells f.part) (C.are_whole f.part) };
+    ghost are_whole = { λ f. not_default_whole (C.plain f.default) (C.spells f.part)
+        (C.are_whole f.part) };
 
     ghost names_fault = { λ f.
-        not_default_names_fault (C.plain f.default) (C.spells f.part) (C.is_fault f.part) (C.fills_one f.part)
+        not_default_names_fault (C.plain f.default) (C.spells f.part) (C.is_fault f.part)
+        (C.fills_one f.part)
         (C.names_fault f.part) };
 
     ghost names_misfit = { λ f.
-        not_default_names_misfit (C.plain f.default) (C.spells f.part) (C.is_misfit f.part) (C.names_misfit f.part) };
+        not_default_names_misfit (C.plain f.default) (C.spells f.part) (C.is_misfit f.part)
+        (C.names_misfit f.part) };
 }

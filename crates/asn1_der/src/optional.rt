@@ -51,10 +51,12 @@ impl<F: Element, R: Elements> Elements for Optional<F, R> {
         IsOptional (F.accepts f.first) (F.spells f.first) (R.spells f.rest) x list };
 
     ghost is_fault = { λ f list e.
-        OptionalFaultIs (F.accepts f.first) (F.spells f.first) (F.is_fault f.first) (R.is_fault f.rest) list e };
+        OptionalFaultIs (F.accepts f.first) (F.spells f.first) (F.is_fault f.first)
+        (R.is_fault f.rest) list e };
 
     ghost is_misfit = { λ f x e.
-        OptionalMisfitIs (F.accepts f.first) (F.spells f.first) (R.spells f.rest) (F.is_misfit f.first)
+        OptionalMisfitIs (F.accepts f.first) (F.spells f.first) (R.spells f.rest)
+        (F.is_misfit f.first)
         (R.is_misfit f.rest) x e };
 
     ghost owns_nothing = { λ f. F.owns_nothing f.first × R.owns_nothing f.rest };
@@ -161,27 +163,32 @@ impl<F: Element, R: Elements> Elements for Optional<F, R> {
     }
 
     ghost fills_one = { λ f.
-        optional_fills_one (F.accepts f.first) (F.spells f.first) (R.spells f.rest) (F.are_tagged f.first)
+        optional_fills_one (F.accepts f.first) (F.spells f.first) (R.spells f.rest)
+        (F.are_tagged f.first)
         (F.reads_one f.first)
         (R.fills_one f.rest) };
 
     ghost spells_one = { λ f.
-        optional_spells_one (F.accepts f.first) (F.spells f.first) (R.spells f.rest) (F.are_tagged f.first)
+        optional_spells_one (F.accepts f.first) (F.spells f.first) (R.spells f.rest)
+        (F.are_tagged f.first)
         (F.spells_one f.first) (R.spells_one f.rest) };
 
     ghost are_whole = { λ f.
-        optional_whole (F.accepts f.first) (F.spells f.first) (R.spells f.rest) (F.are_tagged f.first)
+        optional_whole (F.accepts f.first) (F.spells f.first) (R.spells f.rest)
+        (F.are_tagged f.first)
         (R.are_whole f.rest) };
 
     ghost names_fault = { λ f.
-        optional_names_fault (F.accepts f.first) (F.spells f.first) (R.spells f.rest) (F.are_tagged f.first)
+        optional_names_fault (F.accepts f.first) (F.spells f.first) (R.spells f.rest)
+        (F.are_tagged f.first)
         (F.is_fault f.first) (R.is_fault f.rest)
         (F.reads_one f.first)
         (F.names_fault f.first)
         (R.names_fault f.rest) };
 
     ghost names_misfit = { λ f.
-        optional_names_misfit (F.accepts f.first) (F.spells f.first) (R.spells f.rest) (F.are_tagged f.first)
+        optional_names_misfit (F.accepts f.first) (F.spells f.first) (R.spells f.rest)
+        (F.are_tagged f.first)
         (F.is_misfit f.first) (R.is_misfit f.rest) (R.spells_one f.rest) (F.names_misfit f.first)
         (R.names_misfit f.rest) };
 }
@@ -193,9 +200,11 @@ impl<F: Element, R: Elements> Optional<F, R> {
     /// Whether the spelling of the others begins with a tag of the element in front.
     fn goes_on_as_first(&self, rest: &R::Value) -> bool
         ensures yes { IsTrue result → (list : List Bool)
-            → R.spells self.now.rest (R.plain rest.now) list → Begins (F.accepts self.now.first) list }
+            → R.spells self.now.rest (R.plain rest.now) list → Begins
+            (F.accepts self.now.first) list }
         ensures no { IsFalse result → (list : List Bool)
-            → R.spells self.now.rest (R.plain rest.now) list → ¬ (Begins (F.accepts self.now.first) list) }
+            → R.spells self.now.rest (R.plain rest.now) list → ¬
+            (Begins (F.accepts self.now.first) list) }
     {
         match self.rest.first_tag(rest) {
             Some(tag) => self.first.accepts_tag(tag),

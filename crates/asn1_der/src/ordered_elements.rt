@@ -17,7 +17,8 @@ pub trait OrderedElements: Elements {
     /// they differ decides.
     fn compare(&self, left: &Self::Value, right: &Self::Value) -> Ordering
         ensures order { (a b : List Bool) → Self.spells self.now (Self.plain left.now) a
-            → Self.spells self.now (Self.plain right.now) b → length a ≡ length b → length a < 2 ^ 64
+            → Self.spells self.now (Self.plain right.now) b → length a ≡ length b
+            → length a < 2 ^ 64
             → result ≡ bits_cmp a b };
 }
 

@@ -115,18 +115,22 @@ impl<F: Element, R: Elements> Elements for Required<F, R> {
         (R.fills_one f.rest) };
 
     ghost spells_one = { λ f.
-        both_spells_one (F.spells f.first) (R.spells f.rest) (F.spells_one f.first) (R.spells_one f.rest) };
+        both_spells_one (F.spells f.first) (R.spells f.rest) (F.spells_one f.first)
+        (R.spells_one f.rest) };
 
     ghost are_whole = { λ f.
-        required_whole (F.spells f.first) (R.spells f.rest) (F.are_tagged f.first).whole (R.are_whole f.rest) };
+        required_whole (F.spells f.first) (R.spells f.rest) (F.are_tagged f.first).whole
+        (R.are_whole f.rest) };
 
     ghost names_fault = { λ f.
-        required_names_fault (F.spells f.first) (R.spells f.rest) (F.is_fault f.first) (R.is_fault f.rest)
+        required_names_fault (F.spells f.first) (R.spells f.rest) (F.is_fault f.first)
+        (R.is_fault f.rest)
         (F.reads_one f.first)
         (F.names_fault f.first)
         (R.names_fault f.rest) };
 
     ghost names_misfit = { λ f.
-        both_names_misfit (F.spells f.first) (R.spells f.rest) (F.is_misfit f.first) (R.is_misfit f.rest)
+        both_names_misfit (F.spells f.first) (R.spells f.rest) (F.is_misfit f.first)
+        (R.is_misfit f.rest)
         (F.names_misfit f.first) (R.names_misfit f.rest) };
 }

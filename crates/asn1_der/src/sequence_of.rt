@@ -71,12 +71,15 @@ impl<F: Element> Contents for SequenceOf<F> {
 
     ghost spells_one = { λ f. items_spell_one (F.spells f.item) (F.spells_one f.item) };
 
-    ghost are_whole = { λ f. items_whole (F.spells f.item) (F.accepts f.item) (F.are_tagged f.item) };
+    ghost are_whole = { λ f. items_whole (F.spells f.item) (F.accepts f.item)
+        (F.are_tagged f.item) };
 
     ghost names_fault = { λ f.
-        items_name_fault (F.spells f.item) (F.accepts f.item) (F.are_tagged f.item) (F.is_fault f.item)
+        items_name_fault (F.spells f.item) (F.accepts f.item) (F.are_tagged f.item)
+        (F.is_fault f.item)
         (F.reads_one f.item)
         (F.names_fault f.item) };
 
-    ghost names_misfit = { λ f. items_name_misfit (F.spells f.item) (F.is_misfit f.item) (F.names_misfit f.item) };
+    ghost names_misfit = { λ f. items_name_misfit (F.spells f.item) (F.is_misfit f.item)
+        (F.names_misfit f.item) };
 }

@@ -39,7 +39,8 @@ pub enum InSet<E> {
 fn front_of<'a>(start: BitReader<'a>, left: &BitReader<'_>) -> BitReader<'a>
     requires { length (bits_left left.now) ≤ length (bits_left start) }
     ensures { bits_left result
-        ≡ take (length (bits_left start.entry) - length (bits_left left.now)) (bits_left start.entry) }
+        ≡ take (length (bits_left start.entry) - length (bits_left left.now))
+        (bits_left start.entry) }
 {
     let (front, _) = start.bits().split_at(start.len() - left.len());
     BitReader::new(front)
@@ -47,8 +48,10 @@ fn front_of<'a>(start: BitReader<'a>, left: &BitReader<'_>) -> BitReader<'a>
 
 /// Whether the octets are below those of the element before, if there is one.
 fn descends(before: Option<BitReader<'_>>, next: BitReader<'_>) -> bool
-    ensures yes { IsTrue result → IsBelow (bits_left next.entry) (plain_option bits_left before.entry) }
-    ensures no { IsFalse result → ¬ (IsBelow (bits_left next.entry) (plain_option bits_left before.entry)) }
+    ensures yes { IsTrue result → IsBelow (bits_left next.entry)
+        (plain_option bits_left before.entry) }
+    ensures no { IsFalse result → ¬ (IsBelow (bits_left next.entry)
+        (plain_option bits_left before.entry)) }
 {
     match before {
         Some(last) => next.bits().cmp(&last.bits()) == Ordering::Less,
@@ -63,9 +66,11 @@ fn take_set<F: Element>(
     contents: BitReader<'_>,
 ) -> Result<Vec<F::Value>, Refusal<InItem<InSet<F::Fault>>>>
     requires { (view_left contents).len % 8 ≡ 0 }
-    ensures read { IfOk result (λ xs. IsSet (F.spells item.now) (map F.plain xs.items) (bits_left contents.entry)) }
+    ensures read { IfOk result (λ xs. IsSet (F.spells item.now) (map F.plain xs.items)
+        (bits_left contents.entry)) }
     ensures refused { IfErr result
-        (IsRefusal (λ e. SetFaultIs (F.spells item.now) (F.is_fault item.now) (bits_left contents.entry) e) ⊤) }
+        (IsRefusal (λ e. SetFaultIs (F.spells item.now) (F.is_fault item.now)
+        (bits_left contents.entry) e) ⊤) }
 {
     let mut values = Vec::new(alloc);
     let mut left = contents;
@@ -99,7 +104,8 @@ fn take_set<F: Element>(
 /// Goes past values up to the end, without memory.
 fn check_set<F: Element>(item: &F, contents: BitReader<'_>) -> Result<(), InItem<InSet<F::Fault>>>
     requires { (view_left contents).len % 8 ≡ 0 }
-    ensures checked { OnOk result ((xs : List F.Plain) × IsSet (F.spells item.now) xs (bits_left contents.entry)) }
+    ensures checked { OnOk result ((xs : List F.Plain) × IsSet (F.spells item.now) xs
+        (bits_left contents.entry)) }
     ensures fault { IfErr result
         (λ e. SetFaultIs (F.spells item.now) (F.is_fault item.now) (bits_left contents.entry) e) }
 {
@@ -133,7 +139,8 @@ fn descends_at<F: Ordered>(item: &F, values: &[F::Value], index: usize) -> bool
     requires { index < length values.now }
     ensures no { IsFalse result → Ascend (F.spells item.now) (map F.plain (take index values.now))
         → Ascend (F.spells item.now) (map F.plain (take (index + 1) values.now)) }
-    ensures yes { IsTrue result → Fits (λ ys l. AreItems (F.spells item.now) ys l) (map F.plain (take (index + 1) values.now))
+    ensures yes { IsTrue result → Fits (λ ys l. AreItems (F.spells item.now) ys l)
+        (map F.plain (take (index + 1) values.now))
         → ¬ (Ascend (F.spells item.now) (map F.plain (take (index + 1) values.now))) }
 {
     if index == 0 {
@@ -151,7 +158,8 @@ fn measure_set<F: Ordered>(
     item: &F,
     values: &[F::Value],
 ) -> Result<Option<usize>, InItem<InSet<F::Misfit>>>
-    ensures measured { IfOk result (Measures (λ ys l. IsSet (F.spells item.now) ys l) (map F.plain values.now)) }
+    ensures measured { IfOk result (Measures (λ ys l. IsSet (F.spells item.now) ys l)
+        (map F.plain values.now)) }
     ensures misfit { IfErr result
         (λ e. SetMisfitIs (F.spells item.now) (F.is_misfit item.now) (map F.plain values.now) e) }
 {
@@ -231,15 +239,18 @@ impl<F: Ordered> Contents for SetOf<F> {
     }
 
     ghost fills_one = { λ f.
-        set_fills_one (F.spells f.item) (F.accepts f.item) (F.are_tagged f.item) (F.reads_one f.item) };
+        set_fills_one (F.spells f.item) (F.accepts f.item) (F.are_tagged f.item)
+        (F.reads_one f.item) };
 
     ghost spells_one = { λ f. set_spells_one (F.spells f.item) (F.spells_one f.item) };
 
     ghost are_whole = { λ f. set_whole (F.spells f.item) (F.accepts f.item) (F.are_tagged f.item) };
 
     ghost names_fault = { λ f.
-        set_names_fault (F.spells f.item) (F.is_fault f.item) (F.reads_one f.item) (F.names_fault f.item)
+        set_names_fault (F.spells f.item) (F.is_fault f.item) (F.reads_one f.item)
+        (F.names_fault f.item)
         (F.accepts f.item) (F.are_tagged f.item) };
 
-    ghost names_misfit = { λ f. set_names_misfit (F.spells f.item) (F.is_misfit f.item) (F.names_misfit f.item) };
+    ghost names_misfit = { λ f. set_names_misfit (F.spells f.item) (F.is_misfit f.item)
+        (F.names_misfit f.item) };
 }

@@ -58,7 +58,8 @@ pub(crate) fn next_tagged<'a>(
     tag: Tag,
 ) -> Result<BitReader<'a>, ElementFault>
     ensures read { IfOk result (λ r.
-        Starts (λ c list. IsElement tag c list) (bits_left reader.old) (bits_left r) (bits_left reader.new)) }
+        Starts (λ c list. IsElement tag c list) (bits_left reader.old) (bits_left r)
+        (bits_left reader.new)) }
     ensures whole { IfOk result (λ r. (view_left r).len % 8 ≡ 0) }
     ensures fault { IfErr result (λ e. ElementFaultIs tag (bits_left reader.old) e) }
 {
@@ -158,17 +159,21 @@ impl<C: Contents> Format for Tlv<C> {
 
     ghost spelled_is_read = { λ f. itself (λ x list. IsTlv f.tag (C.spells f.contents) x list) };
 
-    ghost read_is_spelled = { λ f canonical. itself (λ x list. IsTlv f.tag (C.spells f.contents) x list) };
+    ghost read_is_spelled = { λ f canonical. itself (λ x list. IsTlv f.tag
+        (C.spells f.contents) x list) };
 
     ghost reads_one = { λ f. tlv_reads_one f.tag (C.spells f.contents) (C.fills_one f.contents) };
 
-    ghost spells_one = { λ f. tlv_spells_one f.tag (C.spells f.contents) (C.spells_one f.contents) };
+    ghost spells_one = { λ f. tlv_spells_one f.tag (C.spells f.contents)
+        (C.spells_one f.contents) };
 
     ghost names_fault = { λ f.
-        tlv_names_fault f.tag (C.spells f.contents) (C.is_fault f.contents) (C.names_fault f.contents) };
+        tlv_names_fault f.tag (C.spells f.contents) (C.is_fault f.contents)
+        (C.names_fault f.contents) };
 
     ghost names_misfit = { λ f.
-        tlv_names_misfit f.tag (C.spells f.contents) (C.is_misfit f.contents) (C.spells_one f.contents)
+        tlv_names_misfit f.tag (C.spells f.contents) (C.is_misfit f.contents)
+        (C.spells_one f.contents)
         (C.names_misfit f.contents) };
 }
 
@@ -179,7 +184,8 @@ impl<C: Contents> Tlv<C> {
 
     /// How many bits the contents of the value have.
     pub(crate) fn contents_len(&self, value: &C::Value) -> Result<usize, TlvMisfit<C::Misfit>>
-        ensures measured { IfOk result (λ len. Measures (C.spells self.now.contents) (C.plain value.now) (Some len)) }
+        ensures measured { IfOk result (λ len. Measures (C.spells self.now.contents)
+            (C.plain value.now) (Some len)) }
         ensures misfit { IfErr result (TlvMisfitIs (C.spells self.now.contents)
             (C.is_misfit self.now.contents) (C.plain value.now)) }
     {
@@ -252,12 +258,15 @@ impl<C: Contents> Element for Tlv<C> {
 
     ghost reads_one = { λ f. tlv_reads_one f.tag (C.spells f.contents) (C.fills_one f.contents) };
 
-    ghost spells_one = { λ f. tlv_spells_one f.tag (C.spells f.contents) (C.spells_one f.contents) };
+    ghost spells_one = { λ f. tlv_spells_one f.tag (C.spells f.contents)
+        (C.spells_one f.contents) };
 
     ghost names_fault = { λ f.
-        tlv_names_fault f.tag (C.spells f.contents) (C.is_fault f.contents) (C.names_fault f.contents) };
+        tlv_names_fault f.tag (C.spells f.contents) (C.is_fault f.contents)
+        (C.names_fault f.contents) };
 
     ghost names_misfit = { λ f.
-        tlv_names_misfit f.tag (C.spells f.contents) (C.is_misfit f.contents) (C.spells_one f.contents)
+        tlv_names_misfit f.tag (C.spells f.contents) (C.is_misfit f.contents)
+        (C.spells_one f.contents)
         (C.names_misfit f.contents) };
 }
