@@ -37,26 +37,15 @@ impl Words {
     }
 }
 
-/// Whether so many bits from a place on lie in so many octets, where they end past `usize`.
-#[inline(never)]
-fn lie_far_within(place: usize, count: usize, octets: usize) -> bool
-    ensures { IsTrue result ↔ (place + count ≤ 8 * octets) }
-{
-    let whole = place / 8 + count / 8;
-    let rest = (place % 8 + count % 8).div_ceil(8);
-    whole + rest <= octets
-}
-
 /// Whether so many bits from a place on lie in so many octets. Octets are compared, since bits may
 /// pass `usize`.
 #[inline(always)]
 fn lie_within(place: usize, count: usize, octets: usize) -> bool
     ensures { IsTrue result ↔ (place + count ≤ 8 * octets) }
 {
-    match place.checked_add(count) {
-        Some(end) => end.div_ceil(8) <= octets,
-        None => lie_far_within(place, count, octets),
-    }
+    let whole = place / 8 + count / 8;
+    let rest = (place % 8 + count % 8).div_ceil(8);
+    whole + rest <= octets
 }
 
 /// The number of `width` bits, at most 64, from bit `position` of the octets on, the first of them
