@@ -24,14 +24,14 @@ static inline uint64_t nothing(size_t i)
 static inline uint64_t number(size_t i)
 {
     uint64_t value = 0;
-    asn1_read_u64(octets, sizeof octets, i % 8000, 13, &value);
+    asn1_read_u64(octets, sizeof octets, i & 4095, 13, &value);
     return value;
 }
 
 /* The same in C: that the bits are there is tested too. */
 static inline uint64_t number_in_c(size_t i)
 {
-    const size_t first = i % 8000;
+    const size_t first = i & 4095;
     if (first + 13 > 8 * sizeof octets)
         return 0;
     const uint8_t *at = octets + first / 8;
