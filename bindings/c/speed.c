@@ -1,6 +1,6 @@
 /* Times calls of the library from C: nanoseconds a call, the fastest of many rounds.
  *
- *     cc -std=c11 -O2 bindings/c/speed.c crates/asn1_c/out/libasn1_c.a -o /tmp/speed && /tmp/speed
+ *     cc -std=c11 -O2 bindings/c/speed.c crates/asn1_c/out/libasn1_c.a -o speed && ./speed
  *
  * Beside the calls for numbers stands the same work in C, in the loop itself: what is left is what a call costs beyond it. */
 #define _DEFAULT_SOURCE
