@@ -58,16 +58,16 @@ fn callers_stand_on_the_contracts(rt: HostRuntime) -> Result<(), Fail> {
     pushes_two(&mut buffer, 0b111, 0b0110)?;
     assert!(rt; buffer.len() < 100);
     leaves_room(&mut buffer)?;
-    assert_eq!(rt; buffer.as_bytes(), [0xEC, 0x50, 0x00].as_slice());
+    assert!(rt; buffer.as_bytes() == [0xEC, 0x50, 0x00].as_slice());
     let copy = to_bitstring(
         rt.alloc(),
         BitStr::new(&[0xF6, 0x94], 4, 8).ok_or("within")?,
     )?;
     assert!(rt; copy.len() % 8 == 0);
     let lent = lends_its_octets(rt.alloc(), &copy)?;
-    assert_eq!(rt; lent.as_ref(), [0x69].as_slice());
+    assert!(rt; lent.as_ref() == [0x69].as_slice());
     let mut reader = BitReader::from_octets(&[0xF6, 0x94, 0x02]);
     let two = reads_two(&mut reader).map_err(|_| "short")?;
-    assert_eq!(rt; two, (0b111, 0b1_0110_1001_0100_000));
+    assert!(rt; two == (0b111, 0b1_0110_1001_0100_000));
     Ok(())
 }

@@ -38,7 +38,7 @@ fn a_word_spills_into_the_ninth_octet(rt: HostRuntime) -> Result<(), Fail> {
     let mut octets = [0x80, 0, 0, 0, 0, 0, 0, 0, 0, 0x01];
     or_bits(&mut octets, 4, &[0xFF; 8], 64, &mut Turns::new());
     let wanted = [0x8F, 0xFF, 0xFF, 0xFF, 0xFF, 0xFF, 0xFF, 0xFF, 0xF0, 0x01];
-    assert_eq!(rt; octets.as_slice(), wanted.as_slice());
+    assert!(rt; octets.as_slice() == wanted.as_slice());
     Ok(())
 }
 
@@ -47,7 +47,7 @@ fn a_number_is_read_through_the_seventeenth_octet(rt: HostRuntime) -> Result<(),
     let mut octets = [0xFF; 17];
     octets[0] = 0x7F;
     octets[16] = 0x80;
-    assert_eq!(rt; read_wide(&octets, 1, 128), u128::MAX);
+    assert!(rt; read_wide(&octets, 1, 128) == u128::MAX);
     Ok(())
 }
 
@@ -69,11 +69,11 @@ fn calls(position: usize, count: usize) -> u64
 #[test]
 fn bits_are_placed_by_words(rt: HostRuntime) -> Result<(), Fail> {
     for position in [3, 8] {
-        assert_eq!(rt; calls(position, 63), 1);
-        assert_eq!(rt; calls(position, 127), 2);
-        assert_eq!(rt; calls(position, 640), 10);
-        assert_eq!(rt; calls(position, 64), 1);
-        assert_eq!(rt; calls(position, 0), 0);
+        assert!(rt; calls(position, 63) == 1);
+        assert!(rt; calls(position, 127) == 2);
+        assert!(rt; calls(position, 640) == 10);
+        assert!(rt; calls(position, 64) == 1);
+        assert!(rt; calls(position, 0) == 0);
     }
     Ok(())
 }

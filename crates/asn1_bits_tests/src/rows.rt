@@ -17,12 +17,12 @@ fn a_view_lies_within_its_octets(rt: HostRuntime) -> Result<(), Fail> {
     assert!(rt; BitStr::new(&[0xFF], 4, 5).is_none());
     assert!(rt; BitStr::new(&[], usize::MAX, 1).is_none());
     let view = BitStr::new(&[0xA5, 0x5A], 4, 8).ok_or("within")?;
-    assert_eq!(rt; view.len(), 8);
-    assert_eq!(rt; view.shift(), 4);
+    assert!(rt; view.len() == 8);
+    assert!(rt; view.shift() == 4);
     assert!(rt; !view.is_empty());
     assert!(rt; !view.get(0));
     assert!(rt; view.get(1));
-    assert_eq!(rt; BitStr::from_octets(&[1, 2]).len(), 16);
+    assert!(rt; BitStr::from_octets(&[1, 2]).len() == 16);
     Ok(())
 }
 
@@ -94,8 +94,8 @@ fn goes<R: Abort + AllocGlobal>(
 ) -> Result<(), Fail> {
     for (step, len, octets) in rows {
         take(rt.alloc(), buffer, step)?;
-        assert_eq!(rt; buffer.len(), *len);
-        assert_eq!(rt; buffer.as_bytes(), *octets);
+        assert!(rt; buffer.len() == *len);
+        assert!(rt; buffer.as_bytes() == *octets);
     }
     Ok(())
 }
@@ -110,7 +110,7 @@ fn a_buffer_appends_digits_and_octets(rt: HostRuntime) -> Result<(), Fail> {
     ];
     let mut buffer = BitBuffer::new(rt.alloc());
     goes(&rt, &mut buffer, &rows)?;
-    assert_eq!(rt; buffer.into_vec().as_slice(), [0xBF, 0xF4, 0xB0].as_slice());
+    assert!(rt; buffer.into_vec().as_slice() == [0xBF, 0xF4, 0xB0].as_slice());
     Ok(())
 }
 
@@ -126,9 +126,9 @@ fn a_wide_number_is_read_back_behind_seven_ones(rt: HostRuntime) -> Result<(), F
     ];
     goes(&rt, &mut BitBuffer::new(rt.alloc()), &rows)?;
     let mut reader = BitReader::new(view(&wanted, 7, 129)?);
-    assert_eq!(rt; first_number(&reader, 128)?, number);
-    assert_eq!(rt; split(&mut reader, 128)?.len(), 128);
-    assert_eq!(rt; reader.len(), 1);
+    assert!(rt; first_number(&reader, 128)? == number);
+    assert!(rt; split(&mut reader, 128)?.len() == 128);
+    assert!(rt; reader.len() == 1);
     Ok(())
 }
 
@@ -148,7 +148,7 @@ fn a_buffer_changes_single_bits(rt: HostRuntime) -> Result<(), Fail> {
 #[test]
 fn a_buffer_starts_empty_in_the_vector_that_it_is_given(rt: HostRuntime) -> Result<(), Fail> {
     let mut buffer = BitBuffer::from_vec([0xFF].to_vec(rt.alloc())?);
-    assert_eq!(rt; buffer.len(), 0);
+    assert!(rt; buffer.len() == 0);
     goes(&rt, &mut buffer, &[(Step::Push(0, 3), 3, &[0x00])])
 }
 
@@ -161,8 +161,8 @@ fn a_buffer_appends_views_and_buffers(rt: HostRuntime) -> Result<(), Fail> {
         (Step::View((&[0xFF], 0, 8)), 13, &[0xEF, 0xF8]),
     ];
     goes(&rt, &mut buffer, &rows)?;
-    assert_eq!(rt; buffer.clone()?.as_bytes(), [0xEF, 0xF8].as_slice());
-    assert_eq!(rt; BitBuffer::new(rt.alloc()).clone()?.len(), 0);
+    assert!(rt; buffer.clone()?.as_bytes() == [0xEF, 0xF8].as_slice());
+    assert!(rt; BitBuffer::new(rt.alloc()).clone()?.len() == 0);
     Ok(())
 }
 
@@ -189,12 +189,9 @@ fn fills<R: Abort + AllocGlobal>(
 ) -> Result<(), Fail> {
     let mut buffer = BitBuffer::new(rt.alloc());
     take(rt.alloc(), &mut buffer, &Step::Push(0b111, 3))?;
-    assert_eq!(rt;
-        append(rt.alloc(), &mut buffer, room, pieces)?.as_slice(),
-        rooms
-    );
-    assert_eq!(rt; buffer.len(), len);
-    assert_eq!(rt; buffer.as_bytes(), octets);
+    assert!(rt; append(rt.alloc(), &mut buffer, room, pieces)?.as_slice() == rooms);
+    assert!(rt; buffer.len() == len);
+    assert!(rt; buffer.as_bytes() == octets);
     Ok(())
 }
 
@@ -241,10 +238,10 @@ fn three_ones(alloc: Global) -> Result<BitString, Fail> {
 #[test]
 fn a_bit_string_keeps_a_front(rt: HostRuntime) -> Result<(), Fail> {
     let mut bits = three_ones(rt.alloc())?;
-    assert_eq!(rt; bits.as_raw_slice(), [0xE0].as_slice());
+    assert!(rt; bits.as_raw_slice() == [0xE0].as_slice());
     bits.truncate(9);
-    assert_eq!(rt; bits.as_raw_slice(), [0xE0].as_slice());
-    assert_eq!(rt; bits.len(), 3);
+    assert!(rt; bits.as_raw_slice() == [0xE0].as_slice());
+    assert!(rt; bits.len() == 3);
     assert!(rt; are_equal(bits.as_bitstr(), view(&[0xFF], 2, 3)?));
     Ok(())
 }
@@ -264,17 +261,17 @@ fn a_bit_string_is_copied(rt: HostRuntime) -> Result<(), Fail> {
     let copy = bits.clone()?;
     assert!(rt; copy == bits);
     assert!(rt; BitString::new(rt.alloc()) < copy);
-    assert_eq!(rt; copy.into_vec().as_slice(), [0xE0].as_slice());
+    assert!(rt; copy.into_vec().as_slice() == [0xE0].as_slice());
     Ok(())
 }
 
 #[test]
 fn a_bit_string_appends_a_view(rt: HostRuntime) -> Result<(), Fail> {
     let mut bits = string_of(rt.alloc(), (&[0xA0], 0, 3))?;
-    assert_eq!(rt; bits.len(), 3);
+    assert!(rt; bits.len() == 3);
     extend_string(&mut bits, (&[0x5A, 0x7F], 3, 8))?;
-    assert_eq!(rt; bits.len(), 11);
-    assert_eq!(rt; bits.as_raw_slice(), [0xBA, 0x60].as_slice());
+    assert!(rt; bits.len() == 11);
+    assert!(rt; bits.as_raw_slice() == [0xBA, 0x60].as_slice());
     Ok(())
 }
 
@@ -299,15 +296,15 @@ fn a_fixed_bit_string_holds_its_bits_alone(rt: HostRuntime) -> Result<(), Fail> 
 #[test]
 fn a_reader_splits_or_says_how_short_it_is(rt: HostRuntime) -> Result<(), Fail> {
     let mut reader = BitReader::from_octets(&[0xF6, 0x94]);
-    assert_eq!(rt; reader.split(21).err(), Some(5));
-    assert_eq!(rt; reader.len(), 16);
+    assert!(rt; reader.split(21).err() == Some(5));
+    assert!(rt; reader.len() == 16);
     assert!(rt; reader.first_bit());
-    assert_eq!(rt; reader.first_bits(4), 15);
+    assert!(rt; reader.first_bits(4) == 15);
     let front = split(&mut reader, 5)?;
-    assert_eq!(rt; front.len(), 5);
-    assert_eq!(rt; read_u128(front.bits()), 30);
-    assert_eq!(rt; reader.len(), 11);
-    assert_eq!(rt; first_number(&reader, 11)?, 0b110_1001_0100);
+    assert!(rt; front.len() == 5);
+    assert!(rt; read_u128(front.bits()) == 30);
+    assert!(rt; reader.len() == 11);
+    assert!(rt; first_number(&reader, 11)? == 0b110_1001_0100);
     assert!(rt; reader.aligned_octets().is_none());
     Ok(())
 }
@@ -318,13 +315,13 @@ fn a_reader_copies_octets_off_the_boundary_only(rt: HostRuntime) -> Result<(), F
     let mut reader = BitReader::from_octets(&octets);
     let lent = octets_left(rt.alloc(), &split(&mut reader, 8)?)?;
     assert!(rt; matches!(&lent, Octets::Borrowed(_)));
-    assert_eq!(rt; lent.as_ref(), [0xF6].as_slice());
+    assert!(rt; lent.as_ref() == [0xF6].as_slice());
     let _three = split(&mut reader, 3)?;
     let copied = octets_left(rt.alloc(), &split(&mut reader, 8)?)?;
     assert!(rt; matches!(&copied, Octets::Owned(_)));
-    assert_eq!(rt; copied.as_ref(), [0xA0].as_slice());
+    assert!(rt; copied.as_ref() == [0xA0].as_slice());
     let none = octets_left(rt.alloc(), &split(&mut reader, 0)?)?;
-    assert_eq!(rt; none.as_ref().len(), 0);
+    assert!(rt; none.as_ref().len() == 0);
     Ok(())
 }
 
@@ -332,15 +329,15 @@ fn a_reader_copies_octets_off_the_boundary_only(rt: HostRuntime) -> Result<(), F
 fn a_vector_takes_the_octets_of_a_view(rt: HostRuntime) -> Result<(), Fail> {
     let mut octets = [0xFF, 0x00].to_vec(rt.alloc())?;
     extend_octets(&mut octets, (&[0x5A, 0x7F], 3, 8))?;
-    assert_eq!(rt; octets.as_slice(), [0xFF, 0x00, 0xD3].as_slice());
+    assert!(rt; octets.as_slice() == [0xFF, 0x00, 0xD3].as_slice());
     Ok(())
 }
 
 #[test]
 fn numbers_are_read_at_any_bit(rt: HostRuntime) -> Result<(), Fail> {
-    assert_eq!(rt; read_bits(&[0x5A, 0x7F], 3, 8), 211);
-    assert_eq!(rt; range_from_len(0), 0);
-    assert_eq!(rt; range_from_len(8), 255);
-    assert_eq!(rt; range_from_len(126), 85070591730234615865843651857942052863);
+    assert!(rt; read_bits(&[0x5A, 0x7F], 3, 8) == 211);
+    assert!(rt; range_from_len(0) == 0);
+    assert!(rt; range_from_len(8) == 255);
+    assert!(rt; range_from_len(126) == 85070591730234615865843651857942052863);
     Ok(())
 }

@@ -1,7 +1,7 @@
 //! BIT STRING.
 
-use super::calls::{found, written};
-use asn1_formats::{BitString, InBitString, Refusal, Size, SizeFault, SizeMisfit, WriteRefusal};
+use super::calls::{found, is_misfit, is_refused, is_written};
+use asn1_formats::{BitString, InBitString, Size, SizeFault, SizeMisfit};
 use asn1_values::{BitReader, to_bitstring};
 use std::alloc::Global;
 use std::test::Fail;
@@ -26,32 +26,56 @@ fn bits(alloc: Global, octet: u8, len: usize) -> Result<asn1_values::BitString, 
 #[test]
 fn bits_stand_behind_their_number(rt: HostRuntime) -> Result<(), Fail> {
     // 111 | 100 | 10110
-    let buffer = written(&format(), rt.alloc(), &bits(rt.alloc(), 0xB0, 5)?)?;
-    assert_eq!(rt; buffer.len(), 11);
-    assert_eq!(rt; buffer.as_bytes(), [0xF2, 0xC0].as_slice());
+    assert!(rt;
+        is_written(
+            &format(),
+            rt.alloc(),
+            &bits(rt.alloc(), 0xB0, 5)?,
+            &[0xF2, 0xC0],
+            11
+        )
+    );
     let (read, left) = found(&format(), rt.alloc(), &[0xF2, 0xC0], 3)?;
-    assert_eq!(rt; read, bits(rt.alloc(), 0xB0, 5)?);
-    assert_eq!(rt; left, 5);
+    assert!(rt; read == bits(rt.alloc(), 0xB0, 5)?);
+    assert!(rt; left == 5);
     Ok(())
 }
 
 #[test]
 fn a_bit_string_is_refused_by_its_number_or_its_bits(rt: HostRuntime) -> Result<(), Fail> {
-    assert_eq!(rt;
-        found(&format(), rt.alloc(), &[0xF2], 3).err(),
-        Some(Refusal::Wrong(InBitString::Short { missing: 3 }))
+    assert!(rt;
+        is_refused(
+            &format(),
+            rt.alloc(),
+            &[0xF2],
+            3,
+            InBitString::Short { missing: 3 }
+        )
     );
-    assert_eq!(rt;
-        found(&format(), rt.alloc(), &[0xFC], 3).err(),
-        Some(Refusal::Wrong(InBitString::Size(SizeFault::PastMost { distance: 7 })))
+    assert!(rt;
+        is_refused(
+            &format(),
+            rt.alloc(),
+            &[0xFC],
+            3,
+            InBitString::Size(SizeFault::PastMost { distance: 7 })
+        )
     );
-    assert_eq!(rt;
-        written(&format(), rt.alloc(), &bits(rt.alloc(), 0, 0)?).err(),
-        Some(WriteRefusal::Wrong(SizeMisfit::BelowLeast))
+    assert!(rt;
+        is_misfit(
+            &format(),
+            rt.alloc(),
+            &bits(rt.alloc(), 0, 0)?,
+            SizeMisfit::BelowLeast
+        )
     );
-    assert_eq!(rt;
-        written(&format(), rt.alloc(), &bits(rt.alloc(), 0, 8)?).err(),
-        Some(WriteRefusal::Wrong(SizeMisfit::AboveMost))
+    assert!(rt;
+        is_misfit(
+            &format(),
+            rt.alloc(),
+            &bits(rt.alloc(), 0, 8)?,
+            SizeMisfit::AboveMost
+        )
     );
     Ok(())
 }

@@ -2,11 +2,8 @@
 
 ghost use Rattle.std.specs.Prelude.{cond, ltb};
 
-use super::calls::{found, written};
-use asn1_formats::{
-    Chooses, ConstrainedNumber, Dependent, InThen, Refusal, Size, SizeFault, SizeMisfit,
-    WriteRefusal,
-};
+use super::calls::{is_found, is_misfit, is_refused, is_written};
+use asn1_formats::{Chooses, ConstrainedNumber, Dependent, InThen, Size, SizeFault, SizeMisfit};
 use std::test::Fail;
 
 /// The numbers of version 0, and those of the versions from 1 on.
@@ -40,37 +37,40 @@ fn format() -> Dependent<Size, ByVersion> {
 #[test]
 fn the_number_in_front_chooses_the_format(rt: HostRuntime) -> Result<(), Fail> {
     // 111 | 00 | 1001
-    let buffer = written(&format(), rt.alloc(), &(0, 9))?;
-    assert_eq!(rt; buffer.len(), 9);
-    assert_eq!(rt; buffer.as_bytes(), [0xE4, 0x80].as_slice());
-    assert_eq!(rt;
-        found(&format(), rt.alloc(), &[0xE4, 0x80], 3)?,
-        ((0, 9), 7)
-    );
+    assert!(rt; is_written(&format(), rt.alloc(), &(0, 9), &[0xE4, 0x80], 9));
+    assert!(rt; is_found(&format(), rt.alloc(), &[0xE4, 0x80], 3, (0, 9), 7));
     // 111 | 10 | 1000001: 1 lies 65 above -64
-    let buffer = written(&format(), rt.alloc(), &(2, 1))?;
-    assert_eq!(rt; buffer.len(), 12);
-    assert_eq!(rt; buffer.as_bytes(), [0xF4, 0x10].as_slice());
-    assert_eq!(rt;
-        found(&format(), rt.alloc(), &[0xF4, 0x10], 3)?,
-        ((2, 1), 4)
-    );
+    assert!(rt; is_written(&format(), rt.alloc(), &(2, 1), &[0xF4, 0x10], 12));
+    assert!(rt; is_found(&format(), rt.alloc(), &[0xF4, 0x10], 3, (2, 1), 4));
     Ok(())
 }
 
 #[test]
 fn what_is_wrong_is_named_by_the_format_that_was_chosen(rt: HostRuntime) -> Result<(), Fail> {
-    assert_eq!(rt;
-        written(&format(), rt.alloc(), &(0, -1)).err(),
-        Some(WriteRefusal::Wrong(InThen::Second(SizeMisfit::BelowLeast)))
+    assert!(rt;
+        is_misfit(
+            &format(),
+            rt.alloc(),
+            &(0, -1),
+            InThen::Second(SizeMisfit::BelowLeast)
+        )
     );
-    assert_eq!(rt;
-        written(&format(), rt.alloc(), &(4, -1)).err(),
-        Some(WriteRefusal::Wrong(InThen::First(SizeMisfit::AboveMost)))
+    assert!(rt;
+        is_misfit(
+            &format(),
+            rt.alloc(),
+            &(4, -1),
+            InThen::First(SizeMisfit::AboveMost)
+        )
     );
-    assert_eq!(rt;
-        found(&format(), rt.alloc(), &[0xF4], 3).err(),
-        Some(Refusal::Wrong(InThen::Second(SizeFault::Short { missing: 4 })))
+    assert!(rt;
+        is_refused(
+            &format(),
+            rt.alloc(),
+            &[0xF4],
+            3,
+            InThen::Second(SizeFault::Short { missing: 4 })
+        )
     );
     Ok(())
 }

@@ -1,9 +1,9 @@
 //! DEFAULT: octets worked by hand behind three ones.
 
-use super::calls::{found, written};
+use super::calls::{found, is_found, is_misfit, is_refused, is_written, written};
 use asn1_formats::{
-    And, BasicDefault, Boolean, CanonicalDefault, InDefault, InSequence, InThen, Refusal, Required,
-    Sequence, Size, SizeMisfit, Then, WriteRefusal,
+    And, BasicDefault, Boolean, CanonicalDefault, InDefault, InSequence, InThen, Required,
+    Sequence, Size, SizeMisfit, Then,
 };
 use asn1_values::BitBuffer;
 use std::alloc::Global;
@@ -38,43 +38,39 @@ fn basic() -> Sequence<And<BasicDefault<Size>, Required<Boolean>>> {
 #[test]
 fn a_default_is_not_written(rt: HostRuntime) -> Result<(), Fail> {
     // 111 | 0 | 1
-    let buffer = written(&canonical(), rt.alloc(), &(5, true))?;
-    assert_eq!(rt; buffer.len(), 5);
-    assert_eq!(rt; buffer.as_bytes(), [0xE8].as_slice());
-    let buffer = written(&basic(), rt.alloc(), &(5, true))?;
-    assert_eq!(rt; buffer.len(), 5);
-    assert_eq!(rt; buffer.as_bytes(), [0xE8].as_slice());
+    assert!(rt; is_written(&canonical(), rt.alloc(), &(5, true), &[0xE8], 5));
+    assert!(rt; is_written(&basic(), rt.alloc(), &(5, true), &[0xE8], 5));
     // 111 | 1 | 011 | 1
     let buffer = written(&canonical(), rt.alloc(), &(3, true))?;
-    assert_eq!(rt; buffer.as_bytes(), [0xF7].as_slice());
-    assert_eq!(rt;
-        written(&canonical(), rt.alloc(), &(8, true)).err(),
-        Some(WriteRefusal::Wrong(InThen::First(SizeMisfit::AboveMost)))
+    assert!(rt; buffer.as_bytes() == [0xF7].as_slice());
+    assert!(rt;
+        is_misfit(
+            &canonical(),
+            rt.alloc(),
+            &(8, true),
+            InThen::First(SizeMisfit::AboveMost)
+        )
     );
     Ok(())
 }
 
 #[test]
 fn a_default_that_is_written_is_read_by_basic_per_alone(rt: HostRuntime) -> Result<(), Fail> {
-    assert_eq!(rt;
-        found(&canonical(), rt.alloc(), &[0xE8], 3)?,
-        ((5, true), 3)
-    );
-    assert_eq!(rt;
-        found(&canonical(), rt.alloc(), &[0xF7], 3)?,
-        ((3, true), 0)
-    );
+    assert!(rt; is_found(&canonical(), rt.alloc(), &[0xE8], 3, (5, true), 3));
+    assert!(rt; is_found(&canonical(), rt.alloc(), &[0xF7], 3, (3, true), 0));
     // 111 | 1 | 101 | 1
-    assert_eq!(rt;
-        found(&canonical(), rt.alloc(), &[0xFB], 3).err(),
-        Some(Refusal::Wrong(InSequence::Component(InThen::First(InDefault::Written))))
+    assert!(rt;
+        is_refused(
+            &canonical(),
+            rt.alloc(),
+            &[0xFB],
+            3,
+            InSequence::Component(InThen::First(InDefault::Written))
+        )
     );
-    assert_eq!(rt; found(&basic(), rt.alloc(), &[0xFB], 3)?, ((5, true), 0));
-    assert_eq!(rt; found(&basic(), rt.alloc(), &[0xE8], 3)?, ((5, true), 3));
-    assert_eq!(rt;
-        found(&canonical(), rt.alloc(), &[0xE8], 8).err(),
-        Some(Refusal::Wrong(InSequence::Presence))
-    );
+    assert!(rt; is_found(&basic(), rt.alloc(), &[0xFB], 3, (5, true), 0));
+    assert!(rt; is_found(&basic(), rt.alloc(), &[0xE8], 3, (5, true), 3));
+    assert!(rt; is_refused(&canonical(), rt.alloc(), &[0xE8], 8, InSequence::Presence));
     Ok(())
 }
 
@@ -106,14 +102,14 @@ fn range_found(alloc: Global, octets: &[u8]) -> Option<((u64, bool), usize)> {
 fn a_default_may_have_several_parts(rt: HostRuntime) -> Result<(), Fail> {
     // 111 | 0
     let buffer = range_bits(rt.alloc(), (5, true)).ok_or("written")?;
-    assert_eq!(rt; buffer.len(), 4);
-    assert_eq!(rt; buffer.as_bytes(), [0xE0].as_slice());
-    assert_eq!(rt; range_found(rt.alloc(), &[0xE0]), Some(((5, true), 4)));
+    assert!(rt; buffer.len() == 4);
+    assert!(rt; buffer.as_bytes() == [0xE0].as_slice());
+    assert!(rt; range_found(rt.alloc(), &[0xE0]) == Some(((5, true), 4)));
     // 111 | 1 | 101 | 0
     let buffer = range_bits(rt.alloc(), (5, false)).ok_or("written")?;
-    assert_eq!(rt; buffer.as_bytes(), [0xFA].as_slice());
-    assert_eq!(rt; range_found(rt.alloc(), &[0xFA]), Some(((5, false), 0)));
+    assert!(rt; buffer.as_bytes() == [0xFA].as_slice());
+    assert!(rt; range_found(rt.alloc(), &[0xFA]) == Some(((5, false), 0)));
     // The default value is written.
-    assert_eq!(rt; range_found(rt.alloc(), &[0xFB]), None);
+    assert!(rt; range_found(rt.alloc(), &[0xFB]) == None);
     Ok(())
 }

@@ -1,9 +1,9 @@
 //! DEFAULT {}: octets worked by hand behind three ones.
 
-use super::calls::{found, written};
+use super::calls::{found, is_misfit, is_written, written};
 use asn1_formats::{
     And, BasicEmpty, Boolean, CanonicalEmpty, InNamed, InSequenceOf, InThen, Named, Required,
-    Sequence, SequenceOf, Size, SizeMisfit, WriteRefusal,
+    Sequence, SequenceOf, Size, SizeMisfit,
 };
 use std::test::Fail;
 
@@ -43,21 +43,22 @@ fn basic() -> Sequence<And<BasicEmpty<Size, Boolean>, Required<Boolean>>> {
 fn an_empty_list_is_not_written(rt: HostRuntime) -> Result<(), Fail> {
     let none = (Vec::new(rt.alloc()), true);
     // 111 | 0 | 1
-    let buffer = written(&canonical(), rt.alloc(), &none)?;
-    assert_eq!(rt; (buffer.len(), buffer.as_bytes()), (5, [0xE8].as_slice()));
-    let buffer = written(&basic(), rt.alloc(), &none)?;
-    assert_eq!(rt; (buffer.len(), buffer.as_bytes()), (5, [0xE8].as_slice()));
+    assert!(rt; is_written(&canonical(), rt.alloc(), &none, &[0xE8], 5));
+    assert!(rt; is_written(&basic(), rt.alloc(), &none, &[0xE8], 5));
     // 111 | 1 | 01 | 1 | 0
     let one = (vec![in rt.alloc(); true]?, false);
-    let buffer = written(&canonical(), rt.alloc(), &one)?;
-    assert_eq!(rt; (buffer.len(), buffer.as_bytes()), (8, [0xF6].as_slice()));
+    assert!(rt; is_written(&canonical(), rt.alloc(), &one, &[0xF6], 8));
     let four = (vec![in rt.alloc(); true, true, true, true]?, false);
-    assert_eq!(rt;
-        written(&canonical(), rt.alloc(), &four).err(),
-        Some(WriteRefusal::Wrong(InThen::First(InNamed {
-            name: "marks",
-            wrong: InSequenceOf::Size(SizeMisfit::AboveMost)
-        })))
+    assert!(rt;
+        is_misfit(
+            &canonical(),
+            rt.alloc(),
+            &four,
+            InThen::First(InNamed {
+                name: "marks",
+                wrong: InSequenceOf::Size(SizeMisfit::AboveMost)
+            })
+        )
     );
     Ok(())
 }
@@ -65,21 +66,18 @@ fn an_empty_list_is_not_written(rt: HostRuntime) -> Result<(), Fail> {
 #[test]
 fn an_empty_list_that_is_written_is_read_by_basic_per_alone(rt: HostRuntime) -> Result<(), Fail> {
     let ((marks, flag), left) = found(&canonical(), rt.alloc(), &[0xE8], 3)?;
-    assert_eq!(rt; (marks.len(), flag, left), (0, true, 3));
+    assert!(rt; (marks.len(), flag, left) == (0, true, 3));
     let ((marks, flag), left) = found(&canonical(), rt.alloc(), &[0xF6], 3)?;
-    assert_eq!(rt;
-        (marks.as_slice(), flag, left),
-        ([true].as_slice(), false, 0)
-    );
+    assert!(rt; (marks.as_slice(), flag, left) == ([true].as_slice(), false, 0));
     // 111 | 1 | 00 | 1
     let said = match found(&canonical(), rt.alloc(), &[0xF2], 3).err() {
         Some(wrong) => format!(in rt.alloc(); "{wrong}")?,
         None => return Err("an empty list was read".into()),
     };
-    assert_eq!(rt; said.as_str(), "marks: the default value is written");
+    assert!(rt; said.as_str() == "marks: the default value is written");
     let ((marks, flag), left) = found(&basic(), rt.alloc(), &[0xF2], 3)?;
-    assert_eq!(rt; (marks.len(), flag, left), (0, true, 1));
+    assert!(rt; (marks.len(), flag, left) == (0, true, 1));
     let ((marks, flag), left) = found(&basic(), rt.alloc(), &[0xE8], 3)?;
-    assert_eq!(rt; (marks.len(), flag, left), (0, true, 3));
+    assert!(rt; (marks.len(), flag, left) == (0, true, 3));
     Ok(())
 }

@@ -1,9 +1,8 @@
 //! Known-multiplier strings, several codes at a time.
 
-use super::calls::{found, written};
+use super::calls::{found, is_misfit, is_refused, written};
 use asn1_formats::{
-    Character, CharacterFault, InSequenceOf, KnownMultiplierString, NotInAlphabet, Refusal,
-    SequenceOf, Size, WriteRefusal,
+    Character, CharacterFault, InSequenceOf, KnownMultiplierString, NotInAlphabet, SequenceOf, Size,
 };
 use asn1_values::{CharacterAlphabet, StaticPermittedAlphabet, VisibleString};
 use std::alloc::{AllocError, Global};
@@ -42,38 +41,49 @@ fn the_date_of_the_standard(rt: HostRuntime) -> Result<(), Fail> {
     let digits = text(rt.alloc(), b"19710917")?;
     let buffer = written(&date()?, rt.alloc(), &digits)?;
     // 111 behind which 19 71 09 17 stand.
-    assert_eq!(rt;
-        buffer.as_bytes(),
-        [0xE3, 0x2E, 0x21, 0x22, 0xE0].as_slice()
-    );
+    assert!(rt; buffer.as_bytes() == [0xE3, 0x2E, 0x21, 0x22, 0xE0].as_slice());
     let (read, left) = found(&date()?, rt.alloc(), &[0x19, 0x71, 0x09, 0x17], 0)?;
-    assert_eq!(rt; left, 0);
-    assert_eq!(rt; read.as_slice(), digits.as_slice());
+    assert!(rt; left == 0);
+    assert!(rt; read.as_slice() == digits.as_slice());
     Ok(())
 }
 
 #[test]
 fn other_digits_are_refused_by_their_place(rt: HostRuntime) -> Result<(), Fail> {
-    assert_eq!(rt;
-        written(&date()?, rt.alloc(), &text(rt.alloc(), b"197A0917")?).err(),
-        Some(WriteRefusal::Wrong(InSequenceOf::Item {
-            index: 3,
-            wrong: NotInAlphabet { character: 65 }
-        }))
+    assert!(rt;
+        is_misfit(
+            &date()?,
+            rt.alloc(),
+            &text(rt.alloc(), b"197A0917")?,
+            InSequenceOf::Item {
+                index: 3,
+                wrong: NotInAlphabet { character: 65 }
+            }
+        )
     );
-    assert_eq!(rt;
-        found(&date()?, rt.alloc(), &[0x19, 0x7B, 0x09, 0x17], 0).err(),
-        Some(Refusal::Wrong(InSequenceOf::Item {
-            index: 3,
-            wrong: CharacterFault::NoCharacter { code: 11 }
-        }))
+    assert!(rt;
+        is_refused(
+            &date()?,
+            rt.alloc(),
+            &[0x19, 0x7B, 0x09, 0x17],
+            0,
+            InSequenceOf::Item {
+                index: 3,
+                wrong: CharacterFault::NoCharacter { code: 11 }
+            }
+        )
     );
-    assert_eq!(rt;
-        found(&date()?, rt.alloc(), &[0x19, 0x71, 0x09], 0).err(),
-        Some(Refusal::Wrong(InSequenceOf::Item {
-            index: 6,
-            wrong: CharacterFault::Short { missing: 4 }
-        }))
+    assert!(rt;
+        is_refused(
+            &date()?,
+            rt.alloc(),
+            &[0x19, 0x71, 0x09],
+            0,
+            InSequenceOf::Item {
+                index: 6,
+                wrong: CharacterFault::Short { missing: 4 }
+            }
+        )
     );
     Ok(())
 }
@@ -93,9 +103,9 @@ fn long_strings_have_the_bits_of_a_list_of_characters(rt: HostRuntime) -> Result
             characters.push(32 + place as u32 % 95)?;
         }
         let buffer = written(&string, rt.alloc(), &characters)?;
-        assert_eq!(rt; buffer, written(&list, rt.alloc(), &characters)?);
+        assert!(rt; buffer == written(&list, rt.alloc(), &characters)?);
         let (read, _) = found(&string, rt.alloc(), buffer.as_bytes(), 3)?;
-        assert_eq!(rt; read.as_slice(), characters.as_slice());
+        assert!(rt; read.as_slice() == characters.as_slice());
     }
     Ok(())
 }

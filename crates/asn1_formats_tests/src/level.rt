@@ -74,18 +74,18 @@ mod tests {
         let format = level_format();
         // 111 | 0 | 1
         let buffer = written(&format, rt.alloc(), &Level::new(1, true))?;
-        assert_eq!(rt; buffer.as_bytes(), [0xE8].as_slice());
+        assert!(rt; buffer.as_bytes() == [0xE8].as_slice());
         // 111 | 1 | 001 | 0
         let buffer = written(&format, rt.alloc(), &Level::new(-2, false))?;
-        assert_eq!(rt; buffer.as_bytes(), [0xF2].as_slice());
+        assert!(rt; buffer.as_bytes() == [0xF2].as_slice());
         let (level, left) = found(&format, rt.alloc(), &[0xF2], 3)?;
-        assert_eq!(rt; (level.level(), level.flag(), left), (-2, false, 0));
+        assert!(rt; (level.level(), level.flag(), left) == (-2, false, 0));
         // 111 | 1 | 100 | 1: the default, written
         let (level, left) = found(&format, rt.alloc(), &[0xF9], 3)?;
-        assert_eq!(rt; (level.level(), level.flag(), left), (1, true, 0));
-        assert_eq!(rt;
-            written(&format, rt.alloc(), &Level::new(5, true)).err(),
-            Some(WriteRefusal::Wrong(InThen::First(SizeMisfit::AboveMost)))
+        assert!(rt; (level.level(), level.flag(), left) == (1, true, 0));
+        assert!(rt;
+            written(&format, rt.alloc(), &Level::new(5, true)).err()
+                == Some(WriteRefusal::Wrong(InThen::First(SizeMisfit::AboveMost)))
         );
         Ok(())
     }

@@ -57,19 +57,19 @@ mod tests {
         let format = drawing_format();
         let buffer = written(&format, rt.alloc(), &(1, (Some(true), None)))?;
         // 111 | 10 | 01 | 1
-        assert_eq!(rt; buffer.as_bytes(), [0xF3].as_slice());
+        assert!(rt; buffer.as_bytes() == [0xF3].as_slice());
         let line = vec![in rt.alloc(); (-100, 100), (0, 1)]?;
         let buffer = written(&format, rt.alloc(), &(2, (Some(false), Some(line))))?;
         // 111 | 11 | 10 | 0 | 000 | 00000000 11001000 | 01100100 01100101
         let octets = [0xFC, 0x00, 0x19, 0x0C, 0x8C, 0xA0];
-        assert_eq!(rt; buffer.as_bytes(), octets.as_slice());
-        assert_eq!(rt; buffer.len(), 43);
+        assert!(rt; buffer.as_bytes() == octets.as_slice());
+        assert!(rt; buffer.len() == 43);
         let ((kind, (flag, line)), left) = found(&format, rt.alloc(), &octets, 3)?;
-        assert_eq!(rt; left, 5);
-        assert_eq!(rt; kind, 2);
-        assert_eq!(rt; flag, Some(false));
+        assert!(rt; left == 5);
+        assert!(rt; kind == 2);
+        assert!(rt; flag == Some(false));
         let line = line.ok_or("a line")?;
-        assert_eq!(rt; line.as_slice(), [(-100, 100), (0, 1)].as_slice());
+        assert!(rt; line.as_slice() == [(-100, 100), (0, 1)].as_slice());
         Ok(())
     }
 }

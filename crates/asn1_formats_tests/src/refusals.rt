@@ -103,16 +103,16 @@ fn a_message_is_written(rt: HostRuntime) -> Result<(), Fail> {
         match append(&format, &mut buffer, &values) {
             Ok(()) => {}
             Err(WriteRefusal::Memory) => {
-                assert_eq!(rt; buffer.len(), 3 + 60 * count);
+                assert!(rt; buffer.len() == 3 + 60 * count);
                 return met(&rt, "write");
             }
             Err(_) => return Err("the values are right".into()),
         }
         if count == 0 {
-            assert_eq!(rt; buffer.as_bytes(), MESSAGE.as_slice());
+            assert!(rt; buffer.as_bytes() == MESSAGE.as_slice());
         }
     }
-    assert_eq!(rt; buffer.len(), 723);
+    assert!(rt; buffer.len() == 723);
     Ok(())
 }
 
@@ -123,13 +123,12 @@ fn a_message_is_read(rt: HostRuntime) -> Result<(), Fail> {
     let mut reader = BitReader::new(view);
     match take(&format, rt.alloc(), &mut reader) {
         Ok((text, (octets, flags))) => {
-            assert_eq!(rt;
-                text.ok_or("there")?.as_slice(),
-                [0x31, 0x32, 0x33, 0x34, 0x35].as_slice()
+            assert!(rt;
+                text.ok_or("there")?.as_slice() == [0x31, 0x32, 0x33, 0x34, 0x35].as_slice()
             );
-            assert_eq!(rt; octets.as_slice(), [0xA5, 0xA5, 0xA5].as_slice());
-            assert_eq!(rt; flags.as_slice(), [(true, false), (true, true)].as_slice());
-            assert_eq!(rt; reader.len(), 1);
+            assert!(rt; octets.as_slice() == [0xA5, 0xA5, 0xA5].as_slice());
+            assert!(rt; flags.as_slice() == [(true, false), (true, true)].as_slice());
+            assert!(rt; reader.len() == 1);
             Ok(())
         }
         Err(Refusal::Memory) => {
@@ -148,9 +147,8 @@ fn a_wrong_part_keeps_its_name(rt: HostRuntime) -> Result<(), Fail> {
     let mut reader = BitReader::new(view);
     let refused = take(&format, rt.alloc(), &mut reader).err();
     let short = InOctetString::<SizeFault>::Short { missing: 12 };
-    assert_eq!(rt;
-        refused,
-        Some(Refusal::Wrong(InSequence::Component(InThen::Second(InThen::First(short)))))
+    assert!(rt;
+        refused == Some(Refusal::Wrong(InSequence::Component(InThen::Second(InThen::First(short)))))
     );
     assert!(rt; reader.bits() == view);
     Ok(())

@@ -21,13 +21,13 @@ fn there_and_back<R: Abort + AllocGlobal>(
     }];
     let mut buffer = BitBuffer::new(rt.alloc());
     write_fields(&mut buffer, &fields)?;
-    assert_eq!(rt; buffer.len(), alphabet.width());
-    assert_eq!(rt; buffer.as_bytes(), octets);
+    assert!(rt; buffer.len() == alphabet.width());
+    assert!(rt; buffer.as_bytes() == octets);
     let view = BitStr::new(buffer.as_bytes(), 0, buffer.len()).ok_or("within")?;
     let mut reader = BitReader::new(view);
     let read = read_fields(rt.alloc(), &mut reader, &[Shape::Character { alphabet }])?;
     assert!(rt; all_same(read.as_slice(), &fields));
-    assert_eq!(rt; reader.len(), 0);
+    assert!(rt; reader.len() == 0);
     Ok(())
 }
 
@@ -74,7 +74,7 @@ fn characters_are_written_in_their_alphabets(rt: HostRuntime) -> Result<(), Fail
     there_and_back(&rt, three, 97, &[0x40])?;
     there_and_back(&rt, three, 109, &[0x80])?;
     let wanted = ReadError::Character { field: 0, code: 3 };
-    assert_eq!(rt; refused_in_reading(&rt, three, 0xC0), Some(wanted));
+    assert!(rt; refused_in_reading(&rt, three, 0xC0) == Some(wanted));
     let zero = [0];
     let zero = CharacterAlphabet::new::<Ia5String>(Some(&zero), false);
     there_and_back(&rt, zero, 0, &[])?;
@@ -100,13 +100,13 @@ fn no_character_is_in_an_empty_alphabet(rt: HostRuntime) -> Result<(), Fail> {
         field: 1,
         character: 99,
     };
-    assert_eq!(rt; refused, Some(wanted));
-    assert_eq!(rt; buffer.len(), 0);
+    assert!(rt; refused == Some(wanted));
+    assert!(rt; buffer.len() == 0);
     let shapes = [Shape::Number { width: 1 }, Shape::Character { alphabet }];
     let mut reader = BitReader::from_octets(&[0]);
     let refused = read_fields(rt.alloc(), &mut reader, &shapes).err();
-    assert_eq!(rt; refused, Some(ReadError::Character { field: 1, code: 0 }));
-    assert_eq!(rt; reader.len(), 8);
+    assert!(rt; refused == Some(ReadError::Character { field: 1, code: 0 }));
+    assert!(rt; reader.len() == 8);
     Ok(())
 }
 
@@ -135,16 +135,13 @@ fn what_was_pushed_before_a_wrong_character_is_taken_back(rt: HostRuntime) -> Re
         field: 2,
         character: 120,
     };
-    assert_eq!(rt; write_fields(&mut buffer, &fields).err(), Some(wanted));
-    assert_eq!(rt; write_fields(&mut buffer, &fields[..3]).err(), Some(wanted));
-    assert_eq!(rt; buffer.len(), 3);
-    assert_eq!(rt; buffer.as_bytes(), [0xA0].as_slice());
+    assert!(rt; write_fields(&mut buffer, &fields).err() == Some(wanted));
+    assert!(rt; write_fields(&mut buffer, &fields[..3]).err() == Some(wanted));
+    assert!(rt; buffer.len() == 3);
+    assert!(rt; buffer.as_bytes() == [0xA0].as_slice());
     write_fields(&mut buffer, &fields[..2])?;
-    assert_eq!(rt; buffer.len(), 39);
-    assert_eq!(rt;
-        buffer.as_bytes(),
-        [0xBF, 0xFF, 0xFF, 0xFF, 0xF0].as_slice()
-    );
+    assert!(rt; buffer.len() == 39);
+    assert!(rt; buffer.as_bytes() == [0xBF, 0xFF, 0xFF, 0xFF, 0xF0].as_slice());
     Ok(())
 }
 
@@ -157,16 +154,16 @@ fn long_alphabets_go_by_place(rt: HostRuntime) -> Result<(), Fail> {
         falling[i] = 0x140 - i as u32;
     }
     let up = CharacterAlphabet::new::<BmpString>(Some(&rising), false);
-    assert_eq!(rt; up.width(), 7);
+    assert!(rt; up.width() == 7);
     there_and_back(&rt, up, 0x140, &[0x80])?;
     there_and_back(&rt, up, 0x100, &[0x00])?;
     let wanted = WriteError::Character {
         field: 0,
         character: 321,
     };
-    assert_eq!(rt; refused_in_writing(&rt, up, 0x141), Some(wanted));
+    assert!(rt; refused_in_writing(&rt, up, 0x141) == Some(wanted));
     let wanted = ReadError::Character { field: 0, code: 65 };
-    assert_eq!(rt; refused_in_reading(&rt, up, 0x82), Some(wanted));
+    assert!(rt; refused_in_reading(&rt, up, 0x82) == Some(wanted));
     let down = CharacterAlphabet::new::<BmpString>(Some(&falling), false);
     there_and_back(&rt, down, 0x140, &[0x00])?;
     let two = [0xFE, 0xFF];
@@ -185,7 +182,7 @@ fn a_repeated_character_is_read_from_each_of_its_codes(rt: HostRuntime) -> Resul
     }];
     let mut buffer = BitBuffer::new(rt.alloc());
     write_fields(&mut buffer, &fields)?;
-    assert_eq!(rt; buffer.len(), 1);
+    assert!(rt; buffer.len() == 1);
     for octets in [[0x00], [0x80]] {
         let view = BitStr::new(&octets, 0, 1).ok_or("within")?;
         let shapes = [Shape::Character { alphabet }];
@@ -205,8 +202,8 @@ fn characters_outside_the_base_set_are_refused(rt: HostRuntime) -> Result<(), Fa
         field: 0,
         character: 120,
     };
-    assert_eq!(rt; refused_in_writing(&rt, numeric, 120), Some(wanted));
+    assert!(rt; refused_in_writing(&rt, numeric, 120) == Some(wanted));
     let wanted = ReadError::Character { field: 0, code: 11 };
-    assert_eq!(rt; refused_in_reading(&rt, numeric, 0xB0), Some(wanted));
+    assert!(rt; refused_in_reading(&rt, numeric, 0xB0) == Some(wanted));
     Ok(())
 }

@@ -35,11 +35,11 @@ fn they_are_written_behind_their_number_of_octets(rt: HostRuntime) -> Result<(),
         let fields = counted(rt.alloc(), octets)?;
         let mut buffer = BitBuffer::new(rt.alloc());
         write_fields(&mut buffer, &fields)?;
-        assert_eq!(rt; buffer.as_bytes(), written);
+        assert!(rt; buffer.as_bytes() == written);
         let mut reader = BitReader::new(BitStr::new(written, 0, buffer.len()).ok_or("there")?);
         let read = read_fields(rt.alloc(), &mut reader, &[Shape::CountedInteger])?;
         assert!(rt; all_same(&fields, read.as_slice()));
-        assert_eq!(rt; reader.len(), 0);
+        assert!(rt; reader.len() == 0);
     }
     Ok(())
 }
@@ -50,13 +50,13 @@ fn at_most_127_octets_are_written(rt: HostRuntime) -> Result<(), Fail> {
     let most = long(rt.alloc(), &[0x7F], 0xFF, 126)?;
     write_fields(&mut buffer, &counted(rt.alloc(), most.as_slice())?)?;
     let written = long(rt.alloc(), &[0x7F, 0x7F], 0xFF, 126)?;
-    assert_eq!(rt; buffer.as_bytes(), written.as_slice());
-    assert_eq!(rt; refused(rt.alloc(), buffer.as_bytes())?, None);
+    assert!(rt; buffer.as_bytes() == written.as_slice());
+    assert!(rt; refused(rt.alloc(), buffer.as_bytes())? == None);
 
     let more = long(rt.alloc(), &[0x00, 0x80], 0x00, 126)?;
     let error = write_fields(&mut buffer, &counted(rt.alloc(), more.as_slice())?).err();
-    assert_eq!(rt; error, Some(WriteError::IntegerLength { field: 0 }));
-    assert_eq!(rt; buffer.as_bytes(), written.as_slice());
+    assert!(rt; error == Some(WriteError::IntegerLength { field: 0 }));
+    assert!(rt; buffer.as_bytes() == written.as_slice());
     Ok(())
 }
 
@@ -85,7 +85,7 @@ fn they_are_refused_by_their_first_reason(rt: HostRuntime) -> Result<(), Fail> {
         (&[0x02, 0xFF, 0x80], ReadError::Integer { field: 0 }),
     ];
     for (octets, error) in rows {
-        assert_eq!(rt; refused(rt.alloc(), octets)?, Some(error), "{octets:?}");
+        assert!(rt; refused(rt.alloc(), octets)? == Some(error), "{octets:?}");
     }
     Ok(())
 }
@@ -109,16 +109,16 @@ fn each_first_octet_is_a_length_or_refused(rt: HostRuntime) -> Result<(), Fail> 
         let answered = read_one(rt.alloc(), view);
         if count == 0 || count > 127 {
             let refused = ReadError::Length { field: 0, octet };
-            assert_eq!(rt; answered, (Some(refused), all));
+            assert!(rt; answered == (Some(refused), all));
             // Nothing behind it changes that.
             let view = BitStr::new(octets.as_slice(), 0, 8).ok_or("there")?;
-            assert_eq!(rt; read_one(rt.alloc(), view), (Some(refused), 8));
+            assert!(rt; read_one(rt.alloc(), view) == (Some(refused), 8));
         } else {
-            assert_eq!(rt; answered, (None, 8 * (127 - count)));
+            assert!(rt; answered == (None, 8 * (127 - count)));
             // With a bit less than the octets that it counts, that bit is missing.
             let view = BitStr::new(octets.as_slice(), 0, 7 + 8 * count).ok_or("there")?;
             let refused = ReadError::Short { field: 0, bits: 1 };
-            assert_eq!(rt; read_one(rt.alloc(), view), (Some(refused), 7 + 8 * count));
+            assert!(rt; read_one(rt.alloc(), view) == (Some(refused), 7 + 8 * count));
         }
     }
     Ok(())
@@ -134,17 +134,14 @@ fn is_read_whole(
 ) -> Result<(), Fail> {
     let (read, left) = found(alloc, bits_of(octets, ahead, 32)?, &[Shape::CountedInteger])?;
     assert!(rt; all_same(number, read.as_slice()));
-    assert_eq!(rt; left, 0);
+    assert!(rt; left == 0);
     for len in 0..32usize {
         let missing = if len < 8 { 8 - len } else { 32 - len };
         let refused = ReadError::Short {
             field: 0,
             bits: missing as u128,
         };
-        assert_eq!(rt;
-            read_one(alloc, bits_of(octets, ahead, len)?),
-            (Some(refused), len)
-        );
+        assert!(rt; read_one(alloc, bits_of(octets, ahead, len)?) == (Some(refused), len));
     }
     Ok(())
 }
@@ -155,7 +152,7 @@ fn they_are_read_at_any_bit_and_cut_at_each(rt: HostRuntime) -> Result<(), Fail>
     for ahead in 0..8usize {
         let number = counted(rt.alloc(), &[0x00, 0x80, 0x05])?;
         let buffer = written(rt.alloc(), ahead, &number)?;
-        assert_eq!(rt; buffer.len(), ahead + 32);
+        assert!(rt; buffer.len() == ahead + 32);
         is_read_whole(&rt, rt.alloc(), buffer.as_bytes(), ahead, &number)?;
     }
     Ok(())

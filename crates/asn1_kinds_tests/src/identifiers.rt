@@ -58,7 +58,7 @@ fn contents_are_written_and_read_at_any_bit(rt: HostRuntime) -> Result<(), Fail>
             let mut buffer = BitBuffer::new(rt.alloc());
             write_fields(&mut buffer, &fields)?;
             if ahead == 0 {
-                assert_eq!(rt; buffer.as_bytes(), octets, "{arcs:?}");
+                assert!(rt; buffer.as_bytes() == octets, "{arcs:?}");
             }
             let view = BitStr::new(buffer.as_bytes(), 0, buffer.len()).ok_or("there")?;
             let mut reader = BitReader::new(view);
@@ -70,7 +70,7 @@ fn contents_are_written_and_read_at_any_bit(rt: HostRuntime) -> Result<(), Fail>
             ];
             let read = read_fields(rt.alloc(), &mut reader, &shapes)?;
             assert!(rt; all_same(&fields, read.as_slice()), "{arcs:?}");
-            assert_eq!(rt; reader.len(), 0);
+            assert!(rt; reader.len() == 0);
         }
     }
     Ok(())
@@ -80,8 +80,8 @@ fn contents_are_written_and_read_at_any_bit(rt: HostRuntime) -> Result<(), Fail>
 fn one_arc_has_no_contents(rt: HostRuntime) -> Result<(), Fail> {
     let mut buffer = BitBuffer::new(rt.alloc());
     let error = write_fields(&mut buffer, &[identifier(rt.alloc(), &[1])?]).err();
-    assert_eq!(rt; error, Some(WriteError::ArcCount { field: 0 }));
-    assert_eq!(rt; buffer.len(), 0);
+    assert!(rt; error == Some(WriteError::ArcCount { field: 0 }));
+    assert!(rt; buffer.len() == 0);
     Ok(())
 }
 
@@ -98,22 +98,17 @@ fn other_octets_are_refused(rt: HostRuntime) -> Result<(), Fail> {
         (&[0x2A, 0x90, 0x80, 0x80, 0x80, 0x00, 0x86], malformed),
     ];
     for (octets, error) in rows {
-        assert_eq!(rt;
-            refused(rt.alloc(), octets, 0, octets.len())?,
-            error,
+        assert!(rt;
+            refused(rt.alloc(), octets, 0, octets.len())? == error,
             "{octets:?}"
         );
     }
-    assert_eq!(rt; refused(rt.alloc(), &[0x2A], 0, 0)?, malformed);
-    assert_eq!(rt;
-        refused(rt.alloc(), &[0x2A, 0x80], 3, 2)?,
-        Some(ReadError::Short { field: 0, bits: 3 })
+    assert!(rt; refused(rt.alloc(), &[0x2A], 0, 0)? == malformed);
+    assert!(rt;
+        refused(rt.alloc(), &[0x2A, 0x80], 3, 2)? == Some(ReadError::Short { field: 0, bits: 3 })
     );
     // 2A 80 01 from bit 4 on.
-    assert_eq!(rt;
-        refused(rt.alloc(), &[0x02, 0xA8, 0x00, 0x10], 4, 3)?,
-        malformed
-    );
+    assert!(rt; refused(rt.alloc(), &[0x02, 0xA8, 0x00, 0x10], 4, 3)? == malformed);
     Ok(())
 }
 
@@ -125,7 +120,7 @@ fn identifiers_of_many_arcs_are_fields(rt: HostRuntime) -> Result<(), Fail> {
     let mut buffer = BitBuffer::new(rt.alloc());
     write_fields(&mut buffer, &fields)?;
     // 90 80 80 80 4F, and 8F FF FF FF 7F for each of the others.
-    assert_eq!(rt; buffer.as_bytes().len(), 635);
+    assert!(rt; buffer.as_bytes().len() == 635);
     let mut reader = BitReader::from_octets(buffer.as_bytes());
     let read = read_fields(rt.alloc(), &mut reader, &[Shape::Oid { octets: 635 }])?;
     assert!(rt; all_same(&fields, read.as_slice()));
@@ -150,7 +145,7 @@ fn contents_are_cut_at_each_bit(rt: HostRuntime) -> Result<(), Fail> {
                 field: 0,
                 bits: (24 - len) as u128,
             };
-            assert_eq!(rt; answered.err(), Some(missing));
+            assert!(rt; answered.err() == Some(missing));
             assert!(rt; reader.bits() == view);
         }
     }

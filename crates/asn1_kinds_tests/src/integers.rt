@@ -41,25 +41,25 @@ fn integers_are_read_from_their_shortest_octets(rt: HostRuntime) -> Result<(), F
                 }
                 Err(error) => {
                     assert!(rt; long);
-                    assert_eq!(rt; error, ReadError::Integer { field: 0 });
+                    assert!(rt; error == ReadError::Integer { field: 0 });
                     refused = refused.saturating_add(1);
                 }
             }
         }
     }
-    assert_eq!(rt; refused, 256);
+    assert!(rt; refused == 256);
     Ok(())
 }
 
 #[test]
 fn integers_of_no_octets_are_refused(rt: HostRuntime) -> Result<(), Fail> {
     let refused = read_integer(rt.alloc(), &[]).err();
-    assert_eq!(rt; refused, Some(ReadError::Integer { field: 0 }));
+    assert!(rt; refused == Some(ReadError::Integer { field: 0 }));
     let mut reader = BitReader::from_octets(&[0x00, 0x05]);
     let shapes = [Shape::Integer { octets: 0 }];
     let refused = read_fields(rt.alloc(), &mut reader, &shapes).err();
-    assert_eq!(rt; refused, Some(ReadError::Integer { field: 0 }));
-    assert_eq!(rt; reader.len(), 16);
+    assert!(rt; refused == Some(ReadError::Integer { field: 0 }));
+    assert!(rt; reader.len() == 16);
     Ok(())
 }
 
@@ -67,7 +67,7 @@ fn integers_of_no_octets_are_refused(rt: HostRuntime) -> Result<(), Fail> {
 fn there_and_back<R: Abort + AllocGlobal>(rt: &R, octets: &[u8]) -> Result<Integer, Fail> {
     let fields = [Field::Integer(integer(rt.alloc(), octets)?)];
     let buffer = written(rt.alloc(), 0, &fields)?;
-    assert_eq!(rt; buffer.as_bytes(), octets);
+    assert!(rt; buffer.as_bytes() == octets);
     let read = [Field::Integer(read_integer(rt.alloc(), octets)?)];
     assert!(rt; all_same(&fields, &read));
     Ok(read_integer(rt.alloc(), octets)?)
@@ -91,8 +91,8 @@ fn long_integers_are_written_and_read(rt: HostRuntime) -> Result<(), Fail> {
     octets[0] = 0xFF;
     let mut reader = BitReader::from_octets(&octets);
     let fields = read_fields(rt.alloc(), &mut reader, &[Shape::Integer { octets: 26 }])?;
-    assert_eq!(rt; fields.len(), 1);
-    assert_eq!(rt; reader.len(), 0);
+    assert!(rt; fields.len() == 1);
+    assert!(rt; reader.len() == 0);
     Ok(())
 }
 
@@ -101,7 +101,7 @@ fn redundant_sign_octets_are_no_field(rt: HostRuntime) -> Result<(), Fail> {
     for (octet, number) in [(0x00, 0), (0xFF, -1)] {
         let octets = long(rt.alloc(), &[], octet, 4096)?;
         let refused = read_integer(rt.alloc(), octets.as_slice()).err();
-        assert_eq!(rt; refused, Some(ReadError::Integer { field: 0 }));
+        assert!(rt; refused == Some(ReadError::Integer { field: 0 }));
         let read = Integer::from_signed_octets(rt.alloc(), octets.as_slice())?;
         assert!(rt; read == Integer::from(number));
         let short = without_redundant_sign_octets(octets.as_slice());

@@ -21,9 +21,9 @@ fn check_signed<T: IntegerType + Drop>(
     octets: &[u8],
 ) {
     assert!(rt; is_written::<T>(number, octets), "of {number}");
-    assert_eq!(rt; read::<T>(alloc, octets, true), Ok(Some(number)));
-    assert_eq!(rt; given_out::<T>(number), Some(number));
-    assert_eq!(rt; taken_in::<T>(alloc, number), Some(Integer::from(number)));
+    assert!(rt; read::<T>(alloc, octets, true) == Ok(Some(number)));
+    assert!(rt; given_out::<T>(number) == Some(number));
+    assert!(rt; taken_in::<T>(alloc, number) == Some(Integer::from(number)));
 }
 
 /// Whether the type holds the number, and these are its octets.
@@ -77,12 +77,12 @@ fn each_type_writes_the_shortest_octets_and_reads_them_back(rt: HostRuntime) {
 
 /// The constants, the sum and the difference of a type, through the bound.
 fn check_sums<T: IntegerType + Drop>(rt: &impl Abort, most: i128, width: u32, is_signed: bool) {
-    assert_eq!(rt; T::WIDTH, width);
-    assert_eq!(rt; T::BYTE_WIDTH, width as usize / 8);
+    assert!(rt; T::WIDTH == width);
+    assert!(rt; T::BYTE_WIDTH == (width as usize / 8));
     let (Some(greatest), Some(one)) = (T::try_from_i128(most), T::try_from_i128(1)) else {
         return assert!(rt; false, "the type does not hold {most}");
     };
-    assert_eq!(rt; greatest.is_signed(), is_signed);
+    assert!(rt; greatest.is_signed() == is_signed);
     assert!(rt; sum(&greatest, &one).is_none());
     let Some(below) = difference(&greatest, &one) else {
         return assert!(rt; false, "{most} has one below");
@@ -90,8 +90,8 @@ fn check_sums<T: IntegerType + Drop>(rt: &impl Abort, most: i128, width: u32, is
     let Some(same) = sum(&below, &one) else {
         return assert!(rt; false, "{most} is one above");
     };
-    assert_eq!(rt; same.to_i128(), Some(most));
-    assert_eq!(rt; difference(&T::zero(), &one).is_none(), !is_signed);
+    assert!(rt; same.to_i128() == Some(most));
+    assert!(rt; difference(&T::zero(), &one).is_none() == !is_signed);
     assert!(rt; T::try_from_i128(-1).is_some() == is_signed);
 }
 
@@ -109,12 +109,12 @@ fn sums_and_differences_stay_within_the_type(rt: HostRuntime) {
     check_sums::<isize>(&rt, 9223372036854775807, 64, true);
     check_sums::<i128>(&rt, i128::MAX, 128, true);
     check_sums::<Integer>(&rt, i128::MAX, 4294967295, true);
-    assert_eq!(rt; sum(&u128::MAX, &1), None);
-    assert_eq!(rt; difference(&0u128, &1), None);
+    assert!(rt; sum(&u128::MAX, &1) == None);
+    assert!(rt; difference(&0u128, &1) == None);
 }
 
 fn compare(rt: &impl Abort, octets: IntegerBytes<'_>, wanted: &[u8]) {
-    assert_eq!(rt; octets.as_ref(), wanted);
+    assert!(rt; octets.as_ref() == wanted);
 }
 
 #[test]
@@ -165,12 +165,12 @@ fn difference<T: IntegerType>(number: &T, other: &T) -> Option<T> {
 
 #[test]
 fn native_sums_wrap(rt: HostRuntime) {
-    assert_eq!(rt; wrapped(-128i8, 255), Some(127));
-    assert_eq!(rt; wrapped(127i8, 255), Some(126));
-    assert_eq!(rt; wrapped(255u8, 1), Some(0));
-    assert_eq!(rt; wrapped(u128::MAX, u128::MAX), Some(u128::MAX - 1));
-    assert_eq!(rt; sum(&isize::MAX, &1), None);
-    assert_eq!(rt; u8::from_integer(&Integer::from(256u16)), None);
+    assert!(rt; wrapped(-128i8, 255) == Some(127));
+    assert!(rt; wrapped(127i8, 255) == Some(126));
+    assert!(rt; wrapped(255u8, 1) == Some(0));
+    assert!(rt; wrapped(u128::MAX, u128::MAX) == Some(u128::MAX - 1));
+    assert!(rt; sum(&isize::MAX, &1) == None);
+    assert!(rt; u8::from_integer(&Integer::from(256u16)) == None);
 }
 
 #[test]
@@ -179,13 +179,13 @@ fn integers_do_not_wrap(rt: HostRuntime) {
     assert!(rt; sum(&most, &Integer::one()).is_none());
     assert!(rt; wrapped(most, Integer::one()).is_none());
     let next = wrapped(Integer::from(isize::MAX), Integer::one());
-    assert_eq!(rt; next, Some(Integer::from(9223372036854775808i128)));
+    assert!(rt; next == Some(Integer::from(9223372036854775808i128)));
     let below = difference(&Integer::from(isize::MIN), &Integer::one());
-    assert_eq!(rt; below, Some(Integer::from(-9223372036854775809i128)));
+    assert!(rt; below == Some(Integer::from(-9223372036854775809i128)));
     let minus_two = wrapped(Integer::from(5u8), Integer::from(-7i8));
-    assert_eq!(rt; minus_two, Some(Integer::from(-2i8)));
+    assert!(rt; minus_two == Some(Integer::from(-2i8)));
     let next = sum(&Integer::from(isize::MAX), &Integer::one());
-    assert_eq!(rt; next, Some(Integer::from(9223372036854775808i128)));
+    assert!(rt; next == Some(Integer::from(9223372036854775808i128)));
     let least = Integer::from(i128::MIN);
     assert!(rt; difference(&Integer::zero(), &least).is_none());
 }
@@ -197,7 +197,7 @@ fn integers_past_i128_are_out_of_reach(rt: HostRuntime) -> Result<(), Fail> {
     assert!(rt; IntegerType::checked_sub(&two_to_127, &Integer::one()).is_none());
     assert!(rt; Integer::from_integer(&two_to_127).is_none());
     assert!(rt; i128::from_integer(&two_to_127).is_none());
-    assert_eq!(rt; u128::from_integer(&two_to_127), Some(1 << 127));
+    assert!(rt; u128::from_integer(&two_to_127) == Some(1 << 127));
     assert!(rt;
         two_to_127
             .wrapping_unsigned_add(Integer::from(-1i8))
@@ -240,33 +240,33 @@ fn worked_readings(rt: HostRuntime) {
     };
     let no_value = IntegerError::TypeConversionFailed { bits: 8 };
     let empty = IntegerError::UnexpectedEmptyInput;
-    assert_eq!(rt; with_sign::<i8>(alloc, &[0, 5]), Err(overflow));
-    assert_eq!(rt; with_sign::<u8>(alloc, &[0, 0, 5]), Err(overflow));
-    assert_eq!(rt; with_sign::<u8>(alloc, &[0x80]), Err(no_value));
-    assert_eq!(rt; with_sign::<u8>(alloc, &[0x80, 0, 0]), Err(no_value));
-    assert_eq!(rt; with_sign::<u8>(alloc, &[]), Err(empty));
-    assert_eq!(rt; without_sign::<i8>(alloc, &[0x80]), Err(no_value));
-    assert_eq!(rt; with_sign::<u8>(alloc, &[0, 0xFF]), Ok(255));
-    assert_eq!(rt; as_its_own::<u8>(alloc, &[0xFF]), Ok(255));
-    assert_eq!(rt; as_its_own::<i8>(alloc, &[0xFF]), Ok(-1));
+    assert!(rt; with_sign::<i8>(alloc, &[0, 5]) == Err(overflow));
+    assert!(rt; with_sign::<u8>(alloc, &[0, 0, 5]) == Err(overflow));
+    assert!(rt; with_sign::<u8>(alloc, &[0x80]) == Err(no_value));
+    assert!(rt; with_sign::<u8>(alloc, &[0x80, 0, 0]) == Err(no_value));
+    assert!(rt; with_sign::<u8>(alloc, &[]) == Err(empty));
+    assert!(rt; without_sign::<i8>(alloc, &[0x80]) == Err(no_value));
+    assert!(rt; with_sign::<u8>(alloc, &[0, 0xFF]) == Ok(255));
+    assert!(rt; as_its_own::<u8>(alloc, &[0xFF]) == Ok(255));
+    assert!(rt; as_its_own::<i8>(alloc, &[0xFF]) == Ok(-1));
     laws_of_wrapping();
 }
 
 #[test]
 fn worked_readings_of_128_bits(rt: HostRuntime) -> Result<(), Fail> {
     let alloc = rt.alloc();
-    assert_eq!(rt; without_sign::<u128>(alloc, &[0xFF; 16]), Ok(u128::MAX));
+    assert!(rt; without_sign::<u128>(alloc, &[0xFF; 16]) == Ok(u128::MAX));
     let mut octets = [0xFF; 17];
     octets[0] = 0x00;
-    assert_eq!(rt; with_sign::<u128>(alloc, &octets), Ok(u128::MAX));
+    assert!(rt; with_sign::<u128>(alloc, &octets) == Ok(u128::MAX));
     let mut octets = [0x00; 17];
     octets[0] = 0x01;
     let past_128 = IntegerError::Overflow {
         max_integer_bits: 128,
     };
-    assert_eq!(rt; with_sign::<u128>(alloc, &octets), Err(past_128));
+    assert!(rt; with_sign::<u128>(alloc, &octets) == Err(past_128));
     let minus_one = as_its_own::<Integer>(alloc, &[0xFF])?;
-    assert_eq!(rt; minus_one, Integer::from(-1i8));
+    assert!(rt; minus_one == Integer::from(-1i8));
     Ok(())
 }
 
@@ -299,15 +299,17 @@ fn check_forms<T: IntegerType + Drop>(rt: &impl Abort, alloc: Global, held: usiz
             continue;
         };
         assert!(rt; place < held, "the type holds {number}");
-        assert_eq!(rt; value.to_signed_bytes_be().as_ref(), *signed, "of {number}");
-        assert_eq!(rt;
-            value.to_unsigned_bytes_be().as_ref(),
-            *unsigned,
+        assert!(rt;
+            value.to_signed_bytes_be().as_ref() == *signed,
             "of {number}"
         );
-        assert_eq!(rt; read::<T>(alloc, signed, true), Ok(Some(number)));
-        assert_eq!(rt; read::<T>(alloc, unsigned, false), Ok(Some(number)));
-        assert_eq!(rt; read::<Integer>(alloc, signed, true), Ok(Some(number)));
+        assert!(rt;
+            value.to_unsigned_bytes_be().as_ref() == *unsigned,
+            "of {number}"
+        );
+        assert!(rt; read::<T>(alloc, signed, true) == Ok(Some(number)));
+        assert!(rt; read::<T>(alloc, unsigned, false) == Ok(Some(number)));
+        assert!(rt; read::<Integer>(alloc, signed, true) == Ok(Some(number)));
     }
 }
 
@@ -337,7 +339,7 @@ fn check_pairs<T: IntegerType<UnsignedPair = U, SignedPair = S> + Drop, U, S>(
     let Some(result) = number.wrapping_unsigned_add(other) else {
         return assert!(rt; false, "no sum {sum}");
     };
-    assert_eq!(rt; result.to_i128(), Some(sum));
+    assert!(rt; result.to_i128() == Some(sum));
 }
 
 #[test]

@@ -42,9 +42,9 @@ fn small_numbers_have_their_shortest_signed_octets(rt: HostRuntime) {
     ];
     for (number, octets) in rows {
         let integer = Integer::from(number);
-        assert_eq!(rt; integer.signed_octets().as_ref(), octets, "of {number}");
-        assert_eq!(rt; integer.signed_len(), octets.len(), "of {number}");
-        assert_eq!(rt; shortest_of(number).as_ref(), octets, "of {number}");
+        assert!(rt; integer.signed_octets().as_ref() == octets, "of {number}");
+        assert!(rt; integer.signed_len() == octets.len(), "of {number}");
+        assert!(rt; shortest_of(number).as_ref() == octets, "of {number}");
     }
 }
 
@@ -102,8 +102,8 @@ fn numbers_are_read_back_from_both_forms_of_octets(rt: HostRuntime) -> Result<()
         let integer = Integer::from(number);
         assert!(rt; has_octets(&integer, signed), "of {number}");
         assert!(rt; has_unsigned_octets(&integer, unsigned), "of {number}");
-        assert_eq!(rt; with_sign(rt.alloc(), signed)?, integer);
-        assert_eq!(rt; without_sign(rt.alloc(), unsigned)?, integer);
+        assert!(rt; with_sign(rt.alloc(), signed)? == integer);
+        assert!(rt; without_sign(rt.alloc(), unsigned)? == integer);
     }
     Ok(())
 }
@@ -122,25 +122,25 @@ fn sign_octets_that_say_nothing_are_left_out(rt: HostRuntime) -> Result<(), Fail
     for (octets, shortest) in rows {
         assert!(rt; are_shortened_to(octets, shortest), "{octets:?}");
     }
-    assert_eq!(rt; with_sign(rt.alloc(), &[0xFF; 40])?, Integer::from(-1i8));
-    assert_eq!(rt; with_sign(rt.alloc(), &[0x00, 0x05])?, Integer::from(5u8));
+    assert!(rt; with_sign(rt.alloc(), &[0xFF; 40])? == Integer::from(-1i8));
+    assert!(rt; with_sign(rt.alloc(), &[0x00, 0x05])? == Integer::from(5u8));
     Ok(())
 }
 
 #[test]
 fn empty_octets_are_no_integer(rt: HostRuntime) {
     let empty = IntegerError::UnexpectedEmptyInput;
-    assert_eq!(rt; with_sign(rt.alloc(), &[]).err(), Some(empty));
-    assert_eq!(rt; without_sign(rt.alloc(), &[]).err(), Some(empty));
+    assert!(rt; with_sign(rt.alloc(), &[]).err() == Some(empty));
+    assert!(rt; without_sign(rt.alloc(), &[]).err() == Some(empty));
 }
 
 #[test]
 fn octets_of_many_lengths_have_their_values(rt: HostRuntime) -> Result<(), Fail> {
     let octets = [0x80, 0, 0, 0, 0, 0, 0, 0, 0];
     let below = with_sign(rt.alloc(), &octets)?;
-    assert_eq!(rt; value_of(&below), Some(-2361183241434822606848));
+    assert!(rt; value_of(&below) == Some(-2361183241434822606848));
     let above = without_sign(rt.alloc(), &octets)?;
-    assert_eq!(rt; value_of(&above), Some(2361183241434822606848));
+    assert!(rt; value_of(&above) == Some(2361183241434822606848));
     let longer = [0, 0x80, 0, 0, 0, 0, 0, 0, 0, 0];
     assert!(rt; has_octets(&above, &longer));
 
@@ -150,10 +150,10 @@ fn octets_of_many_lengths_have_their_values(rt: HostRuntime) -> Result<(), Fail>
 
     let octets = [0xFF, 0, 0, 0, 0, 0, 0, 0, 0];
     let number = with_sign(rt.alloc(), &octets)?;
-    assert_eq!(rt; value_of(&number), Some(-18446744073709551616));
+    assert!(rt; value_of(&number) == Some(-18446744073709551616));
     let octets = [0, 0x80, 0, 0, 0, 0, 0, 0, 0];
     let number = with_sign(rt.alloc(), &octets)?;
-    assert_eq!(rt; value_of(&number), Some(9223372036854775808));
+    assert!(rt; value_of(&number) == Some(9223372036854775808));
     Ok(())
 }
 
@@ -164,9 +164,9 @@ fn the_greatest_u128_takes_seventeen_signed_octets(rt: HostRuntime) -> Result<()
     let mut signed = [0xFF; 17];
     signed[0] = 0;
     assert!(rt; has_octets(&most, &signed));
-    assert_eq!(rt; u128::try_from(most).ok(), Some(u128::MAX));
+    assert!(rt; u128::try_from(most).ok() == Some(u128::MAX));
     let same = with_sign(rt.alloc(), &signed)?;
-    assert_eq!(rt; u128::try_from(same).ok(), Some(u128::MAX));
+    assert!(rt; u128::try_from(same).ok() == Some(u128::MAX));
 
     let mut next = [0; 17];
     next[0] = 0x01;
@@ -183,9 +183,9 @@ fn numbers_of_66_octets_are_kept(rt: HostRuntime) -> Result<(), Fail> {
         octets[0] = first;
         let number = with_sign(rt.alloc(), &octets)?;
         assert!(rt; has_octets(&number, &octets));
-        assert_eq!(rt; number.signed_len(), 66);
-        assert_eq!(rt; number < Integer::zero(), first == 0xFF);
-        assert_eq!(rt; value_of(&number), None);
+        assert!(rt; number.signed_len() == 66);
+        assert!(rt; (number < Integer::zero()) == (first == 0xFF));
+        assert!(rt; value_of(&number) == None);
     }
     Ok(())
 }
@@ -197,7 +197,7 @@ fn numbers_of_4096_octets_without_a_sign_are_read_and_written(rt: HostRuntime) -
         octets.resize(4096, others)?;
         let number = without_sign(rt.alloc(), octets.as_slice())?;
         assert!(rt; number > Integer::zero());
-        assert_eq!(rt; number.signed_len(), 4097);
+        assert!(rt; number.signed_len() == 4097);
         assert!(rt; has_unsigned_octets(&number, octets.as_slice()));
         let copy = number.clone()?;
         assert!(rt; has_unsigned_octets(&copy, octets.as_slice()));
@@ -211,8 +211,8 @@ fn numbers_of_4096_octets_with_a_sign_are_read_and_written(rt: HostRuntime) -> R
         let mut octets = [first].to_vec(rt.alloc())?;
         octets.resize(4096, others)?;
         let number = with_sign(rt.alloc(), octets.as_slice())?;
-        assert_eq!(rt; number < Integer::zero(), first >= 0x80);
-        assert_eq!(rt; number.signed_len(), 4096);
+        assert!(rt; (number < Integer::zero()) == (first >= 0x80));
+        assert!(rt; number.signed_len() == 4096);
         assert!(rt; has_octets(&number, octets.as_slice()));
     }
     Ok(())
@@ -228,19 +228,19 @@ fn a_number_past_i128_is_one_number_however_it_was_spelled(rt: HostRuntime) -> R
     let number = with_sign(rt.alloc(), &shortest)?;
     let same = with_sign(rt.alloc(), &longer)?;
     assert!(rt; number < Integer::zero());
-    assert_eq!(rt; number, same);
-    assert_eq!(rt; hash_of(&number), hash_of(&same));
+    assert!(rt; number == same);
+    assert!(rt; hash_of(&number) == hash_of(&same));
     assert!(rt; has_octets(&same, &shortest));
-    assert_eq!(rt; value_of(&number), None);
+    assert!(rt; value_of(&number) == None);
     let copy = number.clone()?;
-    assert_eq!(rt; copy, same);
+    assert!(rt; copy == same);
     let Err(refused) = u8::try_from(copy) else {
         return Err("a u8 holds no -2^200")?;
     };
     let again = refused.clone()?;
-    assert_eq!(rt; again, refused);
-    assert_eq!(rt; again.into_original(), same);
-    assert_eq!(rt; refused.into_original(), number);
+    assert!(rt; again == refused);
+    assert!(rt; again.into_original() == same);
+    assert!(rt; refused.into_original() == number);
     Ok(())
 }
 
@@ -270,8 +270,8 @@ fn the_order_is_that_of_the_numbers_at_every_length(rt: HostRuntime) -> Result<(
     ];
     for (place, number) in ascending.iter().enumerate() {
         for (other_place, other) in ascending.iter().enumerate() {
-            assert_eq!(rt; number.cmp(other), place.cmp(&other_place));
-            assert_eq!(rt; number == other, place == other_place);
+            assert!(rt; number.cmp(other) == place.cmp(&other_place));
+            assert!(rt; (number == other) == (place == other_place));
         }
     }
     Ok(())
@@ -289,9 +289,9 @@ where
 #[test]
 fn constrained_integers_lie_within_both_bounds(rt: HostRuntime) -> Result<(), Fail> {
     let most = bounded(360i32).ok_or("the greatest")?;
-    assert_eq!(rt; most.to_i128(), Some(360));
+    assert!(rt; most.to_i128() == Some(360));
     let least = bounded(-8i64).ok_or("the least")?;
-    assert_eq!(rt; least.to_i128(), Some(-8));
+    assert!(rt; least.to_i128() == Some(-8));
     assert!(rt; bounded(-9isize).is_none());
     assert!(rt; bounded(i128::MAX).is_none());
     assert!(rt; least < most);
@@ -305,7 +305,7 @@ fn a_number_past_the_bounds_is_handed_back(rt: HostRuntime) -> Result<(), Fail> 
     let Err(refused) = Bounded::try_from(361i32) else {
         return Err("361 was accepted")?;
     };
-    assert_eq!(rt; refused.into_original().to_i128(), Some(361));
+    assert!(rt; refused.into_original().to_i128() == Some(361));
     for number in 2i32..7 {
         assert!(rt; ConstrainedInteger::<5, 3>::try_from(number).is_err());
     }
@@ -315,12 +315,12 @@ fn a_number_past_the_bounds_is_handed_back(rt: HostRuntime) -> Result<(), Fail> 
 #[test]
 fn octets_and_values_agree(rt: HostRuntime) {
     let octets = [0x80, 0x01];
-    assert_eq!(rt; signed_value(&octets), -32767);
-    assert_eq!(rt; unsigned_value(&octets), 32769);
-    assert_eq!(rt; unsigned_value(&[]), 0);
+    assert!(rt; signed_value(&octets) == -32767);
+    assert!(rt; unsigned_value(&octets) == 32769);
+    assert!(rt; unsigned_value(&[]) == 0);
     let copy = IntegerBytes::from_octets(&octets);
-    assert_eq!(rt; copy.as_ref(), octets.as_slice());
-    assert_eq!(rt; copy.len(), 2);
+    assert!(rt; copy.as_ref() == octets.as_slice());
+    assert!(rt; copy.len() == 2);
     laws_of_shortest_octets();
 }
 
@@ -342,7 +342,7 @@ fn errors_have_their_texts(rt: HostRuntime) -> Result<(), Fail> {
     ];
     for (error, text) in rows {
         let written = format!(in rt.alloc(); "{error}")?;
-        assert_eq!(rt; written.as_str(), text);
+        assert!(rt; written.as_str() == text);
     }
     Ok(())
 }
@@ -354,6 +354,6 @@ fn a_refused_number_has_its_text(rt: HostRuntime) -> Result<(), Fail> {
     };
     let written = format!(in rt.alloc(); "{refused}")?;
     let text = "out of range conversion regarding integer conversion attempted";
-    assert_eq!(rt; written.as_str(), text);
+    assert!(rt; written.as_str() == text);
     Ok(())
 }

@@ -23,7 +23,7 @@ fn arcs_are_valid_or_not(rt: HostRuntime) -> Result<(), Fail> {
     ];
     for arcs in valid {
         let oid = Oid::new(arcs).ok_or("valid")?;
-        assert_eq!(rt; oid.as_ref(), arcs);
+        assert!(rt; oid.as_ref() == arcs);
         let owned = ObjectIdentifier::from_vec(arcs.to_vec(rt.alloc())?).ok_or("valid")?;
         assert!(rt; owned.eq_arcs(arcs) && oid.eq_arcs(arcs));
         assert!(rt; owned.as_oid() == oid);
@@ -46,9 +46,9 @@ fn identifiers_are_printed_with_full_stops(rt: HostRuntime) -> Result<(), Fail> 
     ];
     for (arcs, text) in rows {
         let oid = Oid::new(arcs).ok_or("valid")?;
-        assert_eq!(rt; format!(in rt.alloc(); "{oid}")?.as_str(), text);
+        assert!(rt; format!(in rt.alloc(); "{oid}")?.as_str() == text);
         let owned = oid.to_owned(rt.alloc())?;
-        assert_eq!(rt; format!(in rt.alloc(); "{owned}")?.as_str(), text);
+        assert!(rt; format!(in rt.alloc(); "{owned}")?.as_str() == text);
     }
     Ok(())
 }

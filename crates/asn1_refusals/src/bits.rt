@@ -90,7 +90,7 @@ fn bit_buffer_resize(rt: HostRuntime) -> Result<(), Fail> {
     };
     match buffer.resize(512, true) {
         Ok(()) => {
-            assert_eq!(rt; buffer.as_bytes().len(), 64);
+            assert!(rt; buffer.as_bytes().len() == 64);
             assert!(rt; buffer.as_bytes().iter().all(|octet| *octet == 0xFF));
         }
         Err(_) => {
@@ -146,7 +146,7 @@ fn bit_buffer_extend_from_buffer(rt: HostRuntime) -> Result<(), Fail> {
             assert!(rt; is_three_ones(&buffer));
         }
     }
-    assert_eq!(rt; other.as_bytes(), OCTETS.as_slice());
+    assert!(rt; other.as_bytes() == OCTETS.as_slice());
     Ok(())
 }
 
@@ -158,7 +158,7 @@ fn bit_buffer_appender(rt: HostRuntime) -> Result<(), Fail> {
     match buffer.appender(512) {
         Ok(mut appender) => {
             appender.push(0b01011, 5);
-            assert_eq!(rt; appender.room(), 507);
+            assert!(rt; appender.room() == 507);
         }
         Err(_) => {
             met(&rt, "BitBuffer::appender")?;
@@ -167,8 +167,8 @@ fn bit_buffer_appender(rt: HostRuntime) -> Result<(), Fail> {
         }
     }
     // 111, 01011, and zeros for the room that is left.
-    assert_eq!(rt; buffer.len(), 515);
-    assert_eq!(rt; buffer.as_bytes().first(), Some(&0xEB));
+    assert!(rt; buffer.len() == 515);
+    assert!(rt; buffer.as_bytes().first() == Some(&0xEB));
     assert!(rt; buffer.as_bytes().iter().skip(1).all(|octet| *octet == 0));
     Ok(())
 }
@@ -202,7 +202,7 @@ fn bit_buffer_clone(rt: HostRuntime) -> Result<(), Fail> {
 fn to_bit_string(rt: HostRuntime) -> Result<(), Fail> {
     let view = BitStr::from_octets(&OCTETS);
     match to_bitstring(rt.alloc(), view) {
-        Ok(string) => assert_eq!(rt; string.as_raw_slice(), OCTETS.as_slice()),
+        Ok(string) => assert!(rt; string.as_raw_slice() == OCTETS.as_slice()),
         Err(_) => met(&rt, "to_bitstring")?,
     }
     Ok(())
@@ -212,7 +212,7 @@ fn to_bit_string(rt: HostRuntime) -> Result<(), Fail> {
 fn extend_bit_string(rt: HostRuntime) -> Result<(), Fail> {
     let mut string = BitString::new(rt.alloc());
     match extend_bitstring(&mut string, BitStr::from_octets(&OCTETS)) {
-        Ok(()) => assert_eq!(rt; string.as_raw_slice(), OCTETS.as_slice()),
+        Ok(()) => assert!(rt; string.as_raw_slice() == OCTETS.as_slice()),
         Err(_) => {
             met(&rt, "extend_bitstring")?;
             assert!(rt; string.is_empty() && string.as_raw_slice().is_empty());
@@ -227,10 +227,10 @@ fn bit_string_clone(rt: HostRuntime) -> Result<(), Fail> {
         return met_before(&rt, "BitString::clone");
     };
     match string.clone() {
-        Ok(copy) => assert_eq!(rt; copy.as_raw_slice(), OCTETS.as_slice()),
+        Ok(copy) => assert!(rt; copy.as_raw_slice() == OCTETS.as_slice()),
         Err(_) => met(&rt, "BitString::clone")?,
     }
-    assert_eq!(rt; string.as_raw_slice(), OCTETS.as_slice());
+    assert!(rt; string.as_raw_slice() == OCTETS.as_slice());
     Ok(())
 }
 
@@ -242,7 +242,7 @@ fn bit_reader_octets(rt: HostRuntime) -> Result<(), Fail> {
     match reader.octets(rt.alloc()) {
         Ok(octets) => {
             assert!(rt; matches!(octets, Octets::Owned(_)));
-            assert_eq!(rt; octets.as_ref().len(), 63);
+            assert!(rt; octets.as_ref().len() == 63);
             assert!(rt; octets.as_ref().iter().all(|octet| *octet == 0xA5));
         }
         Err(_) => met(&rt, "BitReader::octets")?,
@@ -256,7 +256,7 @@ fn bit_reader_octets_on_boundaries(rt: HostRuntime) -> Result<(), Fail> {
     // They are lent, and nothing is asked for.
     let octets = BitReader::from_octets(&OCTETS).octets(rt.alloc())?;
     assert!(rt; matches!(octets, Octets::Borrowed(_)));
-    assert_eq!(rt; octets.as_ref(), OCTETS.as_slice());
+    assert!(rt; octets.as_ref() == OCTETS.as_slice());
     Ok(())
 }
 
@@ -268,13 +268,13 @@ fn vector_from_bits(rt: HostRuntime) -> Result<(), Fail> {
     let view = BitStr::new(&OCTETS, 4, 504).ok_or("there")?;
     match extend_vec_from_bitslice(&mut octets, view) {
         Ok(()) => {
-            assert_eq!(rt; octets.len(), 65);
+            assert!(rt; octets.len() == 65);
             assert!(rt; octets.as_slice().starts_with(&[0x11, 0x22]));
             assert!(rt; octets.iter().skip(2).all(|octet| *octet == 0xA5));
         }
         Err(_) => {
             met(&rt, "extend_vec_from_bitslice")?;
-            assert_eq!(rt; octets.as_slice(), [0x11, 0x22].as_slice());
+            assert!(rt; octets.as_slice() == [0x11, 0x22].as_slice());
         }
     }
     Ok(())

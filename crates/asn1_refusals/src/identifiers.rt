@@ -51,7 +51,7 @@ fn object_identifier_from_contents(rt: HostRuntime) -> Result<(), Fail> {
         Ok(oid) => assert!(rt; oid.eq_arcs(&ARCS)),
         Err(error) => {
             met(&rt, "ObjectIdentifier::from_contents")?;
-            assert_eq!(rt; error, ContentsError::Memory);
+            assert!(rt; error == ContentsError::Memory);
         }
     }
     Ok(())
@@ -65,10 +65,10 @@ fn oid_contents_append_to(rt: HostRuntime) -> Result<(), Fail> {
         return met_before(&rt, "OidContents::append_to");
     };
     match contents.append_to(&mut octets) {
-        Ok(()) => assert_eq!(rt; &octets[2..], CONTENTS.as_slice()),
+        Ok(()) => assert!(rt; &octets[2..] == CONTENTS.as_slice()),
         Err(_) => {
             met(&rt, "OidContents::append_to")?;
-            assert_eq!(rt; octets.len(), 2);
+            assert!(rt; octets.len() == 2);
         }
     }
     assert!(rt; octets.starts_with(&[0x06, 0x09]));
@@ -79,10 +79,10 @@ fn oid_contents_append_to(rt: HostRuntime) -> Result<(), Fail> {
 fn wrong_contents_keep_their_names(rt: HostRuntime) -> Result<(), Fail> {
     let malformed: &[u8] = &[0x2A, 0x80, 0x01];
     let refused = ObjectIdentifier::from_contents(rt.alloc(), &malformed).err();
-    assert_eq!(rt; refused, Some(ContentsError::Malformed));
+    assert!(rt; refused == Some(ContentsError::Malformed));
     let large: &[u8] = &[0x2A, 0x90, 0x80, 0x80, 0x80, 0x00];
     let refused = ObjectIdentifier::from_contents(rt.alloc(), &large).err();
-    assert_eq!(rt; refused, Some(ContentsError::ArcTooLarge));
+    assert!(rt; refused == Some(ContentsError::ArcTooLarge));
     Ok(())
 }
 
@@ -90,9 +90,9 @@ fn wrong_contents_keep_their_names(rt: HostRuntime) -> Result<(), Fail> {
 fn borrowed_arcs_and_contents_ask_for_nothing(rt: HostRuntime) -> Result<(), Fail> {
     let lent = ObjectIdentifier::new(CowSlice::Borrowed(&[1, 2, 840])).ok_or("valid")?;
     assert!(rt; lent.clone()?.eq_arcs(&[1, 2, 840]));
-    assert_eq!(rt; check_contents(&CONTENTS.as_slice()), Ok(()));
+    assert!(rt; check_contents(&CONTENTS.as_slice()) == Ok(()));
     let oid = Oid::new(&ARCS).ok_or("valid")?;
-    assert_eq!(rt; oid.contents_len(), Some(9));
+    assert!(rt; oid.contents_len() == Some(9));
     let octets = oid.contents().ok_or("two arcs")?;
     assert!(rt; octets.eq(CONTENTS));
     Ok(())

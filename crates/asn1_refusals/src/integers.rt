@@ -21,7 +21,7 @@ fn integer_from_signed_octets(rt: HostRuntime) -> Result<(), Fail> {
         Ok(number) => assert!(rt; is_power(&number)),
         Err(error) => {
             met(&rt, "Integer::from_signed_octets")?;
-            assert_eq!(rt; error, IntegerError::Memory);
+            assert!(rt; error == IntegerError::Memory);
         }
     }
     Ok(())
@@ -33,7 +33,7 @@ fn integer_from_unsigned_octets(rt: HostRuntime) -> Result<(), Fail> {
         Ok(number) => assert!(rt; is_power(&number)),
         Err(error) => {
             met(&rt, "Integer::from_unsigned_octets")?;
-            assert_eq!(rt; error, IntegerError::Memory);
+            assert!(rt; error == IntegerError::Memory);
         }
     }
     Ok(())
@@ -45,7 +45,7 @@ fn integer_try_from_bytes(rt: HostRuntime) -> Result<(), Fail> {
         Ok(number) => assert!(rt; is_power(&number)),
         Err(error) => {
             met(&rt, "Integer::try_from_bytes")?;
-            assert_eq!(rt; error, IntegerError::Memory);
+            assert!(rt; error == IntegerError::Memory);
         }
     }
     Ok(())
@@ -57,7 +57,7 @@ fn integer_try_from_signed_bytes(rt: HostRuntime) -> Result<(), Fail> {
         Ok(number) => assert!(rt; is_power(&number)),
         Err(error) => {
             met(&rt, "Integer::try_from_signed_bytes")?;
-            assert_eq!(rt; error, IntegerError::Memory);
+            assert!(rt; error == IntegerError::Memory);
         }
     }
     Ok(())
@@ -69,7 +69,7 @@ fn integer_try_from_unsigned_bytes(rt: HostRuntime) -> Result<(), Fail> {
         Ok(number) => assert!(rt; is_power(&number)),
         Err(error) => {
             met(&rt, "Integer::try_from_unsigned_bytes")?;
-            assert_eq!(rt; error, IntegerError::Memory);
+            assert!(rt; error == IntegerError::Memory);
         }
     }
     Ok(())
@@ -80,7 +80,7 @@ fn integer_from_u128(rt: HostRuntime) -> Result<(), Fail> {
     // 2 to the power of 128, less 1: seventeen octets, the first of them 0.
     match Integer::from_u128(rt.alloc(), u128::MAX) {
         Ok(number) => {
-            assert_eq!(rt; number.signed_octets().len(), 17);
+            assert!(rt; number.signed_octets().len() == 17);
             assert!(rt; number.unsigned_octets().as_ref() == [0xFF; 16].as_slice());
         }
         Err(_) => met(&rt, "Integer::from_u128")?,
@@ -130,28 +130,28 @@ fn refused_conversion_clone(rt: HostRuntime) -> Result<(), Fail> {
 #[test]
 fn numbers_within_sixteen_octets_ask_for_nothing(rt: HostRuntime) -> Result<(), Fail> {
     let minus_one = Integer::from_signed_octets(rt.alloc(), &[0xFF; 40])?;
-    assert_eq!(rt; minus_one.to_i128(), Some(-1));
+    assert!(rt; minus_one.to_i128() == Some(-1));
     let large = Integer::from_u128(rt.alloc(), 5)?;
-    assert_eq!(rt; large.clone()?.to_i128(), Some(5));
+    assert!(rt; large.clone()?.to_i128() == Some(5));
     let within = ConstrainedInteger::<-8, 360>::try_from(360i64)
         .ok()
         .ok_or("within")?;
-    assert_eq!(rt; within.clone()?.to_i128(), Some(360));
-    assert_eq!(rt; i8::try_from_signed_bytes(rt.alloc(), &[0xFB])?, -5);
+    assert!(rt; within.clone()?.to_i128() == Some(360));
+    assert!(rt; i8::try_from_signed_bytes(rt.alloc(), &[0xFB])? == -5);
     Ok(())
 }
 
 #[test]
 fn wrong_octets_keep_their_names(rt: HostRuntime) -> Result<(), Fail> {
     let refused = i8::try_from_signed_bytes(rt.alloc(), &[0x00, 0x05]).err();
-    assert_eq!(rt;
-        refused,
-        Some(IntegerError::Overflow {
-            max_integer_bits: 8
-        })
+    assert!(rt;
+        refused
+            == Some(IntegerError::Overflow {
+                max_integer_bits: 8
+            })
     );
     let refused = Integer::from_signed_octets(rt.alloc(), &[]).err();
-    assert_eq!(rt; refused, Some(IntegerError::UnexpectedEmptyInput));
+    assert!(rt; refused == Some(IntegerError::UnexpectedEmptyInput));
     Ok(())
 }
 
@@ -161,7 +161,7 @@ fn long_numbers_are_compared_and_spelled_without_memory(rt: HostRuntime) -> Resu
         return met_before(&rt, "comparisons of long numbers");
     };
     assert!(rt; number > Integer::from(5) && number == number);
-    assert_eq!(rt; number.signed_len(), 26);
+    assert!(rt; number.signed_len() == 26);
     assert!(rt; number.checked_add(&Integer::from(1)).is_none());
     Ok(())
 }

@@ -18,6 +18,6 @@ fn bit_buffer_push_bits_into_reserved_octets(rt: HostRuntime) -> Result<(), Fail
         }
     }
     let wanted = [0, 1, 2, 3, 4, 5, 6, 7];
-    assert_eq!(rt; buffer.as_bytes(), wanted.as_slice());
+    assert!(rt; buffer.as_bytes() == wanted.as_slice());
     Ok(())
 }

@@ -190,7 +190,7 @@ fn push_char(rt: HostRuntime) -> Result<(), Fail> {
         Ok(()) => assert!(rt; has(&string, 1, 0x32)),
         Err(_) => {
             met(&rt, "PrintableString::push_char")?;
-            assert_eq!(rt; string.len(), 0);
+            assert!(rt; string.len() == 0);
         }
     }
     Ok(())
@@ -227,7 +227,7 @@ fn bmp_string_to_bytes(rt: HostRuntime) -> Result<(), Fail> {
         return met_before(&rt, "BmpString::to_bytes");
     };
     match string.to_bytes() {
-        Ok(octets) => assert_eq!(rt; octets.as_slice(), TWOS.as_slice()),
+        Ok(octets) => assert!(rt; octets.as_slice() == TWOS.as_slice()),
         Err(_) => met(&rt, "BmpString::to_bytes")?,
     }
     assert!(rt; has(&string, 24, 0x3232));
@@ -240,7 +240,7 @@ fn teletex_string_to_bytes(rt: HostRuntime) -> Result<(), Fail> {
         return met_before(&rt, "TeletexString::to_bytes");
     };
     match string.to_bytes() {
-        Ok(octets) => assert_eq!(rt; octets.as_slice(), TWOS.as_slice()),
+        Ok(octets) => assert!(rt; octets.as_slice() == TWOS.as_slice()),
         Err(_) => met(&rt, "TeletexString::to_bytes")?,
     }
     assert!(rt; has(&string, 48, 0x32));
@@ -267,20 +267,17 @@ fn into_string_asks_for_nothing(rt: HostRuntime) -> Result<(), Fail> {
     let Some(string) = twos::<VisibleString>(rt.alloc()) else {
         return met_before(&rt, "into_string");
     };
-    assert_eq!(rt; string.into_string().as_str(), TEXT);
+    assert!(rt; string.into_string().as_str() == TEXT);
     Ok(())
 }
 
 #[test]
 fn empty_strings_ask_for_nothing(rt: HostRuntime) -> Result<(), Fail> {
     let empty = from_slice::<Ia5String>(rt.alloc(), &[])?;
-    assert_eq!(rt; empty.clone()?.len(), 0);
-    assert_eq!(rt; from_str::<BmpString>(rt.alloc(), "")?.to_bytes()?.len(), 0);
+    assert!(rt; empty.clone()?.len() == 0);
+    assert!(rt; from_str::<BmpString>(rt.alloc(), "")?.to_bytes()?.len() == 0);
     let octets = OctetString::from_static(&[]);
-    assert_eq!(rt;
-        VisibleString::try_from_octet_string(rt.alloc(), octets)?.len(),
-        0
-    );
+    assert!(rt; VisibleString::try_from_octet_string(rt.alloc(), octets)?.len() == 0);
     Ok(())
 }
 

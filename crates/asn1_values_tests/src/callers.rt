@@ -38,9 +38,9 @@ fn callers_stand_on_the_contracts(rt: HostRuntime) -> Result<(), Fail> {
     let mut reader = BitReader::from_octets(&[0xF6, 0x94, 0x02]);
     let shapes = [Shape::Number { width: 4 }, Shape::Octets { count: 1 }];
     let mut front = copies_the_front(rt.alloc(), &mut reader, &shapes).ok_or("read")?;
-    assert_eq!(rt; reader.len(), 12);
-    assert_eq!(rt; front.len(), 12);
+    assert!(rt; reader.len() == 12);
+    assert!(rt; front.len() == 12);
     writes_nothing(&mut front)?;
-    assert_eq!(rt; front.as_bytes(), [0xF6, 0x90].as_slice());
+    assert!(rt; front.as_bytes() == [0xF6, 0x90].as_slice());
     Ok(())
 }

@@ -22,8 +22,8 @@ fn fields_are_written_behind_the_old_bits(rt: HostRuntime) -> Result<(), Fail> {
         },
     ];
     write_fields(&mut buffer, &fields)?;
-    assert_eq!(rt; buffer.len(), 30);
-    assert_eq!(rt; buffer.as_bytes(), [0xF6, 0x94, 0x02, 0x00].as_slice());
+    assert!(rt; buffer.len() == 30);
+    assert!(rt; buffer.as_bytes() == [0xF6, 0x94, 0x02, 0x00].as_slice());
     Ok(())
 }
 
@@ -44,7 +44,7 @@ fn fields_are_read_from_any_bit(rt: HostRuntime) -> Result<(), Fail> {
         Shape::Number { width: 16 },
     ];
     let (fields, left) = found(rt.alloc(), view, &shapes)?;
-    assert_eq!(rt; fields.len(), 3);
+    assert!(rt; fields.len() == 3);
     assert!(rt; matches!(&fields[0], Field::Number { value: 5, width: 3 }));
     assert!(rt; is_a_copy(&fields[1], 0xA5));
     assert!(rt;
@@ -56,7 +56,7 @@ fn fields_are_read_from_any_bit(rt: HostRuntime) -> Result<(), Fail> {
             }
         )
     );
-    assert_eq!(rt; left, 2);
+    assert!(rt; left == 2);
     Ok(())
 }
 
@@ -66,11 +66,11 @@ fn octets_are_lent_where_they_lie_on_octet_boundaries(rt: HostRuntime) -> Result
     let view = BitStr::new(&octets, 8, 24).ok_or("within")?;
     let mut reader = BitReader::new(view);
     let fields = read_fields(rt.alloc(), &mut reader, &[Shape::Octets { count: 1 }])?;
-    assert_eq!(rt; fields.len(), 1);
+    assert!(rt; fields.len() == 1);
     match &fields[0] {
         Field::Octets(octets) => {
             assert!(rt; matches!(octets, Octets::Borrowed(_)));
-            assert_eq!(rt; octets.as_ref(), [0x94].as_slice());
+            assert!(rt; octets.as_ref() == [0x94].as_slice());
         }
         _ => assert!(rt; false),
     }
@@ -83,15 +83,15 @@ fn no_octets_are_read_at_any_bit(rt: HostRuntime) -> Result<(), Fail> {
         let view = BitStr::new(&[0xF6, 0x94], first, 8).ok_or("within")?;
         let mut reader = BitReader::new(view);
         let fields = read_fields(rt.alloc(), &mut reader, &[Shape::Octets { count: 0 }])?;
-        assert_eq!(rt; fields.len(), 1);
+        assert!(rt; fields.len() == 1);
         match &fields[0] {
             Field::Octets(octets) => {
-                assert_eq!(rt; octets.as_ref().len(), 0);
-                assert_eq!(rt; matches!(octets, Octets::Borrowed(_)), first == 8);
+                assert!(rt; octets.as_ref().len() == 0);
+                assert!(rt; matches!(octets, Octets::Borrowed(_)) == (first == 8));
             }
             _ => assert!(rt; false),
         }
-        assert_eq!(rt; reader.len(), 8);
+        assert!(rt; reader.len() == 8);
     }
     Ok(())
 }
@@ -103,7 +103,7 @@ fn a_wide_number_is_written_and_read_behind_up_to_seven_ones(rt: HostRuntime) ->
         let mut buffer = BitBuffer::new(rt.alloc());
         buffer.resize(ones, true)?;
         write_fields(&mut buffer, &[Field::Number { value, width: 128 }])?;
-        assert_eq!(rt; buffer.len(), ones + 128);
+        assert!(rt; buffer.len() == ones + 128);
         let octets = buffer.into_vec();
         // To the end of the last octet, which has up to seven zeros behind the number: one behind
         // seven ones.
@@ -112,12 +112,12 @@ fn a_wide_number_is_written_and_read_behind_up_to_seven_ones(rt: HostRuntime) ->
         let mut reader = BitReader::new(view);
         let fields = read_fields(rt.alloc(), &mut reader, &[Shape::Number { width: 128 }])?;
         assert!(rt; all_same(fields.as_slice(), &[Field::Number { value, width: 128 }]));
-        assert_eq!(rt; reader.len(), behind);
+        assert!(rt; reader.len() == behind);
         if ones == 7 {
             let mut wanted = [0u8; 17];
             wanted[0] = 0xFF;
             wanted[16] = 0x02;
-            assert_eq!(rt; octets.as_slice(), wanted.as_slice());
+            assert!(rt; octets.as_slice() == wanted.as_slice());
         }
     }
     Ok(())
@@ -168,12 +168,12 @@ fn all_kinds_are_written_and_read(rt: HostRuntime) -> Result<(), Fail> {
     let (fields, shapes) = five_kinds()?;
     assert!(rt; are_five_shapes(&shapes));
     let buffer = written_counted(rt.alloc(), &fields)?;
-    assert_eq!(rt; buffer.len(), 36);
+    assert!(rt; buffer.len() == 36);
     let wanted = [0xF6, 0x94, 0x02, 0x03, 0xA0];
-    assert_eq!(rt; buffer.as_bytes(), wanted.as_slice());
+    assert!(rt; buffer.as_bytes() == wanted.as_slice());
     let (read, left) = found(rt.alloc(), bits_of(&wanted, 3, 37)?, &shapes)?;
     assert!(rt; all_same(read.as_slice(), &fields));
-    assert_eq!(rt; left, 4);
+    assert!(rt; left == 4);
     Ok(())
 }
 
@@ -185,8 +185,8 @@ fn bits_are_written_before_a_number(rt: HostRuntime) -> Result<(), Fail> {
         Field::Number { value: 1, width: 1 },
     ];
     write_fields(&mut buffer, &fields)?;
-    assert_eq!(rt; buffer.len(), 6);
-    assert_eq!(rt; buffer.as_bytes(), [0xD4].as_slice());
+    assert!(rt; buffer.len() == 6);
+    assert!(rt; buffer.as_bytes() == [0xD4].as_slice());
     Ok(())
 }
 
@@ -196,22 +196,22 @@ fn reading_names_the_first_wrong_field(rt: HostRuntime) -> Result<(), Fail> {
     let mut reader = BitReader::from_octets(&octets);
     let shapes = [Shape::Number { width: 3 }, Shape::Octets { count: 2 }];
     let refused = read_fields(rt.alloc(), &mut reader, &shapes).err();
-    assert_eq!(rt; refused, Some(ReadError::Short { field: 1, bits: 3 }));
+    assert!(rt; refused == Some(ReadError::Short { field: 1, bits: 3 }));
     assert!(rt; reader.bits() == BitStr::from_octets(&octets));
     let mut none = BitReader::from_octets(&[]);
     let most = [Shape::Octets { count: usize::MAX }];
     let refused = read_fields(rt.alloc(), &mut none, &most).err();
     let bits = 147573952589676412920;
-    assert_eq!(rt; refused, Some(ReadError::Short { field: 0, bits }));
+    assert!(rt; refused == Some(ReadError::Short { field: 0, bits }));
     let wide = [Shape::Number { width: 8 }, Shape::Number { width: 129 }];
     let refused = read_fields(rt.alloc(), &mut none, &wide).err();
-    assert_eq!(rt; refused, Some(ReadError::Short { field: 0, bits: 8 }));
+    assert!(rt; refused == Some(ReadError::Short { field: 0, bits: 8 }));
     let refused = read_fields(rt.alloc(), &mut BitReader::from_octets(&[0]), &wide).err();
     let wanted = ReadError::NumberWidth {
         field: 1,
         width: 129,
     };
-    assert_eq!(rt; refused, Some(wanted));
+    assert!(rt; refused == Some(wanted));
     Ok(())
 }
 
@@ -224,11 +224,11 @@ fn writing_names_the_first_wrong_field(rt: HostRuntime) -> Result<(), Fail> {
         Field::Number { value: 8, width: 3 },
     ];
     let refused = write_fields(&mut buffer, &fields).err();
-    assert_eq!(rt; refused, Some(WriteError::Number { field: 1 }));
-    assert_eq!(rt; buffer.len(), 3);
-    assert_eq!(rt; buffer.as_bytes(), [0xA0].as_slice());
+    assert!(rt; refused == Some(WriteError::Number { field: 1 }));
+    assert!(rt; buffer.len() == 3);
+    assert!(rt; buffer.as_bytes() == [0xA0].as_slice());
     let refused = write_fields(&mut buffer, &[Field::Number { value: 1, width: 0 }]).err();
-    assert_eq!(rt; refused, Some(WriteError::Number { field: 0 }));
+    assert!(rt; refused == Some(WriteError::Number { field: 0 }));
     let wide = [Field::Number {
         value: 0,
         width: 129,
@@ -238,15 +238,15 @@ fn writing_names_the_first_wrong_field(rt: HostRuntime) -> Result<(), Fail> {
         field: 0,
         width: 129,
     };
-    assert_eq!(rt; refused, Some(wanted));
+    assert!(rt; refused == Some(wanted));
     write_fields(&mut buffer, &[Field::Number { value: 0, width: 0 }])?;
-    assert_eq!(rt; buffer.len(), 3);
-    assert_eq!(rt; buffer.as_bytes(), [0xA0].as_slice());
+    assert!(rt; buffer.len() == 3);
+    assert!(rt; buffer.as_bytes() == [0xA0].as_slice());
     Ok(())
 }
 
 #[test]
 fn fields_and_shapes_are_small(rt: HostRuntime) {
-    assert_eq!(rt; size_of::<Field<'_, '_>>(), 64);
-    assert_eq!(rt; size_of::<Shape<'_>>(), 64);
+    assert!(rt; size_of::<Field<'_, '_>>() == 64);
+    assert!(rt; size_of::<Shape<'_>>() == 64);
 }

@@ -46,14 +46,14 @@ fn a_message_is_refused_wherever_it_is_cut(rt: HostRuntime) -> Result<(), Fail> 
                 wanted = Some(ReadError::Short { field, bits });
             }
         }
-        assert_eq!(rt; refused, wanted);
+        assert!(rt; refused == wanted);
         assert!(rt; reader.bits() == view);
     }
     let view = BitStr::new(&[0xF6, 0x94, 0x02, 0x02], 3, 28).ok_or("within")?;
     let mut reader = BitReader::new(view);
     let read = read_fields(rt.alloc(), &mut reader, &shapes())?;
     assert!(rt; all_same(read.as_slice(), &message()));
-    assert_eq!(rt; reader.len(), 0);
+    assert!(rt; reader.len() == 0);
     Ok(())
 }
 
@@ -63,16 +63,16 @@ fn a_message_is_read_from_each_bit_of_an_octet(rt: HostRuntime) -> Result<(), Fa
         let mut buffer = BitBuffer::new(rt.alloc());
         buffer.resize(start, true)?;
         write_fields(&mut buffer, &message())?;
-        assert_eq!(rt; buffer.len(), start + 28);
+        assert!(rt; buffer.len() == start + 28);
         buffer.push(false)?;
         let view = BitStr::new(buffer.as_bytes(), start, 29).ok_or("within")?;
         let mut reader = BitReader::new(view);
         let read = read_fields(rt.alloc(), &mut reader, &shapes())?;
         assert!(rt; all_same(read.as_slice(), &message()));
-        assert_eq!(rt; reader.len(), 1);
+        assert!(rt; reader.len() == 1);
         match read.get(1) {
             Some(Field::Octets(octets)) => {
-                assert_eq!(rt; matches!(octets, Octets::Borrowed(_)), start == 5);
+                assert!(rt; matches!(octets, Octets::Borrowed(_)) == (start == 5));
             }
             _ => assert!(rt; false),
         }
@@ -88,9 +88,9 @@ fn bits_are_a_view_of_the_storage(rt: HostRuntime) -> Result<(), Fail> {
     let read = read_fields(rt.alloc(), &mut BitReader::new(view), &shapes)?;
     match (read.get(0), read.get(1)) {
         (Some(Field::Bits(six)), Some(Field::Bits(none))) => {
-            assert_eq!(rt; six.shift(), 3);
+            assert!(rt; six.shift() == 3);
             assert!(rt; *six == BitStr::new(&octets, 3, 6).ok_or("within")?);
-            assert_eq!(rt; none.shift(), 1);
+            assert!(rt; none.shift() == 1);
             assert!(rt; none.is_empty());
         }
         _ => assert!(rt; false),
@@ -102,11 +102,11 @@ fn bits_are_a_view_of_the_storage(rt: HostRuntime) -> Result<(), Fail> {
 fn is_the_greatest(rt: &impl Abort, alloc: Global, width: usize, most: u128) -> Result<(), Fail> {
     let field = [Field::Number { value: most, width }];
     let buffer = written(alloc, 0, &field)?;
-    assert_eq!(rt; buffer.len(), width);
+    assert!(rt; buffer.len() == width);
     let view = bits_of(buffer.as_bytes(), 0, width)?;
     let (read, left) = found(alloc, view, &[Shape::Number { width }])?;
     assert!(rt; all_same(read.as_slice(), &field));
-    assert_eq!(rt; left, 0);
+    assert!(rt; left == 0);
     Ok(())
 }
 
@@ -114,8 +114,8 @@ fn is_the_greatest(rt: &impl Abort, alloc: Global, width: usize, most: u128) -> 
 fn is_refused(rt: &impl Abort, alloc: Global, value: u128, width: usize, wanted: WriteError) {
     let mut buffer = BitBuffer::new(alloc);
     let refused = write_fields(&mut buffer, &[Field::Number { value, width }]).err();
-    assert_eq!(rt; refused, Some(wanted));
-    assert_eq!(rt; buffer.len(), 0);
+    assert!(rt; refused == Some(wanted));
+    assert!(rt; buffer.len() == 0);
 }
 
 #[test]
@@ -143,6 +143,6 @@ fn numbers_fit_their_widths_or_are_refused(rt: HostRuntime) -> Result<(), Fail> 
         field: 0,
         width: 129,
     };
-    assert_eq!(rt; refused, Some(wanted));
+    assert!(rt; refused == Some(wanted));
     Ok(())
 }

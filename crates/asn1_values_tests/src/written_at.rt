@@ -19,8 +19,8 @@ fn leaves<R: Abort + AllocGlobal>(
 ) -> Result<(), Fail> {
     let mut octets = Vec::from_slice(rt.alloc(), before)?;
     let answer = write_fields_at(octets.as_mut_slice(), position, fields)?;
-    assert_eq!(rt; answer, next, "at bit {position}");
-    assert_eq!(rt; octets.as_slice(), after, "at bit {position}");
+    assert!(rt; answer == next, "at bit {position}");
+    assert!(rt; octets.as_slice() == after, "at bit {position}");
     Ok(())
 }
 
@@ -33,8 +33,8 @@ fn refuses<R: Abort + AllocGlobal>(
 ) -> Result<(), Fail> {
     let mut octets = [0xF6, 0x94, 0x02];
     let answer = write_fields_at(&mut octets, position, fields).err();
-    assert_eq!(rt; answer, Some(error), "at bit {position}");
-    assert_eq!(rt; octets.as_slice(), [0xF6, 0x94, 0x02].as_slice());
+    assert!(rt; answer == Some(error), "at bit {position}");
+    assert!(rt; octets.as_slice() == [0xF6, 0x94, 0x02].as_slice());
     Ok(())
 }
 

@@ -123,17 +123,14 @@ fn the_record_with_markers_has_its_octets(rt: HostRuntime) -> Result<(), Fail> {
     let Ok(octets) = encode(&format()?, rt.alloc(), &record) else {
         return Err("the record is right".into());
     };
-    assert_eq!(rt; octets.as_slice(), RECORD.as_slice());
+    assert!(rt; octets.as_slice() == RECORD.as_slice());
     Ok(())
 }
 
 #[test]
 fn its_octets_are_a_record_with_markers(rt: HostRuntime) -> Result<(), Fail> {
     let copy = record_again(&format()?, rt.alloc(), &RECORD, 0)?;
-    assert_eq!(rt;
-        copy.ok_or("read and written")?.as_slice(),
-        RECORD.as_slice()
-    );
+    assert!(rt; copy.ok_or("read and written")?.as_slice() == RECORD.as_slice());
     Ok(())
 }
 
@@ -142,10 +139,7 @@ fn a_bit_turned_is_refused_or_another_record(rt: HostRuntime) -> Result<(), Fail
     let format = format()?;
     for start in 0..8usize {
         let octets = shifted(rt.alloc(), start)?;
-        assert_eq!(rt;
-            record_again(&format, rt.alloc(), &octets, start)?.ok_or("read")?,
-            octets
-        );
+        assert!(rt; record_again(&format, rt.alloc(), &octets, start)?.ok_or("read")? == octets);
         for bit in start..start + 8 * RECORD.len() {
             let other = turned(rt.alloc(), &octets, bit)?;
             if let Some(again) = record_again(&format, rt.alloc(), &other, start)? {

@@ -66,7 +66,7 @@ fn unfit(alloc: Global, record: PersonnelRecord) -> Result<String, Fail> {
 fn the_record_of_the_standard_has_its_octets(rt: HostRuntime) -> Result<(), Fail> {
     let record = smith(rt.alloc(), children(rt.alloc())?)?;
     let octets = written(rt.alloc(), &record)?;
-    assert_eq!(rt; octets.as_slice(), RECORD.as_slice());
+    assert!(rt; octets.as_slice() == RECORD.as_slice());
     Ok(())
 }
 
@@ -100,7 +100,7 @@ fn what_is_cut_is_refused_by_the_part_that_is_short(rt: HostRuntime) -> Result<(
         (33, "children, number of items: 1 bits are missing"),
     ];
     for (length, said) in ends {
-        assert_eq!(rt; wrong(rt.alloc(), &RECORD[..length])?.as_str(), said);
+        assert!(rt; wrong(rt.alloc(), &RECORD[..length])?.as_str() == said);
     }
     for length in 0..RECORD.len() {
         wrong(rt.alloc(), &RECORD[..length])?;
@@ -129,14 +129,11 @@ fn other_octets_are_refused_by_the_part_that_is_wrong(rt: HostRuntime) -> Result
         if let Some(place) = octets.get_mut(index) {
             *place = octet;
         }
-        assert_eq!(rt; wrong(rt.alloc(), &octets)?.as_str(), said);
+        assert!(rt; wrong(rt.alloc(), &octets)?.as_str() == said);
     }
     let mut longer = [0; 62];
     longer[..61].copy_from_slice(&RECORD);
-    assert_eq!(rt;
-        wrong(rt.alloc(), &longer)?.as_str(),
-        "8 bits stand behind the message"
-    );
+    assert!(rt; wrong(rt.alloc(), &longer)?.as_str() == "8 bits stand behind the message");
     Ok(())
 }
 
@@ -146,9 +143,9 @@ fn unfit_parts_are_named(rt: HostRuntime) -> Result<(), Fail> {
     let ann = name(rt.alloc(), b"Ann", b"", b"Smith")?;
     children.push(ChildInformation::new(ann, text(rt.alloc(), b"19610717")?))?;
     let record = smith(rt.alloc(), children)?;
-    assert_eq!(rt;
-        unfit(rt.alloc(), record)?.as_str(),
-        "children, item 2, name, initial, number of items: below the least"
+    assert!(rt;
+        unfit(rt.alloc(), record)?.as_str()
+            == "children, item 2, name, initial, number of items: below the least"
     );
     Ok(())
 }
@@ -159,19 +156,19 @@ fn no_children_are_not_written_and_may_be_read(rt: HostRuntime) -> Result<(), Fa
     let octets = written(rt.alloc(), &record)?;
     // The presence bit 0, and the octets of the standard up to the spouse, of which seven bits are
     // in octet 33.
-    assert_eq!(rt; octets.len(), 33);
-    assert_eq!(rt; octets[0], 0x06);
-    assert_eq!(rt; octets[1..32], RECORD[1..32]);
-    assert_eq!(rt; octets[32], 0x80);
+    assert!(rt; octets.len() == 33);
+    assert!(rt; octets[0] == 0x06);
+    assert!(rt; octets[1..32] == RECORD[1..32]);
+    assert!(rt; octets[32] == 0x80);
     let read = found(rt.alloc(), &octets)?;
     assert!(rt; is_smith(&read));
-    assert_eq!(rt; read.children().len(), 0);
+    assert!(rt; read.children().len() == 0);
     // BASIC-PER may write the empty list: the presence bit 1, and a number of items of 0.
     let mut longer = [0; 34];
     longer[..32].copy_from_slice(&RECORD[..32]);
     longer[32] = 0x80;
     let read = found(rt.alloc(), &longer)?;
     assert!(rt; is_smith(&read));
-    assert_eq!(rt; read.children().len(), 0);
+    assert!(rt; read.children().len() == 0);
     Ok(())
 }

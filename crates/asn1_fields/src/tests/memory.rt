@@ -23,8 +23,8 @@ fn an_input_in_memory_has_its_answer(rt: HostRuntime) -> Result<(), Fail> {
     let Ok((status, output)) = answer_of(rt.alloc(), b"c d2\n0200808837\n0\n") else {
         return Err("no answer".into());
     };
-    assert_eq!(rt; status, 0);
+    assert!(rt; status == 0);
     let expected = b"c 0080\nd 2.999\nrest 0\nagain 0200808837\n";
-    assert_eq!(rt; output.as_slice(), expected.as_slice());
+    assert!(rt; output.as_slice() == expected.as_slice());
     Ok(())
 }

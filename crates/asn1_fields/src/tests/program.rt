@@ -20,8 +20,8 @@ fn answers<R: Abort + AllocGlobal>(
 ) -> Result<(), Fail> {
     let mut written = Vec::new(rt.alloc());
     let answered = runs(rt.alloc(), &mut input.as_bytes(), &mut written);
-    assert_eq!(rt; answered, Ok(status), "{input:?}");
-    assert_eq!(rt; written.as_slice(), output.as_bytes(), "{input:?}");
+    assert!(rt; answered == Ok(status), "{input:?}");
+    assert!(rt; written.as_slice() == output.as_bytes(), "{input:?}");
     Ok(())
 }
 
@@ -198,10 +198,10 @@ fn reading_and_writing_may_fail(rt: HostRuntime) -> Result<(), Fail> {
         text: b"n3\n00\n0\n",
     };
     let answered = runs(rt.alloc(), &mut input, &mut written);
-    assert_eq!(rt; answered, Err(RunError::Read));
-    assert_eq!(rt; written.len(), 0);
+    assert!(rt; answered == Err(RunError::Read));
+    assert!(rt; written.len() == 0);
     let answered = runs(rt.alloc(), &mut b"n3\n00\n0\n".as_slice(), &mut Full);
-    assert_eq!(rt; answered, Err(RunError::Write));
+    assert!(rt; answered == Err(RunError::Write));
     Ok(())
 }
 
@@ -253,9 +253,9 @@ fn long_inputs_are_read_to_their_end_and_answered_at_once(rt: HostRuntime) -> Re
         text: input.as_bytes(),
     };
     let answered = runs(rt.alloc(), &mut reader, &mut written);
-    assert_eq!(rt; answered, Ok(0));
-    assert_eq!(rt; written.octets.as_slice(), output.as_bytes());
-    assert_eq!(rt; written.writes, 1);
+    assert!(rt; answered == Ok(0));
+    assert!(rt; written.octets.as_slice() == output.as_bytes());
+    assert!(rt; written.writes == 1);
     Ok(())
 }
 
@@ -283,8 +283,8 @@ fn each_read_may_fail(rt: HostRuntime) -> Result<(), Fail> {
         let front = text.get(..k).ok_or("within")?;
         let mut written = Vec::new(rt.alloc());
         let answered = runs(rt.alloc(), &mut Failing { text: front }, &mut written);
-        assert_eq!(rt; answered, Err(RunError::Read));
-        assert_eq!(rt; written.len(), 0);
+        assert!(rt; answered == Err(RunError::Read));
+        assert!(rt; written.len() == 0);
     }
     Ok(())
 }
@@ -294,9 +294,9 @@ fn an_input_without_end_is_given_up(rt: HostRuntime) -> Result<(), Fail> {
     let mut input = Endless { reads: 0 };
     let mut written = Vec::new(rt.alloc());
     let answered = runs(rt.alloc(), &mut input, &mut written);
-    assert_eq!(rt; answered, Err(RunError::Read));
-    assert_eq!(rt; input.reads, 1_048_576);
-    assert_eq!(rt; written.len(), 0);
+    assert!(rt; answered == Err(RunError::Read));
+    assert!(rt; input.reads == 1_048_576);
+    assert!(rt; written.len() == 0);
     Ok(())
 }
 
@@ -327,12 +327,12 @@ fn each_write_may_fail(rt: HostRuntime) -> Result<(), Fail> {
     for most in 0..20usize {
         let mut output = FullAfter { taken: 0, most };
         let answered = runs(rt.alloc(), &mut b"n3\n00\n0\n".as_slice(), &mut output);
-        assert_eq!(rt; answered, Err(RunError::Write));
-        assert_eq!(rt; output.taken, most);
+        assert!(rt; answered == Err(RunError::Write));
+        assert!(rt; output.taken == most);
     }
     let mut output = FullAfter { taken: 0, most: 20 };
     let answered = runs(rt.alloc(), &mut b"n3\n00\n0\n".as_slice(), &mut output);
-    assert_eq!(rt; answered, Ok(0));
+    assert!(rt; answered == Ok(0));
     Ok(())
 }
 
@@ -369,8 +369,8 @@ fn an_answer_is_flushed(rt: HostRuntime) -> Result<(), Fail> {
             flushed: 0,
         };
         let answered = runs(rt.alloc(), &mut b"n3\n00\n0\n".as_slice(), &mut output);
-        assert_eq!(rt; answered, if fails { Err(RunError::Write) } else { Ok(0) });
-        assert_eq!(rt; output.flushed, if fails { 0 } else { 20 });
+        assert!(rt; answered == if fails { Err(RunError::Write) } else { Ok(0) });
+        assert!(rt; output.flushed == if fails { 0 } else { 20 });
     }
     Ok(())
 }

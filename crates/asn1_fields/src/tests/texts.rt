@@ -25,7 +25,7 @@ fn refusals_have_the_texts_of_their_errors(rt: HostRuntime) -> Result<(), Fail> 
     for error in errors {
         let printed = print_refusal(rt.alloc(), error)?;
         let expected = format!(in rt.alloc(); "refused: {error}\n")?;
-        assert_eq!(rt; printed.as_str(), expected.as_str());
+        assert!(rt; printed.as_str() == expected.as_str());
     }
     Ok(())
 }

@@ -80,9 +80,9 @@ fn check_readings<T: IntegerType + Drop>(
             for has_sign in [false, true] {
                 let want = refusal(octet, count, size, is_signed, has_sign);
                 let read_octets = read::<T>(alloc, part, has_sign);
-                assert_eq!(rt; read_octets.err(), want, "{octet} times {count}");
+                assert!(rt; read_octets.err() == want, "{octet} times {count}");
                 if want.is_none() {
-                    assert_eq!(rt; read_octets, Ok(value_of(octet, count, has_sign)));
+                    assert!(rt; read_octets == Ok(value_of(octet, count, has_sign)));
                 }
             }
         }

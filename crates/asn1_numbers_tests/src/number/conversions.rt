@@ -61,15 +61,12 @@ fn a_number_past_i128_is_given_out_by_a_wider_type_alone(rt: HostRuntime) -> Res
     above[1] = 0x80;
     let above = with_sign(rt.alloc(), &above)?;
     assert!(rt; is_given_out(&above, None, None, None));
-    assert_eq!(rt;
-        as_type::<u128>(above),
-        Some(170141183460469231731687303715884105728)
-    );
+    assert!(rt; as_type::<u128>(above) == Some(170141183460469231731687303715884105728));
     let mut below = [0xFF; 17];
     below[1] = 0x7F;
     let below = with_sign(rt.alloc(), &below)?;
     assert!(rt; is_given_out(&below, None, None, None));
-    assert_eq!(rt; as_type::<i128>(below), None);
+    assert!(rt; as_type::<i128>(below) == None);
     Ok(())
 }
 
@@ -95,7 +92,7 @@ fn each_native_type_is_kept_and_given_back(rt: HostRuntime) {
     assert!(rt; is_given_back::<isize>(Integer::from(isize::MIN), -9223372036854775808));
     assert!(rt; is_given_back::<i128>(Integer::from(i128::MIN), i128::MIN));
     assert!(rt; is_given_back::<u128>(Integer::from(7u8), 7));
-    assert_eq!(rt; Integer::default(), Integer::zero());
+    assert!(rt; Integer::default() == Integer::zero());
 }
 
 /// Whether the type refuses the number.
@@ -111,7 +108,7 @@ fn a_number_past_a_bound_is_handed_back(rt: HostRuntime) {
     let Err(refused) = u8::try_from(Integer::from(256i16)) else {
         return assert!(rt; false, "a u8 holds no 256");
     };
-    assert_eq!(rt; refused.into_original().to_i128(), Some(256));
+    assert!(rt; refused.into_original().to_i128() == Some(256));
 }
 
 #[test]

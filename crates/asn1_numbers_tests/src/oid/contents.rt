@@ -70,11 +70,11 @@ fn contents_are_written_and_read(rt: HostRuntime) -> Result<(), Fail> {
     for (arcs, octets) in rows {
         assert!(rt; are_contents_of(rt.alloc(), octets, arcs)?, "{arcs:?}");
         let count = octets.len();
-        assert_eq!(rt; counts_of(arcs), Some((count as u128, count, Some(count))));
+        assert!(rt; counts_of(arcs) == Some((count as u128, count, Some(count))));
     }
     for arcs in [[0], [1], [2]] {
         assert!(rt; contents_of(rt.alloc(), &arcs)?.is_none());
-        assert_eq!(rt; Oid::new(&arcs).ok_or("valid")?.contents_len(), None);
+        assert!(rt; Oid::new(&arcs).ok_or("valid")?.contents_len() == None);
     }
     Ok(())
 }
@@ -86,12 +86,12 @@ fn the_octets_that_are_left_are_appended(rt: HostRuntime) -> Result<(), Fail> {
     for read in 0..=9usize {
         let mut contents = rsa.contents().ok_or("two arcs")?;
         for octet in &octets[..read] {
-            assert_eq!(rt; contents.next(), Some(*octet));
+            assert!(rt; contents.next() == Some(*octet));
         }
         let mut written = [0x06, 0x09].to_vec(rt.alloc())?;
         contents.append_to(&mut written)?;
         assert!(rt; written.starts_with(&[0x06, 0x09]));
-        assert_eq!(rt; &written[2..], &octets[read..], "{read}");
+        assert!(rt; &written[2..] == &octets[read..], "{read}");
     }
     Ok(())
 }
@@ -101,8 +101,8 @@ fn octets_that_were_taken_are_hinted_at_no_more(rt: HostRuntime) -> Result<(), F
     let rsa = Oid::new(&[1, 2, 840, 113549]).ok_or("valid")?;
     let mut contents = rsa.contents().ok_or("two arcs")?;
     for left in [6usize, 5, 4, 3, 2, 1, 0] {
-        assert_eq!(rt; contents.size_hint(), (left, Some(left)));
-        assert_eq!(rt; contents.next().is_some(), left > 0);
+        assert!(rt; contents.size_hint() == (left, Some(left)));
+        assert!(rt; contents.next().is_some() == (left > 0));
     }
     Ok(())
 }
@@ -121,13 +121,13 @@ fn long_contents(alloc: Global) -> Result<(Vec<u8>, Vec<u32>), Fail> {
 #[test]
 fn long_contents_are_read_and_take_the_room_of_their_octets(rt: HostRuntime) -> Result<(), Fail> {
     let (octets, arcs) = long_contents(rt.alloc())?;
-    assert_eq!(rt; octets.len(), 4096);
+    assert!(rt; octets.len() == 4096);
     assert!(rt; are_read_as(rt.alloc(), octets.as_slice(), arcs.as_slice())?);
     let read = ObjectIdentifier::from_contents(rt.alloc(), &octets.as_slice())?;
     let CowSlice::Owned(kept) = read.into_arcs() else {
         return Err("arcs that were read are owned")?;
     };
-    assert_eq!(rt; kept.len(), 821);
+    assert!(rt; kept.len() == 821);
     assert!(rt; kept.capacity() <= 4097, "room for {}", kept.capacity());
     Ok(())
 }
@@ -137,10 +137,10 @@ fn long_contents_are_appended_into_room_for_five_octets_an_arc(
     rt: HostRuntime,
 ) -> Result<(), Fail> {
     let (octets, arcs) = long_contents(rt.alloc())?;
-    assert_eq!(rt; counts_of(arcs.as_slice()), Some((4096, 4096, Some(4096))));
+    assert!(rt; counts_of(arcs.as_slice()) == Some((4096, 4096, Some(4096))));
     let mut written = Vec::new(rt.alloc());
     append_contents(&mut written, arcs.as_slice())?;
-    assert_eq!(rt; written.as_slice(), octets.as_slice());
+    assert!(rt; written.as_slice() == octets.as_slice());
     assert!(rt;
         written.capacity() <= 4105,
         "room for {}",
@@ -150,7 +150,7 @@ fn long_contents_are_appended_into_room_for_five_octets_an_arc(
     let mut written = Vec::new(rt.alloc());
     written.resize(1000, 0x55)?;
     append_contents(&mut written, arcs.as_slice())?;
-    assert_eq!(rt; written.len(), 5096);
+    assert!(rt; written.len() == 5096);
     assert!(rt; written.iter().take(1000).all(|octet| *octet == 0x55));
     assert!(rt; written.ends_with(octets.as_slice()));
     assert!(rt;
@@ -173,7 +173,7 @@ fn refusals_have_their_texts(rt: HostRuntime) -> Result<(), Fail> {
     ];
     for (error, text) in rows {
         let written = format!(in rt.alloc(); "{error}")?;
-        assert_eq!(rt; written.as_str(), text);
+        assert!(rt; written.as_str() == text);
     }
     Ok(())
 }
@@ -196,7 +196,7 @@ fn subidentifiers_of_each_length_are_appended(rt: HostRuntime) -> Result<(), Fai
         let mut written = Vec::new(rt.alloc());
         append_contents(&mut written, &[2, 999, arc])?;
         assert!(rt; written.starts_with(&[0x88, 0x37]));
-        assert_eq!(rt; &written[2..], octets, "{arc}");
+        assert!(rt; &written[2..] == octets, "{arc}");
     }
     Ok(())
 }
@@ -227,7 +227,7 @@ fn other_octets_are_refused(rt: HostRuntime) -> Result<(), Fail> {
     ];
     for (octets, error) in rows {
         let both = (Some(error), Some(error));
-        assert_eq!(rt; refusals(rt.alloc(), octets), both, "{octets:?}");
+        assert!(rt; refusals(rt.alloc(), octets) == both, "{octets:?}");
     }
     Ok(())
 }
@@ -274,8 +274,8 @@ fn identifiers_of_many_arcs_have_contents(rt: HostRuntime) -> Result<(), Fail> {
     arcs[0] = 1;
     arcs[1] = 2;
     let written = contents_of(rt.alloc(), &arcs)?.ok_or("two arcs")?;
-    assert_eq!(rt; written.len(), 127);
-    assert_eq!(rt; written.first(), Some(&0x2A));
+    assert!(rt; written.len() == 127);
+    assert!(rt; written.first() == Some(&0x2A));
     assert!(rt; written.iter().skip(1).all(|octet| *octet == 3));
     assert!(rt; are_read_as(rt.alloc(), written.as_slice(), &arcs)?);
     Ok(())
@@ -285,9 +285,9 @@ fn identifiers_of_many_arcs_have_contents(rt: HostRuntime) -> Result<(), Fail> {
 fn identifiers_of_many_large_arcs_have_contents(rt: HostRuntime) -> Result<(), Fail> {
     let mut large = [4294967295; 128];
     large[0] = 2;
-    assert_eq!(rt; counts_of(&large), Some((635, 635, Some(635))));
+    assert!(rt; counts_of(&large) == Some((635, 635, Some(635))));
     let written = contents_of(rt.alloc(), &large)?.ok_or("two arcs")?;
-    assert_eq!(rt; written.len(), 635);
+    assert!(rt; written.len() == 635);
     assert!(rt; written.starts_with(&[0x90, 0x80, 0x80, 0x80, 0x4F, 0x8F, 0xFF, 0xFF, 0xFF, 0x7F]));
     assert!(rt; are_read_as(rt.alloc(), written.as_slice(), &large)?);
     Ok(())
@@ -318,7 +318,10 @@ fn compare_one(rt: &impl Abort, alloc: Global, octet: u8) -> Result<(), Fail> {
         assert!(rt; are_contents_of(alloc, &octets, &[x, y])?, "{octet}");
     } else {
         let malformed = Some(ContentsError::Malformed);
-        assert_eq!(rt; refusals(alloc, &octets), (malformed, malformed), "{octet}");
+        assert!(rt;
+            refusals(alloc, &octets) == (malformed, malformed),
+            "{octet}"
+        );
     }
     Ok(())
 }
@@ -335,9 +338,8 @@ fn compare_two(rt: &impl Abort, alloc: Global, first: u8, last: u8) -> Result<()
         assert!(rt; are_contents_of(alloc, &octets, &arcs)?, "{octets:?}");
     } else {
         let malformed = Some(ContentsError::Malformed);
-        assert_eq!(rt;
-            refusals(alloc, &octets),
-            (malformed, malformed),
+        assert!(rt;
+            refusals(alloc, &octets) == (malformed, malformed),
             "{octets:?}"
         );
     }

@@ -64,9 +64,9 @@ fn has_its_numbers<S: StaticPermittedAlphabet>(
     indexed: bool,
 ) {
     assert!(rt; S::CHARACTER_SET_NAME == name);
-    assert_eq!(rt; S::CHARACTER_SET_COUNT, count);
-    assert_eq!(rt; S::CHARACTER_SET_WIDTH, width);
-    assert_eq!(rt; S::CHARACTER_SET_MAX, largest);
+    assert!(rt; S::CHARACTER_SET_COUNT == count);
+    assert!(rt; S::CHARACTER_SET_WIDTH == width);
+    assert!(rt; S::CHARACTER_SET_MAX == largest);
     assert!(rt; S::IS_INDEXED == indexed);
 }
 
