@@ -3,7 +3,8 @@ use Rattle.asn1_number.specs.Octets.{signed}
 use Rattle.asn1_number.specs.Shortest.{shortest_octets}
 use Rattle.asn1_number.specs.Readings.{SignedOf, UnsignedOf, Unbounded}
 use Rattle.asn1_number.specs.Laws.{EachNumberHasOneShortestList, ComputedAreShortest, ShortestByNineBits, ShortestKeepOrder, ShortestAreReadBack}
-use Rattle.asn1_number.specs.OctetLaws.{nine_bits_from_shortest, shortest_from_nine_bits, shortest_order}
+use Rattle.asn1_number.specs.OctetLaws.{nine_bits_from_shortest, shortest_from_nine_bits}
+use Rattle.asn1_number.specs.OctetOrderLaws.{shortest_order}
 use Rattle.asn1_number.specs.ShortestLaws.{shortest_octets_are, shortest_octets_only}
 use Rattle.asn1_number.specs.ReadingLaws.{signed_law, unsigned_law, unbounded_law}
 

@@ -11,6 +11,7 @@ pub mod Forms
 pub mod Storage
 -- Laws of these words, for the proofs of this crate and of those above it; no contract cites them.
 pub mod OctetLaws
+pub mod OctetOrderLaws
 pub mod WidthLaws
 pub mod ReadingLaws
 pub mod ShortestLaws

@@ -2,7 +2,8 @@ use Rattle.std.proofs.Common.{rules, arith, ◌≡◌, take, sym, ap, ◌∙◌,
 use Rattle.std.specs.Int.{w64, w128}
 use Rattle.std.specs.Ordering.{int_cmp}
 use Rattle.asn1_number.specs.Octets.{signed}
-use Rattle.asn1_number.specs.OctetLaws.{octets_order, nine_bits_from_shortest}
+use Rattle.asn1_number.specs.OctetLaws.{nine_bits_from_shortest}
+use Rattle.asn1_number.specs.OctetOrderLaws.{octets_order}
 use Rattle.asn1_number.proofs.WordLemmas.{order_by_first}
 use Rattle.asn1_number.proofs.integer.octets_keys.Goals as goal
 
