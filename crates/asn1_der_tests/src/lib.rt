@@ -4,8 +4,6 @@
 #[cfg(test)]
 mod calls;
 #[cfg(test)]
-mod certificate;
-#[cfg(test)]
 mod combinators;
 #[cfg(test)]
 mod elements;

@@ -93,7 +93,7 @@ fn what_is_wrong_is_named(rt: HostRuntime) -> Result<(), Fail> {
     ];
     for (at, octet, expected) in rows {
         let text = refusal_of(rt.alloc(), at, octet).ok_or("it is wrong")?;
-        assert_eq!(rt; text.as_str(), expected);
+        assert!(rt; text.as_str() == expected);
     }
     Ok(())
 }
@@ -103,20 +103,20 @@ fn a_certificate_has_its_parts(rt: HostRuntime) -> Result<(), Fail> {
     let (parts, written) = parts_of(rt.alloc(), CERTIFICATE.as_slice())
         .ok()
         .ok_or("it is right")?;
-    assert_eq!(rt; written.as_slice(), CERTIFICATE.as_slice());
+    assert!(rt; written.as_slice() == CERTIFICATE.as_slice());
     // As `openssl x509 -text` prints it.
     let ed25519: &[u32] = &[1, 3, 101, 112];
-    assert_eq!(rt; parts.1.0.0.as_ref(), ed25519);
-    assert_eq!(rt; parts.1.1.0.len(), 512);
+    assert!(rt; parts.1.0.0.as_ref() == ed25519);
+    assert!(rt; parts.1.1.0.len() == 512);
     let tbs = &parts.0;
-    assert_eq!(rt; tbs.1.0.to_i128(), Some(1));
-    assert_eq!(rt; tbs.1.1.0.0.as_ref(), ed25519);
+    assert!(rt; tbs.1.0.to_i128() == Some(1));
+    assert!(rt; tbs.1.1.0.0.as_ref() == ed25519);
     let middle = &tbs.1.1.1;
-    assert_eq!(rt; middle.0.len(), 1);
+    assert!(rt; middle.0.len() == 1);
     let from = moment_of(&middle.1.0.0);
-    assert_eq!(rt; (from.year, from.month, from.day), (2026, 11, 25));
-    assert_eq!(rt; (from.hour, from.minute, from.second), (12, 44, 28));
-    assert_eq!(rt; moment_of(&middle.1.0.1.0).day, 26);
-    assert_eq!(rt; middle.1.1.1.0.1.0.len(), 256);
+    assert!(rt; (from.year, from.month, from.day) == (2026, 11, 25));
+    assert!(rt; (from.hour, from.minute, from.second) == (12, 44, 28));
+    assert!(rt; moment_of(&middle.1.0.1.0).day == 26);
+    assert!(rt; middle.1.1.1.0.1.0.len() == 256);
     Ok(())
 }
