@@ -2,7 +2,7 @@
 use Rattle.std.proofs.Common.{◌≡◌, ℕ, ◌+◌, ◌-◌, ◌^◌, ◌<◌, ◌≤◌, ◌⊎◌, ⊎_elim, List, ◌++◌, Bool, length, map, take, drop, refl, sym, ◌∙◌, ap, subst, arith, take-add, take-append-drop, length-take-le, length-drop, Option}
 use Rattle.std.specs.Prelude.{IsTrue, nat_eq}
 use Rattle.std.proofs.lemmas.Bool.{eq-eqb}
-use Rattle.std.proofs.lemmas.List.{map-append, length-map, take_all}
+use Rattle.std.proofs.lemmas.List.{map-append, map-id, length-map, take_all}
 use Rattle.asn1_formats.specs.Spelling.{Fits, IsWritten, Measures, IsSumOf}
 use Rattle.asn1_formats.specs.Combined.{AreCounted, ItemMisfit}
 use Rattle.asn1_per.specs.Fragments.{IsPieceCount, AreFragments, AreFragmented}
@@ -123,3 +123,78 @@ module _ {X Y : Type 0} (P : Y → List Bool → Type 0) (f : X → Y) (xs : Lis
     pub misfit_measured : (left : ℕ) (a : Option ℕ) → MeasuredSoFar P left (map f (take start xs)) a
         → ItemMisfit P W (map f part) i e → ItemMisfit P W (map f xs) (start + i) e
     misfit_measured left a w m = misfit w.more w.measured.list w.measured.spelled m
+
+-- ---- a list that shows itself
+
+module _ {X : Type 0} (P : X → List Bool → Type 0) (xs : List X) (start count : ℕ) (within : start + count ≤ length xs)
+    (small : 2 ^ 14 ≤ count → 2 ^ 14 ≤ length xs - start) where
+  abbrev slice : List X
+  slice = take (start + count - start) (drop start xs)
+
+  abbrev IsPiece : Bool → List X → List Bool → Type 0
+  IsPiece more ys l = AreCounted (λ n m. IsPieceCount more n m) P ys l
+
+  shown : (ys : List X) → map (λ (x : X). x) ys ≡ ys
+  shown ys = map-id ys
+
+  so_written : (old mid : List Bool) → WrittenSoFar P (length xs - start) (take start xs) old mid
+      → WrittenSoFar P (length xs - start) (map (λ (x : X). x) (take start xs)) old mid
+  so_written old mid w =
+      subst (λ (ys : List X). WrittenSoFar P (length xs - start) ys old mid) (sym (shown (take start xs))) w
+
+  so_measured : (a : Option ℕ) → MeasuredSoFar P (length xs - start) (take start xs) a
+      → MeasuredSoFar P (length xs - start) (map (λ (x : X). x) (take start xs)) a
+  so_measured a w =
+      subst (λ (ys : List X). MeasuredSoFar P (length xs - start) ys a) (sym (shown (take start xs))) w
+
+  piece_written : (mid new : List Bool) → ((more : Bool) → (2 ^ 14 ≤ length slice → IsTrue more)
+      → IsWritten (IsPiece more) slice mid new)
+      → (more : Bool) → (2 ^ 14 ≤ length slice → IsTrue more) → IsWritten (IsPiece more) (map (λ (x : X). x) slice) mid new
+  piece_written mid new p = λ more may.
+      subst (λ (ys : List X). IsWritten (IsPiece more) ys mid new) (sym (shown slice)) (p more may)
+
+  piece_measured : (b : Option ℕ) → ((more : Bool) → (2 ^ 14 ≤ length slice → IsTrue more)
+      → Measures (IsPiece more) slice b)
+      → (more : Bool) → (2 ^ 14 ≤ length slice → IsTrue more) → Measures (IsPiece more) (map (λ (x : X). x) slice) b
+  piece_measured b p = λ more may.
+      subst (λ (ys : List X). Measures (IsPiece more) ys b) (sym (shown slice)) (p more may)
+
+  pub list_written_next : 2 ^ 14 ≤ count → (count ≡ 2 ^ 16) ⊎ (length xs - start < count + 2 ^ 14)
+      → (old mid new : List Bool) → WrittenSoFar P (length xs - start) (take start xs) old mid
+      → ((more : Bool) → (2 ^ 14 ≤ length slice → IsTrue more)
+      → IsWritten (λ ys l. AreCounted (λ n m. IsPieceCount more n m) P ys l) slice mid new)
+      → WrittenSoFar P (length xs - (start + count)) (take (start + count) xs) old new
+  list_written_next many large old mid new w p =
+      subst (λ (ys : List X). WrittenSoFar P (length xs - (start + count)) ys old new) (shown (take (start + count) xs))
+      (written_next P (λ (x : X). x) xs start count within small many large old mid new (so_written old mid w)
+      (piece_written mid new p))
+
+  pub list_written_end : count < 2 ^ 14 → start + count ≡ length xs → (old mid new : List Bool)
+      → WrittenSoFar P (length xs - start) (take start xs) old mid
+      → ((more : Bool) → (2 ^ 14 ≤ length slice → IsTrue more)
+      → IsWritten (λ ys l. AreCounted (λ n m. IsPieceCount more n m) P ys l) slice mid new)
+      → IsWritten (λ ys l. AreFragmented P ys l) xs old new
+  list_written_end few end old mid new w p =
+      subst (λ (ys : List X). IsWritten (λ zs l. AreFragmented P zs l) ys old new) (shown xs)
+      (written_end P (λ (x : X). x) xs start count within small few end old mid new (so_written old mid w)
+      (piece_written mid new p))
+
+  pub list_measured_next : 2 ^ 14 ≤ count → (count ≡ 2 ^ 16) ⊎ (length xs - start < count + 2 ^ 14)
+      → (a b c : Option ℕ) → MeasuredSoFar P (length xs - start) (take start xs) a
+      → ((more : Bool) → (2 ^ 14 ≤ length slice → IsTrue more)
+      → Measures (λ ys l. AreCounted (λ n m. IsPieceCount more n m) P ys l) slice b)
+      → IsSumOf a b c → MeasuredSoFar P (length xs - (start + count)) (take (start + count) xs) c
+  list_measured_next many large a b c w p sum =
+      subst (λ (ys : List X). MeasuredSoFar P (length xs - (start + count)) ys c) (shown (take (start + count) xs))
+      (measured_next P (λ (x : X). x) xs start count within small many large a b c (so_measured a w)
+      (piece_measured b p) sum)
+
+  pub list_measured_end : count < 2 ^ 14 → start + count ≡ length xs → (a b c : Option ℕ)
+      → MeasuredSoFar P (length xs - start) (take start xs) a
+      → ((more : Bool) → (2 ^ 14 ≤ length slice → IsTrue more)
+      → Measures (λ ys l. AreCounted (λ n m. IsPieceCount more n m) P ys l) slice b)
+      → IsSumOf a b c → Measures (λ ys l. AreFragmented P ys l) xs c
+  list_measured_end few end a b c w p sum =
+      subst (λ (ys : List X). Measures (λ zs l. AreFragmented P zs l) ys c) (shown xs)
+      (measured_end P (λ (x : X). x) xs start count within small few end a b c (so_measured a w)
+      (piece_measured b p) sum)

@@ -111,3 +111,8 @@ module _ {X F : Type 0} (P : X → List Bool → Type 0) (W : X → F → Type 0
         ap (λ (i : ℕ). let w : WrongItem F = record { index = i; wrong = e.wrong } in w) index
         ∙ ap (λ (x : F). let w : WrongItem F = record { index = g.index; wrong = x } in w) wrong;
   }
+
+-- items that each have a spelling are never wrong
+pub never_misfit : {X : Type 0} (P : X → List Bool → Type 0)
+    → NamesMisfit (λ xs l. AreFragmented P xs l) (λ (xs : List X) (e : NeverWrong). ⊥)
+never_misfit P = record { wrong = λ xs e p fits. p; one = λ xs e g p q. absurd p }

@@ -2,8 +2,9 @@
 -- is shorter than 16K and may have no items. `more` says whether a fragment may stand here.
 use Rattle.std.specs.Prelude.{◌≡◌, ℕ, ◌+◌, ◌*◌, ◌^◌, ◌<◌, ◌≤◌, ◌⊎◌, Bool, true, IsTrue, nat_eq, List, [], ◌∷◌, ◌++◌, length}
 use Rattle.asn1_formats.specs.Spelling.{Starts}
-use Rattle.asn1_formats.specs.Numbers.{IsNumber}
+use Rattle.asn1_formats.specs.Numbers.{IsNumber, IsShort}
 use Rattle.asn1_formats.specs.Combined.{After, AreCounted, SequenceOfFault}
+use Rattle.asn1_formats.specs.declared.number.Short as number
 use Rattle.asn1_formats.specs.declared.sequence_of.InSequenceOf.{InSequenceOf}
 use Rattle.asn1_formats.specs.declared.sequence_of.InSequenceOf.TheVariants as within
 use Rattle.asn1_per.specs.Lengths.{IsLengthDeterminant, LengthFaultIs}
@@ -92,3 +93,7 @@ pub record FragmentsFault {X F : Type 0} (P : X → List Bool → Type 0) (W : L
   pub rest : List Bool
   pub starts : Starts (λ ys l. AreFragments P more ys l) list before rest
   pub wrong : PieceWrong P W more (length before) rest e
+
+-- bits of an octet are missing
+abbrev pub IsOctetShort : List Bool → number.Short → Type 0
+IsOctetShort list e = IsShort 8 list e.missing

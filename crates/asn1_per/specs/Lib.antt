@@ -26,3 +26,4 @@ pub mod ExtensibleIntegerLaws
 pub mod PieceLaws
 pub mod FragmentLaws
 pub mod FragmentFaultLaws
+pub mod FragmentOctetLaws

@@ -11,6 +11,7 @@ use crate::natural_number::NaturalNumber;
 use crate::no_additions::NoAdditions;
 use crate::open_type::OpenType;
 use crate::unconstrained_number::UnconstrainedNumber;
+use crate::unconstrained_octet_string::UnconstrainedOctetString;
 use crate::unconstrained_sequence_of::UnconstrainedSequenceOf;
 use std::fmt;
 
@@ -93,5 +94,11 @@ impl<A: fmt::Display, D: fmt::Display> fmt::Display for Addition<A, D> {
 impl<A: fmt::Display> fmt::Display for UnconstrainedSequenceOf<A> {
     fn fmt<W: fmt::Write>(&self, f: &mut fmt::Formatter<W>) -> fmt::Result {
         write!(f, "SEQUENCE OF {}", self.item)
+    }
+}
+
+impl fmt::Display for UnconstrainedOctetString {
+    fn fmt<W: fmt::Write>(&self, f: &mut fmt::Formatter<W>) -> fmt::Result {
+        write!(f, "OCTET STRING")
     }
 }

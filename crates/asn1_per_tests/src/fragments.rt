@@ -1,8 +1,10 @@
-//! Lists of any number of items: octets worked by hand behind three ones, and octets alone.
+//! Lists and octets of any number: octets worked by hand behind three ones, and octets alone.
 
 use super::calls::{found, written};
-use asn1_formats::{Boolean, NoBit, Null, Number, PastWidth, Refusal, WriteRefusal};
-use asn1_per::{InFragments, PieceFault, UnconstrainedSequenceOf, WrongItem};
+use asn1_formats::{Boolean, NoBit, Null, Number, PastWidth, Refusal, Short, WriteRefusal};
+use asn1_per::{
+    InFragments, PieceFault, UnconstrainedOctetString, UnconstrainedSequenceOf, WrongItem,
+};
 use std::alloc::{AllocError, Global};
 use std::test::Fail;
 
@@ -133,6 +135,56 @@ fn an_item_that_does_not_fit_is_named(rt: HostRuntime) -> Result<(), Fail> {
             index: 16385,
             wrong: PastWidth {}
         }))
+    );
+    Ok(())
+}
+
+#[test]
+fn octets_stand_in_fragments(rt: HostRuntime) -> Result<(), Fail> {
+    let format = UnconstrainedOctetString {};
+    // 111 | 11000100 | 65,536 octets 11111111 | 11000001 | 16,384 octets 11111111 | 00000001 | 11111111
+    let values = repeated(rt.alloc(), 0xFF, 81921)?;
+    let buffer = written(&format, rt.alloc(), &values)?;
+    assert_eq!(rt; buffer.len(), 655395);
+    let octets = buffer.as_bytes();
+    let mut expected = repeated(rt.alloc(), 0xFF, 81925)?;
+    // 111 11000 | 100 11111, then 111 11000 | 001 11111, and 111 00000 | 001 11111 | 111
+    let heads = [
+        (0, 0xF8),
+        (1, 0x9F),
+        (65537, 0xF8),
+        (65538, 0x3F),
+        (81922, 0xE0),
+        (81923, 0x3F),
+        (81924, 0xE0),
+    ];
+    for (place, octet) in heads {
+        if place < expected.len() {
+            expected[place] = octet;
+        }
+    }
+    assert_eq!(rt; octets, expected.as_slice());
+    let (read, left) = found(&format, rt.alloc(), octets, 3)?;
+    assert_eq!(rt; (read.as_slice(), left), (values.as_slice(), 5));
+    Ok(())
+}
+
+#[test]
+fn octets_that_are_missing_are_named(rt: HostRuntime) -> Result<(), Fail> {
+    let format = UnconstrainedOctetString {};
+    // 111 | 11000001 | 00000000 | 00000
+    assert_eq!(rt;
+        found(&format, rt.alloc(), &[0xF8, 0x20, 0x00], 3).err(),
+        Some(Refusal::Wrong(InFragments::Item {
+            index: 1,
+            wrong: Short { missing: 3 }
+        }))
+    );
+    // 111 | 00000000, and no fragment
+    let none = written(&format, rt.alloc(), &Vec::new(rt.alloc()))?;
+    assert_eq!(rt;
+        (none.len(), none.as_bytes()),
+        (11, [0xE0, 0x00].as_slice())
     );
     Ok(())
 }
