@@ -159,6 +159,16 @@ module _ {X : Type 0} (P : X → List Bool → Type 0) (xs : List X) (start coun
   piece_measured b p = λ more may.
       subst (λ (ys : List X). Measures (IsPiece more) ys b) (sym (shown slice)) (p more may)
 
+  -- what is said of the part from start on, as many items as count says
+  pub of_count : (Q : List X → Bool → Type 0)
+      → ((more : Bool) → (2 ^ 14 ≤ count → IsTrue more) → Q (take count (drop start xs)) more)
+      → (more : Bool) → (2 ^ 14 ≤ length slice → IsTrue more) → Q slice more
+  of_count Q p = λ more may.
+      let counted : start + count - start ≡ count = omega arith in
+      let sized = part_len P (λ (x : X). x) xs start count within in
+      subst (λ (n : ℕ). Q (take n (drop start xs)) more) (sym counted)
+      (p more (λ many. may (let r : 2 ^ 14 ≤ length slice = omega arith in r)))
+
   pub list_written_next : 2 ^ 14 ≤ count → (count ≡ 2 ^ 16) ⊎ (length xs - start < count + 2 ^ 14)
       → (old mid new : List Bool) → WrittenSoFar P (length xs - start) (take start xs) old mid
       → ((more : Bool) → (2 ^ 14 ≤ length slice → IsTrue more)

@@ -4,6 +4,7 @@ use Rattle.std.specs.Prelude.{◌≡◌, ℕ, ◌+◌, ◌*◌, ◌^◌, ◌<◌
 use Rattle.asn1_formats.specs.Spelling.{Starts}
 use Rattle.asn1_formats.specs.Numbers.{IsNumber, IsShort}
 use Rattle.asn1_formats.specs.Combined.{After, AreCounted, SequenceOfFault}
+use Rattle.asn1_formats.specs.declared.boolean.NoBit as boolean
 use Rattle.asn1_formats.specs.declared.number.Short as number
 use Rattle.asn1_formats.specs.declared.sequence_of.InSequenceOf.{InSequenceOf}
 use Rattle.asn1_formats.specs.declared.sequence_of.InSequenceOf.TheVariants as within
@@ -97,3 +98,9 @@ pub record FragmentsFault {X F : Type 0} (P : X → List Bool → Type 0) (W : L
 -- bits of an octet are missing
 abbrev pub IsOctetShort : List Bool → number.Short → Type 0
 IsOctetShort list e = IsShort 8 list e.missing
+
+abbrev pub IsBit : Bool → List Bool → Type 0
+IsBit b list = list ≡ b ∷ []
+
+abbrev pub IsNoBit : List Bool → boolean.NoBit → Type 0
+IsNoBit list e = list ≡ []

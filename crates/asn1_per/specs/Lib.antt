@@ -27,3 +27,4 @@ pub mod PieceLaws
 pub mod FragmentLaws
 pub mod FragmentFaultLaws
 pub mod FragmentOctetLaws
+pub mod FragmentBitLaws

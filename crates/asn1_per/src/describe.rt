@@ -10,6 +10,7 @@ use crate::length::Length;
 use crate::natural_number::NaturalNumber;
 use crate::no_additions::NoAdditions;
 use crate::open_type::OpenType;
+use crate::unconstrained_bit_string::UnconstrainedBitString;
 use crate::unconstrained_number::UnconstrainedNumber;
 use crate::unconstrained_octet_string::UnconstrainedOctetString;
 use crate::unconstrained_sequence_of::UnconstrainedSequenceOf;
@@ -100,5 +101,11 @@ impl<A: fmt::Display> fmt::Display for UnconstrainedSequenceOf<A> {
 impl fmt::Display for UnconstrainedOctetString {
     fn fmt<W: fmt::Write>(&self, f: &mut fmt::Formatter<W>) -> fmt::Result {
         write!(f, "OCTET STRING")
+    }
+}
+
+impl fmt::Display for UnconstrainedBitString {
+    fn fmt<W: fmt::Write>(&self, f: &mut fmt::Formatter<W>) -> fmt::Result {
+        write!(f, "BIT STRING")
     }
 }

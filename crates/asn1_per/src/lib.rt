@@ -3,6 +3,8 @@
 
 mod addition;
 mod additions;
+mod bit_fragments;
+mod bit_pieces;
 mod complete;
 mod describe;
 mod explain;
@@ -22,6 +24,7 @@ mod open_type;
 mod piece;
 mod pieces;
 mod presence;
+mod unconstrained_bit_string;
 mod unconstrained_number;
 mod unconstrained_octet_string;
 mod unconstrained_sequence_of;
@@ -40,6 +43,7 @@ pub use natural_number::{NaturalFault, NaturalNumber};
 pub use no_additions::NoAdditions;
 pub use open_type::{EndFault, InOpenType, Open, OpenMisfit, OpenType};
 pub use piece::PieceFault;
+pub use unconstrained_bit_string::UnconstrainedBitString;
 pub use unconstrained_number::{UnconstrainedFault, UnconstrainedNumber};
 pub use unconstrained_octet_string::UnconstrainedOctetString;
 pub use unconstrained_sequence_of::UnconstrainedSequenceOf;

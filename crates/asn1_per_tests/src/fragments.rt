@@ -1,10 +1,14 @@
-//! Lists and octets of any number: octets worked by hand behind three ones, and octets alone.
+//! Lists, octets, bits and characters of any number: octets worked by hand behind three ones, and octets alone.
 
 use super::calls::{found, written};
-use asn1_formats::{Boolean, NoBit, Null, Number, PastWidth, Refusal, Short, WriteRefusal};
-use asn1_per::{
-    InFragments, PieceFault, UnconstrainedOctetString, UnconstrainedSequenceOf, WrongItem,
+use asn1_formats::{
+    Boolean, Character, NoBit, Null, Number, PastWidth, Refusal, Short, WriteRefusal,
 };
+use asn1_per::{
+    InFragments, PieceFault, UnconstrainedBitString, UnconstrainedOctetString,
+    UnconstrainedSequenceOf, WrongItem,
+};
+use asn1_values::{BitString, CharacterAlphabet, NumericString};
 use std::alloc::{AllocError, Global};
 use std::test::Fail;
 
@@ -186,5 +190,65 @@ fn octets_that_are_missing_are_named(rt: HostRuntime) -> Result<(), Fail> {
         (none.len(), none.as_bytes()),
         (11, [0xE0, 0x00].as_slice())
     );
+    Ok(())
+}
+
+#[test]
+fn bits_stand_in_fragments(rt: HostRuntime) -> Result<(), Fail> {
+    let format = UnconstrainedBitString {};
+    let octets = repeated(rt.alloc(), 0xFF, 2049)?;
+    if octets.len() > 2049 {
+        return Ok(());
+    }
+    let value = BitString::from_vec(octets);
+    // 111 | 11000001 | 16,384 ones | 00001000 | 11111111
+    let buffer = written(&format, rt.alloc(), &value)?;
+    assert_eq!(rt; buffer.len(), 16411);
+    let mut expected = repeated(rt.alloc(), 0xFF, 2052)?;
+    for (place, octet) in [
+        (0, 0xF8),
+        (1, 0x3F),
+        (2049, 0xE1),
+        (2050, 0x1F),
+        (2051, 0xE0),
+    ] {
+        if place < expected.len() {
+            expected[place] = octet;
+        }
+    }
+    assert_eq!(rt; buffer.as_bytes(), expected.as_slice());
+    let (read, left) = found(&format, rt.alloc(), buffer.as_bytes(), 3)?;
+    assert_eq!(rt; (read.len(), left), (16392, 5));
+    assert_eq!(rt; read.as_raw_slice(), value.as_raw_slice());
+    // 111 | 11000001 | 00000
+    assert_eq!(rt;
+        found(&format, rt.alloc(), &[0xF8, 0x20], 3).err(),
+        Some(Refusal::Wrong(InFragments::Item {
+            index: 5,
+            wrong: NoBit {}
+        }))
+    );
+    Ok(())
+}
+
+#[test]
+fn characters_stand_in_fragments(rt: HostRuntime) -> Result<(), Fail> {
+    let digits = [48, 49, 50, 51, 52, 53, 54, 55, 56, 57];
+    let alphabet = CharacterAlphabet::new::<NumericString>(Some(&digits), false);
+    let item = Character::new(alphabet).ok_or("no digit stands twice")?;
+    let format = UnconstrainedSequenceOf { item };
+    let values = repeated(rt.alloc(), 55, 16385)?;
+    // 111 | 11000001 | 16,384 times 0111 | 00000001 | 0111
+    let buffer = written(&format, rt.alloc(), &values)?;
+    assert_eq!(rt; buffer.len(), 65559);
+    let mut expected = repeated(rt.alloc(), 0xEE, 8195)?;
+    for (place, octet) in [(0, 0xF8), (1, 0x2E), (8193, 0xE0), (8194, 0x2E)] {
+        if place < expected.len() {
+            expected[place] = octet;
+        }
+    }
+    assert_eq!(rt; buffer.as_bytes(), expected.as_slice());
+    let (read, left) = found(&format, rt.alloc(), buffer.as_bytes(), 3)?;
+    assert_eq!(rt; (read.as_slice(), left), (values.as_slice(), 1));
     Ok(())
 }
