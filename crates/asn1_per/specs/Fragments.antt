@@ -57,7 +57,7 @@ ArePieces P more behind (piece ∷ pieces) list =
     × AreCounted (λ n l. IsPieceCount more n l) P piece front
     × ArePieces P (nat_eq (length piece) (2 ^ 16)) behind pieces rest × (list ≡ front ++ rest)
 
--- items in fragments; the last argument but two says whether another may stand behind them
+-- the items of fragments, and whether another may stand behind them
 pub record AreFragments {X : Type 0} (P : X → List Bool → Type 0) (more : Bool) (xs : List X) (list : List Bool) : Type 0 where
   pub pieces : List (List X)
   pub items : xs ≡ items_of pieces

@@ -252,3 +252,37 @@ fn characters_stand_in_fragments(rt: HostRuntime) -> Result<(), Fail> {
     assert_eq!(rt; (read.as_slice(), left), (values.as_slice(), 1));
     Ok(())
 }
+
+#[test]
+fn what_is_wrong_is_said_in_words(rt: HostRuntime) -> Result<(), Fail> {
+    let format = UnconstrainedSequenceOf { item: Boolean {} };
+    assert_eq!(rt;
+        format!(in rt.alloc(); "{format}")?.as_str(),
+        "SEQUENCE OF BOOLEAN"
+    );
+    let item: InFragments<NoBit> = InFragments::Item {
+        index: 16390,
+        wrong: NoBit {},
+    };
+    assert_eq!(rt;
+        format!(in rt.alloc(); "{item}")?.as_str(),
+        "item 16390: a bit is missing"
+    );
+    let size: InFragments<NoBit> = InFragments::Size {
+        index: 16384,
+        wrong: PieceFault::Fragment { times: 4 },
+    };
+    assert_eq!(rt;
+        format!(in rt.alloc(); "{size}")?.as_str(),
+        "number of items from item 16384 on: a fragment of 4 times 16384 may not stand here"
+    );
+    let value = WrongItem {
+        index: 7,
+        wrong: PastWidth {},
+    };
+    assert_eq!(rt;
+        format!(in rt.alloc(); "{value}")?.as_str(),
+        "item 7: the number does not fit its bits"
+    );
+    Ok(())
+}
