@@ -7,6 +7,7 @@ pub mod Extensions
 pub mod Naturals
 pub mod Additions
 pub mod ExtensibleIntegers
+pub mod Fragments
 -- Laws of these words, which the formats' laws are made of.
 pub mod LengthLaws
 pub mod CompleteLaws
@@ -22,3 +23,8 @@ pub mod PresenceLaws
 pub mod BehindRootLaws
 pub mod ExtensibleLaws
 pub mod ExtensibleIntegerLaws
+pub mod PieceLaws
+pub mod FragmentLaws
+pub mod FragmentFaultLaws
+pub mod FragmentOctetLaws
+pub mod FragmentBitLaws

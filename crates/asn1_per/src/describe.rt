@@ -10,7 +10,10 @@ use crate::length::Length;
 use crate::natural_number::NaturalNumber;
 use crate::no_additions::NoAdditions;
 use crate::open_type::OpenType;
+use crate::unconstrained_bit_string::UnconstrainedBitString;
 use crate::unconstrained_number::UnconstrainedNumber;
+use crate::unconstrained_octet_string::UnconstrainedOctetString;
+use crate::unconstrained_sequence_of::UnconstrainedSequenceOf;
 use std::fmt;
 
 impl fmt::Display for Length {
@@ -86,5 +89,23 @@ impl fmt::Display for NoAdditions {
 impl<A: fmt::Display, D: fmt::Display> fmt::Display for Addition<A, D> {
     fn fmt<W: fmt::Write>(&self, f: &mut fmt::Formatter<W>) -> fmt::Result {
         write!(f, ", {} OPTIONAL{}", self.part, self.others)
+    }
+}
+
+impl<A: fmt::Display> fmt::Display for UnconstrainedSequenceOf<A> {
+    fn fmt<W: fmt::Write>(&self, f: &mut fmt::Formatter<W>) -> fmt::Result {
+        write!(f, "SEQUENCE OF {}", self.item)
+    }
+}
+
+impl fmt::Display for UnconstrainedOctetString {
+    fn fmt<W: fmt::Write>(&self, f: &mut fmt::Formatter<W>) -> fmt::Result {
+        write!(f, "OCTET STRING")
+    }
+}
+
+impl fmt::Display for UnconstrainedBitString {
+    fn fmt<W: fmt::Write>(&self, f: &mut fmt::Formatter<W>) -> fmt::Result {
+        write!(f, "BIT STRING")
     }
 }

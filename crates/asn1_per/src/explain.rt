@@ -5,10 +5,12 @@ use crate::complete::InComplete;
 use crate::extensible::InRootOrAdditions;
 use crate::extensible_number::BeyondNumberFault;
 use crate::extensible_size::{BeyondRootFault, InExtensible};
+use crate::fragments::{InFragments, WrongItem};
 use crate::length::{LengthFault, LongLength};
 use crate::message::DecodeError;
 use crate::natural_number::NaturalFault;
 use crate::open_type::{EndFault, InOpenType, OpenMisfit};
+use crate::piece::PieceFault;
 use crate::unconstrained_number::UnconstrainedFault;
 use asn1_formats::{Explain, write_part};
 use std::error::Error;
@@ -270,5 +272,66 @@ impl Explain for BeyondNumberFault {
             BeyondNumberFault::Number(wrong) => wrong.is_reason(),
             BeyondNumberFault::InRoot => true,
         }
+    }
+}
+
+impl fmt::Display for PieceFault {
+    fn fmt<W: fmt::Write>(&self, f: &mut fmt::Formatter<W>) -> fmt::Result {
+        match self {
+            PieceFault::Short { missing } => write!(f, "{missing} bits are missing"),
+            PieceFault::Longer { length } => write!(f, "{length} stands in two octets"),
+            PieceFault::Fragment { times } => {
+                write!(f, "a fragment of {times} times 16384 may not stand here")
+            }
+        }
+    }
+}
+
+impl Explain for PieceFault {
+    fn is_reason(&self) -> bool {
+        true
+    }
+}
+
+impl<F: Explain> fmt::Display for InFragments<F> {
+    fn fmt<W: fmt::Write>(&self, f: &mut fmt::Formatter<W>) -> fmt::Result {
+        match self {
+            InFragments::Size { index, wrong } => {
+                write!(f, "number of items from item {index} on: {wrong}")
+            }
+            InFragments::Item { index, wrong } => {
+                write!(f, "item ")?;
+                if wrong.is_reason() {
+                    write!(f, "{index}: {wrong}")
+                } else {
+                    write!(f, "{index}, {wrong}")
+                }
+            }
+        }
+    }
+}
+
+impl<F: Explain> Explain for InFragments<F> {
+    fn is_reason(&self) -> bool {
+        false
+    }
+}
+
+impl<F: Explain> fmt::Display for WrongItem<F> {
+    fn fmt<W: fmt::Write>(&self, f: &mut fmt::Formatter<W>) -> fmt::Result {
+        let index = self.index;
+        let wrong = &self.wrong;
+        write!(f, "item ")?;
+        if wrong.is_reason() {
+            write!(f, "{index}: {wrong}")
+        } else {
+            write!(f, "{index}, {wrong}")
+        }
+    }
+}
+
+impl<F: Explain> Explain for WrongItem<F> {
+    fn is_reason(&self) -> bool {
+        false
     }
 }

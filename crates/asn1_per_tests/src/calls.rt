@@ -27,7 +27,7 @@ pub(crate) fn found<F: Format>(
     octets: &[u8],
     start: usize,
 ) -> Result<(F::Value, usize), Refusal<F::Fault>> {
-    if octets.len() > 1000 {
+    if octets.len() > 100000 {
         return Err(Refusal::Memory);
     }
     let mut reader = BitReader::from_octets(octets);

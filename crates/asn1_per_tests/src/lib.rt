@@ -16,6 +16,8 @@ mod extensible_numbers;
 #[cfg(test)]
 mod extensible_sizes;
 #[cfg(test)]
+mod fragments;
+#[cfg(test)]
 mod integers;
 #[cfg(test)]
 mod lengths;

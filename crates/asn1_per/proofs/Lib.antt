@@ -1,0 +1,3 @@
+pub mod ItemSteps
+pub mod FragmentSteps
+pub mod PartSteps

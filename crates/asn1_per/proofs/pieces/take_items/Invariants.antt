@@ -1,0 +1,11 @@
+use Rattle.std.proofs.Common.{◌≡◌, ◌++◌, List, map}
+use Rattle.asn1_bits.specs.BitReader.{bits_left}
+use Rattle.asn1_formats.specs.Spelling.{Starts}
+use Rattle.asn1_formats.specs.Combined.{SoMany}
+use Rattle.asn1_per.proofs.pieces.take_items.Given as goal
+
+abbrev pub invariant-loop-index : goal.invariant-loop-index
+invariant-loop-index g l =
+    (xs : List g.A.Format.Plain)
+    × (map g.A.Format.plain l.values.items ≡ map g.A.Format.plain l.initial.values.items ++ xs)
+    × Starts (λ ys r. SoMany (g.A.Format.reads l.item) l.index ys r) (bits_left l.initial.reader) xs (bits_left l.reader)
