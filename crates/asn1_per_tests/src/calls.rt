@@ -43,3 +43,68 @@ pub(crate) fn found<F: Format>(
         }
     }
 }
+
+/// Whether the value is written behind three ones as these bits, so many in all.
+pub(crate) fn is_written<F: Format>(
+    format: &F,
+    alloc: Global,
+    value: &F::Value,
+    octets: &[u8],
+    bits: usize,
+) -> bool {
+    match written(format, alloc, value) {
+        Ok(buffer) => buffer.len() == bits && buffer.as_bytes() == octets,
+        Err(_) => false,
+    }
+}
+
+/// Whether the value is refused for this misfit.
+pub(crate) fn is_misfit<F: Format>(
+    format: &F,
+    alloc: Global,
+    value: &F::Value,
+    misfit: F::Misfit,
+) -> bool
+where
+    F::Misfit: PartialEq,
+{
+    match written(format, alloc, value) {
+        Err(WriteRefusal::Wrong(found)) => found == misfit,
+        _ => false,
+    }
+}
+
+/// Whether this value is found behind the first `start` bits, and so many bits are left.
+pub(crate) fn is_found<F: Format>(
+    format: &F,
+    alloc: Global,
+    octets: &[u8],
+    start: usize,
+    value: F::Value,
+    left: usize,
+) -> bool
+where
+    F::Value: PartialEq,
+{
+    match found(format, alloc, octets, start) {
+        Ok((read, bits)) => read == value && bits == left,
+        Err(_) => false,
+    }
+}
+
+/// Whether what follows the first `start` bits is refused for this fault.
+pub(crate) fn is_refused<F: Format>(
+    format: &F,
+    alloc: Global,
+    octets: &[u8],
+    start: usize,
+    fault: F::Fault,
+) -> bool
+where
+    F::Fault: PartialEq,
+{
+    match found(format, alloc, octets, start) {
+        Err(Refusal::Wrong(found)) => found == fault,
+        _ => false,
+    }
+}

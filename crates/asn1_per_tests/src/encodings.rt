@@ -1,7 +1,7 @@
 //! Complete encodings, and open types.
 
-use super::calls::{found, written};
-use asn1_formats::{Null, Number, PastWidth, Refusal, Short, WriteRefusal};
+use super::calls::{found, is_misfit, is_refused, written};
+use asn1_formats::{Null, Number, PastWidth, Short};
 use asn1_per::{Complete, EndFault, InComplete, InOpenType, LengthFault, OpenMisfit, OpenType};
 use std::test::Fail;
 
@@ -12,23 +12,35 @@ fn a_complete_encoding_fills_its_octets(rt: HostRuntime) -> Result<(), Fail> {
     };
     let buffer = written(&format, rt.alloc(), &0xABC)?;
     // 111 | 10101011 1100 | 0000
-    assert_eq!(rt; buffer.len(), 19);
-    assert_eq!(rt; buffer.as_bytes(), [0xF5, 0x78, 0x00].as_slice());
-    assert_eq!(rt;
-        found(&format, rt.alloc(), &[0xF5, 0x78, 0x00], 3).ok(),
-        Some((0xABC, 5))
+    assert!(rt; buffer.len() == 19);
+    assert!(rt; buffer.as_bytes() == [0xF5, 0x78, 0x00].as_slice());
+    assert!(rt; found(&format, rt.alloc(), &[0xF5, 0x78, 0x00], 3).ok() == Some((0xABC, 5)));
+    assert!(rt;
+        is_refused(
+            &format,
+            rt.alloc(),
+            &[0xF5, 0x78],
+            3,
+            InComplete::Short { missing: 3 }
+        )
     );
-    assert_eq!(rt;
-        found(&format, rt.alloc(), &[0xF5, 0x78], 3).err(),
-        Some(Refusal::Wrong(InComplete::Short { missing: 3 }))
+    assert!(rt;
+        is_refused(
+            &format,
+            rt.alloc(),
+            &[0xF5, 0x78, 0x20],
+            3,
+            InComplete::NotZero
+        )
     );
-    assert_eq!(rt;
-        found(&format, rt.alloc(), &[0xF5, 0x78, 0x20], 3).err(),
-        Some(Refusal::Wrong(InComplete::NotZero))
-    );
-    assert_eq!(rt;
-        found(&format, rt.alloc(), &[0xF5], 3).err(),
-        Some(Refusal::Wrong(InComplete::Value(Short { missing: 7 })))
+    assert!(rt;
+        is_refused(
+            &format,
+            rt.alloc(),
+            &[0xF5],
+            3,
+            InComplete::Value(Short { missing: 7 })
+        )
     );
     Ok(())
 }
@@ -37,15 +49,20 @@ fn a_complete_encoding_fills_its_octets(rt: HostRuntime) -> Result<(), Fail> {
 fn a_value_of_no_bits_has_one_octet(rt: HostRuntime) -> Result<(), Fail> {
     let complete = written(&Complete { part: Null {} }, rt.alloc(), &())?;
     // 111 | 00000000
-    assert_eq!(rt; complete.len(), 11);
-    assert_eq!(rt; complete.as_bytes(), [0xE0, 0x00].as_slice());
+    assert!(rt; complete.len() == 11);
+    assert!(rt; complete.as_bytes() == [0xE0, 0x00].as_slice());
     let open = written(&OpenType { part: Null {} }, rt.alloc(), &())?;
     // 111 | 00000001 | 00000000
-    assert_eq!(rt; open.len(), 19);
-    assert_eq!(rt; open.as_bytes(), [0xE0, 0x20, 0x00].as_slice());
-    assert_eq!(rt;
-        found(&OpenType { part: Null {} }, rt.alloc(), &[0xE0, 0x00], 3).err(),
-        Some(Refusal::Wrong(InOpenType::End(EndFault::Octets { needed: 1 })))
+    assert!(rt; open.len() == 19);
+    assert!(rt; open.as_bytes() == [0xE0, 0x20, 0x00].as_slice());
+    assert!(rt;
+        is_refused(
+            &OpenType { part: Null {} },
+            rt.alloc(),
+            &[0xE0, 0x00],
+            3,
+            InOpenType::End(EndFault::Octets { needed: 1 })
+        )
     );
     Ok(())
 }
@@ -57,15 +74,16 @@ fn an_open_type_counts_its_octets(rt: HostRuntime) -> Result<(), Fail> {
     };
     let buffer = written(&format, rt.alloc(), &0xABC)?;
     // 111 | 00000010 | 10101011 1100 | 0000
-    assert_eq!(rt; buffer.len(), 27);
-    assert_eq!(rt; buffer.as_bytes(), [0xE0, 0x55, 0x78, 0x00].as_slice());
-    assert_eq!(rt;
-        found(&format, rt.alloc(), &[0xE0, 0x55, 0x78, 0x00], 3).ok(),
-        Some((0xABC, 5))
-    );
-    assert_eq!(rt;
-        written(&format, rt.alloc(), &0x1000).err(),
-        Some(WriteRefusal::Wrong(OpenMisfit::Value(PastWidth {})))
+    assert!(rt; buffer.len() == 27);
+    assert!(rt; buffer.as_bytes() == [0xE0, 0x55, 0x78, 0x00].as_slice());
+    assert!(rt; found(&format, rt.alloc(), &[0xE0, 0x55, 0x78, 0x00], 3).ok() == Some((0xABC, 5)));
+    assert!(rt;
+        is_misfit(
+            &format,
+            rt.alloc(),
+            &0x1000,
+            OpenMisfit::Value(PastWidth {})
+        )
     );
     Ok(())
 }
@@ -75,29 +93,54 @@ fn a_wrong_open_type_is_named(rt: HostRuntime) -> Result<(), Fail> {
     let format = OpenType {
         part: Number::new(12),
     };
-    assert_eq!(rt;
-        found(&format, rt.alloc(), &[0xF8, 0x20], 3).err(),
-        Some(Refusal::Wrong(InOpenType::Length(LengthFault::Fragment)))
+    assert!(rt;
+        is_refused(
+            &format,
+            rt.alloc(),
+            &[0xF8, 0x20],
+            3,
+            InOpenType::Length(LengthFault::Fragment)
+        )
     );
     // 111 | 00000010 | 10101011 11000: three bits are missing.
-    assert_eq!(rt;
-        found(&format, rt.alloc(), &[0xE0, 0x55, 0x78], 3).err(),
-        Some(Refusal::Wrong(InOpenType::Short { missing: 3 }))
+    assert!(rt;
+        is_refused(
+            &format,
+            rt.alloc(),
+            &[0xE0, 0x55, 0x78],
+            3,
+            InOpenType::Short { missing: 3 }
+        )
     );
     // 111 | 00000001 | 10101011: the number lacks four bits in its octet.
-    assert_eq!(rt;
-        found(&format, rt.alloc(), &[0xE0, 0x35, 0x7F], 3).err(),
-        Some(Refusal::Wrong(InOpenType::Value(Short { missing: 4 })))
+    assert!(rt;
+        is_refused(
+            &format,
+            rt.alloc(),
+            &[0xE0, 0x35, 0x7F],
+            3,
+            InOpenType::Value(Short { missing: 4 })
+        )
     );
     // 111 | 00000011 | 10101011 11000000 00000000: an octet too many.
-    assert_eq!(rt;
-        found(&format, rt.alloc(), &[0xE0, 0x75, 0x78, 0x00, 0x00], 3).err(),
-        Some(Refusal::Wrong(InOpenType::End(EndFault::Octets { needed: 2 })))
+    assert!(rt;
+        is_refused(
+            &format,
+            rt.alloc(),
+            &[0xE0, 0x75, 0x78, 0x00, 0x00],
+            3,
+            InOpenType::End(EndFault::Octets { needed: 2 })
+        )
     );
     // 111 | 00000010 | 10101011 1100 | 0001
-    assert_eq!(rt;
-        found(&format, rt.alloc(), &[0xE0, 0x55, 0x78, 0x20], 3).err(),
-        Some(Refusal::Wrong(InOpenType::End(EndFault::NotZero)))
+    assert!(rt;
+        is_refused(
+            &format,
+            rt.alloc(),
+            &[0xE0, 0x55, 0x78, 0x20],
+            3,
+            InOpenType::End(EndFault::NotZero)
+        )
     );
     Ok(())
 }

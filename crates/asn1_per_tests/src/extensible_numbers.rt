@@ -1,7 +1,7 @@
 //! INTEGER with bounds and an extension marker: bits worked by hand behind three ones.
 
-use super::calls::{found, written};
-use asn1_formats::{ConstrainedNumber, Refusal};
+use super::calls::{found, is_refused, written};
+use asn1_formats::ConstrainedNumber;
 use asn1_per::{BeyondNumberFault, ExtensibleNumber, InExtensible};
 use asn1_values::Integer;
 use std::alloc::Global;
@@ -41,8 +41,8 @@ fn numbers_are_read_from_their_forms(rt: HostRuntime) -> Result<(), Fail> {
     ];
     for (value, octets, rest) in rows {
         let (read, left) = found(&number(), rt.alloc(), &octets, 3)?;
-        assert_eq!(rt; read.to_i128(), Some(value));
-        assert_eq!(rt; left, rest);
+        assert!(rt; read.to_i128() == Some(value));
+        assert!(rt; left == rest);
     }
     Ok(())
 }
@@ -50,13 +50,15 @@ fn numbers_are_read_from_their_forms(rt: HostRuntime) -> Result<(), Fail> {
 #[test]
 fn a_number_of_the_root_behind_a_one_is_refused(rt: HostRuntime) -> Result<(), Fail> {
     // 111 | 1 | 00000001 00110011
-    assert_eq!(rt;
-        found(&number(), rt.alloc(), &[0xF0, 0x13, 0x30], 3).err(),
-        Some(Refusal::Wrong(InExtensible::Extension(BeyondNumberFault::InRoot)))
+    assert!(rt;
+        is_refused(
+            &number(),
+            rt.alloc(),
+            &[0xF0, 0x13, 0x30],
+            3,
+            InExtensible::Extension(BeyondNumberFault::InRoot)
+        )
     );
-    assert_eq!(rt;
-        found(&number(), rt.alloc(), &[0xFF], 8).err(),
-        Some(Refusal::Wrong(InExtensible::Marker))
-    );
+    assert!(rt; is_refused(&number(), rt.alloc(), &[0xFF], 8, InExtensible::Marker));
     Ok(())
 }

@@ -1,9 +1,7 @@
 //! Lists, octets, bits and characters of any number: octets worked by hand behind three ones, and octets alone.
 
-use super::calls::{found, written};
-use asn1_formats::{
-    Boolean, Character, NoBit, Null, Number, PastWidth, Refusal, Short, WriteRefusal,
-};
+use super::calls::{found, is_misfit, is_refused, is_written, written};
+use asn1_formats::{Boolean, Character, NoBit, Null, Number, PastWidth, Refusal, Short};
 use asn1_per::{
     InFragments, PieceFault, UnconstrainedBitString, UnconstrainedOctetString,
     UnconstrainedSequenceOf, WrongItem,
@@ -36,7 +34,7 @@ fn a_fragment_stands_before_the_last_items(rt: HostRuntime) -> Result<(), Fail> 
     let values = repeated(rt.alloc(), true, 16387)?;
     // 111 | 11000001 | 16,384 ones | 00000011 | 111
     let buffer = written(&format, rt.alloc(), &values)?;
-    assert_eq!(rt; buffer.len(), 16406);
+    assert!(rt; buffer.len() == 16406);
     let octets = buffer.as_bytes();
     let mut expected = repeated(rt.alloc(), 0xFF, 2051)?;
     for (place, octet) in [(0, 0xF8), (1, 0x3F), (2049, 0xE0), (2050, 0x7C)] {
@@ -44,9 +42,9 @@ fn a_fragment_stands_before_the_last_items(rt: HostRuntime) -> Result<(), Fail> 
             expected[place] = octet;
         }
     }
-    assert_eq!(rt; octets, expected.as_slice());
+    assert!(rt; octets == expected.as_slice());
     let (read, left) = found(&format, rt.alloc(), octets, 3)?;
-    assert_eq!(rt; (read.as_slice(), left), (values.as_slice(), 2));
+    assert!(rt; (read.as_slice(), left) == (values.as_slice(), 2));
     Ok(())
 }
 
@@ -59,20 +57,30 @@ fn items_that_are_missing_are_counted_from_the_first(rt: HostRuntime) -> Result<
         octets[0] = 0xF8;
         octets[1] = 0x3F;
     }
-    assert_eq!(rt;
-        found(&format, rt.alloc(), octets.as_slice(), 3).err(),
-        Some(Refusal::Wrong(InFragments::Size {
-            index: 16384,
-            wrong: PieceFault::Short { missing: 3 }
-        }))
+    assert!(rt;
+        is_refused(
+            &format,
+            rt.alloc(),
+            octets.as_slice(),
+            3,
+            InFragments::Size {
+                index: 16384,
+                wrong: PieceFault::Short { missing: 3 }
+            }
+        )
     );
     // 11000001 | 11111111
-    assert_eq!(rt;
-        found(&format, rt.alloc(), &[0xC1, 0xFF], 0).err(),
-        Some(Refusal::Wrong(InFragments::Item {
-            index: 8,
-            wrong: NoBit {}
-        }))
+    assert!(rt;
+        is_refused(
+            &format,
+            rt.alloc(),
+            &[0xC1, 0xFF],
+            0,
+            InFragments::Item {
+                index: 8,
+                wrong: NoBit {}
+            }
+        )
     );
     Ok(())
 }
@@ -84,12 +92,11 @@ fn each_fragment_is_the_largest_that_fits(rt: HostRuntime) -> Result<(), Fail> {
     let values = repeated(rt.alloc(), (), 164040)?;
     let buffer = written(&format, rt.alloc(), &values)?;
     // 111 | 11000100 | 11000100 | 11000010 | 10000000 11001000
-    assert_eq!(rt;
-        (buffer.len(), buffer.as_bytes()),
-        (43, [0xF8, 0x98, 0x98, 0x50, 0x19, 0x00].as_slice())
+    assert!(rt;
+        (buffer.len(), buffer.as_bytes()) == (43, [0xF8, 0x98, 0x98, 0x50, 0x19, 0x00].as_slice())
     );
     let (read, left) = found(&format, rt.alloc(), buffer.as_bytes(), 3)?;
-    assert_eq!(rt; (read.len(), left), (164040, 5));
+    assert!(rt; (read.len(), left) == (164040, 5));
     Ok(())
 }
 
@@ -119,7 +126,7 @@ fn pieces_in_another_order_are_refused(rt: HostRuntime) -> Result<(), Fail> {
         ([0xC4].as_slice(), (65536, PieceFault::Short { missing: 8 })),
     ];
     for (octets, wrong) in rows {
-        assert_eq!(rt; wrong_nulls(rt.alloc(), octets), Some(wrong));
+        assert!(rt; wrong_nulls(rt.alloc(), octets) == Some(wrong));
     }
     Ok(())
 }
@@ -133,12 +140,16 @@ fn an_item_that_does_not_fit_is_named(rt: HostRuntime) -> Result<(), Fail> {
     if values.len() > 16385 {
         values[16385] = 2;
     }
-    assert_eq!(rt;
-        written(&format, rt.alloc(), &values).err(),
-        Some(WriteRefusal::Wrong(WrongItem {
-            index: 16385,
-            wrong: PastWidth {}
-        }))
+    assert!(rt;
+        is_misfit(
+            &format,
+            rt.alloc(),
+            &values,
+            WrongItem {
+                index: 16385,
+                wrong: PastWidth {}
+            }
+        )
     );
     Ok(())
 }
@@ -149,7 +160,7 @@ fn octets_stand_in_fragments(rt: HostRuntime) -> Result<(), Fail> {
     // 111 | 11000100 | 65,536 octets 11111111 | 11000001 | 16,384 octets 11111111 | 00000001 | 11111111
     let values = repeated(rt.alloc(), 0xFF, 81921)?;
     let buffer = written(&format, rt.alloc(), &values)?;
-    assert_eq!(rt; buffer.len(), 655395);
+    assert!(rt; buffer.len() == 655395);
     let octets = buffer.as_bytes();
     let mut expected = repeated(rt.alloc(), 0xFF, 81925)?;
     // 111 11000 | 100 11111, then 111 11000 | 001 11111, and 111 00000 | 001 11111 | 111
@@ -167,9 +178,9 @@ fn octets_stand_in_fragments(rt: HostRuntime) -> Result<(), Fail> {
             expected[place] = octet;
         }
     }
-    assert_eq!(rt; octets, expected.as_slice());
+    assert!(rt; octets == expected.as_slice());
     let (read, left) = found(&format, rt.alloc(), octets, 3)?;
-    assert_eq!(rt; (read.as_slice(), left), (values.as_slice(), 5));
+    assert!(rt; (read.as_slice(), left) == (values.as_slice(), 5));
     Ok(())
 }
 
@@ -177,18 +188,27 @@ fn octets_stand_in_fragments(rt: HostRuntime) -> Result<(), Fail> {
 fn octets_that_are_missing_are_named(rt: HostRuntime) -> Result<(), Fail> {
     let format = UnconstrainedOctetString {};
     // 111 | 11000001 | 00000000 | 00000
-    assert_eq!(rt;
-        found(&format, rt.alloc(), &[0xF8, 0x20, 0x00], 3).err(),
-        Some(Refusal::Wrong(InFragments::Item {
-            index: 1,
-            wrong: Short { missing: 3 }
-        }))
+    assert!(rt;
+        is_refused(
+            &format,
+            rt.alloc(),
+            &[0xF8, 0x20, 0x00],
+            3,
+            InFragments::Item {
+                index: 1,
+                wrong: Short { missing: 3 }
+            }
+        )
     );
     // 111 | 00000000, and no fragment
-    let none = written(&format, rt.alloc(), &Vec::new(rt.alloc()))?;
-    assert_eq!(rt;
-        (none.len(), none.as_bytes()),
-        (11, [0xE0, 0x00].as_slice())
+    assert!(rt;
+        is_written(
+            &format,
+            rt.alloc(),
+            &Vec::new(rt.alloc()),
+            &[0xE0, 0x00],
+            11
+        )
     );
     Ok(())
 }
@@ -203,7 +223,7 @@ fn bits_stand_in_fragments(rt: HostRuntime) -> Result<(), Fail> {
     let value = BitString::from_vec(octets);
     // 111 | 11000001 | 16,384 ones | 00001000 | 11111111
     let buffer = written(&format, rt.alloc(), &value)?;
-    assert_eq!(rt; buffer.len(), 16411);
+    assert!(rt; buffer.len() == 16411);
     let mut expected = repeated(rt.alloc(), 0xFF, 2052)?;
     for (place, octet) in [
         (0, 0xF8),
@@ -216,17 +236,22 @@ fn bits_stand_in_fragments(rt: HostRuntime) -> Result<(), Fail> {
             expected[place] = octet;
         }
     }
-    assert_eq!(rt; buffer.as_bytes(), expected.as_slice());
+    assert!(rt; buffer.as_bytes() == expected.as_slice());
     let (read, left) = found(&format, rt.alloc(), buffer.as_bytes(), 3)?;
-    assert_eq!(rt; (read.len(), left), (16392, 5));
-    assert_eq!(rt; read.as_raw_slice(), value.as_raw_slice());
+    assert!(rt; (read.len(), left) == (16392, 5));
+    assert!(rt; read.as_raw_slice() == value.as_raw_slice());
     // 111 | 11000001 | 00000
-    assert_eq!(rt;
-        found(&format, rt.alloc(), &[0xF8, 0x20], 3).err(),
-        Some(Refusal::Wrong(InFragments::Item {
-            index: 5,
-            wrong: NoBit {}
-        }))
+    assert!(rt;
+        is_refused(
+            &format,
+            rt.alloc(),
+            &[0xF8, 0x20],
+            3,
+            InFragments::Item {
+                index: 5,
+                wrong: NoBit {}
+            }
+        )
     );
     Ok(())
 }
@@ -240,49 +265,42 @@ fn characters_stand_in_fragments(rt: HostRuntime) -> Result<(), Fail> {
     let values = repeated(rt.alloc(), 55, 16385)?;
     // 111 | 11000001 | 16,384 times 0111 | 00000001 | 0111
     let buffer = written(&format, rt.alloc(), &values)?;
-    assert_eq!(rt; buffer.len(), 65559);
+    assert!(rt; buffer.len() == 65559);
     let mut expected = repeated(rt.alloc(), 0xEE, 8195)?;
     for (place, octet) in [(0, 0xF8), (1, 0x2E), (8193, 0xE0), (8194, 0x2E)] {
         if place < expected.len() {
             expected[place] = octet;
         }
     }
-    assert_eq!(rt; buffer.as_bytes(), expected.as_slice());
+    assert!(rt; buffer.as_bytes() == expected.as_slice());
     let (read, left) = found(&format, rt.alloc(), buffer.as_bytes(), 3)?;
-    assert_eq!(rt; (read.as_slice(), left), (values.as_slice(), 1));
+    assert!(rt; (read.as_slice(), left) == (values.as_slice(), 1));
     Ok(())
 }
 
 #[test]
 fn what_is_wrong_is_said_in_words(rt: HostRuntime) -> Result<(), Fail> {
     let format = UnconstrainedSequenceOf { item: Boolean {} };
-    assert_eq!(rt;
-        format!(in rt.alloc(); "{format}")?.as_str(),
-        "SEQUENCE OF BOOLEAN"
-    );
+    assert!(rt; format!(in rt.alloc(); "{format}")?.as_str() == "SEQUENCE OF BOOLEAN");
     let item: InFragments<NoBit> = InFragments::Item {
         index: 16390,
         wrong: NoBit {},
     };
-    assert_eq!(rt;
-        format!(in rt.alloc(); "{item}")?.as_str(),
-        "item 16390: a bit is missing"
-    );
+    assert!(rt; format!(in rt.alloc(); "{item}")?.as_str() == "item 16390: a bit is missing");
     let size: InFragments<NoBit> = InFragments::Size {
         index: 16384,
         wrong: PieceFault::Fragment { times: 4 },
     };
-    assert_eq!(rt;
-        format!(in rt.alloc(); "{size}")?.as_str(),
-        "number of items from item 16384 on: a fragment of 4 times 16384 may not stand here"
+    assert!(rt;
+        format!(in rt.alloc(); "{size}")?.as_str()
+            == "number of items from item 16384 on: a fragment of 4 times 16384 may not stand here"
     );
     let value = WrongItem {
         index: 7,
         wrong: PastWidth {},
     };
-    assert_eq!(rt;
-        format!(in rt.alloc(); "{value}")?.as_str(),
-        "item 7: the number does not fit its bits"
+    assert!(rt;
+        format!(in rt.alloc(); "{value}")?.as_str() == "item 7: the number does not fit its bits"
     );
     Ok(())
 }

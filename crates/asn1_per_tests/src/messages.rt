@@ -30,23 +30,20 @@ fn a_message_is_whole_octets(rt: HostRuntime) -> Result<(), Fail> {
         part: Size::new(0, 9),
     };
     let octets = encoded(&format, rt.alloc(), &7)?;
-    assert_eq!(rt; octets.as_slice(), [0x70].as_slice());
-    assert_eq!(rt; decoded(&format, rt.alloc(), &[0x70])?, 7);
-    assert_eq!(rt;
-        encoded(&format, rt.alloc(), &10).err(),
-        Some(WriteRefusal::Wrong(SizeMisfit::AboveMost))
+    assert!(rt; octets.as_slice() == [0x70].as_slice());
+    assert!(rt; decoded(&format, rt.alloc(), &[0x70])? == 7);
+    assert!(rt;
+        encoded(&format, rt.alloc(), &10).err() == Some(WriteRefusal::Wrong(SizeMisfit::AboveMost))
     );
-    assert_eq!(rt;
-        decoded(&format, rt.alloc(), &[0x71]).err(),
-        Some(DecodeError::Wrong(InComplete::NotZero))
+    assert!(rt;
+        decoded(&format, rt.alloc(), &[0x71]).err() == Some(DecodeError::Wrong(InComplete::NotZero))
     );
-    assert_eq!(rt;
-        decoded(&format, rt.alloc(), &[]).err(),
-        Some(DecodeError::Wrong(InComplete::Value(SizeFault::Short { missing: 4 })))
+    assert!(rt;
+        decoded(&format, rt.alloc(), &[]).err()
+            == Some(DecodeError::Wrong(InComplete::Value(SizeFault::Short { missing: 4 })))
     );
-    assert_eq!(rt;
-        decoded(&format, rt.alloc(), &[0x70, 0]).err(),
-        Some(DecodeError::Behind { bits: 8 })
+    assert!(rt;
+        decoded(&format, rt.alloc(), &[0x70, 0]).err() == Some(DecodeError::Behind { bits: 8 })
     );
     Ok(())
 }

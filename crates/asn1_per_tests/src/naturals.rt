@@ -1,6 +1,6 @@
 //! INTEGER (0..MAX).
 
-use super::calls::{found, written};
+use super::calls::{found, is_refused, is_written, written};
 use asn1_formats::Refusal;
 use asn1_per::{NaturalFault, NaturalNumber};
 use std::test::Fail;
@@ -9,23 +9,15 @@ use std::test::Fail;
 fn a_natural_number_has_no_sign(rt: HostRuntime) -> Result<(), Fail> {
     let format = NaturalNumber {};
     // 111 | 00000001 | 10000000
-    let high = written(&format, rt.alloc(), &128)?;
-    assert_eq!(rt; high.len(), 19);
-    assert_eq!(rt; high.as_bytes(), [0xE0, 0x30, 0x00].as_slice());
-    assert_eq!(rt;
-        found(&format, rt.alloc(), &[0xE0, 0x30, 0x00], 3).ok(),
-        Some((128, 5))
-    );
+    assert!(rt; is_written(&format, rt.alloc(), &128, &[0xE0, 0x30, 0x00], 19));
+    assert!(rt; found(&format, rt.alloc(), &[0xE0, 0x30, 0x00], 3).ok() == Some((128, 5)));
     // 111 | 00000010 | 00000001 00000000
     let two = written(&format, rt.alloc(), &256)?;
-    assert_eq!(rt; two.as_bytes(), [0xE0, 0x40, 0x20, 0x00].as_slice());
+    assert!(rt; two.as_bytes() == [0xE0, 0x40, 0x20, 0x00].as_slice());
     // 111 | 00000001 | 00000000
     let zero = written(&format, rt.alloc(), &0)?;
-    assert_eq!(rt; zero.as_bytes(), [0xE0, 0x20, 0x00].as_slice());
-    assert_eq!(rt;
-        found(&format, rt.alloc(), &[0xE0, 0x20, 0x00], 3).ok(),
-        Some((0, 5))
-    );
+    assert!(rt; zero.as_bytes() == [0xE0, 0x20, 0x00].as_slice());
+    assert!(rt; found(&format, rt.alloc(), &[0xE0, 0x20, 0x00], 3).ok() == Some((0, 5)));
     Ok(())
 }
 
@@ -33,23 +25,35 @@ fn a_natural_number_has_no_sign(rt: HostRuntime) -> Result<(), Fail> {
 fn other_octets_are_refused(rt: HostRuntime) -> Result<(), Fail> {
     let format = NaturalNumber {};
     // 111 | 00000010 | 00000000 00000101
-    assert_eq!(rt;
-        found(&format, rt.alloc(), &[0xE0, 0x40, 0x00, 0xA0], 3).err(),
-        Some(Refusal::Wrong(NaturalFault::NotShortest))
+    assert!(rt;
+        is_refused(
+            &format,
+            rt.alloc(),
+            &[0xE0, 0x40, 0x00, 0xA0],
+            3,
+            NaturalFault::NotShortest
+        )
     );
     // 111 | 00000000
-    assert_eq!(rt;
-        found(&format, rt.alloc(), &[0xE0, 0x00], 3).err(),
-        Some(Refusal::Wrong(NaturalFault::NotShortest))
+    assert!(rt;
+        is_refused(
+            &format,
+            rt.alloc(),
+            &[0xE0, 0x00],
+            3,
+            NaturalFault::NotShortest
+        )
     );
     // 111 | 00001001
-    assert_eq!(rt;
-        found(&format, rt.alloc(), &[0xE1, 0x20], 3).err(),
-        Some(Refusal::Wrong(NaturalFault::Long))
-    );
-    assert_eq!(rt;
-        found(&format, rt.alloc(), &[0xE0, 0x20], 3).err(),
-        Some(Refusal::Wrong(NaturalFault::Short { missing: 3 }))
+    assert!(rt; is_refused(&format, rt.alloc(), &[0xE1, 0x20], 3, NaturalFault::Long));
+    assert!(rt;
+        is_refused(
+            &format,
+            rt.alloc(),
+            &[0xE0, 0x20],
+            3,
+            NaturalFault::Short { missing: 3 }
+        )
     );
     Ok(())
 }
