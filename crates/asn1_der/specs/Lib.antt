@@ -9,6 +9,7 @@ pub mod Parts
 pub mod Primitives
 pub mod Items
 pub mod Sets
+pub mod SetTags
 pub mod BitStrings
 pub mod Identifiers
 pub mod ViewOctets
@@ -27,9 +28,11 @@ pub mod IntegerLaws
 pub mod ItemLaws
 pub mod OrderLaws
 pub mod PartOrderLaws
+pub mod TagOrderLaws
 pub mod SetLaws
 pub mod SetSteps
 pub mod AnyLaws
+pub mod SetTagLaws
 pub mod IdentifierLaws
 pub mod BitStringLaws
 pub mod Alternatives
@@ -46,5 +49,6 @@ pub mod Moments
 pub mod Times
 pub mod TimeLaws
 pub mod CalendarLaws
+pub mod FractionLaws
 pub mod Messages
 pub mod MessageLaws
