@@ -5,6 +5,7 @@ pub mod Lengths
 pub mod Contents
 pub mod Elements
 pub mod Tagged
+pub mod Beginnings
 pub mod Parts
 pub mod Primitives
 pub mod Items
@@ -28,6 +29,7 @@ pub mod IntegerLaws
 pub mod ItemLaws
 pub mod OrderLaws
 pub mod PartOrderLaws
+pub mod ItemOrderLaws
 pub mod TagOrderLaws
 pub mod SetLaws
 pub mod SetSteps
@@ -35,8 +37,11 @@ pub mod AnyLaws
 pub mod SetTagLaws
 pub mod IdentifierLaws
 pub mod BitStringLaws
+pub mod BitStringOrderLaws
 pub mod Alternatives
 pub mod AlternativeLaws
+pub mod ChoiceOrderLaws
+pub mod OptionalOrderLaws
 pub mod NotDefaults
 pub mod NotDefaultLaws
 pub mod OctetContents

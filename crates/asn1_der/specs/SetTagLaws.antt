@@ -17,7 +17,6 @@ use Rattle.asn1_der.specs.AnyLaws.{any_reads_one, any_names_fault, any_starts, a
 use Rattle.asn1_der.specs.Alternatives.{ChoiceSpells}
 use Rattle.asn1_der.specs.Tagged.{HasTag}
 use Rattle.asn1_der.specs.TaggedLaws.{one_tag, tlv_has_tag, fewer_rest}
-use Rattle.asn1_der.specs.Parts.{WithFirst, IsOptional}
 use Rattle.asn1_der.specs.SetTags.{IsBehind, TagsAscend, IsInTagOrder, IsTagSet, TagSetFaultIs, TagSetMisfitIs, AreOne}
 
 abbrev V : Tag × List ℕ → List Bool → Type 0
@@ -125,15 +124,6 @@ module _ {X Y : Type 0} (P : X → List Bool → Type 0) (Q : Y → List Bool �
         subst (λ (t : Tag). IsBehind before t) same_tag p.0,
         subst (λ (t : Tag). IsInTagOrder (Some t) b.rest) same_tag p.1,
       )
-
--- a first element that may be missing, where it is there
-pub optional_there : {X Y : Type 0} (A : Tag → Type 0) (P : X → List Bool → Type 0) (Q : Y → List Bool → Type 0)
-    (a : Option X) (x : X) (y : Y) → a ≡ Some x → (list : List Bool) → IsOptional A P Q (a, y) list → Both P Q (x, y) list
-optional_there {X} A P Q a x y e list s = subst (λ (o : Option X). WithFirst A P Q o y list) e s
-
-pub optional_missing : {X Y : Type 0} (A : Tag → Type 0) (P : X → List Bool → Type 0) (Q : Y → List Bool → Type 0)
-    (a : Option X) (y : Y) → a ≡ None → (list : List Bool) → IsOptional A P Q (a, y) list → Q y list
-optional_missing {X} A P Q a y e list s = (subst (λ (o : Option X). WithFirst A P Q o y list) e s).0
 
 -- ---- the laws of contents
 

@@ -5,11 +5,15 @@ ghost use Rattle.asn1_bits.specs.BitReader.{bits_left};
 ghost use Rattle.asn1_der.specs.SetTags.{IsInTagOrder};
 
 use crate::contents::Contents;
+use crate::elements::Elements;
+use crate::ordered_contents::OrderedContents;
+use crate::ordered_elements::OrderedElements;
 use crate::raw_element::next_element;
 use crate::set_elements::{SetElements, is_behind};
 use asn1_formats::Refusal;
 use asn1_values::{BitBuffer, BitReader};
 use std::alloc::Global;
+use std::cmp::Ordering;
 
 /// The contents of a SET: its elements, one after another, whose tags ascend (X.690 8.11, 10.3).
 /// Another order is refused, in octets and in values.
@@ -141,10 +145,17 @@ impl<E: SetElements> Contents for Set<E> {
     ghost are_whole = { λ f. tag_set_whole (E.spells f.elements) (E.are_whole f.elements) };
 
     ghost names_fault = { λ f.
-        tag_set_names_fault (E.spells f.elements) (E.is_fault f.elements) (E.names_fault f.elements) };
+        tag_set_names_fault (E.spells f.elements) (E.is_fault f.elements)
+        (E.names_fault f.elements) };
 
     ghost names_misfit = { λ f.
         tag_set_names_misfit (E.spells f.elements) (E.is_misfit f.elements)
         (E.spells_one f.elements)
         (E.names_misfit f.elements) };
+}
+
+impl<E: SetElements + OrderedElements> OrderedContents for Set<E> {
+    fn compare(&self, left: &E::Value, right: &E::Value) -> Ordering {
+        self.elements.compare(left, right)
+    }
 }

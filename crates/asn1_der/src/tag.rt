@@ -197,7 +197,8 @@ fn low_number(tag: Tag) -> u64
 
 /// The order of the identifier octets of the tags.
 pub(crate) fn compare_tags(first: Tag, second: Tag) -> Ordering
-    ensures order { (a b : List Bool) → IsIdentifier first a → IsIdentifier second b → result ≡ bits_cmp a b }
+    ensures order { (a b : List Bool) → IsIdentifier first a → IsIdentifier second b
+        → result ≡ bits_cmp a b }
 {
     let (low, other) = (low_number(first), low_number(second));
     let octet = leading_octet(first, low);

@@ -29,6 +29,16 @@ pub(crate) fn subsequent_count(number: u64) -> usize
     10
 }
 
+/// The octet with which the last `left + 1` of those of a number begin.
+fn octet_at(number: u64, left: usize) -> u64
+    requires { left < 10 }
+    ensures first { last_octets number (left + 1) ≡ result ∷ last_octets number left }
+    ensures below { result < 256 }
+{
+    let more = if left == 0 { 0 } else { 128 };
+    more + (number >> (7 * left)) % 128
+}
+
 /// Appends the octets of a number behind the leading one. Where it is refused, some may have been
 /// appended.
 pub(crate) fn push_subsequent(buffer: &mut BitBuffer, number: u64) -> Result<(), AllocError>
@@ -40,8 +50,7 @@ pub(crate) fn push_subsequent(buffer: &mut BitBuffer, number: u64) -> Result<(),
     let mut left = subsequent_count(number);
     while left > 0 {
         left -= 1;
-        let more = if left == 0 { 0 } else { 128 };
-        push_number(buffer, more + (number >> (7 * left)) % 128, 8)?;
+        push_number(buffer, octet_at(number, left), 8)?;
     }
     Ok(())
 }
@@ -80,21 +89,12 @@ pub(crate) fn next_subsequent(reader: &mut BitReader<'_>) -> Result<u64, TagFaul
     Err(TagFault::Large)
 }
 
-/// The octet with which the last `left + 1` of those of a number begin.
-fn octet_at(number: u64, left: usize) -> u64
-    requires { left < 10 }
-    ensures first { last_octets number (left + 1) ≡ result ∷ last_octets number left }
-    ensures below { result < 256 }
-{
-    let more = if left == 0 { 0 } else { 128 };
-    more + (number >> (7 * left)) % 128
-}
-
 /// The order of the octets of two numbers behind the leading ones.
 pub(crate) fn compare_subsequent(first: u64, second: u64) -> Ordering
     requires some { 0 < first }
     requires other { 0 < second }
-    ensures order { (a b : List Bool) → IsSubsequent first a → IsSubsequent second b → result ≡ bits_cmp a b }
+    ensures order { (a b : List Bool) → IsSubsequent first a → IsSubsequent second b
+        → result ≡ bits_cmp a b }
 {
     let mut left = subsequent_count(first);
     let mut others = subsequent_count(second);

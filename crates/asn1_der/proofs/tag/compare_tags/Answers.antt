@@ -1,4 +1,4 @@
-use Rattle.std.proofs.Common.{◌≡◌, ◌<◌, sym, ◌∙◌, arith}
+use Rattle.std.proofs.Common.{◌≡◌, ◌<◌, arith}
 use Rattle.asn1_der.specs.Tags.{leading}
 use Rattle.asn1_der.specs.TagOrderLaws.{leading_first, leading_last, leading_alone, leading_same, same_low}
 use Rattle.asn1_der.proofs.tag.compare_tags.Goals as goal

@@ -1,7 +1,5 @@
-use Rattle.std.proofs.Common.{◌≡◌, ◌+◌, ◌-◌, ◌⊎◌, inl, inr, ℕ, List, [], ◌∷◌, ap, sym, ◌∙◌, arith}
-use Rattle.std.specs.declared.cmp.Ordering.TheVariants.{Less, Equal, Greater}
-use Rattle.asn1_bits.specs.Bits.{bits}
-use Rattle.asn1_bits.specs.BitLists.{bits_cmp}
+use Rattle.std.proofs.Common.{◌≡◌, ◌-◌, ◌⊎◌, inl, inr, ℕ, ◌∷◌, ap, sym, ◌∙◌, arith}
+use Rattle.std.specs.declared.cmp.Ordering.TheVariants.{Less, Greater}
 use Rattle.asn1_oid.specs.Writing.{last_octets}
 use Rattle.asn1_der.specs.OrderLaws.{shown_as, octet_below, octet_above, octet_level}
 use Rattle.asn1_der.specs.TagNumberSteps.{has_digits}

@@ -1,4 +1,4 @@
-use Rattle.std.proofs.Common.{◌≡◌, ℕ, List, length, ap, subst, sym, ◌∙◌, arith}
+use Rattle.std.proofs.Common.{◌≡◌, length, ap, sym, ◌∙◌, arith}
 use Rattle.asn1_der.specs.OrderLaws.{shown_as}
 use Rattle.asn1_der.specs.TagOrderLaws.{tag_first, tag_last, fewer_first, more_last, octets_decide}
 use Rattle.asn1_der.proofs.any.AnyOrdered.compare.Goals as goal

@@ -1,6 +1,7 @@
 use Rattle.std.proofs.Common.{ap}
 use Rattle.asn1_formats.specs.Combined.{plain_option}
-use Rattle.asn1_der.specs.SetTagLaws.{component_more, component_parts, optional_there}
+use Rattle.asn1_der.specs.OptionalLaws.{optional_there}
+use Rattle.asn1_der.specs.SetTagLaws.{component_more, component_parts}
 use Rattle.asn1_der.proofs.set_elements.OptionalSetElements.do_tags_ascend.Goals as goal
 
 pub returns-then-not-is_behind-clause-no : goal.returns-then-not-is_behind-clause-no
@@ -9,7 +10,7 @@ returns-then-not-is_behind-clause-no g c =
     let P = g.F.Element.spells f.first in
     let Q = g.R.Elements.spells f.rest in
     let there =
-    optional_there (g.F.Element.accepts f.first) P Q (plain_option g.F.Element.plain c.args.value.now.0)
+    optional_there (g.F.Element.accepts f.first) P Q (g.met.F.Element.are_tagged f.first) (plain_option g.F.Element.plain c.args.value.now.0)
     (g.F.Element.plain c.in-Some.first) (g.R.Elements.plain c.args.value.now.1)
     (ap (plain_option g.F.Element.plain) c.in-Some.is) in
     λ t list s o.
@@ -24,7 +25,7 @@ returns-else-not-is_behind-clause-yes g c =
     let P = g.F.Element.spells f.first in
     let Q = g.R.Elements.spells f.rest in
     let there =
-    optional_there (g.F.Element.accepts f.first) P Q (plain_option g.F.Element.plain c.args.value.now.0)
+    optional_there (g.F.Element.accepts f.first) P Q (g.met.F.Element.are_tagged f.first) (plain_option g.F.Element.plain c.args.value.now.0)
     (g.F.Element.plain c.in-Some.first) (g.R.Elements.plain c.args.value.now.1)
     (ap (plain_option g.F.Element.plain) c.in-Some.is) in
     λ t list s.
@@ -40,7 +41,7 @@ returns-else-not-is_behind-clause-no g c =
     let P = g.F.Element.spells f.first in
     let Q = g.R.Elements.spells f.rest in
     let there =
-    optional_there (g.F.Element.accepts f.first) P Q (plain_option g.F.Element.plain c.args.value.now.0)
+    optional_there (g.F.Element.accepts f.first) P Q (g.met.F.Element.are_tagged f.first) (plain_option g.F.Element.plain c.args.value.now.0)
     (g.F.Element.plain c.in-Some.first) (g.R.Elements.plain c.args.value.now.1)
     (ap (plain_option g.F.Element.plain) c.in-Some.is) in
     λ t list s o.
