@@ -1,9 +1,9 @@
-//! SET OF.
+//! SET OF and SET.
 
 use super::calls::{element, found, sequence, universal, written};
 use asn1_der::{
-    BooleanContents, Class, End, InItem, InSet, InTlv, IntegerContents, NotShortest, Required,
-    SetOf, Tag, Tlv, TlvMisfit,
+    Any, BooleanContents, Class, End, InItem, InSet, InTagOrder, InTlv, IntegerContents,
+    NotShortest, Optional, Or, Required, Sequence, Set, SetOf, Tag, Tlv, TlvMisfit,
 };
 use asn1_formats::{Refusal, WriteRefusal};
 use asn1_values::Integer;
@@ -147,5 +147,94 @@ fn tags_have_an_order(rt: HostRuntime) -> Result<(), Fail> {
     assert!(rt; universal(16, true).precedes(context));
     assert!(rt; !context.precedes(context));
     assert!(rt; !context.precedes(universal(30, false)));
+    Ok(())
+}
+
+#[test]
+fn elements_of_any_tag_ascend_by_their_octets(rt: HostRuntime) -> Result<(), Fail> {
+    let format = element(17, true, SetOf { item: Any {} });
+    // INTEGER 5, NULL, and the tags 16,384 and 256 of an application, in this order
+    // (X.690 8.1.2.4).
+    let octets = [
+        0x31, 0x0E, 0x02, 0x01, 0x05, 0x05, 0x00, 0x5F, 0x81, 0x80, 0x00, 0x00, 0x5F, 0x82, 0x00,
+        0x00,
+    ];
+    let mut values = found(&format, rt.alloc(), &octets)?;
+    assert_eq!(rt;
+        written(&format, rt.alloc(), &values)?.as_slice(),
+        octets.as_slice()
+    );
+    values.reverse();
+    assert!(rt; written(&format, rt.alloc(), &values).is_err());
+    Ok(())
+}
+
+#[test]
+fn alternatives_and_missing_elements_ascend_by_their_tags(rt: HostRuntime) -> Result<(), Fail> {
+    // SET OF SEQUENCE { a CHOICE { b INTEGER, c BOOLEAN } OPTIONAL, d NULL OPTIONAL }
+    let rest = Optional {
+        first: element(5, false, Sequence { elements: End {} }),
+        rest: End {},
+    };
+    let first = Or {
+        first: element(2, false, IntegerContents {}),
+        others: element(1, false, BooleanContents {}),
+    };
+    let item = sequence(Optional { first, rest });
+    let format = element(17, true, SetOf { item });
+    // FALSE, INTEGER 5, and TRUE and NULL: 01 is below 02, and more octets are last.
+    let octets = [
+        0x31, 0x11, 0x30, 0x03, 0x01, 0x01, 0x00, 0x30, 0x03, 0x02, 0x01, 0x05, 0x30, 0x05, 0x01,
+        0x01, 0xFF, 0x05, 0x00,
+    ];
+    let mut values = found(&format, rt.alloc(), &octets)?;
+    assert_eq!(rt;
+        written(&format, rt.alloc(), &values)?.as_slice(),
+        octets.as_slice()
+    );
+    values.swap(0, 1);
+    assert!(rt; written(&format, rt.alloc(), &values).is_err());
+    Ok(())
+}
+
+#[test]
+fn the_tags_of_a_set_ascend(rt: HostRuntime) -> Result<(), Fail> {
+    // SET { a BOOLEAN, b INTEGER OPTIONAL }
+    let elements = Required {
+        first: element(1, false, BooleanContents {}),
+        rest: Optional {
+            first: element(2, false, IntegerContents {}),
+            rest: End {},
+        },
+    };
+    let format = element(17, true, Set { elements });
+    let octets = [0x31, 0x06, 0x01, 0x01, 0xFF, 0x02, 0x01, 0x05];
+    let value = found(&format, rt.alloc(), &octets)?;
+    assert_eq!(rt;
+        written(&format, rt.alloc(), &value)?.as_slice(),
+        octets.as_slice()
+    );
+    Ok(())
+}
+
+#[test]
+fn a_set_in_another_order_is_refused(rt: HostRuntime) -> Result<(), Fail> {
+    let elements = Required {
+        first: element(2, false, IntegerContents {}),
+        rest: Required {
+            first: element(1, false, BooleanContents {}),
+            rest: End {},
+        },
+    };
+    let format = element(17, true, Set { elements });
+    let octets = [0x31, 0x06, 0x02, 0x01, 0x05, 0x01, 0x01, 0xFF];
+    assert_eq!(rt;
+        found(&format, rt.alloc(), &octets).err(),
+        Some(Refusal::Wrong(InTlv::Contents(InTagOrder::Descends)))
+    );
+    assert_eq!(rt;
+        written(&format, rt.alloc(), &(Integer::from(5), (true, ()))).err(),
+        Some(WriteRefusal::Wrong(TlvMisfit::Contents(InTagOrder::Descends)))
+    );
     Ok(())
 }

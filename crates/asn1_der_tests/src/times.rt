@@ -2,9 +2,11 @@
 
 use super::calls::{element, found, written};
 use asn1_der::{
-    GeneralizedTimeContents, InTlv, Moment, NoTime, TimeFault, TlvMisfit, UtcTime, UtcTimeContents,
+    FractionalTime, FractionalTimeContents, FractionalTimeMisfit, GeneralizedTimeContents, InTlv,
+    Moment, NoTime, TimeFault, TlvMisfit, UtcTime, UtcTimeContents,
 };
 use asn1_formats::{Refusal, WriteRefusal};
+use std::alloc::{AllocError, Global};
 use std::test::Fail;
 
 /// A time in two digits of the year.
@@ -117,6 +119,81 @@ fn a_generalized_time_has_four_digits_of_the_year(rt: HostRuntime) -> Result<(),
     assert_eq!(rt;
         found(&format, rt.alloc(), b"\x18\x1120501231235959.5Z").err(),
         Some(Refusal::Wrong(InTlv::Contents(TimeFault::Octets { count: 17 })))
+    );
+    Ok(())
+}
+
+/// A time of 1992 with these digits of a fraction.
+fn fractional(alloc: Global, fraction: &[u8]) -> Result<FractionalTime, AllocError> {
+    Ok(FractionalTime {
+        moment: Moment {
+            year: 1992,
+            month: 7,
+            day: 22,
+            hour: 13,
+            minute: 21,
+            second: 0,
+        },
+        fraction: Vec::from_slice(alloc, fraction)?,
+    })
+}
+
+#[test]
+fn a_time_may_have_a_fraction(rt: HostRuntime) -> Result<(), Fail> {
+    let format = element(24, false, FractionalTimeContents {});
+    // The first is of X.690 11.7.5.
+    let rows: [(&[u8], &[u8]); 3] = [
+        (b"3", b"\x18\x1119920722132100.3Z"),
+        (b"", b"\x18\x0F19920722132100Z"),
+        (b"0625", b"\x18\x1419920722132100.0625Z"),
+    ];
+    for (fraction, octets) in rows {
+        let value = fractional(rt.alloc(), fraction)?;
+        assert_eq!(rt; written(&format, rt.alloc(), &value)?.as_slice(), octets);
+        assert_eq!(rt; found(&format, rt.alloc(), octets)?, value);
+    }
+    Ok(())
+}
+
+#[test]
+fn a_wrong_fraction_is_refused(rt: HostRuntime) -> Result<(), Fail> {
+    let format = element(24, false, FractionalTimeContents {});
+    // The first three are of X.690 11.7.5.
+    let rows: [(&[u8], TimeFault); 5] = [
+        (b"\x18\x0F19920520240000Z", TimeFault::NoSuchTime),
+        (
+            b"\x18\x1119920622123421.0Z",
+            TimeFault::Other {
+                index: 15,
+                octet: b'0',
+            },
+        ),
+        (
+            b"\x18\x1219920722132100.30Z",
+            TimeFault::Other {
+                index: 16,
+                octet: b'0',
+            },
+        ),
+        (b"\x18\x1019920722132100.Z", TimeFault::Octets { count: 16 }),
+        (
+            b"\x18\x1119920722132100,3Z",
+            TimeFault::Other {
+                index: 14,
+                octet: b',',
+            },
+        ),
+    ];
+    for (octets, fault) in rows {
+        assert_eq!(rt;
+            found(&format, rt.alloc(), octets).err(),
+            Some(Refusal::Wrong(InTlv::Contents(fault)))
+        );
+    }
+    let wrong = FractionalTimeMisfit::Fraction { index: 1 };
+    assert_eq!(rt;
+        written(&format, rt.alloc(), &fractional(rt.alloc(), b"30")?).err(),
+        Some(WriteRefusal::Wrong(TlvMisfit::Contents(wrong)))
     );
     Ok(())
 }
