@@ -73,10 +73,10 @@ moment_back t =
     let e : 100 * (t.year / 100) + t.year % 100 ≡ t.year = omega arith in
     ap (λ (y : ℕ). record t { year = y }) e
 
-generalized_told : (t u : Moment) → generalized_fields t ≡ generalized_fields u → t ≡ u
+pub generalized_told : (t u : Moment) → generalized_fields t ≡ generalized_fields u → t ≡ u
 generalized_told t u e = sym (moment_back t) ∙ ap (λ (l : List ℕ). moment_in l) e ∙ moment_back u
 
-generalized_small : (t : Moment) → IsInGeneralized t → AreTwoDigits (generalized_fields t)
+pub generalized_small : (t : Moment) → IsInGeneralized t → AreTwoDigits (generalized_fields t)
 generalized_small t p zero less = let y : t.year < 10000 = p.0 in omega arith
 generalized_small t p (suc zero) less = omega arith
 generalized_small t p (suc (suc zero)) less = (small_parts t p.1).0

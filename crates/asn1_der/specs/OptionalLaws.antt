@@ -58,6 +58,15 @@ module _ {X Y : Type 0} (A : Tag → Type 0) (P : X → List Bool → Type 0) (Q
       subst (λ (o : Option X). Measures (λ v l. IsOptional A P Q v l) (o, y) len) (sym e)
       (record { list = m.list; spelled = m.spelled; size = m.size })
 
+  -- the first element where it is there, and the others where it is not
+  pub optional_there : (a : Option X) (x : X) (y : Y) → a ≡ Some x → (list : List Bool) → IsOptional A P Q (a, y) list
+      → Both P Q (x, y) list
+  optional_there a x y e list s = subst (λ (o : Option X). WithFirst A P Q o y list) e s
+
+  pub optional_missing : (a : Option X) (y : Y) → a ≡ None → (list : List Bool) → IsOptional A P Q (a, y) list
+      → Q y list × ¬ (Begins A list)
+  optional_missing a y e list s = subst (λ (o : Option X). WithFirst A P Q o y list) e s
+
   module _ {E F : Type 0} (W : List Bool → E → Type 0) (V : List Bool → F → Type 0) (one : ReadsOne P)
       (first : NamesFault P W) (second : NamesWrong Q V) where
     wrong_there : (list : List Bool) (e : InThen E F) → Begins A list → BothFault P W V list e → (a : Option X) (y : Y)

@@ -3,7 +3,6 @@ use Rattle.std.proofs.Common.{◌≡◌, ℕ, ◌+◌, ◌-◌, ◌*◌, ◌^◌
 use Rattle.std.specs.declared.cmp.Ordering.TheVariants.{Less, Equal, Greater}
 use Rattle.std.specs.Ordering.{MatchOrdering, bool_cmp, nat_cmp, ordering_then, ordering_reverse}
 use Rattle.std.specs.Cmp.{nat_cmp_is}
-use Rattle.std.proofs.lemmas.List.{length-append}
 use Rattle.std.proofs.lemmas.Bool.{lt-ltb}
 use Rattle.asn1_bits.specs.Bits.{bits, digits, number}
 use Rattle.asn1_bits.specs.DigitLaws.{length-digits, length-bits}
@@ -86,7 +85,7 @@ turned : (a b : List Bool) → bits_cmp b a ≡ Less → bits_cmp a b ≡ Greate
 turned a b e = (total_by (λ (l : List Bool). l)).antisymm a b ∙ ap ordering_reverse e
 
 -- a lower number in as many bits comes first
-number_below : (width m n : ℕ) (a b c d : List Bool) → IsNumber width m a → IsNumber width n b → m < n
+pub number_below : (width m n : ℕ) (a b c d : List Bool) → IsNumber width m a → IsNumber width n b → m < n
     → bits_cmp (a ++ c) (b ++ d) ≡ Less
 number_below width m n a b c d p q lt =
     let la : length a ≡ width = ap length p.1 ∙ length-digits m width in
@@ -97,6 +96,10 @@ number_below width m n a b c d p q lt =
     by_fronts a b c d (la ∙ sym lb)
     ∙ ap (λ (o : Ordering). ordering_then o (bits_cmp c d))
     (nat_cmp_is (number a) (number b) (bits_cmp a b) (ranked a b (la ∙ sym lb)) ∙ below)
+
+pub number_above : (width m n : ℕ) (a b c d : List Bool) → IsNumber width m a → IsNumber width n b → n < m
+    → bits_cmp (a ++ c) (b ++ d) ≡ Greater
+number_above width m n a b c d p q lt = turned (a ++ c) (b ++ d) (number_below width n m b a d c q p lt)
 
 long_below : (m n : ℕ) (a b c d : List Bool) → IsLong m a → IsLong n b → m < n → bits_cmp (a ++ c) (b ++ d) ≡ Less
 long_below m n a b c d p q lt =

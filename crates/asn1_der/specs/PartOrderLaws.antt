@@ -1,10 +1,10 @@
 -- Laws of the order of elements one after another.
-use Rattle.std.proofs.Common.{◌≡◌, ◌^◌, ◌<◌, ◌+◌, Bool, true, false, List, [], ◌∷◌, ◌++◌, length, refl, sym, ◌∙◌, ap, subst, arith, Ordering}
+use Rattle.std.proofs.Common.{◌≡◌, ◌^◌, ◌<◌, ◌+◌, Bool, true, false, List, [], ◌∷◌, ◌++◌, length, refl, sym, ◌∙◌, ap, arith, Ordering}
 use Rattle.std.specs.declared.cmp.Ordering.TheVariants.{Less, Equal, Greater}
 use Rattle.std.specs.Ordering.{ordering_reverse}
 use Rattle.std.proofs.lemmas.List.{length-append, append-nil}
 use Rattle.asn1_bits.specs.BitLists.{bits_cmp, total_by}
-use Rattle.asn1_formats.specs.Spelling.{Starts, ReadsOne}
+use Rattle.asn1_formats.specs.Spelling.{ReadsOne}
 use Rattle.asn1_formats.specs.Combined.{Both}
 use Rattle.asn1_der.specs.OrderLaws.{same_front}
 
@@ -25,7 +25,7 @@ below_more (true ∷ a) (false ∷ b) c d n e = cc
 turned : (a b : List Bool) (o : Ordering) → bits_cmp b a ≡ o → bits_cmp a b ≡ ordering_reverse o
 turned a b o e = (total_by (λ (l : List Bool). l)).antisymm a b ∙ ap ordering_reverse e
 
-equal_lists : (a b : List Bool) → bits_cmp a b ≡ Equal → a ≡ b
+pub equal_lists : (a b : List Bool) → bits_cmp a b ≡ Equal → a ≡ b
 equal_lists [] [] e = refl
 equal_lists [] (y ∷ b) e = cc
 equal_lists (x ∷ a) [] e = cc

@@ -1,5 +1,5 @@
 -- Steps of the loops over the elements of a SET OF.
-use Rattle.std.proofs.Common.{◌≡◌, ◌≢◌, ℕ, zero, suc, ◌+◌, ◌-◌, ◌<◌, List, [], ◌∷◌, ◌++◌, Bool, length, map, take, drop, get_or, Option, Some, refl, sym, ◌∙◌, ap, subst, arith, append_assoc}
+use Rattle.std.proofs.Common.{◌≡◌, ◌≢◌, ℕ, suc, ◌+◌, ◌-◌, ◌<◌, List, [], ◌∷◌, ◌++◌, Bool, length, map, take, drop, get_or, Option, Some, refl, sym, ◌∙◌, ap, subst, arith, append_assoc}
 use Rattle.std.proofs.lemmas.List.{map_more, map-append, append-nil, nil_from_length, length-map, length-take-le, take-append-drop}
 use Rattle.std.proofs.Math.Seq.{drop-cons}
 use Rattle.std.specs.declared.cmp.Ordering.TheVariants.{Less}
@@ -11,7 +11,7 @@ use Rattle.asn1_der.specs.declared.set_of.InSet.{InSet}
 use Rattle.asn1_der.specs.declared.set_of.InSet.TheVariants as part
 use Rattle.asn1_der.specs.Items.{AreItems}
 use Rattle.asn1_der.specs.ItemLaws.{measured_step}
-use Rattle.asn1_der.specs.Sets.{Ascend, IsSet, NextFault, SetFaultIs, NextMisfit, SetMisfitIs, IsBelow, SpellsLast}
+use Rattle.asn1_der.specs.Sets.{Ascend, IsSet, SetFaultIs, NextMisfit, SetMisfitIs, IsBelow, SpellsLast}
 use Rattle.asn1_der.specs.SetLaws.{front_spells, one_more, none_more, ascend_snoc, last_follows, item_fits}
 
 -- ---- bits: xs have been read from the list, and x begins what is left

@@ -81,23 +81,29 @@ pairs_from (suc n) i xs within each =
 
 -- ---- octets that are not at their place
 
-earlier : (n : ℕ) (octets : List ℕ) (i a j b : ℕ) → IsMisplaced n octets i a → IsMisplaced n octets j b → i < j → ⊥
-earlier n octets i a j b p q less = p.outside (subst (λ (o : ℕ). IsTimePlace n i o) p.is (q.before i less))
+module _ (P : ℕ → ℕ → Type 0) (octets : List ℕ) where
+  earlier : (i a j b : ℕ) → IsMisplaced P octets i a → IsMisplaced P octets j b → i < j → ⊥
+  earlier i a j b p q less = p.outside (subst (λ (o : ℕ). P i o) p.is (q.before i less))
 
-one_misplaced : (n : ℕ) (octets : List ℕ) (i a j b : ℕ) → IsMisplaced n octets i a → IsMisplaced n octets j b
-    → (i ≡ j) × (a ≡ b)
-one_misplaced n octets i a j b p q = chosen (cases_order i j)
-  where
-    chosen : (i ≡ j) ⊎ ((i < j) ⊎ (j < i)) → (i ≡ j) × (a ≡ b)
-    chosen (inl same) = (same, sym p.is ∙ ap (λ (k : ℕ). get_or octets k 0) same ∙ q.is)
-    chosen (inr (inl less)) = absurd (earlier n octets i a j b p q less)
-    chosen (inr (inr less)) = absurd (earlier n octets j b i a q p less)
+  pub one_misplaced : (i a j b : ℕ) → IsMisplaced P octets i a → IsMisplaced P octets j b → (i ≡ j) × (a ≡ b)
+  one_misplaced i a j b p q = chosen (cases_order i j)
+    where
+      chosen : (i ≡ j) ⊎ ((i < j) ⊎ (j < i)) → (i ≡ j) × (a ≡ b)
+      chosen (inl same) = (same, sym p.is ∙ ap (λ (k : ℕ). get_or octets k 0) same ∙ q.is)
+      chosen (inr (inl less)) = absurd (earlier i a j b p q less)
+      chosen (inr (inr less)) = absurd (earlier j b i a q p less)
 
-last_pair : (ns : List ℕ) → get_or (digit_pairs ns (90 ∷ [])) (length ns + length ns) 0 ≡ 90
-last_pair [] = refl
-last_pair (n ∷ ns) =
-    let two : suc (length ns) + suc (length ns) ≡ suc (suc (length ns + length ns)) = omega arith in
-    ap (λ (k : ℕ). get_or (digit_pairs (n ∷ ns) (90 ∷ [])) k 0) two ∙ last_pair ns
+  -- where each octet stands at its place none is misplaced
+  pub none_misplaced : ((k : ℕ) → k < length octets → P k (get_or octets k 0)) → (i a : ℕ) → IsMisplaced P octets i a → ⊥
+  none_misplaced each i a p = p.outside (subst (λ (o : ℕ). P i o) p.is (each i p.within))
+
+-- the octets behind the digits
+pub behind_pairs : (ns rest : List ℕ) (i k : ℕ) → i ≡ (length ns + length ns) + k
+    → get_or (digit_pairs ns rest) i 0 ≡ get_or rest k 0
+behind_pairs [] rest i k e = ap (λ (j : ℕ). get_or rest j 0) (omega arith)
+behind_pairs (n ∷ ns) rest zero k e = absurd (omega arith)
+behind_pairs (n ∷ ns) rest (suc zero) k e = absurd (omega arith)
+behind_pairs (n ∷ ns) rest (suc (suc i)) k e = behind_pairs ns rest i k (omega arith)
 
 -- the digits of fields stand at their places
 placed : (ns : List ℕ) (n : ℕ) → n ≡ length ns + length ns → AreTwoDigits ns → (k : ℕ) → k < n + 1
@@ -105,8 +111,7 @@ placed : (ns : List ℕ) (n : ℕ) → n ≡ length ns + length ns → AreTwoDig
 placed ns n e small k within = (
   λ less. digit_in_pairs ns (90 ∷ []) small k (omega arith),
   λ more.
-      let last : length ns + length ns ≡ k = omega arith in
-      subst (λ (i : ℕ). get_or (digit_pairs ns (90 ∷ [])) i 0 ≡ 90) last (last_pair ns),
+      behind_pairs ns (90 ∷ []) k 0 (omega arith),
 )
 
 -- ---- times
@@ -153,7 +158,7 @@ module _ {X : Type 0} (V : X → Type 0) (fields : X → List ℕ) (n : ℕ) whe
         omega arith
 
     not_misplaced : (x : X) (octets : List ℕ) (i o : ℕ) → AreTwoDigits (fields x)
-        → octets ≡ digit_pairs (fields x) (90 ∷ []) → IsMisplaced n octets i o → ⊥
+        → octets ≡ digit_pairs (fields x) (90 ∷ []) → IsMisplaced (λ k b. IsTimePlace n k b) octets i o → ⊥
     not_misplaced x octets i o p e m =
         let within : i < length octets = m.within in
         let long = so_long x octets e in
@@ -172,7 +177,7 @@ module _ {X : Type 0} (V : X → Type 0) (fields : X → List ℕ) (n : ℕ) whe
     one octets (Octets a) NoSuchTime p q = absurd (p.1 (sym p.0 ∙ so_long q.0 octets q.2))
     one octets (Other i o) (Octets b) p q = absurd (q.1 (sym q.0 ∙ p.0))
     one octets (Other i o) (Other j b) p q =
-        let same = one_misplaced n octets i o j b p.1 q.1 in
+        let same = one_misplaced (λ k b. IsTimePlace n k b) octets i o j b p.1 q.1 in
         ap (λ (k : ℕ). Other k o) same.0 ∙ ap (λ (k : ℕ). Other j k) same.1
     one octets (Other i o) NoSuchTime p q = absurd (not_misplaced q.0 octets i o q.1 q.2 p.1)
     one octets NoSuchTime (Octets b) p q = absurd (q.1 (sym q.0 ∙ so_long p.0 octets p.2))
@@ -188,18 +193,18 @@ module _ {X : Type 0} (V : X → Type 0) (fields : X → List ℕ) (n : ℕ) whe
 
 -- ---- what the code does
 
-nil : (m : List ℕ) → length m ≡ 0 → m ≡ []
+pub nil : (m : List ℕ) → length m ≡ 0 → m ≡ []
 nil [] g = refl
 nil (x ∷ m) g = absurd (omega arith)
 
 -- the numbers of digits are small
 pub numbers_small : (octets : List ℕ) (n i digits : ℕ) → past n i ≤ digits
-    → ((k : ℕ) → k < digits + 1 → IsTimePlace digits k (get_or octets k 0)) → AreTwoDigits (numbers_at n i octets)
+    → ((k : ℕ) → k < digits → IsDigit (get_or octets k 0)) → AreTwoDigits (numbers_at n i octets)
 numbers_small octets zero i digits end each k within = absurd (omega arith)
 numbers_small octets (suc n) i digits end each zero within =
     let up = past_above n (i + 2) in
-    let a = (each i (omega arith)).0 (omega arith) in
-    let b = (each (i + 1) (omega arith)).0 (omega arith) in
+    let a = each i (omega arith) in
+    let b = each (i + 1) (omega arith) in
     let al : get_or octets i 0 ≤ 57 = a.1 in
     let bl : get_or octets (i + 1) 0 ≤ 57 = b.1 in
     omega arith

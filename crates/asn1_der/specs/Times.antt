@@ -1,9 +1,11 @@
 -- Times by the octets of their contents (X.680 46, 47, X.690 11.7, 11.8), and what is wrong with one.
-use Rattle.std.specs.Prelude.{◌≡◌, ◌≢◌, ℕ, zero, suc, ◌+◌, ◌-◌, ◌*◌, ◌/◌, ◌%◌, ◌<◌, ◌≤◌, List, [], ◌∷◌, length, slice_index, nat_lt, if◌then◌else◌}
+use Rattle.std.specs.Prelude.{◌≡◌, ◌≢◌, ℕ, zero, suc, ◌+◌, ◌-◌, ◌*◌, ◌/◌, ◌%◌, ◌<◌, ◌≤◌, List, [], ◌∷◌, ◌++◌, length, take, drop, slice_index, nat_lt, if◌then◌else◌}
 use Rattle.asn1_der.specs.declared.moment.Moment.{Moment}
 use Rattle.asn1_der.specs.declared.utc_time.UtcTime.{UtcTime}
 use Rattle.asn1_der.specs.declared.time.TimeFault.{TimeFault}
 use Rattle.asn1_der.specs.declared.time.TimeFault.TheVariants.{Octets, Other, NoSuchTime}
+use Rattle.asn1_der.specs.declared.fractional_time.FractionalTimeMisfit.{FractionalTimeMisfit}
+use Rattle.asn1_der.specs.declared.fractional_time.FractionalTimeMisfit.TheVariants as misfit
 use Rattle.asn1_der.specs.Moments.{IsMoment}
 
 -- the octet of a decimal digit
@@ -28,17 +30,18 @@ numbers_at (suc n) place octets = pair_at octets place ∷ numbers_at n (place +
 abbrev pub IsTimePlace : ℕ → ℕ → ℕ → Type 0
 IsTimePlace digits index octet = (index < digits → IsDigit octet) × (digits ≤ index → octet ≡ 90)
 
--- the octet at the index is the first that does not stand at its place
-pub record IsMisplaced (digits : ℕ) (octets : List ℕ) (index octet : ℕ) : Type 0 where
+-- P says which octets may stand at an index. The one at this index is the first that may not
+pub record IsMisplaced (P : ℕ → ℕ → Type 0) (octets : List ℕ) (index octet : ℕ) : Type 0 where
   pub within : index < length octets
   pub is : slice_index octets index ≡ octet
-  pub outside : ¬ (IsTimePlace digits index octet)
-  pub before : (k : ℕ) → k < index → IsTimePlace digits k (slice_index octets k)
+  pub outside : ¬ (P index octet)
+  pub before : (k : ℕ) → k < index → P k (slice_index octets k)
 
 -- there are other octets than the digits and Z; one does not stand at its place
 abbrev pub PlaceFaultIs : ℕ → List ℕ → TimeFault → Type 0
 PlaceFaultIs digits octets (Octets count) = (length octets ≡ count) × (count ≢ digits + 1)
-PlaceFaultIs digits octets (Other index octet) = (length octets ≡ digits + 1) × IsMisplaced digits octets index octet
+PlaceFaultIs digits octets (Other index octet) =
+    (length octets ≡ digits + 1) × IsMisplaced (λ k o. IsTimePlace digits k o) octets index octet
 PlaceFaultIs digits octets NoSuchTime = ⊥
 
 abbrev pub AreTwoDigits : List ℕ → Type 0
@@ -97,3 +100,58 @@ IsGeneralizedTime t octets = IsTimeOf IsInGeneralized generalized_fields t octet
 
 abbrev pub GeneralizedTimeFaultIs : List ℕ → TimeFault → Type 0
 GeneralizedTimeFaultIs octets e = TimeFaultIs IsInGeneralized generalized_fields 14 octets e
+
+-- ---- GeneralizedTime with a fraction of a second: YYYYMMDDhhmmss.fZ, where f is digits of which the last is not 0; without
+-- a fraction YYYYMMDDhhmmssZ (11.7.3)
+
+-- a digit, and not 0 where it is the last of so many
+abbrev pub IsFractionDigit : ℕ → ℕ → ℕ → Type 0
+IsFractionDigit count index octet = IsDigit octet × (index + 1 ≡ count → octet ≢ 48)
+
+abbrev pub IsFraction : List ℕ → Type 0
+IsFraction digits = (k : ℕ) → k < length digits → IsFractionDigit (length digits) k (slice_index digits k)
+
+-- what stands behind the digits of the second
+abbrev pub fraction_tail : List ℕ → List ℕ
+fraction_tail [] = 90 ∷ []
+fraction_tail (d ∷ ds) = 46 ∷ d ∷ (ds ++ 90 ∷ [])
+
+abbrev pub IsInFractional : Moment × List ℕ → Type 0
+IsInFractional t = IsInGeneralized t.0 × IsFraction t.1
+
+abbrev pub IsFractionalTime : Moment × List ℕ → List ℕ → Type 0
+IsFractionalTime t octets =
+    IsInFractional t × (octets ≡ digit_pairs (generalized_fields t.0) (fraction_tail t.1))
+
+-- the digits and Z, or at least one digit more and the full stop
+abbrev pub IsFractionalCount : ℕ → Type 0
+IsFractionalCount count = (15 ≤ count) × (count ≢ 16)
+
+-- of so many octets the last is Z, the one behind the digits of the second otherwise a full stop, and all others are
+-- digits; the last digit of a fraction is not 0
+abbrev pub IsFractionalPlace : ℕ → ℕ → ℕ → Type 0
+IsFractionalPlace count index octet =
+    (index + 1 ≡ count → octet ≡ 90)
+    × (index + 1 < count → index ≡ 14 → octet ≡ 46)
+    × (index + 1 < count → index ≢ 14 → IsDigit octet)
+    × (15 < count → index + 2 ≡ count → octet ≢ 48)
+
+-- the octets are too few, or too few for a fraction; one does not stand at its place; the digits are those of no moment
+abbrev pub FractionalTimeFaultIs : List ℕ → TimeFault → Type 0
+FractionalTimeFaultIs octets (Octets count) = (length octets ≡ count) × ¬ (IsFractionalCount count)
+FractionalTimeFaultIs octets (Other index octet) =
+    IsFractionalCount (length octets) × IsMisplaced (λ k o. IsFractionalPlace (length octets) k o) octets index octet
+FractionalTimeFaultIs octets NoSuchTime =
+    (t : Moment × List ℕ) × AreTwoDigits (generalized_fields t.0) × IsFraction t.1
+    × (octets ≡ digit_pairs (generalized_fields t.0) (fraction_tail t.1)) × ¬ (IsInGeneralized t.0)
+
+-- there is no such moment; or the digit of the fraction at the index is the first that is none, or is the last and 0
+abbrev pub FractionalMisfitIs : Moment × List ℕ → FractionalTimeMisfit → Type 0
+FractionalMisfitIs t misfit.NoSuchTime = ¬ (IsInGeneralized t.0)
+FractionalMisfitIs t (misfit.Fraction index) =
+    IsInGeneralized t.0
+    × ((octet : ℕ) × IsMisplaced (λ k o. IsFractionDigit (length t.1) k o) t.1 index octet)
+
+-- the octets between the full stop and Z
+abbrev pub fraction_in : List ℕ → List ℕ
+fraction_in octets = take (length octets - 16) (drop 15 octets)

@@ -4,12 +4,15 @@ ghost use Rattle.std.specs.Prelude.{◌≡◌};
 
 use crate::element::Element;
 use crate::octet_string::{OctetStringContents, octets_of};
+use crate::ordered::Ordered;
+use crate::ordered_contents::compare_octets;
 use crate::raw_element::next_element;
-use crate::tag::Tag;
+use crate::tag::{Tag, compare_tags};
 use crate::tlv::{ElementFault, Tlv, TlvMisfit};
 use asn1_formats::{Format, NeverWrong, Refusal};
 use asn1_values::{BitBuffer, BitReader};
 use std::alloc::Global;
+use std::cmp::Ordering;
 
 /// An element of any tag, kept as it is: ANY of the older notation, an open type, or a part that is
 /// not looked into.
@@ -184,4 +187,23 @@ impl Element for Any {
     ghost names_fault = { λ f. any_names_fault };
 
     ghost names_misfit = { λ f. any_names_misfit };
+}
+
+impl Ordered for Any {
+    fn compare(&self, left: &AnyValue, right: &AnyValue) -> Ordering {
+        match compare_tags(left.tag, right.tag) {
+            Ordering::Less => return Ordering::Less,
+            Ordering::Equal => {}
+            Ordering::Greater => return Ordering::Greater,
+        }
+        let first = left.octets.as_slice();
+        let second = right.octets.as_slice();
+        if first.len() < second.len() {
+            return Ordering::Less;
+        }
+        if first.len() > second.len() {
+            return Ordering::Greater;
+        }
+        compare_octets(first, second)
+    }
 }

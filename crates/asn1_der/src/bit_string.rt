@@ -5,9 +5,11 @@ ghost use Rattle.asn1_bits.specs.BitReader.{view_left, bits_left};
 ghost use Rattle.asn1_der.specs.BitStrings.{IsBitString, BitStringFaultIs};
 
 use crate::contents::Contents;
+use crate::ordered_contents::OrderedContents;
 use asn1_formats::{NeverWrong, Refusal, next_number, push_number};
 use asn1_values::{BitBuffer, BitReader, BitString, to_bitstring};
 use std::alloc::Global;
+use std::cmp::Ordering;
 
 /// The contents of a BIT STRING: an octet that says how many bits of the last octet are unused, the
 /// bits, and zeros for the unused ones (X.690 8.6, 11.2.1).
@@ -149,4 +151,18 @@ impl Contents for BitStringContents {
     ghost names_fault = { λ f. bit_string_names_fault };
 
     ghost names_misfit = { λ f. none_names_misfit (λ x list. IsBitString x list) };
+}
+
+impl OrderedContents for BitStringContents {
+    fn compare(&self, left: &BitString, right: &BitString) -> Ordering {
+        let first = unused_bits(left.len());
+        let second = unused_bits(right.len());
+        if first < second {
+            return Ordering::Less;
+        }
+        if first > second {
+            return Ordering::Greater;
+        }
+        left.cmp(right)
+    }
 }

@@ -6,6 +6,7 @@ use crate::items::InItem;
 use crate::length::LengthFault;
 use crate::not_default::InDefault;
 use crate::optional::OptionalMisfit;
+use crate::set::InTagOrder;
 use crate::set_of::InSet;
 use crate::tag::TagFault;
 use crate::tlv::{ElementFault, InTlv, TlvMisfit};
@@ -210,6 +211,24 @@ impl<E: Explain> Explain for InSet<E> {
         match self {
             InSet::Item(wrong) => wrong.is_reason(),
             InSet::Descends => true,
+        }
+    }
+}
+
+impl<E: fmt::Display> fmt::Display for InTagOrder<E> {
+    fn fmt<W: fmt::Write>(&self, f: &mut fmt::Formatter<W>) -> fmt::Result {
+        match self {
+            InTagOrder::Part(wrong) => write!(f, "{wrong}"),
+            InTagOrder::Descends => write!(f, "the tags do not ascend"),
+        }
+    }
+}
+
+impl<E: Explain> Explain for InTagOrder<E> {
+    fn is_reason(&self) -> bool {
+        match self {
+            InTagOrder::Part(wrong) => wrong.is_reason(),
+            InTagOrder::Descends => true,
         }
     }
 }

@@ -4,6 +4,7 @@ use crate::bit_string::BitStringFault;
 use crate::bmp_string::BmpStringFault;
 use crate::boolean::BooleanFault;
 use crate::character_string::NotInSet;
+use crate::fractional_time::FractionalTimeMisfit;
 use crate::integer::NotShortest;
 use crate::object_identifier::{IdentifierFault, OneArc};
 use crate::time::{NoTime, TimeFault};
@@ -152,6 +153,23 @@ impl fmt::Display for NoTime {
 }
 
 impl Explain for NoTime {
+    fn is_reason(&self) -> bool {
+        true
+    }
+}
+
+impl fmt::Display for FractionalTimeMisfit {
+    fn fmt<W: fmt::Write>(&self, f: &mut fmt::Formatter<W>) -> fmt::Result {
+        match self {
+            FractionalTimeMisfit::NoSuchTime => write!(f, "the type has no such time"),
+            FractionalTimeMisfit::Fraction { index } => {
+                write!(f, "digit {index} of the fraction can't stand there")
+            }
+        }
+    }
+}
+
+impl Explain for FractionalTimeMisfit {
     fn is_reason(&self) -> bool {
         true
     }

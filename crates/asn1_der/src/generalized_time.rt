@@ -3,7 +3,7 @@
 ghost use Rattle.std.specs.Prelude.{◌≡◌, ◌%◌, ◌<◌, ◌∷◌, [], ℕ, length, slice_index, ◌↔◌, IsTrue, IfOk, IfErr};
 ghost use Rattle.asn1_bits.specs.BitReader.{view_left, bits_left};
 ghost use Rattle.asn1_der.specs.OctetContents.{IsInOctets, IsWrongInOctets};
-ghost use Rattle.asn1_der.specs.Times.{IsTimePlace, IsGeneralizedTime, IsInGeneralized, GeneralizedTimeFaultIs, digit_pairs, generalized_fields, numbers_at};
+ghost use Rattle.asn1_der.specs.Times.{IsDigit, IsGeneralizedTime, IsInGeneralized, GeneralizedTimeFaultIs, digit_pairs, generalized_fields, numbers_at};
 
 use crate::contents::Contents;
 use crate::moment::Moment;
@@ -22,7 +22,7 @@ use std::cmp::Ordering;
 pub struct GeneralizedTimeContents {}
 
 /// The octets of the moment.
-fn octets_of(moment: &Moment) -> [u8; 15]
+pub(crate) fn octets_of(moment: &Moment) -> [u8; 15]
     requires { moment.now.year < 10000 }
     ensures { result ≡ digit_pairs (generalized_fields moment.now) (90 ∷ []) }
 {
@@ -49,16 +49,16 @@ fn octets_of(moment: &Moment) -> [u8; 15]
 
 /// Whether the type has the moment: the year has four digits, and there is such a day and such a
 /// time of day.
-fn is_in(moment: &Moment) -> bool
+pub(crate) fn is_in(moment: &Moment) -> bool
     ensures { IsTrue result ↔ IsInGeneralized moment.now }
 {
     moment.year < 10000 && moment.exists()
 }
 
 /// The numbers of the pairs of digits.
-fn fields_of<S: OctetSource>(source: &S) -> Moment
-    requires sized { length (S.list source.now) ≡ 15 }
-    requires placed { (k : ℕ) → k < 15 → IsTimePlace 14 k (slice_index (S.list source.now) k) }
+pub(crate) fn fields_of<S: OctetSource>(source: &S) -> Moment
+    requires sized { 14 < length (S.list source.now) }
+    requires digits { (k : ℕ) → k < 14 → IsDigit (slice_index (S.list source.now) k) }
     ensures { generalized_fields result ≡ numbers_at 7 0 (S.list source.now) }
 {
     let century = two_digits(source, 0) as u16;

@@ -2,6 +2,7 @@
 
 ghost use Rattle.std.specs.Prelude.{◌≡◌, ◌^◌, ◌<◌, List, Bool, length};
 ghost use Rattle.asn1_bits.specs.BitLists.{bits_cmp};
+ghost use Rattle.asn1_der.specs.Beginnings.{BeginOrEnd};
 
 use crate::elements::Elements;
 use crate::end::End;
@@ -20,15 +21,24 @@ pub trait OrderedElements: Elements {
             → Self.spells self.now (Self.plain right.now) b → length a ≡ length b
             → length a < 2 ^ 64
             → result ≡ bits_cmp a b };
+
+    /// Where there is an element, its tag is in front.
+    ghost begin_or_end: { (f : Self) → BeginOrEnd (Self.spells f) };
 }
 
 impl OrderedElements for End {
+    ghost use Rattle.asn1_der.specs.OptionalOrderLaws.{end_begins};
+
     fn compare(&self, _left: &(), _right: &()) -> Ordering {
         Ordering::Equal
     }
+
+    ghost begin_or_end = { λ f. end_begins };
 }
 
 impl<F: Ordered, R: OrderedElements> OrderedElements for Required<F, R> {
+    ghost use Rattle.asn1_der.specs.OptionalOrderLaws.{required_begins};
+
     fn compare(&self, left: &(F::Value, R::Value), right: &(F::Value, R::Value)) -> Ordering {
         match self.first.compare(&left.0, &right.0) {
             Ordering::Less => Ordering::Less,
@@ -36,6 +46,10 @@ impl<F: Ordered, R: OrderedElements> OrderedElements for Required<F, R> {
             Ordering::Greater => Ordering::Greater,
         }
     }
+
+    ghost begin_or_end = { λ f.
+        required_begins (F.accepts f.first) (F.spells f.first) (R.spells f.rest)
+        (F.are_tagged f.first) };
 }
 
 impl<E: OrderedElements> OrderedContents for Sequence<E> {

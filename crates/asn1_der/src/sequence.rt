@@ -6,8 +6,7 @@ use asn1_formats::Refusal;
 use asn1_values::{BitBuffer, BitReader};
 use std::alloc::Global;
 
-/// The contents of a SEQUENCE: its elements, one after another (X.690 8.9). They are those of a SET
-/// too, where the elements stand in the order of their tags (10.3).
+/// The contents of a SEQUENCE: its elements, one after another (X.690 8.9).
 #[derive(Clone, Copy, Debug)]
 pub struct Sequence<E> {
     /// The elements: a [`Required`](crate::Required), an [`Optional`](crate::Optional) or their

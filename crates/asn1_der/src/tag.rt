@@ -1,14 +1,17 @@
 //! Tags, and the identifier octets that hold them.
 
-ghost use Rattle.std.specs.Prelude.{◌≡◌, ◌≢◌, ℕ, ◌<◌, ◌≤◌, OnOk, OnErr, IfOk, IfErr, IsTrue, IsFalse, Some};
+ghost use Rattle.std.specs.Prelude.{◌≡◌, ◌≢◌, ℕ, List, Bool, ◌<◌, ◌≤◌, OnOk, OnErr, IfOk, IfErr, IsTrue, IsFalse, Some};
 ghost use Rattle.asn1_bits.specs.BitReader.{bits_left};
+ghost use Rattle.asn1_bits.specs.BitLists.{bits_cmp};
+ghost use Rattle.asn1_der.specs.TagOrderLaws.{IsLow};
 ghost use Rattle.asn1_formats.specs.Spelling.{Starts, Measures, IsWritten, Extends};
 ghost use Rattle.asn1_der.specs.Tags.{class_number, leading, IsIdentifier, IsTagged, TagFaultIs, OtherTagIs};
 
-use crate::tag_number::{next_subsequent, push_subsequent, subsequent_count};
+use crate::tag_number::{compare_subsequent, next_subsequent, push_subsequent, subsequent_count};
 use asn1_formats::{next_number, push_number};
 use asn1_values::{BitBuffer, BitReader};
 use std::alloc::AllocError;
+use std::cmp::Ordering;
 
 /// The class of a tag (X.690 8.1.2.2).
 #[derive(Clone, Copy, Debug, PartialEq, Eq)]
@@ -182,4 +185,32 @@ pub(crate) fn pass_tag(reader: &mut BitReader<'_>, tag: Tag) -> Result<(), TagFa
         return Err(TagFault::Other { found });
     }
     Ok(())
+}
+
+/// The number in bits 5 to 1 of the leading octet: the tag's own below 31, and from there on 31.
+fn low_number(tag: Tag) -> u64
+    ensures low { IsLow result tag.number }
+    ensures below { result < 32 }
+{
+    if tag.number < 31 { tag.number } else { 31 }
+}
+
+/// The order of the identifier octets of the tags.
+pub(crate) fn compare_tags(first: Tag, second: Tag) -> Ordering
+    ensures order { (a b : List Bool) → IsIdentifier first a → IsIdentifier second b
+        → result ≡ bits_cmp a b }
+{
+    let (low, other) = (low_number(first), low_number(second));
+    let octet = leading_octet(first, low);
+    let another = leading_octet(second, other);
+    if octet < another {
+        return Ordering::Less;
+    }
+    if octet > another {
+        return Ordering::Greater;
+    }
+    if low < 31 || other < 31 {
+        return Ordering::Equal;
+    }
+    compare_subsequent(first.number, second.number)
 }

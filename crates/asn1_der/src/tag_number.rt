@@ -1,6 +1,8 @@
 //! Numbers of tags from 31 on.
 
-ghost use Rattle.std.specs.Prelude.{◌-◌, ◌*◌, ◌^◌, ◌<◌, ◌≤◌, OnOk, OnErr, IfOk, IfErr};
+ghost use Rattle.std.specs.Prelude.{◌≡◌, ◌+◌, ◌-◌, ◌*◌, ◌^◌, ◌<◌, ◌≤◌, ◌∷◌, List, Bool, OnOk, OnErr, IfOk, IfErr};
+ghost use Rattle.asn1_bits.specs.BitLists.{bits_cmp};
+ghost use Rattle.asn1_oid.specs.Writing.{last_octets};
 ghost use Rattle.asn1_bits.specs.BitReader.{bits_left};
 ghost use Rattle.asn1_formats.specs.Spelling.{Starts, IsWritten, Extends};
 ghost use Rattle.asn1_der.specs.TagNumbers.{IsSubsequent, NumberFaultIs};
@@ -9,6 +11,7 @@ use crate::tag::TagFault;
 use asn1_formats::{Short, next_number, push_number};
 use asn1_values::{BitBuffer, BitReader};
 use std::alloc::AllocError;
+use std::cmp::Ordering;
 
 /// The least number of octets that hold a number above 0 in seven bits each (X.690 8.1.2.4.2).
 pub(crate) fn subsequent_count(number: u64) -> usize
@@ -26,6 +29,16 @@ pub(crate) fn subsequent_count(number: u64) -> usize
     10
 }
 
+/// The octet with which the last `left + 1` of those of a number begin.
+fn octet_at(number: u64, left: usize) -> u64
+    requires { left < 10 }
+    ensures first { last_octets number (left + 1) ≡ result ∷ last_octets number left }
+    ensures below { result < 256 }
+{
+    let more = if left == 0 { 0 } else { 128 };
+    more + (number >> (7 * left)) % 128
+}
+
 /// Appends the octets of a number behind the leading one. Where it is refused, some may have been
 /// appended.
 pub(crate) fn push_subsequent(buffer: &mut BitBuffer, number: u64) -> Result<(), AllocError>
@@ -37,8 +50,7 @@ pub(crate) fn push_subsequent(buffer: &mut BitBuffer, number: u64) -> Result<(),
     let mut left = subsequent_count(number);
     while left > 0 {
         left -= 1;
-        let more = if left == 0 { 0 } else { 128 };
-        push_number(buffer, more + (number >> (7 * left)) % 128, 8)?;
+        push_number(buffer, octet_at(number, left), 8)?;
     }
     Ok(())
 }
@@ -75,4 +87,28 @@ pub(crate) fn next_subsequent(reader: &mut BitReader<'_>) -> Result<u64, TagFaul
         }
     }
     Err(TagFault::Large)
+}
+
+/// The order of the octets of two numbers behind the leading ones.
+pub(crate) fn compare_subsequent(first: u64, second: u64) -> Ordering
+    requires some { 0 < first }
+    requires other { 0 < second }
+    ensures order { (a b : List Bool) → IsSubsequent first a → IsSubsequent second b
+        → result ≡ bits_cmp a b }
+{
+    let mut left = subsequent_count(first);
+    let mut others = subsequent_count(second);
+    while left > 0 && others > 0 {
+        left -= 1;
+        others -= 1;
+        let octet = octet_at(first, left);
+        let other = octet_at(second, others);
+        if octet < other {
+            return Ordering::Less;
+        }
+        if octet > other {
+            return Ordering::Greater;
+        }
+    }
+    left.cmp(&others)
 }

@@ -63,3 +63,64 @@ pub(crate) fn found<F: Format>(
         Err(refusal) => Err(refusal),
     }
 }
+
+/// Whether the value is written as these octets.
+pub(crate) fn is_written<F: Format>(
+    format: &F,
+    alloc: Global,
+    value: &F::Value,
+    octets: &[u8],
+) -> bool {
+    match written(format, alloc, value) {
+        Ok(found) => found.as_slice() == octets,
+        Err(_) => false,
+    }
+}
+
+/// Whether the value is refused for this misfit.
+pub(crate) fn is_misfit<F: Format>(
+    format: &F,
+    alloc: Global,
+    value: &F::Value,
+    misfit: F::Misfit,
+) -> bool
+where
+    F::Misfit: PartialEq,
+{
+    match written(format, alloc, value) {
+        Err(WriteRefusal::Wrong(found)) => found == misfit,
+        _ => false,
+    }
+}
+
+/// Whether the octets are this value.
+pub(crate) fn is_found<F: Format>(
+    format: &F,
+    alloc: Global,
+    octets: &[u8],
+    value: &F::Value,
+) -> bool
+where
+    F::Value: PartialEq,
+{
+    match found(format, alloc, octets) {
+        Ok(read) => read == *value,
+        Err(_) => false,
+    }
+}
+
+/// Whether the octets are refused for this fault.
+pub(crate) fn is_refused<F: Format>(
+    format: &F,
+    alloc: Global,
+    octets: &[u8],
+    fault: F::Fault,
+) -> bool
+where
+    F::Fault: PartialEq,
+{
+    match found(format, alloc, octets) {
+        Err(Refusal::Wrong(found)) => found == fault,
+        _ => false,
+    }
+}

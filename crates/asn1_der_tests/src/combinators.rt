@@ -1,11 +1,11 @@
 //! CHOICE, DEFAULT, explicit tags, names, and values of a program's own.
 
-use super::calls::{element, found, sequence, written};
+use super::calls::{element, found, is_misfit, is_refused, is_written, sequence};
 use asn1_der::{
     BooleanContents, ChoiceMisfit, Class, End, Explicit, InDefault, InTlv, IntegerContents,
     NotDefault, NotEnd, Optional, Or, Required, Sequence, Tag, Tlv, TlvMisfit,
 };
-use asn1_formats::{InNamed, InThen, Mapped, Named, OfParts, OneOf, Refusal, WriteRefusal};
+use asn1_formats::{InNamed, InThen, Mapped, Named, OfParts, OneOf, Refusal};
 use asn1_values::Integer;
 use std::test::Fail;
 
@@ -21,16 +21,13 @@ fn the_tag_tells_the_alternative(rt: HostRuntime) -> Result<(), Fail> {
     });
     let octets = [0x30, 0x03, 0x02, 0x01, 0x05];
     let value = found(&format, rt.alloc(), &octets)?;
-    assert_eq!(rt;
-        written(&format, rt.alloc(), &value)?.as_slice(),
-        octets.as_slice()
-    );
+    assert!(rt; is_written(&format, rt.alloc(), &value, &octets));
     match value.0 {
-        OneOf::Other(level) => assert_eq!(rt; level.to_i128(), Some(5)),
+        OneOf::Other(level) => assert!(rt; level.to_i128() == Some(5)),
         OneOf::First(_) => return Err("the tag is that of INTEGER".into()),
     }
     match found(&format, rt.alloc(), &[0x30, 0x03, 0x01, 0x01, 0xFF])?.0 {
-        OneOf::First(flag) => assert_eq!(rt; flag, true),
+        OneOf::First(flag) => assert!(rt; flag),
         OneOf::Other(_) => return Err("the tag is that of BOOLEAN".into()),
     }
     Ok(())
@@ -45,9 +42,13 @@ fn alternatives_of_one_tag_are_refused(rt: HostRuntime) -> Result<(), Fail> {
         },
         rest: End {},
     });
-    assert_eq!(rt;
-        written(&format, rt.alloc(), &(OneOf::Other(true), ())).err(),
-        Some(WriteRefusal::Wrong(TlvMisfit::Contents(InThen::First(ChoiceMisfit::Ambiguous))))
+    assert!(rt;
+        is_misfit(
+            &format,
+            rt.alloc(),
+            &(OneOf::Other(true), ()),
+            TlvMisfit::Contents(InThen::First(ChoiceMisfit::Ambiguous))
+        )
     );
     Ok(())
 }
@@ -66,14 +67,22 @@ fn a_default_is_never_there(rt: HostRuntime) -> Result<(), Fail> {
         ),
         rest: End {},
     });
-    assert_eq!(rt; found(&format, rt.alloc(), &[0x30, 0x00])?.0, None);
-    assert_eq!(rt;
-        written(&format, rt.alloc(), &(Some(true), ()))?.as_slice(),
-        [0x30, 0x03, 0x01, 0x01, 0xFF].as_slice()
+    assert!(rt; found(&format, rt.alloc(), &[0x30, 0x00])?.0 == None);
+    assert!(rt;
+        is_written(
+            &format,
+            rt.alloc(),
+            &(Some(true), ()),
+            &[0x30, 0x03, 0x01, 0x01, 0xFF]
+        )
     );
-    assert_eq!(rt;
-        found(&format, rt.alloc(), &[0x30, 0x03, 0x01, 0x01, 0x00]).err(),
-        Some(Refusal::Wrong(InTlv::Contents(InThen::First(InTlv::Contents(InDefault::Default)))))
+    assert!(rt;
+        is_refused(
+            &format,
+            rt.alloc(),
+            &[0x30, 0x03, 0x01, 0x01, 0x00],
+            InTlv::Contents(InThen::First(InTlv::Contents(InDefault::Default)))
+        )
     );
     Ok(())
 }
@@ -88,14 +97,15 @@ fn a_number_is_compared_with_its_default(rt: HostRuntime) -> Result<(), Fail> {
             default: Integer::from(300),
         },
     );
-    assert_eq!(rt;
-        found(&format, rt.alloc(), &[0x02, 0x02, 0x01, 0x2C]).err(),
-        Some(Refusal::Wrong(InTlv::Contents(InDefault::Default)))
+    assert!(rt;
+        is_refused(
+            &format,
+            rt.alloc(),
+            &[0x02, 0x02, 0x01, 0x2C],
+            InTlv::Contents(InDefault::Default)
+        )
     );
-    assert_eq!(rt;
-        found(&format, rt.alloc(), &[0x02, 0x02, 0x01, 0x2D])?.to_i128(),
-        Some(301)
-    );
+    assert!(rt; found(&format, rt.alloc(), &[0x02, 0x02, 0x01, 0x2D])?.to_i128() == Some(301));
     Ok(())
 }
 
@@ -112,18 +122,14 @@ fn one_element_stands_behind_an_explicit_tag(rt: HostRuntime) -> Result<(), Fail
             element: element(1, false, BooleanContents {}),
         },
     };
-    assert_eq!(rt;
-        written(&format, rt.alloc(), &true)?.as_slice(),
-        [0xA2, 0x03, 0x01, 0x01, 0xFF].as_slice()
-    );
-    assert_eq!(rt;
-        found(
+    assert!(rt; is_written(&format, rt.alloc(), &true, &[0xA2, 0x03, 0x01, 0x01, 0xFF]));
+    assert!(rt;
+        is_refused(
             &format,
             rt.alloc(),
-            &[0xA2, 0x05, 0x01, 0x01, 0xFF, 0x05, 0x00]
+            &[0xA2, 0x05, 0x01, 0x01, 0xFF, 0x05, 0x00],
+            InTlv::Contents(InThen::Second(NotEnd { bits: 16 }))
         )
-        .err(),
-        Some(Refusal::Wrong(InTlv::Contents(InThen::Second(NotEnd { bits: 16 }))))
     );
     Ok(())
 }
@@ -165,14 +171,11 @@ fn a_program_names_its_values(rt: HostRuntime) -> Result<(), Fail> {
     let format = element(16, true, contents);
     let octets = [0x30, 0x03, 0x01, 0x01, 0xFF];
     let value = found(&format, rt.alloc(), &octets)?;
-    assert_eq!(rt; value.parts.0, true);
-    assert_eq!(rt;
-        written(&format, rt.alloc(), &value)?.as_slice(),
-        octets.as_slice()
-    );
+    assert!(rt; value.parts.0);
+    assert!(rt; is_written(&format, rt.alloc(), &value, &octets));
     match found(&format, rt.alloc(), &[0x30, 0x03, 0x01, 0x01, 0x01]) {
         Err(Refusal::Wrong(InTlv::Contents(InThen::First(InNamed { name, wrong: _ })))) => {
-            assert_eq!(rt; name, "flag");
+            assert!(rt; name == "flag");
         }
         _ => return Err("the flag is neither 00 nor FF".into()),
     }

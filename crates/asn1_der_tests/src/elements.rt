@@ -1,12 +1,14 @@
 //! Identifier octets, lengths, and elements inside one another.
 
-use super::calls::{element, found, sequence, universal, written};
+use super::calls::{
+    element, found, is_misfit, is_refused, is_written, sequence, universal, written,
+};
 use asn1_der::{
     Any, BooleanContents, ElementFault, End, InItem, InTlv, IntegerContents, LengthFault, NotEnd,
     OctetStringContents, Optional, OptionalMisfit, Required, Sequence, SequenceOf, Tag, TagFault,
     Tlv, TlvMisfit, next_element,
 };
-use asn1_formats::{InThen, Refusal, WriteRefusal};
+use asn1_formats::{InThen, Refusal};
 use asn1_values::{BitReader, Integer};
 use std::alloc::Global;
 use std::test::Fail;
@@ -25,9 +27,9 @@ fn a_long_length_takes_the_fewest_octets(rt: HostRuntime) -> Result<(), Fail> {
     let format = element(4, false, OctetStringContents {});
     // X.690 8.1.3.5: 201 as 81 C9
     let octets = written(&format, rt.alloc(), &zeros(rt.alloc(), 201)?)?;
-    assert_eq!(rt; octets.len(), 204);
+    assert!(rt; octets.len() == 204);
     assert!(rt; octets.starts_with(&[0x04, 0x81, 0xC9]));
-    assert_eq!(rt; found(&format, rt.alloc(), octets.as_slice())?.len(), 201);
+    assert!(rt; found(&format, rt.alloc(), octets.as_slice())?.len() == 201);
     let long = written(&format, rt.alloc(), &zeros(rt.alloc(), 256)?)?;
     assert!(rt; long.starts_with(&[0x04, 0x82, 0x01, 0x00]));
     Ok(())
@@ -36,27 +38,47 @@ fn a_long_length_takes_the_fewest_octets(rt: HostRuntime) -> Result<(), Fail> {
 #[test]
 fn other_lengths_are_refused(rt: HostRuntime) -> Result<(), Fail> {
     let format = element(4, false, OctetStringContents {});
-    assert_eq!(rt;
-        found(&format, rt.alloc(), &[0x04, 0x81, 0x01, 0x00]).err(),
-        Some(Refusal::Wrong(InTlv::Length(LengthFault::NotShortest)))
+    assert!(rt;
+        is_refused(
+            &format,
+            rt.alloc(),
+            &[0x04, 0x81, 0x01, 0x00],
+            InTlv::Length(LengthFault::NotShortest)
+        )
     );
-    assert_eq!(rt;
-        found(&format, rt.alloc(), &[0x04, 0x80, 0x00, 0x00]).err(),
-        Some(Refusal::Wrong(InTlv::Length(LengthFault::Indefinite)))
+    assert!(rt;
+        is_refused(
+            &format,
+            rt.alloc(),
+            &[0x04, 0x80, 0x00, 0x00],
+            InTlv::Length(LengthFault::Indefinite)
+        )
     );
-    assert_eq!(rt;
-        found(&format, rt.alloc(), &[0x04, 0x89]).err(),
-        Some(Refusal::Wrong(InTlv::Length(LengthFault::Large)))
+    assert!(rt;
+        is_refused(
+            &format,
+            rt.alloc(),
+            &[0x04, 0x89],
+            InTlv::Length(LengthFault::Large)
+        )
     );
-    assert_eq!(rt;
-        found(&format, rt.alloc(), &[0x04, 0x02, 0x00]).err(),
-        Some(Refusal::Wrong(InTlv::Length(LengthFault::Missing { missing: 8 })))
+    assert!(rt;
+        is_refused(
+            &format,
+            rt.alloc(),
+            &[0x04, 0x02, 0x00],
+            InTlv::Length(LengthFault::Missing { missing: 8 })
+        )
     );
-    assert_eq!(rt;
-        found(&format, rt.alloc(), &[0x05, 0x00]).err(),
-        Some(Refusal::Wrong(InTlv::Tag(TagFault::Other {
-            found: universal(5, false)
-        })))
+    assert!(rt;
+        is_refused(
+            &format,
+            rt.alloc(),
+            &[0x05, 0x00],
+            InTlv::Tag(TagFault::Other {
+                found: universal(5, false)
+            })
+        )
     );
     Ok(())
 }
@@ -79,21 +101,17 @@ fn an_optional_element_is_told_by_its_tag(rt: HostRuntime) -> Result<(), Fail> {
     let format = setting();
     let with = (Some(true), (Integer::from(5), ()));
     let octets = [0x30, 0x06, 0x01, 0x01, 0xFF, 0x02, 0x01, 0x05];
-    assert_eq!(rt;
-        written(&format, rt.alloc(), &with)?.as_slice(),
-        octets.as_slice()
-    );
+    assert!(rt; is_written(&format, rt.alloc(), &with, &octets));
     let without = found(&format, rt.alloc(), &[0x30, 0x03, 0x02, 0x01, 0x05])?;
-    assert_eq!(rt; without.0, None);
-    assert_eq!(rt; without.1.0.to_i128(), Some(5));
-    assert_eq!(rt;
-        found(
+    assert!(rt; without.0 == None);
+    assert!(rt; without.1.0.to_i128() == Some(5));
+    assert!(rt;
+        is_refused(
             &format,
             rt.alloc(),
-            &[0x30, 0x05, 0x02, 0x01, 0x05, 0x05, 0x00]
+            &[0x30, 0x05, 0x02, 0x01, 0x05, 0x05, 0x00],
+            InTlv::Contents(InThen::Second(InThen::Second(NotEnd { bits: 16 })))
         )
-        .err(),
-        Some(Refusal::Wrong(InTlv::Contents(InThen::Second(InThen::Second(NotEnd { bits: 16 })))))
     );
     Ok(())
 }
@@ -108,9 +126,13 @@ fn a_value_that_would_be_read_as_another_is_refused(rt: HostRuntime) -> Result<(
         },
     });
     let value = found(&Any {}, rt.alloc(), &[0x01, 0x01, 0xFF])?;
-    assert_eq!(rt;
-        written(&format, rt.alloc(), &(None, (value, ()))).err(),
-        Some(WriteRefusal::Wrong(TlvMisfit::Contents(OptionalMisfit::Ambiguous)))
+    assert!(rt;
+        is_misfit(
+            &format,
+            rt.alloc(),
+            &(None, (value, ())),
+            TlvMisfit::Contents(OptionalMisfit::Ambiguous)
+        )
     );
     Ok(())
 }
@@ -126,19 +148,15 @@ fn the_first_wrong_item_is_named(rt: HostRuntime) -> Result<(), Fail> {
     );
     let octets = [0x30, 0x06, 0x01, 0x01, 0xFF, 0x01, 0x01, 0x00];
     let flags = found(&format, rt.alloc(), &octets)?;
-    assert_eq!(rt; flags.as_slice(), [true, false].as_slice());
-    assert_eq!(rt;
-        written(&format, rt.alloc(), &flags)?.as_slice(),
-        octets.as_slice()
-    );
-    assert_eq!(rt;
+    assert!(rt; flags.as_slice() == [true, false].as_slice());
+    assert!(rt; is_written(&format, rt.alloc(), &flags, &octets));
+    assert!(rt;
         found(
             &format,
             rt.alloc(),
             &[0x30, 0x05, 0x01, 0x01, 0xFF, 0x01, 0x00]
         )
-        .is_err(),
-        true
+        .is_err()
     );
     match found(
         &format,
@@ -146,12 +164,12 @@ fn the_first_wrong_item_is_named(rt: HostRuntime) -> Result<(), Fail> {
         &[0x30, 0x05, 0x01, 0x01, 0xFF, 0x05, 0x00],
     ) {
         Err(Refusal::Wrong(InTlv::Contents(InItem { index, wrong }))) => {
-            assert_eq!(rt; index, 1);
-            assert_eq!(rt;
-                wrong,
-                InTlv::Tag(TagFault::Other {
-                    found: universal(5, false)
-                })
+            assert!(rt; index == 1);
+            assert!(rt;
+                wrong
+                    == InTlv::Tag(TagFault::Other {
+                        found: universal(5, false)
+                    })
             );
         }
         _ => return Err("the second item is no BOOLEAN".into()),
@@ -201,7 +219,7 @@ fn an_element_is_read_without_a_format(rt: HostRuntime) -> Result<(), Fail> {
         ),
     ];
     for (octets, expected) in rows {
-        assert_eq!(rt; next_of(octets), expected);
+        assert!(rt; next_of(octets) == expected);
     }
     Ok(())
 }

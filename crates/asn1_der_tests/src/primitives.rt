@@ -1,6 +1,6 @@
 //! Primitive elements.
 
-use super::calls::{element, found, written};
+use super::calls::{element, found, is_found, is_refused, is_written, written};
 use asn1_der::{
     BitStringContents, BitStringFault, BooleanContents, BooleanFault, IdentifierFault, InTlv,
     IntegerContents, NotShortest, ObjectIdentifierContents,
@@ -14,18 +14,23 @@ use std::test::Fail;
 fn a_boolean_is_00_or_ff(rt: HostRuntime) -> Result<(), Fail> {
     let format = element(1, false, BooleanContents {});
     // X.690 8.2.2, 11.1
-    assert_eq!(rt;
-        written(&format, rt.alloc(), &true)?.as_slice(),
-        [0x01, 0x01, 0xFF].as_slice()
+    assert!(rt; is_written(&format, rt.alloc(), &true, &[0x01, 0x01, 0xFF]));
+    assert!(rt; is_found(&format, rt.alloc(), &[0x01, 0x01, 0x00], &false));
+    assert!(rt;
+        is_refused(
+            &format,
+            rt.alloc(),
+            &[0x01, 0x01, 0x01],
+            InTlv::Contents(BooleanFault::Other { octet: 1 })
+        )
     );
-    assert_eq!(rt; found(&format, rt.alloc(), &[0x01, 0x01, 0x00])?, false);
-    assert_eq!(rt;
-        found(&format, rt.alloc(), &[0x01, 0x01, 0x01]).err(),
-        Some(Refusal::Wrong(InTlv::Contents(BooleanFault::Other { octet: 1 })))
-    );
-    assert_eq!(rt;
-        found(&format, rt.alloc(), &[0x01, 0x02, 0xFF, 0xFF]).err(),
-        Some(Refusal::Wrong(InTlv::Contents(BooleanFault::Octets { count: 2 })))
+    assert!(rt;
+        is_refused(
+            &format,
+            rt.alloc(),
+            &[0x01, 0x02, 0xFF, 0xFF],
+            InTlv::Contents(BooleanFault::Octets { count: 2 })
+        )
     );
     Ok(())
 }
@@ -50,25 +55,27 @@ fn is_integer(alloc: Global, number: i128, octets: &[u8]) -> bool {
 #[test]
 fn integers_take_the_fewest_octets(rt: HostRuntime) -> Result<(), Fail> {
     // Expected octets from `openssl asn1parse -genstr INTEGER:..`.
-    assert_eq!(rt; is_integer(rt.alloc(), 0, &[0x02, 0x01, 0x00]), true);
-    assert_eq!(rt; is_integer(rt.alloc(), 127, &[0x02, 0x01, 0x7F]), true);
-    assert_eq!(rt;
-        is_integer(rt.alloc(), 128, &[0x02, 0x02, 0x00, 0x80]),
-        true
-    );
-    assert_eq!(rt; is_integer(rt.alloc(), -128, &[0x02, 0x01, 0x80]), true);
-    assert_eq!(rt;
-        is_integer(rt.alloc(), -129, &[0x02, 0x02, 0xFF, 0x7F]),
-        true
-    );
+    assert!(rt; is_integer(rt.alloc(), 0, &[0x02, 0x01, 0x00]));
+    assert!(rt; is_integer(rt.alloc(), 127, &[0x02, 0x01, 0x7F]));
+    assert!(rt; is_integer(rt.alloc(), 128, &[0x02, 0x02, 0x00, 0x80]));
+    assert!(rt; is_integer(rt.alloc(), -128, &[0x02, 0x01, 0x80]));
+    assert!(rt; is_integer(rt.alloc(), -129, &[0x02, 0x02, 0xFF, 0x7F]));
     let format = element(2, false, IntegerContents {});
-    assert_eq!(rt;
-        found(&format, rt.alloc(), &[0x02, 0x02, 0x00, 0x7F]).err(),
-        Some(Refusal::Wrong(InTlv::Contents(NotShortest {})))
+    assert!(rt;
+        is_refused(
+            &format,
+            rt.alloc(),
+            &[0x02, 0x02, 0x00, 0x7F],
+            InTlv::Contents(NotShortest {})
+        )
     );
-    assert_eq!(rt;
-        found(&format, rt.alloc(), &[0x02, 0x00]).err(),
-        Some(Refusal::Wrong(InTlv::Contents(NotShortest {})))
+    assert!(rt;
+        is_refused(
+            &format,
+            rt.alloc(),
+            &[0x02, 0x00],
+            InTlv::Contents(NotShortest {})
+        )
     );
     Ok(())
 }
@@ -79,23 +86,23 @@ fn an_identifier_is_its_subidentifiers(rt: HostRuntime) -> Result<(), Fail> {
     // X.690 8.19.5: { 2 999 3 }
     let octets = [0x06, 0x03, 0x88, 0x37, 0x03];
     let oid = found(&format, rt.alloc(), &octets)?;
-    assert_eq!(rt; oid.as_ref(), [2, 999, 3].as_slice());
-    assert_eq!(rt;
-        written(&format, rt.alloc(), &oid)?.as_slice(),
-        octets.as_slice()
-    );
-    assert_eq!(rt;
-        found(&format, rt.alloc(), &[0x06, 0x02, 0x80, 0x37]).err(),
-        Some(Refusal::Wrong(InTlv::Contents(IdentifierFault::Malformed)))
-    );
-    assert_eq!(rt;
-        found(
+    assert!(rt; oid.as_ref() == [2, 999, 3].as_slice());
+    assert!(rt; is_written(&format, rt.alloc(), &oid, &octets));
+    assert!(rt;
+        is_refused(
             &format,
             rt.alloc(),
-            &[0x06, 0x06, 0x2A, 0x90, 0x80, 0x80, 0x80, 0x00]
+            &[0x06, 0x02, 0x80, 0x37],
+            InTlv::Contents(IdentifierFault::Malformed)
         )
-        .err(),
-        Some(Refusal::Wrong(InTlv::Contents(IdentifierFault::LargeArc)))
+    );
+    assert!(rt;
+        is_refused(
+            &format,
+            rt.alloc(),
+            &[0x06, 0x06, 0x2A, 0x90, 0x80, 0x80, 0x80, 0x00],
+            InTlv::Contents(IdentifierFault::LargeArc)
+        )
     );
     Ok(())
 }
@@ -106,31 +113,34 @@ fn a_bit_string_counts_its_unused_bits(rt: HostRuntime) -> Result<(), Fail> {
     // X.690 8.6.4.2: '0A3B5F291CD'H
     let octets = [0x03, 0x07, 0x04, 0x0A, 0x3B, 0x5F, 0x29, 0x1C, 0xD0];
     let bits = found(&format, rt.alloc(), &octets)?;
-    assert_eq!(rt; bits.len(), 44);
-    assert_eq!(rt;
-        bits.as_raw_slice(),
-        [0x0A, 0x3B, 0x5F, 0x29, 0x1C, 0xD0].as_slice()
-    );
-    assert_eq!(rt;
-        written(&format, rt.alloc(), &bits)?.as_slice(),
-        octets.as_slice()
-    );
+    assert!(rt; bits.len() == 44);
+    assert!(rt; bits.as_raw_slice() == [0x0A, 0x3B, 0x5F, 0x29, 0x1C, 0xD0].as_slice());
+    assert!(rt; is_written(&format, rt.alloc(), &bits, &octets));
     let none = BitString::new(rt.alloc());
-    assert_eq!(rt;
-        written(&format, rt.alloc(), &none)?.as_slice(),
-        [0x03, 0x01, 0x00].as_slice()
+    assert!(rt; is_written(&format, rt.alloc(), &none, &[0x03, 0x01, 0x00]));
+    assert!(rt;
+        is_refused(
+            &format,
+            rt.alloc(),
+            &[0x03, 0x02, 0x04, 0x0F],
+            InTlv::Contents(BitStringFault::NotZero)
+        )
     );
-    assert_eq!(rt;
-        found(&format, rt.alloc(), &[0x03, 0x02, 0x04, 0x0F]).err(),
-        Some(Refusal::Wrong(InTlv::Contents(BitStringFault::NotZero)))
+    assert!(rt;
+        is_refused(
+            &format,
+            rt.alloc(),
+            &[0x03, 0x01, 0x01],
+            InTlv::Contents(BitStringFault::Unused { count: 1 })
+        )
     );
-    assert_eq!(rt;
-        found(&format, rt.alloc(), &[0x03, 0x01, 0x01]).err(),
-        Some(Refusal::Wrong(InTlv::Contents(BitStringFault::Unused { count: 1 })))
-    );
-    assert_eq!(rt;
-        found(&format, rt.alloc(), &[0x03, 0x00]).err(),
-        Some(Refusal::Wrong(InTlv::Contents(BitStringFault::Empty)))
+    assert!(rt;
+        is_refused(
+            &format,
+            rt.alloc(),
+            &[0x03, 0x00],
+            InTlv::Contents(BitStringFault::Empty)
+        )
     );
     Ok(())
 }

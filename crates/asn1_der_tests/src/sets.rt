@@ -1,11 +1,13 @@
-//! SET OF.
+//! SET OF and SET.
 
-use super::calls::{element, found, sequence, universal, written};
-use asn1_der::{
-    BooleanContents, Class, End, InItem, InSet, InTlv, IntegerContents, NotShortest, Required,
-    SetOf, Tag, Tlv, TlvMisfit,
+use super::calls::{
+    element, found, is_misfit, is_refused, is_written, sequence, universal, written,
 };
-use asn1_formats::{Refusal, WriteRefusal};
+use asn1_der::{
+    Any, BooleanContents, Class, End, InItem, InSet, InTagOrder, InTlv, IntegerContents,
+    NotShortest, Optional, Or, Required, Sequence, Set, SetOf, Tag, Tlv, TlvMisfit,
+};
+use asn1_formats::WriteRefusal;
 use asn1_values::Integer;
 use std::alloc::{AllocError, Global};
 use std::test::Fail;
@@ -82,8 +84,8 @@ fn misfit_of(alloc: Global, values: &[i32]) -> Result<Option<usize>, AllocError>
 #[test]
 fn another_order_is_refused_by_its_place(rt: HostRuntime) -> Result<(), Fail> {
     let alloc = rt.alloc();
-    assert_eq!(rt; misfit_of(alloc, &[-1, 1])?, Some(1));
-    assert_eq!(rt; misfit_of(alloc, &[1, 128, 2, 1])?, Some(2));
+    assert!(rt; misfit_of(alloc, &[-1, 1])? == Some(1));
+    assert!(rt; misfit_of(alloc, &[1, 128, 2, 1])? == Some(2));
     let rows: [(&[u8], InItem<InSet<InTlv<NotShortest>>>); 2] = [
         (
             &[0x31, 0x06, 0x02, 0x01, 0xFF, 0x02, 0x01, 0x01],
@@ -101,10 +103,7 @@ fn another_order_is_refused_by_its_place(rt: HostRuntime) -> Result<(), Fail> {
         ),
     ];
     for (octets, wrong) in rows {
-        assert_eq!(rt;
-            found(&numbers(), alloc, octets).err(),
-            Some(Refusal::Wrong(InTlv::Contents(wrong)))
-        );
+        assert!(rt; is_refused(&numbers(), alloc, octets, InTlv::Contents(wrong)));
     }
     Ok(())
 }
@@ -126,10 +125,7 @@ fn sequences_ascend_by_the_first_element_that_differs(rt: HostRuntime) -> Result
         0x01, 0x01, 0x00,
     ];
     let mut values = found(&format, rt.alloc(), &octets)?;
-    assert_eq!(rt;
-        written(&format, rt.alloc(), &values)?.as_slice(),
-        octets.as_slice()
-    );
+    assert!(rt; is_written(&format, rt.alloc(), &values, &octets));
     values.push((Integer::from(1), (false, ())))?;
     assert!(rt; written(&format, rt.alloc(), &values).is_err());
     Ok(())
@@ -147,5 +143,93 @@ fn tags_have_an_order(rt: HostRuntime) -> Result<(), Fail> {
     assert!(rt; universal(16, true).precedes(context));
     assert!(rt; !context.precedes(context));
     assert!(rt; !context.precedes(universal(30, false)));
+    Ok(())
+}
+
+#[test]
+fn elements_of_any_tag_ascend_by_their_octets(rt: HostRuntime) -> Result<(), Fail> {
+    let format = element(17, true, SetOf { item: Any {} });
+    // INTEGER 5, NULL, and the tags 16,384 and 256 of an application, in this order
+    // (X.690 8.1.2.4).
+    let octets = [
+        0x31, 0x0E, 0x02, 0x01, 0x05, 0x05, 0x00, 0x5F, 0x81, 0x80, 0x00, 0x00, 0x5F, 0x82, 0x00,
+        0x00,
+    ];
+    let mut values = found(&format, rt.alloc(), &octets)?;
+    assert!(rt; is_written(&format, rt.alloc(), &values, &octets));
+    values.reverse();
+    assert!(rt; written(&format, rt.alloc(), &values).is_err());
+    Ok(())
+}
+
+#[test]
+fn alternatives_and_missing_elements_ascend_by_their_tags(rt: HostRuntime) -> Result<(), Fail> {
+    // SET OF SEQUENCE { a CHOICE { b INTEGER, c BOOLEAN } OPTIONAL, d NULL OPTIONAL }
+    let rest = Optional {
+        first: element(5, false, Sequence { elements: End {} }),
+        rest: End {},
+    };
+    let first = Or {
+        first: element(2, false, IntegerContents {}),
+        others: element(1, false, BooleanContents {}),
+    };
+    let item = sequence(Optional { first, rest });
+    let format = element(17, true, SetOf { item });
+    // FALSE, INTEGER 5, and TRUE and NULL: 01 is below 02, and more octets are last.
+    let octets = [
+        0x31, 0x11, 0x30, 0x03, 0x01, 0x01, 0x00, 0x30, 0x03, 0x02, 0x01, 0x05, 0x30, 0x05, 0x01,
+        0x01, 0xFF, 0x05, 0x00,
+    ];
+    let mut values = found(&format, rt.alloc(), &octets)?;
+    assert!(rt; is_written(&format, rt.alloc(), &values, &octets));
+    values.swap(0, 1);
+    assert!(rt; written(&format, rt.alloc(), &values).is_err());
+    Ok(())
+}
+
+#[test]
+fn the_tags_of_a_set_ascend(rt: HostRuntime) -> Result<(), Fail> {
+    // SET { a BOOLEAN, b INTEGER OPTIONAL }
+    let elements = Required {
+        first: element(1, false, BooleanContents {}),
+        rest: Optional {
+            first: element(2, false, IntegerContents {}),
+            rest: End {},
+        },
+    };
+    let format = element(17, true, Set { elements });
+    let octets = [0x31, 0x06, 0x01, 0x01, 0xFF, 0x02, 0x01, 0x05];
+    let value = found(&format, rt.alloc(), &octets)?;
+    assert!(rt; is_written(&format, rt.alloc(), &value, &octets));
+    Ok(())
+}
+
+#[test]
+fn a_set_in_another_order_is_refused(rt: HostRuntime) -> Result<(), Fail> {
+    let elements = Required {
+        first: element(2, false, IntegerContents {}),
+        rest: Required {
+            first: element(1, false, BooleanContents {}),
+            rest: End {},
+        },
+    };
+    let format = element(17, true, Set { elements });
+    let octets = [0x31, 0x06, 0x02, 0x01, 0x05, 0x01, 0x01, 0xFF];
+    assert!(rt;
+        is_refused(
+            &format,
+            rt.alloc(),
+            &octets,
+            InTlv::Contents(InTagOrder::Descends)
+        )
+    );
+    assert!(rt;
+        is_misfit(
+            &format,
+            rt.alloc(),
+            &(Integer::from(5), (true, ())),
+            TlvMisfit::Contents(InTagOrder::Descends)
+        )
+    );
     Ok(())
 }

@@ -66,25 +66,16 @@ fn fault_of(alloc: Global, octets: &[u8]) -> Option<TagFault> {
 fn other_forms_of_numbers_are_refused(rt: HostRuntime) -> Result<(), Fail> {
     let alloc = rt.alloc();
     let cut = Some(TagFault::Short { missing: 8 });
-    assert_eq!(rt;
-        fault_of(alloc, &[0x5F, 0x80, 0x28, 0x00]),
-        Some(TagFault::Padded)
-    );
-    assert_eq!(rt; fault_of(alloc, &[0x5F, 0x1E, 0x00]), Some(TagFault::Low));
-    assert_eq!(rt; fault_of(alloc, &[0x5F, 0x00, 0x00]), Some(TagFault::Low));
-    assert_eq!(rt; fault_of(alloc, &[0x5F]), cut);
-    assert_eq!(rt; fault_of(alloc, &[0x5F, 0x81]), cut);
+    assert!(rt; fault_of(alloc, &[0x5F, 0x80, 0x28, 0x00]) == Some(TagFault::Padded));
+    assert!(rt; fault_of(alloc, &[0x5F, 0x1E, 0x00]) == Some(TagFault::Low));
+    assert!(rt; fault_of(alloc, &[0x5F, 0x00, 0x00]) == Some(TagFault::Low));
+    assert!(rt; fault_of(alloc, &[0x5F]) == cut);
+    assert!(rt; fault_of(alloc, &[0x5F, 0x81]) == cut);
     let past_64_bits = [
         0x5F, 0x82, 0x80, 0x80, 0x80, 0x80, 0x80, 0x80, 0x80, 0x80, 0x00, 0x00,
     ];
-    assert_eq!(rt;
-        fault_of(alloc, past_64_bits.as_slice()),
-        Some(TagFault::Large)
-    );
+    assert!(rt; fault_of(alloc, past_64_bits.as_slice()) == Some(TagFault::Large));
     let found = application(41).tag;
-    assert_eq!(rt;
-        fault_of(alloc, &[0x5F, 0x29, 0x00]),
-        Some(TagFault::Other { found })
-    );
+    assert!(rt; fault_of(alloc, &[0x5F, 0x29, 0x00]) == Some(TagFault::Other { found }));
     Ok(())
 }

@@ -5,8 +5,8 @@
 //! of a type of this depth would name each level twice; this trait stands alone.
 
 use asn1_der::{
-    BitStringFault, BooleanFault, ElementFault, IdentifierFault, InDefault, InItem, InTlv, NotEnd,
-    NotShortest, TimeFault,
+    BitStringFault, BooleanFault, ElementFault, IdentifierFault, InDefault, InItem, InSet, InTlv,
+    NotEnd, NotShortest, TimeFault,
 };
 use asn1_formats::{InNamed, InThen, NeverWrong, OneOf};
 use std::alloc::AllocError;
@@ -58,6 +58,15 @@ impl<E: Tell> Tell for InTlv<E> {
             InTlv::Tag(wrong) => write!(text, ": {wrong}"),
             InTlv::Length(wrong) => write!(text, ": {wrong}"),
             InTlv::Contents(wrong) => wrong.tell(text),
+        }
+    }
+}
+
+impl<E: Tell> Tell for InSet<E> {
+    fn tell(&self, text: &mut String) -> Result<(), AllocError> {
+        match self {
+            InSet::Item(wrong) => wrong.tell(text),
+            InSet::Descends => text.push_str(": its encoding is below that of the item before it"),
         }
     }
 }

@@ -1,7 +1,9 @@
 //! Names.
 
 use crate::elements::{identifier, required, sequence, universal};
-use asn1_der::{Any, AnyValue, End, ObjectIdentifierContents, Required, Sequence, SequenceOf, Tlv};
+use asn1_der::{
+    Any, AnyValue, End, ObjectIdentifierContents, Required, Sequence, SequenceOf, SetOf, Tlv,
+};
 use asn1_values::ObjectIdentifier;
 
 /// What an attribute is, and its value, mostly a string, as an element that is not looked into.
@@ -12,9 +14,9 @@ pub type AttributeFormat = Tlv<
     Sequence<Required<Tlv<ObjectIdentifierContents>, Required<Any, End>>>,
 >;
 
-/// `SEQUENCE OF SET OF AttributeTypeAndValue`. That the attributes of a set stand in ascending
-/// order (X.690 11.6) is not examined.
-pub type NameFormat = Tlv<SequenceOf<Tlv<SequenceOf<AttributeFormat>>>>;
+/// `SEQUENCE OF SET OF AttributeTypeAndValue`. The attributes of a set ascend by their octets
+/// (X.690 11.6).
+pub type NameFormat = Tlv<SequenceOf<Tlv<SetOf<AttributeFormat>>>>;
 
 /// A name: sets of attributes (RFC 5280 4.1.2.4).
 pub type Name = Vec<Vec<AttributeTypeAndValue>>;
@@ -31,7 +33,7 @@ pub fn name_format() -> NameFormat {
         contents: SequenceOf {
             item: Tlv {
                 tag: universal(17, true),
-                contents: SequenceOf {
+                contents: SetOf {
                     item: attribute_format(),
                 },
             },

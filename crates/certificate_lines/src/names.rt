@@ -4,7 +4,7 @@ use crate::octets::octets_of;
 use crate::refusal::{Reason, Stop, refuse_inner, refuse_item};
 use crate::strings::{Characters, characters_of};
 use asn1_der::{Any, AnyValue};
-use asn1_x509::{AttributeTypeAndValue, Name, attribute_format};
+use asn1_x509::{AttributeTypeAndValue, Name};
 use std::alloc::{AllocError, Global};
 use std::fmt::Write;
 
@@ -15,32 +15,12 @@ pub fn name_text(alloc: Global, part: &str, name: &Name) -> Result<String, Stop>
         if item > 0 {
             text.push_str(", ")?;
         }
-        examine_order(alloc, part, item, set.as_slice())?;
+        if set.is_empty() {
+            return Err(refuse_item(alloc, part, item, Reason::Empty));
+        }
         push_set(alloc, &mut text, part, item, set.as_slice())?;
     }
     Ok(text)
-}
-
-/// A set has an attribute, and the encodings of its attributes ascend (X.690 11.6). None begins
-/// another.
-fn examine_order(
-    alloc: Global,
-    part: &str,
-    item: usize,
-    set: &[AttributeTypeAndValue],
-) -> Result<(), Stop> {
-    if set.is_empty() {
-        return Err(refuse_item(alloc, part, item, Reason::Empty));
-    }
-    let mut before = Vec::new(alloc);
-    for (inner, attribute) in set.iter().enumerate() {
-        let encoding = octets_of(&attribute_format(), alloc, attribute)?;
-        if encoding.as_slice() < before.as_slice() {
-            return Err(refuse_inner(alloc, part, item, inner, Reason::Descending));
-        }
-        before = encoding;
-    }
-    Ok(())
 }
 
 /// Appends the attributes of a set.

@@ -15,9 +15,6 @@ pub enum Reason {
     /// A set or a list that has to have an item has none.
     #[error("no item")]
     Empty,
-    /// The encodings of a set's items do not ascend (X.690 11.6).
-    #[error("its encoding is below that of the item before it")]
-    Descending,
     /// The string is made of parts, which DER forbids (X.690 10.2).
     #[error("the string is constructed")]
     Constructed,

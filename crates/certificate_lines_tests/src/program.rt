@@ -22,8 +22,8 @@ fn answers<R: Abort + AllocGlobal>(
     status: u8,
 ) -> Result<(), Fail> {
     let (answered, written) = answer_of(rt.alloc(), octets)?;
-    assert_eq!(rt; written.as_slice(), output.as_bytes(), "{output}");
-    assert_eq!(rt; answered, status, "{output}");
+    assert!(rt; written.as_slice() == output.as_bytes(), "{output}");
+    assert!(rt; answered == status, "{output}");
     Ok(())
 }
 

@@ -1,4 +1,4 @@
-use Rattle.std.proofs.Common.{[], ◌∷◌, ◌++◌, length, arith}
+use Rattle.std.proofs.Common.{[], ◌∷◌, ◌++◌, arith}
 use Rattle.asn1_bits.specs.BitReader.{bits_left}
 use Rattle.asn1_formats.specs.Combined.{plain_option}
 use Rattle.asn1_der.specs.SetSteps.{goes_on, descends_there}

@@ -1,16 +1,9 @@
-use Rattle.std.proofs.Common.{◌≡◌, ◌≢◌, ℕ, ◌+◌, ◌-◌, ◌*◌, ◌/◌, ◌%◌, ◌^◌, ◌⊎◌, inl, inr, arith}
+use Rattle.std.proofs.Common.{◌≡◌, ℕ, ◌-◌, ◌∷◌, ap, ◌∙◌, arith}
 use Rattle.asn1_bits.specs.Bits.{digits}
 use Rattle.asn1_oid.specs.Writing.{last_octets}
 use Rattle.asn1_der.specs.IdentifierLaws.{octet_pushed, extends_more}
-use Rattle.asn1_der.specs.TagNumberSteps.{has_digits, first_left, subsequent_written}
+use Rattle.asn1_der.specs.TagNumberSteps.{has_digits, subsequent_written}
 use Rattle.asn1_der.proofs.tag_number.push_subsequent.Goals as goal
-use Rattle.asn1_der.proofs.tag_number.push_subsequent.Goals.{then-left-eq0, else-left-eq0}
-
-pub overflow_mul-left : goal.overflow_mul-left
-overflow_mul-left c = omega (arith, c.loop-left.invariant.2)
-
-pub overflow_shr-number : goal.overflow_shr-number
-overflow_shr-number c = omega (arith, c.loop-left.invariant.2)
 
 pub loop-left-preserved : goal.loop-left-preserved
 loop-left-preserved c =
@@ -19,16 +12,11 @@ loop-left-preserved c =
     let k : ℕ = left - 1 in
     let now = c.loop-left.buffer in
     let new = c.push.new.buffer in
-    let more = c.if-left-eq0.more in
-    let octet : ℕ = more + n / 2 ^ (7 * k) % 128 in
-    let bit : ((k ≡ 0) × (more ≡ 0)) ⊎ ((k ≢ 0) × (more ≡ 128)) =
-    elim c.if-left-eq0.branch [
-      | then-left-eq0 w ↦ inl (omega arith, omega arith)
-      | else-left-eq0 w ↦ inr (λ e. absurd (omega arith), omega arith)
-    ] in (
+    let octet = c.octet_at.result in
+    let first : last_octets n left ≡ octet ∷ last_octets n k =
+    ap (λ (j : ℕ). last_octets n j) (omega (arith, c.loop-left-test.true)) ∙ c.octet_at.ensures.first in (
       octet_pushed c.args.buffer.now now new octet (last_octets n left) (last_octets n k)
-          (last_octets n c.subsequent_count-left.result) (first_left n left k more (omega arith) bit)
-          c.in_ok-push.ensures.ok c.loop-left.invariant.0,
+          (last_octets n c.subsequent_count-left.result) first c.in_ok-push.ensures.ok c.loop-left.invariant.0,
       extends_more c.args.buffer.now now new (digits octet 8) c.loop-left.invariant.1 c.in_ok-push.ensures.ok,
       omega (arith, c.loop-left.invariant.2),
     )

@@ -22,7 +22,8 @@ returns-then-not-exists-clause-fault c =
     let n = (view_of b).len / 8 in
     let octets = octets_in n (bits_of b) in
     let fields = c.fields_of-time.ensures in
-    let small = numbers_small octets 6 0 12 (omega arith) c.in-Ok.ensures.placed in
+    let small =
+    numbers_small octets 6 0 12 (omega arith) (λ k less. (c.in-Ok.ensures.placed k (omega arith)).0 less) in
     record {
       octets = octets;
       are = (octets_in_below n (bits_of b), c.source_of-source.ensures);

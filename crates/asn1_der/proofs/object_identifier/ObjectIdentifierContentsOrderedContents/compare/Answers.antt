@@ -1,4 +1,4 @@
-use Rattle.std.proofs.Common.{◌≡◌, ℕ, List, ap, subst, ◌∙◌}
+use Rattle.std.proofs.Common.{ℕ, List, ap, subst, ◌∙◌}
 use Rattle.asn1_bits.specs.Bits.{bits}
 use Rattle.asn1_oid.specs.Contents.{IsContents}
 use Rattle.asn1_oid.specs.WritingLaws.{contents_only}
