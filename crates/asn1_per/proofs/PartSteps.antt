@@ -1,9 +1,9 @@
 -- Steps of the loops that go through a list piece by piece.
-use Rattle.std.proofs.Common.{◌≡◌, ℕ, ◌+◌, ◌-◌, ◌^◌, ◌<◌, ◌≤◌, ◌⊎◌, ⊎_elim, List, ◌++◌, Bool, length, map, take, drop, refl, sym, ◌∙◌, ap, subst, arith, take-add, take-append-drop, length-take-le, length-drop, Option}
+use Rattle.std.proofs.Common.{◌≡◌, ℕ, ◌+◌, ◌-◌, ◌^◌, ◌<◌, ◌≤◌, ◌⊎◌, ⊎_elim, List, ◌++◌, Bool, length, map, take, drop, sym, ◌∙◌, ap, subst, arith, take-add, take-append-drop, length-take-le, length-drop, Option}
 use Rattle.std.specs.Prelude.{IsTrue, nat_eq}
 use Rattle.std.proofs.lemmas.Bool.{eq-eqb}
 use Rattle.std.proofs.lemmas.List.{map-append, map-id, length-map, take_all}
-use Rattle.asn1_formats.specs.Spelling.{Fits, IsWritten, Measures, IsSumOf}
+use Rattle.asn1_formats.specs.Spelling.{IsWritten, Measures, IsSumOf}
 use Rattle.asn1_formats.specs.Combined.{AreCounted, ItemMisfit}
 use Rattle.asn1_per.specs.Fragments.{IsPieceCount, AreFragments, AreFragmented}
 use Rattle.asn1_per.specs.FragmentLaws.{fragments_fit}

@@ -1,5 +1,5 @@
 -- Laws of bits in fragments.
-use Rattle.std.proofs.Common.{◌≡◌, ℕ, ◌+◌, ◌<◌, List, [], ◌∷◌, ◌++◌, Bool, length, take, drop, refl, sym, ◌∙◌, ap, arith, take-append-drop, length-take-le}
+use Rattle.std.proofs.Common.{◌≡◌, ℕ, ◌<◌, List, [], ◌∷◌, ◌++◌, Bool, length, take, drop, refl, sym, ◌∙◌, ap, take-append-drop}
 use Rattle.asn1_values.specs.Joined.{AreJoined}
 use Rattle.asn1_formats.specs.declared.boolean.NoBit as boolean
 use Rattle.asn1_formats.specs.Spelling.{Starts}

@@ -1,5 +1,5 @@
 -- Laws of the numbers of items of pieces.
-use Rattle.std.proofs.Common.{◌≡◌, ℕ, ◌+◌, ◌*◌, ◌^◌, ◌<◌, ◌≤◌, ◌⊎◌, inl, inr, ⊎_elim, List, Bool, Some, length, refl, sym, ◌∙◌, ap, subst, arith}
+use Rattle.std.proofs.Common.{◌≡◌, ℕ, ◌+◌, ◌*◌, ◌^◌, ◌<◌, ◌≤◌, ◌⊎◌, inl, inr, ⊎_elim, List, Bool, Some, refl, sym, ◌∙◌, ap, subst, arith}
 use Rattle.std.specs.Prelude.{IsTrue}
 use Rattle.asn1_bits.specs.Bits.{digits}
 use Rattle.asn1_bits.specs.DigitLaws.{length-digits}
@@ -11,8 +11,8 @@ use Rattle.asn1_per.specs.declared.length.LengthFault.TheVariants as lengths
 use Rattle.asn1_per.specs.declared.piece.PieceFault.{PieceFault}
 use Rattle.asn1_per.specs.declared.piece.PieceFault.TheVariants.{Short, Longer, Fragment}
 use Rattle.asn1_per.specs.Lengths.{IsLengthDeterminant, LengthFaultIs}
-use Rattle.asn1_per.specs.Fragments.{MayStand, IsFragmentCount, IsPieceLen, IsPieceCount, PieceFaultIs}
-use Rattle.asn1_per.specs.LengthLaws.{length_reads_one, length_spells_one, length_below, length_names_fault, length_measured}
+use Rattle.asn1_per.specs.Fragments.{MayStand, IsPieceLen, IsPieceCount, PieceFaultIs}
+use Rattle.asn1_per.specs.LengthLaws.{length_reads_one, length_spells_one, length_below, length_names_fault}
 
 abbrev L : ℕ → List Bool → Type 0
 L n l = IsLengthDeterminant n l

@@ -1,4 +1,5 @@
-//! Lists, octets, bits and characters of any number: octets worked by hand behind three ones, and octets alone.
+//! Lists, octets, bits and characters of any number: octets worked by hand behind three ones, and
+//! octets alone.
 
 use super::calls::{found, is_misfit, is_refused, is_written, written};
 use asn1_formats::{Boolean, Character, NoBit, Null, Number, PastWidth, Refusal, Short};
@@ -157,7 +158,7 @@ fn an_item_that_does_not_fit_is_named(rt: HostRuntime) -> Result<(), Fail> {
 #[test]
 fn octets_stand_in_fragments(rt: HostRuntime) -> Result<(), Fail> {
     let format = UnconstrainedOctetString {};
-    // 111 | 11000100 | 65,536 octets 11111111 | 11000001 | 16,384 octets 11111111 | 00000001 | 11111111
+    // 111 | 11000100 | 65,536 octets FF | 11000001 | 16,384 octets FF | 00000001 | 11111111
     let values = repeated(rt.alloc(), 0xFF, 81921)?;
     let buffer = written(&format, rt.alloc(), &values)?;
     assert!(rt; buffer.len() == 655395);

@@ -1,4 +1,4 @@
-use Rattle.std.proofs.Common.{◌≡◌, ℕ, ◌+◌, ◌-◌, ◌^◌, ◌<◌, ◌≤◌, ◌⊎◌, List, Bool, length, take, drop, subst, arith}
+use Rattle.std.proofs.Common.{◌≡◌, ℕ, ◌+◌, ◌-◌, ◌^◌, ◌<◌, ◌≤◌, ◌⊎◌, length, subst, arith}
 use Rattle.asn1_bits.specs.BitStr.{bits_of}
 use Rattle.asn1_formats.specs.Spelling.{IsWritten}
 use Rattle.asn1_formats.specs.Combined.{AreCounted}

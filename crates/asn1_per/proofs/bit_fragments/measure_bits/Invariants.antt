@@ -1,4 +1,4 @@
-use Rattle.std.proofs.Common.{ℕ, ◌-◌, ◌≤◌, length, take}
+use Rattle.std.proofs.Common.{◌-◌, ◌≤◌, length, take}
 use Rattle.asn1_per.proofs.FragmentSteps.{MeasuredSoFar}
 use Rattle.asn1_bits.specs.BitStr.{bits_of}
 use Rattle.asn1_per.specs.Fragments.{IsBit}

@@ -1,4 +1,4 @@
-use Rattle.std.proofs.Common.{◌≡◌, ℕ, Bool, ◌+◌, ◌*◌, ◌≤◌, List, length}
+use Rattle.std.proofs.Common.{◌≡◌, ◌+◌, ◌*◌, ◌≤◌, length}
 use Rattle.asn1_bits.specs.BitReader.{bits_left}
 use Rattle.asn1_formats.specs.Spelling.{Starts}
 use Rattle.asn1_per.specs.Fragments.{AreFragments}

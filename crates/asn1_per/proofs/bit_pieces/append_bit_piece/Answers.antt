@@ -1,4 +1,4 @@
-use Rattle.std.proofs.Common.{◌≡◌, ◌-◌, ◌≤◌, ◌++◌, List, Bool, ◌∙◌, true, refl, ap, length, take, drop, arith}
+use Rattle.std.proofs.Common.{◌≤◌, ◌++◌, List, Bool, ◌∙◌, true, refl, ap, length, take, drop, arith}
 use Rattle.std.proofs.lemmas.List.{length-take-le, length-drop}
 use Rattle.asn1_bits.specs.BitStr.{bits_of}
 use Rattle.asn1_per.specs.Fragments.{IsBit}

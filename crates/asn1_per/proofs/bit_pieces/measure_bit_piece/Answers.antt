@@ -1,5 +1,4 @@
-use Rattle.std.proofs.Common.{ℕ, Some, sym, subst}
-use Rattle.asn1_formats.specs.Spelling.{IsLength}
+use Rattle.std.proofs.Common.{Some}
 use Rattle.asn1_formats.specs.ListLaws.{count_measured}
 use Rattle.asn1_per.specs.Fragments.{IsPieceCount, IsBit}
 use Rattle.asn1_per.specs.FragmentBitLaws.{bits_joined}

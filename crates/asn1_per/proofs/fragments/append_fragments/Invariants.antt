@@ -1,4 +1,4 @@
-use Rattle.std.proofs.Common.{ℕ, ◌-◌, ◌≤◌, length, map, take}
+use Rattle.std.proofs.Common.{◌-◌, ◌≤◌, length, map, take}
 use Rattle.asn1_per.proofs.FragmentSteps.{WrittenSoFar}
 use Rattle.asn1_per.proofs.fragments.append_fragments.Given as goal
 

@@ -1,4 +1,4 @@
-use Rattle.std.proofs.Common.{ℕ, ◌-◌, ◌≤◌, length, map, take}
+use Rattle.std.proofs.Common.{◌-◌, ◌≤◌, length, map, take}
 use Rattle.asn1_per.proofs.FragmentSteps.{MeasuredSoFar}
 use Rattle.asn1_per.proofs.fragments.measure_fragments.Given as goal
 

@@ -1,4 +1,4 @@
-use Rattle.std.proofs.Common.{◌≡◌, ◌+◌, ◌*◌, ◌≤◌, [], ◌++◌, length, refl, arith}
+use Rattle.std.proofs.Common.{[], ◌++◌, refl, arith}
 use Rattle.std.proofs.lemmas.List.{length-append}
 use Rattle.asn1_bits.specs.BitReader.{bits_left}
 use Rattle.asn1_per.proofs.FragmentSteps.{starts_none, starts_next, starts_end, piece_moves}

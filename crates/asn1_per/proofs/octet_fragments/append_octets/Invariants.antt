@@ -1,4 +1,4 @@
-use Rattle.std.proofs.Common.{ℕ, ◌-◌, ◌≤◌, length, take}
+use Rattle.std.proofs.Common.{◌-◌, ◌≤◌, length, take}
 use Rattle.asn1_per.proofs.FragmentSteps.{WrittenSoFar}
 use Rattle.asn1_formats.specs.Numbers.{IsNumber}
 use Rattle.asn1_per.proofs.octet_fragments.append_octets.Given as goal

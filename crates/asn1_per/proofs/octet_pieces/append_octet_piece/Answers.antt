@@ -1,4 +1,4 @@
-use Rattle.std.proofs.Common.{◌++◌, true, refl, ◌∙◌, ap, length}
+use Rattle.std.proofs.Common.{true, refl, ◌∙◌, length}
 use Rattle.asn1_bits.specs.Bits.{bits}
 use Rattle.asn1_formats.specs.Numbers.{IsNumber}
 use Rattle.asn1_per.specs.FragmentOctetLaws.{octets_joined}

@@ -1,4 +1,4 @@
-use Rattle.std.proofs.Common.{◌≡◌, true, false, ◌+◌, ◌-◌, ◌≤◌, sym, ◌∙◌, arith}
+use Rattle.std.proofs.Common.{◌≡◌, true, false, ◌-◌, ◌≤◌, sym, ◌∙◌, arith}
 use Rattle.asn1_bits.specs.BitReader.{bits_left}
 use Rattle.asn1_formats.specs.SpellingLaws.{number_short}
 use Rattle.asn1_per.specs.Fragments.{MayStand}
