@@ -192,7 +192,7 @@ fn alternatives_and_missing_elements_ascend_by_their_tags(rt: HostRuntime) -> Re
         written(&format, rt.alloc(), &values)?.as_slice(),
         octets.as_slice()
     );
-    values.swap(0, 1);
+    values.reverse();
     assert!(rt; written(&format, rt.alloc(), &values).is_err());
     Ok(())
 }
