@@ -182,7 +182,7 @@ fn alternatives_and_missing_elements_ascend_by_their_tags(rt: HostRuntime) -> Re
     ];
     let mut values = found(&format, rt.alloc(), &octets)?;
     assert!(rt; is_written(&format, rt.alloc(), &values, &octets));
-    values.swap(0, 1);
+    values.reverse();
     assert!(rt; written(&format, rt.alloc(), &values).is_err());
     Ok(())
 }
