@@ -3,7 +3,7 @@
 use asn1_test_calls::{all_same, read_fields, write_fields};
 use asn1_values::{
     BitBuffer, BitReader, BitStr, BmpString, CharacterAlphabet, Field, Ia5String, NumericString,
-    ReadError, Shape, WriteError,
+    ReadError, Shape, StaticPermittedAlphabet, WriteError,
 };
 use std::process::Abort;
 use std::test::Fail;
@@ -55,6 +55,24 @@ fn refused_in_reading<R: AllocGlobal>(
     read_fields(rt.alloc(), &mut reader, &[Shape::Character { alphabet }]).err()
 }
 
+/// A character goes there and back in the alphabet of a set, unaligned.
+fn in_set<S: StaticPermittedAlphabet, R: AllocGlobal + Abort>(
+    rt: &R,
+    set: &[u32],
+    character: u32,
+    octets: &[u8],
+) -> Result<(), Fail> {
+    if set.len() > 100 {
+        return Err("the set is small".into());
+    }
+    there_and_back(
+        rt,
+        CharacterAlphabet::new::<S>(Some(set), false),
+        character,
+        octets,
+    )
+}
+
 #[test]
 fn characters_are_written_in_their_alphabets(rt: HostRuntime) -> Result<(), Fail> {
     let numeric = CharacterAlphabet::new::<NumericString>(None, false);
@@ -65,22 +83,22 @@ fn characters_are_written_in_their_alphabets(rt: HostRuntime) -> Result<(), Fail
     }
     let aligned = CharacterAlphabet::new::<Ia5String>(Some(&letters), true);
     there_and_back(&rt, aligned, 97, &[97])?;
-    let alone = [99];
-    let alone = CharacterAlphabet::new::<Ia5String>(Some(&alone), false);
-    there_and_back(&rt, alone, 99, &[])?;
-    let three = [122, 97, 109];
-    let three = CharacterAlphabet::new::<Ia5String>(Some(&three), false);
+    in_set::<Ia5String, HostRuntime>(&rt, &[99], 99, &[])?;
+    in_set::<Ia5String, HostRuntime>(&rt, &[0], 0, &[])?;
+    in_set::<NumericString, HostRuntime>(&rt, &[945], 945, &[])
+}
+
+#[test]
+fn three_characters_have_codes_of_two_bits(rt: HostRuntime) -> Result<(), Fail> {
+    let set = [122, 97, 109];
+    let three = CharacterAlphabet::new::<Ia5String>(Some(&set), false);
     there_and_back(&rt, three, 122, &[0x00])?;
     there_and_back(&rt, three, 97, &[0x40])?;
     there_and_back(&rt, three, 109, &[0x80])?;
+    let refused = refused_in_reading(&rt, three, 0xC0);
     let wanted = ReadError::Character { field: 0, code: 3 };
-    assert!(rt; refused_in_reading(&rt, three, 0xC0) == Some(wanted));
-    let zero = [0];
-    let zero = CharacterAlphabet::new::<Ia5String>(Some(&zero), false);
-    there_and_back(&rt, zero, 0, &[])?;
-    let alpha = [945];
-    let alpha = CharacterAlphabet::new::<NumericString>(Some(&alpha), false);
-    there_and_back(&rt, alpha, 945, &[])
+    assert!(rt; refused == Some(wanted));
+    Ok(())
 }
 
 #[test]
