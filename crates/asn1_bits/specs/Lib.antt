@@ -6,6 +6,7 @@ pub mod BitReader
 pub mod Bits
 pub mod BitStr
 pub mod FixedBitString
+pub mod Joined
 pub mod Octets
 pub mod Turns
 pub mod View

@@ -1,6 +1,6 @@
 -- Contents that are elements of one format, as many as there are (X.690 8.10). P says of a value which bits spell it.
 use Rattle.std.specs.Prelude.{◌<◌, Bool, List, length}
-use Rattle.asn1_values.specs.Joined.{AreJoined}
+use Rattle.asn1_bits.specs.Joined.{AreJoined}
 use Rattle.asn1_formats.specs.Combined.{After, SoMany, ItemMisfit}
 use Rattle.asn1_der.specs.declared.items.InItem.{InItem}
 

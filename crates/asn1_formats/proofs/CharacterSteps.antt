@@ -6,7 +6,7 @@ use Rattle.std.proofs.lemmas.List.{length-append, take_all, take_more}
 use Rattle.asn1_bits.specs.Bits.{digits}
 use Rattle.asn1_bits.specs.DigitLaws.{length-digits}
 use Rattle.asn1_strings.specs.Alphabet.{Alphabet, IsCode}
-use Rattle.asn1_values.specs.Joined.{AreJoined}
+use Rattle.asn1_bits.specs.Joined.{AreJoined}
 use Rattle.asn1_formats.specs.Spelling.{Starts, IsWritten, Extends}
 use Rattle.asn1_formats.specs.Combined.{SoMany}
 use Rattle.asn1_formats.specs.Characters.{IsCharacter}

@@ -1,6 +1,6 @@
 -- Spellings of values that are made of others, and what is wrong with them.
 use Rattle.std.specs.Prelude.{◌≡◌, ℕ, ◌<◌, Bool, List, ◌∷◌, ◌++◌, length, Option, Some, None}
-use Rattle.asn1_values.specs.Joined.{AreJoined}
+use Rattle.asn1_bits.specs.Joined.{AreJoined}
 use Rattle.asn1_formats.specs.Spelling.{Starts, Fits}
 use Rattle.asn1_formats.specs.declared.then.InThen.{InThen}
 use Rattle.asn1_formats.specs.declared.then.InThen.TheVariants.{First, Second}

@@ -1,6 +1,6 @@
 -- Laws of one relation within another: what spells a value is read as it, and back for canonical formats.
 use Rattle.std.proofs.Common.{ℕ, List, [], ◌∷◌, Bool}
-use Rattle.asn1_values.specs.Joined.{AreJoined}
+use Rattle.asn1_bits.specs.Joined.{AreJoined}
 use Rattle.asn1_formats.specs.declared.one_of.OneOf.{OneOf}
 use Rattle.asn1_formats.specs.declared.one_of.OneOf.TheVariants.{First, Other}
 use Rattle.asn1_formats.specs.Spelling.{IsWithin}

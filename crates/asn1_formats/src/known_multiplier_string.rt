@@ -4,7 +4,7 @@ ghost use Rattle.std.specs.Prelude.{◌≡◌, ◌≤◌, List, Bool, IsTrue, If
 ghost use Rattle.asn1_bits.specs.BitReader.{bits_left};
 ghost use Rattle.asn1_strings.specs.Alphabet.{IsCode};
 ghost use Rattle.asn1_strings.specs.AlphabetView.{alphabet_of};
-ghost use Rattle.asn1_values.specs.Joined.{AreJoined};
+ghost use Rattle.asn1_bits.specs.Joined.{AreJoined};
 ghost use Rattle.asn1_formats.specs.Spelling.{Starts, IsWritten, Extends};
 ghost use Rattle.asn1_formats.specs.Combined.{SoMany};
 ghost use Rattle.asn1_formats.specs.Characters.{IsCharacter};

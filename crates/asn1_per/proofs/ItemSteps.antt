@@ -2,7 +2,7 @@
 use Rattle.std.proofs.Common.{◌≡◌, ℕ, suc, ◌+◌, ◌<◌, List, [], ◌∷◌, ◌++◌, Bool, length, map, take, drop, get_or, sym, ◌∙◌, ap, arith, append_assoc, Option}
 use Rattle.std.proofs.lemmas.List.{map_more, map-append, length-map, length-take-le, take-append-drop, length-append}
 use Rattle.std.proofs.Math.Seq.{drop-cons}
-use Rattle.asn1_values.specs.Joined.{AreJoined}
+use Rattle.asn1_bits.specs.Joined.{AreJoined}
 use Rattle.asn1_formats.specs.Spelling.{Fits, IsWritten, Measures, IsSumOf}
 use Rattle.asn1_formats.specs.Combined.{ItemMisfit}
 use Rattle.asn1_formats.specs.ListLaws.{written_snoc, measured_snoc}

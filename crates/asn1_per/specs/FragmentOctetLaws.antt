@@ -5,7 +5,7 @@ use Rattle.std.proofs.lemmas.List.{append_cancel_left}
 use Rattle.std.proofs.lemmas.List.Elements.{All-head, All-tail}
 use Rattle.asn1_bits.specs.Bits.{bits, digits}
 use Rattle.asn1_bits.specs.DigitLaws.{length-bits, bits-append}
-use Rattle.asn1_values.specs.Joined.{AreJoined}
+use Rattle.asn1_bits.specs.Joined.{AreJoined}
 use Rattle.asn1_formats.specs.Spelling.{Starts}
 use Rattle.asn1_formats.specs.Numbers.{IsNumber, IsShort}
 use Rattle.asn1_formats.specs.Combined.{After, SoMany}

@@ -2,7 +2,7 @@
 
 ghost use Rattle.std.specs.Prelude.{◌≡◌, ℕ, ◌+◌, ◌^◌, ◌<◌, ◌≤◌, ⊤, List, ◌++◌, Bool, IsTrue, length, map, OnOk, OnErr, IfOk, IfErr};
 ghost use Rattle.asn1_bits.specs.BitReader.{bits_left};
-ghost use Rattle.asn1_values.specs.Joined.{AreJoined};
+ghost use Rattle.asn1_bits.specs.Joined.{AreJoined};
 ghost use Rattle.asn1_formats.specs.Spelling.{Starts, Measures, IsWritten, Extends};
 ghost use Rattle.asn1_formats.specs.Refusals.{IsRefusal};
 ghost use Rattle.asn1_formats.specs.Combined.{After, AreCounted, SoMany, ItemMisfit};

@@ -1,7 +1,7 @@
 -- Lists joined of one list for each element.
 use Rattle.std.proofs.Common.{◌≡◌, ℕ, ◌<◌, List, [], ◌∷◌, ◌++◌, length, refl, sym, ap, subst, ◌∙◌, append_assoc, arith, Some, slice_get, suc, zero, take}
 use Rattle.std.proofs.lemmas.List.{append-nil}
-use Rattle.asn1_values.specs.Joined.{AreJoined}
+use Rattle.asn1_bits.specs.Joined.{AreJoined}
 
 module _ {X A : Type 0} (P : X → List A → Type 0) where
   pub joins_append : (xs ys : List X) (a b : List A) → AreJoined P xs a → AreJoined P ys b

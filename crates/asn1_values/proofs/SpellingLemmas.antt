@@ -25,7 +25,7 @@ use Rattle.asn1_values.specs.Plain.{plain_field, plain_fields}
 use Rattle.asn1_values.specs.Fields.{Field, IsSpelledBy, AreSpelledBy, Number, Octets, Bits, Integer, Character, CountedInteger, Identifier}
 use Rattle.asn1_values.specs.Wrong.{Misfit, WidthOver, PastWidth, NotInAlphabet, PastLength, TooFewArcs, Fits, IsMisfit, IsFirstMisfit}
 use Rattle.asn1_values.specs.Steps.{NamesMisfit, NamesFirstMisfit, Spelling, TakesBits, HasLength, FitsIn, EndsAt, Pushes, PushesAll, HasRoomFor, HaveRoom, TakesTurns, TakeTurns}
-use Rattle.asn1_values.specs.Joined.{AreJoined}
+use Rattle.asn1_bits.specs.Joined.{AreJoined}
 use Rattle.asn1_values.proofs.JoinedLemmas.{joins_push, joins_append, joins_split, one_joined, each_joined, slice_get_take, some_at, Split}
 
 -- ---- one field

@@ -1,6 +1,5 @@
 -- The words of the contracts.
 pub mod Fields
-pub mod Joined
 pub mod Plain
 pub mod Wrong
 pub mod Refusals
@@ -19,6 +18,7 @@ pub use Rattle.asn1_bits.specs.BitReader
 pub use Rattle.asn1_bits.specs.BitBuffer
 pub use Rattle.asn1_bits.specs.BitAppender
 pub use Rattle.asn1_bits.specs.BitLists
+pub use Rattle.asn1_bits.specs.Joined
 pub use Rattle.asn1_bits.specs.Octets
 pub use Rattle.asn1_bits.specs.Turns
 pub use Rattle.asn1_number.specs.Readings

@@ -1,5 +1,5 @@
 use Rattle.std.proofs.Common.{map, take}
-use Rattle.asn1_values.specs.Joined.{AreJoined}
+use Rattle.asn1_bits.specs.Joined.{AreJoined}
 use Rattle.asn1_formats.specs.Spelling.{IsWritten}
 use Rattle.asn1_per.proofs.pieces.append_items.Given as goal
 
