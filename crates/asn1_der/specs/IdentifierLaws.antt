@@ -8,13 +8,12 @@ use Rattle.asn1_bits.specs.NumberLaws.{same_octets}
 use Rattle.asn1_oid.specs.Contents.{IsContents, FitU32}
 use Rattle.asn1_oid.specs.ReadingLaws.{one_list_of_arcs}
 use Rattle.asn1_oid.specs.WritingLaws.{contents_only, contents_octets}
-use Rattle.asn1_values.specs.Wrong.{IsNoIdentifier}
 use Rattle.asn1_der.specs.declared.object_identifier.IdentifierFault.{IdentifierFault}
 use Rattle.asn1_der.specs.declared.object_identifier.IdentifierFault.TheVariants.{Malformed, LargeArc}
 use Rattle.asn1_der.specs.declared.object_identifier.OneArc.{OneArc}
-use Rattle.asn1_formats.specs.Spelling.{Measures, IsLength, Extends, SpellsOne, NamesMisfit}
+use Rattle.asn1_formats_core.specs.Spelling.{Measures, IsLength, Extends, SpellsOne, NamesMisfit}
 use Rattle.asn1_der.specs.Contents.{FillsOne, NamesWrong, AreWhole}
-use Rattle.asn1_der.specs.Identifiers.{IsIdentifierOf, IdentifierFaultIs, HasOneArc}
+use Rattle.asn1_der.specs.Identifiers.{IsIdentifierOf, IsNoIdentifier, IdentifierFaultIs, HasOneArc}
 
 -- the bits of two contents that are one list are those of the same octets
 same_contents : (list : List Bool) (xs ys o p : List ℕ) → IsContents xs o → IsContents ys p → list ≡ bits o → list ≡ bits p

@@ -6,10 +6,10 @@ use Rattle.asn1_bits.specs.DigitLaws.{length-bits}
 use Rattle.asn1_number.specs.Octets.{IsShortest}
 use Rattle.asn1_number.specs.Shortest.{shortest_octets}
 use Rattle.asn1_number.specs.ShortestLaws.{shortest_octets_are, shortest_octets_only}
-use Rattle.asn1_values.specs.Wrong.{IsNoInteger}
-use Rattle.asn1_formats.specs.Spelling.{Measures, IsLength, IsWritten, SpellsOne}
-use Rattle.asn1_formats.specs.IntegerOctets.{HoldsInteger}
-use Rattle.asn1_formats.specs.IntegerOctetLaws.{same_number}
+use Rattle.asn1_integer.specs.IntegerOctets.{IsNoInteger}
+use Rattle.asn1_formats_core.specs.Spelling.{Measures, IsLength, IsWritten, SpellsOne}
+use Rattle.asn1_integer.specs.IntegerOctets.{HoldsInteger}
+use Rattle.asn1_formats_core.specs.IntegerOctetLaws.{same_number}
 use Rattle.asn1_der.specs.declared.integer.NotShortest.{NotShortest}
 use Rattle.asn1_der.specs.Contents.{FillsOne, NamesWrong, AreWhole}
 use Rattle.asn1_der.specs.Primitives.{IsInteger}

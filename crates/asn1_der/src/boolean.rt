@@ -3,8 +3,8 @@
 use crate::comparable::Comparable;
 use crate::contents::Contents;
 use crate::ordered_contents::OrderedContents;
-use asn1_formats::{NeverWrong, Refusal, next_number, push_number};
-use asn1_values::{BitBuffer, BitReader};
+use asn1_bits::{BitBuffer, BitReader};
+use asn1_formats_core::{NeverWrong, Refusal, next_number, push_number};
 use std::alloc::Global;
 use std::cmp::Ordering;
 

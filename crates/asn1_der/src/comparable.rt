@@ -4,7 +4,7 @@ ghost use Rattle.std.specs.Prelude.{◌≡◌, ◌%◌, ◌↔◌, IfOk, IfErr, 
 ghost use Rattle.asn1_bits.specs.BitReader.{view_left, bits_left};
 
 use crate::contents::Contents;
-use asn1_values::BitReader;
+use asn1_bits::BitReader;
 
 /// Contents whose values can be compared, as a default value has to be
 /// ([`NotDefault`](crate::NotDefault)).

@@ -2,14 +2,15 @@
 
 ghost use Rattle.std.specs.Prelude.{◌≡◌, IsTrue};
 ghost use Rattle.asn1_bits.specs.BitReader.{bits_left};
-ghost use Rattle.asn1_values.specs.Wrong.{IsNoInteger};
+ghost use Rattle.asn1_integer.specs.IntegerOctets.{IsNoInteger};
 
 use crate::comparable::Comparable;
 use crate::contents::Contents;
 use crate::octet_string::bit_count;
 use crate::ordered_contents::{OrderedContents, compare_octets};
-use asn1_formats::{NeverWrong, Refusal, are_shortest_octets, push_octets};
-use asn1_values::{BitBuffer, BitReader, BitStr, Integer, integer_of};
+use asn1_bits::{BitBuffer, BitReader, BitStr};
+use asn1_formats_core::{NeverWrong, Refusal, are_shortest_octets, push_octets};
+use asn1_integer::{Integer, integer_of};
 use std::alloc::Global;
 use std::cmp::Ordering;
 

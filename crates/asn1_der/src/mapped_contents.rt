@@ -1,8 +1,8 @@
 //! Contents whose values are the program's own.
 
 use crate::contents::Contents;
-use asn1_formats::{Mapped, OfParts, Refusal};
-use asn1_values::{BitBuffer, BitReader};
+use asn1_bits::{BitBuffer, BitReader};
+use asn1_formats_core::{Mapped, OfParts, Refusal};
 use std::alloc::Global;
 
 impl<A: Contents, V: OfParts<Parts = A::Value>> Contents for Mapped<A, V> {

@@ -3,8 +3,8 @@
 use crate::element::Element;
 use crate::ordered::Ordered;
 use crate::tag::Tag;
-use asn1_formats::{Mapped, OfParts, Refusal};
-use asn1_values::{BitBuffer, BitReader};
+use asn1_bits::{BitBuffer, BitReader};
+use asn1_formats_core::{Mapped, OfParts, Refusal};
 use std::alloc::Global;
 use std::cmp::Ordering;
 

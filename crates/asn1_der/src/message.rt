@@ -4,8 +4,8 @@ ghost use Rattle.std.specs.Prelude.{◌≡◌, List, Bool, IfOk, IfErr};
 ghost use Rattle.asn1_bits.specs.Bits.{bits};
 ghost use Rattle.asn1_der.specs.Messages.{IsDecodeRefusal};
 
-use asn1_formats::{Format, Refusal, read};
-use asn1_values::BitReader;
+use asn1_bits::BitReader;
+use asn1_formats_core::{Format, Refusal, read};
 use std::alloc::Global;
 
 /// Why octets are no message.

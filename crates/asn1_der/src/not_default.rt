@@ -2,8 +2,8 @@
 
 use crate::comparable::Comparable;
 use crate::contents::Contents;
-use asn1_formats::Refusal;
-use asn1_values::{BitBuffer, BitReader};
+use asn1_bits::{BitBuffer, BitReader};
+use asn1_formats_core::Refusal;
 use std::alloc::Global;
 
 /// The contents of an element that has a DEFAULT, where it is there: each value but the default,

@@ -5,7 +5,7 @@ ghost use Rattle.asn1_bits.specs.Bits.{bits};
 ghost use Rattle.asn1_bits.specs.BitLists.{bits_cmp};
 
 use crate::contents::Contents;
-use asn1_values::BitStr;
+use asn1_bits::BitStr;
 use std::cmp::Ordering;
 
 /// Contents whose values can be compared by their octets, without memory. Of elements of one tag

@@ -2,13 +2,13 @@
 
 ghost use Rattle.std.specs.Prelude.{◌≡◌, ◌%◌, OnErr, IfOk, IfErr};
 ghost use Rattle.asn1_bits.specs.BitReader.{view_left, bits_left};
-ghost use Rattle.asn1_formats.specs.Spelling.{Starts};
+ghost use Rattle.asn1_formats_core.specs.Spelling.{Starts};
 ghost use Rattle.asn1_der.specs.Elements.{IsElement, AnyFaultIs};
 
 use crate::length::next_counted;
 use crate::tag::{Tag, next_tag};
 use crate::tlv::ElementFault;
-use asn1_values::BitReader;
+use asn1_bits::BitReader;
 
 /// An element of any tag, whose contents lie in the octets that are read (X.690 8.1.1).
 #[derive(Clone, Copy, Debug)]

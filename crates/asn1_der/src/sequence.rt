@@ -2,8 +2,8 @@
 
 use crate::contents::Contents;
 use crate::elements::Elements;
-use asn1_formats::Refusal;
-use asn1_values::{BitBuffer, BitReader};
+use asn1_bits::{BitBuffer, BitReader};
+use asn1_formats_core::Refusal;
 use std::alloc::Global;
 
 /// The contents of a SEQUENCE: its elements, one after another (X.690 8.9).

@@ -3,7 +3,7 @@
 ghost use Rattle.std.specs.Prelude.{◌≡◌, ◌+◌, ◌<◌, ◌↔◌, ℕ, length, slice_index, IsTrue, OnOk, IfErr};
 ghost use Rattle.asn1_der.specs.Times.{IsDigit, IsTimePlace, PlaceFaultIs, pair_at};
 
-use asn1_values::OctetSource;
+use asn1_oid::OctetSource;
 
 /// What is wrong with the contents of a time.
 #[derive(Clone, Copy, Debug, PartialEq, Eq, Drop)]

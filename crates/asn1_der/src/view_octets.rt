@@ -6,7 +6,8 @@ ghost use Rattle.asn1_bits.specs.BitStr.{view_of, bits_of};
 ghost use Rattle.asn1_bits.specs.BitReader.{view_left, bits_left};
 ghost use Rattle.asn1_der.specs.ViewOctets.{octets_in};
 
-use asn1_values::{BitReader, BitStr, OctetSource, read_u128};
+use asn1_bits::{BitReader, BitStr, read_u128};
+use asn1_oid::OctetSource;
 
 /// The octets that lie in a view one after another, wherever the first bit is.
 #[derive(Clone, Copy)]

@@ -1,3 +1,2 @@
-pub mod ListSteps
 pub mod HeldLaws
 pub mod CharacterSteps

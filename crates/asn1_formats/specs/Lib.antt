@@ -1,33 +1,24 @@
 -- The words of the contracts.
-pub mod Spelling
-pub mod Refusals
-pub mod Numbers
 pub mod WholeNumbers
 pub mod Characters
-pub mod Combined
 pub mod Dependents
 pub mod Sequences
 pub mod Defaults
-pub mod Choices
-pub mod OctetStrings
 pub mod BitStrings
-pub mod IntegerOctets
+-- The words of the crate below that contracts of its calls cite, so that a user's contracts name this crate alone.
+pub use Rattle.asn1_formats_core.specs.Spelling
+pub use Rattle.asn1_formats_core.specs.Refusals
+pub use Rattle.asn1_formats_core.specs.Numbers
+pub use Rattle.asn1_formats_core.specs.Combined
+pub use Rattle.asn1_formats_core.specs.Choices
+pub use Rattle.asn1_formats_core.specs.OctetStrings
 -- Laws of these words, which the formats' laws are made of.
-pub mod SpellingLaws
-pub mod WithinLaws
-pub mod NumberLaws
 pub mod WholeNumberLaws
 pub mod BooleanLaws
 pub mod CharacterLaws
-pub mod NamedLaws
-pub mod ThenLaws
 pub mod DependentLaws
-pub mod ListLaws
 pub mod SequenceLaws
 pub mod ComponentLaws
 pub mod DefaultLaws
 pub mod AndLaws
-pub mod ChoiceLaws
-pub mod OctetStringLaws
 pub mod BitStringLaws
-pub mod IntegerOctetLaws

@@ -4,26 +4,8 @@ use Rattle.std.proofs.lemmas.List.{length-append}
 use Rattle.std.proofs.Math.Seq.{drop-append_seam}
 use Rattle.asn1_formats.specs.declared.sequence.InSequence.{InSequence}
 use Rattle.asn1_formats.specs.declared.sequence.InSequence.TheVariants.{Presence, Component}
-use Rattle.asn1_formats.specs.Spelling.{Starts, CanRead, Fits, Measures, IsLength, IsSumOf, IsWithin, ReadsOne, SpellsOne, NamesFault, NamesMisfit}
+use Rattle.asn1_formats_core.specs.Spelling.{Starts, CanRead, Fits, Measures, IsLength, IsSumOf, IsWithin, ReadsOne, SpellsOne, NamesFault, NamesMisfit}
 use Rattle.asn1_formats.specs.Sequences.{Behind, IsShown, ShowsAlone, IsSequence, ReadsSequence, SequenceFault}
-
--- what holds of a wider relation holds of a narrower one
-module _ {X : Type 0} (P Q : X → List Bool → Type 0)
-    (into : (list : List Bool) (x : X) (rest : List Bool) → Starts P list x rest → Starts Q list x rest) where
-  pub narrow_reads_one : ReadsOne Q → ReadsOne P
-  narrow_reads_one q = record {
-    one = λ list x y rest other s t. q.one list x y rest other (into list x rest s) (into list y other t);
-  }
-
-  pub narrow_names_fault : {E : Type 0} → (W : List Bool → E → Type 0) → NamesFault Q W → NamesFault P W
-  narrow_names_fault W q = record {
-    wrong = λ list e p can. q.wrong list e p (record {
-      value = can.value;
-      rest = can.rest;
-      starts = into list can.value can.rest can.starts;
-    });
-    one = q.one;
-  }
 
 -- what follows the presence bits
 pub past_presence : (count : ℕ) (list shown more : List Bool) → length shown ≡ count → list ≡ shown ++ more

@@ -1,10 +1,8 @@
 //! Components one after another.
 
 use crate::components::Components;
-use crate::length::sum_of;
-use crate::refusal::Refusal;
-use crate::then::InThen;
-use asn1_values::{BitBuffer, BitReader};
+use asn1_bits::{BitBuffer, BitReader};
+use asn1_formats_core::{InThen, Refusal, sum_of};
 use std::alloc::{AllocError, Global};
 
 /// One component and the others behind it: first the presence bits of all, and then all that are
@@ -19,10 +17,10 @@ pub struct And<C, D> {
 
 impl<C: Components, D: Components> Components for And<C, D> {
     ghost use Rattle.std.specs.Prelude.{◌+◌, drop};
-    ghost use Rattle.asn1_formats.specs.Combined.{Both, BothFault, BothMisfit};
+    ghost use Rattle.asn1_formats_core.specs.Combined.{Both, BothFault, BothMisfit};
     ghost use Rattle.asn1_formats.specs.Sequences.{Behind, ReadsBoth};
-    ghost use Rattle.asn1_formats.specs.SpellingLaws.{both_spells_one};
-    ghost use Rattle.asn1_formats.specs.ThenLaws.{both_names_misfit};
+    ghost use Rattle.asn1_formats_core.specs.SpellingLaws.{both_spells_one};
+    ghost use Rattle.asn1_formats_core.specs.ThenLaws.{both_names_misfit};
     ghost use Rattle.asn1_formats.specs.AndLaws.{both_size, and_within, and_alone, and_reads_one, and_names_fault};
 
     type Value = (C::Value, D::Value);

@@ -3,7 +3,7 @@
 ghost use Rattle.std.specs.Prelude.{◌≡◌, [], ◌∷◌, ◌++◌, OnOk, OnErr, IfSome, IfNone};
 ghost use Rattle.asn1_bits.specs.BitReader.{bits_left};
 
-use asn1_values::{BitBuffer, BitReader};
+use asn1_bits::{BitBuffer, BitReader};
 use std::alloc::AllocError;
 
 /// Appends the bit.

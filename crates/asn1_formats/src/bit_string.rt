@@ -2,13 +2,10 @@
 
 ghost use Rattle.std.specs.Prelude.{◌≡◌, ◌≤◌, length, take, drop, OnOk, IfOk, IfErr};
 ghost use Rattle.asn1_bits.specs.BitReader.{bits_left};
-ghost use Rattle.asn1_formats.specs.Numbers.{IsShort};
+ghost use Rattle.asn1_formats_core.specs.Numbers.{IsShort};
 
-use crate::counts::Counts;
-use crate::format::Format;
-use crate::length::sum_of;
-use crate::refusal::Refusal;
-use asn1_values::{BitBuffer, BitReader, to_bitstring};
+use asn1_bits::{BitBuffer, BitReader, to_bitstring};
+use asn1_formats_core::{Counts, Format, Refusal, sum_of};
 use std::alloc::Global;
 
 /// BIT STRING: the number of its bits, and then the bits (X.691 16). The number's format says how
@@ -46,9 +43,9 @@ impl<N: Counts> Format for BitString<N> {
     ghost use Rattle.std.specs.Prelude.{List, Bool, ⊤};
     ghost use Rattle.asn1_formats.specs.BitStrings.{IsBitString, BitStringFault};
     ghost use Rattle.asn1_formats.specs.BitStringLaws.{bit_string_reads_one, bit_string_spells_one, bit_string_names_fault, bit_string_names_misfit};
-    ghost use Rattle.asn1_formats.specs.WithinLaws.{itself};
+    ghost use Rattle.asn1_formats_core.specs.WithinLaws.{itself};
 
-    type Value = asn1_values::BitString;
+    type Value = asn1_bits::BitString;
 
     type Fault = InBitString<N::Fault>;
 
@@ -74,7 +71,7 @@ impl<N: Counts> Format for BitString<N> {
     fn append(
         &self,
         buffer: &mut BitBuffer,
-        value: &asn1_values::BitString,
+        value: &asn1_bits::BitString,
     ) -> Result<(), Refusal<N::Misfit>> {
         match self.size.append_count(buffer, value.len() as u64) {
             Ok(()) => {}
@@ -90,7 +87,7 @@ impl<N: Counts> Format for BitString<N> {
         }
     }
 
-    fn measure(&self, value: &asn1_values::BitString) -> Result<Option<usize>, N::Misfit> {
+    fn measure(&self, value: &asn1_bits::BitString) -> Result<Option<usize>, N::Misfit> {
         let len = value.len();
         match self.size.measure_count(len as u64) {
             Ok(front) => Ok(sum_of(front, Some(len))),
@@ -102,7 +99,7 @@ impl<N: Counts> Format for BitString<N> {
         &self,
         alloc: Global,
         reader: &mut BitReader<'_>,
-    ) -> Result<asn1_values::BitString, Refusal<InBitString<N::Fault>>> {
+    ) -> Result<asn1_bits::BitString, Refusal<InBitString<N::Fault>>> {
         let count = match self.size.next_count(reader) {
             Ok(count) => count,
             Err(e) => return Err(Refusal::Wrong(InBitString::Size(e))),

@@ -1,10 +1,9 @@
 //! DEFAULT as CANONICAL-PER has it.
 
 use crate::bit::{next_bit, push_bit};
-use crate::compare::Compare;
 use crate::components::Components;
-use crate::refusal::Refusal;
-use asn1_values::{BitBuffer, BitReader};
+use asn1_bits::{BitBuffer, BitReader};
+use asn1_formats_core::{Compare, Refusal};
 use std::alloc::{AllocError, Global};
 
 /// DEFAULT in CANONICAL-PER: a presence bit of 0 stands for the default value, which is never

@@ -4,10 +4,9 @@ ghost use Rattle.std.specs.Prelude.{◌≡◌, ◌≢◌, ℕ, ⊤, IfSome, IfNo
 ghost use Rattle.std.specs.List.{AllPairs};
 ghost use Rattle.asn1_strings.specs.AlphabetView.{alphabet_of};
 
-use crate::format::Format;
-use crate::number::{next32, push};
-use crate::refusal::Refusal;
-use asn1_values::{BitBuffer, BitReader, CharacterAlphabet};
+use asn1_bits::{BitBuffer, BitReader};
+use asn1_formats_core::{Format, Refusal, next_number32, push_number};
+use asn1_strings::CharacterAlphabet;
 use std::alloc::Global;
 use thiserror::Error;
 
@@ -62,7 +61,7 @@ impl<'s> Character<'s> {
 impl<'s> Format for Character<'s> {
     ghost use Rattle.asn1_formats.specs.Characters.{IsCharacter, IsCharacterFault, IsNoCharacter};
     ghost use Rattle.asn1_formats.specs.CharacterLaws.{character_reads_one, character_spells_one, character_names_fault, character_names_misfit};
-    ghost use Rattle.asn1_formats.specs.WithinLaws.{itself};
+    ghost use Rattle.asn1_formats_core.specs.WithinLaws.{itself};
 
     type Value = u32;
 
@@ -89,7 +88,7 @@ impl<'s> Format for Character<'s> {
     fn append(&self, buffer: &mut BitBuffer, value: &u32) -> Result<(), Refusal<NotInAlphabet>> {
         let width = self.alphabet.width();
         match self.alphabet.encode(*value) {
-            Ok(code) => match push(buffer, code as u64, width) {
+            Ok(code) => match push_number(buffer, code as u64, width) {
                 Ok(()) => Ok(()),
                 Err(_) => Err(Refusal::Memory),
             },
@@ -139,7 +138,7 @@ impl<'s> Format for Character<'s> {
 impl<'s> Character<'s> {
     ghost use Rattle.std.specs.Prelude.{IfOk, IfErr};
     ghost use Rattle.asn1_bits.specs.BitReader.{bits_left};
-    ghost use Rattle.asn1_formats.specs.Spelling.{Starts};
+    ghost use Rattle.asn1_formats_core.specs.Spelling.{Starts};
     ghost use Rattle.asn1_formats.specs.Characters.{IsCharacter, IsCharacterFault};
 
     /// The character of the next bits.
@@ -149,7 +148,7 @@ impl<'s> Character<'s> {
         ensures fault { IfErr result
             (IsCharacterFault (alphabet_of self.now.alphabet) (bits_left reader.old)) }
     {
-        match next32(reader, self.alphabet.width()) {
+        match next_number32(reader, self.alphabet.width()) {
             Ok(code) => match self.alphabet.decode(code) {
                 Ok(character) => Ok(character),
                 Err(_) => Err(CharacterFault::NoCharacter { code }),

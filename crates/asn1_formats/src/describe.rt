@@ -1,7 +1,6 @@
 //! Formats in words, as `SEQUENCE { age INTEGER (0..120) OPTIONAL, BOOLEAN }`: the notation of
 //! X.680 as far as it goes. A count in front of items is a format of its own, in brackets.
 
-use crate::alternatives::Alternatives;
 use crate::and::And;
 use crate::basic_default::BasicDefault;
 use crate::basic_empty::BasicEmpty;
@@ -10,25 +9,15 @@ use crate::boolean::Boolean;
 use crate::canonical_default::CanonicalDefault;
 use crate::canonical_empty::CanonicalEmpty;
 use crate::character::Character;
-use crate::choice::Choice;
-use crate::compare::Compare;
 use crate::constrained_number::ConstrainedNumber;
 use crate::dependent::Dependent;
 use crate::known_multiplier_string::KnownMultiplierString;
-use crate::last::Last;
-use crate::mapped::Mapped;
-use crate::named::Named;
 use crate::null::Null;
-use crate::number::Number;
-use crate::octet_string::OctetString;
-use crate::one_of::Or;
 use crate::optional::Optional;
 use crate::required::Required;
 use crate::sequence::Sequence;
-use crate::sequence_of::SequenceOf;
-use crate::size::Size;
-use crate::then::Then;
 use crate::wide_constrained_number::WideConstrainedNumber;
+use asn1_formats_core::Compare;
 use std::fmt;
 
 impl fmt::Display for Boolean {
@@ -40,18 +29,6 @@ impl fmt::Display for Boolean {
 impl fmt::Display for Null {
     fn fmt<W: fmt::Write>(&self, f: &mut fmt::Formatter<W>) -> fmt::Result {
         write!(f, "NULL")
-    }
-}
-
-impl fmt::Display for Number {
-    fn fmt<W: fmt::Write>(&self, f: &mut fmt::Formatter<W>) -> fmt::Result {
-        write!(f, "number of {} bits", self.width())
-    }
-}
-
-impl fmt::Display for Size {
-    fn fmt<W: fmt::Write>(&self, f: &mut fmt::Formatter<W>) -> fmt::Result {
-        write!(f, "INTEGER ({}..{})", self.least(), self.most())
     }
 }
 
@@ -79,27 +56,9 @@ impl<N: fmt::Display> fmt::Display for BitString<N> {
     }
 }
 
-impl<N: fmt::Display> fmt::Display for OctetString<N> {
-    fn fmt<W: fmt::Write>(&self, f: &mut fmt::Formatter<W>) -> fmt::Result {
-        write!(f, "OCTET STRING (count {})", self.size)
-    }
-}
-
 impl<'s, N: fmt::Display> fmt::Display for KnownMultiplierString<'s, N> {
     fn fmt<W: fmt::Write>(&self, f: &mut fmt::Formatter<W>) -> fmt::Result {
         write!(f, "string (count {}) of {}", self.size(), self.item())
-    }
-}
-
-impl<N: fmt::Display, A: fmt::Display> fmt::Display for SequenceOf<N, A> {
-    fn fmt<W: fmt::Write>(&self, f: &mut fmt::Formatter<W>) -> fmt::Result {
-        write!(f, "SEQUENCE (count {}) OF {}", self.size, self.item)
-    }
-}
-
-impl<A: fmt::Display, B: fmt::Display> fmt::Display for Then<A, B> {
-    fn fmt<W: fmt::Write>(&self, f: &mut fmt::Formatter<W>) -> fmt::Result {
-        write!(f, "{{ {}, {} }}", self.first, self.second)
     }
 }
 
@@ -160,35 +119,5 @@ impl<N: fmt::Display, A: fmt::Display> fmt::Display for CanonicalEmpty<N, A> {
 impl<N: fmt::Display, A: fmt::Display> fmt::Display for BasicEmpty<N, A> {
     fn fmt<W: fmt::Write>(&self, f: &mut fmt::Formatter<W>) -> fmt::Result {
         write!(f, "{} DEFAULT {{}}", self.part)
-    }
-}
-
-impl<A: fmt::Display> fmt::Display for Named<A> {
-    fn fmt<W: fmt::Write>(&self, f: &mut fmt::Formatter<W>) -> fmt::Result {
-        write!(f, "{} {}", self.name, self.part)
-    }
-}
-
-impl<A: fmt::Display, V> fmt::Display for Mapped<A, V> {
-    fn fmt<W: fmt::Write>(&self, f: &mut fmt::Formatter<W>) -> fmt::Result {
-        write!(f, "{}", self.part())
-    }
-}
-
-impl<A: Alternatives + fmt::Display> fmt::Display for Choice<A> {
-    fn fmt<W: fmt::Write>(&self, f: &mut fmt::Formatter<W>) -> fmt::Result {
-        write!(f, "CHOICE {{ {} }}", self.alternatives())
-    }
-}
-
-impl<A: fmt::Display, B: fmt::Display> fmt::Display for Or<A, B> {
-    fn fmt<W: fmt::Write>(&self, f: &mut fmt::Formatter<W>) -> fmt::Result {
-        write!(f, "{}, {}", self.first, self.others)
-    }
-}
-
-impl<A: fmt::Display> fmt::Display for Last<A> {
-    fn fmt<W: fmt::Write>(&self, f: &mut fmt::Formatter<W>) -> fmt::Result {
-        write!(f, "{}", self.part)
     }
 }

@@ -3,10 +3,10 @@
 ghost use Rattle.std.specs.Prelude.{◌≡◌, [], ◌+◌, ◌^◌, ◌<◌, ◌≤◌, ◌++◌, OnOk, OnErr, IfOk, IfSome};
 ghost use Rattle.asn1_bits.specs.Bits.{digits};
 ghost use Rattle.asn1_bits.specs.BitReader.{bits_left};
-ghost use Rattle.asn1_formats.specs.Spelling.{Extends};
+ghost use Rattle.asn1_formats_core.specs.Spelling.{Extends};
 
-use crate::number::{next, push};
-use asn1_values::{BitBuffer, BitReader};
+use asn1_bits::{BitBuffer, BitReader};
+use asn1_formats_core::{next_number, push_number};
 use std::alloc::AllocError;
 
 /// At most 64 bits, held as the number that they are the digits of: they wait to be written, or
@@ -68,7 +68,7 @@ impl HeldBits {
         ensures written { OnOk result (buffer.new ≡ buffer.old ++ digits self.number self.len) }
         ensures unchanged { OnErr result (buffer.new ≡ buffer.old) }
     {
-        push(buffer, self.number, self.len)
+        push_number(buffer, self.number, self.len)
     }
 
     /// The number of the first bits, as many as the width, and the bits behind them.
@@ -95,7 +95,7 @@ impl HeldBits {
             return self;
         }
         let more = reader.len().min(63 - self.len);
-        match next(reader, more) {
+        match next_number(reader, more) {
             Ok(number) => self.with(number, more),
             Err(_) => unreachable!(),
         }

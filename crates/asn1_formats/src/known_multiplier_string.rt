@@ -5,19 +5,18 @@ ghost use Rattle.asn1_bits.specs.BitReader.{bits_left};
 ghost use Rattle.asn1_strings.specs.Alphabet.{IsCode};
 ghost use Rattle.asn1_strings.specs.AlphabetView.{alphabet_of};
 ghost use Rattle.asn1_bits.specs.Joined.{AreJoined};
-ghost use Rattle.asn1_formats.specs.Spelling.{Starts, IsWritten, Extends};
-ghost use Rattle.asn1_formats.specs.Combined.{SoMany};
+ghost use Rattle.asn1_formats_core.specs.Spelling.{Starts, IsWritten, Extends};
+ghost use Rattle.asn1_formats_core.specs.Combined.{SoMany};
 ghost use Rattle.asn1_formats.specs.Characters.{IsCharacter};
 
 use crate::character::{Character, CharacterFault, NotInAlphabet};
-use crate::counts::Counts;
-use crate::format::Format;
 use crate::held_bits::HeldBits;
-use crate::items::{AtItem, append_items, measure_items, skip_items, take_items};
-use crate::length::sum_of;
-use crate::refusal::Refusal;
-use crate::sequence_of::InSequenceOf;
-use asn1_values::{BitBuffer, BitReader, CharacterAlphabet};
+use asn1_bits::{BitBuffer, BitReader};
+use asn1_formats_core::{
+    AtItem, Counts, Format, InSequenceOf, Refusal, append_items, measure_items, skip_items, sum_of,
+    take_items,
+};
+use asn1_strings::CharacterAlphabet;
 use std::alloc::Global;
 
 /// A known-multiplier character string with SIZE and FROM: the number of its characters, and then
@@ -172,10 +171,10 @@ fn take_characters(
 impl<'s, N: Counts> Format for KnownMultiplierString<'s, N> {
     ghost use Rattle.std.specs.Prelude.{ℕ, ⊤};
     ghost use Rattle.asn1_formats.specs.Characters.{IsCharacterFault, IsNoCharacter};
-    ghost use Rattle.asn1_formats.specs.Combined.{AreCounted, SequenceOfFault, SequenceOfMisfit};
-    ghost use Rattle.asn1_formats.specs.ListLaws.{counted_reads_one, counted_spells_one, counted_names_fault, counted_names_misfit};
+    ghost use Rattle.asn1_formats_core.specs.Combined.{AreCounted, SequenceOfFault, SequenceOfMisfit};
+    ghost use Rattle.asn1_formats_core.specs.ListLaws.{counted_reads_one, counted_spells_one, counted_names_fault, counted_names_misfit};
     ghost use Rattle.asn1_formats.specs.CharacterLaws.{character_reads_one, character_spells_one, character_names_fault, character_names_misfit};
-    ghost use Rattle.asn1_formats.specs.WithinLaws.{itself};
+    ghost use Rattle.asn1_formats_core.specs.WithinLaws.{itself};
 
     type Value = Vec<u32>;
 

@@ -2,7 +2,6 @@
 //! is composed of others, and what [`read`] and [`write`] promise holds of every format.
 #![tactic(auto)]
 
-mod alternatives;
 mod and;
 mod basic_default;
 mod basic_empty;
@@ -12,42 +11,28 @@ mod boolean;
 mod canonical_default;
 mod canonical_empty;
 mod character;
-mod choice;
-mod compare;
 mod components;
 mod constrained_number;
-mod counts;
 mod dependent;
 mod describe;
 mod explain;
-mod format;
 mod held_bits;
-mod integer_octets;
-mod items;
 mod known_multiplier_string;
-mod last;
-mod length;
-mod mapped;
-mod named;
 mod named_components;
-mod never_wrong;
 mod null;
-mod number;
-mod octet_string;
-mod one_of;
 mod optional;
-mod reading;
-mod refusal;
 mod required;
 mod sequence;
-mod sequence_of;
-mod size;
-mod then;
 mod wide_constrained_number;
-mod writing;
 
-pub use alternatives::Alternatives;
 pub use and::And;
+pub use asn1_formats_core::{
+    Alternatives, Choice, Compare, Counts, Explain, Format, InChoice, InNamed, InOctetString,
+    InSequenceOf, InThen, Last, Mapped, Named, NeverWrong, Number, OctetString, OfParts, OneOf, Or,
+    PastWidth, Refusal, SequenceOf, Short, Size, SizeFault, SizeMisfit, Then, WriteRefusal,
+    are_shortest_octets, next_number, next_octets, push_number, push_octets, read, sum_of,
+    width_to_hold, write, write_part,
+};
 pub use basic_default::BasicDefault;
 pub use basic_empty::BasicEmpty;
 pub use bit::{next_bit, push_bit};
@@ -56,32 +41,12 @@ pub use boolean::{Boolean, NoBit};
 pub use canonical_default::{CanonicalDefault, InDefault};
 pub use canonical_empty::CanonicalEmpty;
 pub use character::{Character, CharacterFault, NotInAlphabet};
-pub use choice::{Choice, InChoice};
-pub use compare::Compare;
 pub use components::Components;
 pub use constrained_number::ConstrainedNumber;
-pub use counts::Counts;
 pub use dependent::{Chooses, Dependent};
-pub use explain::{Explain, write_part};
-pub use format::Format;
-pub use integer_octets::are_shortest_octets;
 pub use known_multiplier_string::KnownMultiplierString;
-pub use last::Last;
-pub use length::sum_of;
-pub use mapped::{Mapped, OfParts};
-pub use named::{InNamed, Named};
-pub use never_wrong::NeverWrong;
 pub use null::Null;
-pub use number::{Number, PastWidth, Short, next as next_number, push as push_number};
-pub use octet_string::{InOctetString, OctetString, next_octets, push_octets};
-pub use one_of::{OneOf, Or};
 pub use optional::Optional;
-pub use reading::read;
-pub use refusal::{Refusal, WriteRefusal};
 pub use required::Required;
 pub use sequence::{InSequence, Sequence};
-pub use sequence_of::{InSequenceOf, SequenceOf};
-pub use size::{Size, SizeFault, SizeMisfit, width_to_hold};
-pub use then::{InThen, Then};
 pub use wide_constrained_number::WideConstrainedNumber;
-pub use writing::write;

@@ -1,15 +1,14 @@
 //! Components with a name.
 
 use crate::components::Components;
-use crate::named::{InNamed, Named};
-use crate::refusal::Refusal;
-use asn1_values::{BitBuffer, BitReader};
+use asn1_bits::{BitBuffer, BitReader};
+use asn1_formats_core::{InNamed, Named, Refusal};
 use std::alloc::{AllocError, Global};
 
 impl<C: Components> Components for Named<C> {
     ghost use Rattle.std.specs.Prelude.{◌≡◌};
     ghost use Rattle.asn1_formats.specs.Sequences.{Behind};
-    ghost use Rattle.asn1_formats.specs.NamedLaws.{named_names_fault, named_names_misfit};
+    ghost use Rattle.asn1_formats_core.specs.NamedLaws.{named_names_fault, named_names_misfit};
 
     type Value = C::Value;
 

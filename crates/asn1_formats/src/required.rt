@@ -1,9 +1,8 @@
 //! A component that is always there.
 
 use crate::components::Components;
-use crate::format::Format;
-use crate::refusal::Refusal;
-use asn1_values::{BitBuffer, BitReader};
+use asn1_bits::{BitBuffer, BitReader};
+use asn1_formats_core::{Format, Refusal};
 use std::alloc::{AllocError, Global};
 
 /// A component that is always there.

@@ -1,10 +1,8 @@
 //! SEQUENCE.
 
 use crate::components::Components;
-use crate::format::Format;
-use crate::length::sum_of;
-use crate::refusal::Refusal;
-use asn1_values::{BitBuffer, BitReader};
+use asn1_bits::{BitBuffer, BitReader};
+use asn1_formats_core::{Format, Refusal, sum_of};
 use std::alloc::Global;
 
 /// SEQUENCE: the presence bits of its optional components together in front, 1 for one that is

@@ -2,15 +2,13 @@
 
 ghost use Rattle.std.specs.Prelude.{◌≡◌, ℕ, ℤ, pos, ◌+ℤ◌, ◌≤ℤ◌, ◌<ℤ◌, ◌^◌, ◌<◌, ◌≤◌, ⊤, IfOk, IfErr};
 ghost use Rattle.asn1_bits.specs.BitReader.{bits_left};
-ghost use Rattle.asn1_formats.specs.Spelling.{Starts};
-ghost use Rattle.asn1_formats.specs.Numbers.{width_to, IsSize, IsSizeFault};
+ghost use Rattle.asn1_formats_core.specs.Spelling.{Starts};
+ghost use Rattle.asn1_formats_core.specs.Numbers.{width_to, IsSize, IsSizeFault};
 
-use crate::compare::Compare;
-use crate::format::Format;
-use crate::number::{next_wide, push_wide};
-use crate::refusal::Refusal;
-use crate::size::{SizeFault, SizeMisfit};
-use asn1_values::{BitBuffer, BitReader};
+use asn1_bits::{BitBuffer, BitReader};
+use asn1_formats_core::{
+    Compare, Format, Refusal, SizeFault, SizeMisfit, next_wide_number, push_wide_number,
+};
 use std::alloc::{AllocError, Global};
 
 /// The whole numbers from a least to a greatest one, as
@@ -62,7 +60,7 @@ impl WideConstrainedNumber {
 impl Format for WideConstrainedNumber {
     ghost use Rattle.asn1_formats.specs.WholeNumbers.{IsConstrained, IsConstrainedFault, IsConstrainedMisfit};
     ghost use Rattle.asn1_formats.specs.WholeNumberLaws.{constrained_reads_one, constrained_spells_one, constrained_names_fault, constrained_names_misfit};
-    ghost use Rattle.asn1_formats.specs.WithinLaws.{itself};
+    ghost use Rattle.asn1_formats_core.specs.WithinLaws.{itself};
 
     type Value = i128;
 
@@ -88,7 +86,7 @@ impl Format for WideConstrainedNumber {
 
     fn append(&self, buffer: &mut BitBuffer, value: &i128) -> Result<(), Refusal<SizeMisfit>> {
         match self.distance_of(*value) {
-            Ok(distance) => match push_wide(buffer, distance, self.width) {
+            Ok(distance) => match push_wide_number(buffer, distance, self.width) {
                 Ok(()) => Ok(()),
                 Err(_) => Err(Refusal::Memory),
             },
@@ -172,7 +170,7 @@ impl WideConstrainedNumber {
             (bits_left reader.old) d (bits_left reader.new)) }
         ensures fault { IfErr result (IsSizeFault 0 self.now.reach (bits_left reader.old)) }
     {
-        match next_wide(reader, self.width) {
+        match next_wide_number(reader, self.width) {
             Ok(distance) => {
                 if distance > self.reach {
                     return Err(SizeFault::PastMost { distance });

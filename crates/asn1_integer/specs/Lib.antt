@@ -5,7 +5,9 @@ pub use Rattle.asn1_number.specs.Readings
 pub use Rattle.asn1_number.specs.Laws
 pub mod Wrapping
 pub mod Calls
+pub mod IntegerOctets
 -- Numbers by their low bits, and the laws of the private trait on them; no public contract cites
 -- these.
 pub mod NativeBits
 pub mod NativeLaws
+pub mod WordLaws

@@ -9,6 +9,7 @@ mod integer;
 mod integer_type;
 mod laws;
 mod native;
+mod octets_left;
 mod readings;
 mod signed;
 mod unsigned;
@@ -20,3 +21,4 @@ pub use asn1_number::{
 };
 pub use integer_type::IntegerType;
 pub use laws::laws_of_wrapping;
+pub use octets_left::integer_of;

@@ -14,19 +14,19 @@ use Rattle.asn1_number.specs.OctetLaws.{unsigned-cons, unsigned_nil, unsigned_be
 use Rattle.asn1_number.specs.declared.error.IntegerError.TheVariants.{Overflow}
 use Rattle.asn1_number.specs.Readings.{IsInRange, SignedOf, signed_reading}
 use Rattle.asn1_number.specs.ReadingLaws.{power_of_bits, half_of_bits, signed_law}
-use Rattle.asn1_formats.specs.Spelling.{Starts, CanRead, ReadsOne, SpellsOne, NamesFault, NamesMisfit}
-use Rattle.asn1_formats.specs.Numbers.{IsNumber}
-use Rattle.asn1_formats.specs.SpellingLaws.{number_reads_one as number_reads_one_of}
+use Rattle.asn1_formats_core.specs.Spelling.{Starts, CanRead, ReadsOne, SpellsOne, NamesFault, NamesMisfit}
+use Rattle.asn1_formats_core.specs.Numbers.{IsNumber}
+use Rattle.asn1_formats_core.specs.SpellingLaws.{number_reads_one as number_reads_one_of}
 use Rattle.asn1_formats.specs.WholeNumbers.{IsConstrained, IsConstrainedFault, IsConstrainedMisfit}
 use Rattle.asn1_formats.specs.WholeNumberLaws.{constrained_reads_one, constrained_spells_one, constrained_names_fault}
-use Rattle.asn1_formats.specs.declared.size.SizeMisfit.{SizeMisfit}
-use Rattle.asn1_formats.specs.declared.size.SizeMisfit.TheVariants.{BelowLeast, AboveMost}
+use Rattle.asn1_formats_core.specs.declared.size.SizeMisfit.{SizeMisfit}
+use Rattle.asn1_formats_core.specs.declared.size.SizeMisfit.TheVariants.{BelowLeast, AboveMost}
 use Rattle.asn1_per.specs.declared.extensible_number.BeyondNumberFault.{BeyondNumberFault}
 use Rattle.asn1_per.specs.declared.extensible_number.BeyondNumberFault.TheVariants.{Number, InRoot}
 use Rattle.asn1_per.specs.declared.length.LongLength.{LongLength}
 use Rattle.asn1_per.specs.Extensions.{IsMarked, MarkedFault}
 use Rattle.asn1_per.specs.ExtensionLaws.{marked_reads_one, marked_spells_one, marked_names_fault}
-use Rattle.asn1_formats.specs.IntegerOctets.{HoldsInteger}
+use Rattle.asn1_integer.specs.IntegerOctets.{HoldsInteger}
 use Rattle.asn1_per.specs.Integers.{IsUnconstrained, IsLongInteger}
 use Rattle.asn1_per.specs.IntegerLaws.{unconstrained_reads_one, unconstrained_spells_one, unconstrained_names_fault, unconstrained_names_misfit}
 use Rattle.asn1_per.specs.ExtensibleIntegers.{IsWithinRoot, IsOutsideRoot, IsBeyondNumber, IsBeyondNumberFault, IsBeyondNumberMisfit}

@@ -2,10 +2,10 @@
 use Rattle.std.specs.Prelude.{◌≡◌, ℤ, ◌*◌, ◌^◌, ◌≤◌, Bool, List, length, take}
 use Rattle.asn1_bits.specs.Bits.{bits}
 use Rattle.asn1_number.specs.Shortest.{shortest_octets}
-use Rattle.asn1_values.specs.Wrong.{IsNoInteger}
-use Rattle.asn1_formats.specs.Numbers.{IsShort}
-use Rattle.asn1_formats.specs.Combined.{After}
-use Rattle.asn1_formats.specs.Choices.{Numbered}
+use Rattle.asn1_integer.specs.IntegerOctets.{IsNoInteger}
+use Rattle.asn1_formats_core.specs.Numbers.{IsShort}
+use Rattle.asn1_formats_core.specs.Combined.{After}
+use Rattle.asn1_formats_core.specs.Choices.{Numbered}
 use Rattle.asn1_per.specs.declared.unconstrained_number.UnconstrainedFault.{UnconstrainedFault}
 use Rattle.asn1_per.specs.declared.unconstrained_number.UnconstrainedFault.TheVariants.{Length, Short, NotShortest}
 use Rattle.asn1_per.specs.Lengths.{IsLengthDeterminant, LengthFaultIs}

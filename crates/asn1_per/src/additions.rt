@@ -2,14 +2,14 @@
 
 ghost use Rattle.std.specs.Prelude.{◌≡◌, ◌↔◌, ℕ, Bool, List, ◌++◌, length, OnOk, OnErr, IfOk, IfErr, IsTrue, ⊤};
 ghost use Rattle.asn1_bits.specs.BitReader.{bits_left};
-ghost use Rattle.asn1_formats.specs.Spelling.{Starts, Measures, IsLength, IsWritten, Extends, ReadsOne, SpellsOne, NamesFault, NamesMisfit};
-ghost use Rattle.asn1_formats.specs.Refusals.{IsRefusal};
+ghost use Rattle.asn1_formats_core.specs.Spelling.{Starts, Measures, IsLength, IsWritten, Extends, ReadsOne, SpellsOne, NamesFault, NamesMisfit};
+ghost use Rattle.asn1_formats_core.specs.Refusals.{IsRefusal};
 ghost use Rattle.asn1_per.specs.Additions.{HasOne};
 
 use crate::extensible_size::{BeyondRootFault, InExtensible};
 use crate::length::LongLength;
+use asn1_bits::{BitBuffer, BitReader};
 use asn1_formats::{Refusal, SizeFault};
-use asn1_values::{BitBuffer, BitReader};
 use std::alloc::{AllocError, Global};
 
 /// The known additions of a SEQUENCE or SET with an extension marker, which follow it in this order

@@ -3,15 +3,15 @@
 ghost use Rattle.std.specs.Prelude.{◌≡◌, ⊤, List, Bool, OnOk, OnErr, IfOk, IfErr};
 ghost use Rattle.asn1_bits.specs.BitStr.{bits_of};
 ghost use Rattle.asn1_bits.specs.BitReader.{bits_left};
-ghost use Rattle.asn1_formats.specs.Spelling.{Starts, Measures, IsWritten, Extends};
-ghost use Rattle.asn1_formats.specs.Refusals.{IsRefusal};
+ghost use Rattle.asn1_formats_core.specs.Spelling.{Starts, Measures, IsWritten, Extends};
+ghost use Rattle.asn1_formats_core.specs.Refusals.{IsRefusal};
 ghost use Rattle.asn1_per.specs.Fragments.{AreFragmented, FragmentsFault, IsBit, IsNoBit};
 
 use crate::bit_pieces::{append_bit_piece, measure_bit_piece, skip_bit_piece, take_bit_piece};
 use crate::fragments::InFragments;
 use crate::piece::{FRAGMENT, WHOLE, piece_len};
+use asn1_bits::{BitBuffer, BitReader, BitStr, BitString};
 use asn1_formats::{NoBit, Refusal, sum_of};
-use asn1_values::{BitBuffer, BitReader, BitStr, BitString};
 use std::alloc::{AllocError, Global};
 
 /// Appends the bits in fragments.

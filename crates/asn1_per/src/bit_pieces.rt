@@ -3,15 +3,15 @@
 ghost use Rattle.std.specs.Prelude.{◌≡◌, ℕ, ◌+◌, ◌^◌, ◌<◌, ◌≤◌, ⊤, List, ◌++◌, Bool, IsTrue, length, take, drop, OnOk, OnErr, IfOk, IfErr};
 ghost use Rattle.asn1_bits.specs.BitStr.{view_of, bits_of};
 ghost use Rattle.asn1_bits.specs.BitReader.{bits_left};
-ghost use Rattle.asn1_formats.specs.Spelling.{Starts, Measures, IsWritten, Extends};
-ghost use Rattle.asn1_formats.specs.Refusals.{IsRefusal};
-ghost use Rattle.asn1_formats.specs.Combined.{AreCounted};
+ghost use Rattle.asn1_formats_core.specs.Spelling.{Starts, Measures, IsWritten, Extends};
+ghost use Rattle.asn1_formats_core.specs.Refusals.{IsRefusal};
+ghost use Rattle.asn1_formats_core.specs.Combined.{AreCounted};
 ghost use Rattle.asn1_per.specs.Fragments.{IsPieceLen, IsPieceCount, PieceWrong, IsBit, IsNoBit};
 
 use crate::fragments::InFragments;
 use crate::piece::{next_piece_len, piece_width, push_piece_len};
+use asn1_bits::{BitBuffer, BitReader, BitStr, BitString, extend_bitstring};
 use asn1_formats::{NoBit, Refusal, sum_of};
-use asn1_values::{BitBuffer, BitReader, BitStr, BitString, extend_bitstring};
 use std::alloc::AllocError;
 
 /// Appends a piece of the bits: the number of its bits, and the bits.

@@ -3,8 +3,8 @@
 ghost use Rattle.std.specs.Prelude.{◌≡◌, ◌≤◌};
 ghost use Rattle.asn1_per.specs.Encodings as encodings;
 
+use asn1_bits::{BitBuffer, BitReader};
 use asn1_formats::{Format, Refusal, next_number, push_number};
-use asn1_values::{BitBuffer, BitReader};
 use std::alloc::Global;
 
 /// A complete encoding of a value: its bits, and zeros to the end of their last octet; one zero

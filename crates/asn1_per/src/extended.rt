@@ -1,8 +1,8 @@
 //! A root and its extension.
 
 use crate::extensible_size::InExtensible;
+use asn1_bits::{BitBuffer, BitReader};
 use asn1_formats::{Format, OneOf, Refusal, next_bit, push_bit, sum_of};
-use asn1_values::{BitBuffer, BitReader};
 use std::alloc::Global;
 
 /// Values of a root and of its extension, told apart by a bit: 0 and the root's form, or 1 and the
@@ -16,8 +16,8 @@ pub struct Extended<A, B> {
 }
 
 impl<A: Format, B: Format> Format for Extended<A, B> {
-    ghost use Rattle.asn1_formats.specs.declared.one_of.OneOf as plain_one;
-    ghost use Rattle.asn1_formats.specs.Choices.{plain_one_of};
+    ghost use Rattle.asn1_formats_core.specs.declared.one_of.OneOf as plain_one;
+    ghost use Rattle.asn1_formats_core.specs.Choices.{plain_one_of};
     ghost use Rattle.asn1_per.specs.Extensions.{IsMarked, MarkedFault, IsFirst, IsOther, EitherMisfit};
     ghost use Rattle.asn1_per.specs.ExtendedLaws.{extended_within, extended_reads_one, extended_spells_one, extended_names_fault, extended_names_misfit};
 

@@ -2,8 +2,8 @@
 
 use crate::additions::{Additions, AdditionsMisfit, InAdditions};
 use crate::extension::{append_additions, measure_additions, skip_additions, take_additions};
+use asn1_bits::{BitBuffer, BitReader};
 use asn1_formats::{Format, InThen, Refusal, next_bit, push_bit, sum_of};
-use asn1_values::{BitBuffer, BitReader};
 use std::alloc::Global;
 
 /// A SEQUENCE or SET with an extension marker: a bit, the root, and where the bit is 1 the
@@ -189,8 +189,8 @@ impl<A: Format, D: Additions> Format for Extensible<A, D> {
 impl<A: Format, D: Additions> Extensible<A, D> {
     ghost use Rattle.std.specs.Prelude.{OnOk, IfOk, IfErr};
     ghost use Rattle.asn1_bits.specs.BitReader.{bits_left};
-    ghost use Rattle.asn1_formats.specs.Spelling.{Starts};
-    ghost use Rattle.asn1_formats.specs.Refusals.{IsRefusal};
+    ghost use Rattle.asn1_formats_core.specs.Spelling.{Starts};
+    ghost use Rattle.asn1_formats_core.specs.Refusals.{IsRefusal};
     ghost use Rattle.asn1_per.specs.Additions.{IsExtended, ReadsAdditions, AdditionsFault, ExtendedFault};
 
     /// Reads a root and additions.

@@ -5,8 +5,9 @@ use crate::length::LongLength;
 use crate::unconstrained_number::{
     UnconstrainedFault, UnconstrainedNumber, next_contents, short_value,
 };
+use asn1_bits::{BitBuffer, BitReader};
 use asn1_formats::{ConstrainedNumber, Format, Refusal, SizeFault, next_bit, push_bit, sum_of};
-use asn1_values::{BitBuffer, BitReader, Integer};
+use asn1_integer::Integer;
 use std::alloc::Global;
 
 /// INTEGER with an extension marker, as `INTEGER (0..9999, ...)`: a bit 0 and the form of the root
@@ -29,7 +30,7 @@ pub enum BeyondNumberFault {
 
 ghost use Rattle.std.specs.Prelude.{◌≡◌, IfSome, IfNone, IfErr, OnOk, ℤ};
 ghost use Rattle.asn1_bits.specs.BitReader.{bits_left};
-ghost use Rattle.asn1_formats.specs.Spelling.{Starts};
+ghost use Rattle.asn1_formats_core.specs.Spelling.{Starts};
 ghost use Rattle.asn1_per.specs.ExtensibleIntegers.{IsWithinRoot, IsOutsideRoot, IsBeyondNumber, IsBeyondNumberFault};
 
 /// The number, if it is one of the root.
@@ -55,7 +56,7 @@ fn in_root(root: &ConstrainedNumber, value: &Integer) -> Option<i64>
 impl Format for ExtensibleNumber {
     ghost use Rattle.std.specs.Prelude.{⊤};
     ghost use Rattle.asn1_formats.specs.WholeNumbers.{IsConstrained, IsConstrainedFault};
-    ghost use Rattle.asn1_formats.specs.WithinLaws.{itself};
+    ghost use Rattle.asn1_formats_core.specs.WithinLaws.{itself};
     ghost use Rattle.asn1_per.specs.Extensions.{IsMarked, MarkedFault};
     ghost use Rattle.asn1_per.specs.ExtensibleIntegers.{IsBeyondNumberMisfit};
     ghost use Rattle.asn1_per.specs.ExtensibleIntegerLaws.{number_reads_one, number_spells_one, number_names_fault, number_names_misfit};
@@ -175,7 +176,7 @@ impl Format for ExtensibleNumber {
 
 impl ExtensibleNumber {
     ghost use Rattle.std.specs.Prelude.{IfOk};
-    ghost use Rattle.asn1_formats.specs.Refusals.{IsRefusal};
+    ghost use Rattle.asn1_formats_core.specs.Refusals.{IsRefusal};
 
     /// Reads a number outside the root.
     fn take_beyond(

@@ -2,15 +2,15 @@
 
 ghost use Rattle.std.specs.Prelude.{◌≡◌, ⊤, OnOk, OnErr, IfOk, IfErr};
 ghost use Rattle.asn1_bits.specs.BitReader.{bits_left};
-ghost use Rattle.asn1_formats.specs.Spelling.{Starts, Measures, IsWritten, Extends};
-ghost use Rattle.asn1_formats.specs.Refusals.{IsRefusal};
+ghost use Rattle.asn1_formats_core.specs.Spelling.{Starts, Measures, IsWritten, Extends};
+ghost use Rattle.asn1_formats_core.specs.Refusals.{IsRefusal};
 ghost use Rattle.asn1_per.specs.Additions.{ReadsAdditions, SpellsAdditions, AdditionsFault, IsAdditionsMisfit};
 
 use crate::additions::{Additions, AdditionsMisfit, InAdditions};
 use crate::length::LongLength;
 use crate::presence::{measure_small_length, next_presence, push_small_length};
+use asn1_bits::{BitBuffer, BitReader};
 use asn1_formats::{Refusal, sum_of};
-use asn1_values::{BitBuffer, BitReader};
 use std::alloc::Global;
 
 /// Appends the additions, of which one is there.

@@ -2,15 +2,15 @@
 
 ghost use Rattle.std.specs.Prelude.{⊤, List, map, OnOk, OnErr, IfOk, IfErr};
 ghost use Rattle.asn1_bits.specs.BitReader.{bits_left};
-ghost use Rattle.asn1_formats.specs.Spelling.{Starts, Measures, IsWritten, Extends};
-ghost use Rattle.asn1_formats.specs.Refusals.{IsRefusal};
-ghost use Rattle.asn1_formats.specs.Combined.{ItemMisfit};
+ghost use Rattle.asn1_formats_core.specs.Spelling.{Starts, Measures, IsWritten, Extends};
+ghost use Rattle.asn1_formats_core.specs.Refusals.{IsRefusal};
+ghost use Rattle.asn1_formats_core.specs.Combined.{ItemMisfit};
 ghost use Rattle.asn1_per.specs.Fragments.{AreFragmented, FragmentsFault};
 
 use crate::piece::{FRAGMENT, PieceFault, WHOLE, piece_len};
 use crate::pieces::{append_piece, measure_piece, skip_piece, take_piece};
+use asn1_bits::{BitBuffer, BitReader};
 use asn1_formats::{Format, Refusal, sum_of};
-use asn1_values::{BitBuffer, BitReader};
 use std::alloc::Global;
 
 /// What is wrong with the bits of a value that stands in fragments, with how many of its items

@@ -7,8 +7,8 @@ ghost use Rattle.asn1_per.specs.Encodings.{IsComplete};
 ghost use Rattle.asn1_per.specs.Messages.{IsBitsRefusal, IsDecodeRefusal};
 
 use crate::complete::{Complete, InComplete};
+use asn1_bits::{BitBuffer, BitReader};
 use asn1_formats::{Format, Refusal, WriteRefusal, read, write};
-use asn1_values::{BitBuffer, BitReader};
 use std::alloc::Global;
 
 /// Why octets are no message.

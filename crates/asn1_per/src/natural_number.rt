@@ -2,13 +2,13 @@
 
 ghost use Rattle.std.specs.Prelude.{◌≡◌, ◌^◌, ◌<◌, ◌≤◌, IfOk, IfErr};
 ghost use Rattle.asn1_bits.specs.BitReader.{bits_left};
-ghost use Rattle.asn1_formats.specs.Spelling.{Starts};
+ghost use Rattle.asn1_formats_core.specs.Spelling.{Starts};
 ghost use Rattle.asn1_per.specs.Naturals.{IsNatural, NaturalFaultIs};
 
 use crate::complete::octets_of;
 use crate::length::{LengthFault, length_width, next_length, push_length};
+use asn1_bits::{BitBuffer, BitReader};
 use asn1_formats::{Format, NeverWrong, Refusal, next_number, push_number, width_to_hold};
-use asn1_values::{BitBuffer, BitReader};
 use std::alloc::Global;
 
 /// INTEGER (0..MAX), of which it holds the numbers of 64 bits: the number of the fewest octets that
@@ -58,7 +58,7 @@ fn next_natural(reader: &mut BitReader<'_>) -> Result<u64, NaturalFault>
 
 impl Format for NaturalNumber {
     ghost use Rattle.std.specs.Prelude.{ℕ, ⊤};
-    ghost use Rattle.asn1_formats.specs.WithinLaws.{itself};
+    ghost use Rattle.asn1_formats_core.specs.WithinLaws.{itself};
     ghost use Rattle.asn1_per.specs.NaturalLaws.{natural_reads_one, natural_spells_one, natural_names_fault, natural_names_misfit};
 
     type Value = u64;

@@ -3,8 +3,8 @@
 use crate::addition::skip_part;
 use crate::additions::Additions;
 use crate::length::{Length, LengthFault};
+use asn1_bits::{BitBuffer, BitReader};
 use asn1_formats::{InOctetString, NeverWrong, OctetString, Refusal};
-use asn1_values::{BitBuffer, BitReader};
 use std::alloc::{AllocError, Global};
 
 /// No known additions, or none behind those before it. Those of a newer version of the type are
@@ -104,7 +104,7 @@ impl Additions for NoAdditions {
 
 ghost use Rattle.std.specs.Prelude.{OnOk, IfErr};
 ghost use Rattle.asn1_bits.specs.BitReader.{bits_left};
-ghost use Rattle.asn1_formats.specs.Spelling.{Starts};
+ghost use Rattle.asn1_formats_core.specs.Spelling.{Starts};
 ghost use Rattle.asn1_per.specs.Additions.{AreUnread, AreUnreadFault};
 
 /// Goes past the open types that the presence bits tell of, whatever they hold.

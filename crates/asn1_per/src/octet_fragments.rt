@@ -2,9 +2,9 @@
 
 ghost use Rattle.std.specs.Prelude.{◌≡◌, ℕ, ⊤, List, OnOk, OnErr, IfOk, IfErr};
 ghost use Rattle.asn1_bits.specs.BitReader.{bits_left};
-ghost use Rattle.asn1_formats.specs.Spelling.{Starts, Measures, IsWritten, Extends};
-ghost use Rattle.asn1_formats.specs.Refusals.{IsRefusal};
-ghost use Rattle.asn1_formats.specs.Numbers.{IsNumber};
+ghost use Rattle.asn1_formats_core.specs.Spelling.{Starts, Measures, IsWritten, Extends};
+ghost use Rattle.asn1_formats_core.specs.Refusals.{IsRefusal};
+ghost use Rattle.asn1_formats_core.specs.Numbers.{IsNumber};
 ghost use Rattle.asn1_per.specs.Fragments.{AreFragmented, FragmentsFault, IsOctetShort};
 
 use crate::fragments::InFragments;
@@ -12,8 +12,8 @@ use crate::octet_pieces::{
     append_octet_piece, measure_octet_piece, skip_octet_piece, take_octet_piece,
 };
 use crate::piece::{FRAGMENT, WHOLE, piece_len};
+use asn1_bits::{BitBuffer, BitReader};
 use asn1_formats::{Refusal, Short, sum_of};
-use asn1_values::{BitBuffer, BitReader};
 use std::alloc::{AllocError, Global};
 
 /// Appends the octets in fragments.

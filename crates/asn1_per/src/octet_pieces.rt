@@ -3,16 +3,16 @@
 ghost use Rattle.std.specs.Prelude.{◌≡◌, ℕ, ◌+◌, ◌*◌, ◌^◌, ◌<◌, ◌≤◌, ◌%◌, ⊤, List, ◌++◌, Bool, All, IsTrue, length, OnOk, OnErr, IfOk, IfErr};
 ghost use Rattle.asn1_bits.specs.Bits.{bits};
 ghost use Rattle.asn1_bits.specs.BitReader.{view_left, bits_left};
-ghost use Rattle.asn1_formats.specs.Spelling.{Starts, Measures, IsLength, IsWritten, Extends};
-ghost use Rattle.asn1_formats.specs.Refusals.{IsRefusal};
-ghost use Rattle.asn1_formats.specs.Numbers.{IsNumber};
-ghost use Rattle.asn1_formats.specs.Combined.{AreCounted};
+ghost use Rattle.asn1_formats_core.specs.Spelling.{Starts, Measures, IsLength, IsWritten, Extends};
+ghost use Rattle.asn1_formats_core.specs.Refusals.{IsRefusal};
+ghost use Rattle.asn1_formats_core.specs.Numbers.{IsNumber};
+ghost use Rattle.asn1_formats_core.specs.Combined.{AreCounted};
 ghost use Rattle.asn1_per.specs.Fragments.{IsPieceLen, IsPieceCount, PieceWrong, IsOctetShort};
 
 use crate::fragments::InFragments;
 use crate::piece::{next_piece_len, piece_width, push_piece_len};
+use asn1_bits::{BitBuffer, BitReader, extend_vec_from_bitslice};
 use asn1_formats::{Refusal, Short, next_octets, push_octets, sum_of};
-use asn1_values::{BitBuffer, BitReader, extend_vec_from_bitslice};
 use std::alloc::AllocError;
 
 /// Octets are below 256. It does nothing.

@@ -7,8 +7,8 @@ ghost use Rattle.asn1_per.specs.Encodings as encodings;
 
 use crate::complete::{octets_of, padding_of};
 use crate::length::{LengthFault, length_width, next_length, push_length};
+use asn1_bits::{BitBuffer, BitReader};
 use asn1_formats::{Format, Refusal, next_number, next_octets, push_number};
-use asn1_values::{BitBuffer, BitReader};
 use std::alloc::Global;
 
 /// An open type, and what stands like one, as an addition behind an extension marker: the number of
@@ -193,7 +193,7 @@ impl<F: Format> Format for OpenType<F> {
 
 impl<F: Format> OpenType<F> {
     ghost use Rattle.std.specs.Prelude.{Some, IfOk};
-    ghost use Rattle.asn1_formats.specs.Spelling.{Measures};
+    ghost use Rattle.asn1_formats_core.specs.Spelling.{Measures};
     ghost use Rattle.asn1_per.specs.Encodings.{OpenTypeMisfit, octet_count};
 
     /// How many bits the value has, in few enough octets.

@@ -2,14 +2,14 @@
 
 ghost use Rattle.std.specs.Prelude.{◌≡◌, ℕ, ◌+◌, ◌^◌, ◌≤◌, ◌<◌, ◌⊎◌, Bool, IsTrue, OnOk, OnErr, IfOk, IfErr, Some};
 ghost use Rattle.asn1_bits.specs.BitReader.{bits_left};
-ghost use Rattle.asn1_formats.specs.Spelling.{Starts, Measures, IsWritten};
+ghost use Rattle.asn1_formats_core.specs.Spelling.{Starts, Measures, IsWritten};
 ghost use Rattle.asn1_per.specs.declared.length.LengthFault.TheVariants as lengths;
 ghost use Rattle.asn1_per.specs.Lengths.{LengthFaultIs};
 ghost use Rattle.asn1_per.specs.Fragments.{IsPieceLen, IsPieceCount, PieceFaultIs};
 
 use crate::length::{LengthFault, length_width, next_length, push_length};
+use asn1_bits::{BitBuffer, BitReader};
 use asn1_formats::{next_number, push_number};
-use asn1_values::{BitBuffer, BitReader};
 use std::alloc::AllocError;
 
 /// What is wrong with the bits of the number of items of a piece.

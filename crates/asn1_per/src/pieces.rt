@@ -3,15 +3,15 @@
 ghost use Rattle.std.specs.Prelude.{◌≡◌, ℕ, ◌+◌, ◌^◌, ◌<◌, ◌≤◌, ⊤, List, ◌++◌, Bool, IsTrue, length, map, OnOk, OnErr, IfOk, IfErr};
 ghost use Rattle.asn1_bits.specs.BitReader.{bits_left};
 ghost use Rattle.asn1_bits.specs.Joined.{AreJoined};
-ghost use Rattle.asn1_formats.specs.Spelling.{Starts, Measures, IsWritten, Extends};
-ghost use Rattle.asn1_formats.specs.Refusals.{IsRefusal};
-ghost use Rattle.asn1_formats.specs.Combined.{After, AreCounted, SoMany, ItemMisfit};
+ghost use Rattle.asn1_formats_core.specs.Spelling.{Starts, Measures, IsWritten, Extends};
+ghost use Rattle.asn1_formats_core.specs.Refusals.{IsRefusal};
+ghost use Rattle.asn1_formats_core.specs.Combined.{After, AreCounted, SoMany, ItemMisfit};
 ghost use Rattle.asn1_per.specs.Fragments.{IsPieceLen, IsPieceCount, PieceWrong};
 
 use crate::fragments::{InFragments, WrongItem};
 use crate::piece::{next_piece_len, piece_width, push_piece_len};
+use asn1_bits::{BitBuffer, BitReader};
 use asn1_formats::{Format, Refusal, sum_of};
-use asn1_values::{BitBuffer, BitReader};
 use std::alloc::Global;
 
 /// Appends the values' spellings, one after another.

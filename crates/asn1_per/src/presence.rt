@@ -2,16 +2,16 @@
 
 ghost use Rattle.std.specs.Prelude.{◌≡◌, ◌^◌, ◌≤◌, ⊤, OnOk, OnErr, IfOk, IfErr, IsTrue, IsFalse};
 ghost use Rattle.asn1_bits.specs.BitReader.{bits_left};
-ghost use Rattle.asn1_formats.specs.Spelling.{Starts, Measures, IsWritten, Extends};
-ghost use Rattle.asn1_formats.specs.Refusals.{IsRefusal};
+ghost use Rattle.asn1_formats_core.specs.Spelling.{Starts, Measures, IsWritten, Extends};
+ghost use Rattle.asn1_formats_core.specs.Refusals.{IsRefusal};
 ghost use Rattle.asn1_per.specs.Extensions.{IsBeyondMisfit};
 ghost use Rattle.asn1_per.specs.Additions.{HasOne, IsSmallLength, IsSmallLengthFault, AdditionsFault, IsPresence};
 
 use crate::additions::{Additions, InAdditions};
 use crate::extensible_size::{BeyondRootFault, ExtensibleSize, InExtensible};
 use crate::length::LongLength;
+use asn1_bits::{BitBuffer, BitReader};
 use asn1_formats::{Counts, Refusal, Size, SizeFault, next_bit};
-use asn1_values::{BitBuffer, BitReader};
 
 /// Appends a length from 1 on as one that is mostly small (X.691 11.9.3.4).
 pub(crate) fn push_small_length(

@@ -2,15 +2,16 @@
 
 ghost use Rattle.std.specs.Prelude.{◌≡◌, ℕ, pos, ◌-ℤ◌, ◌-◌, ◌^◌, ◌<◌, ◌≤◌, ◌%◌, IsTrue, IsFalse, IfOk, IfErr, IfSome, IfNone};
 ghost use Rattle.asn1_bits.specs.BitReader.{view_left, bits_left};
-ghost use Rattle.asn1_values.specs.Wrong.{IsNoInteger};
-ghost use Rattle.asn1_formats.specs.Spelling.{Starts};
+ghost use Rattle.asn1_integer.specs.IntegerOctets.{IsNoInteger};
+ghost use Rattle.asn1_formats_core.specs.Spelling.{Starts};
 ghost use Rattle.asn1_number.specs.Readings.{IsInRange, SignedOf};
-ghost use Rattle.asn1_formats.specs.IntegerOctets.{HoldsInteger};
+ghost use Rattle.asn1_integer.specs.IntegerOctets.{HoldsInteger};
 ghost use Rattle.asn1_per.specs.Integers.{IsUnconstrained, UnconstrainedFaultIs};
 
 use crate::length::{LengthFault, LongLength, length_width, next_length, push_length};
+use asn1_bits::{BitBuffer, BitReader};
 use asn1_formats::{Format, Refusal, are_shortest_octets, next_number, next_octets, push_octets};
-use asn1_values::{BitBuffer, BitReader, Integer, integer_of};
+use asn1_integer::{Integer, integer_of};
 use std::alloc::Global;
 
 /// INTEGER without bounds: the number of its shortest two's complement octets, and these (X.691
@@ -92,7 +93,7 @@ pub(crate) fn short_value(front: &BitReader<'_>) -> Option<i128>
 
 impl Format for UnconstrainedNumber {
     ghost use Rattle.std.specs.Prelude.{ℤ, ⊤};
-    ghost use Rattle.asn1_formats.specs.WithinLaws.{itself};
+    ghost use Rattle.asn1_formats_core.specs.WithinLaws.{itself};
     ghost use Rattle.asn1_per.specs.Integers.{IsLongInteger};
     ghost use Rattle.asn1_per.specs.IntegerLaws.{unconstrained_reads_one, unconstrained_spells_one, unconstrained_names_fault, unconstrained_names_misfit};
 

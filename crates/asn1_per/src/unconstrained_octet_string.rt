@@ -2,8 +2,8 @@
 
 use crate::fragments::InFragments;
 use crate::octet_fragments::{append_octets, measure_octets, skip_octets, take_octets};
+use asn1_bits::{BitBuffer, BitReader};
 use asn1_formats::{Format, NeverWrong, Refusal, Short};
-use asn1_values::{BitBuffer, BitReader};
 use std::alloc::Global;
 
 /// OCTET STRING without an upper bound that is below 65,536: any number of octets, in fragments
@@ -13,10 +13,10 @@ pub struct UnconstrainedOctetString {}
 
 impl Format for UnconstrainedOctetString {
     ghost use Rattle.std.specs.Prelude.{ℕ, List, ⊤};
-    ghost use Rattle.asn1_formats.specs.Numbers.{IsNumber};
-    ghost use Rattle.asn1_formats.specs.SpellingLaws.{number_reads_one, number_spells_one};
-    ghost use Rattle.asn1_formats.specs.NumberLaws.{number_names_fault};
-    ghost use Rattle.asn1_formats.specs.WithinLaws.{itself};
+    ghost use Rattle.asn1_formats_core.specs.Numbers.{IsNumber};
+    ghost use Rattle.asn1_formats_core.specs.SpellingLaws.{number_reads_one, number_spells_one};
+    ghost use Rattle.asn1_formats_core.specs.NumberLaws.{number_names_fault};
+    ghost use Rattle.asn1_formats_core.specs.WithinLaws.{itself};
     ghost use Rattle.asn1_per.specs.Fragments.{AreFragmented, FragmentsFault, IsOctetShort};
     ghost use Rattle.asn1_per.specs.FragmentLaws.{fragmented_reads_one, fragmented_spells_one};
     ghost use Rattle.asn1_per.specs.FragmentFaultLaws.{fragmented_names_fault, never_misfit};

@@ -3,8 +3,8 @@
 use crate::fragments::{
     InFragments, WrongItem, append_fragments, measure_fragments, skip_fragments, take_fragments,
 };
+use asn1_bits::{BitBuffer, BitReader};
 use asn1_formats::{Format, Refusal};
-use asn1_values::{BitBuffer, BitReader};
 use std::alloc::Global;
 
 /// SEQUENCE OF without an upper bound that is below 65,536: any number of items, in fragments where
@@ -17,7 +17,7 @@ pub struct UnconstrainedSequenceOf<A> {
 
 impl<A: Format> Format for UnconstrainedSequenceOf<A> {
     ghost use Rattle.std.specs.Prelude.{List, map};
-    ghost use Rattle.asn1_formats.specs.Combined.{ItemMisfit};
+    ghost use Rattle.asn1_formats_core.specs.Combined.{ItemMisfit};
     ghost use Rattle.asn1_per.specs.Fragments.{AreFragmented, FragmentsFault};
     ghost use Rattle.asn1_per.specs.FragmentLaws.{fragmented_reads_one, fragmented_spells_one, fragmented_within};
     ghost use Rattle.asn1_per.specs.FragmentFaultLaws.{fragmented_names_fault, fragmented_names_misfit};

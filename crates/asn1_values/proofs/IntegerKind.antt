@@ -10,9 +10,11 @@ use Rattle.asn1_number.specs.Octets.{IsOctets, IsShortest, signed}
 use Rattle.asn1_number.specs.Order.{NineBitsDiffer}
 use Rattle.asn1_number.specs.LawsHold.{shortest_by_nine_bits}
 use Rattle.asn1_values.specs.Fields.{Field, IsSpelledBy, IsOfShape, Integer, OfInteger}
-use Rattle.asn1_values.specs.Wrong.{Fault, NotInteger, IsReason, IsNoInteger}
+use Rattle.asn1_integer.specs.IntegerOctets.{IsNoInteger}
+use Rattle.asn1_values.specs.Wrong.{Fault, NotInteger, IsReason}
 use Rattle.asn1_values.specs.Walk.{octets_of, nine_alike, integer_content, cut_at, integer_at, field_at}
-use Rattle.asn1_values.proofs.OctetLemmas.{length-octets_of, octets-octets_of, bits-octets_of, octets_of-bits, IsOctets_from_All, All_from_IsOctets}
+use Rattle.asn1_integer.specs.WordLaws.{IsOctets_from_All, All_from_IsOctets}
+use Rattle.asn1_values.proofs.OctetLemmas.{length-octets_of, octets-octets_of, bits-octets_of, octets_of-bits}
 use Rattle.asn1_values.proofs.ExactKinds.{IsExact, HoldsExactly, Takes, cut_exact, chosen, err_is, err_is_no_ok, held_is, no_fault, fault_is, no_field}
 use Rattle.asn1_values.specs.SpellingLaws.{same_shortest}
 use Rattle.asn1_values.proofs.OneSpelling.{length-spelled}

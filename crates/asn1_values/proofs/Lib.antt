@@ -18,4 +18,3 @@ pub mod RefusalLemmas
 pub mod SixteenLemmas
 pub mod SpellingLemmas
 pub mod WalkLemmas
-pub mod WordLemmas

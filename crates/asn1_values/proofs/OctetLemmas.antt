@@ -54,13 +54,3 @@ get_or-octets_of (suc n) (suc i) list lt =
     let e : 8 + 8 * i ≡ 8 * suc i = omega arith in
     get_or-octets_of n i (drop 8 list) (omega arith)
     ∙ ap (λ (l : List Bool). number (take 8 l)) (drop-drop (8 * i) 8 list ∙ ap (λ (k : ℕ). drop k list) e)
-
--- the two ways to say that each is an octet
-pub IsOctets_from_All : (octets : List ℕ) → All (λ octet. octet < 256) octets → IsOctets octets
-IsOctets_from_All [] h = tt
-IsOctets_from_All (x ∷ xs) h =
-    (All-head (λ octet. octet < 256) x xs h, IsOctets_from_All xs (All-tail (λ octet. octet < 256) x xs h))
-
-pub All_from_IsOctets : (octets : List ℕ) → IsOctets octets → All (λ octet. octet < 256) octets
-All_from_IsOctets [] h = All-nil (λ octet. octet < 256)
-All_from_IsOctets (x ∷ xs) h = All-cons (λ octet. octet < 256) x xs h.0 (All_from_IsOctets xs h.1)

@@ -6,7 +6,8 @@ use Rattle.asn1_values.specs.declared.bit_fields.error.ReadError.TheVariants as 
 use Rattle.asn1_values.specs.declared.bit_fields.error.WriteError.{WriteError}
 use Rattle.asn1_values.specs.declared.bit_fields.error.WriteError.TheVariants as writing
 use Rattle.asn1_values.specs.Fields.{Field, Shape, AreSpelledBy, Number, Character, CountedInteger, Identifier, OfNumber, OfOctets, OfBits, OfInteger, OfCharacter, OfCountedInteger, OfIdentifier}
-use Rattle.asn1_values.specs.Wrong.{Fault, NumberWidth, NotInteger, Short, NoCharacter, NoLength, NotIdentifier, ArcOver, IsShortBy, IsNoInteger, IsNoIdentifier, HoldsLargeArc, IsCount, first_octet, IsReason, CanBegin, IsFirstFault, Misfit, WidthOver, PastWidth, NotInAlphabet, PastLength, TooFewArcs, IsMisfit, IsFirstMisfit}
+use Rattle.asn1_integer.specs.IntegerOctets.{IsNoInteger}
+use Rattle.asn1_values.specs.Wrong.{Fault, NumberWidth, NotInteger, Short, NoCharacter, NoLength, NotIdentifier, ArcOver, IsShortBy, IsNoIdentifier, HoldsLargeArc, IsCount, first_octet, IsReason, CanBegin, IsFirstFault, Misfit, WidthOver, PastWidth, NotInAlphabet, PastLength, TooFewArcs, IsMisfit, IsFirstMisfit}
 use Rattle.asn1_values.specs.Refusals.{IsReadRefusal, IsWriteRefusal, IsPast, IsWriteAtRefusal}
 use Rattle.asn1_values.specs.Steps.{error_at, NamesFirstMisfit}
 use Rattle.asn1_values.proofs.JoinedLemmas.{some_at}

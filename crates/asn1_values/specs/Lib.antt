@@ -25,6 +25,7 @@ pub use Rattle.asn1_number.specs.Readings
 pub use Rattle.asn1_number.specs.Shortest
 pub use Rattle.asn1_number.specs.Conversions
 pub use Rattle.asn1_integer.specs.Calls
+pub use Rattle.asn1_integer.specs.IntegerOctets
 pub use Rattle.asn1_integer.specs.Wrapping
 pub use Rattle.asn1_oid.specs.Arcs
 pub use Rattle.asn1_oid.specs.Contents

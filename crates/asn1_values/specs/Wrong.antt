@@ -2,6 +2,7 @@
 use Rattle.std.specs.Prelude.{◌≡◌, ℕ, ℤ, ◌+◌, ◌*◌, ◌^◌, ◌<◌, ◌≤◌, ◌⊎◌, Bool, List, Some, length, take, drop, slice_get}
 use Rattle.asn1_bits.specs.Bits.{number, bits}
 use Rattle.asn1_number.specs.Octets.{IsShortest}
+use Rattle.asn1_integer.specs.IntegerOctets.{IsNoInteger}
 use Rattle.asn1_oid.specs.Contents.{IsContents, FitU32}
 use Rattle.asn1_strings.specs.Alphabet.{IsCode}
 use Rattle.asn1_values.specs.Fields.{Field, Shape, IsSpelledBy, Begins, Number, Character, CountedInteger, Identifier, OfNumber, OfOctets, OfBits, OfInteger, OfCharacter, OfCountedInteger, OfIdentifier}
@@ -21,10 +22,6 @@ pub data Fault : Type 0 where
 -- so many bits are asked for, and n are missing
 abbrev pub IsShortBy : ℕ → List Bool → ℕ → Type 0
 IsShortBy asked left n = (0 < n) × (length left + n ≡ asked)
-
--- no octets with these bits are shortest for a number
-abbrev pub IsNoInteger : List Bool → Type 0
-IsNoInteger list = (octets : List ℕ) (n : ℤ) → list ≡ bits octets → ¬ (IsShortest n octets)
 
 -- the bits are octets that are the contents of no arcs, whatever their size
 abbrev pub IsNoIdentifier : List Bool → Type 0

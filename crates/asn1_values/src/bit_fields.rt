@@ -21,7 +21,6 @@ mod write_at;
 
 pub use error::{ReadError, WriteError};
 pub use field::Field;
-pub use integer::integer_of;
 pub use read::read_fields;
 pub use shape::{Shape, shape_of};
 pub use write::{write_fields, write_fields_counted};

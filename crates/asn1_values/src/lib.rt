@@ -15,7 +15,7 @@ pub use asn1_bits::{
 };
 pub use asn1_integer::{
     ConstrainedInteger, Integer, IntegerBytes, IntegerError, IntegerType, TryFromIntegerError,
-    laws_of_shortest_octets, laws_of_wrapping, signed_value, unsigned_value,
+    integer_of, laws_of_shortest_octets, laws_of_wrapping, signed_value, unsigned_value,
     without_redundant_sign_octets,
 };
 pub use asn1_oid::{
@@ -33,6 +33,6 @@ pub use asn1_strings::{
     should_be_indexed,
 };
 pub use bit_fields::{
-    Field, ReadError, Shape, WriteError, integer_of, read_fields, shape_of, write_fields,
-    write_fields_at, write_fields_counted,
+    Field, ReadError, Shape, WriteError, read_fields, shape_of, write_fields, write_fields_at,
+    write_fields_counted,
 };

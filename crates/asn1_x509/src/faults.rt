@@ -8,7 +8,7 @@ use asn1_der::{
     BitStringFault, BooleanFault, ElementFault, IdentifierFault, InDefault, InItem, InSet, InTlv,
     NotEnd, NotShortest, TimeFault,
 };
-use asn1_formats::{InNamed, InThen, NeverWrong, OneOf};
+use asn1_formats_core::{InNamed, InThen, NeverWrong, OneOf};
 use std::alloc::AllocError;
 use std::fmt::Write;
 

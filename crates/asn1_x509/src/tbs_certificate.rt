@@ -10,7 +10,7 @@ use asn1_der::{
     BitStringContents, End, Explicit, IntegerContents, NotDefault, Optional, Required, Sequence,
     Tlv,
 };
-use asn1_formats::Named;
+use asn1_formats_core::Named;
 use asn1_values::{BitString, Integer};
 
 /// The number of the version, where it is not the default, that of version 1.

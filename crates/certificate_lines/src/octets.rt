@@ -3,7 +3,7 @@
 
 use crate::refusal::Stop;
 use asn1_der::{DecodeError, decode};
-use asn1_formats::{Format, write};
+use asn1_formats_core::{Format, write};
 use asn1_values::BitBuffer;
 use asn1_x509::Tell;
 use std::alloc::{AllocError, Global};

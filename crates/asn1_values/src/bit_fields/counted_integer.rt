@@ -11,11 +11,11 @@ ghost use Rattle.asn1_values.specs.Walk.{field_at};
 
 use super::error::{ReadError, WriteError};
 use super::field::Field;
-use super::integer::{self, integer_of, overwrite_shortest, push_shortest};
+use super::integer::{self, overwrite_shortest, push_shortest};
 use super::number::overwrite_digits;
 use super::take::take_bits;
 use asn1_bits::{BitAppender, BitReader, Turns};
-use asn1_integer::Integer;
+use asn1_integer::{Integer, integer_of};
 use std::alloc::Global;
 
 /// How many bits the shortest octets and the octet in front of them have, if they are at most 127.

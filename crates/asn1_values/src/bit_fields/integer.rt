@@ -1,10 +1,10 @@
 //! An integer as a field: its shortest octets (X.690 8.3).
 
-ghost use Rattle.std.specs.Prelude.{◌-◌, ◌≡◌, ℕ, List, Err, ◌+◌, ◌*◌, ◌%◌, ◌^◌, ◌<◌, ◌≤◌, length, IfOk, Ok, take, pos, ◌-ℤ◌, All, vec_len, vec_capacity};
+ghost use Rattle.std.specs.Prelude.{◌≡◌, ℕ, List, Err, ◌+◌, ◌*◌, ◌<◌, ◌≤◌, length, IfOk, Ok, take, vec_len, vec_capacity};
 ghost use Rattle.asn1_bits.specs.BitAppender.{room, lender_of};
-ghost use Rattle.asn1_bits.specs.BitReader.{view_left, bits_left};
+ghost use Rattle.asn1_bits.specs.BitReader.{bits_left};
 ghost use Rattle.asn1_bits.specs.Bits.{bits, number};
-ghost use Rattle.asn1_number.specs.Octets.{IsShortest, signed};
+ghost use Rattle.asn1_number.specs.Octets.{IsShortest};
 ghost use Rattle.asn1_values.specs.Fields as plain;
 ghost use Rattle.asn1_values.specs.Steps.{FitsIn, HasRoomFor, PushesOctets, PushesOne, IsReached, FitsWithin, WritesOver, Overwrites, Takes, Examines, AppendsNext};
 ghost use Rattle.asn1_values.specs.Walk.{field_at, integer_at};
@@ -14,7 +14,7 @@ use super::field::Field;
 use super::octets::overwrite_octets;
 use super::take::take_bits;
 use asn1_bits::{BitAppender, BitReader, Turns};
-use asn1_integer::Integer;
+use asn1_integer::{Integer, integer_of};
 use std::alloc::{AllocError, Global};
 
 /// How many bits the shortest octets have.
@@ -127,82 +127,4 @@ pub(super) fn append<'a>(
     let number = integer_of(alloc, &front)?;
     fields.push_reserved(Field::Integer(number));
     Ok(())
-}
-
-/// The two's complement value of the octets that the reader has left (X.690 8.3.3), one at least.
-/// Up to sixteen are read as a word, and take no memory; without an octet it is refused.
-#[inline(always)]
-pub fn integer_of(alloc: Global, reader: &BitReader<'_>) -> Result<Integer, AllocError>
-    requires whole { (view_left reader.now).len % 8 ≡ 0 }
-    ensures { IfOk result (λ n. (octets : List ℕ) → bits octets ≡ bits_left reader.now
-        → All (λ octet. octet < 256) octets → n ≡ signed octets) }
-{
-    let width = reader.len();
-    if width > 0 && width <= 128 {
-        return Ok(Integer::from(signed_word(reader.first_u128(width), width)));
-    }
-    copied_integer_of(alloc, reader)
-}
-
-/// Copies the reader before the call of `integer_of` that is not inlined, so that the original
-/// stays in registers.
-#[inline(always)]
-fn copied_integer_of(alloc: Global, reader: &BitReader<'_>) -> Result<Integer, AllocError>
-    requires whole { (view_left reader.now).len % 8 ≡ 0 }
-    ensures { IfOk result (λ n. (octets : List ℕ) → bits octets ≡ bits_left reader.now
-        → All (λ octet. octet < 256) octets → n ≡ signed octets) }
-{
-    let copy = *reader;
-    long_integer_of(alloc, &copy)
-}
-
-/// The path of `integer_of` for more than sixteen octets.
-#[inline(never)]
-fn long_integer_of(alloc: Global, reader: &BitReader<'_>) -> Result<Integer, AllocError>
-    requires whole { (view_left reader.now).len % 8 ≡ 0 }
-    ensures { IfOk result (λ n. (octets : List ℕ) → bits octets ≡ bits_left reader.now
-        → All (λ octet. octet < 256) octets → n ≡ signed octets) }
-{
-    let octets = reader.octets(alloc)?;
-    let Ok(number) = Integer::from_signed_octets(alloc, octets.as_ref()) else {
-        return Err(AllocError);
-    };
-    Ok(number)
-}
-
-/// The two's complement value of a word's lowest `width` bits, where it has no others.
-#[inline(always)]
-fn signed_word(word: u128, width: usize) -> i128
-    requires some { 0 < width }
-    requires few { width ≤ 128 }
-    requires below { word < 2 ^ width }
-    ensures low { word < 2 ^ (width - 1) → result ≡ pos word }
-    ensures high { 2 ^ (width - 1) ≤ word → result ≡ pos word -ℤ pos (2 ^ width) }
-{
-    if width <= 64 {
-        return signed_short(word as u64, width);
-    }
-    let half = 1u128 << (width - 1);
-    if word < half {
-        word as i128
-    } else {
-        -1 - (half - 1 - (word - half)) as i128
-    }
-}
-
-/// The path of `signed_word` for at most 64 digits.
-#[inline(always)]
-fn signed_short(word: u64, width: usize) -> i128
-    requires some { 0 < width }
-    requires few { width ≤ 64 }
-    requires below { word < 2 ^ width }
-    ensures low { word < 2 ^ (width - 1) → result ≡ pos word }
-    ensures high { 2 ^ (width - 1) ≤ word → result ≡ pos word -ℤ pos (2 ^ width) }
-{
-    let half = 1u64 << (width - 1);
-    if word < half {
-        i128::from(word)
-    } else {
-        -1 - i128::from(half - 1 - (word - half))
-    }
 }

@@ -3,7 +3,7 @@ use Rattle.asn1_bits.specs.Bits.{digits}
 use Rattle.asn1_bits.specs.BitReader.{bits_left}
 use Rattle.asn1_strings.specs.AlphabetView.{alphabet_of}
 use Rattle.asn1_formats.specs.Characters.{IsCharacter}
-use Rattle.asn1_formats.specs.ListLaws.{many_snoc}
+use Rattle.asn1_formats_core.specs.ListLaws.{many_snoc}
 use Rattle.asn1_formats.proofs.CharacterSteps.{character_starts}
 use Rattle.asn1_formats.proofs.known_multiplier_string.characters_at.Goals as goal
 

@@ -2,8 +2,8 @@ use Rattle.std.proofs.Common.{◌≡◌, ◌≤◌, ◌++◌, vec_len, vec_capac
 use Rattle.asn1_bits.specs.Bits.{digits}
 use Rattle.asn1_bits.specs.BitReader.{bits_left}
 use Rattle.asn1_strings.specs.AlphabetView.{alphabet_of}
-use Rattle.asn1_formats.specs.Spelling.{Starts}
-use Rattle.asn1_formats.specs.Combined.{SoMany}
+use Rattle.asn1_formats_core.specs.Spelling.{Starts}
+use Rattle.asn1_formats_core.specs.Combined.{SoMany}
 use Rattle.asn1_formats.specs.Characters.{IsCharacter}
 use Rattle.asn1_formats.proofs.known_multiplier_string.characters_at.Given as goal
 

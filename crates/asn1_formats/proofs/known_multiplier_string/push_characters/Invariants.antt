@@ -2,7 +2,7 @@ use Rattle.std.proofs.Common.{◌++◌, take}
 use Rattle.asn1_bits.specs.Bits.{digits}
 use Rattle.asn1_strings.specs.AlphabetView.{alphabet_of}
 use Rattle.asn1_bits.specs.Joined.{AreJoined}
-use Rattle.asn1_formats.specs.Spelling.{IsWritten, Extends}
+use Rattle.asn1_formats_core.specs.Spelling.{IsWritten, Extends}
 use Rattle.asn1_formats.specs.Characters.{IsCharacter}
 use Rattle.asn1_formats.proofs.known_multiplier_string.push_characters.Given as goal
 

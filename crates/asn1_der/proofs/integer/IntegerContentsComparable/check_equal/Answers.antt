@@ -2,7 +2,7 @@ use Rattle.std.proofs.Common.{rules, subst, sym}
 use Rattle.std.proofs.Common.{ℕ, List}
 use Rattle.asn1_number.specs.Octets.{IsShortest}
 use Rattle.asn1_bits.specs.BitReader.{bits_left}
-use Rattle.asn1_formats.specs.IntegerOctets.{HoldsInteger}
+use Rattle.asn1_integer.specs.IntegerOctets.{HoldsInteger}
 use Rattle.asn1_der.specs.IntegerLaws.{held, integer_equal}
 use Rattle.asn1_der.proofs.integer.IntegerContentsComparable.check_equal.Goals as goal
 

@@ -1,6 +1,6 @@
 use Rattle.std.proofs.Common.{rules}
 use Rattle.asn1_bits.specs.BitReader.{bits_left}
-use Rattle.asn1_formats.specs.IntegerOctets.{HoldsInteger}
+use Rattle.asn1_integer.specs.IntegerOctets.{HoldsInteger}
 use Rattle.asn1_der.specs.IntegerLaws.{held}
 use Rattle.asn1_der.proofs.integer.IntegerContentsContents.check.Goals as goal
 

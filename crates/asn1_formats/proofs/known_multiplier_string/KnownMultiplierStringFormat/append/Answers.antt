@@ -2,7 +2,7 @@ use Rattle.std.proofs.Common.{◌≡◌, ℕ, length, refl, ap, sym, subst, arit
 use Rattle.std.proofs.lemmas.List.{map-id}
 use Rattle.asn1_strings.specs.AlphabetView.{alphabet_of}
 use Rattle.asn1_formats.specs.Characters.{IsCharacter}
-use Rattle.asn1_formats.proofs.ListSteps.{counted_written}
+use Rattle.asn1_formats_core.proofs.ListSteps.{counted_written}
 use Rattle.asn1_formats.proofs.known_multiplier_string.KnownMultiplierStringFormat.append.Goals as goal
 
 pub returns-then-push_characters-clause-written : goal.returns-then-push_characters-clause-written

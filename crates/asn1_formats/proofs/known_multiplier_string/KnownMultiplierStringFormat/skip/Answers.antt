@@ -1,7 +1,7 @@
 use Rattle.asn1_bits.specs.BitReader.{bits_left}
 use Rattle.asn1_strings.specs.AlphabetView.{alphabet_of}
 use Rattle.asn1_formats.specs.Characters.{IsCharacter}
-use Rattle.asn1_formats.proofs.ListSteps.{counted_of}
+use Rattle.asn1_formats_core.proofs.ListSteps.{counted_of}
 use Rattle.asn1_formats.proofs.known_multiplier_string.KnownMultiplierStringFormat.skip.Goals as goal
 
 pub returns-in-Ok-skip_items-clause-skipped : goal.returns-in-Ok-skip_items-clause-skipped

@@ -2,7 +2,7 @@ use Rattle.std.proofs.lemmas.List.{map-id}
 use Rattle.asn1_bits.specs.BitReader.{bits_left}
 use Rattle.asn1_strings.specs.AlphabetView.{alphabet_of}
 use Rattle.asn1_formats.specs.Characters.{IsCharacter}
-use Rattle.asn1_formats.proofs.ListSteps.{counted_of}
+use Rattle.asn1_formats_core.proofs.ListSteps.{counted_of}
 use Rattle.asn1_formats.proofs.known_multiplier_string.KnownMultiplierStringFormat.take.Goals as goal
 
 pub returns-in-Some-clause-read : goal.returns-in-Some-clause-read

@@ -5,7 +5,7 @@ use Rattle.asn1_bits.specs.Bits.{digits}
 use Rattle.asn1_bits.specs.BitAppender.{bits_written}
 use Rattle.asn1_number.specs.LawsHold.{one_shortest_list}
 use Rattle.asn1_number.specs.WidthLaws.{sixteen_fit}
-use Rattle.asn1_values.proofs.WordLemmas.{sixteen_at_most, lowest_octets}
+use Rattle.asn1_integer.specs.WordLaws.{sixteen_at_most, lowest_octets}
 use Rattle.asn1_values.proofs.bit_fields.integer.push_shortest.Goals as goal
 
 pub overflow_mul-signed_len : goal.overflow_mul-signed_len

@@ -1,0 +1,88 @@
+//! The integer of the octets that a reader has left, at any bit.
+
+ghost use Rattle.std.specs.Prelude.{◌-◌, ◌≡◌, ℕ, List, ◌%◌, ◌^◌, ◌<◌, ◌≤◌, IfOk, pos, ◌-ℤ◌, All};
+ghost use Rattle.asn1_bits.specs.BitReader.{view_left, bits_left};
+ghost use Rattle.asn1_bits.specs.Bits.{bits};
+ghost use Rattle.asn1_number.specs.Octets.{signed};
+
+use asn1_bits::BitReader;
+use asn1_number::Integer;
+use std::alloc::{AllocError, Global};
+
+/// The two's complement value of the octets that the reader has left (X.690 8.3.3), one at least.
+/// Up to sixteen are read as a word, and take no memory; without an octet it is refused.
+#[inline(always)]
+pub fn integer_of(alloc: Global, reader: &BitReader<'_>) -> Result<Integer, AllocError>
+    requires whole { (view_left reader.now).len % 8 ≡ 0 }
+    ensures { IfOk result (λ n. (octets : List ℕ) → bits octets ≡ bits_left reader.now
+        → All (λ octet. octet < 256) octets → n ≡ signed octets) }
+{
+    let width = reader.len();
+    if width > 0 && width <= 128 {
+        return Ok(Integer::from(signed_word(reader.first_u128(width), width)));
+    }
+    copied_integer_of(alloc, reader)
+}
+
+/// Copies the reader before the call of `integer_of` that is not inlined, so that the original
+/// stays in registers.
+#[inline(always)]
+fn copied_integer_of(alloc: Global, reader: &BitReader<'_>) -> Result<Integer, AllocError>
+    requires whole { (view_left reader.now).len % 8 ≡ 0 }
+    ensures { IfOk result (λ n. (octets : List ℕ) → bits octets ≡ bits_left reader.now
+        → All (λ octet. octet < 256) octets → n ≡ signed octets) }
+{
+    let copy = *reader;
+    long_integer_of(alloc, &copy)
+}
+
+/// The path of `integer_of` for more than sixteen octets.
+#[inline(never)]
+fn long_integer_of(alloc: Global, reader: &BitReader<'_>) -> Result<Integer, AllocError>
+    requires whole { (view_left reader.now).len % 8 ≡ 0 }
+    ensures { IfOk result (λ n. (octets : List ℕ) → bits octets ≡ bits_left reader.now
+        → All (λ octet. octet < 256) octets → n ≡ signed octets) }
+{
+    let octets = reader.octets(alloc)?;
+    let Ok(number) = Integer::from_signed_octets(alloc, octets.as_ref()) else {
+        return Err(AllocError);
+    };
+    Ok(number)
+}
+
+/// The two's complement value of a word's lowest `width` bits, where it has no others.
+#[inline(always)]
+fn signed_word(word: u128, width: usize) -> i128
+    requires some { 0 < width }
+    requires few { width ≤ 128 }
+    requires below { word < 2 ^ width }
+    ensures low { word < 2 ^ (width - 1) → result ≡ pos word }
+    ensures high { 2 ^ (width - 1) ≤ word → result ≡ pos word -ℤ pos (2 ^ width) }
+{
+    if width <= 64 {
+        return signed_short(word as u64, width);
+    }
+    let half = 1u128 << (width - 1);
+    if word < half {
+        word as i128
+    } else {
+        -1 - (half - 1 - (word - half)) as i128
+    }
+}
+
+/// The path of `signed_word` for at most 64 digits.
+#[inline(always)]
+fn signed_short(word: u64, width: usize) -> i128
+    requires some { 0 < width }
+    requires few { width ≤ 64 }
+    requires below { word < 2 ^ width }
+    ensures low { word < 2 ^ (width - 1) → result ≡ pos word }
+    ensures high { 2 ^ (width - 1) ≤ word → result ≡ pos word -ℤ pos (2 ^ width) }
+{
+    let half = 1u64 << (width - 1);
+    if word < half {
+        i128::from(word)
+    } else {
+        -1 - i128::from(half - 1 - (word - half))
+    }
+}
