@@ -4,7 +4,7 @@ use Rattle.std.proofs.Math.Seq.{take-append_seam, drop-append_seam}
 use Rattle.std.proofs.lemmas.List.{length-append, length-drop, drop-drop, drop-take, append_assoc}
 use Rattle.asn1_bits.specs.Bits.{bits}
 use Rattle.asn1_bits.specs.DigitLaws.{length-bits, bits-drop, bits-take}
-use Rattle.asn1_formats_core.specs.Spelling.{Starts}
+use Rattle.asn1_compose.specs.Spelling.{Starts}
 use Rattle.asn1_der.specs.declared.tag.Tag.{Tag}
 use Rattle.asn1_der.specs.declared.tag.TagFault.{TagFault}
 use Rattle.asn1_der.specs.declared.tag.TagFault.TheVariants as wrong_tag

@@ -18,7 +18,8 @@ use Rattle.asn1_number.specs.Readings.{IsInRange, kind_i128}
 use Rattle.asn1_number.specs.ReadingLaws.{past_sixteen}
 use Rattle.asn1_number.specs.WidthLaws.{octets_of_bytes, sixteen_fit}
 use Rattle.asn1_values.specs.Fields as plain
-use Rattle.asn1_values.specs.Wrong.{NotInteger, Short, NoLength, IsCount, IsNoInteger, first_octet}
+use Rattle.asn1_values.specs.Wrong.{NotInteger, Short, NoLength, IsCount, first_octet}
+use Rattle.asn1_values.specs.IntegerOctets.{IsNoInteger}
 use Rattle.asn1_c.specs.declared.fields.Field.{Field}
 use Rattle.asn1_c.specs.declared.fields.Refusal.{Refusal}
 use Rattle.asn1_c.specs.Fields.{IsSpelledAt, NamesReason, TellsNone, number_of_words, signed_of_words}

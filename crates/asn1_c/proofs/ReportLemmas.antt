@@ -3,8 +3,8 @@ use Rattle.std.proofs.Common.{◌≡◌, ◌≤◌, ◌+◌, ℕ, Bool, true, fa
 use Rattle.std.proofs.Math.Seq.{drop-append_seam}
 use Rattle.std.proofs.lemmas.List.{length-append}
 use Rattle.std.specs.Option.{is_some, unwrap_or}
-use Rattle.asn1_formats_core.specs.Spelling.{Starts, CanRead}
-use Rattle.asn1_formats_core.specs.Combined.{plain_option}
+use Rattle.asn1_compose.specs.Spelling.{Starts, CanRead}
+use Rattle.asn1_compose.specs.Combined.{plain_option}
 use Rattle.asn1_c.specs.Reports.{height_of}
 
 -- what is read of a list leaves what is behind its first bits

@@ -4,7 +4,7 @@ use Rattle.asn1_formats.specs.declared.sequence.Sequence.{Sequence}
 use Rattle.asn1_formats.specs.declared.and.And.{And}
 use Rattle.asn1_formats.specs.declared.required.Required.{Required}
 use Rattle.asn1_formats.specs.declared.optional.Optional.{Optional}
-use Rattle.asn1_formats_core.specs.declared.size.Size.{Size}
+use Rattle.asn1_compose.specs.declared.size.Size.{Size}
 use Rattle.asn1_formats.specs.declared.boolean.Boolean.{Boolean}
 use Rattle.asn1_c.specs.declared.reports.Report.{Report}
 

@@ -6,7 +6,7 @@
 
 ghost use Rattle.std.specs.Prelude.{◌≡◌, ◌≢◌, false, ◌↔◌, ◌*◌, ◌^◌, ◌<◌, ◌≤◌, length, drop};
 ghost use Rattle.asn1_bits.specs.Bits.{bits};
-ghost use Rattle.asn1_formats_core.specs.Spelling.{Starts, CanRead};
+ghost use Rattle.asn1_compose.specs.Spelling.{Starts, CanRead};
 ghost use Rattle.asn1_c.specs.Reports.{ReportFormat, IsReportFormat, plain_report};
 
 use crate::codes::{DONE, REPORT, TOO_MANY};

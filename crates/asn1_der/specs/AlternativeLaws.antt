@@ -3,9 +3,9 @@ use Rattle.std.proofs.Common.{◌≡◌, ◌⊎◌, inl, inr, List, Bool, refl, 
 use Rattle.asn1_der.specs.declared.tag.Tag.{Tag}
 use Rattle.asn1_der.specs.declared.choice.ChoiceMisfit.{ChoiceMisfit}
 use Rattle.asn1_der.specs.declared.choice.ChoiceMisfit.TheVariants as misfit
-use Rattle.asn1_formats_core.specs.declared.one_of.OneOf.{OneOf}
-use Rattle.asn1_formats_core.specs.declared.one_of.OneOf.TheVariants.{First, Other}
-use Rattle.asn1_formats_core.specs.Spelling.{Starts, ReadsOne, SpellsOne, NamesFault, NamesMisfit}
+use Rattle.asn1_compose.specs.declared.one_of.OneOf.{OneOf}
+use Rattle.asn1_compose.specs.declared.one_of.OneOf.TheVariants.{First, Other}
+use Rattle.asn1_compose.specs.Spelling.{Starts, ReadsOne, SpellsOne, NamesFault, NamesMisfit}
 use Rattle.asn1_der.specs.Contents.{IsWhole}
 use Rattle.asn1_der.specs.Tagged.{HasTag, Begins, AreTagged}
 use Rattle.asn1_der.specs.TaggedLaws.{one_tag, tag_more, starts_begin}

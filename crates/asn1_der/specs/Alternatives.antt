@@ -4,8 +4,8 @@ use Rattle.std.specs.Prelude.{Bool, List}
 use Rattle.asn1_der.specs.declared.tag.Tag.{Tag}
 use Rattle.asn1_der.specs.declared.choice.ChoiceMisfit.{ChoiceMisfit}
 use Rattle.asn1_der.specs.declared.choice.ChoiceMisfit.TheVariants as misfit
-use Rattle.asn1_formats_core.specs.declared.one_of.OneOf.{OneOf}
-use Rattle.asn1_formats_core.specs.declared.one_of.OneOf.TheVariants.{First, Other}
+use Rattle.asn1_compose.specs.declared.one_of.OneOf.{OneOf}
+use Rattle.asn1_compose.specs.declared.one_of.OneOf.TheVariants.{First, Other}
 use Rattle.asn1_der.specs.Tagged.{Begins}
 use Rattle.asn1_der.specs.Parts.{IsAmbiguous}
 

@@ -1,15 +1,15 @@
 -- Laws of elements of any tag.
 use Rattle.std.proofs.Common.{◌≡◌, ℕ, List, Bool, refl, sym, ◌∙◌, ap, subst}
-use Rattle.asn1_formats_core.specs.declared.never_wrong.NeverWrong.{NeverWrong}
+use Rattle.asn1_compose.specs.declared.never_wrong.NeverWrong.{NeverWrong}
 use Rattle.asn1_der.specs.declared.tag.Tag.{Tag}
 use Rattle.asn1_der.specs.declared.tag.TagFault.{TagFault}
 use Rattle.asn1_der.specs.declared.length.LengthFault.{LengthFault}
 use Rattle.asn1_der.specs.declared.tlv.ElementFault.{ElementFault}
 use Rattle.asn1_der.specs.declared.tlv.ElementFault.TheVariants as none
-use Rattle.asn1_formats_core.specs.Spelling.{Starts, CanRead, ReadsOne, SpellsOne, NamesFault, NamesMisfit}
-use Rattle.asn1_formats_core.specs.Combined.{Both}
-use Rattle.asn1_formats_core.specs.SpellingLaws.{split, join, can_second}
-use Rattle.asn1_formats_core.specs.OctetStrings.{AreOctets}
+use Rattle.asn1_compose.specs.Spelling.{Starts, CanRead, ReadsOne, SpellsOne, NamesFault, NamesMisfit}
+use Rattle.asn1_compose.specs.Combined.{Both}
+use Rattle.asn1_compose.specs.SpellingLaws.{split, join, can_second}
+use Rattle.asn1_compose.specs.OctetStrings.{AreOctets}
 use Rattle.asn1_der.specs.Tags.{IsIdentifier}
 use Rattle.asn1_der.specs.TagLaws.{identifier_reads_one, identifier_names_fault}
 use Rattle.asn1_der.specs.Lengths.{IsCounted, CountFaultIs}

@@ -4,10 +4,10 @@ use Rattle.std.proofs.lemmas.List.{length-append, length-drop, take-append-drop}
 use Rattle.std.proofs.Math.Seq.{drop-append_seam}
 use Rattle.asn1_bits.specs.Bits.{digits}
 use Rattle.asn1_bits.specs.DigitLaws.{length-digits}
-use Rattle.asn1_formats_core.specs.Spelling.{Starts, Measures, IsLength, SpellsOne}
-use Rattle.asn1_formats_core.specs.Numbers.{IsNumber}
-use Rattle.asn1_formats_core.specs.Combined.{After}
-use Rattle.asn1_formats_core.specs.SpellingLaws.{same_fronts, number_reads_one}
+use Rattle.asn1_compose.specs.Spelling.{Starts, Measures, IsLength, SpellsOne}
+use Rattle.asn1_compose.specs.Numbers.{IsNumber}
+use Rattle.asn1_compose.specs.Combined.{After}
+use Rattle.asn1_compose.specs.SpellingLaws.{same_fronts, number_reads_one}
 use Rattle.asn1_der.specs.declared.bit_string.BitStringFault.{BitStringFault}
 use Rattle.asn1_der.specs.declared.bit_string.BitStringFault.TheVariants.{Empty, Unused, NotZero}
 use Rattle.asn1_der.specs.Contents.{FillsOne, NamesWrong, AreWhole}

@@ -1,8 +1,8 @@
 -- The contents of BIT STRING (X.690 8.6, 11.2), and what is wrong with them.
 use Rattle.std.specs.Prelude.{◌≡◌, ℕ, ◌+◌, ◌-◌, ◌%◌, ◌<◌, ◌≤◌, ◌⊎◌, Bool, List, ◌++◌, length, drop}
 use Rattle.asn1_bits.specs.Bits.{digits}
-use Rattle.asn1_formats_core.specs.Numbers.{IsNumber}
-use Rattle.asn1_formats_core.specs.Combined.{After}
+use Rattle.asn1_compose.specs.Numbers.{IsNumber}
+use Rattle.asn1_compose.specs.Combined.{After}
 use Rattle.asn1_der.specs.declared.bit_string.BitStringFault.{BitStringFault}
 use Rattle.asn1_der.specs.declared.bit_string.BitStringFault.TheVariants.{Empty, Unused, NotZero}
 

@@ -11,7 +11,7 @@ use Rattle.asn1_bits.specs.NumberLaws.{number_of-digits, digits_of-number}
 use Rattle.asn1_characters.specs.Sets.{base_set, has_character}
 use Rattle.asn1_characters.specs.SetLaws.{below_limit}
 use Rattle.asn1_characters.specs.declared.character_set.CharacterSetName.TheVariants.{Bmp}
-use Rattle.asn1_formats_core.specs.Spelling.{Measures, IsLength, SpellsOne}
+use Rattle.asn1_compose.specs.Spelling.{Measures, IsLength, SpellsOne}
 use Rattle.asn1_der.specs.declared.bmp_string.BmpStringFault.{BmpStringFault}
 use Rattle.asn1_der.specs.declared.bmp_string.BmpStringFault.TheVariants.{HalfCharacter, NotInSet}
 use Rattle.asn1_der.specs.Contents.{FillsOne, NamesWrong, AreWhole}

@@ -3,9 +3,9 @@ use Rattle.std.proofs.Common.{◌≡◌, ◌≢◌, Bool, List, [], refl, sym, �
 use Rattle.std.specs.declared.cmp.Ordering.TheVariants.{Less, Equal, Greater}
 use Rattle.std.proofs.lemmas.List.{append-nil}
 use Rattle.asn1_bits.specs.BitLists.{bits_cmp}
-use Rattle.asn1_formats_core.specs.declared.one_of.OneOf.{OneOf}
-use Rattle.asn1_formats_core.specs.declared.one_of.OneOf.TheVariants.{First, Other}
-use Rattle.asn1_formats_core.specs.Combined.{Both}
+use Rattle.asn1_compose.specs.declared.one_of.OneOf.{OneOf}
+use Rattle.asn1_compose.specs.declared.one_of.OneOf.TheVariants.{First, Other}
+use Rattle.asn1_compose.specs.Combined.{Both}
 use Rattle.asn1_der.specs.declared.tag.Tag.{Tag}
 use Rattle.asn1_der.specs.Tags.{IsIdentifier}
 use Rattle.asn1_der.specs.TagLaws.{identifier_reads_one}

@@ -3,8 +3,8 @@ use Rattle.std.proofs.Common.{◌≡◌, ℕ, ◌+◌, ◌*◌, ◌^◌, ◌<◌
 use Rattle.std.proofs.lemmas.List.{length-append, length-take-le, take-append-drop}
 use Rattle.asn1_der.specs.declared.length.LengthFault.{LengthFault}
 use Rattle.asn1_der.specs.declared.length.LengthFault.TheVariants.{Short, Indefinite, Large, NotShortest, Missing}
-use Rattle.asn1_formats_core.specs.Spelling.{Starts, CanRead, ReadsOne, SpellsOne, NamesFault}
-use Rattle.asn1_formats_core.specs.SpellingLaws.{same_fronts}
+use Rattle.asn1_compose.specs.Spelling.{Starts, CanRead, ReadsOne, SpellsOne, NamesFault}
+use Rattle.asn1_compose.specs.SpellingLaws.{same_fronts}
 use Rattle.asn1_der.specs.Lengths.{IsDefinite, IsCounted, AreMissing, CountFaultIs}
 use Rattle.asn1_der.specs.LengthLaws.{definite_reads_one, definite_spells_one, definite_names_fault, definite_whole}
 

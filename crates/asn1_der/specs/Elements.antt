@@ -7,10 +7,10 @@ use Rattle.asn1_der.specs.declared.tlv.ElementFault.{ElementFault}
 use Rattle.asn1_der.specs.declared.tlv.ElementFault.TheVariants as none
 use Rattle.asn1_der.specs.declared.tlv.TlvMisfit.{TlvMisfit}
 use Rattle.asn1_der.specs.declared.tlv.TlvMisfit.TheVariants as misfit
-use Rattle.asn1_formats_core.specs.declared.never_wrong.NeverWrong.{NeverWrong}
-use Rattle.asn1_formats_core.specs.OctetStrings.{AreOctets}
-use Rattle.asn1_formats_core.specs.Spelling.{Starts}
-use Rattle.asn1_formats_core.specs.Combined.{Both, After}
+use Rattle.asn1_compose.specs.declared.never_wrong.NeverWrong.{NeverWrong}
+use Rattle.asn1_compose.specs.OctetStrings.{AreOctets}
+use Rattle.asn1_compose.specs.Spelling.{Starts}
+use Rattle.asn1_compose.specs.Combined.{Both, After}
 use Rattle.asn1_der.specs.Tags.{IsIdentifier, TagFaultIs, IsTagged, OtherTagIs}
 use Rattle.asn1_der.specs.Lengths.{IsCounted, CountFaultIs}
 

@@ -8,7 +8,7 @@ use Rattle.std.proofs.Math.Seq.{drop-cons, get_or-append_seam}
 use Rattle.asn1_bits.specs.Bits.{bits}
 use Rattle.asn1_bits.specs.DigitLaws.{bits-append}
 use Rattle.asn1_number.specs.ReadingLaws.{cases_le}
-use Rattle.asn1_formats_core.specs.Spelling.{Measures, IsWritten, IsLength, SpellsOne, NamesMisfit}
+use Rattle.asn1_compose.specs.Spelling.{Measures, IsWritten, IsLength, SpellsOne, NamesMisfit}
 use Rattle.asn1_der.specs.declared.moment.Moment.{Moment}
 use Rattle.asn1_der.specs.declared.time.TimeFault.{TimeFault}
 use Rattle.asn1_der.specs.declared.time.TimeFault.TheVariants.{Octets, Other, NoSuchTime}

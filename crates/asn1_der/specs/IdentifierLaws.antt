@@ -11,7 +11,7 @@ use Rattle.asn1_oid.specs.WritingLaws.{contents_only, contents_octets}
 use Rattle.asn1_der.specs.declared.object_identifier.IdentifierFault.{IdentifierFault}
 use Rattle.asn1_der.specs.declared.object_identifier.IdentifierFault.TheVariants.{Malformed, LargeArc}
 use Rattle.asn1_der.specs.declared.object_identifier.OneArc.{OneArc}
-use Rattle.asn1_formats_core.specs.Spelling.{Measures, IsLength, Extends, SpellsOne, NamesMisfit}
+use Rattle.asn1_compose.specs.Spelling.{Measures, IsLength, Extends, SpellsOne, NamesMisfit}
 use Rattle.asn1_der.specs.Contents.{FillsOne, NamesWrong, AreWhole}
 use Rattle.asn1_der.specs.Identifiers.{IsIdentifierOf, IsNoIdentifier, IdentifierFaultIs, HasOneArc}
 

@@ -7,9 +7,9 @@ use Rattle.asn1_number.specs.Octets.{IsShortest}
 use Rattle.asn1_number.specs.Shortest.{shortest_octets}
 use Rattle.asn1_number.specs.ShortestLaws.{shortest_octets_are, shortest_octets_only}
 use Rattle.asn1_integer.specs.IntegerOctets.{IsNoInteger}
-use Rattle.asn1_formats_core.specs.Spelling.{Measures, IsLength, IsWritten, SpellsOne}
+use Rattle.asn1_compose.specs.Spelling.{Measures, IsLength, IsWritten, SpellsOne}
 use Rattle.asn1_integer.specs.IntegerOctets.{HoldsInteger}
-use Rattle.asn1_formats_core.specs.IntegerOctetLaws.{same_number}
+use Rattle.asn1_compose.specs.IntegerOctetLaws.{same_number}
 use Rattle.asn1_der.specs.declared.integer.NotShortest.{NotShortest}
 use Rattle.asn1_der.specs.Contents.{FillsOne, NamesWrong, AreWhole}
 use Rattle.asn1_der.specs.Primitives.{IsInteger}

@@ -2,12 +2,12 @@
 use Rattle.std.proofs.Common.{◌≡◌, ℕ, suc, ◌+◌, ◌*◌, ◌<◌, ◌⊎◌, inl, inr, List, [], ◌∷◌, ◌++◌, Bool, length, map, take, drop, get_or, Option, refl, sym, ◌∙◌, ap, subst, arith, append_assoc}
 use Rattle.std.proofs.lemmas.List.{length-append, append-nil, map_more, map-append, length-map, length-take-le, take-append-drop}
 use Rattle.std.proofs.Math.Seq.{drop-cons}
-use Rattle.asn1_formats_core.specs.declared.never_wrong.NeverWrong.{NeverWrong}
-use Rattle.asn1_formats_core.specs.declared.sequence_of.InSequenceOf.{InSequenceOf}
-use Rattle.asn1_formats_core.specs.declared.sequence_of.InSequenceOf.TheVariants.{Size, Item}
-use Rattle.asn1_formats_core.specs.Spelling.{Starts, CanRead, Fits, Measures, IsSumOf, IsWritten, ReadsOne, SpellsOne, NamesFault, NamesMisfit}
-use Rattle.asn1_formats_core.specs.Combined.{AreCounted, SoMany, ItemMisfit, SequenceOfMisfit}
-use Rattle.asn1_formats_core.specs.ListLaws.{written_snoc, measured_snoc, counted_spells_one, counted_names_misfit}
+use Rattle.asn1_compose.specs.declared.never_wrong.NeverWrong.{NeverWrong}
+use Rattle.asn1_compose.specs.declared.sequence_of.InSequenceOf.{InSequenceOf}
+use Rattle.asn1_compose.specs.declared.sequence_of.InSequenceOf.TheVariants.{Size, Item}
+use Rattle.asn1_compose.specs.Spelling.{Starts, CanRead, Fits, Measures, IsSumOf, IsWritten, ReadsOne, SpellsOne, NamesFault, NamesMisfit}
+use Rattle.asn1_compose.specs.Combined.{AreCounted, SoMany, ItemMisfit, SequenceOfMisfit}
+use Rattle.asn1_compose.specs.ListLaws.{written_snoc, measured_snoc, counted_spells_one, counted_names_misfit}
 use Rattle.asn1_der.specs.declared.tag.Tag.{Tag}
 use Rattle.asn1_der.specs.declared.items.InItem.{InItem}
 use Rattle.asn1_der.specs.Contents.{FillsOne, NamesWrong, IsWhole, AreWhole}

@@ -4,8 +4,8 @@ use Rattle.std.specs.declared.cmp.Ordering.TheVariants.{Less, Equal, Greater}
 use Rattle.std.proofs.lemmas.List.{length-append, length-drop, length-map, get_or-map}
 use Rattle.std.proofs.Math.Seq.{drop-cons}
 use Rattle.asn1_bits.specs.BitLists.{bits_cmp}
-use Rattle.asn1_formats_core.specs.Spelling.{ReadsOne}
-use Rattle.asn1_formats_core.specs.Combined.{Both}
+use Rattle.asn1_compose.specs.Spelling.{ReadsOne}
+use Rattle.asn1_compose.specs.Combined.{Both}
 use Rattle.asn1_der.specs.Items.{AreItems}
 use Rattle.asn1_der.specs.PartOrderLaws.{first_below, first_above, first_level, equal_lists}
 

@@ -1,7 +1,7 @@
 -- Contents that are elements of one format, as many as there are (X.690 8.10). P says of a value which bits spell it.
 use Rattle.std.specs.Prelude.{◌<◌, Bool, List, length}
 use Rattle.asn1_bits.specs.Joined.{AreJoined}
-use Rattle.asn1_formats_core.specs.Combined.{After, SoMany, ItemMisfit}
+use Rattle.asn1_compose.specs.Combined.{After, SoMany, ItemMisfit}
 use Rattle.asn1_der.specs.declared.items.InItem.{InItem}
 
 abbrev pub AreItems : {X : Type 0} → (X → List Bool → Type 0) → List X → List Bool → Type 0

@@ -7,10 +7,10 @@ use Rattle.asn1_bits.specs.Bits.{digits}
 use Rattle.asn1_bits.specs.DigitLaws.{length-digits}
 use Rattle.asn1_der.specs.declared.length.LengthFault.{LengthFault}
 use Rattle.asn1_der.specs.declared.length.LengthFault.TheVariants.{Short, Indefinite, Large, NotShortest, Missing}
-use Rattle.asn1_formats_core.specs.Spelling.{Starts, CanRead, Measures, ReadsOne, SpellsOne, NamesFault}
-use Rattle.asn1_formats_core.specs.Numbers.{IsNumber, IsShort}
-use Rattle.asn1_formats_core.specs.Combined.{Both, After}
-use Rattle.asn1_formats_core.specs.SpellingLaws.{number_reads_one, number_spells_one, number_short, split, join, both_spells_one}
+use Rattle.asn1_compose.specs.Spelling.{Starts, CanRead, Measures, ReadsOne, SpellsOne, NamesFault}
+use Rattle.asn1_compose.specs.Numbers.{IsNumber, IsShort}
+use Rattle.asn1_compose.specs.Combined.{Both, After}
+use Rattle.asn1_compose.specs.SpellingLaws.{number_reads_one, number_spells_one, number_short, split, join, both_spells_one}
 use Rattle.asn1_der.specs.Lengths.{IsPadded, IsLong, IsDefinite, LongFaultIs, IsCut, LengthFaultIs}
 
 abbrev D : ℕ → List Bool → Type 0

@@ -2,8 +2,8 @@
 use Rattle.std.specs.Prelude.{◌≡◌, ℕ, ◌+◌, ◌-◌, ◌*◌, ◌^◌, ◌<◌, ◌≤◌, ◌⊎◌, Bool, List, ◌++◌, length}
 use Rattle.asn1_der.specs.declared.length.LengthFault.{LengthFault}
 use Rattle.asn1_der.specs.declared.length.LengthFault.TheVariants.{Short, Indefinite, Large, NotShortest, Missing}
-use Rattle.asn1_formats_core.specs.Numbers.{IsNumber, IsShort}
-use Rattle.asn1_formats_core.specs.Combined.{Both, After}
+use Rattle.asn1_compose.specs.Numbers.{IsNumber, IsShort}
+use Rattle.asn1_compose.specs.Combined.{Both, After}
 
 -- so many octets are more than the number n needs
 abbrev pub IsPadded : ℕ → ℕ → Type 0

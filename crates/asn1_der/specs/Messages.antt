@@ -1,7 +1,7 @@
 -- Octets that are a message, all of them. P says which bits are read as a value, W what is wrong with bits.
 use Rattle.std.specs.Prelude.{◌≡◌, ℕ, ◌*◌, ◌^◌, ◌<◌, ◌≤◌, Bool, List, length}
 use Rattle.asn1_bits.specs.Bits.{bits}
-use Rattle.asn1_formats_core.specs.Spelling.{Starts, CanRead}
+use Rattle.asn1_compose.specs.Spelling.{Starts, CanRead}
 use Rattle.asn1_der.specs.declared.message.DecodeError.{DecodeError}
 use Rattle.asn1_der.specs.declared.message.DecodeError.TheVariants.{TooLong, Wrong, Behind, Memory}
 

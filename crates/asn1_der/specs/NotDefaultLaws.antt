@@ -2,7 +2,7 @@
 use Rattle.std.proofs.Common.{◌≡◌, Bool, List, refl, ap}
 use Rattle.asn1_der.specs.declared.not_default.InDefault.{InDefault}
 use Rattle.asn1_der.specs.declared.not_default.InDefault.TheVariants.{Default, Part}
-use Rattle.asn1_formats_core.specs.Spelling.{SpellsOne, NamesMisfit}
+use Rattle.asn1_compose.specs.Spelling.{SpellsOne, NamesMisfit}
 use Rattle.asn1_der.specs.Contents.{FillsOne, NamesWrong, AreWhole}
 use Rattle.asn1_der.specs.NotDefaults.{IsNotDefault, DefaultFaultIs, DefaultMisfitIs}
 

@@ -4,8 +4,8 @@ use Rattle.std.specs.Prelude.{All}
 use Rattle.asn1_bits.specs.Bits.{bits}
 use Rattle.asn1_bits.specs.DigitLaws.{length-bits}
 use Rattle.asn1_bits.specs.NumberLaws.{same_octets}
-use Rattle.asn1_formats_core.specs.Spelling.{Measures, IsWritten, IsLength, SpellsOne}
-use Rattle.asn1_formats_core.specs.OctetStrings.{AreOctets}
+use Rattle.asn1_compose.specs.Spelling.{Measures, IsWritten, IsLength, SpellsOne}
+use Rattle.asn1_compose.specs.OctetStrings.{AreOctets}
 use Rattle.asn1_der.specs.Contents.{FillsOne, NamesWrong, AreWhole}
 use Rattle.asn1_der.specs.OctetContents.{IsInOctets, IsWrongInOctets}
 

@@ -3,11 +3,11 @@ use Rattle.std.proofs.Common.{◌≡◌, ℕ, inl, inr, List, Bool, Option, Some
 use Rattle.asn1_der.specs.declared.tag.Tag.{Tag}
 use Rattle.asn1_der.specs.declared.optional.OptionalMisfit.{OptionalMisfit}
 use Rattle.asn1_der.specs.declared.optional.OptionalMisfit.TheVariants as misfit
-use Rattle.asn1_formats_core.specs.declared.then.InThen.{InThen}
-use Rattle.asn1_formats_core.specs.declared.then.InThen.TheVariants.{First, Second}
-use Rattle.asn1_formats_core.specs.Spelling.{Measures, ReadsOne, SpellsOne, NamesFault, NamesMisfit}
-use Rattle.asn1_formats_core.specs.Combined.{Both, BothFault}
-use Rattle.asn1_formats_core.specs.SpellingLaws.{both_spells_one}
+use Rattle.asn1_compose.specs.declared.then.InThen.{InThen}
+use Rattle.asn1_compose.specs.declared.then.InThen.TheVariants.{First, Second}
+use Rattle.asn1_compose.specs.Spelling.{Measures, ReadsOne, SpellsOne, NamesFault, NamesMisfit}
+use Rattle.asn1_compose.specs.Combined.{Both, BothFault}
+use Rattle.asn1_compose.specs.SpellingLaws.{both_spells_one}
 use Rattle.asn1_der.specs.Contents.{FillsOne, NamesWrong, IsWhole, AreWhole}
 use Rattle.asn1_der.specs.Tagged.{Begins, AreTagged}
 use Rattle.asn1_der.specs.TaggedLaws.{both_begin}

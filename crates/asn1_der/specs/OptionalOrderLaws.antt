@@ -1,7 +1,7 @@
 -- Laws of the order of elements that may be missing.
 use Rattle.std.proofs.Common.{◌≡◌, ◌≤◌, ◌⊎◌, inl, inr, Bool, List, [], Option, Some, None, length, sym, ap, subst, arith, Ordering}
 use Rattle.asn1_bits.specs.BitLists.{bits_cmp}
-use Rattle.asn1_formats_core.specs.Combined.{Both}
+use Rattle.asn1_compose.specs.Combined.{Both}
 use Rattle.asn1_der.specs.declared.tag.Tag.{Tag}
 use Rattle.asn1_der.specs.Tags.{IsIdentifier}
 use Rattle.asn1_der.specs.Tagged.{HasTag, Begins, FirstTag, AreTagged}

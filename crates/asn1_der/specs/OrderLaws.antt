@@ -9,9 +9,9 @@ use Rattle.asn1_bits.specs.DigitLaws.{length-digits, length-bits}
 use Rattle.asn1_bits.specs.NumberLaws.{number-cons, number-lt, number_of-digits}
 use Rattle.asn1_bits.specs.BitLists.{bits_cmp, total_by}
 use Rattle.asn1_number.specs.ReadingLaws.{cases_le}
-use Rattle.asn1_formats_core.specs.Spelling.{Measures, SpellsOne}
-use Rattle.asn1_formats_core.specs.Numbers.{IsNumber}
-use Rattle.asn1_formats_core.specs.Combined.{Both}
+use Rattle.asn1_compose.specs.Spelling.{Measures, SpellsOne}
+use Rattle.asn1_compose.specs.Numbers.{IsNumber}
+use Rattle.asn1_compose.specs.Combined.{Both}
 use Rattle.asn1_der.specs.declared.tag.Tag.{Tag}
 use Rattle.asn1_der.specs.TagLaws.{identifier_spells_one}
 use Rattle.asn1_der.specs.Lengths.{IsDefinite, IsLong}

@@ -1,11 +1,11 @@
 -- Laws of contents that are elements one after another.
 use Rattle.std.proofs.Common.{◌≡◌, ℕ, ◌+◌, ◌*◌, ◌<◌, List, [], ◌++◌, Bool, length, refl, sym, ◌∙◌, ap, subst, arith}
 use Rattle.std.proofs.lemmas.List.{length-append, append-nil}
-use Rattle.asn1_formats_core.specs.declared.never_wrong.NeverWrong.{NeverWrong}
-use Rattle.asn1_formats_core.specs.declared.then.InThen.{InThen}
-use Rattle.asn1_formats_core.specs.declared.then.InThen.TheVariants.{First, Second}
-use Rattle.asn1_formats_core.specs.Spelling.{Starts, ReadsOne, SpellsOne, NamesFault, NamesMisfit}
-use Rattle.asn1_formats_core.specs.Combined.{Both, BothFault}
+use Rattle.asn1_compose.specs.declared.never_wrong.NeverWrong.{NeverWrong}
+use Rattle.asn1_compose.specs.declared.then.InThen.{InThen}
+use Rattle.asn1_compose.specs.declared.then.InThen.TheVariants.{First, Second}
+use Rattle.asn1_compose.specs.Spelling.{Starts, ReadsOne, SpellsOne, NamesFault, NamesMisfit}
+use Rattle.asn1_compose.specs.Combined.{Both, BothFault}
 use Rattle.asn1_der.specs.Contents.{FillsOne, NamesWrong, IsWhole, AreWhole}
 use Rattle.asn1_der.specs.Parts.{NotEndIs, AloneFaultIs}
 

@@ -4,8 +4,8 @@ use Rattle.std.specs.declared.cmp.Ordering.TheVariants.{Less, Equal, Greater}
 use Rattle.std.specs.Ordering.{ordering_reverse}
 use Rattle.std.proofs.lemmas.List.{length-append, append-nil}
 use Rattle.asn1_bits.specs.BitLists.{bits_cmp, total_by}
-use Rattle.asn1_formats_core.specs.Spelling.{ReadsOne}
-use Rattle.asn1_formats_core.specs.Combined.{Both}
+use Rattle.asn1_compose.specs.Spelling.{ReadsOne}
+use Rattle.asn1_compose.specs.Combined.{Both}
 use Rattle.asn1_der.specs.OrderLaws.{same_front}
 
 -- the second is the first and nothing more, if it begins with it

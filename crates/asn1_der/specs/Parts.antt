@@ -5,10 +5,10 @@ use Rattle.asn1_der.specs.declared.tag.Tag.{Tag}
 use Rattle.asn1_der.specs.declared.end.NotEnd.{NotEnd}
 use Rattle.asn1_der.specs.declared.optional.OptionalMisfit.{OptionalMisfit}
 use Rattle.asn1_der.specs.declared.optional.OptionalMisfit.TheVariants as misfit
-use Rattle.asn1_formats_core.specs.declared.then.InThen.{InThen}
-use Rattle.asn1_formats_core.specs.declared.then.InThen.TheVariants.{First, Second}
-use Rattle.asn1_formats_core.specs.Spelling.{Fits}
-use Rattle.asn1_formats_core.specs.Combined.{Both, BothFault}
+use Rattle.asn1_compose.specs.declared.then.InThen.{InThen}
+use Rattle.asn1_compose.specs.declared.then.InThen.TheVariants.{First, Second}
+use Rattle.asn1_compose.specs.Spelling.{Fits}
+use Rattle.asn1_compose.specs.Combined.{Both, BothFault}
 use Rattle.asn1_der.specs.Tagged.{Begins}
 
 -- so many bits are there, where no one should be

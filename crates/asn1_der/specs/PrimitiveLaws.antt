@@ -7,10 +7,10 @@ use Rattle.asn1_bits.specs.DigitLaws.{length-digits, length-bits}
 use Rattle.asn1_bits.specs.NumberLaws.{same_octets}
 use Rattle.asn1_der.specs.declared.boolean.BooleanFault.{BooleanFault}
 use Rattle.asn1_der.specs.declared.boolean.BooleanFault.TheVariants.{Octets, Other}
-use Rattle.asn1_formats_core.specs.Spelling.{Starts, Measures, IsLength, SpellsOne}
-use Rattle.asn1_formats_core.specs.Numbers.{IsNumber}
-use Rattle.asn1_formats_core.specs.SpellingLaws.{number_reads_one}
-use Rattle.asn1_formats_core.specs.OctetStrings.{AreOctets}
+use Rattle.asn1_compose.specs.Spelling.{Starts, Measures, IsLength, SpellsOne}
+use Rattle.asn1_compose.specs.Numbers.{IsNumber}
+use Rattle.asn1_compose.specs.SpellingLaws.{number_reads_one}
+use Rattle.asn1_compose.specs.OctetStrings.{AreOctets}
 use Rattle.asn1_der.specs.Contents.{FillsOne, NamesWrong, AreWhole}
 use Rattle.asn1_der.specs.Primitives.{octet_of_bool, IsBoolean, BooleanFaultIs}
 

@@ -2,7 +2,7 @@
 use Rattle.std.specs.Prelude.{◌≡◌, ◌≢◌, ℕ, ℤ, ◌*◌, Bool, true, false, List, length}
 use Rattle.asn1_bits.specs.Bits.{bits, digits}
 use Rattle.asn1_number.specs.Shortest.{shortest_octets}
-use Rattle.asn1_formats_core.specs.Numbers.{IsNumber}
+use Rattle.asn1_compose.specs.Numbers.{IsNumber}
 use Rattle.asn1_der.specs.declared.boolean.BooleanFault.{BooleanFault}
 use Rattle.asn1_der.specs.declared.boolean.BooleanFault.TheVariants.{Octets, Other}
 

@@ -4,9 +4,9 @@ use Rattle.std.proofs.lemmas.List.{length-append, append-nil}
 use Rattle.std.proofs.Math.Seq.{take-append_seam}
 use Rattle.std.specs.declared.cmp.Ordering.TheVariants.{Less}
 use Rattle.asn1_bits.specs.BitLists.{bits_cmp}
-use Rattle.asn1_formats_core.specs.Spelling.{Starts, Fits, ReadsOne, SpellsOne, NamesFault, NamesMisfit}
-use Rattle.asn1_formats_core.specs.Combined.{SoMany}
-use Rattle.asn1_formats_core.specs.SpellingLaws.{same_fronts}
+use Rattle.asn1_compose.specs.Spelling.{Starts, Fits, ReadsOne, SpellsOne, NamesFault, NamesMisfit}
+use Rattle.asn1_compose.specs.Combined.{SoMany}
+use Rattle.asn1_compose.specs.SpellingLaws.{same_fronts}
 use Rattle.asn1_der.specs.declared.tag.Tag.{Tag}
 use Rattle.asn1_der.specs.declared.items.InItem.{InItem}
 use Rattle.asn1_der.specs.declared.set_of.InSet.{InSet}

@@ -4,9 +4,9 @@ use Rattle.std.proofs.lemmas.List.{map_more, map-append, append-nil, nil_from_le
 use Rattle.std.proofs.Math.Seq.{drop-cons}
 use Rattle.std.specs.declared.cmp.Ordering.TheVariants.{Less}
 use Rattle.asn1_bits.specs.BitLists.{bits_cmp}
-use Rattle.asn1_formats_core.specs.Spelling.{Starts, Fits, Measures, IsSumOf, SpellsOne}
-use Rattle.asn1_formats_core.specs.Combined.{SoMany}
-use Rattle.asn1_formats_core.specs.ListLaws.{many_snoc}
+use Rattle.asn1_compose.specs.Spelling.{Starts, Fits, Measures, IsSumOf, SpellsOne}
+use Rattle.asn1_compose.specs.Combined.{SoMany}
+use Rattle.asn1_compose.specs.ListLaws.{many_snoc}
 use Rattle.asn1_der.specs.declared.set_of.InSet.{InSet}
 use Rattle.asn1_der.specs.declared.set_of.InSet.TheVariants as part
 use Rattle.asn1_der.specs.Items.{AreItems}

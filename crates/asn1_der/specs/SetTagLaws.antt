@@ -1,11 +1,11 @@
 -- Laws of SET.
 use Rattle.std.proofs.Common.{◌≡◌, ℕ, ◌*◌, ◌<◌, Bool, List, [], ◌∷◌, Option, Some, None, length, refl, sym, ap, subst, arith}
-use Rattle.asn1_formats_core.specs.declared.one_of.OneOf.{OneOf}
-use Rattle.asn1_formats_core.specs.declared.one_of.OneOf.TheVariants.{First, Other}
-use Rattle.asn1_formats_core.specs.Spelling.{Starts, SpellsOne, NamesMisfit}
-use Rattle.asn1_formats_core.specs.Combined.{Both}
-use Rattle.asn1_formats_core.specs.OctetStrings.{AreOctets}
-use Rattle.asn1_formats_core.specs.OctetStringLaws.{of_bits}
+use Rattle.asn1_compose.specs.declared.one_of.OneOf.{OneOf}
+use Rattle.asn1_compose.specs.declared.one_of.OneOf.TheVariants.{First, Other}
+use Rattle.asn1_compose.specs.Spelling.{Starts, SpellsOne, NamesMisfit}
+use Rattle.asn1_compose.specs.Combined.{Both}
+use Rattle.asn1_compose.specs.OctetStrings.{AreOctets}
+use Rattle.asn1_compose.specs.OctetStringLaws.{of_bits}
 use Rattle.asn1_der.specs.declared.tag.Tag.{Tag}
 use Rattle.asn1_der.specs.declared.tlv.ElementFault.{ElementFault}
 use Rattle.asn1_der.specs.declared.set.InTagOrder.{InTagOrder}

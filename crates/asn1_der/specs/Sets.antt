@@ -2,8 +2,8 @@
 use Rattle.std.specs.Prelude.{◌≡◌, ◌≢◌, ◌<◌, Bool, List, [], ◌∷◌, ◌++◌, length, Option, Some, None, ⊤}
 use Rattle.std.specs.declared.cmp.Ordering.TheVariants.{Less}
 use Rattle.asn1_bits.specs.BitLists.{bits_cmp}
-use Rattle.asn1_formats_core.specs.Spelling.{Starts, Fits}
-use Rattle.asn1_formats_core.specs.Combined.{After, SoMany}
+use Rattle.asn1_compose.specs.Spelling.{Starts, Fits}
+use Rattle.asn1_compose.specs.Combined.{After, SoMany}
 use Rattle.asn1_der.specs.declared.items.InItem.{InItem}
 use Rattle.asn1_der.specs.declared.set_of.InSet.{InSet}
 use Rattle.asn1_der.specs.declared.set_of.InSet.TheVariants as part

@@ -11,8 +11,8 @@ use Rattle.asn1_bits.specs.Bits.{bits}
 use Rattle.std.specs.Str.{IsUtf8, IsValidUpTo, encode_utf8_all, all_scalars}
 use Rattle.asn1_characters.specs.Sets.{base_set, has_character}
 use Rattle.asn1_characters.specs.declared.character_set.CharacterSetName.{CharacterSetName}
-use Rattle.asn1_formats_core.specs.Spelling.{SpellsOne}
-use Rattle.asn1_formats_core.specs.OctetStrings.{AreOctets}
+use Rattle.asn1_compose.specs.Spelling.{SpellsOne}
+use Rattle.asn1_compose.specs.OctetStrings.{AreOctets}
 use Rattle.asn1_der.specs.declared.character_string.NotInSet.{NotInSet}
 use Rattle.asn1_der.specs.Contents.{FillsOne, NamesWrong, AreWhole}
 use Rattle.asn1_der.specs.OctetContents.{IsInOctets, IsWrongInOctets}

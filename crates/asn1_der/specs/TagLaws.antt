@@ -10,10 +10,10 @@ use Rattle.asn1_der.specs.declared.tag.Class.TheVariants.{Universal, Application
 use Rattle.asn1_der.specs.declared.tag.Tag.{Tag}
 use Rattle.asn1_der.specs.declared.tag.TagFault.{TagFault}
 use Rattle.asn1_der.specs.declared.tag.TagFault.TheVariants.{Short, Padded, Low, Large, Other}
-use Rattle.asn1_formats_core.specs.Spelling.{Starts, CanRead, Measures, IsWritten, ReadsOne, SpellsOne, NamesFault}
-use Rattle.asn1_formats_core.specs.Numbers.{IsNumber}
-use Rattle.asn1_formats_core.specs.Combined.{After}
-use Rattle.asn1_formats_core.specs.SpellingLaws.{number_reads_one, number_spells_one, number_short, both_spells_one, split, join}
+use Rattle.asn1_compose.specs.Spelling.{Starts, CanRead, Measures, IsWritten, ReadsOne, SpellsOne, NamesFault}
+use Rattle.asn1_compose.specs.Numbers.{IsNumber}
+use Rattle.asn1_compose.specs.Combined.{After}
+use Rattle.asn1_compose.specs.SpellingLaws.{number_reads_one, number_spells_one, number_short, both_spells_one, split, join}
 use Rattle.asn1_der.specs.TagNumbers.{IsSubsequent, NumberFaultIs}
 use Rattle.asn1_der.specs.TagNumberLaws.{subsequent_reads_one, subsequent_spells_one, subsequent_whole, number_wrong, number_one_fault}
 use Rattle.asn1_der.specs.TagNumberSteps.{subsequent_is}

@@ -10,9 +10,9 @@ use Rattle.asn1_oid.specs.Contents.{IsSeries, base_128}
 use Rattle.asn1_oid.specs.WritingLaws.{only_octets}
 use Rattle.asn1_der.specs.declared.tag.TagFault.{TagFault}
 use Rattle.asn1_der.specs.declared.tag.TagFault.TheVariants.{Short, Padded, Low, Large, Other}
-use Rattle.asn1_formats_core.specs.Spelling.{Starts, ReadsOne, SpellsOne}
-use Rattle.asn1_formats_core.specs.Numbers.{IsNumber, IsShort}
-use Rattle.asn1_formats_core.specs.SpellingLaws.{number_reads_one}
+use Rattle.asn1_compose.specs.Spelling.{Starts, ReadsOne, SpellsOne}
+use Rattle.asn1_compose.specs.Numbers.{IsNumber, IsShort}
+use Rattle.asn1_compose.specs.SpellingLaws.{number_reads_one}
 use Rattle.asn1_der.specs.TagNumbers.{IsSubsequent, GoOn, NumberFaultIs}
 
 abbrev S : ℕ → List Bool → Type 0

@@ -8,8 +8,8 @@ use Rattle.asn1_bits.specs.DigitLaws.{length-digits, bits-append}
 use Rattle.asn1_oid.specs.Contents.{IsSeries, base_128}
 use Rattle.asn1_oid.specs.Writing.{HasDigits, last_octets}
 use Rattle.asn1_oid.specs.WritingLaws.{last_octets_are, last_octet, octet_before, next_power}
-use Rattle.asn1_formats_core.specs.Spelling.{Starts, IsWritten}
-use Rattle.asn1_formats_core.specs.Numbers.{IsNumber}
+use Rattle.asn1_compose.specs.Spelling.{Starts, IsWritten}
+use Rattle.asn1_compose.specs.Numbers.{IsNumber}
 use Rattle.asn1_der.specs.TagNumbers.{IsSubsequent, GoOn, HasBegun}
 use Rattle.asn1_der.specs.TagNumberLaws.{base_128-snoc}
 

@@ -4,8 +4,8 @@ use Rattle.asn1_bits.specs.Bits.{bits}
 use Rattle.asn1_oid.specs.Contents.{base_128, IsSubidentifier}
 use Rattle.asn1_der.specs.declared.tag.TagFault.{TagFault}
 use Rattle.asn1_der.specs.declared.tag.TagFault.TheVariants.{Short, Padded, Low, Large, Other}
-use Rattle.asn1_formats_core.specs.Spelling.{Starts}
-use Rattle.asn1_formats_core.specs.Numbers.{IsNumber, IsShort}
+use Rattle.asn1_compose.specs.Spelling.{Starts}
+use Rattle.asn1_compose.specs.Numbers.{IsNumber, IsShort}
 
 -- octets that hold a number in the form of a subidentifier: bit 8 is zero in the last alone, bits 7 to 1 of all are the
 -- number's digits, and those of the first are not all zero

@@ -9,9 +9,9 @@ use Rattle.asn1_bits.specs.Bits.{bits, digits}
 use Rattle.asn1_bits.specs.DigitLaws.{length-bits}
 use Rattle.asn1_bits.specs.BitLists.{bits_cmp}
 use Rattle.asn1_oid.specs.Writing.{last_octets, HasDigits}
-use Rattle.asn1_formats_core.specs.Numbers.{IsNumber}
-use Rattle.asn1_formats_core.specs.Combined.{Both}
-use Rattle.asn1_formats_core.specs.OctetStrings.{AreOctets}
+use Rattle.asn1_compose.specs.Numbers.{IsNumber}
+use Rattle.asn1_compose.specs.Combined.{Both}
+use Rattle.asn1_compose.specs.OctetStrings.{AreOctets}
 use Rattle.asn1_der.specs.declared.tag.Tag.{Tag}
 use Rattle.asn1_der.specs.Tags.{leading, IsIdentifier}
 use Rattle.asn1_der.specs.TagLaws.{identifier_reads_one}

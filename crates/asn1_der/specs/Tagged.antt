@@ -1,7 +1,7 @@
 -- The tags that bits begin with, by which an element is told from another.
 use Rattle.std.specs.Prelude.{List, Bool, Option, Some, None}
 use Rattle.asn1_der.specs.declared.tag.Tag.{Tag}
-use Rattle.asn1_formats_core.specs.Spelling.{Starts}
+use Rattle.asn1_compose.specs.Spelling.{Starts}
 use Rattle.asn1_der.specs.Tags.{IsIdentifier}
 use Rattle.asn1_der.specs.Contents.{IsWhole}
 

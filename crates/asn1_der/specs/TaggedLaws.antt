@@ -3,8 +3,8 @@ use Rattle.std.proofs.Common.{◌≡◌, ◌+◌, ◌<◌, ◌≤◌, List, ◌+
 use Rattle.std.proofs.lemmas.List.{length-append}
 use Rattle.asn1_der.specs.declared.tag.Tag.{Tag}
 use Rattle.asn1_der.specs.declared.tag.TagFault.{TagFault}
-use Rattle.asn1_formats_core.specs.Spelling.{Starts}
-use Rattle.asn1_formats_core.specs.Combined.{Both}
+use Rattle.asn1_compose.specs.Spelling.{Starts}
+use Rattle.asn1_compose.specs.Combined.{Both}
 use Rattle.asn1_der.specs.Tags.{IsIdentifier, TagFaultIs}
 use Rattle.asn1_der.specs.TagLaws.{identifier_reads_one, identifier_names_fault, identifier_size}
 use Rattle.asn1_der.specs.Elements.{IsTlv}

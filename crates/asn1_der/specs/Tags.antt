@@ -5,9 +5,9 @@ use Rattle.asn1_der.specs.declared.tag.Class.TheVariants.{Universal, Application
 use Rattle.asn1_der.specs.declared.tag.Tag.{Tag}
 use Rattle.asn1_der.specs.declared.tag.TagFault.{TagFault}
 use Rattle.asn1_der.specs.declared.tag.TagFault.TheVariants.{Short, Padded, Low, Large, Other}
-use Rattle.asn1_formats_core.specs.Spelling.{Starts}
-use Rattle.asn1_formats_core.specs.Numbers.{IsNumber, IsShort}
-use Rattle.asn1_formats_core.specs.Combined.{Both, After}
+use Rattle.asn1_compose.specs.Spelling.{Starts}
+use Rattle.asn1_compose.specs.Numbers.{IsNumber, IsShort}
+use Rattle.asn1_compose.specs.Combined.{Both, After}
 use Rattle.asn1_der.specs.TagNumbers.{IsSubsequent, NumberFaultIs}
 
 -- bits 8 and 7 of the leading octet (8.1.2.2)

@@ -3,7 +3,7 @@ use Rattle.std.proofs.Common.{◌≡◌, ℕ, zero, suc, ◌+◌, ◌-◌, ◌*�
 use Rattle.std.proofs.lemmas.Bool.{cases_order}
 use Rattle.std.proofs.lemmas.List.{length-drop}
 use Rattle.std.proofs.Math.Seq.{drop-cons}
-use Rattle.asn1_formats_core.specs.Spelling.{SpellsOne, NamesMisfit}
+use Rattle.asn1_compose.specs.Spelling.{SpellsOne, NamesMisfit}
 use Rattle.asn1_der.specs.declared.time.TimeFault.{TimeFault}
 use Rattle.asn1_der.specs.declared.time.TimeFault.TheVariants.{Octets, Other, NoSuchTime}
 use Rattle.asn1_der.specs.declared.time.NoTime.{NoTime}

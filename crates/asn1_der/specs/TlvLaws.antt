@@ -8,9 +8,9 @@ use Rattle.asn1_der.specs.declared.tlv.InTlv.{InTlv}
 use Rattle.asn1_der.specs.declared.tlv.InTlv.TheVariants as fault
 use Rattle.asn1_der.specs.declared.tlv.TlvMisfit.{TlvMisfit}
 use Rattle.asn1_der.specs.declared.tlv.TlvMisfit.TheVariants as misfit
-use Rattle.asn1_formats_core.specs.Spelling.{Starts, CanRead, Fits, Measures, IsLength, IsSumOf, ReadsOne, SpellsOne, NamesFault, NamesMisfit}
-use Rattle.asn1_formats_core.specs.Combined.{Both}
-use Rattle.asn1_formats_core.specs.SpellingLaws.{join, both_reads_one, both_spells_one, can_first, can_second}
+use Rattle.asn1_compose.specs.Spelling.{Starts, CanRead, Fits, Measures, IsLength, IsSumOf, ReadsOne, SpellsOne, NamesFault, NamesMisfit}
+use Rattle.asn1_compose.specs.Combined.{Both}
+use Rattle.asn1_compose.specs.SpellingLaws.{join, both_reads_one, both_spells_one, can_first, can_second}
 use Rattle.asn1_der.specs.Tags.{IsIdentifier, IsTagged}
 use Rattle.asn1_der.specs.TagLaws.{identifier_whole, tagged_reads_one, tagged_spells_one, tagged_names_fault}
 use Rattle.asn1_der.specs.Lengths.{IsDefinite, IsCounted, CountFaultIs}

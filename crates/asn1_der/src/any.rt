@@ -10,7 +10,7 @@ use crate::raw_element::next_element;
 use crate::tag::{Tag, compare_tags};
 use crate::tlv::{ElementFault, Tlv, TlvMisfit};
 use asn1_bits::{BitBuffer, BitReader};
-use asn1_formats_core::{Format, NeverWrong, Refusal};
+use asn1_compose::{Format, NeverWrong, Refusal};
 use std::alloc::Global;
 use std::cmp::Ordering;
 
@@ -43,7 +43,7 @@ impl Format for Any {
     ghost use Rattle.asn1_der.specs.declared.tag.Tag as tags;
     ghost use Rattle.asn1_der.specs.Elements.{IsAny, AnyFaultIs, AnyMisfitIs};
     ghost use Rattle.asn1_der.specs.AnyLaws.{any_reads_one, any_spells_one, any_names_fault, any_names_misfit};
-    ghost use Rattle.asn1_formats_core.specs.WithinLaws.{itself};
+    ghost use Rattle.asn1_compose.specs.WithinLaws.{itself};
 
     type Value = AnyValue;
 

@@ -7,7 +7,7 @@ ghost use Rattle.asn1_der.specs.BitStrings.{IsBitString, BitStringFaultIs};
 use crate::contents::Contents;
 use crate::ordered_contents::OrderedContents;
 use asn1_bits::{BitBuffer, BitReader, BitString, to_bitstring};
-use asn1_formats_core::{NeverWrong, Refusal, next_number, push_number};
+use asn1_compose::{NeverWrong, Refusal, next_number, push_number};
 use std::alloc::Global;
 use std::cmp::Ordering;
 

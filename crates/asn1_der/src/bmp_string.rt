@@ -3,12 +3,12 @@
 ghost use Rattle.std.specs.Prelude.{◌≡◌, ◌+◌, ◌*◌, ◌/◌, ◌%◌, ◌<◌, ◌≤◌, ◌++◌, All, length, OnOk, OnErr, IfOk, IfErr};
 ghost use Rattle.asn1_bits.specs.BitStr.{view_of, bits_of};
 ghost use Rattle.asn1_bits.specs.BitReader.{view_left, bits_left};
-ghost use Rattle.asn1_formats_core.specs.Spelling.{Extends, IsLength};
+ghost use Rattle.asn1_compose.specs.Spelling.{Extends, IsLength};
 ghost use Rattle.asn1_der.specs.BmpStrings.{pairs, character_at, AreOfBmp, BmpStringFaultIs};
 
 use crate::contents::Contents;
 use asn1_bits::{BitBuffer, BitReader, BitStr, read_u128};
-use asn1_formats_core::{NeverWrong, Refusal, push_number};
+use asn1_compose::{NeverWrong, Refusal, push_number};
 use asn1_strings::{BmpString, CharacterSetName, RestrictedString, StaticPermittedAlphabet};
 use std::alloc::{AllocError, Global};
 

@@ -4,7 +4,7 @@ use crate::comparable::Comparable;
 use crate::contents::Contents;
 use crate::ordered_contents::OrderedContents;
 use asn1_bits::{BitBuffer, BitReader};
-use asn1_formats_core::{NeverWrong, Refusal, next_number, push_number};
+use asn1_compose::{NeverWrong, Refusal, next_number, push_number};
 use std::alloc::Global;
 use std::cmp::Ordering;
 

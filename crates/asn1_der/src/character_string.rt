@@ -10,7 +10,7 @@ use crate::octet_string::{are_octets, bit_count, octets_of};
 use crate::ordered_contents::{OrderedContents, compare_octets};
 use crate::view_octets::source_of;
 use asn1_bits::{BitBuffer, BitReader};
-use asn1_formats_core::{NeverWrong, Refusal, push_octets};
+use asn1_compose::{NeverWrong, Refusal, push_octets};
 use asn1_oid::OctetSource;
 use asn1_strings::{CharacterSetName, RestrictedString, StaticPermittedAlphabet, StringKind};
 use std::alloc::Global;

@@ -4,7 +4,7 @@ use crate::element::Element;
 use crate::front::begins_with;
 use crate::tag::Tag;
 use asn1_bits::{BitBuffer, BitReader};
-use asn1_formats_core::{OneOf, Refusal};
+use asn1_compose::{OneOf, Refusal};
 use std::alloc::Global;
 
 /// CHOICE: an element of the first alternative, or of the others. The tag in front tells which
@@ -31,7 +31,7 @@ pub enum ChoiceMisfit<E, F> {
 
 impl<A: Element, B: Element> Element for Or<A, B> {
     ghost use Rattle.std.specs.Prelude.{◌⊎◌};
-    ghost use Rattle.asn1_formats_core.specs.declared.one_of.OneOf as plain_one;
+    ghost use Rattle.asn1_compose.specs.declared.one_of.OneOf as plain_one;
     ghost use Rattle.asn1_der.specs.Alternatives.{plain_choice, ChoiceSpells, ChoiceFaultIs, ChoiceMisfitIs};
     ghost use Rattle.asn1_der.specs.AlternativeLaws.{choice_tagged, choice_reads_one, choice_spells_one, choice_names_fault, choice_names_misfit};
 

@@ -2,14 +2,14 @@
 
 ghost use Rattle.std.specs.Prelude.{List, Bool, OnOk, OnErr, IfOk, IfErr, IsTrue, IsFalse, ⊤};
 ghost use Rattle.asn1_bits.specs.BitReader.{bits_left};
-ghost use Rattle.asn1_formats_core.specs.Spelling.{Starts, Measures, IsWritten, Extends, ReadsOne, SpellsOne, NamesFault, NamesMisfit};
-ghost use Rattle.asn1_formats_core.specs.Refusals.{IsRefusal};
+ghost use Rattle.asn1_compose.specs.Spelling.{Starts, Measures, IsWritten, Extends, ReadsOne, SpellsOne, NamesFault, NamesMisfit};
+ghost use Rattle.asn1_compose.specs.Refusals.{IsRefusal};
 ghost use Rattle.asn1_der.specs.declared.tag.Tag as tags;
 ghost use Rattle.asn1_der.specs.Tagged.{HasTag, AreTagged};
 
 use crate::tag::Tag;
 use asn1_bits::{BitBuffer, BitReader};
-use asn1_formats_core::Refusal;
+use asn1_compose::Refusal;
 use std::alloc::Global;
 
 /// An element: values whose spellings are whole octets and begin with a tag, by which OPTIONAL,

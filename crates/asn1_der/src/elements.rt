@@ -2,14 +2,14 @@
 
 ghost use Rattle.std.specs.Prelude.{◌≡◌, ◌%◌, Bool, List, OnOk, OnErr, IfOk, IfErr, ⊤};
 ghost use Rattle.asn1_bits.specs.BitReader.{view_left, bits_left};
-ghost use Rattle.asn1_formats_core.specs.Spelling.{Measures, IsWritten, Extends, SpellsOne, NamesMisfit};
-ghost use Rattle.asn1_formats_core.specs.Refusals.{IsRefusal};
+ghost use Rattle.asn1_compose.specs.Spelling.{Measures, IsWritten, Extends, SpellsOne, NamesMisfit};
+ghost use Rattle.asn1_compose.specs.Refusals.{IsRefusal};
 ghost use Rattle.asn1_der.specs.Contents.{FillsOne, NamesWrong, AreWhole};
 ghost use Rattle.asn1_der.specs.Tagged.{FirstTag};
 
 use crate::tag::Tag;
 use asn1_bits::{BitBuffer, BitReader};
-use asn1_formats_core::Refusal;
+use asn1_compose::Refusal;
 use std::alloc::Global;
 
 /// Elements one after another, up to the end of the contents that they are.

@@ -3,7 +3,7 @@
 use crate::elements::Elements;
 use crate::tag::Tag;
 use asn1_bits::{BitBuffer, BitReader};
-use asn1_formats_core::{NeverWrong, Refusal};
+use asn1_compose::{NeverWrong, Refusal};
 use std::alloc::Global;
 
 /// The end of contents: no element.

@@ -10,7 +10,7 @@ use crate::set::InTagOrder;
 use crate::set_of::InSet;
 use crate::tag::TagFault;
 use crate::tlv::{ElementFault, InTlv, TlvMisfit};
-use asn1_formats_core::Explain;
+use asn1_compose::Explain;
 use std::fmt;
 
 impl fmt::Display for TagFault {

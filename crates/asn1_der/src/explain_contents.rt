@@ -9,7 +9,7 @@ use crate::integer::NotShortest;
 use crate::object_identifier::{IdentifierFault, OneArc};
 use crate::time::{NoTime, TimeFault};
 use crate::utf8_string::NotUtf8;
-use asn1_formats_core::Explain;
+use asn1_compose::Explain;
 use std::fmt;
 
 impl fmt::Display for BooleanFault {

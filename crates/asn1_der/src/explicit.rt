@@ -8,7 +8,7 @@ use crate::front::{skip_front, take_front};
 use crate::ordered::Ordered;
 use crate::ordered_contents::OrderedContents;
 use asn1_bits::{BitBuffer, BitReader};
-use asn1_formats_core::{InThen, Refusal};
+use asn1_compose::{InThen, Refusal};
 use std::alloc::Global;
 use std::cmp::Ordering;
 

@@ -3,7 +3,7 @@
 ghost use Rattle.std.specs.Prelude.{◌≡◌, ◌+◌, ◌*◌, ◌<◌, ◌≤◌, ◌%◌, ◌↔◌, ◌++◌, ◌∷◌, [], ℕ, All, length, slice_index, IsTrue, OnOk, OnErr, IfOk, IfErr};
 ghost use Rattle.asn1_bits.specs.Bits.{bits};
 ghost use Rattle.asn1_bits.specs.BitReader.{view_left, bits_left};
-ghost use Rattle.asn1_formats_core.specs.Spelling.{Extends, IsLength};
+ghost use Rattle.asn1_compose.specs.Spelling.{Extends, IsLength};
 ghost use Rattle.asn1_der.specs.OctetContents.{IsInOctets, IsWrongInOctets};
 ghost use Rattle.asn1_der.specs.Times.{IsFractionDigit, IsFraction, IsMisplaced, fraction_tail, fraction_in, IsFractionalTime, IsFractionalCount, IsFractionalPlace, IsInFractional, FractionalTimeFaultIs, FractionalMisfitIs};
 
@@ -14,7 +14,7 @@ use crate::octet_string::are_octets;
 use crate::time::{TimeFault, is_digit};
 use crate::view_octets::source_of;
 use asn1_bits::{BitBuffer, BitReader};
-use asn1_formats_core::{Refusal, push_octets};
+use asn1_compose::{Refusal, push_octets};
 use asn1_oid::OctetSource;
 use std::alloc::{AllocError, Global};
 

@@ -9,7 +9,7 @@ use crate::contents::Contents;
 use crate::octet_string::bit_count;
 use crate::ordered_contents::{OrderedContents, compare_octets};
 use asn1_bits::{BitBuffer, BitReader, BitStr};
-use asn1_formats_core::{NeverWrong, Refusal, are_shortest_octets, push_octets};
+use asn1_compose::{NeverWrong, Refusal, are_shortest_octets, push_octets};
 use asn1_integer::{Integer, integer_of};
 use std::alloc::Global;
 use std::cmp::Ordering;

@@ -2,14 +2,14 @@
 
 ghost use Rattle.std.specs.Prelude.{◌≡◌, ◌<◌, ◌%◌, ⊤, List, Bool, map, OnOk, OnErr, IfOk, IfErr};
 ghost use Rattle.asn1_bits.specs.BitReader.{view_left, bits_left};
-ghost use Rattle.asn1_formats_core.specs.Spelling.{Measures, IsWritten, Extends};
-ghost use Rattle.asn1_formats_core.specs.Refusals.{IsRefusal};
+ghost use Rattle.asn1_compose.specs.Spelling.{Measures, IsWritten, Extends};
+ghost use Rattle.asn1_compose.specs.Refusals.{IsRefusal};
 ghost use Rattle.asn1_der.specs.Items.{AreItems, ItemFaultIs, ItemMisfitIs};
 
 use crate::element::Element;
 use crate::front::{skip_front, take_front};
 use asn1_bits::{BitBuffer, BitReader};
-use asn1_formats_core::{Refusal, sum_of};
+use asn1_compose::{Refusal, sum_of};
 use std::alloc::Global;
 
 /// What is wrong with one of several elements.

@@ -2,11 +2,11 @@
 
 ghost use Rattle.std.specs.Prelude.{◌≡◌, ℕ, ◌+◌, ◌-◌, ◌*◌, ◌^◌, ◌%◌, ◌<◌, ◌≤◌, ◌++◌, OnOk, OnErr, IfOk, IfErr, Some};
 ghost use Rattle.asn1_bits.specs.BitReader.{view_left, bits_left};
-ghost use Rattle.asn1_formats_core.specs.Spelling.{Starts, Measures, IsWritten, Extends};
+ghost use Rattle.asn1_compose.specs.Spelling.{Starts, Measures, IsWritten, Extends};
 ghost use Rattle.asn1_der.specs.Lengths.{IsDefinite, LengthFaultIs, IsCounted, CountFaultIs};
 
 use asn1_bits::{BitBuffer, BitReader};
-use asn1_formats_core::{next_number, next_octets, push_number};
+use asn1_compose::{next_number, next_octets, push_number};
 use std::alloc::AllocError;
 
 /// What is wrong with a length, or with the octets behind it.
@@ -121,7 +121,7 @@ fn next_long(reader: &mut BitReader<'_>, octets: usize) -> Result<u64, LengthFau
     Ok(length)
 }
 
-ghost use Rattle.asn1_formats_core.specs.Numbers.{IsNumber};
+ghost use Rattle.asn1_compose.specs.Numbers.{IsNumber};
 ghost use Rattle.asn1_der.specs.Lengths.{LongFaultIs};
 
 /// The octets behind the next length.

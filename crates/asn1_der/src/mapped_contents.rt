@@ -2,7 +2,7 @@
 
 use crate::contents::Contents;
 use asn1_bits::{BitBuffer, BitReader};
-use asn1_formats_core::{Mapped, OfParts, Refusal};
+use asn1_compose::{Mapped, OfParts, Refusal};
 use std::alloc::Global;
 
 impl<A: Contents, V: OfParts<Parts = A::Value>> Contents for Mapped<A, V> {

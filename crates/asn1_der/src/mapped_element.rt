@@ -4,7 +4,7 @@ use crate::element::Element;
 use crate::ordered::Ordered;
 use crate::tag::Tag;
 use asn1_bits::{BitBuffer, BitReader};
-use asn1_formats_core::{Mapped, OfParts, Refusal};
+use asn1_compose::{Mapped, OfParts, Refusal};
 use std::alloc::Global;
 use std::cmp::Ordering;
 

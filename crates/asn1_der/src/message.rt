@@ -5,7 +5,7 @@ ghost use Rattle.asn1_bits.specs.Bits.{bits};
 ghost use Rattle.asn1_der.specs.Messages.{IsDecodeRefusal};
 
 use asn1_bits::BitReader;
-use asn1_formats_core::{Format, Refusal, read};
+use asn1_compose::{Format, Refusal, read};
 use std::alloc::Global;
 
 /// Why octets are no message.

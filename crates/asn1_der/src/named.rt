@@ -4,13 +4,13 @@ use crate::element::Element;
 use crate::ordered::Ordered;
 use crate::tag::Tag;
 use asn1_bits::{BitBuffer, BitReader};
-use asn1_formats_core::{InNamed, Named, Refusal};
+use asn1_compose::{InNamed, Named, Refusal};
 use std::alloc::Global;
 use std::cmp::Ordering;
 
 impl<A: Element> Element for Named<A> {
     ghost use Rattle.std.specs.Prelude.{◌≡◌};
-    ghost use Rattle.asn1_formats_core.specs.NamedLaws.{named_names_fault, named_names_misfit};
+    ghost use Rattle.asn1_compose.specs.NamedLaws.{named_names_fault, named_names_misfit};
 
     type Value = A::Value;
 

@@ -3,7 +3,7 @@
 use crate::comparable::Comparable;
 use crate::contents::Contents;
 use asn1_bits::{BitBuffer, BitReader};
-use asn1_formats_core::Refusal;
+use asn1_compose::Refusal;
 use std::alloc::Global;
 
 /// The contents of an element that has a DEFAULT, where it is there: each value but the default,

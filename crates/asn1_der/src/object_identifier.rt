@@ -6,14 +6,14 @@ ghost use Rattle.asn1_bits.specs.BitLists.{bits_cmp};
 ghost use Rattle.asn1_bits.specs.BitStr.{view_of, bits_of};
 ghost use Rattle.asn1_bits.specs.BitReader.{view_left, bits_left};
 ghost use Rattle.asn1_oid.specs.Contents.{FitU32};
-ghost use Rattle.asn1_formats_core.specs.Spelling.{Extends};
+ghost use Rattle.asn1_compose.specs.Spelling.{Extends};
 ghost use Rattle.asn1_der.specs.ViewOctets.{octets_in};
 
 use crate::contents::Contents;
 use crate::ordered_contents::OrderedContents;
 use crate::view_octets::source_of;
 use asn1_bits::{BitBuffer, BitReader};
-use asn1_formats_core::{Refusal, push_number};
+use asn1_compose::{Refusal, push_number};
 use asn1_oid::{ContentsError, ObjectIdentifier, OidContents, check_contents};
 use std::alloc::{AllocError, Global};
 use std::cmp::Ordering;

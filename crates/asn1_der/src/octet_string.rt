@@ -3,12 +3,12 @@
 ghost use Rattle.std.specs.Prelude.{◌≡◌, ◌*◌, ◌<◌, ◌%◌, All, IfOk};
 ghost use Rattle.asn1_bits.specs.Bits.{bits};
 ghost use Rattle.asn1_bits.specs.BitReader.{view_left, bits_left};
-ghost use Rattle.asn1_formats_core.specs.Spelling.{IsLength};
+ghost use Rattle.asn1_compose.specs.Spelling.{IsLength};
 
 use crate::contents::Contents;
 use crate::ordered_contents::{OrderedContents, compare_octets};
 use asn1_bits::{BitBuffer, BitReader, extend_vec_from_bitslice};
-use asn1_formats_core::{NeverWrong, Refusal, push_octets};
+use asn1_compose::{NeverWrong, Refusal, push_octets};
 use std::alloc::{AllocError, Global};
 use std::cmp::Ordering;
 
@@ -44,7 +44,7 @@ pub(crate) fn octets_of(alloc: Global, contents: BitReader<'_>) -> Result<Vec<u8
 
 impl Contents for OctetStringContents {
     ghost use Rattle.std.specs.Prelude.{ℕ, List, ⊤};
-    ghost use Rattle.asn1_formats_core.specs.OctetStrings.{AreOctets};
+    ghost use Rattle.asn1_compose.specs.OctetStrings.{AreOctets};
     ghost use Rattle.asn1_der.specs.PrimitiveLaws.{octets_fill_one, octets_spell_one, octets_whole};
     ghost use Rattle.asn1_der.specs.PartLaws.{none_names_misfit, none_names_fault};
 

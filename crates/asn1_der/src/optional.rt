@@ -5,7 +5,7 @@ use crate::elements::Elements;
 use crate::front::{begins_with, skip_front, take_front};
 use crate::tag::Tag;
 use asn1_bits::{BitBuffer, BitReader};
-use asn1_formats_core::{InThen, Refusal, sum_of};
+use asn1_compose::{InThen, Refusal, sum_of};
 use std::alloc::Global;
 
 /// OPTIONAL: an element that may be missing, and the others behind it. It is there where the octets
@@ -33,7 +33,7 @@ pub enum OptionalMisfit<E, F> {
 
 impl<F: Element, R: Elements> Elements for Optional<F, R> {
     ghost use Rattle.std.specs.Prelude.{Option};
-    ghost use Rattle.asn1_formats_core.specs.Combined.{plain_option};
+    ghost use Rattle.asn1_compose.specs.Combined.{plain_option};
     ghost use Rattle.asn1_der.specs.Parts.{IsOptional, OptionalFaultIs, OptionalMisfitIs};
     ghost use Rattle.asn1_der.specs.OptionalLaws.{optional_fills_one, optional_spells_one, optional_whole, optional_names_fault, optional_names_misfit};
 

@@ -4,7 +4,7 @@ use crate::choice::Or;
 use crate::element::Element;
 use crate::ordered::Ordered;
 use crate::tag::compare_tags;
-use asn1_formats_core::OneOf;
+use asn1_compose::OneOf;
 use std::cmp::Ordering;
 
 impl<A: Ordered, B: Ordered> Ordered for Or<A, B> {

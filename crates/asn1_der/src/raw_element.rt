@@ -2,7 +2,7 @@
 
 ghost use Rattle.std.specs.Prelude.{◌≡◌, ◌%◌, OnErr, IfOk, IfErr};
 ghost use Rattle.asn1_bits.specs.BitReader.{view_left, bits_left};
-ghost use Rattle.asn1_formats_core.specs.Spelling.{Starts};
+ghost use Rattle.asn1_compose.specs.Spelling.{Starts};
 ghost use Rattle.asn1_der.specs.Elements.{IsElement, AnyFaultIs};
 
 use crate::length::next_counted;

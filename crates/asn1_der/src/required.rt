@@ -5,7 +5,7 @@ use crate::elements::Elements;
 use crate::front::{skip_front, take_front};
 use crate::tag::Tag;
 use asn1_bits::{BitBuffer, BitReader};
-use asn1_formats_core::{InThen, Refusal, sum_of};
+use asn1_compose::{InThen, Refusal, sum_of};
 use std::alloc::Global;
 
 /// An element that is always there, and the others behind it.
@@ -19,9 +19,9 @@ pub struct Required<F, R> {
 }
 
 impl<F: Element, R: Elements> Elements for Required<F, R> {
-    ghost use Rattle.asn1_formats_core.specs.Combined.{Both, BothFault, BothMisfit};
-    ghost use Rattle.asn1_formats_core.specs.SpellingLaws.{both_spells_one};
-    ghost use Rattle.asn1_formats_core.specs.ThenLaws.{both_names_misfit};
+    ghost use Rattle.asn1_compose.specs.Combined.{Both, BothFault, BothMisfit};
+    ghost use Rattle.asn1_compose.specs.SpellingLaws.{both_spells_one};
+    ghost use Rattle.asn1_compose.specs.ThenLaws.{both_names_misfit};
     ghost use Rattle.asn1_der.specs.PartLaws.{required_fills_one, required_whole, required_names_fault};
 
     type Value = (F::Value, R::Value);

@@ -3,7 +3,7 @@
 use crate::contents::Contents;
 use crate::elements::Elements;
 use asn1_bits::{BitBuffer, BitReader};
-use asn1_formats_core::Refusal;
+use asn1_compose::Refusal;
 use std::alloc::Global;
 
 /// The contents of a SEQUENCE: its elements, one after another (X.690 8.9).

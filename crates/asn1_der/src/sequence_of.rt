@@ -4,7 +4,7 @@ use crate::contents::Contents;
 use crate::element::Element;
 use crate::items::{InItem, append_items, check_items, measure_items, take_items};
 use asn1_bits::{BitBuffer, BitReader};
-use asn1_formats_core::Refusal;
+use asn1_compose::Refusal;
 use std::alloc::Global;
 
 /// The contents of a SEQUENCE OF: elements of one format, as many as there are (X.690 8.10).

@@ -11,7 +11,7 @@ use crate::ordered_elements::OrderedElements;
 use crate::raw_element::next_element;
 use crate::set_elements::{SetElements, is_behind};
 use asn1_bits::{BitBuffer, BitReader};
-use asn1_formats_core::Refusal;
+use asn1_compose::Refusal;
 use std::alloc::Global;
 use std::cmp::Ordering;
 

@@ -7,7 +7,7 @@ use crate::choice::Or;
 use crate::contents::Contents;
 use crate::element::Element;
 use crate::tlv::Tlv;
-use asn1_formats_core::{Mapped, Named, OfParts};
+use asn1_compose::{Mapped, Named, OfParts};
 
 /// An element each of whose spellings is a tag, a length and so many octets, as the components of
 /// a [`Set`](crate::Set) have to be.

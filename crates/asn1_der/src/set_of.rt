@@ -2,9 +2,9 @@
 
 ghost use Rattle.std.specs.Prelude.{◌≡◌, ◌+◌, ◌-◌, ◌<◌, ◌≤◌, ◌%◌, ⊤, List, Bool, length, take, map, IsTrue, IsFalse, OnOk, IfOk, IfErr};
 ghost use Rattle.asn1_bits.specs.BitReader.{view_left, bits_left};
-ghost use Rattle.asn1_formats_core.specs.Spelling.{Fits, Measures};
-ghost use Rattle.asn1_formats_core.specs.Combined.{plain_option};
-ghost use Rattle.asn1_formats_core.specs.Refusals.{IsRefusal};
+ghost use Rattle.asn1_compose.specs.Spelling.{Fits, Measures};
+ghost use Rattle.asn1_compose.specs.Combined.{plain_option};
+ghost use Rattle.asn1_compose.specs.Refusals.{IsRefusal};
 ghost use Rattle.asn1_der.specs.Items.{AreItems};
 ghost use Rattle.asn1_der.specs.Sets.{Ascend, IsSet, SetFaultIs, SetMisfitIs, IsBelow};
 
@@ -14,7 +14,7 @@ use crate::front::{skip_front, take_front};
 use crate::items::{InItem, append_items};
 use crate::ordered::Ordered;
 use asn1_bits::{BitBuffer, BitReader};
-use asn1_formats_core::{Refusal, sum_of};
+use asn1_compose::{Refusal, sum_of};
 use std::alloc::Global;
 use std::cmp::Ordering;
 

@@ -4,12 +4,12 @@ ghost use Rattle.std.specs.Prelude.{◌≡◌, ◌≢◌, ℕ, List, Bool, ◌<�
 ghost use Rattle.asn1_bits.specs.BitReader.{bits_left};
 ghost use Rattle.asn1_bits.specs.BitLists.{bits_cmp};
 ghost use Rattle.asn1_der.specs.TagOrderLaws.{IsLow};
-ghost use Rattle.asn1_formats_core.specs.Spelling.{Starts, Measures, IsWritten, Extends};
+ghost use Rattle.asn1_compose.specs.Spelling.{Starts, Measures, IsWritten, Extends};
 ghost use Rattle.asn1_der.specs.Tags.{class_number, leading, IsIdentifier, IsTagged, TagFaultIs, OtherTagIs};
 
 use crate::tag_number::{compare_subsequent, next_subsequent, push_subsequent, subsequent_count};
 use asn1_bits::{BitBuffer, BitReader};
-use asn1_formats_core::{next_number, push_number};
+use asn1_compose::{next_number, push_number};
 use std::alloc::AllocError;
 use std::cmp::Ordering;
 

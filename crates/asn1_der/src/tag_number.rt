@@ -4,12 +4,12 @@ ghost use Rattle.std.specs.Prelude.{◌≡◌, ◌+◌, ◌-◌, ◌*◌, ◌^�
 ghost use Rattle.asn1_bits.specs.BitLists.{bits_cmp};
 ghost use Rattle.asn1_oid.specs.Writing.{last_octets};
 ghost use Rattle.asn1_bits.specs.BitReader.{bits_left};
-ghost use Rattle.asn1_formats_core.specs.Spelling.{Starts, IsWritten, Extends};
+ghost use Rattle.asn1_compose.specs.Spelling.{Starts, IsWritten, Extends};
 ghost use Rattle.asn1_der.specs.TagNumbers.{IsSubsequent, NumberFaultIs};
 
 use crate::tag::TagFault;
 use asn1_bits::{BitBuffer, BitReader};
-use asn1_formats_core::{Short, next_number, push_number};
+use asn1_compose::{Short, next_number, push_number};
 use std::alloc::AllocError;
 use std::cmp::Ordering;
 

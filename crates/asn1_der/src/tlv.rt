@@ -2,7 +2,7 @@
 
 ghost use Rattle.std.specs.Prelude.{◌≡◌, ◌%◌, ◌<◌, OnOk, OnErr, IfOk, IfErr, ⊤};
 ghost use Rattle.asn1_bits.specs.BitReader.{view_left, bits_left};
-ghost use Rattle.asn1_formats_core.specs.Spelling.{Starts};
+ghost use Rattle.asn1_compose.specs.Spelling.{Starts};
 ghost use Rattle.asn1_der.specs.Elements.{IsElement, ElementFaultIs};
 
 use crate::contents::Contents;
@@ -10,7 +10,7 @@ use crate::element::Element;
 use crate::length::{LengthFault, length_width, next_counted, push_length};
 use crate::tag::{Tag, TagFault, are_same, pass_tag, push_tag, tag_width};
 use asn1_bits::{BitBuffer, BitReader};
-use asn1_formats_core::{Format, Refusal, sum_of};
+use asn1_compose::{Format, Refusal, sum_of};
 use std::alloc::Global;
 
 /// An element: the identifier octets of a tag, the number of its octets in the fewest octets, and
@@ -76,7 +76,7 @@ pub(crate) fn next_tagged<'a>(
 impl<C: Contents> Format for Tlv<C> {
     ghost use Rattle.asn1_der.specs.Elements.{IsTlv, TlvFaultIs, TlvMisfitIs};
     ghost use Rattle.asn1_der.specs.TlvLaws.{tlv_reads_one, tlv_spells_one, tlv_names_fault, tlv_names_misfit};
-    ghost use Rattle.asn1_formats_core.specs.WithinLaws.{itself};
+    ghost use Rattle.asn1_compose.specs.WithinLaws.{itself};
 
     type Value = C::Value;
 
@@ -179,7 +179,7 @@ impl<C: Contents> Format for Tlv<C> {
 
 impl<C: Contents> Tlv<C> {
     ghost use Rattle.std.specs.Prelude.{Some};
-    ghost use Rattle.asn1_formats_core.specs.Spelling.{Measures};
+    ghost use Rattle.asn1_compose.specs.Spelling.{Measures};
     ghost use Rattle.asn1_der.specs.Elements.{TlvMisfitIs};
 
     /// How many bits the contents of the value have.

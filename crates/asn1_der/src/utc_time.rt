@@ -12,7 +12,7 @@ use crate::ordered_contents::{OrderedContents, compare_octets};
 use crate::time::{NoTime, TimeFault, check_places, two_digits};
 use crate::view_octets::source_of;
 use asn1_bits::{BitBuffer, BitReader};
-use asn1_formats_core::{Refusal, push_octets};
+use asn1_compose::{Refusal, push_octets};
 use asn1_oid::OctetSource;
 use std::alloc::Global;
 use std::cmp::Ordering;

@@ -7,10 +7,10 @@ use Rattle.asn1_bits.specs.Bits.{digits}
 use Rattle.asn1_bits.specs.DigitLaws.{length-digits}
 use Rattle.asn1_strings.specs.Alphabet.{Alphabet, IsCode}
 use Rattle.asn1_bits.specs.Joined.{AreJoined}
-use Rattle.asn1_formats_core.specs.Spelling.{Starts, IsWritten, Extends}
-use Rattle.asn1_formats_core.specs.Combined.{SoMany}
+use Rattle.asn1_compose.specs.Spelling.{Starts, IsWritten, Extends}
+use Rattle.asn1_compose.specs.Combined.{SoMany}
 use Rattle.asn1_formats.specs.Characters.{IsCharacter}
-use Rattle.asn1_formats_core.specs.ListLaws.{written_snoc}
+use Rattle.asn1_compose.specs.ListLaws.{written_snoc}
 
 pub extends_again : (a b c : List Bool) → Extends a b → Extends b c → Extends a c
 extends_again a b c p q = record {

@@ -1,12 +1,12 @@
 -- Laws of components one after another.
 use Rattle.std.proofs.Common.{◌≡◌, ℕ, ◌+◌, List, ◌++◌, Bool, length, drop, refl, sym, ◌∙◌, ap, arith, append_assoc}
 use Rattle.std.proofs.lemmas.List.{length-append}
-use Rattle.asn1_formats_core.specs.Spelling.{Starts, ReadsOne, NamesFault}
-use Rattle.asn1_formats_core.specs.Combined.{Both, BothFault}
-use Rattle.asn1_formats_core.specs.SpellingLaws.{both_reads_one}
-use Rattle.asn1_formats_core.specs.ThenLaws.{both_names_fault}
+use Rattle.asn1_compose.specs.Spelling.{Starts, ReadsOne, NamesFault}
+use Rattle.asn1_compose.specs.Combined.{Both, BothFault}
+use Rattle.asn1_compose.specs.SpellingLaws.{both_reads_one}
+use Rattle.asn1_compose.specs.ThenLaws.{both_names_fault}
 use Rattle.asn1_formats.specs.Sequences.{Behind, IsShown, ShowsAlone, ReadsBoth}
-use Rattle.asn1_formats_core.specs.SpellingLaws.{narrow_reads_one, narrow_names_fault}
+use Rattle.asn1_compose.specs.SpellingLaws.{narrow_reads_one, narrow_names_fault}
 use Rattle.asn1_formats.specs.SequenceLaws.{past_presence}
 
 module _ {X Y : Type 0} (a : X → List Bool → Type 0) (b : Y → List Bool → Type 0) where

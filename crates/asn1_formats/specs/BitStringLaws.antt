@@ -3,11 +3,11 @@ use Rattle.std.proofs.Common.{◌≡◌, ℕ, ◌+◌, ◌<◌, ◌≤◌, List,
 use Rattle.std.proofs.lemmas.List.{length-append, length-take-le, take-append-drop}
 use Rattle.asn1_formats.specs.declared.bit_string.InBitString.{InBitString}
 use Rattle.asn1_formats.specs.declared.bit_string.InBitString.TheVariants.{Size, Short}
-use Rattle.asn1_formats_core.specs.Spelling.{Starts, CanRead, Measures, IsLength, IsSumOf, ReadsOne, SpellsOne, NamesFault, NamesMisfit}
-use Rattle.asn1_formats_core.specs.Choices.{At}
-use Rattle.asn1_formats_core.specs.ChoiceLaws.{apart, numbered_reads_one, numbered_spells_one, numbered_measured}
+use Rattle.asn1_compose.specs.Spelling.{Starts, CanRead, Measures, IsLength, IsSumOf, ReadsOne, SpellsOne, NamesFault, NamesMisfit}
+use Rattle.asn1_compose.specs.Choices.{At}
+use Rattle.asn1_compose.specs.ChoiceLaws.{apart, numbered_reads_one, numbered_spells_one, numbered_measured}
 use Rattle.asn1_formats.specs.BitStrings.{AreBits, IsBitString, BitStringFault}
-use Rattle.asn1_formats_core.specs.SpellingLaws.{same_fronts}
+use Rattle.asn1_compose.specs.SpellingLaws.{same_fronts}
 
 -- so many bits that are there
 pub bits_start : (count : ℕ) (mid rest : List Bool) → count ≤ length mid → rest ≡ drop count mid

@@ -2,9 +2,9 @@
 use Rattle.std.specs.Prelude.{◌≡◌, ℕ, Bool, List, length}
 use Rattle.asn1_formats.specs.declared.bit_string.InBitString.{InBitString}
 use Rattle.asn1_formats.specs.declared.bit_string.InBitString.TheVariants.{Size, Short}
-use Rattle.asn1_formats_core.specs.Numbers.{IsShort}
-use Rattle.asn1_formats_core.specs.Combined.{After}
-use Rattle.asn1_formats_core.specs.Choices.{Numbered}
+use Rattle.asn1_compose.specs.Numbers.{IsShort}
+use Rattle.asn1_compose.specs.Combined.{After}
+use Rattle.asn1_compose.specs.Choices.{Numbered}
 
 -- the bits themselves
 abbrev pub AreBits : List Bool → List Bool → Type 0

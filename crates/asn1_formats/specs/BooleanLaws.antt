@@ -2,8 +2,8 @@
 use Rattle.std.proofs.Common.{◌≡◌, List, [], ◌∷◌, ◌++◌, Bool, refl, sym, ap, ◌∙◌}
 use Rattle.std.specs.Prelude.{⊤}
 use Rattle.asn1_formats.specs.declared.boolean.NoBit.{NoBit}
-use Rattle.asn1_formats_core.specs.declared.never_wrong.NeverWrong.{NeverWrong}
-use Rattle.asn1_formats_core.specs.Spelling.{Starts, ReadsOne, SpellsOne, NamesFault, NamesMisfit}
+use Rattle.asn1_compose.specs.declared.never_wrong.NeverWrong.{NeverWrong}
+use Rattle.asn1_compose.specs.Spelling.{Starts, ReadsOne, SpellsOne, NamesFault, NamesMisfit}
 
 first : (list rest : List Bool) (b : Bool) → Starts (λ (x : Bool) l. l ≡ x ∷ []) list b rest → list ≡ b ∷ rest
 first list rest b s = s.parts ∙ ap (λ (l : List Bool). l ++ rest) s.spelled

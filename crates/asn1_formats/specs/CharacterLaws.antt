@@ -7,10 +7,10 @@ use Rattle.asn1_strings.specs.Alphabet.{Alphabet, IsCode}
 use Rattle.asn1_strings.specs.AlphabetLaws.{code_is_one}
 use Rattle.asn1_formats.specs.declared.character.CharacterFault.{CharacterFault}
 use Rattle.asn1_formats.specs.declared.character.CharacterFault.TheVariants.{Short, NoCharacter}
-use Rattle.asn1_formats_core.specs.Spelling.{Starts, CanRead, ReadsOne, SpellsOne, NamesFault, NamesMisfit}
-use Rattle.asn1_formats_core.specs.Numbers.{IsNumber}
+use Rattle.asn1_compose.specs.Spelling.{Starts, CanRead, ReadsOne, SpellsOne, NamesFault, NamesMisfit}
+use Rattle.asn1_compose.specs.Numbers.{IsNumber}
 use Rattle.asn1_formats.specs.Characters.{IsCharacter, IsCharacterFault, IsNoCharacter}
-use Rattle.asn1_formats_core.specs.SpellingLaws.{number_reads_one, number_short}
+use Rattle.asn1_compose.specs.SpellingLaws.{number_reads_one, number_short}
 
 module _ (alphabet : Alphabet) where
   -- a code has one character

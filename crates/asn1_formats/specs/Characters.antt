@@ -4,8 +4,8 @@ use Rattle.asn1_strings.specs.Alphabet.{Alphabet, IsCode}
 use Rattle.asn1_formats.specs.declared.character.CharacterFault.{CharacterFault}
 use Rattle.asn1_formats.specs.declared.character.CharacterFault.TheVariants.{Short, NoCharacter}
 use Rattle.asn1_formats.specs.declared.character.NotInAlphabet.{NotInAlphabet}
-use Rattle.asn1_formats_core.specs.Numbers.{IsNumber, IsShort}
-use Rattle.asn1_formats_core.specs.Spelling.{Starts}
+use Rattle.asn1_compose.specs.Numbers.{IsNumber, IsShort}
+use Rattle.asn1_compose.specs.Spelling.{Starts}
 
 -- the digits of a code of the character, in the alphabet's width (X.691 30.5)
 abbrev pub IsCharacter : Alphabet → ℕ → List Bool → Type 0

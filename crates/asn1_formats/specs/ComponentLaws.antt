@@ -1,9 +1,9 @@
 -- Laws of components: those that are always there, and those that may be missing.
 use Rattle.std.proofs.Common.{◌≡◌, List, [], ◌∷◌, ◌++◌, Bool, true, false, length, Option, Some, None, refl, sym, ◌∙◌, ap}
-use Rattle.asn1_formats_core.specs.Spelling.{Starts, Fits, IsWithin, ReadsOne, SpellsOne, NamesFault, NamesMisfit}
-use Rattle.asn1_formats_core.specs.Combined.{MaybeMisfit}
+use Rattle.asn1_compose.specs.Spelling.{Starts, Fits, IsWithin, ReadsOne, SpellsOne, NamesFault, NamesMisfit}
+use Rattle.asn1_compose.specs.Combined.{MaybeMisfit}
 use Rattle.asn1_formats.specs.Sequences.{Behind, Shown, IsShown, ShowsAlone, presence_bit, IfThere, IfThereFault}
-use Rattle.asn1_formats_core.specs.SpellingLaws.{narrow_reads_one, narrow_names_fault}
+use Rattle.asn1_compose.specs.SpellingLaws.{narrow_reads_one, narrow_names_fault}
 
 module _ {X : Type 0} (S P R : X → List Bool → Type 0) where
   pub shown_within : IsWithin P R → IsShown S P (λ p x l. Shown S R p x l)

@@ -3,9 +3,9 @@ use Rattle.std.proofs.Common.{◌≡◌, List, [], ◌∷◌, ◌++◌, Bool, tr
 use Rattle.std.specs.Prelude.{◌↔◌, IsTrue}
 use Rattle.asn1_formats.specs.declared.canonical_default.InDefault.{InDefault}
 use Rattle.asn1_formats.specs.declared.canonical_default.InDefault.TheVariants.{Written, Part}
-use Rattle.asn1_formats_core.specs.Spelling.{Starts, CanRead, Fits, IsWithin, ReadsOne, SpellsOne, NamesFault, NamesMisfit}
+use Rattle.asn1_compose.specs.Spelling.{Starts, CanRead, Fits, IsWithin, ReadsOne, SpellsOne, NamesFault, NamesMisfit}
 use Rattle.asn1_formats.specs.Sequences.{Behind, IsShown, ShowsAlone, IfThereFault}
-use Rattle.asn1_formats_core.specs.SpellingLaws.{narrow_reads_one}
+use Rattle.asn1_compose.specs.SpellingLaws.{narrow_reads_one}
 use Rattle.asn1_formats.specs.Defaults.{Tells, IfOne, ShowsDefault, SpellsDefault, ReadsCanonical, IfWritten, ReadsBasic, DefaultMisfit, DefaultFault}
 
 module _ {X : Type 0} (v : X) where

@@ -3,7 +3,7 @@
 use Rattle.std.specs.Prelude.{◌≡◌, Bool, true, false, List, [], ◌∷◌}
 use Rattle.asn1_formats.specs.declared.canonical_default.InDefault.{InDefault}
 use Rattle.asn1_formats.specs.declared.canonical_default.InDefault.TheVariants.{Written, Part}
-use Rattle.asn1_formats_core.specs.Combined.{After}
+use Rattle.asn1_compose.specs.Combined.{After}
 use Rattle.asn1_formats.specs.Sequences.{IfThereFault}
 
 -- the bit tells whether x is another value than the default

@@ -1,12 +1,12 @@
 -- Laws of a part whose format depends on the value in front of it.
 use Rattle.std.proofs.Common.{◌≡◌, ℕ, List, Bool, sym, ◌∙◌, ap, subst, Option}
-use Rattle.asn1_formats_core.specs.declared.then.InThen.{InThen}
-use Rattle.asn1_formats_core.specs.declared.then.InThen.TheVariants.{First, Second}
-use Rattle.asn1_formats_core.specs.Spelling.{Starts, CanRead, Measures, IsSumOf, IsWithin, ReadsOne, SpellsOne, NamesFault, NamesMisfit}
-use Rattle.asn1_formats_core.specs.Combined.{After}
+use Rattle.asn1_compose.specs.declared.then.InThen.{InThen}
+use Rattle.asn1_compose.specs.declared.then.InThen.TheVariants.{First, Second}
+use Rattle.asn1_compose.specs.Spelling.{Starts, CanRead, Measures, IsSumOf, IsWithin, ReadsOne, SpellsOne, NamesFault, NamesMisfit}
+use Rattle.asn1_compose.specs.Combined.{After}
 use Rattle.asn1_formats.specs.Dependents.{BothInTurn, InTurnFault, InTurnMisfit}
-use Rattle.asn1_formats_core.specs.SpellingLaws.{split, join, measured_both, both_spells_one}
-use Rattle.asn1_formats_core.specs.ThenLaws.{both_names_misfit}
+use Rattle.asn1_compose.specs.SpellingLaws.{split, join, measured_both, both_spells_one}
+use Rattle.asn1_compose.specs.ThenLaws.{both_names_misfit}
 
 module _ {X Y : Type 0} (P : X → List Bool → Type 0) (Q : X → Y → List Bool → Type 0) where
   -- a value's spelling, and what begins after its first part

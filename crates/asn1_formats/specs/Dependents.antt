@@ -1,8 +1,8 @@
 -- A part whose format depends on the value in front of it. Q x are the spellings behind the value x.
 use Rattle.std.specs.Prelude.{Bool, List}
-use Rattle.asn1_formats_core.specs.declared.then.InThen.{InThen}
-use Rattle.asn1_formats_core.specs.declared.then.InThen.TheVariants.{First, Second}
-use Rattle.asn1_formats_core.specs.Combined.{Both, After, BothMisfit}
+use Rattle.asn1_compose.specs.declared.then.InThen.{InThen}
+use Rattle.asn1_compose.specs.declared.then.InThen.TheVariants.{First, Second}
+use Rattle.asn1_compose.specs.Combined.{Both, After, BothMisfit}
 
 -- one value, and then another in the format that stands behind it
 abbrev pub BothInTurn : {X Y : Type 0} → (X → List Bool → Type 0) → (X → Y → List Bool → Type 0)

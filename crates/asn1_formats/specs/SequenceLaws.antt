@@ -4,7 +4,7 @@ use Rattle.std.proofs.lemmas.List.{length-append}
 use Rattle.std.proofs.Math.Seq.{drop-append_seam}
 use Rattle.asn1_formats.specs.declared.sequence.InSequence.{InSequence}
 use Rattle.asn1_formats.specs.declared.sequence.InSequence.TheVariants.{Presence, Component}
-use Rattle.asn1_formats_core.specs.Spelling.{Starts, CanRead, Fits, Measures, IsLength, IsSumOf, IsWithin, ReadsOne, SpellsOne, NamesFault, NamesMisfit}
+use Rattle.asn1_compose.specs.Spelling.{Starts, CanRead, Fits, Measures, IsLength, IsSumOf, IsWithin, ReadsOne, SpellsOne, NamesFault, NamesMisfit}
 use Rattle.asn1_formats.specs.Sequences.{Behind, IsShown, ShowsAlone, IsSequence, ReadsSequence, SequenceFault}
 
 -- what follows the presence bits

@@ -3,7 +3,7 @@
 use Rattle.std.specs.Prelude.{◌≡◌, ℕ, ◌<◌, ◌≤◌, Bool, true, false, List, [], ◌∷◌, ◌++◌, length, drop, Option, Some, None}
 use Rattle.asn1_formats.specs.declared.sequence.InSequence.{InSequence}
 use Rattle.asn1_formats.specs.declared.sequence.InSequence.TheVariants.{Presence, Component}
-use Rattle.asn1_formats_core.specs.Combined.{Both}
+use Rattle.asn1_compose.specs.Combined.{Both}
 
 -- p begins with so many presence bits, and behind those R reads list as x
 pub record Behind {X : Type 0} (R : List Bool → X → List Bool → Type 0) (count : ℕ) (p : List Bool) (x : X)

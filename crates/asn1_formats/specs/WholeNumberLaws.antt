@@ -1,11 +1,11 @@
 -- Laws of whole numbers.
 use Rattle.std.proofs.Common.{◌≡◌, ℕ, ℤ, pos, ◌+ℤ◌, ◌-◌, ◌^◌, ◌<◌, ◌≤◌, Some, List, Bool, refl, sym, ap, ◌∙◌, subst, arith}
 use Rattle.std.proofs.lemmas.Int.{ints}
-use Rattle.asn1_formats_core.specs.declared.size.SizeMisfit.{SizeMisfit}
-use Rattle.asn1_formats_core.specs.declared.size.SizeMisfit.TheVariants.{BelowLeast, AboveMost}
-use Rattle.asn1_formats_core.specs.Spelling.{Starts, Fits, Measures, ReadsOne, SpellsOne, NamesFault, NamesMisfit}
-use Rattle.asn1_formats_core.specs.Numbers.{IsSize, IsSizeFault, width_to}
-use Rattle.asn1_formats_core.specs.NumberLaws.{size_measured, size_reads_one, size_spells_one, size_names_fault}
+use Rattle.asn1_compose.specs.declared.size.SizeMisfit.{SizeMisfit}
+use Rattle.asn1_compose.specs.declared.size.SizeMisfit.TheVariants.{BelowLeast, AboveMost}
+use Rattle.asn1_compose.specs.Spelling.{Starts, Fits, Measures, ReadsOne, SpellsOne, NamesFault, NamesMisfit}
+use Rattle.asn1_compose.specs.Numbers.{IsSize, IsSizeFault, width_to}
+use Rattle.asn1_compose.specs.NumberLaws.{size_measured, size_reads_one, size_spells_one, size_names_fault}
 use Rattle.asn1_formats.specs.WholeNumbers.{IsConstrained, IsConstrainedFault, IsConstrainedMisfit}
 
 -- one place has one distance

@@ -1,9 +1,9 @@
 -- Whole numbers, by their distance from a least one.
 use Rattle.std.specs.Prelude.{◌≡◌, ℕ, ℤ, pos, ◌+ℤ◌, ◌<ℤ◌, Bool, List}
-use Rattle.asn1_formats_core.specs.declared.size.SizeFault.{SizeFault}
-use Rattle.asn1_formats_core.specs.declared.size.SizeMisfit.{SizeMisfit}
-use Rattle.asn1_formats_core.specs.declared.size.SizeMisfit.TheVariants.{BelowLeast, AboveMost}
-use Rattle.asn1_formats_core.specs.Numbers.{IsSize, IsSizeFault}
+use Rattle.asn1_compose.specs.declared.size.SizeFault.{SizeFault}
+use Rattle.asn1_compose.specs.declared.size.SizeMisfit.{SizeMisfit}
+use Rattle.asn1_compose.specs.declared.size.SizeMisfit.TheVariants.{BelowLeast, AboveMost}
+use Rattle.asn1_compose.specs.Numbers.{IsSize, IsSizeFault}
 
 -- a whole number from least to most, which lies `reach` above it: its distance from the least is spelled as a number from
 -- 0 to the reach (X.691 11.5.6)

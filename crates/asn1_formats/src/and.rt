@@ -2,7 +2,7 @@
 
 use crate::components::Components;
 use asn1_bits::{BitBuffer, BitReader};
-use asn1_formats_core::{InThen, Refusal, sum_of};
+use asn1_compose::{InThen, Refusal, sum_of};
 use std::alloc::{AllocError, Global};
 
 /// One component and the others behind it: first the presence bits of all, and then all that are
@@ -17,10 +17,10 @@ pub struct And<C, D> {
 
 impl<C: Components, D: Components> Components for And<C, D> {
     ghost use Rattle.std.specs.Prelude.{◌+◌, drop};
-    ghost use Rattle.asn1_formats_core.specs.Combined.{Both, BothFault, BothMisfit};
+    ghost use Rattle.asn1_compose.specs.Combined.{Both, BothFault, BothMisfit};
     ghost use Rattle.asn1_formats.specs.Sequences.{Behind, ReadsBoth};
-    ghost use Rattle.asn1_formats_core.specs.SpellingLaws.{both_spells_one};
-    ghost use Rattle.asn1_formats_core.specs.ThenLaws.{both_names_misfit};
+    ghost use Rattle.asn1_compose.specs.SpellingLaws.{both_spells_one};
+    ghost use Rattle.asn1_compose.specs.ThenLaws.{both_names_misfit};
     ghost use Rattle.asn1_formats.specs.AndLaws.{both_size, and_within, and_alone, and_reads_one, and_names_fault};
 
     type Value = (C::Value, D::Value);

@@ -3,7 +3,7 @@
 use crate::bit::{next_bit, push_bit};
 use crate::components::Components;
 use asn1_bits::{BitBuffer, BitReader};
-use asn1_formats_core::{Compare, Refusal};
+use asn1_compose::{Compare, Refusal};
 use std::alloc::{AllocError, Global};
 
 /// DEFAULT in BASIC-PER: a presence bit of 0 stands for the default value. Reading also takes it

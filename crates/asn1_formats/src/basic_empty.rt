@@ -3,7 +3,7 @@
 use crate::bit::{next_bit, push_bit};
 use crate::components::Components;
 use asn1_bits::{BitBuffer, BitReader};
-use asn1_formats_core::{Counts, Format, InSequenceOf, Refusal, SequenceOf};
+use asn1_compose::{Counts, Format, InSequenceOf, Refusal, SequenceOf};
 use std::alloc::{AllocError, Global};
 
 /// `DEFAULT {}` in BASIC-PER: a presence bit of 0 stands for the empty list. Reading also takes it
@@ -17,9 +17,9 @@ pub struct BasicEmpty<N, A> {
 impl<N: Counts, A: Format> Components for BasicEmpty<N, A> {
     ghost use Rattle.asn1_formats.specs.Sequences.{IfThereFault};
     ghost use Rattle.std.specs.Prelude.{List, [], map};
-    ghost use Rattle.asn1_formats_core.specs.Combined.{AreCounted, SequenceOfFault, SequenceOfMisfit};
-    ghost use Rattle.asn1_formats_core.specs.ListLaws.{counted_reads_one, counted_spells_one, counted_names_fault, counted_names_misfit};
-    ghost use Rattle.asn1_formats_core.specs.WithinLaws.{counted_within};
+    ghost use Rattle.asn1_compose.specs.Combined.{AreCounted, SequenceOfFault, SequenceOfMisfit};
+    ghost use Rattle.asn1_compose.specs.ListLaws.{counted_reads_one, counted_spells_one, counted_names_fault, counted_names_misfit};
+    ghost use Rattle.asn1_compose.specs.WithinLaws.{counted_within};
     ghost use Rattle.asn1_formats.specs.Defaults.{ShowsDefault, SpellsDefault, ReadsBasic, DefaultMisfit};
     ghost use Rattle.asn1_formats.specs.DefaultLaws.{default_size, default_shows_one, basic_within, basic_alone, basic_reads_one, basic_names_fault, default_spells_one, default_names_misfit};
 

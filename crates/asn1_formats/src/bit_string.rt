@@ -2,10 +2,10 @@
 
 ghost use Rattle.std.specs.Prelude.{◌≡◌, ◌≤◌, length, take, drop, OnOk, IfOk, IfErr};
 ghost use Rattle.asn1_bits.specs.BitReader.{bits_left};
-ghost use Rattle.asn1_formats_core.specs.Numbers.{IsShort};
+ghost use Rattle.asn1_compose.specs.Numbers.{IsShort};
 
 use asn1_bits::{BitBuffer, BitReader, to_bitstring};
-use asn1_formats_core::{Counts, Format, Refusal, sum_of};
+use asn1_compose::{Counts, Format, Refusal, sum_of};
 use std::alloc::Global;
 
 /// BIT STRING: the number of its bits, and then the bits (X.691 16). The number's format says how
@@ -43,7 +43,7 @@ impl<N: Counts> Format for BitString<N> {
     ghost use Rattle.std.specs.Prelude.{List, Bool, ⊤};
     ghost use Rattle.asn1_formats.specs.BitStrings.{IsBitString, BitStringFault};
     ghost use Rattle.asn1_formats.specs.BitStringLaws.{bit_string_reads_one, bit_string_spells_one, bit_string_names_fault, bit_string_names_misfit};
-    ghost use Rattle.asn1_formats_core.specs.WithinLaws.{itself};
+    ghost use Rattle.asn1_compose.specs.WithinLaws.{itself};
 
     type Value = asn1_bits::BitString;
 

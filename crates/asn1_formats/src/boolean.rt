@@ -2,7 +2,7 @@
 
 use crate::bit::{next_bit, push_bit};
 use asn1_bits::{BitBuffer, BitReader};
-use asn1_formats_core::{Compare, Format, NeverWrong, Refusal};
+use asn1_compose::{Compare, Format, NeverWrong, Refusal};
 use std::alloc::{AllocError, Global};
 use thiserror::Error;
 
@@ -18,7 +18,7 @@ pub struct NoBit {}
 impl Format for Boolean {
     ghost use Rattle.std.specs.Prelude.{◌≡◌, Bool, [], ◌∷◌, ⊤};
     ghost use Rattle.asn1_formats.specs.BooleanLaws.{boolean_reads_one, boolean_spells_one, boolean_names_fault, boolean_names_misfit};
-    ghost use Rattle.asn1_formats_core.specs.WithinLaws.{itself};
+    ghost use Rattle.asn1_compose.specs.WithinLaws.{itself};
 
     type Value = bool;
 

@@ -4,7 +4,7 @@ use crate::bit::{next_bit, push_bit};
 use crate::canonical_default::InDefault;
 use crate::components::Components;
 use asn1_bits::{BitBuffer, BitReader};
-use asn1_formats_core::{Counts, Format, InSequenceOf, Refusal, SequenceOf};
+use asn1_compose::{Counts, Format, InSequenceOf, Refusal, SequenceOf};
 use std::alloc::{AllocError, Global};
 
 /// `DEFAULT {}` in CANONICAL-PER: a presence bit of 0 stands for the empty list, which is never
@@ -17,9 +17,9 @@ pub struct CanonicalEmpty<N, A> {
 
 impl<N: Counts, A: Format> Components for CanonicalEmpty<N, A> {
     ghost use Rattle.std.specs.Prelude.{List, [], map};
-    ghost use Rattle.asn1_formats_core.specs.Combined.{AreCounted, SequenceOfFault, SequenceOfMisfit};
-    ghost use Rattle.asn1_formats_core.specs.ListLaws.{counted_reads_one, counted_spells_one, counted_names_fault, counted_names_misfit};
-    ghost use Rattle.asn1_formats_core.specs.WithinLaws.{counted_within};
+    ghost use Rattle.asn1_compose.specs.Combined.{AreCounted, SequenceOfFault, SequenceOfMisfit};
+    ghost use Rattle.asn1_compose.specs.ListLaws.{counted_reads_one, counted_spells_one, counted_names_fault, counted_names_misfit};
+    ghost use Rattle.asn1_compose.specs.WithinLaws.{counted_within};
     ghost use Rattle.asn1_formats.specs.Defaults.{ShowsDefault, SpellsDefault, ReadsCanonical, DefaultMisfit, DefaultFault};
     ghost use Rattle.asn1_formats.specs.DefaultLaws.{default_size, default_shows_one, canonical_within, canonical_alone, canonical_reads_one, canonical_names_fault, default_spells_one, default_names_misfit};
 

@@ -5,7 +5,7 @@ ghost use Rattle.std.specs.List.{AllPairs};
 ghost use Rattle.asn1_strings.specs.AlphabetView.{alphabet_of};
 
 use asn1_bits::{BitBuffer, BitReader};
-use asn1_formats_core::{Format, Refusal, next_number32, push_number};
+use asn1_compose::{Format, Refusal, next_number32, push_number};
 use asn1_strings::CharacterAlphabet;
 use std::alloc::Global;
 use thiserror::Error;
@@ -61,7 +61,7 @@ impl<'s> Character<'s> {
 impl<'s> Format for Character<'s> {
     ghost use Rattle.asn1_formats.specs.Characters.{IsCharacter, IsCharacterFault, IsNoCharacter};
     ghost use Rattle.asn1_formats.specs.CharacterLaws.{character_reads_one, character_spells_one, character_names_fault, character_names_misfit};
-    ghost use Rattle.asn1_formats_core.specs.WithinLaws.{itself};
+    ghost use Rattle.asn1_compose.specs.WithinLaws.{itself};
 
     type Value = u32;
 
@@ -138,7 +138,7 @@ impl<'s> Format for Character<'s> {
 impl<'s> Character<'s> {
     ghost use Rattle.std.specs.Prelude.{IfOk, IfErr};
     ghost use Rattle.asn1_bits.specs.BitReader.{bits_left};
-    ghost use Rattle.asn1_formats_core.specs.Spelling.{Starts};
+    ghost use Rattle.asn1_compose.specs.Spelling.{Starts};
     ghost use Rattle.asn1_formats.specs.Characters.{IsCharacter, IsCharacterFault};
 
     /// The character of the next bits.

@@ -3,7 +3,7 @@
 ghost use Rattle.std.specs.Prelude.{◌≡◌, ℕ, ℤ, pos, ◌+ℤ◌, ◌≤ℤ◌, ◌<ℤ◌, ◌≤◌, ⊤, IfOk, IfErr};
 
 use asn1_bits::{BitBuffer, BitReader};
-use asn1_formats_core::{Compare, Format, Refusal, Size, SizeFault, SizeMisfit};
+use asn1_compose::{Compare, Format, Refusal, Size, SizeFault, SizeMisfit};
 use std::alloc::{AllocError, Global};
 
 /// The whole numbers from a least to a greatest one: the distance from the least, in as few bits as
@@ -51,7 +51,7 @@ impl ConstrainedNumber {
 impl Format for ConstrainedNumber {
     ghost use Rattle.asn1_formats.specs.WholeNumbers.{IsConstrained, IsConstrainedFault, IsConstrainedMisfit};
     ghost use Rattle.asn1_formats.specs.WholeNumberLaws.{constrained_reads_one, constrained_spells_one, constrained_names_fault, constrained_names_misfit};
-    ghost use Rattle.asn1_formats_core.specs.WithinLaws.{itself};
+    ghost use Rattle.asn1_compose.specs.WithinLaws.{itself};
 
     type Value = i64;
 

@@ -3,7 +3,7 @@
 ghost use Rattle.std.specs.Prelude.{◌≡◌, ℕ};
 
 use asn1_bits::{BitBuffer, BitReader};
-use asn1_formats_core::{Counts, Format, InThen, Refusal, sum_of};
+use asn1_compose::{Counts, Format, InThen, Refusal, sum_of};
 use std::alloc::Global;
 
 /// Says which format stands behind a number, as a length or a code that was read tells what
@@ -33,7 +33,7 @@ pub struct Dependent<A, C> {
 impl<A: Counts, C: Chooses> Format for Dependent<A, C> {
     ghost use Rattle.asn1_formats.specs.Dependents.{BothInTurn, InTurnFault, InTurnMisfit};
     ghost use Rattle.asn1_formats.specs.DependentLaws.{in_turn_reads_one, in_turn_spells_one, in_turn_within, in_turn_names_fault, in_turn_names_misfit};
-    ghost use Rattle.asn1_formats_core.specs.WithinLaws.{itself};
+    ghost use Rattle.asn1_compose.specs.WithinLaws.{itself};
 
     type Value = (u64, <C::Chosen as Format>::Value);
 

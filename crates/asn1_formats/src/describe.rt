@@ -17,7 +17,7 @@ use crate::optional::Optional;
 use crate::required::Required;
 use crate::sequence::Sequence;
 use crate::wide_constrained_number::WideConstrainedNumber;
-use asn1_formats_core::Compare;
+use asn1_compose::Compare;
 use std::fmt;
 
 impl fmt::Display for Boolean {

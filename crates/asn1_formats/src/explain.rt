@@ -5,7 +5,7 @@ use crate::boolean::NoBit;
 use crate::canonical_default::InDefault;
 use crate::character::{CharacterFault, NotInAlphabet};
 use crate::sequence::InSequence;
-use asn1_formats_core::{Explain, Short, Size, write_part};
+use asn1_compose::{Explain, Short, Size, write_part};
 use std::fmt;
 
 impl Explain for NoBit {

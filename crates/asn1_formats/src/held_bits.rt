@@ -3,10 +3,10 @@
 ghost use Rattle.std.specs.Prelude.{◌≡◌, [], ◌+◌, ◌^◌, ◌<◌, ◌≤◌, ◌++◌, OnOk, OnErr, IfOk, IfSome};
 ghost use Rattle.asn1_bits.specs.Bits.{digits};
 ghost use Rattle.asn1_bits.specs.BitReader.{bits_left};
-ghost use Rattle.asn1_formats_core.specs.Spelling.{Extends};
+ghost use Rattle.asn1_compose.specs.Spelling.{Extends};
 
 use asn1_bits::{BitBuffer, BitReader};
-use asn1_formats_core::{next_number, push_number};
+use asn1_compose::{next_number, push_number};
 use std::alloc::AllocError;
 
 /// At most 64 bits, held as the number that they are the digits of: they wait to be written, or

@@ -11,6 +11,7 @@ mod boolean;
 mod canonical_default;
 mod canonical_empty;
 mod character;
+mod coded_characters;
 mod components;
 mod constrained_number;
 mod dependent;
@@ -26,7 +27,7 @@ mod sequence;
 mod wide_constrained_number;
 
 pub use and::And;
-pub use asn1_formats_core::{
+pub use asn1_compose::{
     Alternatives, Choice, Compare, Counts, Explain, Format, InChoice, InNamed, InOctetString,
     InSequenceOf, InThen, Last, Mapped, Named, NeverWrong, Number, OctetString, OfParts, OneOf, Or,
     PastWidth, Refusal, SequenceOf, Short, Size, SizeFault, SizeMisfit, Then, WriteRefusal,

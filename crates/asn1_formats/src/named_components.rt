@@ -2,13 +2,13 @@
 
 use crate::components::Components;
 use asn1_bits::{BitBuffer, BitReader};
-use asn1_formats_core::{InNamed, Named, Refusal};
+use asn1_compose::{InNamed, Named, Refusal};
 use std::alloc::{AllocError, Global};
 
 impl<C: Components> Components for Named<C> {
     ghost use Rattle.std.specs.Prelude.{◌≡◌};
     ghost use Rattle.asn1_formats.specs.Sequences.{Behind};
-    ghost use Rattle.asn1_formats_core.specs.NamedLaws.{named_names_fault, named_names_misfit};
+    ghost use Rattle.asn1_compose.specs.NamedLaws.{named_names_fault, named_names_misfit};
 
     type Value = C::Value;
 

@@ -1,7 +1,7 @@
 //! NULL.
 
 use asn1_bits::{BitBuffer, BitReader};
-use asn1_formats_core::{Format, NeverWrong, Refusal};
+use asn1_compose::{Format, NeverWrong, Refusal};
 use std::alloc::Global;
 
 /// NULL: one value, and no bits (X.691 18).
@@ -11,7 +11,7 @@ pub struct Null {}
 impl Format for Null {
     ghost use Rattle.std.specs.Prelude.{◌≡◌, [], ⊤};
     ghost use Rattle.asn1_formats.specs.BooleanLaws.{null_reads_one, null_spells_one, null_names_fault, null_names_misfit};
-    ghost use Rattle.asn1_formats_core.specs.WithinLaws.{itself};
+    ghost use Rattle.asn1_compose.specs.WithinLaws.{itself};
 
     type Value = ();
 

@@ -3,7 +3,7 @@
 use crate::bit::{next_bit, push_bit};
 use crate::components::Components;
 use asn1_bits::{BitBuffer, BitReader};
-use asn1_formats_core::{Format, Refusal};
+use asn1_compose::{Format, Refusal};
 use std::alloc::{AllocError, Global};
 
 /// OPTIONAL: a component that may be missing, with a presence bit (X.691 19.2).
@@ -15,7 +15,7 @@ pub struct Optional<A> {
 
 impl<A: Format> Components for Optional<A> {
     ghost use Rattle.std.specs.Prelude.{◌≡◌, Option};
-    ghost use Rattle.asn1_formats_core.specs.Combined.{plain_option, MaybeMisfit};
+    ghost use Rattle.asn1_compose.specs.Combined.{plain_option, MaybeMisfit};
     ghost use Rattle.asn1_formats.specs.Sequences.{presence_bit, Shown, IfThere, IfThereFault};
     ghost use Rattle.asn1_formats.specs.ComponentLaws.{presence_size, equal_one, shown_within, shown_alone, there_within, optional_reads_one, optional_spells_one, optional_names_fault, optional_names_misfit};
 

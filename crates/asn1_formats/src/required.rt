@@ -2,7 +2,7 @@
 
 use crate::components::Components;
 use asn1_bits::{BitBuffer, BitReader};
-use asn1_formats_core::{Format, Refusal};
+use asn1_compose::{Format, Refusal};
 use std::alloc::{AllocError, Global};
 
 /// A component that is always there.

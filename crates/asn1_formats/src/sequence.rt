@@ -2,7 +2,7 @@
 
 use crate::components::Components;
 use asn1_bits::{BitBuffer, BitReader};
-use asn1_formats_core::{Format, Refusal, sum_of};
+use asn1_compose::{Format, Refusal, sum_of};
 use std::alloc::Global;
 
 /// SEQUENCE: the presence bits of its optional components together in front, 1 for one that is

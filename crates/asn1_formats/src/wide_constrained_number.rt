@@ -2,11 +2,11 @@
 
 ghost use Rattle.std.specs.Prelude.{◌≡◌, ℕ, ℤ, pos, ◌+ℤ◌, ◌≤ℤ◌, ◌<ℤ◌, ◌^◌, ◌<◌, ◌≤◌, ⊤, IfOk, IfErr};
 ghost use Rattle.asn1_bits.specs.BitReader.{bits_left};
-ghost use Rattle.asn1_formats_core.specs.Spelling.{Starts};
-ghost use Rattle.asn1_formats_core.specs.Numbers.{width_to, IsSize, IsSizeFault};
+ghost use Rattle.asn1_compose.specs.Spelling.{Starts};
+ghost use Rattle.asn1_compose.specs.Numbers.{width_to, IsSize, IsSizeFault};
 
 use asn1_bits::{BitBuffer, BitReader};
-use asn1_formats_core::{
+use asn1_compose::{
     Compare, Format, Refusal, SizeFault, SizeMisfit, next_wide_number, push_wide_number,
 };
 use std::alloc::{AllocError, Global};
@@ -60,7 +60,7 @@ impl WideConstrainedNumber {
 impl Format for WideConstrainedNumber {
     ghost use Rattle.asn1_formats.specs.WholeNumbers.{IsConstrained, IsConstrainedFault, IsConstrainedMisfit};
     ghost use Rattle.asn1_formats.specs.WholeNumberLaws.{constrained_reads_one, constrained_spells_one, constrained_names_fault, constrained_names_misfit};
-    ghost use Rattle.asn1_formats_core.specs.WithinLaws.{itself};
+    ghost use Rattle.asn1_compose.specs.WithinLaws.{itself};
 
     type Value = i128;
 

@@ -2,7 +2,7 @@
 
 ghost use Rattle.std.specs.Prelude.{◌≡◌, Bool, List, Err, ◌++◌, OnOk, OnErr, IfOk, IfErr, IfSome, IsOkUnless};
 ghost use Rattle.asn1_bits.specs.BitReader.{view_left, bits_left};
-ghost use Rattle.asn1_formats_core.specs.Spelling.{Starts, CanRead, IsWritten};
+ghost use Rattle.asn1_compose.specs.Spelling.{Starts, CanRead, IsWritten};
 
 use asn1_formats::{
     And, Boolean, Format, Number, Optional, Refusal, Required, Sequence, SequenceOf, Size, Then,

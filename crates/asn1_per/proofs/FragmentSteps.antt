@@ -3,9 +3,9 @@ use Rattle.std.proofs.Common.{◌≡◌, ℕ, ◌+◌, ◌*◌, ◌^◌, ◌<◌
 use Rattle.std.specs.Prelude.{IsTrue, nat_eq}
 use Rattle.std.proofs.lemmas.List.{length-append}
 use Rattle.asn1_bits.specs.DigitLaws.{length-digits}
-use Rattle.asn1_formats_core.specs.Spelling.{Starts, IsWritten, Measures, IsLength, IsSumOf}
+use Rattle.asn1_compose.specs.Spelling.{Starts, IsWritten, Measures, IsLength, IsSumOf}
 use Rattle.asn1_bits.specs.Joined.{AreJoined}
-use Rattle.asn1_formats_core.specs.Combined.{AreCounted, SoMany}
+use Rattle.asn1_compose.specs.Combined.{AreCounted, SoMany}
 use Rattle.asn1_per.specs.Fragments.{IsPieceCount, items_of, ArePieces, AreFragments, AreFragmented, PieceWrong, FragmentsFault}
 use Rattle.asn1_per.specs.PieceLaws.{piece_is}
 use Rattle.asn1_per.specs.FragmentLaws.{C}

@@ -3,9 +3,9 @@ use Rattle.std.proofs.Common.{◌≡◌, ℕ, suc, ◌+◌, ◌<◌, List, [], �
 use Rattle.std.proofs.lemmas.List.{map_more, map-append, length-map, length-take-le, take-append-drop, length-append}
 use Rattle.std.proofs.Math.Seq.{drop-cons}
 use Rattle.asn1_bits.specs.Joined.{AreJoined}
-use Rattle.asn1_formats_core.specs.Spelling.{Fits, IsWritten, Measures, IsSumOf}
-use Rattle.asn1_formats_core.specs.Combined.{ItemMisfit}
-use Rattle.asn1_formats_core.specs.ListLaws.{written_snoc, measured_snoc}
+use Rattle.asn1_compose.specs.Spelling.{Fits, IsWritten, Measures, IsSumOf}
+use Rattle.asn1_compose.specs.Combined.{ItemMisfit}
+use Rattle.asn1_compose.specs.ListLaws.{written_snoc, measured_snoc}
 use Rattle.asn1_per.specs.FragmentLaws.{joined_append}
 
 module _ {X Y F : Type 0} (P : Y → List Bool → Type 0) (W : Y → F → Type 0) (f : X → Y) (xs : List X) (i : ℕ) (x : X)

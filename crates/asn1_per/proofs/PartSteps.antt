@@ -3,8 +3,8 @@ use Rattle.std.proofs.Common.{◌≡◌, ℕ, ◌+◌, ◌-◌, ◌^◌, ◌<◌
 use Rattle.std.specs.Prelude.{IsTrue, nat_eq}
 use Rattle.std.proofs.lemmas.Bool.{eq-eqb}
 use Rattle.std.proofs.lemmas.List.{map-append, map-id, length-map, take_all}
-use Rattle.asn1_formats_core.specs.Spelling.{IsWritten, Measures, IsSumOf}
-use Rattle.asn1_formats_core.specs.Combined.{AreCounted, ItemMisfit}
+use Rattle.asn1_compose.specs.Spelling.{IsWritten, Measures, IsSumOf}
+use Rattle.asn1_compose.specs.Combined.{AreCounted, ItemMisfit}
 use Rattle.asn1_per.specs.Fragments.{IsPieceCount, AreFragments, AreFragmented}
 use Rattle.asn1_per.specs.FragmentLaws.{fragments_fit}
 use Rattle.asn1_per.proofs.ItemSteps.{misfit_behind}

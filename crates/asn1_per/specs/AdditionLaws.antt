@@ -1,12 +1,12 @@
 -- Laws of a known addition and those behind it.
 use Rattle.std.proofs.Common.{◌≡◌, ℕ, ◌+◌, Bool, true, false, List, [], ◌∷◌, ◌++◌, length, Option, Some, None, refl, sym, ap, ◌∙◌, subst, arith}
-use Rattle.asn1_formats_core.specs.declared.then.InThen.{InThen}
-use Rattle.asn1_formats_core.specs.declared.then.InThen.TheVariants.{First, Second}
-use Rattle.asn1_formats_core.specs.Spelling.{Starts, CanRead, IsWithin, ReadsOne, NamesFault}
-use Rattle.asn1_formats_core.specs.Combined.{Both}
+use Rattle.asn1_compose.specs.declared.then.InThen.{InThen}
+use Rattle.asn1_compose.specs.declared.then.InThen.TheVariants.{First, Second}
+use Rattle.asn1_compose.specs.Spelling.{Starts, CanRead, IsWithin, ReadsOne, NamesFault}
+use Rattle.asn1_compose.specs.Combined.{Both}
 use Rattle.asn1_formats.specs.Sequences.{IfThere}
-use Rattle.asn1_formats_core.specs.SpellingLaws.{both_reads_one, join}
-use Rattle.asn1_formats_core.specs.ThenLaws.{both_names_fault}
+use Rattle.asn1_compose.specs.SpellingLaws.{both_reads_one, join}
+use Rattle.asn1_compose.specs.ThenLaws.{both_names_fault}
 use Rattle.asn1_per.specs.Additions.{HasOne, IsPassed, IsPassFault, shows_addition, IsThere, IsMissing, ReadsAddition, LaterFault, AdditionFault}
 
 module _ {X Y : Type 0} (S : Y → List Bool) where

@@ -1,17 +1,17 @@
 -- Additions behind an extension marker (X.691 19.7 to 19.9): how many there are, a presence bit for each, and then each that
 -- is there as an open type.
 use Rattle.std.specs.Prelude.{◌≡◌, ℕ, ◌≤◌, ⊤, ◌⊎◌, Bool, true, false, List, [], ◌∷◌, ◌++◌, length, take, drop, Option, Some, None, is_some}
-use Rattle.asn1_formats_core.specs.declared.octet_string.InOctetString.{InOctetString}
-use Rattle.asn1_formats_core.specs.declared.then.InThen.{InThen}
-use Rattle.asn1_formats_core.specs.declared.then.InThen.TheVariants as then
-use Rattle.asn1_formats_core.specs.Spelling.{Starts, Fits}
-use Rattle.asn1_formats_core.specs.Numbers.{IsSize, IsSizeFault, IsShort}
-use Rattle.asn1_formats_core.specs.Combined.{Both, BothFault, After}
-use Rattle.asn1_formats_core.specs.OctetStrings.{IsOctetString, OctetStringFault}
+use Rattle.asn1_compose.specs.declared.octet_string.InOctetString.{InOctetString}
+use Rattle.asn1_compose.specs.declared.then.InThen.{InThen}
+use Rattle.asn1_compose.specs.declared.then.InThen.TheVariants as then
+use Rattle.asn1_compose.specs.Spelling.{Starts, Fits}
+use Rattle.asn1_compose.specs.Numbers.{IsSize, IsSizeFault, IsShort}
+use Rattle.asn1_compose.specs.Combined.{Both, BothFault, After}
+use Rattle.asn1_compose.specs.OctetStrings.{IsOctetString, OctetStringFault}
 use Rattle.asn1_per.specs.declared.length.LengthFault.{LengthFault}
 use Rattle.asn1_per.specs.declared.extensible_size.BeyondRootFault.{BeyondRootFault}
 use Rattle.asn1_per.specs.declared.extensible_size.InExtensible.{InExtensible}
-use Rattle.asn1_formats_core.specs.declared.size.SizeFault.{SizeFault}
+use Rattle.asn1_compose.specs.declared.size.SizeFault.{SizeFault}
 use Rattle.asn1_per.specs.declared.additions.InAdditions.{InAdditions}
 use Rattle.asn1_per.specs.declared.additions.InAdditions.TheVariants.{Count, Presence, NoneThere, Part}
 use Rattle.asn1_per.specs.declared.additions.AdditionsMisfit.{AdditionsMisfit}

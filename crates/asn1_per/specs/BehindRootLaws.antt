@@ -2,10 +2,10 @@
 use Rattle.std.proofs.Common.{◌≡◌, ℕ, ◌+◌, ◌<◌, ◌≤◌, Bool, List, ◌++◌, length, take, drop, refl, sym, ap, ◌∙◌, subst, arith, append_assoc}
 use Rattle.std.proofs.lemmas.List.{length-append}
 use Rattle.std.proofs.Math.Seq.{take-append_seam, drop-append_seam}
-use Rattle.asn1_formats_core.specs.Spelling.{Starts, CanRead, IsWithin, ReadsOne, SpellsOne, NamesFault}
-use Rattle.asn1_formats_core.specs.Numbers.{IsShort}
-use Rattle.asn1_formats_core.specs.Combined.{After}
-use Rattle.asn1_formats_core.specs.SpellingLaws.{same_fronts}
+use Rattle.asn1_compose.specs.Spelling.{Starts, CanRead, IsWithin, ReadsOne, SpellsOne, NamesFault}
+use Rattle.asn1_compose.specs.Numbers.{IsShort}
+use Rattle.asn1_compose.specs.Combined.{After}
+use Rattle.asn1_compose.specs.SpellingLaws.{same_fronts}
 use Rattle.asn1_per.specs.declared.additions.InAdditions.{InAdditions}
 use Rattle.asn1_per.specs.declared.additions.InAdditions.TheVariants.{Count, Presence, NoneThere, Part}
 use Rattle.asn1_per.specs.ExtensionLaws.{extensible_size_reads_one, extensible_size_spells_one, extensible_size_names_fault}

@@ -4,9 +4,9 @@ use Rattle.std.proofs.lemmas.List.{length-append}
 use Rattle.std.proofs.lemmas.Nat.{pow_pos}
 use Rattle.asn1_bits.specs.Bits.{digits}
 use Rattle.asn1_bits.specs.DigitLaws.{length-digits}
-use Rattle.asn1_formats_core.specs.Spelling.{Starts, CanRead, Measures, IsLength, IsWritten, IsWithin, ReadsOne, SpellsOne, NamesFault, NamesMisfit}
-use Rattle.asn1_formats_core.specs.Numbers.{IsNumber, IsShort}
-use Rattle.asn1_formats_core.specs.SpellingLaws.{number_reads_one, number_short}
+use Rattle.asn1_compose.specs.Spelling.{Starts, CanRead, Measures, IsLength, IsWritten, IsWithin, ReadsOne, SpellsOne, NamesFault, NamesMisfit}
+use Rattle.asn1_compose.specs.Numbers.{IsNumber, IsShort}
+use Rattle.asn1_compose.specs.SpellingLaws.{number_reads_one, number_short}
 use Rattle.asn1_per.specs.declared.complete.InComplete.{InComplete}
 use Rattle.asn1_per.specs.declared.complete.InComplete.TheVariants.{Value, Short, NotZero}
 use Rattle.asn1_per.specs.Encodings.{padding, padding_behind, IsPaddedLength, IsComplete, IsNotZero, CompleteFault}

@@ -1,9 +1,9 @@
 -- Complete encodings (X.691 11.1), and open types, which hold one (11.2).
 use Rattle.std.specs.Prelude.{◌≡◌, ◌≢◌, ℕ, ◌+◌, ◌-◌, ◌*◌, ◌/◌, ◌^◌, ◌<◌, ◌≤◌, Bool, List, ◌++◌, length, take, Option}
 use Rattle.asn1_bits.specs.Bits.{digits}
-use Rattle.asn1_formats_core.specs.Spelling.{Starts, IsLength}
-use Rattle.asn1_formats_core.specs.Numbers.{IsNumber, IsShort}
-use Rattle.asn1_formats_core.specs.Combined.{After}
+use Rattle.asn1_compose.specs.Spelling.{Starts, IsLength}
+use Rattle.asn1_compose.specs.Numbers.{IsNumber, IsShort}
+use Rattle.asn1_compose.specs.Combined.{After}
 use Rattle.asn1_per.specs.declared.complete.InComplete.{InComplete}
 use Rattle.asn1_per.specs.declared.complete.InComplete.TheVariants as complete
 use Rattle.asn1_per.specs.declared.open_type.EndFault.{EndFault}

@@ -1,8 +1,8 @@
 -- Laws of a root and its extension.
 use Rattle.std.proofs.Common.{◌≡◌, ℕ, Bool, true, false, List, [], ◌∷◌, Option, Some, ap}
-use Rattle.asn1_formats_core.specs.declared.one_of.OneOf.{OneOf}
-use Rattle.asn1_formats_core.specs.declared.one_of.OneOf.TheVariants.{First, Other}
-use Rattle.asn1_formats_core.specs.Spelling.{Starts, Measures, IsSumOf, IsWithin, ReadsOne, SpellsOne, NamesFault, NamesMisfit}
+use Rattle.asn1_compose.specs.declared.one_of.OneOf.{OneOf}
+use Rattle.asn1_compose.specs.declared.one_of.OneOf.TheVariants.{First, Other}
+use Rattle.asn1_compose.specs.Spelling.{Starts, Measures, IsSumOf, IsWithin, ReadsOne, SpellsOne, NamesFault, NamesMisfit}
 use Rattle.asn1_per.specs.Extensions.{IsMarked, MarkedFault, IsFirst, IsOther, EitherMisfit}
 use Rattle.asn1_per.specs.ExtensionLaws.{marked_reads_one, marked_spells_one, marked_names_fault, root_starts, extension_starts, root_measured, extension_measured}
 

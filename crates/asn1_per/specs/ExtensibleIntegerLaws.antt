@@ -14,13 +14,13 @@ use Rattle.asn1_number.specs.OctetLaws.{unsigned-cons, unsigned_nil, unsigned_be
 use Rattle.asn1_number.specs.declared.error.IntegerError.TheVariants.{Overflow}
 use Rattle.asn1_number.specs.Readings.{IsInRange, SignedOf, signed_reading}
 use Rattle.asn1_number.specs.ReadingLaws.{power_of_bits, half_of_bits, signed_law}
-use Rattle.asn1_formats_core.specs.Spelling.{Starts, CanRead, ReadsOne, SpellsOne, NamesFault, NamesMisfit}
-use Rattle.asn1_formats_core.specs.Numbers.{IsNumber}
-use Rattle.asn1_formats_core.specs.SpellingLaws.{number_reads_one as number_reads_one_of}
+use Rattle.asn1_compose.specs.Spelling.{Starts, CanRead, ReadsOne, SpellsOne, NamesFault, NamesMisfit}
+use Rattle.asn1_compose.specs.Numbers.{IsNumber}
+use Rattle.asn1_compose.specs.SpellingLaws.{number_reads_one as number_reads_one_of}
 use Rattle.asn1_formats.specs.WholeNumbers.{IsConstrained, IsConstrainedFault, IsConstrainedMisfit}
 use Rattle.asn1_formats.specs.WholeNumberLaws.{constrained_reads_one, constrained_spells_one, constrained_names_fault}
-use Rattle.asn1_formats_core.specs.declared.size.SizeMisfit.{SizeMisfit}
-use Rattle.asn1_formats_core.specs.declared.size.SizeMisfit.TheVariants.{BelowLeast, AboveMost}
+use Rattle.asn1_compose.specs.declared.size.SizeMisfit.{SizeMisfit}
+use Rattle.asn1_compose.specs.declared.size.SizeMisfit.TheVariants.{BelowLeast, AboveMost}
 use Rattle.asn1_per.specs.declared.extensible_number.BeyondNumberFault.{BeyondNumberFault}
 use Rattle.asn1_per.specs.declared.extensible_number.BeyondNumberFault.TheVariants.{Number, InRoot}
 use Rattle.asn1_per.specs.declared.length.LongLength.{LongLength}

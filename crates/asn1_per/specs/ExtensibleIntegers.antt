@@ -1,6 +1,6 @@
 -- INTEGER with bounds and an extension marker (X.691 13.1).
 use Rattle.std.specs.Prelude.{ℤ, ◌<ℤ◌, ◌≤ℤ◌, ◌⊎◌, Bool, List}
-use Rattle.asn1_formats_core.specs.Combined.{After}
+use Rattle.asn1_compose.specs.Combined.{After}
 use Rattle.asn1_per.specs.declared.extensible_number.BeyondNumberFault.{BeyondNumberFault}
 use Rattle.asn1_per.specs.declared.extensible_number.BeyondNumberFault.TheVariants.{Number, InRoot}
 use Rattle.asn1_per.specs.declared.length.LongLength.{LongLength}

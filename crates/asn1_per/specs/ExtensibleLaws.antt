@@ -1,10 +1,10 @@
 -- Laws of a root with additions behind it.
 use Rattle.std.proofs.Common.{◌≡◌, ℕ, Bool, true, false, List, [], ◌∷◌, length, sym, ap, ◌∙◌, subst, arith}
-use Rattle.asn1_formats_core.specs.declared.then.InThen.{InThen}
-use Rattle.asn1_formats_core.specs.declared.then.InThen.TheVariants as then
-use Rattle.asn1_formats_core.specs.Spelling.{Starts, CanRead, Fits, IsWithin, ReadsOne, SpellsOne, NamesFault, NamesMisfit}
-use Rattle.asn1_formats_core.specs.Combined.{After}
-use Rattle.asn1_formats_core.specs.SpellingLaws.{both_reads_one, both_spells_one, can_first, can_second}
+use Rattle.asn1_compose.specs.declared.then.InThen.{InThen}
+use Rattle.asn1_compose.specs.declared.then.InThen.TheVariants as then
+use Rattle.asn1_compose.specs.Spelling.{Starts, CanRead, Fits, IsWithin, ReadsOne, SpellsOne, NamesFault, NamesMisfit}
+use Rattle.asn1_compose.specs.Combined.{After}
+use Rattle.asn1_compose.specs.SpellingLaws.{both_reads_one, both_spells_one, can_first, can_second}
 use Rattle.asn1_per.specs.declared.additions.AdditionsMisfit.{AdditionsMisfit}
 use Rattle.asn1_per.specs.declared.additions.AdditionsMisfit.TheVariants as misfit
 use Rattle.asn1_per.specs.declared.extensible.InRootOrAdditions.{InRootOrAdditions}

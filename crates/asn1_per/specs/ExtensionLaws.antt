@@ -1,9 +1,9 @@
 -- Laws of extension markers.
 use Rattle.std.proofs.Common.{◌≡◌, ℕ, ◌^◌, ◌≤◌, Bool, true, false, List, [], ◌∷◌, ◌++◌, length, Option, Some, refl, sym, ap, ◌∙◌, subst}
 use Rattle.std.proofs.lemmas.List.{length-append}
-use Rattle.asn1_formats_core.specs.Spelling.{Starts, CanRead, Fits, Measures, IsLength, IsSumOf, ReadsOne, SpellsOne, NamesFault, NamesMisfit}
-use Rattle.asn1_formats_core.specs.Numbers.{IsSize, IsSizeFault}
-use Rattle.asn1_formats_core.specs.NumberLaws.{size_reads_one, size_spells_one, size_names_fault, size_names_misfit}
+use Rattle.asn1_compose.specs.Spelling.{Starts, CanRead, Fits, Measures, IsLength, IsSumOf, ReadsOne, SpellsOne, NamesFault, NamesMisfit}
+use Rattle.asn1_compose.specs.Numbers.{IsSize, IsSizeFault}
+use Rattle.asn1_compose.specs.NumberLaws.{size_reads_one, size_spells_one, size_names_fault, size_names_misfit}
 use Rattle.asn1_per.specs.declared.extensible_size.InExtensible.{InExtensible}
 use Rattle.asn1_per.specs.declared.extensible_size.InExtensible.TheVariants.{Marker, Root, Extension}
 use Rattle.asn1_per.specs.declared.extensible_size.BeyondRootFault.{BeyondRootFault}

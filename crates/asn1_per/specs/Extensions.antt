@@ -1,10 +1,10 @@
 -- Extension markers: a bit that says whether what follows is of the root.
 use Rattle.std.specs.Prelude.{◌≡◌, ℕ, ◌^◌, ◌≤◌, Bool, true, false, List, [], ◌∷◌}
-use Rattle.asn1_formats_core.specs.Spelling.{Starts, Fits}
-use Rattle.asn1_formats_core.specs.Numbers.{IsSize, IsSizeMisfit}
-use Rattle.asn1_formats_core.specs.declared.size.SizeMisfit.{SizeMisfit}
-use Rattle.asn1_formats_core.specs.declared.one_of.OneOf.{OneOf}
-use Rattle.asn1_formats_core.specs.declared.one_of.OneOf.TheVariants.{First, Other}
+use Rattle.asn1_compose.specs.Spelling.{Starts, Fits}
+use Rattle.asn1_compose.specs.Numbers.{IsSize, IsSizeMisfit}
+use Rattle.asn1_compose.specs.declared.size.SizeMisfit.{SizeMisfit}
+use Rattle.asn1_compose.specs.declared.one_of.OneOf.{OneOf}
+use Rattle.asn1_compose.specs.declared.one_of.OneOf.TheVariants.{First, Other}
 use Rattle.asn1_per.specs.declared.extensible_size.InExtensible.{InExtensible}
 use Rattle.asn1_per.specs.declared.extensible_size.InExtensible.TheVariants.{Marker, Root, Extension}
 use Rattle.asn1_per.specs.declared.extensible_size.BeyondRootFault.{BeyondRootFault}

@@ -1,11 +1,11 @@
 -- What is wrong with values in fragments is one thing.
 use Rattle.std.proofs.Common.{◌≡◌, ℕ, List, [], Bool, true, length, refl, sym, ◌∙◌, ap, subst}
-use Rattle.asn1_formats_core.specs.declared.never_wrong.NeverWrong.{NeverWrong}
-use Rattle.asn1_formats_core.specs.declared.sequence_of.InSequenceOf.{InSequenceOf}
-use Rattle.asn1_formats_core.specs.declared.sequence_of.InSequenceOf.TheVariants as within
-use Rattle.asn1_formats_core.specs.Spelling.{Starts, CanRead, ReadsOne, NamesFault, NamesMisfit}
-use Rattle.asn1_formats_core.specs.Combined.{AreCounted, SequenceOfFault, SequenceOfMisfit, ItemMisfit}
-use Rattle.asn1_formats_core.specs.ListLaws.{counted_names_fault, counted_names_misfit}
+use Rattle.asn1_compose.specs.declared.never_wrong.NeverWrong.{NeverWrong}
+use Rattle.asn1_compose.specs.declared.sequence_of.InSequenceOf.{InSequenceOf}
+use Rattle.asn1_compose.specs.declared.sequence_of.InSequenceOf.TheVariants as within
+use Rattle.asn1_compose.specs.Spelling.{Starts, CanRead, ReadsOne, NamesFault, NamesMisfit}
+use Rattle.asn1_compose.specs.Combined.{AreCounted, SequenceOfFault, SequenceOfMisfit, ItemMisfit}
+use Rattle.asn1_compose.specs.ListLaws.{counted_names_fault, counted_names_misfit}
 use Rattle.asn1_per.specs.declared.piece.PieceFault.{PieceFault}
 use Rattle.asn1_per.specs.declared.fragments.InFragments.{InFragments}
 use Rattle.asn1_per.specs.declared.fragments.WrongItem.{WrongItem}

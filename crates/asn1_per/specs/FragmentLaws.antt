@@ -4,11 +4,11 @@ use Rattle.std.specs.Prelude.{nat_eq}
 use Rattle.std.proofs.lemmas.Bool.{eqb-true}
 use Rattle.std.proofs.lemmas.List.{length-append}
 use Rattle.asn1_bits.specs.Joined.{AreJoined}
-use Rattle.asn1_formats_core.specs.Spelling.{Starts, Fits, ReadsOne, SpellsOne, IsWithin}
-use Rattle.asn1_formats_core.specs.Combined.{AreCounted}
-use Rattle.asn1_formats_core.specs.SpellingLaws.{same_fronts}
-use Rattle.asn1_formats_core.specs.ListLaws.{counted_reads_one, counted_spells_one}
-use Rattle.asn1_formats_core.specs.WithinLaws.{counted_within}
+use Rattle.asn1_compose.specs.Spelling.{Starts, Fits, ReadsOne, SpellsOne, IsWithin}
+use Rattle.asn1_compose.specs.Combined.{AreCounted}
+use Rattle.asn1_compose.specs.SpellingLaws.{same_fronts}
+use Rattle.asn1_compose.specs.ListLaws.{counted_reads_one, counted_spells_one}
+use Rattle.asn1_compose.specs.WithinLaws.{counted_within}
 use Rattle.asn1_per.specs.Fragments.{IsPieceLen, IsPieceCount, items_of, ArePieces, AreFragments, AreFragmented}
 use Rattle.asn1_per.specs.PieceLaws.{piece_reads_one, piece_spells_one, piece_is, fragment_stands}
 

@@ -6,10 +6,10 @@ use Rattle.std.proofs.lemmas.List.Elements.{All-head, All-tail}
 use Rattle.asn1_bits.specs.Bits.{bits, digits}
 use Rattle.asn1_bits.specs.DigitLaws.{length-bits, bits-append}
 use Rattle.asn1_bits.specs.Joined.{AreJoined}
-use Rattle.asn1_formats_core.specs.Spelling.{Starts}
-use Rattle.asn1_formats_core.specs.Numbers.{IsNumber, IsShort}
-use Rattle.asn1_formats_core.specs.Combined.{After, SoMany}
-use Rattle.asn1_formats_core.specs.OctetStringLaws.{of_bits}
+use Rattle.asn1_compose.specs.Spelling.{Starts}
+use Rattle.asn1_compose.specs.Numbers.{IsNumber, IsShort}
+use Rattle.asn1_compose.specs.Combined.{After, SoMany}
+use Rattle.asn1_compose.specs.OctetStringLaws.{of_bits}
 
 -- octets one after another have their digits
 pub octets_joined : (octets : List ℕ) → All (λ octet. octet < 256) octets → AreJoined (IsNumber 8) octets (bits octets)

@@ -1,13 +1,13 @@
 -- Fragmentation (X.691 11.9.3.8): fragments of 64K items, then one of 16K, 32K or 48K at most, then the last piece, which
 -- is shorter than 16K and may have no items. `more` says whether a fragment may stand here.
 use Rattle.std.specs.Prelude.{◌≡◌, ℕ, ◌+◌, ◌*◌, ◌^◌, ◌<◌, ◌≤◌, ◌⊎◌, Bool, true, IsTrue, nat_eq, List, [], ◌∷◌, ◌++◌, length}
-use Rattle.asn1_formats_core.specs.Spelling.{Starts}
-use Rattle.asn1_formats_core.specs.Numbers.{IsNumber, IsShort}
-use Rattle.asn1_formats_core.specs.Combined.{After, AreCounted, SequenceOfFault}
+use Rattle.asn1_compose.specs.Spelling.{Starts}
+use Rattle.asn1_compose.specs.Numbers.{IsNumber, IsShort}
+use Rattle.asn1_compose.specs.Combined.{After, AreCounted, SequenceOfFault}
 use Rattle.asn1_formats.specs.declared.boolean.NoBit as boolean
-use Rattle.asn1_formats_core.specs.declared.number.Short as number
-use Rattle.asn1_formats_core.specs.declared.sequence_of.InSequenceOf.{InSequenceOf}
-use Rattle.asn1_formats_core.specs.declared.sequence_of.InSequenceOf.TheVariants as within
+use Rattle.asn1_compose.specs.declared.number.Short as number
+use Rattle.asn1_compose.specs.declared.sequence_of.InSequenceOf.{InSequenceOf}
+use Rattle.asn1_compose.specs.declared.sequence_of.InSequenceOf.TheVariants as within
 use Rattle.asn1_per.specs.Lengths.{IsLengthDeterminant, LengthFaultIs}
 use Rattle.asn1_per.specs.declared.length.LengthFault.TheVariants as lengths
 use Rattle.asn1_per.specs.declared.piece.PieceFault.{PieceFault}

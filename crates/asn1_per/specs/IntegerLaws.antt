@@ -7,14 +7,14 @@ use Rattle.asn1_number.specs.Octets.{IsShortest}
 use Rattle.asn1_number.specs.Shortest.{shortest_octets}
 use Rattle.asn1_number.specs.ShortestLaws.{shortest_octets_are, shortest_octets_only}
 use Rattle.asn1_integer.specs.IntegerOctets.{IsNoInteger}
-use Rattle.asn1_formats_core.specs.Spelling.{Starts, CanRead, Measures, IsWritten, ReadsOne, SpellsOne, NamesFault, NamesMisfit}
-use Rattle.asn1_formats_core.specs.Numbers.{IsShort}
-use Rattle.asn1_formats_core.specs.Combined.{After}
-use Rattle.asn1_formats_core.specs.Choices.{At}
-use Rattle.asn1_formats_core.specs.ChoiceLaws.{apart, numbered_starts, numbered_reads_one, numbered_spells_one}
-use Rattle.asn1_formats_core.specs.SpellingLaws.{same_fronts}
+use Rattle.asn1_compose.specs.Spelling.{Starts, CanRead, Measures, IsWritten, ReadsOne, SpellsOne, NamesFault, NamesMisfit}
+use Rattle.asn1_compose.specs.Numbers.{IsShort}
+use Rattle.asn1_compose.specs.Combined.{After}
+use Rattle.asn1_compose.specs.Choices.{At}
+use Rattle.asn1_compose.specs.ChoiceLaws.{apart, numbered_starts, numbered_reads_one, numbered_spells_one}
+use Rattle.asn1_compose.specs.SpellingLaws.{same_fronts}
 use Rattle.asn1_integer.specs.IntegerOctets.{HoldsInteger}
-use Rattle.asn1_formats_core.specs.IntegerOctetLaws.{same_number}
+use Rattle.asn1_compose.specs.IntegerOctetLaws.{same_number}
 use Rattle.asn1_per.specs.declared.length.LengthFault.{LengthFault}
 use Rattle.asn1_per.specs.declared.length.LongLength.{LongLength}
 use Rattle.asn1_per.specs.declared.unconstrained_number.UnconstrainedFault.{UnconstrainedFault}

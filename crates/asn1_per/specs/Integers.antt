@@ -3,9 +3,9 @@ use Rattle.std.specs.Prelude.{◌≡◌, ℤ, ◌*◌, ◌^◌, ◌≤◌, Bool,
 use Rattle.asn1_bits.specs.Bits.{bits}
 use Rattle.asn1_number.specs.Shortest.{shortest_octets}
 use Rattle.asn1_integer.specs.IntegerOctets.{IsNoInteger}
-use Rattle.asn1_formats_core.specs.Numbers.{IsShort}
-use Rattle.asn1_formats_core.specs.Combined.{After}
-use Rattle.asn1_formats_core.specs.Choices.{Numbered}
+use Rattle.asn1_compose.specs.Numbers.{IsShort}
+use Rattle.asn1_compose.specs.Combined.{After}
+use Rattle.asn1_compose.specs.Choices.{Numbered}
 use Rattle.asn1_per.specs.declared.unconstrained_number.UnconstrainedFault.{UnconstrainedFault}
 use Rattle.asn1_per.specs.declared.unconstrained_number.UnconstrainedFault.TheVariants.{Length, Short, NotShortest}
 use Rattle.asn1_per.specs.Lengths.{IsLengthDeterminant, LengthFaultIs}

@@ -3,10 +3,10 @@ use Rattle.std.proofs.Common.{◌≡◌, ℕ, ◌+◌, ◌-◌, ◌*◌, ◌/◌
 use Rattle.std.proofs.lemmas.Bool.{cases_lt}
 use Rattle.asn1_bits.specs.Bits.{digits}
 use Rattle.asn1_bits.specs.DigitLaws.{length-digits}
-use Rattle.asn1_formats_core.specs.Spelling.{Starts, CanRead, Measures, ReadsOne, SpellsOne, NamesFault, NamesMisfit}
-use Rattle.asn1_formats_core.specs.Numbers.{IsNumber, IsShort}
-use Rattle.asn1_formats_core.specs.SpellingLaws.{number_reads_one, number_short}
-use Rattle.asn1_formats_core.specs.IntegerOctetLaws.{two_octets}
+use Rattle.asn1_compose.specs.Spelling.{Starts, CanRead, Measures, ReadsOne, SpellsOne, NamesFault, NamesMisfit}
+use Rattle.asn1_compose.specs.Numbers.{IsNumber, IsShort}
+use Rattle.asn1_compose.specs.SpellingLaws.{number_reads_one, number_short}
+use Rattle.asn1_compose.specs.IntegerOctetLaws.{two_octets}
 use Rattle.asn1_per.specs.declared.length.LengthFault.{LengthFault}
 use Rattle.asn1_per.specs.declared.length.LengthFault.TheVariants.{Short, Longer, Fragment}
 use Rattle.asn1_per.specs.declared.length.LongLength.{LongLength}

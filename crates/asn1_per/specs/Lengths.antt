@@ -1,8 +1,8 @@
 -- Length determinants without bounds (X.691 11.9.3.5 to 11.9.3.8).
 use Rattle.std.specs.Prelude.{ℕ, ◌+◌, ◌^◌, ◌<◌, ◌≤◌, ◌⊎◌, Bool, List}
-use Rattle.asn1_formats_core.specs.Spelling.{Starts}
-use Rattle.asn1_formats_core.specs.Numbers.{IsNumber, IsShort}
-use Rattle.asn1_formats_core.specs.Combined.{After}
+use Rattle.asn1_compose.specs.Spelling.{Starts}
+use Rattle.asn1_compose.specs.Numbers.{IsNumber, IsShort}
+use Rattle.asn1_compose.specs.Combined.{After}
 use Rattle.asn1_per.specs.declared.length.LengthFault.{LengthFault}
 use Rattle.asn1_per.specs.declared.length.LengthFault.TheVariants.{Short, Longer, Fragment}
 

@@ -5,7 +5,7 @@ use Rattle.std.proofs.lemmas.List.{length-append, append-nil}
 use Rattle.std.proofs.lemmas.Grind.{div_ceil_times}
 use Rattle.asn1_bits.specs.Bits.{digits, padded, octets_for}
 use Rattle.asn1_bits.specs.DigitLaws.{length-digits}
-use Rattle.asn1_formats_core.specs.Spelling.{Starts, IsWritten, ReadsOne, NamesFault}
+use Rattle.asn1_compose.specs.Spelling.{Starts, IsWritten, ReadsOne, NamesFault}
 use Rattle.asn1_per.specs.declared.message.DecodeError.{DecodeError}
 use Rattle.asn1_per.specs.declared.message.DecodeError.TheVariants.{TooLong, Wrong, Behind, Memory}
 use Rattle.asn1_per.specs.Encodings.{padding, octet_count, IsComplete}

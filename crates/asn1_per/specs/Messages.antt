@@ -1,7 +1,7 @@
 -- Whole messages: complete encodings with nothing behind them.
 use Rattle.std.specs.Prelude.{◌≡◌, ℕ, ◌*◌, ◌^◌, ◌<◌, ◌≤◌, Bool, List, length}
 use Rattle.asn1_bits.specs.Bits.{bits}
-use Rattle.asn1_formats_core.specs.Combined.{After}
+use Rattle.asn1_compose.specs.Combined.{After}
 use Rattle.asn1_per.specs.declared.message.DecodeError.{DecodeError}
 use Rattle.asn1_per.specs.declared.message.DecodeError.TheVariants.{TooLong, Wrong, Behind, Memory}
 use Rattle.asn1_per.specs.Encodings.{IsComplete, CompleteFault}

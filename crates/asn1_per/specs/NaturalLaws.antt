@@ -5,13 +5,13 @@ use Rattle.std.proofs.Math.Nat.{pow-le-pow_right}
 use Rattle.asn1_bits.specs.Bits.{digits}
 use Rattle.asn1_bits.specs.DigitLaws.{length-digits}
 use Rattle.asn1_characters.specs.WidthLaws.{ceil_log2_is_least}
-use Rattle.asn1_formats_core.specs.declared.never_wrong.NeverWrong.{NeverWrong}
-use Rattle.asn1_formats_core.specs.Spelling.{Starts, CanRead, Measures, IsWritten, ReadsOne, SpellsOne, NamesFault, NamesMisfit}
-use Rattle.asn1_formats_core.specs.Numbers.{width_to, IsNumber, IsShort}
-use Rattle.asn1_formats_core.specs.Combined.{After}
-use Rattle.asn1_formats_core.specs.Choices.{At}
-use Rattle.asn1_formats_core.specs.ChoiceLaws.{apart, numbered_starts, numbered_reads_one, numbered_spells_one}
-use Rattle.asn1_formats_core.specs.SpellingLaws.{number_reads_one, number_short}
+use Rattle.asn1_compose.specs.declared.never_wrong.NeverWrong.{NeverWrong}
+use Rattle.asn1_compose.specs.Spelling.{Starts, CanRead, Measures, IsWritten, ReadsOne, SpellsOne, NamesFault, NamesMisfit}
+use Rattle.asn1_compose.specs.Numbers.{width_to, IsNumber, IsShort}
+use Rattle.asn1_compose.specs.Combined.{After}
+use Rattle.asn1_compose.specs.Choices.{At}
+use Rattle.asn1_compose.specs.ChoiceLaws.{apart, numbered_starts, numbered_reads_one, numbered_spells_one}
+use Rattle.asn1_compose.specs.SpellingLaws.{number_reads_one, number_short}
 use Rattle.asn1_per.specs.declared.length.LengthFault.{LengthFault}
 use Rattle.asn1_per.specs.declared.natural_number.NaturalFault.{NaturalFault}
 use Rattle.asn1_per.specs.declared.natural_number.NaturalFault.TheVariants.{Length, Long, Short, NotShortest}

@@ -1,9 +1,9 @@
 -- Whole numbers from 0 on, behind the number of their octets (X.691 11.7).
 use Rattle.std.specs.Prelude.{◌≢◌, ℕ, ◌*◌, ◌^◌, ◌<◌, ◌≤◌, Bool, List}
-use Rattle.asn1_formats_core.specs.Spelling.{Starts}
-use Rattle.asn1_formats_core.specs.Numbers.{width_to, IsNumber, IsShort}
-use Rattle.asn1_formats_core.specs.Combined.{After}
-use Rattle.asn1_formats_core.specs.Choices.{Numbered}
+use Rattle.asn1_compose.specs.Spelling.{Starts}
+use Rattle.asn1_compose.specs.Numbers.{width_to, IsNumber, IsShort}
+use Rattle.asn1_compose.specs.Combined.{After}
+use Rattle.asn1_compose.specs.Choices.{Numbered}
 use Rattle.asn1_per.specs.declared.natural_number.NaturalFault.{NaturalFault}
 use Rattle.asn1_per.specs.declared.natural_number.NaturalFault.TheVariants.{Length, Long, Short, NotShortest}
 use Rattle.asn1_per.specs.Lengths.{IsLengthDeterminant, LengthFaultIs}

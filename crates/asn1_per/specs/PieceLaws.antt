@@ -3,9 +3,9 @@ use Rattle.std.proofs.Common.{◌≡◌, ℕ, ◌+◌, ◌*◌, ◌^◌, ◌<◌
 use Rattle.std.specs.Prelude.{IsTrue}
 use Rattle.asn1_bits.specs.Bits.{digits}
 use Rattle.asn1_bits.specs.DigitLaws.{length-digits}
-use Rattle.asn1_formats_core.specs.Spelling.{Starts, CanRead, Measures, ReadsOne, SpellsOne, NamesFault}
-use Rattle.asn1_formats_core.specs.Numbers.{IsNumber}
-use Rattle.asn1_formats_core.specs.SpellingLaws.{number_reads_one}
+use Rattle.asn1_compose.specs.Spelling.{Starts, CanRead, Measures, ReadsOne, SpellsOne, NamesFault}
+use Rattle.asn1_compose.specs.Numbers.{IsNumber}
+use Rattle.asn1_compose.specs.SpellingLaws.{number_reads_one}
 use Rattle.asn1_per.specs.declared.length.LengthFault.{LengthFault}
 use Rattle.asn1_per.specs.declared.length.LengthFault.TheVariants as lengths
 use Rattle.asn1_per.specs.declared.piece.PieceFault.{PieceFault}

@@ -1,8 +1,8 @@
 -- Laws of the number of additions and of their presence bits.
 use Rattle.std.proofs.Common.{◌≡◌, ℕ, ◌+◌, ◌-◌, ◌^◌, ◌<◌, ◌≤◌, Bool, true, false, List, [], ◌∷◌, ◌++◌, length, take, drop, Option, Some, refl, sym, ap, ◌∙◌, subst, arith, append_assoc}
 use Rattle.std.proofs.lemmas.List.{length-append, length-take-le, take-append-drop}
-use Rattle.asn1_formats_core.specs.declared.size.SizeMisfit.TheVariants.{AboveMost}
-use Rattle.asn1_formats_core.specs.Spelling.{Starts, Measures, IsLength, IsSumOf, IsWritten}
+use Rattle.asn1_compose.specs.declared.size.SizeMisfit.TheVariants.{AboveMost}
+use Rattle.asn1_compose.specs.Spelling.{Starts, Measures, IsLength, IsSumOf, IsWritten}
 use Rattle.asn1_per.specs.declared.length.LongLength.{LongLength}
 use Rattle.asn1_per.specs.Extensions.{IsBeyondMisfit}
 use Rattle.asn1_per.specs.Additions.{HasOne, IsSmallLength, SpellsAdditions, IsPresence}

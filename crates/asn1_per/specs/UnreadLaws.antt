@@ -1,10 +1,10 @@
 -- Laws of additions that are not known.
 use Rattle.std.proofs.Common.{◌≡◌, ℕ, ◌-◌, Bool, true, false, List, [], ◌∷◌, ◌++◌, length, Option, refl, sym, ap, ◌∙◌, subst, arith, append_assoc, inl, inr}
 use Rattle.std.specs.Prelude.{⊤}
-use Rattle.asn1_formats_core.specs.declared.never_wrong.NeverWrong.{NeverWrong}
-use Rattle.asn1_formats_core.specs.declared.octet_string.InOctetString.{InOctetString}
-use Rattle.asn1_formats_core.specs.Spelling.{Starts, ReadsOne, SpellsOne, NamesFault, NamesMisfit}
-use Rattle.asn1_formats_core.specs.OctetStringLaws.{octet_string_reads_one, octet_string_names_fault}
+use Rattle.asn1_compose.specs.declared.never_wrong.NeverWrong.{NeverWrong}
+use Rattle.asn1_compose.specs.declared.octet_string.InOctetString.{InOctetString}
+use Rattle.asn1_compose.specs.Spelling.{Starts, ReadsOne, SpellsOne, NamesFault, NamesMisfit}
+use Rattle.asn1_compose.specs.OctetStringLaws.{octet_string_reads_one, octet_string_names_fault}
 use Rattle.asn1_per.specs.declared.length.LengthFault.{LengthFault}
 use Rattle.asn1_per.specs.Lengths.{IsLengthDeterminant, LengthFaultIs}
 use Rattle.asn1_per.specs.LengthLaws.{length_reads_one, length_names_fault}

@@ -18,10 +18,10 @@ pub struct Addition<A, D> {
 
 impl<A: Open + Format, D: Additions> Additions for Addition<A, D> {
     ghost use Rattle.std.specs.Prelude.{◌+◌, Option, None};
-    ghost use Rattle.asn1_formats_core.specs.Combined.{plain_option, Both, BothMisfit, MaybeMisfit};
+    ghost use Rattle.asn1_compose.specs.Combined.{plain_option, Both, BothMisfit, MaybeMisfit};
     ghost use Rattle.asn1_formats.specs.Sequences.{IfThere};
-    ghost use Rattle.asn1_formats_core.specs.SpellingLaws.{both_spells_one};
-    ghost use Rattle.asn1_formats_core.specs.ThenLaws.{both_names_misfit};
+    ghost use Rattle.asn1_compose.specs.SpellingLaws.{both_spells_one};
+    ghost use Rattle.asn1_compose.specs.ThenLaws.{both_names_misfit};
     ghost use Rattle.asn1_formats.specs.ComponentLaws.{optional_spells_one, optional_names_misfit};
     ghost use Rattle.asn1_per.specs.Additions.{shows_addition, ReadsAddition, AdditionFault};
     ghost use Rattle.asn1_per.specs.AdditionLaws.{addition_size, addition_some, addition_alone, addition_read, addition_reads_one, addition_names_fault};
@@ -182,9 +182,9 @@ impl<A: Open + Format, D: Additions> Additions for Addition<A, D> {
 impl<A: Open + Format, D: Additions> Addition<A, D> {
     ghost use Rattle.std.specs.Prelude.{◌≡◌, ⊤, Bool, true, false, List, [], ◌∷◌, ◌⊎◌, Option, OnOk, OnErr, IfOk, IfErr};
     ghost use Rattle.asn1_bits.specs.BitReader.{bits_left};
-    ghost use Rattle.asn1_formats_core.specs.Spelling.{Starts, Measures, IsWritten, Extends};
-    ghost use Rattle.asn1_formats_core.specs.Refusals.{IsRefusal};
-    ghost use Rattle.asn1_formats_core.specs.Combined.{plain_option, MaybeMisfit};
+    ghost use Rattle.asn1_compose.specs.Spelling.{Starts, Measures, IsWritten, Extends};
+    ghost use Rattle.asn1_compose.specs.Refusals.{IsRefusal};
+    ghost use Rattle.asn1_compose.specs.Combined.{plain_option, MaybeMisfit};
     ghost use Rattle.asn1_formats.specs.Sequences.{IfThere};
     ghost use Rattle.asn1_per.specs.Additions.{IsPassed, IsPassFault};
 

@@ -2,8 +2,8 @@
 
 ghost use Rattle.std.specs.Prelude.{◌≡◌, ◌↔◌, ℕ, Bool, List, ◌++◌, length, OnOk, OnErr, IfOk, IfErr, IsTrue, ⊤};
 ghost use Rattle.asn1_bits.specs.BitReader.{bits_left};
-ghost use Rattle.asn1_formats_core.specs.Spelling.{Starts, Measures, IsLength, IsWritten, Extends, ReadsOne, SpellsOne, NamesFault, NamesMisfit};
-ghost use Rattle.asn1_formats_core.specs.Refusals.{IsRefusal};
+ghost use Rattle.asn1_compose.specs.Spelling.{Starts, Measures, IsLength, IsWritten, Extends, ReadsOne, SpellsOne, NamesFault, NamesMisfit};
+ghost use Rattle.asn1_compose.specs.Refusals.{IsRefusal};
 ghost use Rattle.asn1_per.specs.Additions.{HasOne};
 
 use crate::extensible_size::{BeyondRootFault, InExtensible};

@@ -3,8 +3,8 @@
 ghost use Rattle.std.specs.Prelude.{◌≡◌, ⊤, List, Bool, OnOk, OnErr, IfOk, IfErr};
 ghost use Rattle.asn1_bits.specs.BitStr.{bits_of};
 ghost use Rattle.asn1_bits.specs.BitReader.{bits_left};
-ghost use Rattle.asn1_formats_core.specs.Spelling.{Starts, Measures, IsWritten, Extends};
-ghost use Rattle.asn1_formats_core.specs.Refusals.{IsRefusal};
+ghost use Rattle.asn1_compose.specs.Spelling.{Starts, Measures, IsWritten, Extends};
+ghost use Rattle.asn1_compose.specs.Refusals.{IsRefusal};
 ghost use Rattle.asn1_per.specs.Fragments.{AreFragmented, FragmentsFault, IsBit, IsNoBit};
 
 use crate::bit_pieces::{append_bit_piece, measure_bit_piece, skip_bit_piece, take_bit_piece};

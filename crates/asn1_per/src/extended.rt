@@ -16,8 +16,8 @@ pub struct Extended<A, B> {
 }
 
 impl<A: Format, B: Format> Format for Extended<A, B> {
-    ghost use Rattle.asn1_formats_core.specs.declared.one_of.OneOf as plain_one;
-    ghost use Rattle.asn1_formats_core.specs.Choices.{plain_one_of};
+    ghost use Rattle.asn1_compose.specs.declared.one_of.OneOf as plain_one;
+    ghost use Rattle.asn1_compose.specs.Choices.{plain_one_of};
     ghost use Rattle.asn1_per.specs.Extensions.{IsMarked, MarkedFault, IsFirst, IsOther, EitherMisfit};
     ghost use Rattle.asn1_per.specs.ExtendedLaws.{extended_within, extended_reads_one, extended_spells_one, extended_names_fault, extended_names_misfit};
 

@@ -189,8 +189,8 @@ impl<A: Format, D: Additions> Format for Extensible<A, D> {
 impl<A: Format, D: Additions> Extensible<A, D> {
     ghost use Rattle.std.specs.Prelude.{OnOk, IfOk, IfErr};
     ghost use Rattle.asn1_bits.specs.BitReader.{bits_left};
-    ghost use Rattle.asn1_formats_core.specs.Spelling.{Starts};
-    ghost use Rattle.asn1_formats_core.specs.Refusals.{IsRefusal};
+    ghost use Rattle.asn1_compose.specs.Spelling.{Starts};
+    ghost use Rattle.asn1_compose.specs.Refusals.{IsRefusal};
     ghost use Rattle.asn1_per.specs.Additions.{IsExtended, ReadsAdditions, AdditionsFault, ExtendedFault};
 
     /// Reads a root and additions.

@@ -30,7 +30,7 @@ pub enum BeyondNumberFault {
 
 ghost use Rattle.std.specs.Prelude.{◌≡◌, IfSome, IfNone, IfErr, OnOk, ℤ};
 ghost use Rattle.asn1_bits.specs.BitReader.{bits_left};
-ghost use Rattle.asn1_formats_core.specs.Spelling.{Starts};
+ghost use Rattle.asn1_compose.specs.Spelling.{Starts};
 ghost use Rattle.asn1_per.specs.ExtensibleIntegers.{IsWithinRoot, IsOutsideRoot, IsBeyondNumber, IsBeyondNumberFault};
 
 /// The number, if it is one of the root.
@@ -56,7 +56,7 @@ fn in_root(root: &ConstrainedNumber, value: &Integer) -> Option<i64>
 impl Format for ExtensibleNumber {
     ghost use Rattle.std.specs.Prelude.{⊤};
     ghost use Rattle.asn1_formats.specs.WholeNumbers.{IsConstrained, IsConstrainedFault};
-    ghost use Rattle.asn1_formats_core.specs.WithinLaws.{itself};
+    ghost use Rattle.asn1_compose.specs.WithinLaws.{itself};
     ghost use Rattle.asn1_per.specs.Extensions.{IsMarked, MarkedFault};
     ghost use Rattle.asn1_per.specs.ExtensibleIntegers.{IsBeyondNumberMisfit};
     ghost use Rattle.asn1_per.specs.ExtensibleIntegerLaws.{number_reads_one, number_spells_one, number_names_fault, number_names_misfit};
@@ -176,7 +176,7 @@ impl Format for ExtensibleNumber {
 
 impl ExtensibleNumber {
     ghost use Rattle.std.specs.Prelude.{IfOk};
-    ghost use Rattle.asn1_formats_core.specs.Refusals.{IsRefusal};
+    ghost use Rattle.asn1_compose.specs.Refusals.{IsRefusal};
 
     /// Reads a number outside the root.
     fn take_beyond(

@@ -2,7 +2,7 @@
 
 ghost use Rattle.std.specs.Prelude.{◌≡◌, IfOk, IfErr};
 ghost use Rattle.asn1_bits.specs.BitReader.{bits_left};
-ghost use Rattle.asn1_formats_core.specs.Spelling.{Starts};
+ghost use Rattle.asn1_compose.specs.Spelling.{Starts};
 
 use crate::length::{Length, LengthFault, LongLength, next_length};
 use asn1_bits::{BitBuffer, BitReader};
@@ -40,10 +40,10 @@ pub enum BeyondRootFault {
 
 impl Format for ExtensibleSize {
     ghost use Rattle.std.specs.Prelude.{ℕ, ⊤};
-    ghost use Rattle.asn1_formats_core.specs.Numbers.{IsSize, IsSizeFault};
+    ghost use Rattle.asn1_compose.specs.Numbers.{IsSize, IsSizeFault};
     ghost use Rattle.asn1_per.specs.Extensions.{IsMarked, MarkedFault, IsBeyondRoot, IsBeyondRootFault, IsBeyondMisfit};
     ghost use Rattle.asn1_per.specs.ExtensionLaws.{extensible_size_reads_one, extensible_size_spells_one, extensible_size_names_fault, extensible_size_names_misfit};
-    ghost use Rattle.asn1_formats_core.specs.WithinLaws.{itself};
+    ghost use Rattle.asn1_compose.specs.WithinLaws.{itself};
 
     type Value = u64;
 
@@ -137,7 +137,7 @@ impl Format for ExtensibleSize {
 }
 
 impl Counts for ExtensibleSize {
-    ghost use Rattle.asn1_formats_core.specs.Numbers.{IsSize, IsSizeFault};
+    ghost use Rattle.asn1_compose.specs.Numbers.{IsSize, IsSizeFault};
     ghost use Rattle.asn1_per.specs.Extensions.{IsMarked, MarkedFault, IsBeyondRoot, IsBeyondRootFault, IsBeyondMisfit};
     ghost use Rattle.asn1_per.specs.ExtensionLaws.{extensible_size_reads_one, extensible_size_spells_one, extensible_size_names_fault, extensible_size_names_misfit};
 
@@ -192,8 +192,8 @@ impl Counts for ExtensibleSize {
 }
 
 ghost use Rattle.std.specs.Prelude.{⊤, OnOk, OnErr, ◌^◌, ◌≤◌};
-ghost use Rattle.asn1_formats_core.specs.Spelling.{IsWritten, Extends};
-ghost use Rattle.asn1_formats_core.specs.Refusals.{IsRefusal};
+ghost use Rattle.asn1_compose.specs.Spelling.{IsWritten, Extends};
+ghost use Rattle.asn1_compose.specs.Refusals.{IsRefusal};
 ghost use Rattle.asn1_per.specs.Extensions.{IsBeyondRoot, IsBeyondRootFault, BehindOne};
 ghost use Rattle.asn1_per.specs.Lengths.{IsLengthDeterminant};
 

@@ -2,9 +2,9 @@
 
 ghost use Rattle.std.specs.Prelude.{⊤, List, map, OnOk, OnErr, IfOk, IfErr};
 ghost use Rattle.asn1_bits.specs.BitReader.{bits_left};
-ghost use Rattle.asn1_formats_core.specs.Spelling.{Starts, Measures, IsWritten, Extends};
-ghost use Rattle.asn1_formats_core.specs.Refusals.{IsRefusal};
-ghost use Rattle.asn1_formats_core.specs.Combined.{ItemMisfit};
+ghost use Rattle.asn1_compose.specs.Spelling.{Starts, Measures, IsWritten, Extends};
+ghost use Rattle.asn1_compose.specs.Refusals.{IsRefusal};
+ghost use Rattle.asn1_compose.specs.Combined.{ItemMisfit};
 ghost use Rattle.asn1_per.specs.Fragments.{AreFragmented, FragmentsFault};
 
 use crate::piece::{FRAGMENT, PieceFault, WHOLE, piece_len};

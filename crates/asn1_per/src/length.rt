@@ -2,7 +2,7 @@
 
 ghost use Rattle.std.specs.Prelude.{◌≡◌, ℕ, ◌+◌, ◌^◌, ◌<◌, ◌≤◌, ◌++◌, OnOk, OnErr, IfOk, IfErr, Some};
 ghost use Rattle.asn1_bits.specs.BitReader.{bits_left};
-ghost use Rattle.asn1_formats_core.specs.Spelling.{Starts, Measures, IsWritten};
+ghost use Rattle.asn1_compose.specs.Spelling.{Starts, Measures, IsWritten};
 
 use asn1_bits::{BitBuffer, BitReader};
 use asn1_formats::{Counts, Format, Refusal, next_number, push_number};
@@ -35,7 +35,7 @@ impl Format for Length {
     ghost use Rattle.std.specs.Prelude.{⊤};
     ghost use Rattle.asn1_per.specs.Lengths.{IsLengthDeterminant, LengthFaultIs};
     ghost use Rattle.asn1_per.specs.LengthLaws.{length_reads_one, length_spells_one, length_names_fault, length_names_misfit};
-    ghost use Rattle.asn1_formats_core.specs.WithinLaws.{itself};
+    ghost use Rattle.asn1_compose.specs.WithinLaws.{itself};
 
     type Value = u64;
 

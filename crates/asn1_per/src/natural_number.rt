@@ -2,7 +2,7 @@
 
 ghost use Rattle.std.specs.Prelude.{◌≡◌, ◌^◌, ◌<◌, ◌≤◌, IfOk, IfErr};
 ghost use Rattle.asn1_bits.specs.BitReader.{bits_left};
-ghost use Rattle.asn1_formats_core.specs.Spelling.{Starts};
+ghost use Rattle.asn1_compose.specs.Spelling.{Starts};
 ghost use Rattle.asn1_per.specs.Naturals.{IsNatural, NaturalFaultIs};
 
 use crate::complete::octets_of;
@@ -58,7 +58,7 @@ fn next_natural(reader: &mut BitReader<'_>) -> Result<u64, NaturalFault>
 
 impl Format for NaturalNumber {
     ghost use Rattle.std.specs.Prelude.{ℕ, ⊤};
-    ghost use Rattle.asn1_formats_core.specs.WithinLaws.{itself};
+    ghost use Rattle.asn1_compose.specs.WithinLaws.{itself};
     ghost use Rattle.asn1_per.specs.NaturalLaws.{natural_reads_one, natural_spells_one, natural_names_fault, natural_names_misfit};
 
     type Value = u64;

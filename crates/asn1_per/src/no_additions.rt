@@ -104,7 +104,7 @@ impl Additions for NoAdditions {
 
 ghost use Rattle.std.specs.Prelude.{OnOk, IfErr};
 ghost use Rattle.asn1_bits.specs.BitReader.{bits_left};
-ghost use Rattle.asn1_formats_core.specs.Spelling.{Starts};
+ghost use Rattle.asn1_compose.specs.Spelling.{Starts};
 ghost use Rattle.asn1_per.specs.Additions.{AreUnread, AreUnreadFault};
 
 /// Goes past the open types that the presence bits tell of, whatever they hold.

@@ -2,9 +2,9 @@
 
 ghost use Rattle.std.specs.Prelude.{◌≡◌, ℕ, ⊤, List, OnOk, OnErr, IfOk, IfErr};
 ghost use Rattle.asn1_bits.specs.BitReader.{bits_left};
-ghost use Rattle.asn1_formats_core.specs.Spelling.{Starts, Measures, IsWritten, Extends};
-ghost use Rattle.asn1_formats_core.specs.Refusals.{IsRefusal};
-ghost use Rattle.asn1_formats_core.specs.Numbers.{IsNumber};
+ghost use Rattle.asn1_compose.specs.Spelling.{Starts, Measures, IsWritten, Extends};
+ghost use Rattle.asn1_compose.specs.Refusals.{IsRefusal};
+ghost use Rattle.asn1_compose.specs.Numbers.{IsNumber};
 ghost use Rattle.asn1_per.specs.Fragments.{AreFragmented, FragmentsFault, IsOctetShort};
 
 use crate::fragments::InFragments;

@@ -3,10 +3,10 @@
 ghost use Rattle.std.specs.Prelude.{◌≡◌, ℕ, ◌+◌, ◌*◌, ◌^◌, ◌<◌, ◌≤◌, ◌%◌, ⊤, List, ◌++◌, Bool, All, IsTrue, length, OnOk, OnErr, IfOk, IfErr};
 ghost use Rattle.asn1_bits.specs.Bits.{bits};
 ghost use Rattle.asn1_bits.specs.BitReader.{view_left, bits_left};
-ghost use Rattle.asn1_formats_core.specs.Spelling.{Starts, Measures, IsLength, IsWritten, Extends};
-ghost use Rattle.asn1_formats_core.specs.Refusals.{IsRefusal};
-ghost use Rattle.asn1_formats_core.specs.Numbers.{IsNumber};
-ghost use Rattle.asn1_formats_core.specs.Combined.{AreCounted};
+ghost use Rattle.asn1_compose.specs.Spelling.{Starts, Measures, IsLength, IsWritten, Extends};
+ghost use Rattle.asn1_compose.specs.Refusals.{IsRefusal};
+ghost use Rattle.asn1_compose.specs.Numbers.{IsNumber};
+ghost use Rattle.asn1_compose.specs.Combined.{AreCounted};
 ghost use Rattle.asn1_per.specs.Fragments.{IsPieceLen, IsPieceCount, PieceWrong, IsOctetShort};
 
 use crate::fragments::InFragments;

@@ -193,7 +193,7 @@ impl<F: Format> Format for OpenType<F> {
 
 impl<F: Format> OpenType<F> {
     ghost use Rattle.std.specs.Prelude.{Some, IfOk};
-    ghost use Rattle.asn1_formats_core.specs.Spelling.{Measures};
+    ghost use Rattle.asn1_compose.specs.Spelling.{Measures};
     ghost use Rattle.asn1_per.specs.Encodings.{OpenTypeMisfit, octet_count};
 
     /// How many bits the value has, in few enough octets.

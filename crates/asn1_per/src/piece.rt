@@ -2,7 +2,7 @@
 
 ghost use Rattle.std.specs.Prelude.{◌≡◌, ℕ, ◌+◌, ◌^◌, ◌≤◌, ◌<◌, ◌⊎◌, Bool, IsTrue, OnOk, OnErr, IfOk, IfErr, Some};
 ghost use Rattle.asn1_bits.specs.BitReader.{bits_left};
-ghost use Rattle.asn1_formats_core.specs.Spelling.{Starts, Measures, IsWritten};
+ghost use Rattle.asn1_compose.specs.Spelling.{Starts, Measures, IsWritten};
 ghost use Rattle.asn1_per.specs.declared.length.LengthFault.TheVariants as lengths;
 ghost use Rattle.asn1_per.specs.Lengths.{LengthFaultIs};
 ghost use Rattle.asn1_per.specs.Fragments.{IsPieceLen, IsPieceCount, PieceFaultIs};

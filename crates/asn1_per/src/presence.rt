@@ -2,8 +2,8 @@
 
 ghost use Rattle.std.specs.Prelude.{◌≡◌, ◌^◌, ◌≤◌, ⊤, OnOk, OnErr, IfOk, IfErr, IsTrue, IsFalse};
 ghost use Rattle.asn1_bits.specs.BitReader.{bits_left};
-ghost use Rattle.asn1_formats_core.specs.Spelling.{Starts, Measures, IsWritten, Extends};
-ghost use Rattle.asn1_formats_core.specs.Refusals.{IsRefusal};
+ghost use Rattle.asn1_compose.specs.Spelling.{Starts, Measures, IsWritten, Extends};
+ghost use Rattle.asn1_compose.specs.Refusals.{IsRefusal};
 ghost use Rattle.asn1_per.specs.Extensions.{IsBeyondMisfit};
 ghost use Rattle.asn1_per.specs.Additions.{HasOne, IsSmallLength, IsSmallLengthFault, AdditionsFault, IsPresence};
 

@@ -14,7 +14,7 @@ pub struct UnconstrainedBitString {}
 impl Format for UnconstrainedBitString {
     ghost use Rattle.std.specs.Prelude.{List, Bool, ⊤};
     ghost use Rattle.asn1_formats.specs.BooleanLaws.{boolean_reads_one, boolean_spells_one, boolean_names_fault};
-    ghost use Rattle.asn1_formats_core.specs.WithinLaws.{itself};
+    ghost use Rattle.asn1_compose.specs.WithinLaws.{itself};
     ghost use Rattle.asn1_per.specs.Fragments.{AreFragmented, FragmentsFault, IsBit, IsNoBit};
     ghost use Rattle.asn1_per.specs.FragmentLaws.{fragmented_reads_one, fragmented_spells_one};
     ghost use Rattle.asn1_per.specs.FragmentFaultLaws.{fragmented_names_fault, never_misfit};

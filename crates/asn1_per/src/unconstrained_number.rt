@@ -3,7 +3,7 @@
 ghost use Rattle.std.specs.Prelude.{◌≡◌, ℕ, pos, ◌-ℤ◌, ◌-◌, ◌^◌, ◌<◌, ◌≤◌, ◌%◌, IsTrue, IsFalse, IfOk, IfErr, IfSome, IfNone};
 ghost use Rattle.asn1_bits.specs.BitReader.{view_left, bits_left};
 ghost use Rattle.asn1_integer.specs.IntegerOctets.{IsNoInteger};
-ghost use Rattle.asn1_formats_core.specs.Spelling.{Starts};
+ghost use Rattle.asn1_compose.specs.Spelling.{Starts};
 ghost use Rattle.asn1_number.specs.Readings.{IsInRange, SignedOf};
 ghost use Rattle.asn1_integer.specs.IntegerOctets.{HoldsInteger};
 ghost use Rattle.asn1_per.specs.Integers.{IsUnconstrained, UnconstrainedFaultIs};
@@ -93,7 +93,7 @@ pub(crate) fn short_value(front: &BitReader<'_>) -> Option<i128>
 
 impl Format for UnconstrainedNumber {
     ghost use Rattle.std.specs.Prelude.{ℤ, ⊤};
-    ghost use Rattle.asn1_formats_core.specs.WithinLaws.{itself};
+    ghost use Rattle.asn1_compose.specs.WithinLaws.{itself};
     ghost use Rattle.asn1_per.specs.Integers.{IsLongInteger};
     ghost use Rattle.asn1_per.specs.IntegerLaws.{unconstrained_reads_one, unconstrained_spells_one, unconstrained_names_fault, unconstrained_names_misfit};
 

@@ -13,10 +13,10 @@ pub struct UnconstrainedOctetString {}
 
 impl Format for UnconstrainedOctetString {
     ghost use Rattle.std.specs.Prelude.{ℕ, List, ⊤};
-    ghost use Rattle.asn1_formats_core.specs.Numbers.{IsNumber};
-    ghost use Rattle.asn1_formats_core.specs.SpellingLaws.{number_reads_one, number_spells_one};
-    ghost use Rattle.asn1_formats_core.specs.NumberLaws.{number_names_fault};
-    ghost use Rattle.asn1_formats_core.specs.WithinLaws.{itself};
+    ghost use Rattle.asn1_compose.specs.Numbers.{IsNumber};
+    ghost use Rattle.asn1_compose.specs.SpellingLaws.{number_reads_one, number_spells_one};
+    ghost use Rattle.asn1_compose.specs.NumberLaws.{number_names_fault};
+    ghost use Rattle.asn1_compose.specs.WithinLaws.{itself};
     ghost use Rattle.asn1_per.specs.Fragments.{AreFragmented, FragmentsFault, IsOctetShort};
     ghost use Rattle.asn1_per.specs.FragmentLaws.{fragmented_reads_one, fragmented_spells_one};
     ghost use Rattle.asn1_per.specs.FragmentFaultLaws.{fragmented_names_fault, never_misfit};

@@ -17,7 +17,7 @@ pub struct UnconstrainedSequenceOf<A> {
 
 impl<A: Format> Format for UnconstrainedSequenceOf<A> {
     ghost use Rattle.std.specs.Prelude.{List, map};
-    ghost use Rattle.asn1_formats_core.specs.Combined.{ItemMisfit};
+    ghost use Rattle.asn1_compose.specs.Combined.{ItemMisfit};
     ghost use Rattle.asn1_per.specs.Fragments.{AreFragmented, FragmentsFault};
     ghost use Rattle.asn1_per.specs.FragmentLaws.{fragmented_reads_one, fragmented_spells_one, fragmented_within};
     ghost use Rattle.asn1_per.specs.FragmentFaultLaws.{fragmented_names_fault, fragmented_names_misfit};

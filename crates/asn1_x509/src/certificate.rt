@@ -3,8 +3,8 @@
 use crate::algorithm::{AlgorithmFormat, AlgorithmIdentifier, algorithm_format};
 use crate::elements::{bit_string, required, sequence, universal};
 use crate::tbs_certificate::{TbsFormat, TbsParts, tbs_format};
+use asn1_compose::Named;
 use asn1_der::{BitStringContents, End, Required, Sequence, Tlv};
-use asn1_formats_core::Named;
 use asn1_values::BitString;
 
 /// What a certificate holds, as its format has it.

@@ -4,11 +4,11 @@
 //! `Explain` of `asn1_formats` gives the same words. It stands above `Display`, so that the proof
 //! of a type of this depth would name each level twice; this trait stands alone.
 
+use asn1_compose::{InNamed, InThen, NeverWrong, OneOf};
 use asn1_der::{
     BitStringFault, BooleanFault, ElementFault, IdentifierFault, InDefault, InItem, InSet, InTlv,
     NotEnd, NotShortest, TimeFault,
 };
-use asn1_formats_core::{InNamed, InThen, NeverWrong, OneOf};
 use std::alloc::AllocError;
 use std::fmt::Write;
 

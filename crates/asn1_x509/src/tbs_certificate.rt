@@ -6,11 +6,11 @@ use crate::extension::{Extension, ExtensionsFormat, extensions_format};
 use crate::key::{KeyFormat, PublicKey, key_format};
 use crate::name::{Name, NameFormat, name_format};
 use crate::validity::{Validity, ValidityFormat, validity_format};
+use asn1_compose::Named;
 use asn1_der::{
     BitStringContents, End, Explicit, IntegerContents, NotDefault, Optional, Required, Sequence,
     Tlv,
 };
-use asn1_formats_core::Named;
 use asn1_values::{BitString, Integer};
 
 /// The number of the version, where it is not the default, that of version 1.

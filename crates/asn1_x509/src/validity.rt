@@ -1,10 +1,10 @@
 //! The time for which a certificate holds.
 
 use crate::elements::{required, sequence, universal};
+use asn1_compose::{Named, OneOf};
 use asn1_der::{
     End, GeneralizedTimeContents, Moment, Or, Required, Sequence, Tlv, UtcTime, UtcTimeContents,
 };
-use asn1_formats_core::{Named, OneOf};
 
 /// A UTCTime, or a GeneralizedTime (RFC 5280 4.1.2.5).
 pub type Time = OneOf<UtcTime, Moment>;

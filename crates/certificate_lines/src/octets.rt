@@ -2,8 +2,8 @@
 //! those of `decode` and `write`.
 
 use crate::refusal::Stop;
+use asn1_compose::{Format, write};
 use asn1_der::{DecodeError, decode};
-use asn1_formats_core::{Format, write};
 use asn1_values::BitBuffer;
 use asn1_x509::Tell;
 use std::alloc::{AllocError, Global};

@@ -1,6 +1,6 @@
 use Rattle.std.proofs.Common.{Bool, List, length, sym, subst, refl, arith}
 use Rattle.asn1_bits.specs.BitReader.{bits_left}
-use Rattle.asn1_formats_core.specs.Spelling.{Starts}
+use Rattle.asn1_compose.specs.Spelling.{Starts}
 use Rattle.asn1_der.specs.Elements.{IsElement}
 use Rattle.asn1_c.proofs.ElementLemmas.{lies}
 use Rattle.asn1_c.proofs.elements.asn1_der_next.Goals as goal

@@ -1,6 +1,6 @@
 use Rattle.std.proofs.Common.{map, take}
 use Rattle.asn1_der.specs.Items.{AreItems}
-use Rattle.asn1_formats_core.specs.Spelling.{IsWritten}
+use Rattle.asn1_compose.specs.Spelling.{IsWritten}
 use Rattle.asn1_der.proofs.items.append_items.Given as goal
 
 abbrev pub invariant-loop-index : goal.invariant-loop-index

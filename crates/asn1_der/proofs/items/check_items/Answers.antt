@@ -1,6 +1,6 @@
 use Rattle.std.proofs.Common.{[], ◌∷◌, ◌++◌, arith}
 use Rattle.asn1_bits.specs.BitReader.{bits_left}
-use Rattle.asn1_formats_core.specs.ListLaws.{many_snoc}
+use Rattle.asn1_compose.specs.ListLaws.{many_snoc}
 use Rattle.asn1_der.proofs.items.check_items.Goals as goal
 
 pub loop-left-preserved : goal.loop-left-preserved

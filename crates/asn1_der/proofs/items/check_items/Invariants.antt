@@ -1,7 +1,7 @@
 use Rattle.std.proofs.Common.{◌≡◌, ◌+◌, ◌%◌, ◌≤◌, List, length}
 use Rattle.asn1_bits.specs.BitReader.{view_left, bits_left}
-use Rattle.asn1_formats_core.specs.Spelling.{Starts}
-use Rattle.asn1_formats_core.specs.Combined.{SoMany}
+use Rattle.asn1_compose.specs.Spelling.{Starts}
+use Rattle.asn1_compose.specs.Combined.{SoMany}
 use Rattle.asn1_der.proofs.items.check_items.Given as goal
 
 abbrev pub invariant-loop-left : goal.invariant-loop-left

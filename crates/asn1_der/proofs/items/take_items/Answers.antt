@@ -1,7 +1,7 @@
 use Rattle.std.proofs.Common.{[], ◌∷◌, map, arith}
 use Rattle.std.proofs.lemmas.List.{map-append}
 use Rattle.asn1_bits.specs.BitReader.{bits_left}
-use Rattle.asn1_formats_core.specs.ListLaws.{many_snoc}
+use Rattle.asn1_compose.specs.ListLaws.{many_snoc}
 use Rattle.asn1_der.proofs.items.take_items.Goals as goal
 
 pub loop-left-preserved : goal.loop-left-preserved

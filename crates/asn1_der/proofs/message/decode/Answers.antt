@@ -1,6 +1,6 @@
 use Rattle.std.proofs.Common.{List, [], Bool, sym, subst}
 use Rattle.asn1_bits.specs.Bits.{bits}
-use Rattle.asn1_formats_core.specs.Spelling.{Starts}
+use Rattle.asn1_compose.specs.Spelling.{Starts}
 use Rattle.asn1_der.specs.MessageLaws.{starts_all}
 use Rattle.asn1_der.proofs.message.decode.Goals as goal
 

@@ -1,6 +1,6 @@
 use Rattle.std.proofs.Common.{◌≡◌, ◌++◌}
 use Rattle.asn1_bits.specs.Bits.{bits}
-use Rattle.asn1_formats_core.specs.Spelling.{Extends}
+use Rattle.asn1_compose.specs.Spelling.{Extends}
 use Rattle.asn1_der.proofs.object_identifier.push_each.Given as goal
 
 abbrev pub invariant-loop-octet : goal.invariant-loop-octet

@@ -1,6 +1,6 @@
 use Rattle.std.proofs.Common.{map, take}
 use Rattle.asn1_der.specs.Sets.{IsSet}
-use Rattle.asn1_formats_core.specs.Spelling.{Measures}
+use Rattle.asn1_compose.specs.Spelling.{Measures}
 use Rattle.asn1_der.proofs.set_of.measure_set.Given as goal
 
 abbrev pub invariant-loop-index : goal.invariant-loop-index

@@ -1,7 +1,7 @@
 use Rattle.std.proofs.Common.{[], ◌∷◌, map, arith}
 use Rattle.std.proofs.lemmas.List.{map-append}
 use Rattle.asn1_bits.specs.BitReader.{bits_left}
-use Rattle.asn1_formats_core.specs.Combined.{plain_option}
+use Rattle.asn1_compose.specs.Combined.{plain_option}
 use Rattle.asn1_der.specs.SetSteps.{goes_on, descends_there}
 use Rattle.asn1_der.proofs.set_of.take_set.Goals as goal
 

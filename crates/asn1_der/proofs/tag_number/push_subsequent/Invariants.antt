@@ -1,7 +1,7 @@
 use Rattle.std.proofs.Common.{◌≡◌, ◌≤◌, ◌++◌}
 use Rattle.asn1_bits.specs.Bits.{bits}
 use Rattle.asn1_oid.specs.Writing.{last_octets}
-use Rattle.asn1_formats_core.specs.Spelling.{Extends}
+use Rattle.asn1_compose.specs.Spelling.{Extends}
 use Rattle.asn1_der.proofs.tag_number.push_subsequent.Given as goal
 
 abbrev pub invariant-loop-left : goal.invariant-loop-left

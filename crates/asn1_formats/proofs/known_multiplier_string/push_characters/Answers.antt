@@ -6,7 +6,7 @@ use Rattle.asn1_formats.proofs.known_multiplier_string.push_characters.Goals as 
 
 pub loop-character-preserved : goal.loop-character-preserved
 loop-character-preserved c =
-    let A = alphabet_of c.args.alphabet.now in
+    let A = alphabet_of c.args.coded.now.item.alphabet in
     let cs = c.args.characters.now in
     let i = c.loop-character.character-index in
     let w = c.width-width.result in
@@ -25,6 +25,6 @@ loop-character-preserved c =
 pub returns-in-Ok-write_to-clause-written : goal.returns-in-Ok-write_to-clause-written
 returns-in-Ok-write_to-clause-written c = λ is.
     let held = c.loop-character.held in
-    characters_whole (alphabet_of c.args.alphabet.now) c.args.characters.now c.loop-character.character-index
+    characters_whole (alphabet_of c.args.coded.now.item.alphabet) c.args.characters.now c.loop-character.character-index
     c.args.buffer.now (c.loop-character.buffer ++ digits held.number held.len) c.write_to.new.buffer
     c.loop-character-test.false c.in-Ok-write_to.ensures.written c.loop-character.invariant.written

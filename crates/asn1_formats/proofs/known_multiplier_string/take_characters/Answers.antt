@@ -6,6 +6,6 @@ use Rattle.asn1_formats.proofs.known_multiplier_string.take_characters.Goals as 
 pub returns-in-Ok-clause-read : goal.returns-in-Ok-clause-read
 returns-in-Ok-clause-read c =
     let found = c.in_ok-characters.ensures in
-    characters_end (alphabet_of c.args.alphabet.now) c.args.count c.width-width.result c.in_ok-characters.characters.items
+    characters_end (alphabet_of c.args.coded.now.item.alphabet) c.args.count c.width-width.result c.in_ok-characters.characters.items
     (bits_left c.args.reader.now) found.0 (bits_left c.split.new.self) c.width-width.ensures.value found.1
     c.in-Ok.ensures.rest_list

@@ -1,5 +1,5 @@
 use Rattle.std.proofs.Common.{arith, rules}
-use Rattle.asn1_formats_core.specs.NumberLaws.{width_is}
+use Rattle.asn1_compose.specs.NumberLaws.{width_is}
 use Rattle.asn1_formats.proofs.wide_constrained_number.width_to_reach.Goals as goal
 
 pub returns-then-reach-width-clause-width : goal.returns-then-reach-width-clause-width

@@ -1,7 +1,7 @@
 use Rattle.std.proofs.Common.{◌≡◌, ℕ, ◌+◌, ◌-◌, ◌^◌, ◌<◌, ◌≤◌, ◌⊎◌, length, subst, arith}
 use Rattle.asn1_bits.specs.BitStr.{bits_of}
-use Rattle.asn1_formats_core.specs.Spelling.{IsWritten}
-use Rattle.asn1_formats_core.specs.Combined.{AreCounted}
+use Rattle.asn1_compose.specs.Spelling.{IsWritten}
+use Rattle.asn1_compose.specs.Combined.{AreCounted}
 use Rattle.asn1_per.specs.Fragments.{IsPieceCount, IsBit}
 use Rattle.asn1_per.proofs.PartSteps.{of_count, list_written_next, list_written_end}
 use Rattle.asn1_per.proofs.bit_fragments.append_bits.Goals as goal

@@ -1,8 +1,8 @@
 use Rattle.std.proofs.Common.{◌≡◌, ℕ, ◌+◌, ◌-◌, ◌^◌, ◌<◌, ◌≤◌, ◌⊎◌, length, take, drop, subst, arith}
 use Rattle.std.proofs.lemmas.List.{length-take-le, length-drop}
 use Rattle.asn1_bits.specs.BitStr.{bits_of}
-use Rattle.asn1_formats_core.specs.Spelling.{Measures}
-use Rattle.asn1_formats_core.specs.Combined.{AreCounted}
+use Rattle.asn1_compose.specs.Spelling.{Measures}
+use Rattle.asn1_compose.specs.Combined.{AreCounted}
 use Rattle.asn1_per.specs.Fragments.{IsPieceCount, IsBit}
 use Rattle.asn1_per.proofs.PartSteps.{of_count, list_measured_next, list_measured_end}
 use Rattle.asn1_per.proofs.bit_fragments.measure_bits.Goals as goal

@@ -1,6 +1,6 @@
 use Rattle.std.proofs.Common.{◌≡◌, ◌+◌, ◌*◌, ◌≤◌, length}
 use Rattle.asn1_bits.specs.BitReader.{bits_left}
-use Rattle.asn1_formats_core.specs.Spelling.{Starts}
+use Rattle.asn1_compose.specs.Spelling.{Starts}
 use Rattle.asn1_per.specs.Fragments.{AreFragments}
 use Rattle.asn1_per.specs.Fragments.{IsBit}
 use Rattle.asn1_per.proofs.bit_fragments.take_bits.Given as goal

@@ -1,5 +1,5 @@
 use Rattle.std.proofs.Common.{Some}
-use Rattle.asn1_formats_core.specs.ListLaws.{count_measured}
+use Rattle.asn1_compose.specs.ListLaws.{count_measured}
 use Rattle.asn1_per.specs.Fragments.{IsPieceCount, IsBit}
 use Rattle.asn1_per.specs.FragmentBitLaws.{bits_joined}
 use Rattle.asn1_per.proofs.bit_pieces.measure_bit_piece.Goals as goal

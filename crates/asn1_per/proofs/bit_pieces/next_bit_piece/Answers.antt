@@ -1,9 +1,9 @@
 use Rattle.std.proofs.Common.{◌≡◌, ◌<◌, List, Bool, length, take, refl, sym, subst, arith}
 use Rattle.std.proofs.lemmas.List.{length-take-le}
 use Rattle.asn1_bits.specs.BitReader.{bits_left}
-use Rattle.asn1_formats_core.specs.declared.sequence_of.InSequenceOf.TheVariants.{Size, Item}
-use Rattle.asn1_formats_core.specs.Spelling.{Starts}
-use Rattle.asn1_formats_core.specs.Combined.{AreCounted}
+use Rattle.asn1_compose.specs.declared.sequence_of.InSequenceOf.TheVariants.{Size, Item}
+use Rattle.asn1_compose.specs.Spelling.{Starts}
+use Rattle.asn1_compose.specs.Combined.{AreCounted}
 use Rattle.asn1_per.specs.Fragments.{IsBit, IsPieceCount}
 use Rattle.asn1_per.specs.FragmentBitLaws.{bit_cut, bits_front}
 use Rattle.asn1_per.proofs.FragmentSteps.{piece_starts}

@@ -1,6 +1,6 @@
 use Rattle.std.proofs.Common.{List, Bool, subst}
 use Rattle.asn1_bits.specs.Bits.{bits}
-use Rattle.asn1_formats_core.specs.Spelling.{IsWritten}
+use Rattle.asn1_compose.specs.Spelling.{IsWritten}
 use Rattle.asn1_per.specs.Encodings.{IsComplete}
 use Rattle.asn1_per.specs.MessageLaws.{complete_octets}
 use Rattle.asn1_per.proofs.message.encode.Goals as goal

@@ -1,6 +1,6 @@
 use Rattle.std.proofs.Common.{◌≡◌, ◌+◌, length, arith}
 use Rattle.asn1_per.proofs.PartSteps.{list_written_next, list_written_end}
-use Rattle.asn1_formats_core.specs.Numbers.{IsNumber}
+use Rattle.asn1_compose.specs.Numbers.{IsNumber}
 use Rattle.asn1_per.proofs.octet_fragments.append_octets.Goals as goal
 
 pub returns-then-count-lt-FRAGMENT-clause-written : goal.returns-then-count-lt-FRAGMENT-clause-written

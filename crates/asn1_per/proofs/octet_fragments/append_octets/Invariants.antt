@@ -1,6 +1,6 @@
 use Rattle.std.proofs.Common.{◌-◌, ◌≤◌, length, take}
 use Rattle.asn1_per.proofs.FragmentSteps.{WrittenSoFar}
-use Rattle.asn1_formats_core.specs.Numbers.{IsNumber}
+use Rattle.asn1_compose.specs.Numbers.{IsNumber}
 use Rattle.asn1_per.proofs.octet_fragments.append_octets.Given as goal
 
 abbrev pub invariant-loop-e : goal.invariant-loop-e

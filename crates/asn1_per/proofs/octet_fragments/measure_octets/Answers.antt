@@ -1,6 +1,6 @@
 use Rattle.std.proofs.Common.{◌≡◌, ◌+◌, length, arith}
 use Rattle.asn1_per.proofs.PartSteps.{list_measured_next, list_measured_end}
-use Rattle.asn1_formats_core.specs.Numbers.{IsNumber}
+use Rattle.asn1_compose.specs.Numbers.{IsNumber}
 use Rattle.asn1_per.proofs.octet_fragments.measure_octets.Goals as goal
 
 pub returns-then-count-lt-FRAGMENT : goal.returns-then-count-lt-FRAGMENT

@@ -1,6 +1,6 @@
 use Rattle.std.proofs.Common.{◌-◌, ◌≤◌, length, take}
 use Rattle.asn1_per.proofs.FragmentSteps.{MeasuredSoFar}
-use Rattle.asn1_formats_core.specs.Numbers.{IsNumber}
+use Rattle.asn1_compose.specs.Numbers.{IsNumber}
 use Rattle.asn1_per.proofs.octet_fragments.measure_octets.Given as goal
 
 abbrev pub invariant-loop-total : goal.invariant-loop-total

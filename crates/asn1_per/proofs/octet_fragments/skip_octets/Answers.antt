@@ -2,7 +2,7 @@ use Rattle.std.proofs.Common.{[], ◌++◌, refl, arith}
 use Rattle.std.proofs.lemmas.List.{length-append}
 use Rattle.asn1_bits.specs.BitReader.{bits_left}
 use Rattle.asn1_per.proofs.FragmentSteps.{starts_none, starts_next, starts_end, piece_moves}
-use Rattle.asn1_formats_core.specs.Numbers.{IsNumber}
+use Rattle.asn1_compose.specs.Numbers.{IsNumber}
 use Rattle.asn1_per.proofs.octet_fragments.skip_octets.Goals as goal
 
 pub loop-count-init : goal.loop-count-init

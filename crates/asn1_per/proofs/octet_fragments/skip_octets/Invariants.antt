@@ -1,8 +1,8 @@
 use Rattle.std.proofs.Common.{◌≡◌, ℕ, ◌+◌, ◌*◌, ◌≤◌, List, length}
 use Rattle.asn1_bits.specs.BitReader.{bits_left}
-use Rattle.asn1_formats_core.specs.Spelling.{Starts}
+use Rattle.asn1_compose.specs.Spelling.{Starts}
 use Rattle.asn1_per.specs.Fragments.{AreFragments}
-use Rattle.asn1_formats_core.specs.Numbers.{IsNumber}
+use Rattle.asn1_compose.specs.Numbers.{IsNumber}
 use Rattle.asn1_per.proofs.octet_fragments.skip_octets.Given as goal
 
 abbrev pub invariant-loop-count : goal.invariant-loop-count

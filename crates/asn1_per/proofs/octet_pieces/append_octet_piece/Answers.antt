@@ -1,6 +1,6 @@
 use Rattle.std.proofs.Common.{true, refl, ◌∙◌, length}
 use Rattle.asn1_bits.specs.Bits.{bits}
-use Rattle.asn1_formats_core.specs.Numbers.{IsNumber}
+use Rattle.asn1_compose.specs.Numbers.{IsNumber}
 use Rattle.asn1_per.specs.FragmentOctetLaws.{octets_joined}
 use Rattle.asn1_per.proofs.FragmentSteps.{piece_written}
 use Rattle.asn1_per.proofs.octet_pieces.append_octet_piece.Goals as goal

@@ -1,9 +1,9 @@
 use Rattle.std.proofs.Common.{ℕ, Some, length, refl, sym, subst}
 use Rattle.asn1_bits.specs.Bits.{bits}
 use Rattle.asn1_bits.specs.DigitLaws.{length-bits}
-use Rattle.asn1_formats_core.specs.Numbers.{IsNumber}
-use Rattle.asn1_formats_core.specs.Spelling.{IsLength}
-use Rattle.asn1_formats_core.specs.ListLaws.{count_measured}
+use Rattle.asn1_compose.specs.Numbers.{IsNumber}
+use Rattle.asn1_compose.specs.Spelling.{IsLength}
+use Rattle.asn1_compose.specs.ListLaws.{count_measured}
 use Rattle.asn1_per.specs.Fragments.{IsPieceCount}
 use Rattle.asn1_per.specs.FragmentOctetLaws.{octets_joined}
 use Rattle.asn1_per.proofs.octet_pieces.measure_octet_piece.Goals as goal

@@ -1,8 +1,8 @@
 use Rattle.std.proofs.Common.{◌≡◌, ℕ, ◌-◌, ◌*◌, ◌/◌, ◌%◌, length, refl, sym, ◌∙◌, ap, arith}
 use Rattle.std.proofs.lemmas.List.{length-take-le}
 use Rattle.asn1_bits.specs.BitReader.{bits_left}
-use Rattle.asn1_formats_core.specs.declared.sequence_of.InSequenceOf.TheVariants.{Size, Item}
-use Rattle.asn1_formats_core.specs.Numbers.{IsNumber}
+use Rattle.asn1_compose.specs.declared.sequence_of.InSequenceOf.TheVariants.{Size, Item}
+use Rattle.asn1_compose.specs.Numbers.{IsNumber}
 use Rattle.asn1_per.specs.FragmentOctetLaws.{octet_cut, octets_front}
 use Rattle.asn1_per.proofs.FragmentSteps.{piece_starts}
 use Rattle.asn1_per.proofs.octet_pieces.next_octet_piece.Goals as goal

@@ -1,6 +1,6 @@
 use Rattle.std.proofs.Common.{arith}
 use Rattle.asn1_bits.specs.BitReader.{bits_left}
-use Rattle.asn1_formats_core.specs.OctetStringLaws.{of_bits}
+use Rattle.asn1_compose.specs.OctetStringLaws.{of_bits}
 use Rattle.asn1_per.proofs.octet_pieces.skip_octet_piece.Goals as goal
 
 pub returns-in-Ok-clause-skipped : goal.returns-in-Ok-clause-skipped

@@ -1,6 +1,6 @@
 use Rattle.std.proofs.Common.{◌≡◌, true, false, ◌-◌, ◌≤◌, sym, ◌∙◌, arith}
 use Rattle.asn1_bits.specs.BitReader.{bits_left}
-use Rattle.asn1_formats_core.specs.SpellingLaws.{number_short}
+use Rattle.asn1_compose.specs.SpellingLaws.{number_short}
 use Rattle.asn1_per.specs.Fragments.{MayStand}
 use Rattle.asn1_per.specs.PieceLaws.{head_high}
 use Rattle.asn1_per.proofs.piece.next_fragment_len.Goals as goal

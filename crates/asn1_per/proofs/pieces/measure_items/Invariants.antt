@@ -1,6 +1,6 @@
 use Rattle.std.proofs.Common.{map, take}
 use Rattle.asn1_bits.specs.Joined.{AreJoined}
-use Rattle.asn1_formats_core.specs.Spelling.{Measures}
+use Rattle.asn1_compose.specs.Spelling.{Measures}
 use Rattle.asn1_per.proofs.pieces.measure_items.Given as goal
 
 abbrev pub invariant-loop-index : goal.invariant-loop-index

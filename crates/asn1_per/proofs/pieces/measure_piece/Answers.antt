@@ -1,6 +1,6 @@
 use Rattle.std.proofs.Common.{Some, map, length}
 use Rattle.std.proofs.lemmas.List.{length-map}
-use Rattle.asn1_formats_core.specs.ListLaws.{count_measured}
+use Rattle.asn1_compose.specs.ListLaws.{count_measured}
 use Rattle.asn1_per.specs.Fragments.{IsPieceCount}
 use Rattle.asn1_per.proofs.pieces.measure_piece.Goals as goal
 

@@ -1,6 +1,6 @@
 use Rattle.std.proofs.Common.{[], ◌∷◌, ◌++◌}
 use Rattle.asn1_bits.specs.BitReader.{bits_left}
-use Rattle.asn1_formats_core.specs.ListLaws.{many_snoc}
+use Rattle.asn1_compose.specs.ListLaws.{many_snoc}
 use Rattle.asn1_per.proofs.pieces.skip_items.Goals as goal
 
 pub loop-index-preserved : goal.loop-index-preserved

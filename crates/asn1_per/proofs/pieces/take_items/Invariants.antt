@@ -1,7 +1,7 @@
 use Rattle.std.proofs.Common.{◌≡◌, ◌++◌, List, map}
 use Rattle.asn1_bits.specs.BitReader.{bits_left}
-use Rattle.asn1_formats_core.specs.Spelling.{Starts}
-use Rattle.asn1_formats_core.specs.Combined.{SoMany}
+use Rattle.asn1_compose.specs.Spelling.{Starts}
+use Rattle.asn1_compose.specs.Combined.{SoMany}
 use Rattle.asn1_per.proofs.pieces.take_items.Given as goal
 
 abbrev pub invariant-loop-index : goal.invariant-loop-index

@@ -1,6 +1,6 @@
 use Rattle.std.proofs.Common.{refl}
 use Rattle.asn1_bits.specs.BitReader.{bits_left}
-use Rattle.asn1_formats_core.specs.declared.sequence_of.InSequenceOf.TheVariants.{Size, Item}
+use Rattle.asn1_compose.specs.declared.sequence_of.InSequenceOf.TheVariants.{Size, Item}
 use Rattle.asn1_per.proofs.FragmentSteps.{piece_starts}
 use Rattle.asn1_per.proofs.pieces.take_piece.Goals as goal
 

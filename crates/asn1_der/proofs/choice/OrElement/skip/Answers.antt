@@ -1,6 +1,6 @@
 use Rattle.std.proofs.Common.{refl}
 use Rattle.asn1_bits.specs.BitReader.{bits_left}
-use Rattle.asn1_formats_core.specs.declared.one_of.OneOf.TheVariants.{First, Other}
+use Rattle.asn1_compose.specs.declared.one_of.OneOf.TheVariants.{First, Other}
 use Rattle.asn1_der.specs.AlternativeLaws.{choice_first, choice_other}
 use Rattle.asn1_der.proofs.choice.OrElement.skip.Goals as goal
 

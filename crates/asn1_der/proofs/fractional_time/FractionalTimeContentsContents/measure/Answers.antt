@@ -1,6 +1,6 @@
 use Rattle.std.proofs.Common.{ℕ, List, ◌+◌, ◌*◌, ◌<◌, length, take, subst, ap}
 use Rattle.std.specs.Prelude.{All}
-use Rattle.asn1_formats_core.specs.Spelling.{IsLength}
+use Rattle.asn1_compose.specs.Spelling.{IsLength}
 use Rattle.asn1_der.specs.Times.{fraction_tail}
 use Rattle.asn1_der.specs.FractionLaws.{fractional_measured}
 use Rattle.asn1_der.proofs.fractional_time.FractionalTimeContentsContents.measure.Goals as goal

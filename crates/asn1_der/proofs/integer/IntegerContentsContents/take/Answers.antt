@@ -2,7 +2,7 @@ use Rattle.std.proofs.Common.{◌≡◌, ℤ, rules, sym, subst, ◌∙◌}
 use Rattle.asn1_bits.specs.BitReader.{bits_left}
 use Rattle.asn1_integer.specs.IntegerOctets.{HoldsInteger}
 use Rattle.asn1_der.specs.Primitives.{IsInteger}
-use Rattle.asn1_formats_core.specs.IntegerOctetLaws.{all_octets}
+use Rattle.asn1_compose.specs.IntegerOctetLaws.{all_octets}
 use Rattle.asn1_der.specs.IntegerLaws.{held}
 use Rattle.asn1_der.proofs.integer.IntegerContentsContents.take.Goals as goal
 

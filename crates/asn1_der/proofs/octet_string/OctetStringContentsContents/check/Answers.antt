@@ -1,6 +1,6 @@
 use Rattle.std.proofs.Common.{◌≡◌, ◌*◌, ◌/◌, length, arith}
 use Rattle.asn1_bits.specs.BitReader.{bits_left}
-use Rattle.asn1_formats_core.specs.OctetStringLaws.{of_bits}
+use Rattle.asn1_compose.specs.OctetStringLaws.{of_bits}
 use Rattle.asn1_der.proofs.octet_string.OctetStringContentsContents.check.Goals as goal
 
 pub returns-clause-checked : goal.returns-clause-checked

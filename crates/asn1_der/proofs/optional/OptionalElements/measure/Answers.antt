@@ -1,6 +1,6 @@
 use Rattle.std.proofs.Common.{ap}
-use Rattle.asn1_formats_core.specs.Combined.{plain_option}
-use Rattle.asn1_formats_core.specs.SpellingLaws.{measured_both}
+use Rattle.asn1_compose.specs.Combined.{plain_option}
+use Rattle.asn1_compose.specs.SpellingLaws.{measured_both}
 use Rattle.asn1_der.specs.OptionalLaws.{optional_measured}
 use Rattle.asn1_der.proofs.optional.OptionalElements.measure.Goals as goal
 

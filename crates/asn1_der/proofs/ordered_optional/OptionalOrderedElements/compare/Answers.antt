@@ -1,5 +1,5 @@
 use Rattle.std.proofs.Common.{sym, ◌∙◌, ap}
-use Rattle.asn1_formats_core.specs.Combined.{plain_option}
+use Rattle.asn1_compose.specs.Combined.{plain_option}
 use Rattle.asn1_der.specs.OptionalLaws.{optional_there, optional_missing}
 use Rattle.asn1_der.specs.OptionalOrderLaws.{none_at_all, there_missing, missing_there}
 use Rattle.asn1_der.specs.PartOrderLaws.{first_below, first_above, first_level}

@@ -1,4 +1,4 @@
-use Rattle.asn1_formats_core.specs.SpellingLaws.{measured_both}
+use Rattle.asn1_compose.specs.SpellingLaws.{measured_both}
 use Rattle.asn1_der.proofs.required.RequiredElements.measure.Goals as goal
 
 pub returns-in-Ok-measure-clause-measured : goal.returns-in-Ok-measure-clause-measured

@@ -1,5 +1,5 @@
 use Rattle.std.proofs.Common.{ap}
-use Rattle.asn1_formats_core.specs.Combined.{plain_option}
+use Rattle.asn1_compose.specs.Combined.{plain_option}
 use Rattle.asn1_der.specs.OptionalLaws.{optional_there}
 use Rattle.asn1_der.specs.SetTagLaws.{component_more, component_parts}
 use Rattle.asn1_der.proofs.set_elements.OptionalSetElements.do_tags_ascend.Goals as goal

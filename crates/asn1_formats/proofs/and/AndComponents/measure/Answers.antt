@@ -1,5 +1,5 @@
 use Rattle.std.proofs.Common.{◌++◌, refl}
-use Rattle.asn1_formats_core.specs.SpellingLaws.{measured_both}
+use Rattle.asn1_compose.specs.SpellingLaws.{measured_both}
 use Rattle.asn1_formats.proofs.and.AndComponents.measure.Goals as goal
 
 pub returns-in-Ok-measure-clause-measured : goal.returns-in-Ok-measure-clause-measured

@@ -1,5 +1,5 @@
 use Rattle.std.proofs.Common.{List, [], map}
-use Rattle.asn1_formats_core.specs.Combined.{AreCounted}
+use Rattle.asn1_compose.specs.Combined.{AreCounted}
 use Rattle.std.proofs.Common.{Bool, ◌∷◌, ap, ◌∙◌}
 use Rattle.asn1_bits.specs.BitReader.{bits_left}
 use Rattle.asn1_formats.specs.DefaultLaws.{basic_present, basic_absent}

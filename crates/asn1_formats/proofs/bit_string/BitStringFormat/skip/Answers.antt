@@ -2,7 +2,7 @@ use Rattle.std.proofs.Common.{length, take}
 use Rattle.asn1_bits.specs.BitReader.{bits_left}
 use Rattle.asn1_formats.specs.BitStrings.{AreBits}
 use Rattle.asn1_formats.specs.BitStringLaws.{bits_start}
-use Rattle.asn1_formats_core.specs.ChoiceLaws.{numbered_starts}
+use Rattle.asn1_compose.specs.ChoiceLaws.{numbered_starts}
 use Rattle.asn1_formats.proofs.bit_string.BitStringFormat.skip.Goals as goal
 
 pub returns-in-Ok-next_front-clause-skipped : goal.returns-in-Ok-next_front-clause-skipped

@@ -1,10 +1,10 @@
 use Rattle.std.proofs.Common.{List, Bool, length, take, ap, sym, ◌∙◌, subst}
 use Rattle.asn1_bits.specs.BitReader.{bits_left}
 use Rattle.asn1_bits.specs.View.{View, list_of}
-use Rattle.asn1_formats_core.specs.Spelling.{Starts}
+use Rattle.asn1_compose.specs.Spelling.{Starts}
 use Rattle.asn1_formats.specs.BitStrings.{AreBits, IsBitString}
 use Rattle.asn1_formats.specs.BitStringLaws.{bits_start}
-use Rattle.asn1_formats_core.specs.ChoiceLaws.{numbered_starts}
+use Rattle.asn1_compose.specs.ChoiceLaws.{numbered_starts}
 use Rattle.asn1_formats.proofs.bit_string.BitStringFormat.take.Goals as goal
 
 pub returns-in-Ok-to_bitstring-clause-read : goal.returns-in-Ok-to_bitstring-clause-read

@@ -1,8 +1,8 @@
 use Rattle.std.proofs.Common.{ℕ, subst, pos}
 use Rattle.std.specs.Prelude.{◌+ℤ◌}
 use Rattle.asn1_bits.specs.BitReader.{bits_left}
-use Rattle.asn1_formats_core.specs.Spelling.{Starts}
-use Rattle.asn1_formats_core.specs.Numbers.{IsSize}
+use Rattle.asn1_compose.specs.Spelling.{Starts}
+use Rattle.asn1_compose.specs.Numbers.{IsSize}
 use Rattle.asn1_formats.specs.WholeNumberLaws.{constrained_starts}
 use Rattle.asn1_formats.proofs.constrained_number.ConstrainedNumberFormat.skip.Goals as goal
 

@@ -1,5 +1,5 @@
 use Rattle.std.proofs.Common.{subst}
-use Rattle.asn1_formats_core.specs.Spelling.{Measures}
+use Rattle.asn1_compose.specs.Spelling.{Measures}
 use Rattle.asn1_formats.specs.DependentLaws.{measured_in_turn}
 use Rattle.asn1_formats.proofs.dependent.DependentFormat.measure.Goals as goal
 

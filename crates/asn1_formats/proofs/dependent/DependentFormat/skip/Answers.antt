@@ -1,6 +1,6 @@
 use Rattle.std.proofs.Common.{subst}
 use Rattle.asn1_bits.specs.BitReader.{bits_left}
-use Rattle.asn1_formats_core.specs.Spelling.{Starts}
+use Rattle.asn1_compose.specs.Spelling.{Starts}
 use Rattle.asn1_formats.specs.DependentLaws.{join_in_turn}
 use Rattle.asn1_formats.proofs.dependent.DependentFormat.skip.Goals as goal
 

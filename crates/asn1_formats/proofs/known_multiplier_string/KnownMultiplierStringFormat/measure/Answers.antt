@@ -2,7 +2,7 @@ use Rattle.std.proofs.Common.{◌≡◌, ℕ, length, ap, sym, subst, arith}
 use Rattle.std.proofs.lemmas.List.{map-id}
 use Rattle.asn1_strings.specs.AlphabetView.{alphabet_of}
 use Rattle.asn1_formats.specs.Characters.{IsCharacter}
-use Rattle.asn1_formats_core.specs.ListLaws.{count_measured}
+use Rattle.asn1_compose.specs.ListLaws.{count_measured}
 use Rattle.asn1_formats.proofs.known_multiplier_string.KnownMultiplierStringFormat.measure.Goals as goal
 
 pub returns-in-Ok-measure_items-clause-measured : goal.returns-in-Ok-measure_items-clause-measured
@@ -11,7 +11,7 @@ returns-in-Ok-measure_items-clause-measured g c =
     let items = c.args.value.now.items in
     let many : length items ≡ c.len.result =
     omega (arith, c.len.ensures, c.as_slice.ensures.len, ap length c.as_slice.ensures.value) in
-    count_measured (g.N.Counts.counts f.size) (IsCharacter (alphabet_of f.item.alphabet)) items c.len.result c.in-Ok.front
+    count_measured (g.N.Counts.counts f.size) (IsCharacter (alphabet_of f.characters.item.alphabet)) items c.len.result c.in-Ok.front
     c.in-Ok-measure_items.items c.sum_of.result many c.in-Ok.ensures.measured
     (rw (map-id, c.as_slice.ensures.value) at c.in-Ok-measure_items.ensures.measured) c.sum_of.ensures
 

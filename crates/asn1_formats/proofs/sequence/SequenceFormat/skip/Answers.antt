@@ -1,6 +1,6 @@
 use Rattle.std.proofs.Common.{List, Bool, subst}
 use Rattle.asn1_bits.specs.BitReader.{bits_left}
-use Rattle.asn1_formats_core.specs.Spelling.{Starts}
+use Rattle.asn1_compose.specs.Spelling.{Starts}
 use Rattle.asn1_formats.specs.Sequences.{Behind}
 use Rattle.asn1_formats.specs.SequenceLaws.{sequence_starts}
 use Rattle.asn1_formats.proofs.sequence.SequenceFormat.skip.Goals as goal

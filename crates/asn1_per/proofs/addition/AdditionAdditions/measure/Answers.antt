@@ -1,6 +1,6 @@
-use Rattle.asn1_formats_core.specs.Combined.{plain_option}
+use Rattle.asn1_compose.specs.Combined.{plain_option}
 use Rattle.asn1_formats.specs.Sequences.{IfThere}
-use Rattle.asn1_formats_core.specs.SpellingLaws.{measured_both}
+use Rattle.asn1_compose.specs.SpellingLaws.{measured_both}
 use Rattle.asn1_per.proofs.addition.AdditionAdditions.measure.Goals as goal
 
 pub returns-in-Ok-measure-clause-measured : goal.returns-in-Ok-measure-clause-measured

@@ -1,5 +1,5 @@
 use Rattle.asn1_bits.specs.BitReader.{bits_left}
-use Rattle.asn1_formats_core.specs.Combined.{plain_option}
+use Rattle.asn1_compose.specs.Combined.{plain_option}
 use Rattle.asn1_per.specs.AdditionLaws.{passed_starts, passed_fault}
 use Rattle.asn1_per.proofs.addition.AdditionAdditions.take.Goals as goal
 

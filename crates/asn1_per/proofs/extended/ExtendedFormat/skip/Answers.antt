@@ -1,6 +1,6 @@
 use Rattle.std.proofs.Common.{Bool, ◌∷◌, ap, ◌∙◌}
 use Rattle.asn1_bits.specs.BitReader.{bits_left}
-use Rattle.asn1_formats_core.specs.declared.one_of.OneOf.TheVariants.{First, Other}
+use Rattle.asn1_compose.specs.declared.one_of.OneOf.TheVariants.{First, Other}
 use Rattle.asn1_per.specs.ExtendedLaws.{extended_root_starts, extended_extension_starts}
 use Rattle.asn1_per.proofs.extended.ExtendedFormat.skip.Goals as goal
 

@@ -1,5 +1,5 @@
 use Rattle.asn1_bits.specs.BitReader.{bits_left}
-use Rattle.asn1_formats_core.specs.SpellingLaws.{join}
+use Rattle.asn1_compose.specs.SpellingLaws.{join}
 use Rattle.asn1_per.specs.Additions.{ReadsAdditions}
 use Rattle.asn1_per.proofs.extensible.Extensible.skip_extended.Goals as goal
 

@@ -1,4 +1,4 @@
-use Rattle.asn1_formats_core.specs.SpellingLaws.{measured_both}
+use Rattle.asn1_compose.specs.SpellingLaws.{measured_both}
 use Rattle.asn1_per.specs.Additions.{IsRootAlone, IsExtended, SpellsAdditions}
 use Rattle.asn1_per.specs.ExtensionLaws.{root_measured, extension_measured}
 use Rattle.asn1_per.proofs.extensible.ExtensibleFormat.measure.Goals as goal

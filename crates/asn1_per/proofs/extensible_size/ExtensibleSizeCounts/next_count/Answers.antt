@@ -1,6 +1,6 @@
 use Rattle.std.proofs.Common.{Bool, ◌∷◌, ap, ◌∙◌}
 use Rattle.asn1_bits.specs.BitReader.{bits_left}
-use Rattle.asn1_formats_core.specs.Numbers.{IsSize}
+use Rattle.asn1_compose.specs.Numbers.{IsSize}
 use Rattle.asn1_per.specs.Extensions.{IsBeyondRoot}
 use Rattle.asn1_per.specs.ExtensionLaws.{root_starts, extension_starts}
 use Rattle.asn1_per.proofs.extensible_size.ExtensibleSizeCounts.next_count.Goals as goal

@@ -1,4 +1,4 @@
-use Rattle.asn1_formats_core.specs.Numbers.{IsSize}
+use Rattle.asn1_compose.specs.Numbers.{IsSize}
 use Rattle.asn1_per.specs.Extensions.{IsBeyondRoot}
 use Rattle.asn1_per.specs.ExtensionLaws.{root_measured, extension_measured}
 use Rattle.asn1_per.proofs.extensible_size.ExtensibleSizeFormat.measure.Goals as goal

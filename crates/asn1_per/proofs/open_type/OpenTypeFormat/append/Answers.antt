@@ -1,6 +1,6 @@
 use Rattle.std.proofs.Common.{ℕ, ◌++◌, ap, subst, ◌∙◌}
 use Rattle.asn1_bits.specs.Bits.{digits}
-use Rattle.asn1_formats_core.specs.Spelling.{IsWritten}
+use Rattle.asn1_compose.specs.Spelling.{IsWritten}
 use Rattle.asn1_per.specs.Lengths.{IsLengthDeterminant}
 use Rattle.asn1_per.specs.OpenTypeLaws.{open_written}
 use Rattle.asn1_per.proofs.open_type.OpenTypeFormat.append.Goals as goal

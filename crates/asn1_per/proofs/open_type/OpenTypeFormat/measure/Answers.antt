@@ -1,5 +1,5 @@
 use Rattle.std.proofs.Common.{ℕ, Some, subst, sym, ◌+◌, ◌*◌}
-use Rattle.asn1_formats_core.specs.Spelling.{Measures}
+use Rattle.asn1_compose.specs.Spelling.{Measures}
 use Rattle.asn1_per.specs.Encodings.{IsOpenType}
 use Rattle.asn1_per.specs.Lengths.{IsLengthDeterminant}
 use Rattle.asn1_per.specs.OpenTypeLaws.{open_measured}

@@ -1,8 +1,8 @@
 use Rattle.std.proofs.Common.{◌≡◌, ℤ, sym, subst, ◌∙◌}
 use Rattle.asn1_bits.specs.BitReader.{bits_left}
-use Rattle.asn1_formats_core.specs.Spelling.{Starts}
+use Rattle.asn1_compose.specs.Spelling.{Starts}
 use Rattle.asn1_per.specs.Integers.{IsUnconstrained}
-use Rattle.asn1_formats_core.specs.IntegerOctetLaws.{all_octets}
+use Rattle.asn1_compose.specs.IntegerOctetLaws.{all_octets}
 use Rattle.asn1_per.proofs.unconstrained_number.UnconstrainedNumberFormat.take.Goals as goal
 
 pub returns-in-Ok-integer_of-clause-read : goal.returns-in-Ok-integer_of-clause-read
