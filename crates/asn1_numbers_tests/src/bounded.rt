@@ -2,9 +2,8 @@
 
 use crate::spelled::{order_text, text_of};
 use asn1_number::{ConstrainedInteger, TryFromIntegerError};
-use asn1_test_rows::{RowError, one, parsed, shown, two, wrong};
+use asn1_test_rows::{RowError, parsed, shown, wrong};
 use std::alloc::Global;
-use std::str::FromStr;
 
 /// The numbers from -8 to 360.
 type Bounded = ConstrainedInteger<-8, 360>;
@@ -14,15 +13,22 @@ type Empty = ConstrainedInteger<5, 3>;
 
 /// The answers of `ConstrainedInteger`; its bounds are -8 and 360, where the name says nothing else.
 pub fn answer(alloc: Global, name: &str, words: &[&str]) -> Result<String, RowError> {
+    match words {
+        [word] => of_word(alloc, name, word),
+        [first, second] => compared(alloc, &bounded(alloc, first)?, &bounded(alloc, second)?),
+        _ => Err(wrong(alloc, name, "function of ConstrainedInteger")),
+    }
+}
+
+fn of_word(alloc: Global, name: &str, word: &str) -> Result<String, RowError> {
     match name {
-        "try_from_i32" => tried::<i32>(alloc, one(alloc, words)?),
-        "try_from_i64" => tried::<i64>(alloc, one(alloc, words)?),
-        "try_from_i128" => tried::<i128>(alloc, one(alloc, words)?),
-        "try_from_isize" => tried::<isize>(alloc, one(alloc, words)?),
-        "from_5_to_3_try_from_i32" => none_held(alloc, one(alloc, words)?),
-        "into_original" => handed_back(alloc, one(alloc, words)?),
-        "clone" => copied(alloc, one(alloc, words)?),
-        "cmp" => compared(alloc, two(alloc, words)?),
+        "try_from_i32" => tried(alloc, Bounded::try_from(parsed::<i32>(alloc, word)?)),
+        "try_from_i64" => tried(alloc, Bounded::try_from(parsed::<i64>(alloc, word)?)),
+        "try_from_i128" => tried(alloc, Bounded::try_from(parsed::<i128>(alloc, word)?)),
+        "try_from_isize" => tried(alloc, Bounded::try_from(parsed::<isize>(alloc, word)?)),
+        "from_5_to_3" => tried(alloc, Empty::try_from(parsed::<i32>(alloc, word)?)),
+        "into_original" => handed_back(alloc, Bounded::try_from(parsed::<i32>(alloc, word)?)),
+        "clone" => copied(alloc, &bounded(alloc, word)?),
         _ => Err(wrong(alloc, name, "function of ConstrainedInteger")),
     }
 }
@@ -35,42 +41,33 @@ fn bounded(alloc: Global, word: &str) -> Result<Bounded, RowError> {
     }
 }
 
-fn tried<T: FromStr + Drop>(alloc: Global, word: &str) -> Result<String, RowError>
-where
-    T::Err: Drop,
-    Bounded: TryFrom<T, Error = TryFromIntegerError>,
-{
-    match Bounded::try_from(parsed::<T>(alloc, word)?) {
-        Ok(number) => text_of(alloc, &number),
-        Err(error) => shown(alloc, error),
-    }
-}
-
-fn none_held(alloc: Global, word: &str) -> Result<String, RowError> {
-    match Empty::try_from(parsed::<i32>(alloc, word)?) {
+/// The number, or why it is refused.
+fn tried<const START: i64, const END: i64>(
+    alloc: Global,
+    number: Result<ConstrainedInteger<START, END>, TryFromIntegerError>,
+) -> Result<String, RowError> {
+    match number {
         Ok(number) => text_of(alloc, &number),
         Err(error) => shown(alloc, error),
     }
 }
 
 /// The number that a refusal hands back.
-fn handed_back(alloc: Global, word: &str) -> Result<String, RowError> {
-    match Bounded::try_from(parsed::<i32>(alloc, word)?) {
-        Ok(_) => Ok(String::from_str(alloc, "accepted")?),
+fn handed_back(
+    alloc: Global,
+    number: Result<Bounded, TryFromIntegerError>,
+) -> Result<String, RowError> {
+    match number {
+        Ok(_) => Err(wrong(alloc, "the number", "number past the bounds")),
         Err(error) => text_of(alloc, &error.into_original()),
     }
 }
 
-/// The copy of a number, and whether it equals the number.
-fn copied(alloc: Global, word: &str) -> Result<String, RowError> {
-    let number = bounded(alloc, word)?;
-    let copy = number.clone()?;
-    let same = copy == number;
-    let text = text_of(alloc, &copy)?;
-    Ok(format!(in alloc; "{text} {same}")?)
+/// Whether the copy of a number equals the number.
+fn copied(alloc: Global, number: &Bounded) -> Result<String, RowError> {
+    shown(alloc, number.clone()? == *number)
 }
 
-fn compared(alloc: Global, words: (&str, &str)) -> Result<String, RowError> {
-    let order = bounded(alloc, words.0)?.cmp(&bounded(alloc, words.1)?);
-    Ok(String::from_str(alloc, order_text(order))?)
+fn compared(alloc: Global, first: &Bounded, second: &Bounded) -> Result<String, RowError> {
+    shown(alloc, order_text(first.cmp(second)))
 }

@@ -12,27 +12,53 @@ use crate::spelled::{arcs, integer};
 use asn1_integer::IntegerType;
 use asn1_number::{Integer, IntegerError};
 use asn1_oid::{ContentsError, ObjectIdentifier, Oid};
-use asn1_test_rows::{RowError, hex_of, octets, one, optional, outcome, parsed, shown, two, wrong};
+use asn1_test_rows::{RowError, hex_of, octets, optional, outcome, parsed, shown, wrong};
 use std::alloc::{AllocError, Global};
 
-/// The answers of the callers.
+/// The answers of the callers on numbers.
 pub fn answer(alloc: Global, name: &str, words: &[&str]) -> Result<String, RowError> {
+    match words {
+        [word] if name == "version" => outcome(
+            alloc,
+            version(alloc, octets(alloc, word)?.as_slice()),
+        ),
+        [word] => of_number(alloc, name, &integer(alloc, word)?),
+        [first, second] if name == "are_one_number" => {
+            shown(
+                alloc,
+                are_one_number(parsed::<i64>(alloc, first)?, parsed::<i64>(alloc, second)?),
+            )
+        }
+        [spelled, word] => of_contents(
+            alloc,
+            name,
+            octets(alloc, spelled)?,
+            arcs(alloc, word)?.as_slice(),
+        ),
+        _ => Err(wrong(alloc, name, "caller")),
+    }
+}
+
+fn of_number(alloc: Global, name: &str, number: &Integer) -> Result<String, RowError> {
     match name {
-        "by_its_octets" => read_text(
-            alloc,
-            by_its_octets(alloc, &integer(alloc, one(alloc, words)?)?),
-        ),
-        "octets_with_length" => optional(
-            alloc,
-            octets_with_length(&integer(alloc, one(alloc, words)?)?),
-        ),
-        "version" => outcome(
-            alloc,
-            version(alloc, octets(alloc, one(alloc, words)?)?.as_slice()),
-        ),
-        "are_one_number" => compared(alloc, two(alloc, words)?),
-        "is_this" => is_read_as(alloc, two(alloc, words)?),
-        "append" => appended(alloc, two(alloc, words)?),
+        "by_its_octets" => read_text(alloc, by_its_octets(alloc, number)),
+        "octets_with_length" => optional(alloc, octets_with_length(number)),
+        _ => Err(wrong(alloc, name, "caller")),
+    }
+}
+
+fn of_contents(
+    alloc: Global,
+    name: &str,
+    octets: Vec<u8>,
+    arcs: &[u32],
+) -> Result<String, RowError> {
+    let Some(oid) = Oid::new(arcs) else {
+        return Err(wrong(alloc, name, "caller for such arcs"));
+    };
+    match name {
+        "is_this" => outcome(alloc, is_this(alloc, octets.as_slice(), &oid)),
+        "append" => appended(alloc, octets, &oid),
         _ => Err(wrong(alloc, name, "caller")),
     }
 }
@@ -71,11 +97,6 @@ fn are_one_number(a: i64, b: i64) -> bool
     }
 }
 
-fn compared(alloc: Global, words: (&str, &str)) -> Result<String, RowError> {
-    let first = parsed::<i64>(alloc, words.0)?;
-    shown(alloc, are_one_number(first, parsed::<i64>(alloc, words.1)?))
-}
-
 /// Whether the octets are the contents of this identifier: they are read, and the arcs compared.
 fn is_this(alloc: Global, contents: &[u8], oid: &Oid) -> Result<bool, ContentsError>
     ensures { IfOk result (λ same. IsTrue same ↔ IsContents (arcs_of oid.now) contents.now) }
@@ -96,23 +117,10 @@ fn append(oid: &Oid, octets: &mut Vec<u8>) -> Result<bool, AllocError>
     Ok(true)
 }
 
-fn is_read_as(alloc: Global, words: (&str, &str)) -> Result<String, RowError> {
-    let octets = octets(alloc, words.0)?;
-    let arcs = arcs(alloc, words.1)?;
-    match Oid::new(arcs.as_slice()) {
-        Some(oid) => outcome(alloc, is_this(alloc, octets.as_slice(), &oid)),
-        None => Err(wrong(alloc, words.1, "identifier")),
+/// The octets with the contents behind them, if there are any.
+fn appended(alloc: Global, mut octets: Vec<u8>, oid: &Oid) -> Result<String, RowError> {
+    if append(oid, &mut octets)? {
+        return hex_of(alloc, octets.as_slice());
     }
-}
-
-/// Whether contents were appended to the octets, and the octets.
-fn appended(alloc: Global, words: (&str, &str)) -> Result<String, RowError> {
-    let mut octets = octets(alloc, words.0)?;
-    let arcs = arcs(alloc, words.1)?;
-    let Some(oid) = Oid::new(arcs.as_slice()) else {
-        return Err(wrong(alloc, words.1, "identifier"));
-    };
-    let some = append(&oid, &mut octets)?;
-    let octets = hex_of(alloc, octets.as_slice())?;
-    Ok(format!(in alloc; "{some} {octets}")?)
+    shown(alloc, "none")
 }

@@ -26,7 +26,7 @@ pub fn answer(alloc: Global, call: &str, native: &str, words: &[&str]) -> Result
 /// The answers of conversions of the wide types and of those of the machine.
 fn of_wide(alloc: Global, call: &str, native: &str, word: &str) -> Result<String, RowError> {
     match native {
-        "u128" => of_u128(alloc, call, word),
+        "u128" => given_to(alloc, call, u128::try_from(integer(alloc, word)?)),
         "i128" => of_native::<i128>(alloc, call, word),
         "usize" => of_native::<usize>(alloc, call, word),
         "isize" => of_native::<isize>(alloc, call, word),
@@ -41,51 +41,34 @@ where
     Integer: From<T>,
 {
     match call {
-        "from" => hex_of(
-            alloc,
-            Integer::from(parsed::<T>(alloc, word)?)
-                .signed_octets()
-                .as_ref(),
-        ),
-        _ => given_to::<T>(alloc, call, word),
+        "from" => octets_text(alloc, &Integer::from(parsed::<T>(alloc, word)?)),
+        _ => given_to(alloc, call, T::try_from(integer(alloc, word)?)),
     }
 }
 
-fn of_u128(alloc: Global, call: &str, word: &str) -> Result<String, RowError> {
-    match call {
-        "from" => {
-            let number = Integer::from_u128(alloc, parsed::<u128>(alloc, word)?)?;
-            hex_of(alloc, number.signed_octets().as_ref())
-        }
-        _ => given_to::<u128>(alloc, call, word),
-    }
+fn octets_text(alloc: Global, number: &Integer) -> Result<String, RowError> {
+    hex_of(alloc, number.signed_octets().as_ref())
 }
 
-/// The number as the native type, or what its refusal hands back.
-fn given_to<T>(alloc: Global, call: &str, word: &str) -> Result<String, RowError>
-where
-    T: TryFrom<Integer, Error = TryFromIntegerError> + Display + Drop,
-{
-    let tried = T::try_from(integer(alloc, word)?);
-    match call {
-        "try_into" => outcome(alloc, tried),
-        _ => handed_back(alloc, tried),
-    }
-}
-
-/// The number that a refusal hands back, the one that its copy hands back, and whether they are
-/// equal refusals.
-fn handed_back<T: Display + Drop>(
+/// The number as the native type, or its refusal: the text, what it hands back, or what its copy
+/// hands back.
+fn given_to<T: Display + Drop>(
     alloc: Global,
+    call: &str,
     tried: Result<T, TryFromIntegerError>,
 ) -> Result<String, RowError> {
-    let refused = match tried {
-        Ok(value) => return shown(alloc, value),
-        Err(refused) => refused,
-    };
+    match (call, tried) {
+        ("refused", Err(refused)) => text_of(alloc, &refused.into_original()),
+        ("copied_refusal", Err(refused)) => copy_of(alloc, refused),
+        (_, tried) => outcome(alloc, tried),
+    }
+}
+
+/// The number that the copy of a refusal hands back, if it is an equal refusal.
+fn copy_of(alloc: Global, refused: TryFromIntegerError) -> Result<String, RowError> {
     let copy = refused.clone()?;
-    let same = copy == refused;
-    let first = text_of(alloc, &refused.into_original())?;
-    let second = text_of(alloc, &copy.into_original())?;
-    Ok(format!(in alloc; "{first} {second} {same}")?)
+    if copy != refused {
+        return Ok(String::from_str(alloc, "another")?);
+    }
+    text_of(alloc, &copy.into_original())
 }

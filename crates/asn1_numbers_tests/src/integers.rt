@@ -1,33 +1,47 @@
 //! The functions of `Integer`.
 
-use crate::order;
-use crate::spelled::{integer, text_of};
+use crate::spelled::{integer, order_text, text_of};
 use asn1_number::{Integer, IntegerError};
-use asn1_test_rows::{RowError, hex_of, octets, one, optional, shown, wrong};
+use asn1_test_rows::{RowError, hex_of, octets, optional, shown, wrong};
 use std::alloc::Global;
+use std::hash::{FoldHasher, Hash, Hasher};
 
-/// The answers of `Integer`.
+/// The answers of `Integer`: of no word, of octets, of a number, or of two.
 pub fn answer(alloc: Global, name: &str, words: &[&str]) -> Result<String, RowError> {
-    match name {
-        "zero" => text_of(alloc, &Integer::zero()),
-        "one" => text_of(alloc, &Integer::one()),
-        "default" => text_of(alloc, &Integer::default()),
-        "from_signed_octets" => with_sign(alloc, one(alloc, words)?),
-        "from_unsigned_octets" => without_sign(alloc, one(alloc, words)?),
-        "signed_octets" => signed_octets(alloc, one(alloc, words)?),
-        "signed_len" => signed_len(alloc, one(alloc, words)?),
-        "unsigned_octets" => unsigned_octets(alloc, one(alloc, words)?),
-        _ => further(alloc, name, words),
+    match words {
+        [] => constant(alloc, name),
+        [word] if name.starts_with("from_") => read(alloc, name, octets(alloc, word)?.as_slice()),
+        [word] => of_number(alloc, name, &integer(alloc, word)?),
+        [first, second] => of_two(
+            alloc,
+            name,
+            &integer(alloc, first)?,
+            &integer(alloc, second)?,
+        ),
+        _ => Err(wrong(alloc, name, "function of three numbers")),
     }
 }
 
-/// The answers of its further functions.
-fn further(alloc: Global, name: &str, words: &[&str]) -> Result<String, RowError> {
+/// The answers of `Integer` for a copy of the number.
+pub fn of_copy(alloc: Global, name: &str, word: &str) -> Result<String, RowError> {
+    of_number(alloc, name, &integer(alloc, word)?.clone()?)
+}
+
+fn constant(alloc: Global, name: &str) -> Result<String, RowError> {
+    let number = match name {
+        "zero" => Integer::zero(),
+        "one" => Integer::one(),
+        "default" => Integer::default(),
+        _ => return Err(wrong(alloc, name, "number")),
+    };
+    text_of(alloc, &number)
+}
+
+fn read(alloc: Global, name: &str, octets: &[u8]) -> Result<String, RowError> {
     match name {
-        "given_out" => given_out(alloc, one(alloc, words)?),
-        "clone" => copy_octets(alloc, one(alloc, words)?),
-        "unsigned_octets_of_clone" => copy_unsigned_octets(alloc, one(alloc, words)?),
-        _ => order::answer(alloc, name, words),
+        "from_signed_octets" => read_text(alloc, Integer::from_signed_octets(alloc, octets)),
+        "from_unsigned_octets" => read_text(alloc, Integer::from_unsigned_octets(alloc, octets)),
+        _ => Err(wrong(alloc, name, "reading of octets")),
     }
 }
 
@@ -39,55 +53,43 @@ pub fn read_text(alloc: Global, read: Result<Integer, IntegerError>) -> Result<S
     }
 }
 
-fn with_sign(alloc: Global, word: &str) -> Result<String, RowError> {
-    let octets = octets(alloc, word)?;
-    read_text(alloc, Integer::from_signed_octets(alloc, octets.as_slice()))
-}
-
-fn without_sign(alloc: Global, word: &str) -> Result<String, RowError> {
-    let octets = octets(alloc, word)?;
-    read_text(
-        alloc,
-        Integer::from_unsigned_octets(alloc, octets.as_slice()),
-    )
-}
-
-fn signed_octets(alloc: Global, word: &str) -> Result<String, RowError> {
-    hex_of(alloc, integer(alloc, word)?.signed_octets().as_ref())
-}
-
-fn signed_len(alloc: Global, word: &str) -> Result<String, RowError> {
-    shown(alloc, integer(alloc, word)?.signed_len())
-}
-
-fn unsigned_octets(alloc: Global, word: &str) -> Result<String, RowError> {
-    unsigned_text(alloc, &integer(alloc, word)?)
-}
-
-/// The octets of a number without a sign.
-fn unsigned_text(alloc: Global, number: &Integer) -> Result<String, RowError> {
-    if *number < Integer::zero() {
-        return Ok(String::from_str(alloc, "negative")?);
+fn of_number(alloc: Global, name: &str, number: &Integer) -> Result<String, RowError> {
+    match name {
+        "signed_octets" => hex_of(alloc, number.signed_octets().as_ref()),
+        "signed_len" => shown(alloc, number.signed_len()),
+        "unsigned_octets" if *number >= Integer::zero() => {
+            hex_of(alloc, number.unsigned_octets().as_ref())
+        }
+        "to_i128" => optional(alloc, number.to_i128()),
+        "to_i64" => optional(alloc, number.to_i64()),
+        "to_u64" => optional(alloc, number.to_u64()),
+        _ => Err(wrong(alloc, name, "function of such a number")),
     }
-    hex_of(alloc, number.unsigned_octets().as_ref())
 }
 
-/// The number as an `i128`, an `i64` and a `u64`.
-fn given_out(alloc: Global, word: &str) -> Result<String, RowError> {
-    let number = integer(alloc, word)?;
-    let wide = optional(alloc, number.to_i128())?;
-    let signed = optional(alloc, number.to_i64())?;
-    let unsigned = optional(alloc, number.to_u64())?;
-    Ok(format!(in alloc; "{wide} {signed} {unsigned}")?)
+fn of_two(
+    alloc: Global,
+    name: &str,
+    first: &Integer,
+    second: &Integer,
+) -> Result<String, RowError> {
+    match name {
+        "cmp" => shown(alloc, order_text(first.cmp(second))),
+        "eq" => shown(alloc, first == second),
+        "clone_eq" => is_copied(alloc, first, second),
+        "lt" => shown(alloc, first < second),
+        "have_one_hash" => shown(alloc, hash_of(first) == hash_of(second)),
+        _ => Err(wrong(alloc, name, "function of two numbers")),
+    }
 }
 
-fn copy_octets(alloc: Global, word: &str) -> Result<String, RowError> {
-    hex_of(
-        alloc,
-        integer(alloc, word)?.clone()?.signed_octets().as_ref(),
-    )
+/// Whether the copy of a number equals the other one.
+fn is_copied(alloc: Global, number: &Integer, other: &Integer) -> Result<String, RowError> {
+    shown(alloc, number.clone()? == *other)
 }
 
-fn copy_unsigned_octets(alloc: Global, word: &str) -> Result<String, RowError> {
-    unsigned_text(alloc, &integer(alloc, word)?.clone()?)
+fn hash_of(number: &Integer) -> u64 {
+    let mut hasher = FoldHasher::default();
+    number.hash(&mut hasher);
+    hasher.finish()
 }

@@ -13,12 +13,11 @@ mod conversions;
 mod identifiers;
 mod integers;
 mod octets;
-mod order;
 mod spelled;
 mod two_octets;
 mod typed;
 
-use asn1_test_rows::{Answers, RowError, run, wrong};
+use asn1_test_rows::{Answers, RowError, one, run, wrong};
 use std::alloc::Global;
 use std::io::BufReader;
 use std::process::ExitCode;
@@ -39,12 +38,14 @@ impl Answers for Calls {
 fn answer_of(alloc: Global, owner: &str, name: &str, words: &[&str]) -> Result<String, RowError> {
     match owner {
         "Integer" => integers::answer(alloc, name, words),
+        "clone" => integers::of_copy(alloc, name, one(alloc, words)?),
         "octets" => octets::answer(alloc, name, words),
         "ConstrainedInteger" => bounded::answer(alloc, name, words),
-        "from" | "try_into" | "refused" => conversions::answer(alloc, owner, name, words),
+        "from" | "try_into" | "refused" | "copied_refusal" => conversions::answer(
+            alloc, owner, name, words,
+        ),
         "callers" => callers::answer(alloc, name, words),
-        "Oid" => identifiers::borrowed(alloc, name, words),
-        "ObjectIdentifier" => identifiers::owned(alloc, name, words),
+        "Oid" | "ObjectIdentifier" => identifiers::answer(alloc, owner, name, words),
         "contents" => contents::answer(alloc, name, words),
         _ => typed::answer(alloc, owner, name, words),
     }

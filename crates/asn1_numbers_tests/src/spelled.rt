@@ -1,7 +1,7 @@
 //! Numbers and arcs as words.
 
 use asn1_number::Integer;
-use asn1_test_rows::{RowError, hex_of, number, octets, parsed, shown, unfolded, wrong};
+use asn1_test_rows::{RowError, hex_of, octets, parsed, shown, unfolded, wrong};
 use std::alloc::Global;
 use std::cmp::Ordering;
 use std::str::FromStr;
@@ -24,27 +24,25 @@ pub fn integer(alloc: Global, word: &str) -> Result<Integer, RowError> {
 
 /// The number that a word spells in decimal, of at most 128 bits.
 fn in_decimal(alloc: Global, word: &str) -> Result<Integer, RowError> {
-    match u128::from_str(word) {
-        Ok(number) => Ok(Integer::from_u128(alloc, number)?),
-        Err(_) => Ok(Integer::from(number(alloc, word)?)),
+    match i128::from_str(word) {
+        Ok(number) => Ok(Integer::from(number)),
+        Err(_) => Ok(Integer::from_u128(alloc, parsed::<u128>(alloc, word)?)?),
     }
 }
 
-/// A number in decimal, or past 128 bits as `x` and its octets.
+/// A number in decimal, or past `i128` as `x` and its octets.
 pub fn text_of(alloc: Global, number: &Integer) -> Result<String, RowError> {
-    if let Some(number) = number.to_i128() {
-        return shown(alloc, number);
-    }
-    match u128::try_from(number.clone()?) {
-        Ok(number) => shown(alloc, number),
-        Err(_) => octets_text(alloc, number),
+    match number.to_i128() {
+        Some(number) => shown(alloc, number),
+        None => octets_text(alloc, number),
     }
 }
 
 /// `x` and the octets of a number.
 fn octets_text(alloc: Global, number: &Integer) -> Result<String, RowError> {
-    let octets = hex_of(alloc, number.signed_octets().as_ref())?;
-    Ok(format!(in alloc; "x{octets}")?)
+    let mut text = String::from_str(alloc, "x")?;
+    text.push_str(hex_of(alloc, number.signed_octets().as_ref())?.as_str())?;
+    Ok(text)
 }
 
 /// The word of an order.

@@ -1,7 +1,7 @@
 //! All lists of one and two octets, compared with the rule of X.690 8.19.
 
 use crate::contents::contents_of;
-use asn1_oid::{ContentsError, ObjectIdentifier, check_contents};
+use asn1_oid::{ContentsError, ObjectIdentifier, Oid, check_contents};
 use asn1_test_rows::{RowError, shown};
 use std::alloc::Global;
 
@@ -56,13 +56,25 @@ fn first_arcs(number: u32) -> (u32, u32) {
 
 /// Whether the octets are written for these arcs, and read as them.
 fn are_contents_of(alloc: Global, octets: &[u8], arcs: &[u32]) -> Result<bool, RowError> {
-    let Some(written) = contents_of(alloc, arcs)? else {
+    let Some(oid) = Oid::new(arcs) else {
         return Ok(false);
     };
-    let Ok(read) = ObjectIdentifier::from_contents(alloc, &octets) else {
+    let Some(written) = contents_of(alloc, oid)? else {
         return Ok(false);
     };
-    Ok(written.as_slice() == octets && check_contents(&octets).is_ok() && read.eq_arcs(arcs))
+    Ok(
+        written.as_slice() == octets
+            && check_contents(&octets).is_ok()
+            && is_read_as(alloc, octets, arcs),
+    )
+}
+
+/// Whether the octets are read as the contents of these arcs.
+fn is_read_as(alloc: Global, octets: &[u8], arcs: &[u32]) -> bool {
+    match ObjectIdentifier::from_contents(alloc, &octets) {
+        Ok(read) => read.eq_arcs(arcs),
+        Err(_) => false,
+    }
 }
 
 /// Whether the octets are refused as malformed by both calls that look.

@@ -5,7 +5,7 @@ ghost use Rattle.asn1_integer.specs.Calls.{IsNonNegativeUnlessNative};
 
 use crate::spelled::{integer, text_of};
 use asn1_integer::{Integer, IntegerError, IntegerType};
-use asn1_test_rows::{RowError, hex_of, number, octets, one, optional, shown, two, wrong};
+use asn1_test_rows::{RowError, hex_of, number, octets, optional, shown, wrong};
 use std::alloc::Global;
 
 /// The answers of a type: a native one by its name, or `Integer` by the name of the trait.
@@ -42,55 +42,117 @@ where
     U: IntegerType + Drop,
     requires { (n : ℤ) → IsNonNegativeUnlessNative T.kind n }
 {
-    match name {
-        "to_unsigned_bytes_be" => unsigned_octets::<T>(alloc, one(alloc, words)?),
+    match words {
+        [word] if name == "to_unsigned_bytes_be" => residue(alloc, &value::<T>(alloc, word)?),
         _ => of_type::<T, U, S>(alloc, name, words),
     }
 }
 
 /// The answers of `Integer`.
 fn of_integer(alloc: Global, name: &str, words: &[&str]) -> Result<String, RowError> {
-    match name {
-        "to_unsigned_bytes_be" => residue_of_integer(alloc, one(alloc, words)?),
+    match words {
+        [word] if name == "to_unsigned_bytes_be" => {
+            residue_of_integer(alloc, &integer(alloc, word)?)
+        }
         _ => of_type::<Integer, Integer, Integer>(alloc, name, words),
     }
 }
 
-/// The answers of a type: its constants and readings.
+/// The answers of a type: of no word, of octets, of a number, of a value, or of two.
 fn of_type<T, U, S>(alloc: Global, name: &str, words: &[&str]) -> Result<String, RowError>
 where
     T: IntegerType<UnsignedPair = U, SignedPair = S> + Drop,
     U: IntegerType + Drop,
 {
+    match words {
+        [] => constant::<T>(alloc, name),
+        [word] if name.ends_with("_bytes") => {
+            read::<T>(alloc, name, octets(alloc, word)?.as_slice())
+        }
+        [word] if name == "try_from_i128" => found(alloc, T::try_from_i128(number(alloc, word)?)),
+        [word] if name == "from_integer" => found(alloc, T::from_integer(&integer(alloc, word)?)),
+        [word] => of_value(alloc, name, value::<T>(alloc, word)?),
+        [first, second] if name == "wrapping_unsigned_add" => wrapped::<T, U, S>(
+            alloc,
+            value::<T>(alloc, first)?,
+            value::<U>(alloc, second)?,
+        ),
+        [first, second] => of_two(
+            alloc,
+            name,
+            &value::<T>(alloc, first)?,
+            &value::<T>(alloc, second)?,
+        ),
+        _ => Err(wrong(alloc, name, "function of IntegerType")),
+    }
+}
+
+fn constant<T: IntegerType>(alloc: Global, name: &str) -> Result<String, RowError> {
     match name {
         "WIDTH" => shown(alloc, T::WIDTH),
         "BYTE_WIDTH" => shown(alloc, T::BYTE_WIDTH),
         "zero" => value_text(alloc, T::zero()),
-        "try_from_bytes" => as_its_own::<T>(alloc, one(alloc, words)?),
-        "try_from_signed_bytes" => with_sign::<T>(alloc, one(alloc, words)?),
-        "try_from_unsigned_bytes" => without_sign::<T>(alloc, one(alloc, words)?),
-        "try_from_i128" => from_i128::<T>(alloc, one(alloc, words)?),
-        "from_integer" => from_integer::<T>(alloc, one(alloc, words)?),
-        "wrapping_unsigned_add" => wrapped::<T, U, S>(alloc, two(alloc, words)?),
-        _ => of_value::<T>(alloc, name, words),
+        _ => Err(wrong(alloc, name, "constant of IntegerType")),
     }
 }
 
-/// The answers of a value of a type.
-fn of_value<T>(alloc: Global, name: &str, words: &[&str]) -> Result<String, RowError>
-where
-    T: IntegerType + Drop,
-{
+fn read<T: IntegerType>(alloc: Global, name: &str, octets: &[u8]) -> Result<String, RowError> {
     match name {
-        "to_signed_bytes_be" => signed_octets::<T>(alloc, one(alloc, words)?),
-        "is_negative" => shown(alloc, value::<T>(alloc, one(alloc, words)?)?.is_negative()),
-        "is_signed" => shown(alloc, value::<T>(alloc, one(alloc, words)?)?.is_signed()),
-        "to_i128" => optional(alloc, value::<T>(alloc, one(alloc, words)?)?.to_i128()),
-        "to_integer" => value_text(alloc, value::<T>(alloc, one(alloc, words)?)?),
-        "checked_add" => sum::<T>(alloc, two(alloc, words)?),
-        "checked_sub" => difference::<T>(alloc, two(alloc, words)?),
-        _ => Err(wrong(alloc, name, "function of IntegerType")),
+        "try_from_bytes" => read_text(alloc, T::try_from_bytes(alloc, octets)),
+        "try_from_signed_bytes" => read_text(alloc, T::try_from_signed_bytes(alloc, octets)),
+        "try_from_unsigned_bytes" => read_text(alloc, T::try_from_unsigned_bytes(alloc, octets)),
+        _ => Err(wrong(alloc, name, "reading of octets")),
     }
+}
+
+fn of_value<T: IntegerType + Drop>(
+    alloc: Global,
+    name: &str,
+    value: T,
+) -> Result<String, RowError> {
+    match name {
+        "to_signed_bytes_be" => hex_of(alloc, value.to_signed_bytes_be().as_ref()),
+        "is_negative" => shown(alloc, value.is_negative()),
+        "is_signed" => shown(alloc, value.is_signed()),
+        "to_i128" => optional(alloc, value.to_i128()),
+        "to_integer" => value_text(alloc, value),
+        _ => Err(wrong(alloc, name, "function of a value")),
+    }
+}
+
+fn of_two<T: IntegerType>(
+    alloc: Global,
+    name: &str,
+    first: &T,
+    second: &T,
+) -> Result<String, RowError> {
+    match name {
+        "checked_add" => found(alloc, first.checked_add(second)),
+        "checked_sub" => found(alloc, first.checked_sub(second)),
+        _ => Err(wrong(alloc, name, "function of two values")),
+    }
+}
+
+/// The sum of a number with one of its unsigned pair; the signed pair is named alone.
+fn wrapped<T, U, S>(alloc: Global, number: T, other: U) -> Result<String, RowError>
+where
+    T: IntegerType<UnsignedPair = U, SignedPair = S>,
+{
+    found(alloc, number.wrapping_unsigned_add(other))
+}
+
+fn residue<T: IntegerType>(alloc: Global, value: &T) -> Result<String, RowError>
+    requires { (n : ℤ) → IsNonNegativeUnlessNative T.kind n }
+{
+    hex_of(alloc, value.to_unsigned_bytes_be().as_ref())
+}
+
+/// The octets of an `Integer` without a sign.
+fn residue_of_integer(alloc: Global, number: &Integer) -> Result<String, RowError> {
+    if *number < Integer::zero() {
+        return Err(wrong(alloc, "the number", "number from 0 on"));
+    }
+    hex_of(alloc, number.to_unsigned_bytes_be().as_ref())
 }
 
 /// The value of a type that a word spells.
@@ -115,81 +177,12 @@ fn found<T: IntegerType>(alloc: Global, value: Option<T>) -> Result<String, RowE
 }
 
 /// The value as its text, or why none was read.
-fn read<T: IntegerType>(alloc: Global, value: Result<T, IntegerError>) -> Result<String, RowError> {
+fn read_text<T: IntegerType>(
+    alloc: Global,
+    value: Result<T, IntegerError>,
+) -> Result<String, RowError> {
     match value {
         Ok(value) => value_text(alloc, value),
         Err(error) => shown(alloc, error),
     }
-}
-
-fn as_its_own<T: IntegerType>(alloc: Global, word: &str) -> Result<String, RowError> {
-    let octets = octets(alloc, word)?;
-    read(alloc, T::try_from_bytes(alloc, octets.as_slice()))
-}
-
-fn with_sign<T: IntegerType>(alloc: Global, word: &str) -> Result<String, RowError> {
-    let octets = octets(alloc, word)?;
-    read(alloc, T::try_from_signed_bytes(alloc, octets.as_slice()))
-}
-
-fn without_sign<T: IntegerType>(alloc: Global, word: &str) -> Result<String, RowError> {
-    let octets = octets(alloc, word)?;
-    read(alloc, T::try_from_unsigned_bytes(alloc, octets.as_slice()))
-}
-
-fn from_i128<T: IntegerType>(alloc: Global, word: &str) -> Result<String, RowError> {
-    found(alloc, T::try_from_i128(number(alloc, word)?))
-}
-
-fn from_integer<T: IntegerType>(alloc: Global, word: &str) -> Result<String, RowError> {
-    found(alloc, T::from_integer(&integer(alloc, word)?))
-}
-
-fn signed_octets<T: IntegerType + Drop>(alloc: Global, word: &str) -> Result<String, RowError> {
-    hex_of(
-        alloc,
-        value::<T>(alloc, word)?.to_signed_bytes_be().as_ref(),
-    )
-}
-
-fn unsigned_octets<T: IntegerType + Drop>(alloc: Global, word: &str) -> Result<String, RowError>
-    requires { (n : ℤ) → IsNonNegativeUnlessNative T.kind n }
-{
-    hex_of(
-        alloc,
-        value::<T>(alloc, word)?.to_unsigned_bytes_be().as_ref(),
-    )
-}
-
-/// The octets of an `Integer` without a sign.
-fn residue_of_integer(alloc: Global, word: &str) -> Result<String, RowError> {
-    let number = integer(alloc, word)?;
-    if number < Integer::zero() {
-        return Err(wrong(alloc, word, "number from 0 on"));
-    }
-    hex_of(alloc, number.to_unsigned_bytes_be().as_ref())
-}
-
-/// The sum of a number with one of its unsigned pair; the signed pair is named alone.
-fn wrapped<T, U, S>(alloc: Global, words: (&str, &str)) -> Result<String, RowError>
-where
-    T: IntegerType<UnsignedPair = U, SignedPair = S> + Drop,
-    U: IntegerType + Drop,
-{
-    let number = value::<T>(alloc, words.0)?;
-    let other = value::<U>(alloc, words.1)?;
-    found(alloc, number.wrapping_unsigned_add(other))
-}
-
-fn sum<T: IntegerType + Drop>(alloc: Global, words: (&str, &str)) -> Result<String, RowError> {
-    let number = value::<T>(alloc, words.0)?;
-    found(alloc, number.checked_add(&value::<T>(alloc, words.1)?))
-}
-
-fn difference<T: IntegerType + Drop>(
-    alloc: Global,
-    words: (&str, &str),
-) -> Result<String, RowError> {
-    let number = value::<T>(alloc, words.0)?;
-    found(alloc, number.checked_sub(&value::<T>(alloc, words.1)?))
 }
