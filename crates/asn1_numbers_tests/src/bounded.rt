@@ -1,6 +1,6 @@
 //! The functions of `ConstrainedInteger`.
 
-use crate::spelled::{order_text, text_of};
+use crate::spelled::text_of;
 use asn1_number::{ConstrainedInteger, TryFromIntegerError};
 use asn1_test_rows::{RowError, parsed, shown, wrong};
 use std::alloc::Global;
@@ -15,7 +15,7 @@ type Empty = ConstrainedInteger<5, 3>;
 pub fn answer(alloc: Global, name: &str, words: &[&str]) -> Result<String, RowError> {
     match words {
         [word] => of_word(alloc, name, word),
-        [first, second] => compared(alloc, &bounded(alloc, first)?, &bounded(alloc, second)?),
+        [first, second] => is_below(alloc, first, second),
         _ => Err(wrong(alloc, name, "function of ConstrainedInteger")),
     }
 }
@@ -68,6 +68,8 @@ fn copied(alloc: Global, number: &Bounded) -> Result<String, RowError> {
     shown(alloc, number.clone()? == *number)
 }
 
-fn compared(alloc: Global, first: &Bounded, second: &Bounded) -> Result<String, RowError> {
-    shown(alloc, order_text(first.cmp(second)))
+/// Whether the first number is below the second.
+fn is_below(alloc: Global, first: &str, second: &str) -> Result<String, RowError> {
+    let first = bounded(alloc, first)?;
+    shown(alloc, first < bounded(alloc, second)?)
 }

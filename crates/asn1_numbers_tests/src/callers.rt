@@ -15,28 +15,29 @@ use asn1_oid::{ContentsError, ObjectIdentifier, Oid};
 use asn1_test_rows::{RowError, hex_of, octets, optional, outcome, parsed, shown, wrong};
 use std::alloc::{AllocError, Global};
 
-/// The answers of the callers on numbers.
+/// The answers of the callers.
 pub fn answer(alloc: Global, name: &str, words: &[&str]) -> Result<String, RowError> {
     match words {
-        [word] if name == "version" => outcome(
-            alloc,
-            version(alloc, octets(alloc, word)?.as_slice()),
-        ),
+        [word] if name == "version" => version_text(alloc, word),
         [word] => of_number(alloc, name, &integer(alloc, word)?),
-        [first, second] if name == "are_one_number" => {
-            shown(
-                alloc,
-                are_one_number(parsed::<i64>(alloc, first)?, parsed::<i64>(alloc, second)?),
-            )
-        }
-        [spelled, word] => of_contents(
-            alloc,
-            name,
-            octets(alloc, spelled)?,
-            arcs(alloc, word)?.as_slice(),
-        ),
+        [first, second] if name == "are_one_number" => compared(alloc, first, second),
+        [spelled, word] => of_words(alloc, name, spelled, word),
         _ => Err(wrong(alloc, name, "caller")),
     }
+}
+
+fn version_text(alloc: Global, word: &str) -> Result<String, RowError> {
+    outcome(alloc, version(alloc, octets(alloc, word)?.as_slice()))
+}
+
+fn compared(alloc: Global, first: &str, second: &str) -> Result<String, RowError> {
+    let first = parsed::<i64>(alloc, first)?;
+    shown(alloc, are_one_number(first, parsed::<i64>(alloc, second)?))
+}
+
+fn of_words(alloc: Global, name: &str, spelled: &str, word: &str) -> Result<String, RowError> {
+    let arcs = arcs(alloc, word)?;
+    of_contents(alloc, name, octets(alloc, spelled)?, arcs.as_slice())
 }
 
 fn of_number(alloc: Global, name: &str, number: &Integer) -> Result<String, RowError> {

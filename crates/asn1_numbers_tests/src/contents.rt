@@ -16,20 +16,27 @@ pub fn answer(alloc: Global, name: &str, words: &[&str]) -> Result<String, RowEr
         [] => laws(alloc),
         [word] if name == "ContentsError" => error_text(alloc, word),
         [word] => of_octets(alloc, name, octets(alloc, word)?.as_slice()),
-        [limit, word] => room_of_read(
-            alloc,
-            parsed::<usize>(alloc, limit)?,
-            octets(alloc, word)?.as_slice(),
-        ),
-        [word, count, spelled] => of_arcs(
-            alloc,
-            name,
-            arcs(alloc, word)?.as_slice(),
-            parsed::<usize>(alloc, count)?,
-            octets(alloc, spelled)?,
-        ),
+        [limit, word] => of_limit(alloc, limit, word),
+        [word, count, spelled] => of_words(alloc, name, word, count, spelled),
         _ => Err(wrong(alloc, name, "function of contents")),
     }
+}
+
+fn of_limit(alloc: Global, limit: &str, word: &str) -> Result<String, RowError> {
+    let limit = parsed::<usize>(alloc, limit)?;
+    room_of_read(alloc, limit, octets(alloc, word)?.as_slice())
+}
+
+fn of_words(
+    alloc: Global,
+    name: &str,
+    word: &str,
+    count: &str,
+    spelled: &str,
+) -> Result<String, RowError> {
+    let count = parsed::<usize>(alloc, count)?;
+    let arcs = arcs(alloc, word)?;
+    of_arcs(alloc, name, arcs.as_slice(), count, octets(alloc, spelled)?)
 }
 
 /// The answers on octets.

@@ -1,7 +1,7 @@
 //! The functions of `Oid` and `ObjectIdentifier` on arcs.
 
 use crate::contents;
-use crate::spelled::{arcs, arcs_text, order_text};
+use crate::spelled::{arcs, arcs_text};
 use asn1_oid::{ObjectIdentifier, Oid};
 use asn1_test_rows::{RowError, shown, wrong};
 use std::alloc::Global;
@@ -58,8 +58,8 @@ fn of_two(
         "eq_arcs" if owner == "Oid" => shown(alloc, first.as_oid().eq_arcs(second.as_ref())),
         "eq_arcs" => shown(alloc, first.eq_arcs(second.as_ref())),
         "as_oid" => shown(alloc, Oid::new(first.as_ref()) == Some(second.as_oid())),
-        "cmp" if owner == "Oid" => shown(alloc, order_text(first.as_oid().cmp(&second.as_oid()))),
-        "cmp" => shown(alloc, order_text(first.cmp(second))),
+        "lt" if owner == "Oid" => shown(alloc, first.as_oid() < second.as_oid()),
+        "lt" => shown(alloc, first < second),
         _ => Err(wrong(alloc, name, "function of two identifiers")),
     }
 }

@@ -10,16 +10,20 @@ use std::hash::{FoldHasher, Hash, Hasher};
 pub fn answer(alloc: Global, name: &str, words: &[&str]) -> Result<String, RowError> {
     match words {
         [] => constant(alloc, name),
-        [word] if name.starts_with("from_") => read(alloc, name, octets(alloc, word)?.as_slice()),
+        [word] if name.starts_with("from_") => of_octets(alloc, name, word),
         [word] => of_number(alloc, name, &integer(alloc, word)?),
-        [first, second] => of_two(
-            alloc,
-            name,
-            &integer(alloc, first)?,
-            &integer(alloc, second)?,
-        ),
+        [first, second] => of_words(alloc, name, first, second),
         _ => Err(wrong(alloc, name, "function of three numbers")),
     }
+}
+
+fn of_octets(alloc: Global, name: &str, word: &str) -> Result<String, RowError> {
+    read(alloc, name, octets(alloc, word)?.as_slice())
+}
+
+fn of_words(alloc: Global, name: &str, first: &str, second: &str) -> Result<String, RowError> {
+    let first = integer(alloc, first)?;
+    of_two(alloc, name, &first, &integer(alloc, second)?)
 }
 
 /// The answers of `Integer` for a copy of the number.

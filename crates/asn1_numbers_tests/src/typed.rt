@@ -58,7 +58,7 @@ fn of_integer(alloc: Global, name: &str, words: &[&str]) -> Result<String, RowEr
     }
 }
 
-/// The answers of a type: of no word, of octets, of a number, of a value, or of two.
+/// The answers of a type: of no word, of one, or of two.
 fn of_type<T, U, S>(alloc: Global, name: &str, words: &[&str]) -> Result<String, RowError>
 where
     T: IntegerType<UnsignedPair = U, SignedPair = S> + Drop,
@@ -66,24 +66,29 @@ where
 {
     match words {
         [] => constant::<T>(alloc, name),
-        [word] if name.ends_with("_bytes") => {
-            read::<T>(alloc, name, octets(alloc, word)?.as_slice())
+        [word] if name.ends_with("_bytes") => of_octets::<T>(alloc, name, word),
+        [word] => of_word::<T>(alloc, name, word),
+        [first, second] if name == "wrapping_unsigned_add" => {
+            wrapped::<T, U, S>(alloc, first, second)
         }
-        [word] if name == "try_from_i128" => found(alloc, T::try_from_i128(number(alloc, word)?)),
-        [word] if name == "from_integer" => found(alloc, T::from_integer(&integer(alloc, word)?)),
-        [word] => of_value(alloc, name, value::<T>(alloc, word)?),
-        [first, second] if name == "wrapping_unsigned_add" => wrapped::<T, U, S>(
-            alloc,
-            value::<T>(alloc, first)?,
-            value::<U>(alloc, second)?,
-        ),
-        [first, second] => of_two(
-            alloc,
-            name,
-            &value::<T>(alloc, first)?,
-            &value::<T>(alloc, second)?,
-        ),
+        [first, second] => of_two::<T>(alloc, name, first, second),
         _ => Err(wrong(alloc, name, "function of IntegerType")),
+    }
+}
+
+fn of_octets<T: IntegerType>(alloc: Global, name: &str, word: &str) -> Result<String, RowError> {
+    read::<T>(alloc, name, octets(alloc, word)?.as_slice())
+}
+
+fn of_word<T: IntegerType + Drop>(
+    alloc: Global,
+    name: &str,
+    word: &str,
+) -> Result<String, RowError> {
+    match name {
+        "try_from_i128" => found(alloc, T::try_from_i128(number(alloc, word)?)),
+        "from_integer" => found(alloc, T::from_integer(&integer(alloc, word)?)),
+        _ => of_value(alloc, name, value::<T>(alloc, word)?),
     }
 }
 
@@ -120,25 +125,32 @@ fn of_value<T: IntegerType + Drop>(
     }
 }
 
-fn of_two<T: IntegerType>(
+fn of_two<T: IntegerType + Drop>(
     alloc: Global,
     name: &str,
-    first: &T,
-    second: &T,
+    first: &str,
+    second: &str,
 ) -> Result<String, RowError> {
+    let first = value::<T>(alloc, first)?;
+    let second = value::<T>(alloc, second)?;
     match name {
-        "checked_add" => found(alloc, first.checked_add(second)),
-        "checked_sub" => found(alloc, first.checked_sub(second)),
+        "checked_add" => found(alloc, first.checked_add(&second)),
+        "checked_sub" => found(alloc, first.checked_sub(&second)),
         _ => Err(wrong(alloc, name, "function of two values")),
     }
 }
 
 /// The sum of a number with one of its unsigned pair; the signed pair is named alone.
-fn wrapped<T, U, S>(alloc: Global, number: T, other: U) -> Result<String, RowError>
+fn wrapped<T, U, S>(alloc: Global, first: &str, second: &str) -> Result<String, RowError>
 where
-    T: IntegerType<UnsignedPair = U, SignedPair = S>,
+    T: IntegerType<UnsignedPair = U, SignedPair = S> + Drop,
+    U: IntegerType + Drop,
 {
-    found(alloc, number.wrapping_unsigned_add(other))
+    let number = value::<T>(alloc, first)?;
+    found(
+        alloc,
+        number.wrapping_unsigned_add(value::<U>(alloc, second)?),
+    )
 }
 
 fn residue<T: IntegerType>(alloc: Global, value: &T) -> Result<String, RowError>
