@@ -1,0 +1,52 @@
+//! Callers that are proved from the contracts alone: none of their proofs names a lemma of the
+//! library.
+
+ghost use Rattle.std.specs.Prelude.{◌≡◌, ◌≢◌, [], IfOk, IfSome, OnErr};
+
+use asn1_strings::{CharacterAlphabet, Ia5String, NumericString, StaticPermittedAlphabet};
+use asn1_test_rows::{RowError, hex_of, octets, one, optional, parsed, wrong};
+use std::alloc::{AllocError, Global};
+
+/// The answers of the callers.
+pub fn answer(alloc: Global, name: &str, words: &[&str]) -> Result<String, RowError> {
+    let word = one(alloc, words)?;
+    match name {
+        "read_again" => read_by_places(alloc, parsed::<u32>(alloc, word)?),
+        "copied" => copy_of(alloc, octets(alloc, word)?.as_slice()),
+        _ => Err(wrong(alloc, name, "caller")),
+    }
+}
+
+/// The character that is read where a character was written, if it has a code: the same, whichever
+/// of its codes was taken.
+fn read_again(alphabet: &CharacterAlphabet<'_>, character: u32) -> Option<u32>
+    ensures { IfSome result (λ c. c ≡ character) }
+{
+    let Ok(code) = alphabet.encode(character) else {
+        return None;
+    };
+    match alphabet.decode(code) {
+        Ok(read) => Some(read),
+        Err(_) => None,
+    }
+}
+
+fn read_by_places(alloc: Global, character: u32) -> Result<String, RowError> {
+    let alphabet = CharacterAlphabet::new::<NumericString>(None, false);
+    optional(alloc, read_again(&alphabet, character))
+}
+
+/// A copy, and no memory for an empty string.
+fn copied(string: &Ia5String) -> Result<Ia5String, AllocError>
+    ensures same { IfOk result (λ copy. copy ≡ string.now) }
+    ensures memory { OnErr result (string.now ≢ []) }
+{
+    string.clone()
+}
+
+fn copy_of(alloc: Global, octets: &[u8]) -> Result<String, RowError> {
+    match Ia5String::try_from_slice(alloc, octets) {
+        Ok(string) => hex_of(alloc, copied(&string)?.as_slice()),
+        Err(_) => Err(wrong(alloc, "the word", "string")),
+    }
+}

@@ -1,0 +1,94 @@
+//! What all strings have beside the calls of the trait, on strings that are made character by
+//! character.
+
+use crate::lists::counted;
+use crate::strings::characters;
+use asn1_strings::{CodeUnit, RestrictedString, StaticPermittedAlphabet, StringKind};
+use asn1_test_rows::{RowError, shown, wrong};
+use std::alloc::Global;
+use std::collections::HashSet;
+
+/// The answers on one string.
+pub fn of_one<K: StringKind>(
+    alloc: Global,
+    name: &str,
+    numbers: &[u32],
+) -> Result<String, RowError> {
+    let string: RestrictedString<K> = pushed(alloc, numbers)?;
+    match name {
+        "push_char" => characters(alloc, &string),
+        "as_slice" => units(alloc, string.as_slice()),
+        "into_vec" => units(alloc, string.into_vec().as_slice()),
+        "clone" => copied(alloc, &string),
+        "reserve_1000" => reserved(alloc, string),
+        _ => Err(wrong(alloc, name, "function of a string")),
+    }
+}
+
+/// The answers on two strings.
+pub fn of_two<K: StringKind>(
+    alloc: Global,
+    name: &str,
+    first: &[u32],
+    second: &[u32],
+) -> Result<String, RowError> {
+    let first: RestrictedString<K> = pushed(alloc, first)?;
+    let second: RestrictedString<K> = pushed(alloc, second)?;
+    match name {
+        "lt" => shown(alloc, first < second),
+        "eq" => shown(alloc, first == second),
+        "clone_eq" => shown(alloc, first.clone()? == second),
+        "is_found" => is_found(alloc, first, &second),
+        _ => Err(wrong(alloc, name, "function of two strings")),
+    }
+}
+
+/// The string of these characters, made one by one; those outside its set are left out.
+fn pushed<S: StaticPermittedAlphabet + Drop>(
+    alloc: Global,
+    numbers: &[u32],
+) -> Result<S, RowError> {
+    let mut string = S::new(alloc);
+    string.reserve(numbers.len())?;
+    for character in numbers {
+        if S::contains_char(*character) {
+            string.push_char(*character)?;
+        }
+    }
+    Ok(string)
+}
+
+/// The units, as the characters that they keep.
+fn units<T: CodeUnit>(alloc: Global, units: &[T]) -> Result<String, RowError> {
+    let mut numbers = Vec::new(alloc);
+    for unit in units {
+        numbers.push(unit.to_character())?;
+    }
+    counted(alloc, units.len(), numbers.as_slice())
+}
+
+fn copied<K: StringKind>(alloc: Global, string: &RestrictedString<K>) -> Result<String, RowError> {
+    characters(alloc, &string.clone()?)
+}
+
+/// Whether there is room for 1,000 characters, and for no more than 2,000.
+fn reserved<K: StringKind>(
+    alloc: Global,
+    mut string: RestrictedString<K>,
+) -> Result<String, RowError> {
+    string.reserve(1000)?;
+    let units = string.into_vec();
+    let room = units.capacity();
+    shown(alloc, units.is_empty() && room >= 1000 && room <= 2000)
+}
+
+/// Whether a set that has the first string has the second.
+fn is_found<K: StringKind>(
+    alloc: Global,
+    first: RestrictedString<K>,
+    second: &RestrictedString<K>,
+) -> Result<String, RowError> {
+    let mut seen = HashSet::new(alloc);
+    seen.insert(first)?;
+    shown(alloc, seen.contains(second))
+}

@@ -1,0 +1,121 @@
+//! Octet strings of a fixed length.
+
+ghost use Rattle.std.specs.Prelude.{◌≡◌, ◌∷◌, []};
+
+use asn1_characters::{FixedOctetString, OctetString};
+use asn1_test_rows::{RowError, hex_of, octets, shown, two, wrong};
+use std::alloc::Global;
+
+/// The answers of octet strings of a fixed length: of the length, and of octets.
+pub fn answer(alloc: Global, name: &str, words: &[&str]) -> Result<String, RowError> {
+    let (length, word) = two(alloc, words)?;
+    let octets = octets(alloc, word)?;
+    match length {
+        "2" => overwritten(alloc),
+        "3" => three_of_vector(alloc, octets),
+        "4" => of_four(alloc, name, octets),
+        "5" => five_of_string(alloc, octets.as_slice()),
+        _ => Err(wrong(alloc, length, "length")),
+    }
+}
+
+fn of_four(alloc: Global, name: &str, octets: Vec<u8>) -> Result<String, RowError> {
+    match name {
+        "try_from_slice" => found(alloc, FixedOctetString::try_from_slice(octets.as_slice())),
+        "try_from_vec" => four_of_vector(alloc, octets),
+        "try_from_octet_string" => four_of_string(alloc, octets.as_slice()),
+        "new" => made(alloc, octets.as_slice()),
+        "from" => converted(alloc, octets.as_slice()),
+        "is_above_default" => above_default(alloc, octets.as_slice()),
+        "default" => default_text(alloc),
+        _ => Err(wrong(alloc, name, "function of octets")),
+    }
+}
+
+fn found(alloc: Global, string: Option<FixedOctetString<4>>) -> Result<String, RowError> {
+    match string {
+        Some(string) => hex_of(alloc, string.as_slice()),
+        None => shown(alloc, "none"),
+    }
+}
+
+/// The octets of the string, or those of the vector that comes back.
+fn four_of_vector(alloc: Global, octets: Vec<u8>) -> Result<String, RowError> {
+    match FixedOctetString::<4>::try_from_vec(octets) {
+        Ok(string) => hex_of(alloc, string.as_slice()),
+        Err(back) => came_back(alloc, back.as_slice()),
+    }
+}
+
+/// The same of three octets.
+fn three_of_vector(alloc: Global, octets: Vec<u8>) -> Result<String, RowError> {
+    match FixedOctetString::<3>::try_from_vec(octets) {
+        Ok(string) => hex_of(alloc, string.as_slice()),
+        Err(back) => came_back(alloc, back.as_slice()),
+    }
+}
+
+fn four_of_string(alloc: Global, octets: &[u8]) -> Result<String, RowError> {
+    let string = OctetString::from_slice(alloc, octets)?;
+    found(alloc, FixedOctetString::try_from_octet_string(&string))
+}
+
+/// The octets of a string of five, if there are so many.
+fn five_of_string(alloc: Global, octets: &[u8]) -> Result<String, RowError> {
+    let string = OctetString::from_slice(alloc, octets)?;
+    match FixedOctetString::<5>::try_from_octet_string(&string) {
+        Some(string) => hex_of(alloc, string.as_slice()),
+        None => shown(alloc, "none"),
+    }
+}
+
+fn came_back(alloc: Global, octets: &[u8]) -> Result<String, RowError> {
+    let octets = hex_of(alloc, octets)?;
+    Ok(format!(in alloc; "back {octets}")?)
+}
+
+/// The array of four octets.
+fn four(alloc: Global, octets: &[u8]) -> Result<[u8; 4], RowError> {
+    match octets {
+        [first, second, third, fourth] => Ok([*first, *second, *third, *fourth]),
+        _ => Err(wrong(alloc, "the word", "list of four octets")),
+    }
+}
+
+fn made(alloc: Global, octets: &[u8]) -> Result<String, RowError> {
+    hex_of(
+        alloc,
+        FixedOctetString::new(four(alloc, octets)?).as_slice(),
+    )
+}
+
+fn converted(alloc: Global, octets: &[u8]) -> Result<String, RowError> {
+    let string: FixedOctetString<4> = FixedOctetString::from(four(alloc, octets)?);
+    hex_of(alloc, string.as_slice())
+}
+
+fn default_text(alloc: Global) -> Result<String, RowError> {
+    let zeros: FixedOctetString<4> = FixedOctetString::default();
+    hex_of(alloc, zeros.as_slice())
+}
+
+/// Whether the string of zeros is below the one of these octets.
+fn above_default(alloc: Global, octets: &[u8]) -> Result<String, RowError> {
+    let zeros: FixedOctetString<4> = FixedOctetString::default();
+    shown(alloc, zeros < FixedOctetString::new(four(alloc, octets)?))
+}
+
+/// Writes through the array that the string lends; the clause says that the string ends with it.
+fn overwrite(string: &mut FixedOctetString<2>)
+    ensures { string.new.octets ≡ 7 ∷ 8 ∷ [] }
+{
+    **string = [7, 8];
+}
+
+/// The octets that were written over others, and whether the string equals the one of them.
+fn overwritten(alloc: Global) -> Result<String, RowError> {
+    let mut string: FixedOctetString<2> = FixedOctetString::new([1, 2]);
+    overwrite(&mut string);
+    let same = string == FixedOctetString::new([7, 8]) && *string == [7u8, 8];
+    shown(alloc, same)
+}

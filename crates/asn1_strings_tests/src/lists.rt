@@ -1,0 +1,77 @@
+//! Lists of characters and texts as words.
+
+use asn1_test_rows::{RowError, parsed, shown, wrong};
+use std::alloc::Global;
+
+/// The most numbers that the list of a word has.
+pub const MOST: usize = 4096;
+
+/// The numbers that a word spells: with commas between them, `0..256` for those below 256, and
+/// `0..130/2` for each second of them; `-` for none.
+pub fn list(alloc: Global, word: &str) -> Result<Vec<u32>, RowError> {
+    let mut numbers = Vec::new(alloc);
+    if word == "-" {
+        return Ok(numbers);
+    }
+    for part in word.split(',') {
+        match part.split_once("..") {
+            Some((first, end)) => push_range(alloc, &mut numbers, first, end)?,
+            None => numbers.push(parsed::<u32>(alloc, part)?)?,
+        }
+    }
+    if numbers.len() > MOST {
+        return Err(wrong(alloc, word, "list of so few numbers"));
+    }
+    Ok(numbers)
+}
+
+/// Appends the numbers from the first on and below the end, by steps; downward where the end is
+/// below.
+fn push_range(
+    alloc: Global,
+    numbers: &mut Vec<u32>,
+    first: &str,
+    end: &str,
+) -> Result<(), RowError> {
+    let (end, step) = match end.split_once('/') {
+        Some((end, step)) => (end, parsed::<u32>(alloc, step)?),
+        None => (end, 1),
+    };
+    let first = parsed::<u32>(alloc, first)?;
+    let end = parsed::<u32>(alloc, end)?;
+    let mut next = first;
+    for _ in 0..MOST {
+        if if first <= end {
+            next >= end
+        } else {
+            next <= end
+        } {
+            return Ok(());
+        }
+        numbers.push(next)?;
+        next = if first <= end {
+            next.saturating_add(step)
+        } else {
+            next.saturating_sub(step)
+        };
+    }
+    Ok(())
+}
+
+/// How many numbers there are, and each.
+pub fn counted(alloc: Global, count: usize, numbers: &[u32]) -> Result<String, RowError> {
+    let mut text = shown(alloc, count)?;
+    for number in numbers {
+        text.push(' ')?;
+        text.push_str(shown(alloc, *number)?.as_str())?;
+    }
+    Ok(text)
+}
+
+/// The text of octets in UTF-8.
+pub fn text_of(alloc: Global, octets: Vec<u8>) -> Result<String, RowError> {
+    match String::from_utf8(octets) {
+        Ok(text) => Ok(text),
+        Err(_) => Err(wrong(alloc, "the word", "text in UTF-8")),
+    }
+}

@@ -1,0 +1,93 @@
+//! Octet strings.
+
+use asn1_characters::OctetString;
+use asn1_test_rows::{RowError, hex_of, octets, shown, wrong};
+use bytes::Bytes;
+use std::alloc::Global;
+use std::collections::HashSet;
+
+/// The answers of octet strings: of none, of octets, or of two lists of octets.
+pub fn answer(alloc: Global, name: &str, words: &[&str]) -> Result<String, RowError> {
+    match words {
+        [] => constant(alloc, name),
+        [word] => of_octets(alloc, name, octets(alloc, word)?),
+        [first, second] => of_two(
+            alloc,
+            name,
+            &OctetString::from_slice(alloc, octets(alloc, first)?.as_slice())?,
+            octets(alloc, second)?.as_slice(),
+        ),
+        _ => Err(wrong(alloc, name, "function of octet strings")),
+    }
+}
+
+fn constant(alloc: Global, name: &str) -> Result<String, RowError> {
+    match name {
+        "from_static" => text_of(alloc, &OctetString::from_static(&[0x01, 0x80, 0xFF])),
+        "from_array" => text_of(alloc, &OctetString::from_array(alloc, [0x01, 0x80, 0xFF])?),
+        "default" => text_of(alloc, &OctetString::default()),
+        _ => Err(wrong(alloc, name, "octet string")),
+    }
+}
+
+fn text_of(alloc: Global, string: &OctetString) -> Result<String, RowError> {
+    hex_of(alloc, string.as_ref())
+}
+
+/// The octets of a string that is made in this way.
+fn of_octets(alloc: Global, name: &str, octets: Vec<u8>) -> Result<String, RowError> {
+    match name {
+        "from_slice" => text_of(alloc, &OctetString::from_slice(alloc, octets.as_slice())?),
+        "from_vec" => text_of(alloc, &of_vector(alloc, octets)?),
+        "from_bytes" => text_of(alloc, &OctetString::from_bytes(shared(alloc, octets)?)),
+        "from_bytes_ref" => text_of(
+            alloc,
+            &OctetString::from_bytes_ref(&shared(alloc, octets)?)?,
+        ),
+        "into_bytes" => into_bytes(alloc, of_vector(alloc, octets)?),
+        "clone" => text_of(alloc, &of_vector(alloc, octets)?.clone()?),
+        _ => Err(wrong(alloc, name, "function of octets")),
+    }
+}
+
+fn of_vector(alloc: Global, octets: Vec<u8>) -> Result<OctetString, RowError> {
+    match OctetString::from_vec(octets) {
+        Ok(string) => Ok(string),
+        Err(_) => Err(wrong(alloc, "the vector", "octet string")),
+    }
+}
+
+/// The octets of a string of the vector, shared with it.
+fn shared(alloc: Global, octets: Vec<u8>) -> Result<Bytes, RowError> {
+    Ok(of_vector(alloc, octets)?.to_bytes(alloc)?)
+}
+
+fn into_bytes(alloc: Global, string: OctetString) -> Result<String, RowError> {
+    match string.into_bytes(alloc) {
+        Ok(back) => hex_of(alloc, back.as_slice()),
+        Err(_) => shown(alloc, "the string came back"),
+    }
+}
+
+fn of_two(
+    alloc: Global,
+    name: &str,
+    first: &OctetString,
+    octets: &[u8],
+) -> Result<String, RowError> {
+    let second = OctetString::from_slice(alloc, octets)?;
+    match name {
+        "lt" => shown(alloc, *first < second),
+        "eq" => shown(alloc, *first == second),
+        "eq_bytes" => shown(alloc, first.eq_bytes(octets)),
+        "is_found" => is_found(alloc, second, first),
+        _ => Err(wrong(alloc, name, "function of two octet strings")),
+    }
+}
+
+/// Whether a set that has the first string has the second.
+fn is_found(alloc: Global, first: OctetString, second: &OctetString) -> Result<String, RowError> {
+    let mut seen = HashSet::new(alloc);
+    seen.insert(first)?;
+    shown(alloc, seen.contains(second))
+}

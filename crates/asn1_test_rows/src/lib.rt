@@ -1,0 +1,19 @@
+//! Tests as rows of a program's input: each row is a call and the answer that is wanted.
+//!
+//! ```text
+//! # X.690 8.3: a comment, as is an empty line.
+//! signed_octets -129 = FF7F
+//! ```
+//!
+//! A row costs no proof: each call that the rows name is proved once, in a function without a
+//! contract, and the program compares. No program but those of tests should use this crate.
+#![tactic(auto)]
+
+mod rows;
+mod words;
+
+pub use rows::{Answers, run};
+pub use words::{
+    RowError, bits, bits_of, boolean, hex_of, number, octets, one, optional, outcome, parsed,
+    shown, three, two, unfolded, wrong,
+};

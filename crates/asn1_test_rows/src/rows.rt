@@ -1,0 +1,85 @@
+//! Rows, from an input to its end.
+
+use crate::words::{RowError, unfolded};
+use std::alloc::Global;
+use std::io::{BufRead, Write};
+
+/// What answers the rows of a program.
+pub trait Answers {
+    /// The answer of a call, in words; or why the row cannot be read.
+    fn answer(&self, alloc: Global, call: &str, words: &[&str]) -> Result<String, RowError>;
+}
+
+/// Reads rows to the end of the input. Writes a line for each whose answer is another one or that
+/// cannot be read, and a last line with how many agree. Answers the status to end with: 0 where all
+/// agree, 1 elsewhere.
+pub fn run<A: Answers, R: BufRead, W: Write>(
+    alloc: Global,
+    answers: &A,
+    input: &mut R,
+    output: &mut W,
+) -> Result<u8, RowError> {
+    let mut place = 0u64;
+    let mut rows = 0u64;
+    let mut agreeing = 0u64;
+    for line in input.lines(alloc) {
+        let line = line?;
+        place = place.saturating_add(1);
+        let row = line.as_str().trim_ascii();
+        if row.is_empty() || row.starts_with('#') {
+            continue;
+        }
+        rows = rows.saturating_add(1);
+        match objection(alloc, answers, row)? {
+            None => agreeing = agreeing.saturating_add(1),
+            Some(text) => writeln!(output, "line {place}: {row}: {text}")?,
+        }
+    }
+    writeln!(output, "{agreeing} of {rows} rows agree")?;
+    output.flush()?;
+    Ok(u8::from(agreeing != rows))
+}
+
+/// What is wrong with a row, if it does not agree.
+fn objection<A: Answers>(
+    alloc: Global,
+    answers: &A,
+    row: &str,
+) -> Result<Option<String>, RowError> {
+    let Some((call, wanted)) = row.split_once(" = ") else {
+        return Ok(Some(String::from_str(alloc, "no answer is wanted")?));
+    };
+    match answer_of(alloc, answers, call) {
+        Ok(answer) => difference(alloc, answer.as_str(), wanted),
+        Err(RowError::Word(text)) => Ok(Some(text)),
+        Err(error) => Err(error),
+    }
+}
+
+/// The answer of a call with its words.
+fn answer_of<A: Answers>(alloc: Global, answers: &A, call: &str) -> Result<String, RowError> {
+    let words: Vec<&str> = call.split_ascii_whitespace().collect(alloc)?;
+    match words.as_slice().split_first() {
+        Some((name, words)) => answers.answer(alloc, name, words),
+        None => Err(RowError::Word(String::from_str(alloc, "no call")?)),
+    }
+}
+
+/// What is wrong with an answer, if another one is wanted.
+fn difference(alloc: Global, answer: &str, wanted: &str) -> Result<Option<String>, RowError> {
+    let mut spelled = String::new(alloc);
+    for word in wanted.split_ascii_whitespace() {
+        if !spelled.is_empty() {
+            spelled.push(' ')?;
+        }
+        if word.contains('*') {
+            spelled.push_str(unfolded(alloc, word)?.as_str())?;
+        } else {
+            spelled.push_str(word)?;
+        }
+    }
+    if spelled.as_str() == answer {
+        return Ok(None);
+    }
+    Ok(Some(format!(in alloc; "the answer is {answer}")?))
+}
