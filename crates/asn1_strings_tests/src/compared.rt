@@ -1,7 +1,7 @@
 //! What all strings have beside the calls of the trait, on strings that are made character by
 //! character.
 
-use crate::lists::counted;
+use crate::lists::{counted, list};
 use crate::strings::characters;
 use asn1_strings::{CodeUnit, RestrictedString, StaticPermittedAlphabet, StringKind};
 use asn1_test_rows::{RowError, shown, wrong};
@@ -9,12 +9,8 @@ use std::alloc::Global;
 use std::collections::HashSet;
 
 /// The answers on one string.
-pub fn of_one<K: StringKind>(
-    alloc: Global,
-    name: &str,
-    numbers: &[u32],
-) -> Result<String, RowError> {
-    let string: RestrictedString<K> = pushed(alloc, numbers)?;
+pub fn of_one<K: StringKind>(alloc: Global, name: &str, word: &str) -> Result<String, RowError> {
+    let string: RestrictedString<K> = spelled(alloc, word)?;
     match name {
         "push_char" => characters(alloc, &string),
         "as_slice" => units(alloc, string.as_slice()),
@@ -29,18 +25,32 @@ pub fn of_one<K: StringKind>(
 pub fn of_two<K: StringKind>(
     alloc: Global,
     name: &str,
-    first: &[u32],
-    second: &[u32],
+    first: &str,
+    second: &str,
 ) -> Result<String, RowError> {
-    let first: RestrictedString<K> = pushed(alloc, first)?;
-    let second: RestrictedString<K> = pushed(alloc, second)?;
+    let first: RestrictedString<K> = spelled(alloc, first)?;
+    let second: RestrictedString<K> = spelled(alloc, second)?;
     match name {
         "lt" => shown(alloc, first < second),
         "eq" => shown(alloc, first == second),
-        "clone_eq" => shown(alloc, first.clone()? == second),
+        "clone_eq" => is_copied(alloc, &first, &second),
         "is_found" => is_found(alloc, first, &second),
         _ => Err(wrong(alloc, name, "function of two strings")),
     }
+}
+
+/// The string of the characters that a word spells.
+fn spelled<K: StringKind>(alloc: Global, word: &str) -> Result<RestrictedString<K>, RowError> {
+    pushed(alloc, list(alloc, word)?.as_slice())
+}
+
+/// Whether the copy of the first string equals the second.
+fn is_copied<K: StringKind>(
+    alloc: Global,
+    first: &RestrictedString<K>,
+    second: &RestrictedString<K>,
+) -> Result<String, RowError> {
+    shown(alloc, first.clone()? == *second)
 }
 
 /// The string of these characters, made one by one; those outside its set are left out.

@@ -37,17 +37,37 @@ fn text_of(alloc: Global, string: &OctetString) -> Result<String, RowError> {
 /// The octets of a string that is made in this way.
 fn of_octets(alloc: Global, name: &str, octets: Vec<u8>) -> Result<String, RowError> {
     match name {
-        "from_slice" => text_of(alloc, &OctetString::from_slice(alloc, octets.as_slice())?),
-        "from_vec" => text_of(alloc, &of_vector(alloc, octets)?),
-        "from_bytes" => text_of(alloc, &OctetString::from_bytes(shared(alloc, octets)?)),
-        "from_bytes_ref" => text_of(
-            alloc,
-            &OctetString::from_bytes_ref(&shared(alloc, octets)?)?,
-        ),
+        "from_slice" => from_slice(alloc, octets.as_slice()),
+        "from_vec" => from_vec(alloc, octets),
+        "from_bytes" => from_bytes(alloc, octets),
+        "from_bytes_ref" => from_bytes_ref(alloc, octets),
         "into_bytes" => into_bytes(alloc, of_vector(alloc, octets)?),
-        "clone" => text_of(alloc, &of_vector(alloc, octets)?.clone()?),
+        "clone" => copied(alloc, octets),
         _ => Err(wrong(alloc, name, "function of octets")),
     }
+}
+
+fn from_slice(alloc: Global, octets: &[u8]) -> Result<String, RowError> {
+    text_of(alloc, &OctetString::from_slice(alloc, octets)?)
+}
+
+fn from_vec(alloc: Global, octets: Vec<u8>) -> Result<String, RowError> {
+    text_of(alloc, &of_vector(alloc, octets)?)
+}
+
+fn from_bytes(alloc: Global, octets: Vec<u8>) -> Result<String, RowError> {
+    text_of(alloc, &OctetString::from_bytes(shared(alloc, octets)?))
+}
+
+fn from_bytes_ref(alloc: Global, octets: Vec<u8>) -> Result<String, RowError> {
+    text_of(
+        alloc,
+        &OctetString::from_bytes_ref(&shared(alloc, octets)?)?,
+    )
+}
+
+fn copied(alloc: Global, octets: Vec<u8>) -> Result<String, RowError> {
+    text_of(alloc, &of_vector(alloc, octets)?.clone()?)
 }
 
 fn of_vector(alloc: Global, octets: Vec<u8>) -> Result<OctetString, RowError> {

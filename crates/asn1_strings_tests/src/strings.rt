@@ -1,6 +1,6 @@
 //! The eight character strings, through the trait that all have.
 
-use crate::lists::{counted, list, text_of};
+use crate::lists::{counted, text_of};
 use crate::{bits, compared, sets};
 use asn1_strings::{
     Bmp, General, Graphic, Ia5, Numeric, OctetString, PermittedAlphabetError, Printable,
@@ -24,35 +24,55 @@ pub fn answer(alloc: Global, owner: &str, name: &str, words: &[&str]) -> Result<
     }
 }
 
-/// The answers of a string: of no word, of octets, of octets and a width, of two lists of
-/// characters, or of bits.
+/// The answers of a string: of no word, of octets, of a number, of octets and a width, of one or two
+/// lists of characters, or of bits.
 fn of_kind<K: StringKind>(alloc: Global, name: &str, words: &[&str]) -> Result<String, RowError> {
     match words {
         [] => sets::constant::<RestrictedString<K>>(alloc, name),
         [word] if name.starts_with("try_from_") => {
-            read::<RestrictedString<K>>(alloc, name, octets(alloc, word)?)
+            of_octets::<RestrictedString<K>>(alloc, name, word)
         }
-        [word] if name == "contains_char_below" => {
-            sets::contained::<RestrictedString<K>>(alloc, parsed::<u32>(alloc, word)?)
+        [word] if name.ends_with("char_below") || name.starts_with("invalid") => {
+            of_number::<RestrictedString<K>>(alloc, name, word)
         }
-        [word] if name == "invalid_restricted_string" => shown(
-            alloc,
-            RestrictedString::<K>::invalid_restricted_string(parsed::<u32>(alloc, word)?),
-        ),
-        [word] => compared::of_one::<K>(alloc, name, list(alloc, word)?.as_slice()),
-        [word, width] if name == "try_from_slice_with_width" => with_width::<RestrictedString<K>>(
-            alloc,
-            octets(alloc, word)?.as_slice(),
-            parsed::<usize>(alloc, width)?,
-        ),
-        [first, second] if !name.starts_with("try_from_") => compared::of_two::<K>(
-            alloc,
-            name,
-            list(alloc, first)?.as_slice(),
-            list(alloc, second)?.as_slice(),
-        ),
+        [word] => compared::of_one::<K>(alloc, name, word),
+        [word, width] if name == "try_from_slice_with_width" => {
+            of_width::<RestrictedString<K>>(alloc, word, width)
+        }
+        [first, second] if !name.starts_with("try_from_") => {
+            compared::of_two::<K>(alloc, name, first, second)
+        }
         _ => bits::answer::<RestrictedString<K>>(alloc, name, words),
     }
+}
+
+fn of_octets<S: StaticPermittedAlphabet>(
+    alloc: Global,
+    name: &str,
+    word: &str,
+) -> Result<String, RowError> {
+    read::<S>(alloc, name, octets(alloc, word)?)
+}
+
+fn of_number<S: StaticPermittedAlphabet>(
+    alloc: Global,
+    name: &str,
+    word: &str,
+) -> Result<String, RowError> {
+    let number = parsed::<u32>(alloc, word)?;
+    match name {
+        "contains_char_below" => sets::contained::<S>(alloc, number),
+        _ => shown(alloc, S::invalid_restricted_string(number)),
+    }
+}
+
+fn of_width<S: StaticPermittedAlphabet>(
+    alloc: Global,
+    word: &str,
+    width: &str,
+) -> Result<String, RowError> {
+    let width = parsed::<usize>(alloc, width)?;
+    with_width::<S>(alloc, octets(alloc, word)?.as_slice(), width)
 }
 
 /// The number of the characters of a string, and each; or why there is no string.
