@@ -42,7 +42,8 @@ impl HeldBits {
         }
     }
 
-    /// The bits with the digits of a number behind them, for which earlier ones may be written.
+    /// The bits with the digits of a number behind them, for which earlier ones may be written: a
+    /// buffer takes up to 56 bits by one word.
     #[inline(always)]
     pub(crate) fn then(
         self,
@@ -56,7 +57,7 @@ impl HeldBits {
             ≡ (buffer.old ++ digits self.number self.len) ++ digits number width) }
         ensures kept { Extends buffer.old buffer.new }
     {
-        if self.len + width <= 64 {
+        if self.len + width <= 56 {
             return Ok(self.with(number, width));
         }
         self.write_to(buffer)?;
