@@ -1,6 +1,6 @@
 use Rattle.std.proofs.Common.{◌≡◌, rules, length, arith}
 use Rattle.asn1_bits.specs.DigitLaws.{length-bits}
-use Rattle.asn1_bits_tests.proofs.kernel_rows.CountedPlaces.len.Goals as goal
+use Rattle.asn1_bits_tests.proofs.places.CountedPlaces.len.Goals as goal
 
 pub returns : goal.returns
 returns c =

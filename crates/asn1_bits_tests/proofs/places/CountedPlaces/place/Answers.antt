@@ -1,11 +1,11 @@
-use Rattle.std.proofs.Common.{◌≡◌, ℕ, ◌+◌, ◌-◌, ◌*◌, ◌/◌, ◌^◌, ◌≤◌, Bool, List, drop, length, rules, ap, ◌∙◌, arith}
+use Rattle.std.proofs.Common.{◌≡◌, ℕ, ◌+◌, ◌-◌, ◌/◌, ◌^◌, ◌≤◌, Bool, List, drop, length, rules, ap, ◌∙◌, arith}
 use Rattle.std.proofs.lemmas.List.{drop_at}
 use Rattle.asn1_bits.specs.Bits.{bits, digits, ored}
 use Rattle.asn1_bits.specs.ByteLaws.{bits-bytes}
 use Rattle.asn1_bits.specs.DigitLaws.{length-bits, length-digits}
 use Rattle.asn1_bits.specs.NumberLaws.{digits-append}
 use Rattle.asn1_bits.specs.View.{View}
-use Rattle.asn1_bits_tests.proofs.kernel_rows.CountedPlaces.place.Goals as goal
+use Rattle.asn1_bits_tests.proofs.places.CountedPlaces.place.Goals as goal
 
 -- the last digits of a word are its lowest
 lowest : (n width : ℕ) → width ≤ 64 → drop (64 - width) (digits n 64) ≡ digits n width
