@@ -16,12 +16,15 @@ pub fn answer(alloc: Global, text: &mut String, name: &str, words: &[&str]) -> O
     }
 }
 
-/// The string that a word names: `zero`, or `new` and three octets, or `from_bitstr` and a view.
+/// The string that a word names: `zero`, or `new` and three octets, or `from_bitstr` and a view, or
+/// `set` and the bits that zeros are set to.
 fn made(alloc: Global, word: &str) -> Option<FixedBitString<3>> {
     match word.split_once(':') {
         Some(("new", rest)) => new(octets_of(alloc, rest)?),
         Some(("from_bitstr", rest)) => of_view(alloc, rest),
-        _ => Some(FixedBitString::<3>::zero()),
+        Some(("set", rest)) => of_digits(rest),
+        None if word == "zero" => Some(FixedBitString::<3>::zero()),
+        _ => None,
     }
 }
 
@@ -34,6 +37,14 @@ fn new(octets: Vec<u8>) -> Option<FixedBitString<3>> {
 
 fn of_view(alloc: Global, word: &str) -> Option<FixedBitString<3>> {
     FixedBitString::<3>::from_bitstr(part_of(alloc, word)?.view()?)
+}
+
+fn of_digits(digits: &str) -> Option<FixedBitString<3>> {
+    let mut bits = FixedBitString::<3>::zero();
+    for (place, digit) in digits.as_bytes().iter().enumerate() {
+        set(&mut bits, (place, *digit == b'1'))?;
+    }
+    Some(bits)
 }
 
 /// Appends the bits, one by one.
