@@ -1,7 +1,7 @@
 //! Alphabets by words: `Ia5/97,98`, `Numeric/all`, and the aligned ones behind `!`, `Ia5!/97-116`.
 
 use crate::stores::{Store, stores_of};
-use crate::words::push_number;
+use crate::words::{append, push_number};
 use asn1_values::{
     BmpString, CharacterAlphabet, Ia5String, NumericString, StaticPermittedAlphabet,
 };
