@@ -66,8 +66,8 @@ fn push(alloc: Global, appender: &mut BitAppender<'_>, piece: &str) -> Option<()
         "push" => push_short(appender, digits_of(rest)?),
         "push_wide" => push_wide(appender, digits_of(rest)?),
         "push_number" => push_below(appender, digits_of(rest)?),
-        "push_octets" => push_bytes(appender, octets_of(alloc, rest)?),
-        "push_bitslice" => push_part(appender, &part_of(alloc, rest)?),
+        "push_octets" => push_hex(alloc, appender, rest),
+        "push_bitslice" => push_view(alloc, appender, rest),
         _ => None,
     }
 }
@@ -96,6 +96,14 @@ fn push_below(appender: &mut BitAppender<'_>, digits: (u128, usize)) -> Option<(
         return None;
     }
     Some(appender.push_number(value, width, &mut Turns::new()))
+}
+
+fn push_hex(alloc: Global, appender: &mut BitAppender<'_>, rest: &str) -> Option<()> {
+    push_bytes(appender, octets_of(alloc, rest)?)
+}
+
+fn push_view(alloc: Global, appender: &mut BitAppender<'_>, rest: &str) -> Option<()> {
+    push_part(appender, &part_of(alloc, rest)?)
 }
 
 fn push_bytes(appender: &mut BitAppender<'_>, octets: Vec<u8>) -> Option<()> {

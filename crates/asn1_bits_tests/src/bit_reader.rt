@@ -70,11 +70,11 @@ fn take_some(
     count: usize,
 ) -> Option<()> {
     match name {
-        "first_bits" => push_number(alloc, text, first_bits(reader, count)?),
-        "first_u128" => push_number(alloc, text, first_u128(reader, count)?),
+        "first_bits" => first_bits(alloc, text, reader, count),
+        "first_u128" => first_u128(alloc, text, reader, count),
         "split" => split(alloc, text, reader, count),
-        "number" => push_number(alloc, text, number(&reader.split(count).ok()?)?),
-        "octets" => octets_left(alloc, text, &reader.split(count).ok()?),
+        "number" => number(alloc, text, &front(reader, count)?),
+        "octets" => octets_left(alloc, text, &front(reader, count)?),
         _ => None,
     }
 }
@@ -86,18 +86,33 @@ fn first_bit(text: &mut String, reader: &BitReader<'_>) -> Option<()> {
     push_bit(text, reader.first_bit())
 }
 
-fn first_bits(reader: &BitReader<'_>, width: usize) -> Option<u128> {
+/// The reader of the bits that are taken off.
+fn front<'a>(reader: &mut BitReader<'a>, count: usize) -> Option<BitReader<'a>> {
+    reader.split(count).ok()
+}
+
+fn first_bits(
+    alloc: Global,
+    text: &mut String,
+    reader: &BitReader<'_>,
+    width: usize,
+) -> Option<()> {
     if width > 32 || width > reader.len() {
         return None;
     }
-    Some(u128::from(reader.first_bits(width)))
+    push_number(alloc, text, u128::from(reader.first_bits(width)))
 }
 
-fn first_u128(reader: &BitReader<'_>, width: usize) -> Option<u128> {
+fn first_u128(
+    alloc: Global,
+    text: &mut String,
+    reader: &BitReader<'_>,
+    width: usize,
+) -> Option<()> {
     if width > 128 || width > reader.len() {
         return None;
     }
-    Some(reader.first_u128(width))
+    push_number(alloc, text, reader.first_u128(width))
 }
 
 /// The octets that are left, if they are lent.
@@ -120,11 +135,11 @@ fn split(alloc: Global, text: &mut String, reader: &mut BitReader<'_>, count: us
 }
 
 /// The number of the bits.
-fn number(reader: &BitReader<'_>) -> Option<u128> {
+fn number(alloc: Global, text: &mut String, reader: &BitReader<'_>) -> Option<()> {
     if reader.len() > 128 {
         return None;
     }
-    Some(read_u128(reader.bits()))
+    push_number(alloc, text, read_u128(reader.bits()))
 }
 
 /// The octets, and whether they are lent or a copy.

@@ -50,15 +50,16 @@ fn answer_on(
         "len" => push_number(alloc, text, view.len() as u128),
         "shift" => push_number(alloc, text, view.shift() as u128),
         "is_empty" => push_truth(text, view.is_empty()),
-        "get" => get(text, view, size(rest.first()?)?),
+        "get" => get(text, view, rest),
         "slice" => slice(text, view, rest),
-        "split_at" => split_at(text, view, size(rest.first()?)?),
-        "cmp" => cmp(alloc, text, view, rest.first()?),
+        "split_at" => split_at(text, view, rest),
+        "cmp" => cmp(alloc, text, view, rest),
         _ => None,
     }
 }
 
-fn get(text: &mut String, view: BitStr<'_>, place: usize) -> Option<()> {
+fn get(text: &mut String, view: BitStr<'_>, rest: &[&str]) -> Option<()> {
+    let place = size(rest.first()?)?;
     if place >= view.len() {
         return None;
     }
@@ -78,7 +79,8 @@ fn slice(text: &mut String, view: BitStr<'_>, rest: &[&str]) -> Option<()> {
 }
 
 /// What lies before a place of a view, and behind it.
-fn split_at(text: &mut String, view: BitStr<'_>, at: usize) -> Option<()> {
+fn split_at(text: &mut String, view: BitStr<'_>, rest: &[&str]) -> Option<()> {
+    let at = size(rest.first()?)?;
     if at > view.len() {
         return None;
     }
@@ -87,7 +89,7 @@ fn split_at(text: &mut String, view: BitStr<'_>, at: usize) -> Option<()> {
     push_bits(text, back)
 }
 
-fn cmp(alloc: Global, text: &mut String, view: BitStr<'_>, other: &str) -> Option<()> {
-    let other = part_of(alloc, other)?;
+fn cmp(alloc: Global, text: &mut String, view: BitStr<'_>, rest: &[&str]) -> Option<()> {
+    let other = part_of(alloc, rest.first()?)?;
     push_order(text, &view, &other.view()?)
 }

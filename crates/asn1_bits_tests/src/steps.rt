@@ -47,8 +47,8 @@ pub fn take(alloc: Global, buffer: &mut BitBuffer, step: &str) -> Option<()> {
     match name {
         "push" => push(buffer, rest == "1"),
         "push_bits" => push_digits(buffer, digits_of(rest)?),
-        "extend_from_bytes" => push_bytes(buffer, octets_of(alloc, rest)?),
-        "extend_from_bitslice" => push_part(buffer, &part_of(alloc, rest)?),
+        "extend_from_bytes" => push_hex(alloc, buffer, rest),
+        "extend_from_bitslice" => push_view(alloc, buffer, rest),
         "extend_from_buffer" => push_buffer(alloc, buffer, rest),
         "resize" => resize(buffer, bit_of(rest)?),
         "set" => set(buffer, bit_of(rest)?),
@@ -73,6 +73,14 @@ pub fn push_digits(buffer: &mut BitBuffer, digits: (u128, usize)) -> Option<()> 
         return None;
     }
     buffer.push_bits(value, width).ok()
+}
+
+fn push_hex(alloc: Global, buffer: &mut BitBuffer, rest: &str) -> Option<()> {
+    push_bytes(buffer, octets_of(alloc, rest)?)
+}
+
+fn push_view(alloc: Global, buffer: &mut BitBuffer, rest: &str) -> Option<()> {
+    push_part(buffer, &part_of(alloc, rest)?)
 }
 
 /// Pushes octets.
