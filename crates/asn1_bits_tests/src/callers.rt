@@ -6,9 +6,30 @@ ghost use Rattle.asn1_bits.specs.Bits.{digits};
 ghost use Rattle.asn1_bits.specs.BitReader.{bits_left};
 ghost use Rattle.asn1_bits.specs.Octets.{IsBorrowed};
 
+use crate::steps::{push_part, push_state};
+use crate::words::{MANY, Part, append, part_of, push_number, push_octets};
 use asn1_bits::{BitBuffer, BitReader, BitStr, BitString, Octets, to_bitstring};
 use std::alloc::{AllocError, Global};
-use std::test::Fail;
+
+/// The answer of a call.
+pub fn answer(alloc: Global, text: &mut String, name: &str, words: &[&str]) -> Option<()> {
+    match (name, words) {
+        ("pushes_two", [a, b]) => two_pushed(alloc, text, a.parse().ok()?, b.parse().ok()?),
+        (_, [view]) => answer_on_view(alloc, text, name, view),
+        _ => None,
+    }
+}
+
+/// The answer of a call on a view.
+fn answer_on_view(alloc: Global, text: &mut String, name: &str, view: &str) -> Option<()> {
+    let part = part_of(alloc, view)?;
+    match name {
+        "leaves_room" => room_left(alloc, text, &part),
+        "lends_its_octets" => octets_lent(alloc, text, part.view()?),
+        "reads_two" => two_read(alloc, text, part.view()?),
+        _ => None,
+    }
+}
 
 /// Room that is filled.
 fn pushes_two(buffer: &mut BitBuffer, a: u32, b: u32) -> Result<(), AllocError>
@@ -22,6 +43,13 @@ fn pushes_two(buffer: &mut BitBuffer, a: u32, b: u32) -> Result<(), AllocError>
     Ok(())
 }
 
+/// An empty buffer after it.
+fn two_pushed(alloc: Global, text: &mut String, a: u32, b: u32) -> Option<()> {
+    let mut buffer = BitBuffer::new(alloc);
+    pushes_two(&mut buffer, a, b).ok()?;
+    push_state(alloc, text, &buffer)
+}
+
 /// Room that is left.
 fn leaves_room(buffer: &mut BitBuffer) -> Result<(), AllocError>
     requires { length buffer.old + 10 < 2 ^ 64 }
@@ -33,6 +61,21 @@ fn leaves_room(buffer: &mut BitBuffer) -> Result<(), AllocError>
     Ok(())
 }
 
+/// A buffer of a part's bits after it.
+fn room_left(alloc: Global, text: &mut String, part: &Part) -> Option<()> {
+    let mut buffer = BitBuffer::new(alloc);
+    push_part(&mut buffer, part)?;
+    leave_room(&mut buffer)?;
+    push_state(alloc, text, &buffer)
+}
+
+fn leave_room(buffer: &mut BitBuffer) -> Option<()> {
+    if buffer.len() > MANY {
+        return None;
+    }
+    leaves_room(buffer).ok()
+}
+
 /// The octets of a bit string that fills them are lent.
 fn lends_its_octets(alloc: Global, bits: &BitString) -> Result<Octets<'_>, AllocError>
     requires { length bits.now % 8 ≡ 0 }
@@ -40,6 +83,18 @@ fn lends_its_octets(alloc: Global, bits: &BitString) -> Result<Octets<'_>, Alloc
     ensures free { IsOk result }
 {
     BitReader::new(bits.as_bitstr()).octets(alloc)
+}
+
+/// The octets of a view's bits.
+fn octets_lent(alloc: Global, text: &mut String, view: BitStr<'_>) -> Option<()> {
+    let copy = to_bitstring(alloc, view).ok()?;
+    if copy.len() % 8 != 0 {
+        return None;
+    }
+    match lends_its_octets(alloc, &copy) {
+        Ok(octets) => push_octets(alloc, text, octets.as_ref()),
+        Err(_) => None,
+    }
 }
 
 /// Two numbers, one after another.
@@ -52,22 +107,16 @@ fn reads_two(reader: &mut BitReader<'_>) -> Result<(u128, u128), usize>
     Ok((first.first_u128(3), second.first_u128(16)))
 }
 
-#[test]
-fn callers_stand_on_the_contracts(rt: HostRuntime) -> Result<(), Fail> {
-    let mut buffer = BitBuffer::new(rt.alloc());
-    pushes_two(&mut buffer, 0b111, 0b0110)?;
-    assert!(rt; buffer.len() < 100);
-    leaves_room(&mut buffer)?;
-    assert!(rt; buffer.as_bytes() == [0xEC, 0x50, 0x00].as_slice());
-    let copy = to_bitstring(
-        rt.alloc(),
-        BitStr::new(&[0xF6, 0x94], 4, 8).ok_or("within")?,
-    )?;
-    assert!(rt; copy.len() % 8 == 0);
-    let lent = lends_its_octets(rt.alloc(), &copy)?;
-    assert!(rt; lent.as_ref() == [0x69].as_slice());
-    let mut reader = BitReader::from_octets(&[0xF6, 0x94, 0x02]);
-    let two = reads_two(&mut reader).map_err(|_| "short")?;
-    assert!(rt; two == (0b111, 0b1_0110_1001_0100_000));
-    Ok(())
+/// The numbers of a view's first bits, or how many are missing.
+fn two_read(alloc: Global, text: &mut String, view: BitStr<'_>) -> Option<()> {
+    match reads_two(&mut BitReader::new(view)) {
+        Ok((first, second)) => {
+            push_number(alloc, text, first)?;
+            push_number(alloc, text, second)
+        }
+        Err(missing) => {
+            append(text, "short")?;
+            push_number(alloc, text, missing as u128)
+        }
+    }
 }

@@ -1,50 +1,53 @@
 //! Hashes of lists of bits: those of a list's length and words, wherever its bits lie.
 
-use super::plain::{pattern, plain_bits, plain_number};
+use crate::words::{part_of, push_truth};
 use asn1_bits::{BitStr, FixedBitString, to_bitstring};
+use std::alloc::Global;
 use std::hash::{FoldHasher, Hash, Hasher};
-use std::test::Fail;
 
-/// The hash of the view.
-fn hash_of(view: BitStr<'_>) -> u64 {
+/// The answer of a call on the view of the first word.
+pub fn answer(alloc: Global, text: &mut String, name: &str, words: &[&str]) -> Option<()> {
+    let (first, numbers) = words.split_first()?;
+    let part = part_of(alloc, first)?;
+    answer_on(alloc, text, name, part.view()?, numbers)
+}
+
+/// Whether the hash of a view is that of its length and of the numbers, or the hash of a copy that
+/// of the view.
+fn answer_on(
+    alloc: Global,
+    text: &mut String,
+    name: &str,
+    view: BitStr<'_>,
+    numbers: &[&str],
+) -> Option<()> {
+    let own = hash_of(&view);
+    match name {
+        "BitStr" => push_truth(text, own == plain_hash(view.len(), numbers)?),
+        "BitString" => push_truth(text, own == hash_of(&to_bitstring(alloc, view).ok()?)),
+        "FixedBitString" => {
+            push_truth(
+                text,
+                own == hash_of(&FixedBitString::<12>::from_bitstr(view)?),
+            )
+        }
+        _ => None,
+    }
+}
+
+/// The hash of a value.
+fn hash_of<T: Hash>(value: &T) -> u64 {
     let mut hasher = FoldHasher::default();
-    view.hash(&mut hasher);
+    value.hash(&mut hasher);
     hasher.finish()
 }
 
 /// The hash of how many bits there are, and of the numbers of each 64 of them and of the last ones.
-fn plain_hash(bits: &[bool]) -> u64 {
+fn plain_hash(len: usize, numbers: &[&str]) -> Option<u64> {
     let mut hasher = FoldHasher::default();
-    hasher.write_usize(bits.len());
-    for word in bits.chunks(64) {
-        hasher.write_u64((plain_number(word) & 0xFFFF_FFFF_FFFF_FFFF) as u64);
+    hasher.write_usize(len);
+    for number in numbers {
+        hasher.write_u64(number.parse::<u64>().ok()?);
     }
-    hasher.finish()
-}
-
-#[test]
-fn equal_lists_hash_alike(rt: HostRuntime) -> Result<(), Fail> {
-    let octets = pattern(rt.alloc(), 40)?;
-    let bits = plain_bits(rt.alloc(), octets.as_slice())?;
-    assert!(rt; bits.len() == 320);
-    for first in [0, 3, 8, 13] {
-        for len in [0, 1, 7, 8, 63, 64, 65, 127, 128, 129, 300] {
-            let view = BitStr::new(octets.as_slice(), first, len).ok_or("within")?;
-            assert!(rt; hash_of(view) == plain_hash(&bits[first..first + len]));
-        }
-    }
-    Ok(())
-}
-
-#[test]
-fn owned_lists_hash_as_their_views(rt: HostRuntime) -> Result<(), Fail> {
-    let view = BitStr::new(&[0xA5, 0x5A, 0xC3], 3, 12).ok_or("within")?;
-    let mut hasher = FoldHasher::default();
-    to_bitstring(rt.alloc(), view)?.hash(&mut hasher);
-    assert!(rt; hasher.finish() == hash_of(view));
-    let fixed = FixedBitString::<12>::from_bitstr(view).ok_or("as long")?;
-    let mut hasher = FoldHasher::default();
-    fixed.hash(&mut hasher);
-    assert!(rt; hasher.finish() == hash_of(view));
-    Ok(())
+    Some(hasher.finish())
 }

@@ -5,9 +5,9 @@ ghost use Rattle.asn1_bits.specs.BitReader.{bits_left};
 ghost use Rattle.asn1_values.specs.Fields.{GiveOneSpelling};
 ghost use Rattle.asn1_values.specs.Plain.{plain_shapes};
 
+use crate::words::{buffer_of, octets_of, push_number, push_state};
 use asn1_values::{BitBuffer, BitReader, Shape, WriteError, read_fields, write_fields};
 use std::alloc::Global;
-use std::test::Fail;
 
 /// What was read, written again: the front of what was there.
 fn copies_the_front(
@@ -24,6 +24,24 @@ fn copies_the_front(
     Some(front)
 }
 
+/// `OCTETS`: how many bits are left behind a number of four bits and an octet, and what is written
+/// again.
+pub fn front(alloc: Global, text: &mut String, words: &[&str]) -> Option<()> {
+    let octets = octets_of(alloc, words.first()?)?;
+    tell_front(alloc, text, octets.as_slice())
+}
+
+fn tell_front(alloc: Global, text: &mut String, octets: &[u8]) -> Option<()> {
+    if octets.len() > 100 {
+        return None;
+    }
+    let mut reader = BitReader::from_octets(octets);
+    let shapes = [Shape::Number { width: 4 }, Shape::Octets { count: 1 }];
+    let front = copies_the_front(alloc, &mut reader, &shapes)?;
+    push_number(alloc, text, reader.len() as u128)?;
+    push_state(alloc, text, &front)
+}
+
 /// No fields, for which no memory can be wanting.
 fn writes_nothing(buffer: &mut BitBuffer) -> Result<(), WriteError>
     ensures fine { IsOk result }
@@ -33,14 +51,9 @@ fn writes_nothing(buffer: &mut BitBuffer) -> Result<(), WriteError>
     write_fields(buffer, &[])
 }
 
-#[test]
-fn callers_stand_on_the_contracts(rt: HostRuntime) -> Result<(), Fail> {
-    let mut reader = BitReader::from_octets(&[0xF6, 0x94, 0x02]);
-    let shapes = [Shape::Number { width: 4 }, Shape::Octets { count: 1 }];
-    let mut front = copies_the_front(rt.alloc(), &mut reader, &shapes).ok_or("read")?;
-    assert!(rt; reader.len() == 12);
-    assert!(rt; front.len() == 12);
-    writes_nothing(&mut front)?;
-    assert!(rt; front.as_bytes() == [0xF6, 0x90].as_slice());
-    Ok(())
+/// `BITS`: a buffer of the bits after it.
+pub fn nothing(alloc: Global, text: &mut String, words: &[&str]) -> Option<()> {
+    let mut buffer = buffer_of(alloc, words.first()?)?;
+    writes_nothing(&mut buffer).ok()?;
+    push_state(alloc, text, &buffer)
 }

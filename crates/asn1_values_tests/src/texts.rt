@@ -1,82 +1,88 @@
-//! The texts of errors.
+//! The texts of refusals, by their names and numbers.
 
+use crate::words::{push_shown, size};
 use asn1_values::{ReadError, WriteError};
-use std::test::Fail;
+use std::alloc::Global;
 
-#[test]
-fn errors_are_printed_with_their_place(rt: HostRuntime) -> Result<(), Fail> {
-    let writing = [
-        (
-            WriteError::NumberWidth {
-                field: 2,
-                width: 129,
-            },
-            "field 2: width 129 is over 128",
-        ),
-        (
-            WriteError::Number { field: 0 },
-            "field 0: the number does not fit its width",
-        ),
-        (
-            WriteError::Character {
-                field: 4,
-                character: 99,
-            },
-            "field 4: character 99 is not in the alphabet",
-        ),
-        (
-            WriteError::IntegerLength { field: 5 },
-            "field 5: the integer is longer than 127 octets",
-        ),
-        (
-            WriteError::ArcCount { field: 1 },
-            "field 1: fewer than two arcs",
-        ),
-        (WriteError::TooLong, "too many bits"),
-        (WriteError::Memory, "out of memory"),
-    ];
-    for (error, text) in writing {
-        assert!(rt; format!(in rt.alloc(); "{error}")?.as_str() == text);
+/// `NAME NUMBER ..`: the text of a refusal to write.
+pub fn writing(alloc: Global, text: &mut String, words: &[&str]) -> Option<()> {
+    push_shown(alloc, text, write_error(words)?)
+}
+
+fn write_error(words: &[&str]) -> Option<WriteError> {
+    match words {
+        ["TooLong"] => Some(WriteError::TooLong),
+        ["Memory"] => Some(WriteError::Memory),
+        [name, field] => write_error_at(name, size(field)?),
+        [name, field, number] => write_error_of(name, size(field)?, number),
+        _ => None,
     }
-    let reading = [
-        (
-            ReadError::NumberWidth {
-                field: 1,
-                width: 200,
-            },
-            "field 1: width 200 is over 128",
-        ),
-        (
-            ReadError::Integer { field: 0 },
-            "field 0: not a shortest integer",
-        ),
-        (
-            ReadError::Character { field: 7, code: 11 },
-            "field 7: code 11 is no character",
-        ),
-        (
-            ReadError::Short { field: 3, bits: 17 },
-            "field 3: 17 bits short",
-        ),
-        (
-            ReadError::Length {
-                field: 6,
-                octet: 200,
-            },
-            "field 6: length octet 200 is not 1 to 127",
-        ),
-        (
-            ReadError::Identifier { field: 2 },
-            "field 2: not the contents of an identifier",
-        ),
-        (
-            ReadError::Arc { field: 3 },
-            "field 3: an arc is past 32 bits",
-        ),
-        (ReadError::Memory, "out of memory"),
-    ];
-    for (error, text) in reading {
-        assert!(rt; format!(in rt.alloc(); "{error}")?.as_str() == text);
+}
+
+fn write_error_at(name: &str, field: usize) -> Option<WriteError> {
+    match name {
+        "Number" => Some(WriteError::Number { field }),
+        "IntegerLength" => Some(WriteError::IntegerLength { field }),
+        "ArcCount" => Some(WriteError::ArcCount { field }),
+        _ => None,
     }
-    Ok(())
+}
+
+fn write_error_of(name: &str, field: usize, number: &str) -> Option<WriteError> {
+    match name {
+        "NumberWidth" => Some(WriteError::NumberWidth {
+            field,
+            width: size(number)?,
+        }),
+        "Character" => Some(WriteError::Character {
+            field,
+            character: number.parse::<u32>().ok()?,
+        }),
+        _ => None,
+    }
+}
+
+/// `NAME NUMBER ..`: the text of a refusal to read.
+pub fn reading(alloc: Global, text: &mut String, words: &[&str]) -> Option<()> {
+    push_shown(alloc, text, read_error(words)?)
+}
+
+fn read_error(words: &[&str]) -> Option<ReadError> {
+    match words {
+        ["Memory"] => Some(ReadError::Memory),
+        [name, field] => read_error_at(name, size(field)?),
+        [name, field, number] => read_error_of(name, size(field)?, number),
+        _ => None,
+    }
+}
+
+fn read_error_at(name: &str, field: usize) -> Option<ReadError> {
+    match name {
+        "Integer" => Some(ReadError::Integer { field }),
+        "Identifier" => Some(ReadError::Identifier { field }),
+        "Arc" => Some(ReadError::Arc { field }),
+        _ => None,
+    }
+}
+
+fn read_error_of(name: &str, field: usize, number: &str) -> Option<ReadError> {
+    match name {
+        "NumberWidth" => Some(ReadError::NumberWidth {
+            field,
+            width: size(number)?,
+        }),
+        "Character" => Some(ReadError::Character {
+            field,
+            code: number.parse::<u32>().ok()?,
+        }),
+        "Short" => Some(ReadError::Short {
+            field,
+            bits: number.parse::<u128>().ok()?,
+        }),
+        "Length" => Some(ReadError::Length {
+            field,
+            octet: number.parse::<u8>().ok()?,
+        }),
+        _ => None,
+    }
 }

@@ -1,0 +1,54 @@
+//! Alphabets by words: `Ia5/97,98`, `Numeric/all`, and the aligned ones behind `!`, `Ia5!/97-116`.
+
+use crate::stores::{Store, stores_of};
+use crate::words::{append, push_number};
+use asn1_values::{
+    BmpString, CharacterAlphabet, Ia5String, NumericString, StaticPermittedAlphabet,
+};
+use std::alloc::Global;
+
+/// The alphabet that a word names.
+pub fn alphabet<'x>(word: &str, store: &'x Store) -> Option<CharacterAlphabet<'x>> {
+    let (kind, set) = word.split_once('/')?;
+    match kind {
+        "Ia5" => made::<Ia5String>(set, store, false),
+        "Ia5!" => made::<Ia5String>(set, store, true),
+        "Numeric" => made::<NumericString>(set, store, false),
+        "Bmp" => made::<BmpString>(set, store, false),
+        _ => None,
+    }
+}
+
+fn made<'x, S: StaticPermittedAlphabet>(
+    set: &str,
+    store: &'x Store,
+    aligned: bool,
+) -> Option<CharacterAlphabet<'x>> {
+    let characters = store.set.as_slice();
+    if characters.len() > 1000 {
+        return None;
+    }
+    if set == "all" {
+        return Some(CharacterAlphabet::new::<S>(None, aligned));
+    }
+    Some(CharacterAlphabet::new::<S>(Some(characters), aligned))
+}
+
+/// The width of an alphabet's codes, and whether it repeats a character: `aIa5/97,98`.
+pub fn answer(alloc: Global, text: &mut String, words: &[&str]) -> Option<()> {
+    let stores = stores_of(alloc, words)?;
+    let word = words.first()?.strip_prefix('a')?;
+    tell(alloc, text, alphabet(word, stores.first()?)?)
+}
+
+fn tell(alloc: Global, text: &mut String, alphabet: CharacterAlphabet<'_>) -> Option<()> {
+    push_number(alloc, text, alphabet.width() as u128)?;
+    crate::words::append(
+        text,
+        if alphabet.repeats() {
+            "repeats"
+        } else {
+            "once"
+        },
+    )
+}

@@ -1,0 +1,91 @@
+//! Fields that are read.
+
+use crate::fields::fields_of;
+use crate::printed::push_fields;
+use crate::shapes::shapes_of;
+use crate::stores::stores_of;
+use crate::words::{append, buffer_of, part_from, push_number, push_shown};
+use crate::writing::put;
+use asn1_values::{BitBuffer, BitReader, BitStr, Field, ReadError, Shape, read_fields};
+use std::alloc::Global;
+
+/// `OCTETS FIRST LEN SHAPE ..`: the fields or the refusal, and how many bits are left.
+pub fn read(alloc: Global, text: &mut String, words: &[&str]) -> Option<()> {
+    let [octets, first, len, shapes @ ..] = words else {
+        return None;
+    };
+    let part = part_from(alloc, octets, first, len)?;
+    read_view(alloc, text, part.view()?, shapes)
+}
+
+/// Reads fields of the shapes from the view.
+fn read_view(alloc: Global, text: &mut String, view: BitStr<'_>, words: &[&str]) -> Option<()> {
+    let stores = stores_of(alloc, words)?;
+    let shapes = shapes_of(alloc, words, stores.as_slice())?;
+    tell(alloc, text, view, shapes.as_slice())
+}
+
+fn tell(alloc: Global, text: &mut String, view: BitStr<'_>, shapes: &[Shape<'_>]) -> Option<()> {
+    let mut reader = BitReader::new(view);
+    match get(alloc, &mut reader, shapes) {
+        Ok(fields) => push_fields(alloc, text, fields.as_slice())?,
+        Err(error) => push_shown(alloc, text, error)?,
+    }
+    append(
+        text,
+        if is_back(&reader, view) {
+            "all"
+        } else {
+            "left"
+        },
+    )?;
+    push_number(alloc, text, reader.len() as u128)
+}
+
+/// Whether the reader has all bits of the view.
+fn is_back(reader: &BitReader<'_>, view: BitStr<'_>) -> bool {
+    reader.bits() == view
+}
+
+/// Reads fields of the shapes.
+fn get<'a, 's>(
+    alloc: Global,
+    reader: &mut BitReader<'a>,
+    shapes: &[Shape<'s>],
+) -> Result<Vec<Field<'a, 's>>, ReadError> {
+    read_fields(alloc, reader, shapes)
+}
+
+/// `BITS FIELD .. ; SHAPE ..`: the fields are written behind the bits, and read from there on.
+pub fn again(alloc: Global, text: &mut String, words: &[&str]) -> Option<()> {
+    let (front, rest) = words.split_first()?;
+    let at = rest.iter().position(|word| *word == ";")?;
+    let mut buffer = buffer_of(alloc, front)?;
+    let first = buffer.len();
+    write_all(alloc, &mut buffer, rest.get(..at)?)?;
+    read_back(alloc, text, &buffer, first, rest.get(at..)?)
+}
+
+fn write_all(alloc: Global, buffer: &mut BitBuffer, words: &[&str]) -> Option<()> {
+    let stores = stores_of(alloc, words)?;
+    let fields = fields_of(alloc, words, stores.as_slice())?;
+    put(buffer, fields.as_slice()).ok()
+}
+
+/// Reads the shapes behind the first word from a bit of the buffer on.
+fn read_back(
+    alloc: Global,
+    text: &mut String,
+    buffer: &BitBuffer,
+    first: usize,
+    words: &[&str],
+) -> Option<()> {
+    let (_, shapes) = words.split_first()?;
+    let len = buffer.len().checked_sub(first)?;
+    read_view(
+        alloc,
+        text,
+        BitStr::new(buffer.as_bytes(), first, len)?,
+        shapes,
+    )
+}

@@ -1,0 +1,101 @@
+//! The words of rows on fields. What cannot be read of a word, or for want of memory, is none.
+
+use asn1_test_rows::{hex_of, octets, shown};
+use asn1_values::{BitBuffer, BitStr};
+use std::alloc::Global;
+use std::fmt::Display;
+
+/// More bits than any row has.
+pub const MANY: usize = 200_000;
+
+/// Octets, and which of their bits a view is to show.
+#[derive(Drop)]
+pub struct Part {
+    pub octets: Vec<u8>,
+    pub first: usize,
+    pub len: usize,
+}
+
+impl Part {
+    /// The view that shows it, where it lies within its octets.
+    pub fn view(&self) -> Option<BitStr<'_>> {
+        BitStr::new(self.octets.as_slice(), self.first, self.len)
+    }
+}
+
+/// The part that three words spell: octets, the first bit, and how many bits.
+pub fn part_from(alloc: Global, octets: &str, first: &str, len: &str) -> Option<Part> {
+    let (first, len) = (size(first)?, size(len)?);
+    let octets = octets_of(alloc, octets)?;
+    Some(Part { octets, first, len })
+}
+
+/// The octets that a word spells in hexadecimal.
+pub fn octets_of(alloc: Global, word: &str) -> Option<Vec<u8>> {
+    octets(alloc, word).ok()
+}
+
+/// The number that a word spells in decimal.
+pub fn size(word: &str) -> Option<usize> {
+    word.parse::<usize>().ok()
+}
+
+/// The wide number that a word spells in decimal.
+pub fn wide(word: &str) -> Option<u128> {
+    word.parse::<u128>().ok()
+}
+
+/// Appends a word to a text of words.
+pub fn append(text: &mut String, word: &str) -> Option<()> {
+    if !text.is_empty() {
+        text.push(' ').ok()?;
+    }
+    text.push_str(word).ok()
+}
+
+/// Appends the text of a value.
+pub fn push_shown<T: Display + Drop>(alloc: Global, text: &mut String, value: T) -> Option<()> {
+    let word = shown(alloc, value).ok()?;
+    append(text, word.as_str())
+}
+
+/// Appends a number.
+pub fn push_number(alloc: Global, text: &mut String, number: u128) -> Option<()> {
+    push_shown(alloc, text, number)
+}
+
+/// Appends octets in hexadecimal, `-` for none.
+pub fn push_octets(alloc: Global, text: &mut String, octets: &[u8]) -> Option<()> {
+    push_labelled(alloc, text, "", octets)
+}
+
+/// Appends a label and octets in hexadecimal.
+pub fn push_labelled(alloc: Global, text: &mut String, label: &str, octets: &[u8]) -> Option<()> {
+    let digits = hex_of(alloc, octets).ok()?;
+    append(text, label)?;
+    text.push_str(digits.as_str()).ok()
+}
+
+/// Appends how many bits a buffer has, and its octets.
+pub fn push_state(alloc: Global, text: &mut String, buffer: &BitBuffer) -> Option<()> {
+    push_number(alloc, text, buffer.len() as u128)?;
+    push_octets(alloc, text, buffer.as_bytes())
+}
+
+/// A buffer of the bits that a word spells by `0` and `1`, `-` for none.
+pub fn buffer_of(alloc: Global, word: &str) -> Option<BitBuffer> {
+    let mut buffer = BitBuffer::new(alloc);
+    for digit in word.as_bytes() {
+        if *digit != b'-' {
+            push_bit(&mut buffer, *digit == b'1')?;
+        }
+    }
+    Some(buffer)
+}
+
+fn push_bit(buffer: &mut BitBuffer, bit: bool) -> Option<()> {
+    if buffer.len() > MANY {
+        return None;
+    }
+    buffer.push(bit).ok()
+}
