@@ -29,6 +29,14 @@ module _ (A : Alphabet) where
   character_starts w k c mid rest e below code parts =
       record { front = digits k w; spelled = of_code w k c e below code; parts = parts }
 
+  -- the same number of characters, and what follows them in another form
+  pub many_same : (m n : ℕ) (cs : List ℕ) (list rest after : List Bool) → m ≡ n → rest ≡ after
+      → Starts (λ ds l. SoMany (IsCharacter A) m ds l) list cs rest
+      → Starts (λ ds l. SoMany (IsCharacter A) n ds l) list cs after
+  many_same m n cs list rest after e f s =
+      subst (λ (k : ℕ). Starts (λ ds l. SoMany (IsCharacter A) k ds l) list cs after) e
+      (subst (λ (l : List Bool). Starts (λ ds r. SoMany (IsCharacter A) m ds r) list cs l) f s)
+
   -- behind the first characters comes the next one
   pub character_written : (cs : List ℕ) (i w k : ℕ) (old mid new : List Bool) → i < length cs → w ≡ A.width → k < 2 ^ w
       → IsCode A (get_or cs i 0) k → new ≡ mid ++ digits k w

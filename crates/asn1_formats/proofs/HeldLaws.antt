@@ -1,7 +1,7 @@
--- A number that is held, with digits behind it and without its first ones.
-use Rattle.std.proofs.Common.{◌≡◌, ℕ, ◌+◌, ◌-◌, ◌*◌, ◌/◌, ◌%◌, ◌^◌, ◌<◌, ◌≤◌, Bool, List, ◌++◌, sym, ap, ◌∙◌, subst, arith}
-use Rattle.std.proofs.Math.Nat.{mod-lt, mod-eq_of_lt, div-lt_iff_lt-mul, pow-le-pow_right, div-mul-le_self}
-use Rattle.std.proofs.lemmas.Nat.{pow-add, pow_pos, mul-add-lt, shr_high, div-add-mod'}
+-- A number that is held, with digits behind it, and its first digits.
+use Rattle.std.proofs.Common.{◌≡◌, ℕ, ◌+◌, ◌*◌, ◌/◌, ◌%◌, ◌^◌, ◌<◌, ◌≤◌, Bool, List, ◌++◌, sym, ap, ◌∙◌, arith}
+use Rattle.std.proofs.Math.Nat.{mod-eq_of_lt, pow-le-pow_right}
+use Rattle.std.proofs.lemmas.Nat.{pow-add, mul-add-lt, shr_high}
 use Rattle.asn1_bits.specs.Bits.{digits}
 use Rattle.asn1_bits.specs.NumberLaws.{digits-append, digits-low}
 use Rattle.asn1_bits.specs.ByteLaws.{digits-mod}
@@ -30,27 +30,7 @@ within a u c w h k room =
 pub shifted : (a u c w : ℕ) → a < 2 ^ u → c < 2 ^ w → u + w ≤ 64 → a * 2 ^ w % 2 ^ 64 ≡ a * 2 ^ w
 shifted a u c w h k room = let lt = within a u c w h k room in mod-eq_of_lt (omega arith)
 
-pub shifted_back : (n k : ℕ) → n < 2 ^ 64 → n / 2 ^ k * 2 ^ k % 2 ^ 64 ≡ n / 2 ^ k * 2 ^ k
-shifted_back n k h = let le = div-mul-le_self n (2 ^ k) in mod-eq_of_lt (omega arith)
-
--- what is left of a number without its first digits
-pub rest_is : (n k : ℕ) → n - n / 2 ^ k * 2 ^ k ≡ n % 2 ^ k
-rest_is n k = omega (arith, div-add-mod' n (2 ^ k))
-
-pub rest_below : (n k : ℕ) → n - n / 2 ^ k * 2 ^ k < 2 ^ k
-rest_below n k =
-    let some : 0 < 2 ^ k = pow_pos k in
-    let lt : n % 2 ^ k < 2 ^ k = mod-lt n some in
-    let e = rest_is n k in
-    omega arith
-
-pub first_below : (n w k : ℕ) → n < 2 ^ (w + k) → n / 2 ^ k < 2 ^ w
-first_below n w k h =
-    let some : 0 < 2 ^ k = pow_pos k in
-    (div-lt_iff_lt-mul {k = 2 ^ k} {x = n} {y = 2 ^ w} some).1 (subst (λ (m : ℕ). n < m) (pow-add 2 w k) h)
-
-pub first_digits : (n w k : ℕ) → digits n (w + k) ≡ digits (n / 2 ^ k) w ++ digits (n - n / 2 ^ k * 2 ^ k) k
+-- the first w digits of a number, of which the others are the lowest k
+pub first_digits : (n w k : ℕ) → digits n (w + k) ≡ digits (n / 2 ^ k % 2 ^ w) w ++ digits n k
 first_digits n w k =
-    digits-append n w k
-    ∙ ap (λ (l : List Bool). digits (n / 2 ^ k) w ++ l)
-    (sym (digits-mod n k) ∙ ap (λ (m : ℕ). digits m k) (sym (rest_is n k)))
+    digits-append n w k ∙ ap (λ (l : List Bool). l ++ digits n k) (sym (digits-mod (n / 2 ^ k) w))

@@ -18,6 +18,10 @@ pub(crate) struct CodedCharacters<'s> {
     // At the place of a character its code, and at the place of a code its character, or 0.
     codes: [u8; 256],
     characters: [u8; 256],
+    // How many codes at the most are read as one number.
+    block: usize,
+    ghost some: { 1 ≤ block },
+    ghost few: { block ≤ 64 },
     ghost coded: { AreCodes (alphabet_of item.alphabet) codes } by { Prim.hlevel props },
     ghost named: { AreCharacters (alphabet_of item.alphabet) characters } by { Prim.hlevel props },
 }
@@ -71,10 +75,12 @@ impl<'s> CodedCharacters<'s> {
     {
         let codes = codes_of(item.alphabet());
         let characters = characters_of(item.alphabet());
+        let width = item.alphabet().width();
         CodedCharacters {
             item,
             codes,
             characters,
+            block: if width == 0 { 64 } else { 64 / width },
         }
     }
 
@@ -86,6 +92,15 @@ impl<'s> CodedCharacters<'s> {
         ensures codes { (c k : ℕ) → IsCode (alphabet_of self.now.item.alphabet) c k → k < 2 ^ result }
     {
         self.item.alphabet().width()
+    }
+
+    /// How many codes at the most are read as one number, of 64 bits.
+    #[inline(always)]
+    pub(crate) fn block(&self) -> usize
+        ensures some { 1 ≤ result }
+        ensures few { result ≤ 64 }
+    {
+        self.block
     }
 
     /// A code of the character; None where it has none.

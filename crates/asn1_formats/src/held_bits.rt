@@ -1,6 +1,6 @@
 //! A few bits, held as a number.
 
-ghost use Rattle.std.specs.Prelude.{◌≡◌, [], ◌+◌, ◌^◌, ◌<◌, ◌≤◌, ◌++◌, OnOk, OnErr, IfOk, IfSome};
+ghost use Rattle.std.specs.Prelude.{◌≡◌, [], ◌+◌, ◌^◌, ◌<◌, ◌≤◌, ◌++◌, OnOk, OnErr, IfOk, IfSome, IsTrue};
 ghost use Rattle.asn1_bits.specs.Bits.{digits};
 ghost use Rattle.asn1_bits.specs.BitReader.{bits_left};
 ghost use Rattle.asn1_compose.specs.Spelling.{Extends};
@@ -9,8 +9,7 @@ use asn1_bits::{BitBuffer, BitReader};
 use asn1_compose::{next_number, push_number};
 use std::alloc::AllocError;
 
-/// At most 64 bits, held as the number that they are the digits of: they wait to be written, or
-/// were read ahead.
+/// At most 64 bits, held as the number that they are the digits of: they wait to be written.
 #[derive(Clone, Copy)]
 pub(crate) struct HeldBits {
     number: u64,
@@ -71,54 +70,58 @@ impl HeldBits {
     {
         push_number(buffer, self.number, self.len)
     }
+}
 
-    /// The number of the first bits, as many as the width, and the bits behind them.
-    #[inline(always)]
-    fn split(self, width: usize) -> (u64, HeldBits)
-        requires some { 1 ≤ width }
-        requires enough { width ≤ self.len }
-        ensures below { result.0 < 2 ^ width }
-        ensures digits { digits self.number self.len
-            ≡ digits result.0 width ++ digits result.1.number result.1.len }
-    {
-        let len = self.len - width;
-        let first = self.number >> len;
-        let number = self.number - (first << len);
-        (first, HeldBits { number, len })
-    }
+/// At most 64 bits that were read ahead: the lowest digits of a number. Those in front are taken
+/// without a change of the number.
+#[derive(Clone, Copy)]
+pub(crate) struct BitsAhead {
+    number: u64,
+    len: usize,
+    ghost few: { len ≤ 64 },
+}
 
-    /// The bits with the next ones of the reader behind them, as many as are there and fit.
-    fn filled(self, reader: &mut BitReader<'_>) -> HeldBits
-        ensures { digits result.number result.len ++ bits_left reader.new
-            ≡ digits self.number self.len ++ bits_left reader.old }
+impl BitsAhead {
+    /// The next bits of the reader. None where there are fewer, or more than 64 are asked for.
+    pub(crate) fn of(reader: &mut BitReader<'_>, len: usize) -> Option<BitsAhead>
+        ensures { IfSome result (λ ahead. bits_left reader.old
+            ≡ digits ahead.number ahead.len ++ bits_left reader.new) }
     {
-        if self.len > 63 {
-            return self;
-        }
-        let more = reader.len().min(63 - self.len);
-        match next_number(reader, more) {
-            Ok(number) => self.with(number, more),
-            Err(_) => unreachable!(),
-        }
-    }
-
-    /// The number of the next bits, held or else of the reader, and what is held behind them. None
-    /// where there are too few.
-    #[inline(always)]
-    pub(crate) fn next(self, reader: &mut BitReader<'_>, width: usize) -> Option<(u64, HeldBits)>
-        requires { 1 ≤ width }
-        ensures below { IfSome result (λ r. r.0 < 2 ^ width) }
-        ensures digits { IfSome result (λ r. digits self.number self.len ++ bits_left reader.old
-            ≡ digits r.0 width ++ (digits r.1.number r.1.len ++ bits_left reader.new)) }
-    {
-        let held = if self.len < width {
-            self.filled(reader)
-        } else {
-            self
-        };
-        if held.len < width {
+        if len > 64 {
             return None;
         }
-        Some(held.split(width))
+        match next_number(reader, len) {
+            Ok(number) => Some(BitsAhead { number, len }),
+            Err(_) => None,
+        }
+    }
+
+    /// The number of the first bits, as many as the width, and the bits behind them. None where
+    /// there are fewer.
+    #[inline(always)]
+    pub(crate) fn split(self, width: usize) -> Option<(u64, BitsAhead)>
+        requires some { 1 ≤ width }
+        requires narrow { width ≤ 32 }
+        ensures below { IfSome result (λ r. r.0 < 2 ^ width) }
+        ensures digits { IfSome result (λ r. digits self.number self.len
+            ≡ digits r.0 width ++ digits r.1.number r.1.len) }
+    {
+        if self.len < width {
+            return None;
+        }
+        let len = self.len - width;
+        let first = (self.number >> len) % (1 << width);
+        let number = self.number;
+        Some((first, BitsAhead { number, len }))
+    }
+
+    /// Whether there are no bits.
+    pub(crate) fn is_empty(self) -> bool
+        ensures { IsTrue result → digits self.number self.len ≡ [] }
+    {
+        if self.len > 0 {
+            return false;
+        }
+        true
     }
 }

@@ -1,6 +1,6 @@
 //! Known-multiplier character strings.
 
-ghost use Rattle.std.specs.Prelude.{◌≡◌, ◌≤◌, List, Bool, IsTrue, IfSome, IfNone};
+ghost use Rattle.std.specs.Prelude.{◌≡◌, ◌≤◌, ◌+◌, ℕ, List, Bool, IsTrue, IfSome, IfNone, OnSome, vec_len, vec_capacity};
 ghost use Rattle.asn1_bits.specs.BitReader.{bits_left};
 ghost use Rattle.asn1_strings.specs.Alphabet.{IsCode};
 ghost use Rattle.asn1_strings.specs.AlphabetView.{alphabet_of};
@@ -11,7 +11,7 @@ ghost use Rattle.asn1_formats.specs.Characters.{IsCharacter};
 
 use crate::character::{Character, CharacterFault, NotInAlphabet};
 use crate::coded_characters::CodedCharacters;
-use crate::held_bits::HeldBits;
+use crate::held_bits::{BitsAhead, HeldBits};
 use asn1_bits::{BitBuffer, BitReader};
 use asn1_compose::{
     AtItem, Counts, Format, InSequenceOf, Refusal, append_items, measure_items, skip_items, sum_of,
@@ -81,8 +81,40 @@ fn push_characters(coded: &CodedCharacters<'_>, buffer: &mut BitBuffer, characte
     }
 }
 
-/// The characters of so many codes at the front of what the reader has, several at a time. None
-/// where a code is missing or no character's, or memory is wanting.
+/// Appends the characters of so many codes, which are read as one number of at most 64 bits, to
+/// those in front of them. None where a code is missing or no character's.
+#[inline(always)]
+fn push_block(
+    coded: &CodedCharacters<'_>,
+    ahead: &mut BitReader<'_>,
+    count: usize,
+    characters: &mut Vec<u32>,
+) -> Option<()>
+    requires wide { 1 ≤ (alphabet_of coded.now.item.alphabet).width }
+    requires few { count ≤ 64 }
+    requires room { vec_len characters.old + count ≤ vec_capacity characters.old }
+    ensures read { (m : ℕ) (list : List Bool)
+        → Starts (λ ds l. SoMany (IsCharacter (alphabet_of coded.now.item.alphabet)) m ds l)
+        list characters.old.items (bits_left ahead.old)
+        → OnSome result (Starts
+        (λ ds l. SoMany (IsCharacter (alphabet_of coded.now.item.alphabet)) (m + count) ds l)
+        list characters.new.items (bits_left ahead.new)) }
+    ensures len { OnSome result (vec_len characters.new ≡ vec_len characters.old + count) }
+    ensures capacity { vec_capacity characters.new ≡ vec_capacity characters.old }
+{
+    let width = coded.width();
+    let mut held = BitsAhead::of(ahead, count * width)?;
+    for _index in 0..count {
+        let (code, behind) = held.split(width)?;
+        held = behind;
+        let character = coded.decode(code as u32)?;
+        characters.push_reserved(character);
+    }
+    if held.is_empty() { Some(()) } else { None }
+}
+
+/// The characters of so many codes at the front of what the reader has, as many at a time as 64
+/// bits hold. None where a code is missing or no character's, or memory is wanting.
 fn characters_at(
     coded: &CodedCharacters<'_>,
     alloc: Global,
@@ -94,16 +126,15 @@ fn characters_at(
         × Starts (λ ds l. SoMany (IsCharacter (alphabet_of coded.now.item.alphabet)) count ds l)
         (bits_left reader.entry) cs.items rest) }
 {
-    let width = coded.width();
+    let block = coded.block();
     let mut ahead = reader;
-    let mut held = HeldBits::none();
+    let mut done = 0;
     let mut characters = Vec::with_capacity(alloc, count).ok()?;
-    for _index in 0..count {
-        let (code, behind) = held.next(&mut ahead, width)?;
-        held = behind;
-        let character = coded.decode(code as u32)?;
-        characters.push_reserved(character);
+    while count - done > block {
+        push_block(coded, &mut ahead, block, &mut characters)?;
+        done += block;
     }
+    push_block(coded, &mut ahead, count - done, &mut characters)?;
     Some(characters)
 }
 
@@ -121,11 +152,12 @@ fn take_characters(
     ensures none { IfNone result (bits_left reader.new ≡ bits_left reader.old) }
 {
     let width = coded.width();
-    if width == 0 || count as usize > reader.len() / width {
+    let bits = (count as usize).checked_mul(width)?;
+    if width == 0 || bits > reader.len() {
         return None;
     }
     let characters = characters_at(coded, alloc, *reader, count as usize)?;
-    match reader.split(count as usize * width) {
+    match reader.split(bits) {
         Ok(_) => Some(characters),
         Err(_) => None,
     }
