@@ -1,5 +1,9 @@
 //! Why a call gave no answer.
 
+mod fields;
+
+pub use fields::{ReadError, WriteError};
+
 use core::fmt;
 
 /// Bits do not all lie in their octets, or a number or its width is too large.
@@ -106,153 +110,6 @@ pub enum AlphabetError {
     Code(u32),
     /// The permitted set has more than 2 to the power of 32 characters.
     Set,
-}
-
-/// Why fields were not read. Fields are counted from 0, and the first wrong one is named.
-///
-/// ```
-/// let short = asn1_values::ReadError::Short { field: 1, bits: 4 };
-/// assert_eq!(short.to_string(), "field 1: 4 bits short");
-/// ```
-#[derive(Clone, Copy, Debug, PartialEq, Eq, Hash)]
-#[non_exhaustive]
-pub enum ReadError {
-    /// The position is past the octets' bits.
-    Outside,
-    /// The octets have more bits than a position can count.
-    TooManyOctets,
-    /// A number of more than 128 bits.
-    NumberWidth {
-        /// Which field.
-        field: usize,
-        /// How many bits were asked for.
-        width: usize,
-    },
-    /// Octets that are not the shortest of a number (X.690 8.3.2), or none.
-    Integer {
-        /// Which field.
-        field: usize,
-    },
-    /// A counted integer whose first octet is not 1 to 127.
-    OctetCount {
-        /// Which field.
-        field: usize,
-        /// The octet.
-        octet: u8,
-    },
-    /// A number that is the code of no character of the alphabet.
-    Character {
-        /// Which field.
-        field: usize,
-        /// The number.
-        code: u32,
-    },
-    /// Octets that are the contents of no identifier, however large its arcs, or none.
-    Identifier {
-        /// Which field.
-        field: usize,
-    },
-    /// The contents of an identifier, one of whose arcs passes 32 bits.
-    Arc {
-        /// Which field.
-        field: usize,
-    },
-    /// By how many bits the octets are short of the field.
-    Short {
-        /// Which field.
-        field: usize,
-        /// How many bits are missing.
-        bits: u128,
-    },
-}
-
-/// Why fields were not written. Fields are counted from 0, and the first wrong one is named.
-///
-/// ```
-/// assert_eq!(asn1_values::WriteError::Room.to_string(), "the room is too small");
-/// ```
-#[derive(Clone, Copy, Debug, PartialEq, Eq, Hash)]
-#[non_exhaustive]
-pub enum WriteError {
-    /// A number of more than 128 bits.
-    NumberWidth {
-        /// Which field.
-        field: usize,
-        /// How many bits were asked for.
-        width: usize,
-    },
-    /// A number that is not below 2 to the power of its width.
-    Number {
-        /// Which field.
-        field: usize,
-    },
-    /// The bits of octets are not whole octets.
-    Length {
-        /// Which field.
-        field: usize,
-    },
-    /// A character that the alphabet has no code for.
-    Character {
-        /// Which field.
-        field: usize,
-        /// The character.
-        character: u32,
-    },
-    /// A counted integer of more than 127 octets.
-    OctetCount {
-        /// Which field.
-        field: usize,
-    },
-    /// Every field fits, and the room does not have so many bits from the position on.
-    Room,
-}
-
-impl fmt::Display for ReadError {
-    fn fmt(&self, f: &mut fmt::Formatter<'_>) -> fmt::Result {
-        match self {
-            ReadError::Outside => f.write_str("the position is past the octets"),
-            ReadError::TooManyOctets => f.write_str("too many octets"),
-            ReadError::NumberWidth { field, width } => {
-                write!(f, "field {field}: width {width} is over 128")
-            }
-            ReadError::Integer { field } => write!(f, "field {field}: not a shortest integer"),
-            ReadError::OctetCount { field, octet } => {
-                write!(f, "field {field}: length octet {octet} is not 1 to 127")
-            }
-            ReadError::Character { field, code } => {
-                write!(f, "field {field}: code {code} is no character")
-            }
-            ReadError::Identifier { field } => {
-                write!(f, "field {field}: not the contents of an identifier")
-            }
-            ReadError::Arc { field } => write!(f, "field {field}: an arc is past 32 bits"),
-            ReadError::Short { field, bits } => write!(f, "field {field}: {bits} bits short"),
-        }
-    }
-}
-
-impl fmt::Display for WriteError {
-    fn fmt(&self, f: &mut fmt::Formatter<'_>) -> fmt::Result {
-        match self {
-            WriteError::NumberWidth { field, width } => {
-                write!(f, "field {field}: width {width} is over 128")
-            }
-            WriteError::Number { field } => {
-                write!(f, "field {field}: the number does not fit its width")
-            }
-            WriteError::Length { field } => write!(f, "field {field}: not whole octets"),
-            WriteError::Character { field, character } => {
-                write!(
-                    f,
-                    "field {field}: character {character} is not in the alphabet"
-                )
-            }
-            WriteError::OctetCount { field } => {
-                write!(f, "field {field}: the integer is longer than 127 octets")
-            }
-            WriteError::Room => f.write_str("the room is too small"),
-        }
-    }
 }
 
 impl fmt::Display for BitsError {
@@ -393,8 +250,6 @@ impl fmt::Display for DerError {
 }
 
 impl core::error::Error for DerError {}
-impl core::error::Error for ReadError {}
-impl core::error::Error for WriteError {}
 impl core::error::Error for BitsError {}
 impl core::error::Error for IntegerError {}
 impl core::error::Error for IdentifierError {}
