@@ -1,0 +1,95 @@
+"""Where functions stand in the text of a source file, as `rt fmt` lays it out."""
+
+import re
+
+# A function or a constant of an `impl` or a trait, which a check names as functions.
+HEAD = r'^( *)(?:pub(?:\([^)]*\))? )?(?:final )?(?:(?:const )?(?:unsafe )?(?:extern "C" )?fn (\w+)|(?<=    )const (\w+):)'
+BLOCK = r"^(?:unsafe )?impl(?:<[^{]*?>)? ([^{]*?)\s*(?:\n\s*where[^{]*)?\{|^(?:pub )?trait (\w+)"
+# The first word of a line between a function's head and its body.
+CLAUSE = r" *(requires|ensures|ghost|where)\b"
+# A body of any type, which says nothing.
+NO_BODY = "{ loop {} }"
+
+
+class Unfit(Exception):
+    """Why an edit cannot be tried."""
+
+
+def place_of(text, file, old):
+    """Where the text stands: module, type, trait and name of the function around it. None outside every function."""
+    at = text.find(old)
+    heads = list(re.finditer(HEAD, text[: at + len(old)], re.M))
+    if not heads:
+        return None
+    end = rf"^{heads[-1][1]}\}}$" if heads[-1][2] else r";$"
+    if re.search(end, text[heads[-1].start() : at], re.M):
+        return None
+    return place_at(text, file, heads[-1])
+
+
+def place_at(text, file, head):
+    """The place of the function or the constant with this head."""
+    blocks = re.findall(BLOCK, text[: head.start()], re.M) if head[1] else []
+    trait, _, of = (blocks[-1][0] or blocks[-1][1] if blocks else "").rpartition(" for ")
+    module = re.sub(r"^src/|\.rt$", "", file).replace("/", "::")
+    return "" if module in ("lib", "main") else f"{module}::", of, trait, head[2] or head[3]
+
+
+def without_parameters(path):
+    """The last name of a type's or a trait's path."""
+    return capitals(re.sub(r"<.*", "", path.strip(), flags=re.S).split("::")[-1])
+
+
+def capitals(path):
+    """A type or a trait as a check writes it within a name: `From<u8>` is FromU8, `&[u8]` is RefSliceU8."""
+    words = path.replace("&", " ref ").replace("[", " slice ")
+    return "".join(it[0].upper() + it[1:] for it in re.findall(r"\w+", words))
+
+
+def names_of(place):
+    """The names by which a check may print the function of this place."""
+    module, of, trait, name = place
+    own = without_parameters(of)
+    return {f"{module}{own}{it}::{name}" if of else f"{module}{name}" for it in (without_parameters(trait), capitals(trait))}
+
+
+def function_at(place, known):
+    """The function of this place, by the name that a check prints."""
+    module, of, _, name = place
+    own = without_parameters(of)
+    likely = [names_of(place), {it for it in known if it.startswith(module) and it.endswith(f"::{name}")}]
+    likely += [{it for it in known if of and re.search(rf"::{own}(\+\w+)?::{name}$", it)}]
+    for names in likely:
+        if len(names & known) == 1:
+            return [*names & known][0]
+    raise Unfit("its function is not plain from its place: name it in a line `function:`")
+
+
+def body_of(text, head):
+    """From where to where the body of the function with this head goes, its braces with it. None where it has none."""
+    indent, at, has_clauses = head[1], head.start(), False
+    for line in text[at:].splitlines():
+        has_clauses = has_clauses or bool(re.match(CLAUSE, line) and at > head.start())
+        opens = re.search(r"\{(\})?$", line)
+        if opens and (line[: opens.start()] == indent or not has_clauses):
+            begin = at + opens.start()
+            end = re.compile(rf"^{indent}\}}$", re.M).search(text, begin)
+            return (begin, begin + 2) if opens[1] else (begin, end.end()) if end else None
+        if line.endswith(";"):
+            return None
+        at += len(line) + 1
+    return None
+
+
+def without_bodies(text, file, left_out, kept):
+    """The text without the bodies of functions of these names. Those at a kept place keep theirs, and so does what the
+    compiler may run or has to read: a `const fn`, and one that returns an `impl`."""
+    parts, last = [], 0
+    for head in re.finditer(HEAD, text, re.M):
+        place = place_at(text, file, head)
+        body = head[2] and place not in kept and names_of(place) & left_out and body_of(text, head)
+        if not body or body[0] < last or "const fn" in head[0] or "-> impl" in text[head.start() : body[0]]:
+            continue
+        parts += [text[last : body[0]], NO_BODY]
+        last = body[1]
+    return "".join([*parts, text[last:]])
