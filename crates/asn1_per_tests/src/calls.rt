@@ -80,16 +80,33 @@ pub(crate) fn is_found<F: Format>(
     alloc: Global,
     octets: &[u8],
     start: usize,
-    value: F::Value,
+    value: &F::Value,
     left: usize,
 ) -> bool
 where
     F::Value: PartialEq,
 {
     match found(format, alloc, octets, start) {
-        Ok((read, bits)) => read == value && bits == left,
+        Ok((read, bits)) => read == *value && bits == left,
         Err(_) => false,
     }
+}
+
+/// Whether the value is written behind three ones as these bits, so many in all, and found there
+/// again with so many bits left.
+pub(crate) fn has_form<F: Format>(
+    format: &F,
+    alloc: Global,
+    value: &F::Value,
+    octets: &[u8],
+    bits: usize,
+    left: usize,
+) -> bool
+where
+    F::Value: PartialEq,
+{
+    is_written(format, alloc, value, octets, bits)
+        && is_found(format, alloc, octets, 3, value, left)
 }
 
 /// Whether what follows the first `start` bits is refused for this fault.
@@ -107,4 +124,22 @@ where
         Err(Refusal::Wrong(found)) => found == fault,
         _ => false,
     }
+}
+
+/// Whether each of the octets is refused for the fault beside it, behind the first three bits.
+pub(crate) fn are_refused<F: Format>(format: &F, alloc: Global, rows: &[(&[u8], F::Fault)]) -> bool
+where
+    F::Fault: PartialEq,
+{
+    for row in rows {
+        match found(format, alloc, row.0, 3) {
+            Err(Refusal::Wrong(found)) => {
+                if found != row.1 {
+                    return false;
+                }
+            }
+            _ => return false,
+        }
+    }
+    true
 }

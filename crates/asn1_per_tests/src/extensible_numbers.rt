@@ -1,11 +1,10 @@
 //! INTEGER with bounds and an extension marker: bits worked by hand behind three ones.
 
-use super::calls::{found, is_refused, written};
+use super::calls::{is_found, is_refused, is_written};
 use asn1_formats::ConstrainedNumber;
 use asn1_per::{BeyondNumberFault, ExtensibleNumber, InExtensible};
 use asn1_values::Integer;
 use std::alloc::Global;
-use std::test::Fail;
 
 /// INTEGER (0..9999, ...)
 fn number() -> ExtensibleNumber {
@@ -14,51 +13,52 @@ fn number() -> ExtensibleNumber {
     }
 }
 
-/// Whether the number is written as these bits behind three ones.
-fn is_written(alloc: Global, value: i32, len: usize, octets: &[u8]) -> bool {
-    match written(&number(), alloc, &Integer::from(value)) {
-        Ok(buffer) => buffer.len() == len && buffer.as_bytes() == octets,
-        Err(_) => false,
-    }
+/// Whether the number is written as the first octets behind three ones, so many bits in all, and
+/// read from the others with so many bits left.
+fn number_has_form(
+    alloc: Global,
+    value: i32,
+    (octets, bits): (&[u8], usize),
+    (others, left): (&[u8], usize),
+) -> bool {
+    let value = Integer::from(value);
+    is_written(&number(), alloc, &value, octets, bits)
+        && is_found(&number(), alloc, others, 3, &value, left)
 }
 
 #[test]
 fn numbers_of_the_root_and_others_have_their_forms(rt: HostRuntime) {
-    // 111 | 0 | 00000000110011
-    assert!(rt; is_written(rt.alloc(), 51, 18, &[0xE0, 0x0C, 0xC0]));
-    // 111 | 1 | 00000001 11111111
-    assert!(rt; is_written(rt.alloc(), -1, 20, &[0xF0, 0x1F, 0xF0]));
-    // 111 | 1 | 00000010 00100111 00010000
-    assert!(rt; is_written(rt.alloc(), 10000, 28, &[0xF0, 0x22, 0x71, 0x00]));
-}
-
-#[test]
-fn numbers_are_read_from_their_forms(rt: HostRuntime) -> Result<(), Fail> {
     let rows = [
-        (51, [0xE0, 0x0C, 0xC0, 0], 14),
-        (-1, [0xF0, 0x1F, 0xF0, 0], 12),
-        (10000, [0xF0, 0x22, 0x71, 0x00], 4),
+        // 111 | 0 | 00000000110011
+        (
+            51,
+            ([0xE0, 0x0C, 0xC0].as_slice(), 18),
+            ([0xE0, 0x0C, 0xC0, 0].as_slice(), 14),
+        ),
+        // 111 | 1 | 00000001 11111111
+        (
+            -1,
+            ([0xF0, 0x1F, 0xF0].as_slice(), 20),
+            ([0xF0, 0x1F, 0xF0, 0].as_slice(), 12),
+        ),
+        // 111 | 1 | 00000010 00100111 00010000
+        (
+            10000,
+            ([0xF0, 0x22, 0x71, 0x00].as_slice(), 28),
+            ([0xF0, 0x22, 0x71, 0x00].as_slice(), 4),
+        ),
     ];
-    for (value, octets, rest) in rows {
-        let (read, left) = found(&number(), rt.alloc(), &octets, 3)?;
-        assert!(rt; read.to_i128() == Some(value));
-        assert!(rt; left == rest);
+    for (value, form, behind) in rows {
+        assert!(rt; number_has_form(rt.alloc(), value, form, behind));
     }
-    Ok(())
 }
 
 #[test]
-fn a_number_of_the_root_behind_a_one_is_refused(rt: HostRuntime) -> Result<(), Fail> {
+fn a_number_of_the_root_behind_a_one_is_refused(rt: HostRuntime) {
     // 111 | 1 | 00000001 00110011
+    let in_root = InExtensible::Extension(BeyondNumberFault::InRoot);
     assert!(rt;
-        is_refused(
-            &number(),
-            rt.alloc(),
-            &[0xF0, 0x13, 0x30],
-            3,
-            InExtensible::Extension(BeyondNumberFault::InRoot)
-        )
+        is_refused(&number(), rt.alloc(), &[0xF0, 0x13, 0x30], 3, in_root)
+            && is_refused(&number(), rt.alloc(), &[0xFF], 8, InExtensible::Marker)
     );
-    assert!(rt; is_refused(&number(), rt.alloc(), &[0xFF], 8, InExtensible::Marker));
-    Ok(())
 }

@@ -1,14 +1,15 @@
 //! Lists, octets, bits and characters of any number: octets worked by hand behind three ones, and
 //! octets alone.
 
-use super::calls::{found, is_misfit, is_refused, is_written, written};
-use asn1_formats::{Boolean, Character, NoBit, Null, Number, PastWidth, Refusal, Short};
+use super::calls::{are_refused, has_form, is_misfit, is_refused, is_written};
+use asn1_formats::{Boolean, Character, Format, NoBit, Null, Number, PastWidth, Short};
 use asn1_per::{
     InFragments, PieceFault, UnconstrainedBitString, UnconstrainedOctetString,
     UnconstrainedSequenceOf, WrongItem,
 };
 use asn1_values::{BitString, CharacterAlphabet, NumericString};
 use std::alloc::{AllocError, Global};
+use std::fmt::Display;
 use std::test::Fail;
 
 /// The value so many times.
@@ -20,89 +21,107 @@ fn repeated<T: Copy>(alloc: Global, value: T, count: usize) -> Result<Vec<T>, Al
     Ok(values)
 }
 
-/// What is wrong with the octets as a list of NULL, whose items have no bits.
-fn wrong_nulls(alloc: Global, octets: &[u8]) -> Option<(u128, PieceFault)> {
-    let format = UnconstrainedSequenceOf { item: Null {} };
-    match found(&format, alloc, octets, 0) {
-        Err(Refusal::Wrong(InFragments::Size { index, wrong })) => Some((index, wrong)),
-        _ => None,
+/// The octet so many times, but for these octets at their places.
+fn octets_but(
+    alloc: Global,
+    octet: u8,
+    count: usize,
+    others: &[(usize, u8)],
+) -> Result<Vec<u8>, AllocError> {
+    let mut octets = repeated(alloc, octet, count)?;
+    for other in others {
+        if other.0 < octets.len() {
+            octets[other.0] = other.1;
+        }
+    }
+    Ok(octets)
+}
+
+/// Whether a list of the value so many times has this form, so many bits in all, with so many bits
+/// left.
+fn items_have_form<A: Format>(
+    item: A,
+    alloc: Global,
+    value: A::Value,
+    count: usize,
+    octets: &[u8],
+    bits: usize,
+    left: usize,
+) -> bool
+where
+    A: Drop,
+    A::Value: Copy + PartialEq,
+{
+    let format = UnconstrainedSequenceOf { item };
+    match repeated(alloc, value, count) {
+        Ok(values) => has_form(&format, alloc, &values, octets, bits, left),
+        Err(_) => false,
     }
 }
 
 #[test]
 fn a_fragment_stands_before_the_last_items(rt: HostRuntime) -> Result<(), Fail> {
-    let format = UnconstrainedSequenceOf { item: Boolean {} };
-    let values = repeated(rt.alloc(), true, 16387)?;
     // 111 | 11000001 | 16,384 ones | 00000011 | 111
-    let buffer = written(&format, rt.alloc(), &values)?;
-    assert!(rt; buffer.len() == 16406);
-    let octets = buffer.as_bytes();
-    let mut expected = repeated(rt.alloc(), 0xFF, 2051)?;
-    for (place, octet) in [(0, 0xF8), (1, 0x3F), (2049, 0xE0), (2050, 0x7C)] {
-        if place < expected.len() {
-            expected[place] = octet;
-        }
-    }
-    assert!(rt; octets == expected.as_slice());
-    let (read, left) = found(&format, rt.alloc(), octets, 3)?;
-    assert!(rt; (read.as_slice(), left) == (values.as_slice(), 2));
+    let heads = [(0, 0xF8), (1, 0x3F), (2049, 0xE0), (2050, 0x7C)];
+    let octets = octets_but(rt.alloc(), 0xFF, 2051, &heads)?;
+    assert!(rt;
+        items_have_form(
+            Boolean {},
+            rt.alloc(),
+            true,
+            16387,
+            octets.as_slice(),
+            16406,
+            2
+        )
+    );
     Ok(())
 }
 
 #[test]
 fn items_that_are_missing_are_counted_from_the_first(rt: HostRuntime) -> Result<(), Fail> {
-    let format = UnconstrainedSequenceOf { item: Boolean {} };
     // 111 | 11000001 | 16,384 ones | 11111: three bits of the number of items are missing.
-    let mut octets = repeated(rt.alloc(), 0xFF, 2050)?;
-    if octets.len() > 1 {
-        octets[0] = 0xF8;
-        octets[1] = 0x3F;
-    }
-    assert!(rt;
-        is_refused(
-            &format,
-            rt.alloc(),
-            octets.as_slice(),
-            3,
-            InFragments::Size {
-                index: 16384,
-                wrong: PieceFault::Short { missing: 3 }
-            }
-        )
-    );
+    let octets = octets_but(rt.alloc(), 0xFF, 2050, &[(0, 0xF8), (1, 0x3F)])?;
+    let size = InFragments::Size {
+        index: 16384,
+        wrong: PieceFault::Short { missing: 3 },
+    };
     // 11000001 | 11111111
+    let item = InFragments::Item {
+        index: 8,
+        wrong: NoBit {},
+    };
+    let format = UnconstrainedSequenceOf { item: Boolean {} };
     assert!(rt;
-        is_refused(
-            &format,
-            rt.alloc(),
-            &[0xC1, 0xFF],
-            0,
-            InFragments::Item {
-                index: 8,
-                wrong: NoBit {}
-            }
-        )
+        is_refused(&format, rt.alloc(), octets.as_slice(), 3, size)
+            && is_refused(&format, rt.alloc(), &[0xC1, 0xFF], 0, item)
     );
     Ok(())
 }
 
 #[test]
-fn each_fragment_is_the_largest_that_fits(rt: HostRuntime) -> Result<(), Fail> {
-    // 65,536 + 65,536 + 32,768 + 200 items without bits, behind 111.
-    let format = UnconstrainedSequenceOf { item: Null {} };
-    let values = repeated(rt.alloc(), (), 164040)?;
-    let buffer = written(&format, rt.alloc(), &values)?;
+fn each_fragment_is_the_largest_that_fits(rt: HostRuntime) {
+    // 65,536 + 65,536 + 32,768 + 200 items without bits, behind 111:
     // 111 | 11000100 | 11000100 | 11000010 | 10000000 11001000
-    assert!(rt;
-        (buffer.len(), buffer.as_bytes()) == (43, [0xF8, 0x98, 0x98, 0x50, 0x19, 0x00].as_slice())
-    );
-    let (read, left) = found(&format, rt.alloc(), buffer.as_bytes(), 3)?;
-    assert!(rt; (read.len(), left) == (164040, 5));
-    Ok(())
+    let octets = [0xF8, 0x98, 0x98, 0x50, 0x19, 0x00];
+    assert!(rt; items_have_form(Null {}, rt.alloc(), (), 164040, &octets, 43, 5));
+}
+
+/// Whether the octets are refused as a list of NULL, whose items have no bits, for the piece that
+/// begins with this item.
+fn is_wrong_from(alloc: Global, octets: &[u8], index: u128, wrong: PieceFault) -> bool {
+    let format = UnconstrainedSequenceOf { item: Null {} };
+    is_refused(
+        &format,
+        alloc,
+        octets,
+        0,
+        InFragments::Size { index, wrong },
+    )
 }
 
 #[test]
-fn pieces_in_another_order_are_refused(rt: HostRuntime) -> Result<(), Fail> {
+fn pieces_in_another_order_are_refused(rt: HostRuntime) {
     let rows = [
         (
             [0xC1, 0xC4, 0x00].as_slice(),
@@ -126,44 +145,46 @@ fn pieces_in_another_order_are_refused(rt: HostRuntime) -> Result<(), Fail> {
         ),
         ([0xC4].as_slice(), (65536, PieceFault::Short { missing: 8 })),
     ];
-    for (octets, wrong) in rows {
-        assert!(rt; wrong_nulls(rt.alloc(), octets) == Some(wrong));
+    for (octets, (index, wrong)) in rows {
+        assert!(rt; is_wrong_from(rt.alloc(), octets, index, wrong));
     }
-    Ok(())
 }
 
 #[test]
 fn an_item_that_does_not_fit_is_named(rt: HostRuntime) -> Result<(), Fail> {
-    let format = UnconstrainedSequenceOf {
-        item: Number::new(1),
-    };
     let mut values = repeated(rt.alloc(), 1, 16386)?;
     if values.len() > 16385 {
         values[16385] = 2;
     }
-    assert!(rt;
-        is_misfit(
-            &format,
-            rt.alloc(),
-            &values,
-            WrongItem {
-                index: 16385,
-                wrong: PastWidth {}
-            }
-        )
-    );
+    let format = UnconstrainedSequenceOf {
+        item: Number::new(1),
+    };
+    let misfit = WrongItem {
+        index: 16385,
+        wrong: PastWidth {},
+    };
+    assert!(rt; is_misfit(&format, rt.alloc(), &values, misfit));
     Ok(())
+}
+
+/// Whether so many octets FF have this form, so many bits in all, with so many bits left.
+fn octets_have_form(alloc: Global, count: usize, form: &[u8], bits: usize, left: usize) -> bool {
+    match repeated(alloc, 0xFF, count) {
+        Ok(octets) => has_form(
+            &UnconstrainedOctetString {},
+            alloc,
+            &octets,
+            form,
+            bits,
+            left,
+        ),
+        Err(_) => false,
+    }
 }
 
 #[test]
 fn octets_stand_in_fragments(rt: HostRuntime) -> Result<(), Fail> {
-    let format = UnconstrainedOctetString {};
     // 111 | 11000100 | 65,536 octets FF | 11000001 | 16,384 octets FF | 00000001 | 11111111
-    let values = repeated(rt.alloc(), 0xFF, 81921)?;
-    let buffer = written(&format, rt.alloc(), &values)?;
-    assert!(rt; buffer.len() == 655395);
-    let octets = buffer.as_bytes();
-    let mut expected = repeated(rt.alloc(), 0xFF, 81925)?;
     // 111 11000 | 100 11111, then 111 11000 | 001 11111, and 111 00000 | 001 11111 | 111
     let heads = [
         (0, 0xF8),
@@ -174,33 +195,20 @@ fn octets_stand_in_fragments(rt: HostRuntime) -> Result<(), Fail> {
         (81923, 0x3F),
         (81924, 0xE0),
     ];
-    for (place, octet) in heads {
-        if place < expected.len() {
-            expected[place] = octet;
-        }
-    }
-    assert!(rt; octets == expected.as_slice());
-    let (read, left) = found(&format, rt.alloc(), octets, 3)?;
-    assert!(rt; (read.as_slice(), left) == (values.as_slice(), 5));
+    let form = octets_but(rt.alloc(), 0xFF, 81925, &heads)?;
+    assert!(rt; octets_have_form(rt.alloc(), 81921, form.as_slice(), 655395, 5));
     Ok(())
 }
 
 #[test]
-fn octets_that_are_missing_are_named(rt: HostRuntime) -> Result<(), Fail> {
+fn octets_that_are_missing_are_named(rt: HostRuntime) {
     let format = UnconstrainedOctetString {};
     // 111 | 11000001 | 00000000 | 00000
-    assert!(rt;
-        is_refused(
-            &format,
-            rt.alloc(),
-            &[0xF8, 0x20, 0x00],
-            3,
-            InFragments::Item {
-                index: 1,
-                wrong: Short { missing: 3 }
-            }
-        )
-    );
+    let missing = InFragments::Item {
+        index: 1,
+        wrong: Short { missing: 3 },
+    };
+    assert!(rt; is_refused(&format, rt.alloc(), &[0xF8, 0x20, 0x00], 3, missing));
     // 111 | 00000000, and no fragment
     assert!(rt;
         is_written(
@@ -211,47 +219,46 @@ fn octets_that_are_missing_are_named(rt: HostRuntime) -> Result<(), Fail> {
             11
         )
     );
-    Ok(())
+}
+
+/// Whether eight times so many ones have this form, so many bits in all, with so many bits left.
+fn bits_have_form(alloc: Global, count: usize, form: &[u8], bits: usize, left: usize) -> bool {
+    match repeated(alloc, 0xFF, count) {
+        Ok(octets) => {
+            if octets.len() > 2049 {
+                return false;
+            }
+            let value = BitString::from_vec(octets);
+            has_form(&UnconstrainedBitString {}, alloc, &value, form, bits, left)
+        }
+        Err(_) => false,
+    }
 }
 
 #[test]
 fn bits_stand_in_fragments(rt: HostRuntime) -> Result<(), Fail> {
-    let format = UnconstrainedBitString {};
-    let octets = repeated(rt.alloc(), 0xFF, 2049)?;
-    if octets.len() > 2049 {
-        return Ok(());
-    }
-    let value = BitString::from_vec(octets);
     // 111 | 11000001 | 16,384 ones | 00001000 | 11111111
-    let buffer = written(&format, rt.alloc(), &value)?;
-    assert!(rt; buffer.len() == 16411);
-    let mut expected = repeated(rt.alloc(), 0xFF, 2052)?;
-    for (place, octet) in [
+    let heads = [
         (0, 0xF8),
         (1, 0x3F),
         (2049, 0xE1),
         (2050, 0x1F),
         (2051, 0xE0),
-    ] {
-        if place < expected.len() {
-            expected[place] = octet;
-        }
-    }
-    assert!(rt; buffer.as_bytes() == expected.as_slice());
-    let (read, left) = found(&format, rt.alloc(), buffer.as_bytes(), 3)?;
-    assert!(rt; (read.len(), left) == (16392, 5));
-    assert!(rt; read.as_raw_slice() == value.as_raw_slice());
+    ];
+    let form = octets_but(rt.alloc(), 0xFF, 2052, &heads)?;
+    assert!(rt; bits_have_form(rt.alloc(), 2049, form.as_slice(), 16411, 5));
     // 111 | 11000001 | 00000
+    let missing = InFragments::Item {
+        index: 5,
+        wrong: NoBit {},
+    };
     assert!(rt;
         is_refused(
-            &format,
+            &UnconstrainedBitString {},
             rt.alloc(),
             &[0xF8, 0x20],
             3,
-            InFragments::Item {
-                index: 5,
-                wrong: NoBit {}
-            }
+            missing
         )
     );
     Ok(())
@@ -262,46 +269,50 @@ fn characters_stand_in_fragments(rt: HostRuntime) -> Result<(), Fail> {
     let digits = [48, 49, 50, 51, 52, 53, 54, 55, 56, 57];
     let alphabet = CharacterAlphabet::new::<NumericString>(Some(&digits), false);
     let item = Character::new(alphabet).ok_or("no digit stands twice")?;
-    let format = UnconstrainedSequenceOf { item };
-    let values = repeated(rt.alloc(), 55, 16385)?;
     // 111 | 11000001 | 16,384 times 0111 | 00000001 | 0111
-    let buffer = written(&format, rt.alloc(), &values)?;
-    assert!(rt; buffer.len() == 65559);
-    let mut expected = repeated(rt.alloc(), 0xEE, 8195)?;
-    for (place, octet) in [(0, 0xF8), (1, 0x2E), (8193, 0xE0), (8194, 0x2E)] {
-        if place < expected.len() {
-            expected[place] = octet;
-        }
-    }
-    assert!(rt; buffer.as_bytes() == expected.as_slice());
-    let (read, left) = found(&format, rt.alloc(), buffer.as_bytes(), 3)?;
-    assert!(rt; (read.as_slice(), left) == (values.as_slice(), 1));
+    let heads = [(0, 0xF8), (1, 0x2E), (8193, 0xE0), (8194, 0x2E)];
+    let octets = octets_but(rt.alloc(), 0xEE, 8195, &heads)?;
+    assert!(rt; items_have_form(item, rt.alloc(), 55, 16385, octets.as_slice(), 65559, 1));
     Ok(())
 }
 
+/// Whether the value's words are these.
+fn reads<T: Display>(alloc: Global, value: &T, words: &str) -> bool {
+    match format!(in alloc; "{value}") {
+        Ok(text) => text.as_str() == words,
+        Err(_) => false,
+    }
+}
+
 #[test]
-fn what_is_wrong_is_said_in_words(rt: HostRuntime) -> Result<(), Fail> {
+fn what_is_wrong_is_said_in_words(rt: HostRuntime) {
     let format = UnconstrainedSequenceOf { item: Boolean {} };
-    assert!(rt; format!(in rt.alloc(); "{format}")?.as_str() == "SEQUENCE OF BOOLEAN");
+    assert!(rt; reads(rt.alloc(), &format, "SEQUENCE OF BOOLEAN"));
     let item: InFragments<NoBit> = InFragments::Item {
         index: 16390,
         wrong: NoBit {},
     };
-    assert!(rt; format!(in rt.alloc(); "{item}")?.as_str() == "item 16390: a bit is missing");
+    assert!(rt; reads(rt.alloc(), &item, "item 16390: a bit is missing"));
     let size: InFragments<NoBit> = InFragments::Size {
         index: 16384,
         wrong: PieceFault::Fragment { times: 4 },
     };
     assert!(rt;
-        format!(in rt.alloc(); "{size}")?.as_str()
-            == "number of items from item 16384 on: a fragment of 4 times 16384 may not stand here"
+        reads(
+            rt.alloc(),
+            &size,
+            "number of items from item 16384 on: a fragment of 4 times 16384 may not stand here"
+        )
     );
     let value = WrongItem {
         index: 7,
         wrong: PastWidth {},
     };
     assert!(rt;
-        format!(in rt.alloc(); "{value}")?.as_str() == "item 7: the number does not fit its bits"
+        reads(
+            rt.alloc(),
+            &value,
+            "item 7: the number does not fit its bits"
+        )
     );
-    Ok(())
 }
