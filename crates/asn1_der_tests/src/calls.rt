@@ -1,8 +1,11 @@
-//! The calls without their contracts, so that a test's proof does not carry them.
+//! The calls without their contracts, so that a test's proof does not carry them. They answer with
+//! a truth value, and most name the contents alone, not the element: both make a test's proof
+//! short.
 
-use asn1_der::{Class, Sequence, Tag, Tlv};
-use asn1_formats::{Format, Refusal, WriteRefusal, read, write};
-use asn1_values::{BitBuffer, BitReader};
+use asn1_bits::{BitBuffer, BitReader};
+use asn1_compose::{Format, Refusal, WriteRefusal, read, write};
+use asn1_der::{Class, Contents, InTlv, Sequence, Tag, Tlv, TlvMisfit};
+use asn1_number::Integer;
 use std::alloc::Global;
 
 /// A tag of X.680.
@@ -27,8 +30,13 @@ pub(crate) fn sequence<E>(elements: E) -> Tlv<Sequence<E>> {
     element(16, true, Sequence { elements })
 }
 
+/// Whether the integer is this number.
+pub(crate) fn is_number(value: &Integer, number: i128) -> bool {
+    value.to_i128() == Some(number)
+}
+
 /// The octets of the value.
-pub(crate) fn written<F: Format>(
+fn written<F: Format>(
     format: &F,
     alloc: Global,
     value: &F::Value,
@@ -44,7 +52,7 @@ pub(crate) fn written<F: Format>(
 }
 
 /// The value that the octets are, where no octet is left behind it.
-pub(crate) fn found<F: Format>(
+fn found<F: Format>(
     format: &F,
     alloc: Global,
     octets: &[u8],
@@ -64,63 +72,135 @@ pub(crate) fn found<F: Format>(
     }
 }
 
-/// Whether the value is written as these octets.
-pub(crate) fn is_written<F: Format>(
-    format: &F,
-    alloc: Global,
-    value: &F::Value,
-    octets: &[u8],
-) -> bool {
+/// The octets of the value, if it has some.
+pub(crate) fn octets_of<F: Format>(format: &F, alloc: Global, value: &F::Value) -> Option<Vec<u8>> {
     match written(format, alloc, value) {
-        Ok(found) => found.as_slice() == octets,
-        Err(_) => false,
+        Ok(octets) => Some(octets),
+        Err(_) => None,
     }
 }
 
-/// Whether the value is refused for this misfit.
-pub(crate) fn is_misfit<F: Format>(
+/// The value of the octets, if they have one.
+pub(crate) fn value_of<F: Format>(format: &F, alloc: Global, octets: &[u8]) -> Option<F::Value> {
+    match found(format, alloc, octets) {
+        Ok(value) => Some(value),
+        Err(_) => None,
+    }
+}
+
+/// What is wrong with the octets, if something is.
+pub(crate) fn fault_of<F: Format>(format: &F, alloc: Global, octets: &[u8]) -> Option<F::Fault> {
+    match found(format, alloc, octets) {
+        Err(Refusal::Wrong(fault)) => Some(fault),
+        _ => None,
+    }
+}
+
+/// What is wrong with the value, if something is.
+pub(crate) fn misfit_of<F: Format>(
     format: &F,
     alloc: Global,
     value: &F::Value,
-    misfit: F::Misfit,
-) -> bool
-where
-    F::Misfit: PartialEq,
-{
+) -> Option<F::Misfit> {
     match written(format, alloc, value) {
-        Err(WriteRefusal::Wrong(found)) => found == misfit,
-        _ => false,
+        Err(WriteRefusal::Wrong(misfit)) => Some(misfit),
+        _ => None,
+    }
+}
+
+/// Whether a value is read from the octets.
+pub(crate) fn is_read<C: Contents>(format: &Tlv<C>, alloc: Global, octets: &[u8]) -> bool {
+    match value_of(format, alloc, octets) {
+        Some(_) => true,
+        None => false,
+    }
+}
+
+/// Whether no octets are written for the value.
+pub(crate) fn is_unwritten<F: Format>(format: &F, alloc: Global, value: &F::Value) -> bool {
+    match written(format, alloc, value) {
+        Ok(_) => false,
+        Err(_) => true,
+    }
+}
+
+/// Whether the value is written as these octets.
+pub(crate) fn is_written<C: Contents>(
+    format: &Tlv<C>,
+    alloc: Global,
+    value: &C::Value,
+    octets: &[u8],
+) -> bool {
+    match octets_of(format, alloc, value) {
+        Some(found) => found.as_slice() == octets,
+        None => false,
+    }
+}
+
+/// Whether a value is read from the octets, and written as them.
+pub(crate) fn is_kept<C: Contents>(format: &Tlv<C>, alloc: Global, octets: &[u8]) -> bool {
+    match value_of(format, alloc, octets) {
+        Some(value) => is_written(format, alloc, &value, octets),
+        None => false,
     }
 }
 
 /// Whether the octets are this value.
-pub(crate) fn is_found<F: Format>(
-    format: &F,
+pub(crate) fn is_found<C: Contents>(
+    format: &Tlv<C>,
     alloc: Global,
     octets: &[u8],
-    value: &F::Value,
+    value: &C::Value,
 ) -> bool
 where
-    F::Value: PartialEq,
+    C::Value: PartialEq,
 {
-    match found(format, alloc, octets) {
-        Ok(read) => read == *value,
-        Err(_) => false,
+    match value_of(format, alloc, octets) {
+        Some(read) => read == *value,
+        None => false,
     }
 }
 
-/// Whether the octets are refused for this fault.
-pub(crate) fn is_refused<F: Format>(
-    format: &F,
+/// Whether the value is refused for this misfit of the contents.
+pub(crate) fn is_misfit<C: Contents>(
+    format: &Tlv<C>,
     alloc: Global,
-    octets: &[u8],
-    fault: F::Fault,
+    value: &C::Value,
+    misfit: C::Misfit,
 ) -> bool
 where
-    F::Fault: PartialEq,
+    C::Misfit: PartialEq,
 {
-    match found(format, alloc, octets) {
-        Err(Refusal::Wrong(found)) => found == fault,
+    match misfit_of(format, alloc, value) {
+        Some(TlvMisfit::Contents(found)) => found == misfit,
         _ => false,
     }
+}
+
+/// Whether the octets are refused for this fault of the contents.
+fn is_refused<C: Contents>(format: &Tlv<C>, alloc: Global, octets: &[u8], fault: &C::Fault) -> bool
+where
+    C::Fault: PartialEq,
+{
+    match fault_of(format, alloc, octets) {
+        Some(InTlv::Contents(found)) => found == *fault,
+        _ => false,
+    }
+}
+
+/// Whether the octets of each row are refused for its fault of the contents.
+pub(crate) fn are_refused<C: Contents>(
+    format: &Tlv<C>,
+    alloc: Global,
+    rows: &[(&[u8], C::Fault)],
+) -> bool
+where
+    C::Fault: PartialEq,
+{
+    for (octets, fault) in rows {
+        if !is_refused(format, alloc, octets, fault) {
+            return false;
+        }
+    }
+    true
 }

@@ -1,117 +1,162 @@
 //! CHOICE, DEFAULT, explicit tags, names, and values of a program's own.
 
-use super::calls::{element, found, is_misfit, is_refused, is_written, sequence};
-use asn1_der::{
-    BooleanContents, ChoiceMisfit, Class, End, Explicit, InDefault, InTlv, IntegerContents,
-    NotDefault, NotEnd, Optional, Or, Required, Sequence, Tag, Tlv, TlvMisfit,
+use super::calls::{
+    are_refused, element, fault_of, is_kept, is_misfit, is_number, is_written, sequence, value_of,
 };
-use asn1_formats::{InNamed, InThen, Mapped, Named, OfParts, OneOf, Refusal};
-use asn1_values::Integer;
+use asn1_compose::{InNamed, InThen, Mapped, Named, OfParts, OneOf};
+use asn1_der::{
+    BooleanContents, BooleanFault, ChoiceMisfit, Class, End, Explicit, InDefault, InTlv,
+    IntegerContents, NotDefault, NotEnd, Optional, Or, Required, Sequence, Tag, Tlv,
+};
+use asn1_number::Integer;
+use std::alloc::Global;
 use std::test::Fail;
+
+/// `SEQUENCE { CHOICE { flag BOOLEAN, level INTEGER } }`
+type Choosing = Tlv<Sequence<Required<Or<Tlv<BooleanContents>, Tlv<IntegerContents>>, End>>>;
+
+/// What is read by it.
+type Chosen = (OneOf<bool, Integer>, ());
+
+/// The format of a flag or a level.
+fn choosing() -> Choosing {
+    let first = Or {
+        first: element(1, false, BooleanContents {}),
+        others: element(2, false, IntegerContents {}),
+    };
+    sequence(Required {
+        first,
+        rest: End {},
+    })
+}
+
+/// Whether it is this level.
+fn is_level(value: &Option<Chosen>, number: i128) -> bool {
+    match value {
+        Some((OneOf::Other(level), ())) => is_number(level, number),
+        _ => false,
+    }
+}
+
+/// Whether it is a flag that is set.
+fn is_flag_set(value: &Option<Chosen>) -> bool {
+    match value {
+        Some((OneOf::First(flag), ())) => *flag,
+        _ => false,
+    }
+}
+
+/// What the octets are.
+fn chosen(alloc: Global, octets: &[u8]) -> Option<Chosen> {
+    value_of(&choosing(), alloc, octets)
+}
+
+/// Whether the octets are kept.
+fn is_choice_kept(alloc: Global, octets: &[u8]) -> bool {
+    is_kept(&choosing(), alloc, octets)
+}
 
 #[test]
 fn the_tag_tells_the_alternative(rt: HostRuntime) -> Result<(), Fail> {
-    // CHOICE { flag BOOLEAN, level INTEGER }
+    let alloc = rt.alloc();
+    let octets = [0x30, 0x03, 0x02, 0x01, 0x05];
+    let is_level = is_level(&chosen(alloc, &octets), 5);
+    let is_flag_set = is_flag_set(&chosen(alloc, &[0x30, 0x03, 0x01, 0x01, 0xFF]));
+    assert!(rt; is_level && is_flag_set && is_choice_kept(alloc, &octets));
+    Ok(())
+}
+
+/// Whether the second of two alternatives of one tag is not written.
+fn is_one_tag_refused(alloc: Global) -> bool {
+    let first = Or {
+        first: element(1, false, BooleanContents {}),
+        others: element(1, false, BooleanContents {}),
+    };
     let format = sequence(Required {
-        first: Or {
-            first: element(1, false, BooleanContents {}),
-            others: element(2, false, IntegerContents {}),
-        },
+        first,
         rest: End {},
     });
-    let octets = [0x30, 0x03, 0x02, 0x01, 0x05];
-    let value = found(&format, rt.alloc(), &octets)?;
-    assert!(rt; is_written(&format, rt.alloc(), &value, &octets));
-    match value.0 {
-        OneOf::Other(level) => assert!(rt; level.to_i128() == Some(5)),
-        OneOf::First(_) => return Err("the tag is that of INTEGER".into()),
-    }
-    match found(&format, rt.alloc(), &[0x30, 0x03, 0x01, 0x01, 0xFF])?.0 {
-        OneOf::First(flag) => assert!(rt; flag),
-        OneOf::Other(_) => return Err("the tag is that of BOOLEAN".into()),
-    }
-    Ok(())
+    let value = (OneOf::Other(true), ());
+    is_misfit(
+        &format,
+        alloc,
+        &value,
+        InThen::First(ChoiceMisfit::Ambiguous),
+    )
 }
 
 #[test]
 fn alternatives_of_one_tag_are_refused(rt: HostRuntime) -> Result<(), Fail> {
-    let format = sequence(Required {
-        first: Or {
-            first: element(1, false, BooleanContents {}),
-            others: element(1, false, BooleanContents {}),
-        },
+    assert!(rt; is_one_tag_refused(rt.alloc()));
+    Ok(())
+}
+
+/// Whether a SEQUENCE was read whose only element is missing.
+fn is_missing(value: &Option<(Option<bool>, ())>) -> bool {
+    match value {
+        Some((None, ())) => true,
+        _ => false,
+    }
+}
+
+/// Whether FALSE is missing where a SEQUENCE { critical BOOLEAN DEFAULT FALSE } has it.
+fn is_default_missing(alloc: Global) -> bool {
+    let contents = NotDefault {
+        part: BooleanContents {},
+        default: false,
+    };
+    let format = sequence(Optional {
+        first: element(1, false, contents),
         rest: End {},
     });
-    assert!(rt;
-        is_misfit(
+    let octets: &[u8] = &[0x30, 0x03, 0x01, 0x01, 0x00];
+    let fault = InThen::First(InTlv::Contents(InDefault::Default));
+    let is_missing = is_missing(&value_of(&format, alloc, &[0x30, 0x00]));
+    is_missing
+        && is_written(
             &format,
-            rt.alloc(),
-            &(OneOf::Other(true), ()),
-            TlvMisfit::Contents(InThen::First(ChoiceMisfit::Ambiguous))
+            alloc,
+            &(Some(true), ()),
+            &[0x30, 0x03, 0x01, 0x01, 0xFF],
         )
-    );
-    Ok(())
+        && are_refused(&format, alloc, &[(octets, fault)])
 }
 
 #[test]
 fn a_default_is_never_there(rt: HostRuntime) -> Result<(), Fail> {
-    // SEQUENCE { critical BOOLEAN DEFAULT FALSE }
-    let format = sequence(Optional {
-        first: element(
-            1,
-            false,
-            NotDefault {
-                part: BooleanContents {},
-                default: false,
-            },
-        ),
-        rest: End {},
-    });
-    assert!(rt; found(&format, rt.alloc(), &[0x30, 0x00])?.0 == None);
-    assert!(rt;
-        is_written(
-            &format,
-            rt.alloc(),
-            &(Some(true), ()),
-            &[0x30, 0x03, 0x01, 0x01, 0xFF]
-        )
-    );
-    assert!(rt;
-        is_refused(
-            &format,
-            rt.alloc(),
-            &[0x30, 0x03, 0x01, 0x01, 0x00],
-            InTlv::Contents(InThen::First(InTlv::Contents(InDefault::Default)))
-        )
-    );
+    assert!(rt; is_default_missing(rt.alloc()));
     Ok(())
+}
+
+/// `INTEGER` without this default.
+fn number_but(default: Integer) -> Tlv<NotDefault<IntegerContents>> {
+    let part = IntegerContents {};
+    element(2, false, NotDefault { part, default })
+}
+
+/// Whether an integer of this number was read.
+fn is_some_number(value: &Option<Integer>, number: i128) -> bool {
+    match value {
+        Some(value) => is_number(value, number),
+        None => false,
+    }
+}
+
+/// Whether 301 is read, and 300 is refused as the default.
+fn is_300_the_default(format: &Tlv<NotDefault<IntegerContents>>, alloc: Global) -> bool {
+    let octets: &[u8] = &[0x02, 0x02, 0x01, 0x2C];
+    let is_read = is_some_number(&value_of(format, alloc, &[0x02, 0x02, 0x01, 0x2D]), 301);
+    is_read && are_refused(format, alloc, &[(octets, InDefault::Default)])
 }
 
 #[test]
 fn a_number_is_compared_with_its_default(rt: HostRuntime) -> Result<(), Fail> {
-    let format = element(
-        2,
-        false,
-        NotDefault {
-            part: IntegerContents {},
-            default: Integer::from(300),
-        },
-    );
-    assert!(rt;
-        is_refused(
-            &format,
-            rt.alloc(),
-            &[0x02, 0x02, 0x01, 0x2C],
-            InTlv::Contents(InDefault::Default)
-        )
-    );
-    assert!(rt; found(&format, rt.alloc(), &[0x02, 0x02, 0x01, 0x2D])?.to_i128() == Some(301));
+    assert!(rt; is_300_the_default(&number_but(Integer::from(300)), rt.alloc()));
     Ok(())
 }
 
-#[test]
-fn one_element_stands_behind_an_explicit_tag(rt: HostRuntime) -> Result<(), Fail> {
-    // X.690 8.14.4: [2] EXPLICIT around an element, here a BOOLEAN
+/// Whether a BOOLEAN stands behind `[2] EXPLICIT` (X.690 8.14.4), and nothing behind it.
+fn is_one_element_explicit(alloc: Global) -> bool {
     let format = Tlv {
         tag: Tag {
             class: Class::Context,
@@ -122,20 +167,20 @@ fn one_element_stands_behind_an_explicit_tag(rt: HostRuntime) -> Result<(), Fail
             element: element(1, false, BooleanContents {}),
         },
     };
-    assert!(rt; is_written(&format, rt.alloc(), &true, &[0xA2, 0x03, 0x01, 0x01, 0xFF]));
-    assert!(rt;
-        is_refused(
-            &format,
-            rt.alloc(),
-            &[0xA2, 0x05, 0x01, 0x01, 0xFF, 0x05, 0x00],
-            InTlv::Contents(InThen::Second(NotEnd { bits: 16 }))
-        )
-    );
+    let octets: &[u8] = &[0xA2, 0x05, 0x01, 0x01, 0xFF, 0x05, 0x00];
+    let fault = InThen::Second(NotEnd { bits: 16 });
+    is_written(&format, alloc, &true, &[0xA2, 0x03, 0x01, 0x01, 0xFF])
+        && are_refused(&format, alloc, &[(octets, fault)])
+}
+
+#[test]
+fn one_element_stands_behind_an_explicit_tag(rt: HostRuntime) -> Result<(), Fail> {
+    assert!(rt; is_one_element_explicit(rt.alloc()));
     Ok(())
 }
 
 /// A truth value under a name of its own.
-#[derive(Debug, Drop)]
+#[derive(Drop)]
 struct Flag {
     parts: (bool, ()),
 }
@@ -156,28 +201,51 @@ impl OfParts for Flag {
 
 type FlagContents = Mapped<Sequence<Required<Named<Tlv<BooleanContents>>, End>>, Flag>;
 
-#[test]
-fn a_program_names_its_values(rt: HostRuntime) -> Result<(), Fail> {
-    let flag = Named {
+/// The format of a flag.
+fn flag_format() -> Tlv<FlagContents> {
+    let first = Named {
         name: "flag",
         part: element(1, false, BooleanContents {}),
     };
-    let contents: FlagContents = Mapped::new(Sequence {
-        elements: Required {
-            first: flag,
-            rest: End {},
-        },
-    });
-    let format = element(16, true, contents);
-    let octets = [0x30, 0x03, 0x01, 0x01, 0xFF];
-    let value = found(&format, rt.alloc(), &octets)?;
-    assert!(rt; value.parts.0);
-    assert!(rt; is_written(&format, rt.alloc(), &value, &octets));
-    match found(&format, rt.alloc(), &[0x30, 0x03, 0x01, 0x01, 0x01]) {
-        Err(Refusal::Wrong(InTlv::Contents(InThen::First(InNamed { name, wrong: _ })))) => {
-            assert!(rt; name == "flag");
-        }
-        _ => return Err("the flag is neither 00 nor FF".into()),
+    let elements = Required {
+        first,
+        rest: End {},
+    };
+    element(16, true, Mapped::new(Sequence { elements }))
+}
+
+/// What is wrong with the octets of a flag.
+type FlagFault = InTlv<InThen<InNamed<InTlv<BooleanFault>>, NotEnd>>;
+
+/// Whether a flag was read that is set.
+fn is_set(value: &Option<Flag>) -> bool {
+    match value {
+        Some(flag) => flag.parts.0,
+        None => false,
     }
+}
+
+/// Whether an element of this name is wrong.
+fn is_named(fault: &Option<FlagFault>, wanted: &str) -> bool {
+    match fault {
+        Some(InTlv::Contents(InThen::First(InNamed { name, wrong: _ }))) => *name == wanted,
+        _ => false,
+    }
+}
+
+/// Whether the octets are a flag that is set, and are kept; and whether the others have a wrong
+/// element of this name.
+fn is_flag_named(alloc: Global, octets: &[u8], others: &[u8], wanted: &str) -> bool {
+    let format = flag_format();
+    let is_set = is_set(&value_of(&format, alloc, octets));
+    let is_named = is_named(&fault_of(&format, alloc, others), wanted);
+    is_set && is_named && is_kept(&format, alloc, octets)
+}
+
+#[test]
+fn a_program_names_its_values(rt: HostRuntime) -> Result<(), Fail> {
+    let octets = [0x30, 0x03, 0x01, 0x01, 0xFF];
+    let others = [0x30, 0x03, 0x01, 0x01, 0x01];
+    assert!(rt; is_flag_named(rt.alloc(), &octets, &others, "flag"));
     Ok(())
 }

@@ -1,85 +1,96 @@
 //! Identifier octets, lengths, and elements inside one another.
 
 use super::calls::{
-    element, found, is_misfit, is_refused, is_written, sequence, universal, written,
+    are_refused, element, fault_of, is_kept, is_misfit, is_number, is_read, is_written, octets_of,
+    sequence, universal, value_of,
 };
+use asn1_bits::BitReader;
+use asn1_compose::{InThen, NeverWrong};
 use asn1_der::{
-    Any, BooleanContents, ElementFault, End, InItem, InTlv, IntegerContents, LengthFault, NotEnd,
-    OctetStringContents, Optional, OptionalMisfit, Required, Sequence, SequenceOf, Tag, TagFault,
-    Tlv, TlvMisfit, next_element,
+    Any, AnyValue, BooleanContents, ElementFault, End, InItem, InTlv, IntegerContents, LengthFault,
+    NotEnd, OctetStringContents, Optional, OptionalMisfit, Required, Sequence, SequenceOf, Tag,
+    TagFault, Tlv, next_element,
 };
-use asn1_formats::{InThen, Refusal};
-use asn1_values::{BitReader, Integer};
+use asn1_number::Integer;
 use std::alloc::Global;
 use std::test::Fail;
 
-/// So many octets.
-fn zeros(alloc: Global, count: usize) -> Result<Vec<u8>, Fail> {
+/// `OCTET STRING`
+fn octet_string() -> Tlv<OctetStringContents> {
+    element(4, false, OctetStringContents {})
+}
+
+/// The octets of an OCTET STRING of so many zeros.
+fn zeros(alloc: Global, count: usize) -> Option<Vec<u8>> {
     let mut octets = Vec::new(alloc);
     for _ in 0..count {
-        octets.push(0)?;
+        if let Err(_) = octets.push(0) {
+            return None;
+        }
     }
-    Ok(octets)
+    octets_of(&octet_string(), alloc, &octets)
+}
+
+/// Whether so many octets are read.
+fn are_octets_read(alloc: Global, octets: &[u8], count: usize) -> bool {
+    match value_of(&octet_string(), alloc, octets) {
+        Some(value) => value.len() == count,
+        None => false,
+    }
+}
+
+/// Whether so many zeros are so many octets with these in front, and are read.
+fn are_zeros_behind(alloc: Global, count: usize, front: &[u8], whole: usize) -> bool {
+    match zeros(alloc, count) {
+        Some(octets) => {
+            octets.len() == whole
+                && octets.starts_with(front)
+                && are_octets_read(alloc, octets.as_slice(), count)
+        }
+        None => false,
+    }
 }
 
 #[test]
 fn a_long_length_takes_the_fewest_octets(rt: HostRuntime) -> Result<(), Fail> {
-    let format = element(4, false, OctetStringContents {});
     // X.690 8.1.3.5: 201 as 81 C9
-    let octets = written(&format, rt.alloc(), &zeros(rt.alloc(), 201)?)?;
-    assert!(rt; octets.len() == 204);
-    assert!(rt; octets.starts_with(&[0x04, 0x81, 0xC9]));
-    assert!(rt; found(&format, rt.alloc(), octets.as_slice())?.len() == 201);
-    let long = written(&format, rt.alloc(), &zeros(rt.alloc(), 256)?)?;
-    assert!(rt; long.starts_with(&[0x04, 0x82, 0x01, 0x00]));
+    assert!(rt;
+        are_zeros_behind(rt.alloc(), 201, &[0x04, 0x81, 0xC9], 204)
+            && are_zeros_behind(rt.alloc(), 256, &[0x04, 0x82, 0x01, 0x00], 260)
+    );
     Ok(())
+}
+
+/// Whether the octets are no OCTET STRING, for this fault.
+fn is_no_octet_string(alloc: Global, octets: &[u8], fault: InTlv<NeverWrong>) -> bool {
+    match fault_of(&octet_string(), alloc, octets) {
+        Some(found) => found == fault,
+        None => false,
+    }
 }
 
 #[test]
 fn other_lengths_are_refused(rt: HostRuntime) -> Result<(), Fail> {
-    let format = element(4, false, OctetStringContents {});
-    assert!(rt;
-        is_refused(
-            &format,
-            rt.alloc(),
+    let found = universal(5, false);
+    let rows: [(&[u8], InTlv<NeverWrong>); 5] = [
+        (
             &[0x04, 0x81, 0x01, 0x00],
-            InTlv::Length(LengthFault::NotShortest)
-        )
-    );
-    assert!(rt;
-        is_refused(
-            &format,
-            rt.alloc(),
+            InTlv::Length(LengthFault::NotShortest),
+        ),
+        (
             &[0x04, 0x80, 0x00, 0x00],
-            InTlv::Length(LengthFault::Indefinite)
-        )
-    );
-    assert!(rt;
-        is_refused(
-            &format,
-            rt.alloc(),
-            &[0x04, 0x89],
-            InTlv::Length(LengthFault::Large)
-        )
-    );
-    assert!(rt;
-        is_refused(
-            &format,
-            rt.alloc(),
+            InTlv::Length(LengthFault::Indefinite),
+        ),
+        (&[0x04, 0x89], InTlv::Length(LengthFault::Large)),
+        (
             &[0x04, 0x02, 0x00],
-            InTlv::Length(LengthFault::Missing { missing: 8 })
-        )
-    );
-    assert!(rt;
-        is_refused(
-            &format,
-            rt.alloc(),
-            &[0x05, 0x00],
-            InTlv::Tag(TagFault::Other {
-                found: universal(5, false)
-            })
-        )
-    );
+            InTlv::Length(LengthFault::Missing { missing: 8 }),
+        ),
+        (&[0x05, 0x00], InTlv::Tag(TagFault::Other { found })),
+    ];
+    for (octets, fault) in rows {
+        assert!(rt; is_no_octet_string(rt.alloc(), octets, fault));
+    }
     Ok(())
 }
 
@@ -96,84 +107,90 @@ fn setting() -> Setting {
     })
 }
 
+/// What is read by it.
+type Settings = (Option<bool>, (Integer, ()));
+
+/// Whether a setting of this level was read without a flag.
+fn is_level_alone(value: &Option<Settings>, number: i128) -> bool {
+    match value {
+        Some((None, (level, ()))) => is_number(level, number),
+        _ => false,
+    }
+}
+
+/// Whether the setting with a flag is written with it, and one is read without it.
+fn is_flag_told_by_its_tag(alloc: Global, with: &Settings) -> bool {
+    let format = setting();
+    let octets = [0x30, 0x06, 0x01, 0x01, 0xFF, 0x02, 0x01, 0x05];
+    let other: &[u8] = &[0x30, 0x05, 0x02, 0x01, 0x05, 0x05, 0x00];
+    let fault = InThen::Second(InThen::Second(NotEnd { bits: 16 }));
+    is_level_alone(
+        &value_of(&format, alloc, &[0x30, 0x03, 0x02, 0x01, 0x05]),
+        5,
+    ) && is_written(&format, alloc, with, &octets)
+        && are_refused(&format, alloc, &[(other, fault)])
+}
+
 #[test]
 fn an_optional_element_is_told_by_its_tag(rt: HostRuntime) -> Result<(), Fail> {
-    let format = setting();
     let with = (Some(true), (Integer::from(5), ()));
-    let octets = [0x30, 0x06, 0x01, 0x01, 0xFF, 0x02, 0x01, 0x05];
-    assert!(rt; is_written(&format, rt.alloc(), &with, &octets));
-    let without = found(&format, rt.alloc(), &[0x30, 0x03, 0x02, 0x01, 0x05])?;
-    assert!(rt; without.0 == None);
-    assert!(rt; without.1.0.to_i128() == Some(5));
-    assert!(rt;
-        is_refused(
-            &format,
-            rt.alloc(),
-            &[0x30, 0x05, 0x02, 0x01, 0x05, 0x05, 0x00],
-            InTlv::Contents(InThen::Second(InThen::Second(NotEnd { bits: 16 })))
-        )
-    );
+    assert!(rt; is_flag_told_by_its_tag(rt.alloc(), &with));
     Ok(())
+}
+
+/// Whether an element with the tag of the missing one in front is not written.
+fn is_ambiguous(alloc: Global, value: AnyValue) -> bool {
+    let rest = Required {
+        first: Any {},
+        rest: End {},
+    };
+    let format = sequence(Optional {
+        first: element(1, false, BooleanContents {}),
+        rest,
+    });
+    is_misfit(
+        &format,
+        alloc,
+        &(None, (value, ())),
+        OptionalMisfit::Ambiguous,
+    )
 }
 
 #[test]
 fn a_value_that_would_be_read_as_another_is_refused(rt: HostRuntime) -> Result<(), Fail> {
-    let format = sequence(Optional {
-        first: element(1, false, BooleanContents {}),
-        rest: Required {
-            first: Any {},
-            rest: End {},
-        },
-    });
-    let value = found(&Any {}, rt.alloc(), &[0x01, 0x01, 0xFF])?;
-    assert!(rt;
-        is_misfit(
-            &format,
-            rt.alloc(),
-            &(None, (value, ())),
-            TlvMisfit::Contents(OptionalMisfit::Ambiguous)
-        )
-    );
+    let is_refused = match value_of(&Any {}, rt.alloc(), &[0x01, 0x01, 0xFF]) {
+        Some(value) => is_ambiguous(rt.alloc(), value),
+        None => false,
+    };
+    assert!(rt; is_refused);
     Ok(())
+}
+
+/// Whether these flags were read.
+fn are_flags(value: &Option<Vec<bool>>, flags: &[bool]) -> bool {
+    match value {
+        Some(found) => found.as_slice() == flags,
+        None => false,
+    }
+}
+
+/// Whether the flags are kept, and the second item of others is wrong.
+fn is_second_item_wrong(alloc: Global) -> bool {
+    let item = element(1, false, BooleanContents {});
+    let format = element(16, true, SequenceOf { item });
+    let octets = [0x30, 0x06, 0x01, 0x01, 0xFF, 0x01, 0x01, 0x00];
+    let other: &[u8] = &[0x30, 0x05, 0x01, 0x01, 0xFF, 0x05, 0x00];
+    let found = universal(5, false);
+    let wrong = InTlv::Tag(TagFault::Other { found });
+    are_flags(&value_of(&format, alloc, &octets), &[true, false])
+        && is_kept(&format, alloc, &octets)
+        && !is_read(&format, alloc, &[0x30, 0x05, 0x01, 0x01, 0xFF, 0x01, 0x00])
+        && are_refused(&format, alloc, &[(other, InItem { index: 1, wrong })])
 }
 
 #[test]
 fn the_first_wrong_item_is_named(rt: HostRuntime) -> Result<(), Fail> {
-    let format = element(
-        16,
-        true,
-        SequenceOf {
-            item: element(1, false, BooleanContents {}),
-        },
-    );
-    let octets = [0x30, 0x06, 0x01, 0x01, 0xFF, 0x01, 0x01, 0x00];
-    let flags = found(&format, rt.alloc(), &octets)?;
-    assert!(rt; flags.as_slice() == [true, false].as_slice());
-    assert!(rt; is_written(&format, rt.alloc(), &flags, &octets));
-    assert!(rt;
-        found(
-            &format,
-            rt.alloc(),
-            &[0x30, 0x05, 0x01, 0x01, 0xFF, 0x01, 0x00]
-        )
-        .is_err()
-    );
-    match found(
-        &format,
-        rt.alloc(),
-        &[0x30, 0x05, 0x01, 0x01, 0xFF, 0x05, 0x00],
-    ) {
-        Err(Refusal::Wrong(InTlv::Contents(InItem { index, wrong }))) => {
-            assert!(rt; index == 1);
-            assert!(rt;
-                wrong
-                    == InTlv::Tag(TagFault::Other {
-                        found: universal(5, false)
-                    })
-            );
-        }
-        _ => return Err("the second item is no BOOLEAN".into()),
-    }
+    assert!(rt; is_second_item_wrong(rt.alloc()));
     Ok(())
 }
 

@@ -1,146 +1,142 @@
 //! Primitive elements.
 
-use super::calls::{element, found, is_found, is_refused, is_written, written};
+use super::calls::{are_refused, element, is_found, is_kept, is_number, is_written, value_of};
+use asn1_bits::BitString;
 use asn1_der::{
-    BitStringContents, BitStringFault, BooleanContents, BooleanFault, IdentifierFault, InTlv,
-    IntegerContents, NotShortest, ObjectIdentifierContents,
+    BitStringContents, BitStringFault, BooleanContents, BooleanFault, IdentifierFault,
+    IntegerContents, NotShortest, ObjectIdentifierContents, Tlv,
 };
-use asn1_formats::Refusal;
-use asn1_values::{BitString, Integer};
+use asn1_number::Integer;
+use asn1_oid::ObjectIdentifier;
 use std::alloc::Global;
 use std::test::Fail;
 
+/// Whether a BOOLEAN is written and read as X.690 8.2.2 and 11.1 say.
+fn is_boolean_00_or_ff(alloc: Global) -> bool {
+    let format = element(1, false, BooleanContents {});
+    let refused: [(&[u8], BooleanFault); 2] = [
+        (&[0x01, 0x01, 0x01], BooleanFault::Other { octet: 1 }),
+        (&[0x01, 0x02, 0xFF, 0xFF], BooleanFault::Octets { count: 2 }),
+    ];
+    is_written(&format, alloc, &true, &[0x01, 0x01, 0xFF])
+        && is_found(&format, alloc, &[0x01, 0x01, 0x00], &false)
+        && are_refused(&format, alloc, &refused)
+}
+
 #[test]
 fn a_boolean_is_00_or_ff(rt: HostRuntime) -> Result<(), Fail> {
-    let format = element(1, false, BooleanContents {});
-    // X.690 8.2.2, 11.1
-    assert!(rt; is_written(&format, rt.alloc(), &true, &[0x01, 0x01, 0xFF]));
-    assert!(rt; is_found(&format, rt.alloc(), &[0x01, 0x01, 0x00], &false));
-    assert!(rt;
-        is_refused(
-            &format,
-            rt.alloc(),
-            &[0x01, 0x01, 0x01],
-            InTlv::Contents(BooleanFault::Other { octet: 1 })
-        )
-    );
-    assert!(rt;
-        is_refused(
-            &format,
-            rt.alloc(),
-            &[0x01, 0x02, 0xFF, 0xFF],
-            InTlv::Contents(BooleanFault::Octets { count: 2 })
-        )
-    );
+    assert!(rt; is_boolean_00_or_ff(rt.alloc()));
     Ok(())
+}
+
+/// `INTEGER`
+fn integer() -> Tlv<IntegerContents> {
+    element(2, false, IntegerContents {})
+}
+
+/// Whether the octets are this number.
+fn is_integer_read(alloc: Global, number: i128, octets: &[u8]) -> bool {
+    match value_of(&integer(), alloc, octets) {
+        Some(value) => is_number(&value, number),
+        None => false,
+    }
 }
 
 /// Whether the integer is written so, and read back.
 fn is_integer(alloc: Global, number: i128, octets: &[u8]) -> bool {
-    let format = element(2, false, IntegerContents {});
-    match written(&format, alloc, &Integer::from(number)) {
-        Ok(found_octets) => {
-            if found_octets.as_slice() != octets {
-                return false;
-            }
-        }
-        Err(_) => return false,
-    }
-    match found(&format, alloc, octets) {
-        Ok(value) => value.to_i128() == Some(number),
-        Err(_) => false,
-    }
+    is_written(&integer(), alloc, &Integer::from(number), octets)
+        && is_integer_read(alloc, number, octets)
+}
+
+/// Whether the octets of each row are no integer, since fewer octets are enough.
+fn are_integers_refused(alloc: Global) -> bool {
+    let refused: [(&[u8], NotShortest); 2] = [
+        (&[0x02, 0x02, 0x00, 0x7F], NotShortest {}),
+        (&[0x02, 0x00], NotShortest {}),
+    ];
+    are_refused(&integer(), alloc, &refused)
 }
 
 #[test]
 fn integers_take_the_fewest_octets(rt: HostRuntime) -> Result<(), Fail> {
     // Expected octets from `openssl asn1parse -genstr INTEGER:..`.
-    assert!(rt; is_integer(rt.alloc(), 0, &[0x02, 0x01, 0x00]));
-    assert!(rt; is_integer(rt.alloc(), 127, &[0x02, 0x01, 0x7F]));
-    assert!(rt; is_integer(rt.alloc(), 128, &[0x02, 0x02, 0x00, 0x80]));
-    assert!(rt; is_integer(rt.alloc(), -128, &[0x02, 0x01, 0x80]));
-    assert!(rt; is_integer(rt.alloc(), -129, &[0x02, 0x02, 0xFF, 0x7F]));
-    let format = element(2, false, IntegerContents {});
-    assert!(rt;
-        is_refused(
-            &format,
-            rt.alloc(),
-            &[0x02, 0x02, 0x00, 0x7F],
-            InTlv::Contents(NotShortest {})
-        )
-    );
-    assert!(rt;
-        is_refused(
-            &format,
-            rt.alloc(),
-            &[0x02, 0x00],
-            InTlv::Contents(NotShortest {})
-        )
-    );
+    let rows: [(i128, &[u8]); 5] = [
+        (0, &[0x02, 0x01, 0x00]),
+        (127, &[0x02, 0x01, 0x7F]),
+        (128, &[0x02, 0x02, 0x00, 0x80]),
+        (-128, &[0x02, 0x01, 0x80]),
+        (-129, &[0x02, 0x02, 0xFF, 0x7F]),
+    ];
+    for (number, octets) in rows {
+        assert!(rt; is_integer(rt.alloc(), number, octets));
+    }
+    assert!(rt; are_integers_refused(rt.alloc()));
     Ok(())
+}
+
+/// Whether an identifier of these arcs was read.
+fn are_arcs(value: &Option<ObjectIdentifier>, arcs: &[u32]) -> bool {
+    match value {
+        Some(oid) => oid.as_ref() == arcs,
+        None => false,
+    }
+}
+
+/// Whether an OBJECT IDENTIFIER is written and read as X.690 8.19 says.
+fn is_identifier_its_subidentifiers(alloc: Global) -> bool {
+    let format = element(6, false, ObjectIdentifierContents {});
+    // X.690 8.19.5: { 2 999 3 }
+    let octets = [0x06, 0x03, 0x88, 0x37, 0x03];
+    let refused: [(&[u8], IdentifierFault); 2] = [
+        (&[0x06, 0x02, 0x80, 0x37], IdentifierFault::Malformed),
+        (
+            &[0x06, 0x06, 0x2A, 0x90, 0x80, 0x80, 0x80, 0x00],
+            IdentifierFault::LargeArc,
+        ),
+    ];
+    are_arcs(&value_of(&format, alloc, &octets), &[2, 999, 3])
+        && is_kept(&format, alloc, &octets)
+        && are_refused(&format, alloc, &refused)
 }
 
 #[test]
 fn an_identifier_is_its_subidentifiers(rt: HostRuntime) -> Result<(), Fail> {
-    let format = element(6, false, ObjectIdentifierContents {});
-    // X.690 8.19.5: { 2 999 3 }
-    let octets = [0x06, 0x03, 0x88, 0x37, 0x03];
-    let oid = found(&format, rt.alloc(), &octets)?;
-    assert!(rt; oid.as_ref() == [2, 999, 3].as_slice());
-    assert!(rt; is_written(&format, rt.alloc(), &oid, &octets));
-    assert!(rt;
-        is_refused(
-            &format,
-            rt.alloc(),
-            &[0x06, 0x02, 0x80, 0x37],
-            InTlv::Contents(IdentifierFault::Malformed)
-        )
-    );
-    assert!(rt;
-        is_refused(
-            &format,
-            rt.alloc(),
-            &[0x06, 0x06, 0x2A, 0x90, 0x80, 0x80, 0x80, 0x00],
-            InTlv::Contents(IdentifierFault::LargeArc)
-        )
-    );
+    assert!(rt; is_identifier_its_subidentifiers(rt.alloc()));
     Ok(())
+}
+
+/// Whether so many bits were read, which stand in these octets.
+fn are_bits(value: &Option<BitString>, count: usize, raw: &[u8]) -> bool {
+    match value {
+        Some(bits) => bits.len() == count && bits.as_raw_slice() == raw,
+        None => false,
+    }
+}
+
+/// Whether a string of no bits is written as these octets.
+fn is_no_bit(format: &Tlv<BitStringContents>, alloc: Global, octets: &[u8]) -> bool {
+    is_written(format, alloc, &BitString::new(alloc), octets)
+}
+
+/// Whether a BIT STRING is written and read as X.690 8.6 says.
+fn is_bit_string_counting_unused_bits(alloc: Global) -> bool {
+    let format = element(3, false, BitStringContents {});
+    // X.690 8.6.4.2: '0A3B5F291CD'H
+    let octets = [0x03, 0x07, 0x04, 0x0A, 0x3B, 0x5F, 0x29, 0x1C, 0xD0];
+    let raw = [0x0A, 0x3B, 0x5F, 0x29, 0x1C, 0xD0];
+    let refused: [(&[u8], BitStringFault); 3] = [
+        (&[0x03, 0x02, 0x04, 0x0F], BitStringFault::NotZero),
+        (&[0x03, 0x01, 0x01], BitStringFault::Unused { count: 1 }),
+        (&[0x03, 0x00], BitStringFault::Empty),
+    ];
+    are_bits(&value_of(&format, alloc, &octets), 44, &raw)
+        && is_kept(&format, alloc, &octets)
+        && is_no_bit(&format, alloc, &[0x03, 0x01, 0x00])
+        && are_refused(&format, alloc, &refused)
 }
 
 #[test]
 fn a_bit_string_counts_its_unused_bits(rt: HostRuntime) -> Result<(), Fail> {
-    let format = element(3, false, BitStringContents {});
-    // X.690 8.6.4.2: '0A3B5F291CD'H
-    let octets = [0x03, 0x07, 0x04, 0x0A, 0x3B, 0x5F, 0x29, 0x1C, 0xD0];
-    let bits = found(&format, rt.alloc(), &octets)?;
-    assert!(rt; bits.len() == 44);
-    assert!(rt; bits.as_raw_slice() == [0x0A, 0x3B, 0x5F, 0x29, 0x1C, 0xD0].as_slice());
-    assert!(rt; is_written(&format, rt.alloc(), &bits, &octets));
-    let none = BitString::new(rt.alloc());
-    assert!(rt; is_written(&format, rt.alloc(), &none, &[0x03, 0x01, 0x00]));
-    assert!(rt;
-        is_refused(
-            &format,
-            rt.alloc(),
-            &[0x03, 0x02, 0x04, 0x0F],
-            InTlv::Contents(BitStringFault::NotZero)
-        )
-    );
-    assert!(rt;
-        is_refused(
-            &format,
-            rt.alloc(),
-            &[0x03, 0x01, 0x01],
-            InTlv::Contents(BitStringFault::Unused { count: 1 })
-        )
-    );
-    assert!(rt;
-        is_refused(
-            &format,
-            rt.alloc(),
-            &[0x03, 0x00],
-            InTlv::Contents(BitStringFault::Empty)
-        )
-    );
+    assert!(rt; is_bit_string_counting_unused_bits(rt.alloc()));
     Ok(())
 }

@@ -1,15 +1,16 @@
 //! SET OF and SET.
 
 use super::calls::{
-    element, found, is_misfit, is_refused, is_written, sequence, universal, written,
+    are_refused, element, fault_of, is_kept, is_misfit, is_unwritten, is_written, misfit_of,
+    sequence, universal, value_of,
 };
 use asn1_der::{
     Any, BooleanContents, Class, End, InItem, InSet, InTagOrder, InTlv, IntegerContents,
-    NotShortest, Optional, Or, Required, Sequence, Set, SetOf, Tag, Tlv, TlvMisfit,
+    NotShortest, Optional, Or, Ordered, OrderedElements, Required, Sequence, Set, SetElements,
+    SetOf, Tag, Tlv, TlvMisfit,
 };
-use asn1_formats::WriteRefusal;
-use asn1_values::Integer;
-use std::alloc::{AllocError, Global};
+use asn1_number::Integer;
+use std::alloc::Global;
 use std::test::Fail;
 
 /// `SET OF INTEGER`
@@ -23,69 +24,63 @@ fn numbers() -> Tlv<SetOf<Tlv<IntegerContents>>> {
     )
 }
 
-/// The numbers as a value of the format.
-fn integers(alloc: Global, numbers: &[i32]) -> Result<Vec<Integer>, AllocError> {
+/// The numbers as a value of the format, where there is memory.
+fn integers(alloc: Global, numbers: &[i32]) -> Option<Vec<Integer>> {
     let mut values = Vec::new(alloc);
     for number in numbers {
-        values.push(Integer::from(*number))?;
+        if let Err(_) = values.push(Integer::from(*number)) {
+            return None;
+        }
     }
-    Ok(values)
+    Some(values)
+}
+
+/// Whether the numbers are written as the octets.
+fn are_written(alloc: Global, values: &[i32], octets: &[u8]) -> bool {
+    match integers(alloc, values) {
+        Some(values) => is_written(&numbers(), alloc, &values, octets),
+        None => false,
+    }
 }
 
 /// Whether the numbers are written as the octets, and as many are read from these.
-fn are_spelled(alloc: Global, values: &[i32], octets: &[u8]) -> Result<bool, AllocError> {
-    let is_written = match written(&numbers(), alloc, &integers(alloc, values)?) {
-        Ok(found) => found.as_slice() == octets,
-        Err(_) => false,
-    };
-    let is_read = match found(&numbers(), alloc, octets) {
-        Ok(read) => read.len() == values.len(),
-        Err(_) => false,
-    };
-    Ok(is_written && is_read)
+fn are_spelled(alloc: Global, values: &[i32], octets: &[u8]) -> bool {
+    match value_of(&numbers(), alloc, octets) {
+        Some(read) => read.len() == values.len() && are_written(alloc, values, octets),
+        None => false,
+    }
 }
 
 #[test]
 fn elements_ascend_by_their_octets(rt: HostRuntime) -> Result<(), Fail> {
-    let alloc = rt.alloc();
-    assert!(rt; are_spelled(alloc, &[], &[0x31, 0x00])?);
-    assert!(rt;
-        are_spelled(
-            alloc,
-            &[5, 5],
-            &[0x31, 0x06, 0x02, 0x01, 0x05, 0x02, 0x01, 0x05]
-        )?
-    );
     // FF is above 01, and two octets are above one.
-    let octets = [
-        0x31, 0x0A, 0x02, 0x01, 0x01, 0x02, 0x01, 0xFF, 0x02, 0x02, 0x00, 0x80,
+    let rows: [(&[i32], &[u8]); 3] = [
+        (&[], &[0x31, 0x00]),
+        (&[5, 5], &[0x31, 0x06, 0x02, 0x01, 0x05, 0x02, 0x01, 0x05]),
+        (
+            &[1, -1, 128],
+            &[
+                0x31, 0x0A, 0x02, 0x01, 0x01, 0x02, 0x01, 0xFF, 0x02, 0x02, 0x00, 0x80,
+            ],
+        ),
     ];
-    assert!(rt; are_spelled(alloc, &[1, -1, 128], &octets)?);
+    for (values, octets) in rows {
+        assert!(rt; are_spelled(rt.alloc(), values, octets));
+    }
     Ok(())
 }
 
-/// What is wrong with the numbers, when they are written.
-fn misfit_of(alloc: Global, values: &[i32]) -> Result<Option<usize>, AllocError> {
-    match written(&numbers(), alloc, &integers(alloc, values)?) {
-        Err(
-            WriteRefusal::Wrong(
-                TlvMisfit::Contents(
-                    InItem {
-                        index,
-                        wrong: InSet::Descends,
-                    },
-                ),
-            ),
-        ) => Ok(Some(index)),
-        _ => Ok(None),
+/// Whether the numbers are refused, since the one of this index is below the one before it.
+fn descend_at(alloc: Global, values: &[i32], index: usize) -> bool {
+    let wrong = InSet::Descends;
+    match integers(alloc, values) {
+        Some(values) => is_misfit(&numbers(), alloc, &values, InItem { index, wrong }),
+        None => false,
     }
 }
 
-#[test]
-fn another_order_is_refused_by_its_place(rt: HostRuntime) -> Result<(), Fail> {
-    let alloc = rt.alloc();
-    assert!(rt; misfit_of(alloc, &[-1, 1])? == Some(1));
-    assert!(rt; misfit_of(alloc, &[1, 128, 2, 1])? == Some(2));
+/// Whether octets in another order are refused, and an item that is wrong before its order.
+fn are_octets_refused(alloc: Global) -> bool {
     let rows: [(&[u8], InItem<InSet<InTlv<NotShortest>>>); 2] = [
         (
             &[0x31, 0x06, 0x02, 0x01, 0xFF, 0x02, 0x01, 0x01],
@@ -102,32 +97,126 @@ fn another_order_is_refused_by_its_place(rt: HostRuntime) -> Result<(), Fail> {
             },
         ),
     ];
-    for (octets, wrong) in rows {
-        assert!(rt; is_refused(&numbers(), alloc, octets, InTlv::Contents(wrong)));
-    }
-    Ok(())
+    are_refused(&numbers(), alloc, &rows)
 }
 
 #[test]
-fn sequences_ascend_by_the_first_element_that_differs(rt: HostRuntime) -> Result<(), Fail> {
-    // SET OF SEQUENCE { a INTEGER, b BOOLEAN }
+fn another_order_is_refused_by_its_place(rt: HostRuntime) -> Result<(), Fail> {
+    let alloc = rt.alloc();
+    assert!(rt;
+        descend_at(alloc, &[-1, 1], 1)
+            && descend_at(alloc, &[1, 128, 2, 1], 2)
+            && are_octets_refused(alloc)
+    );
+    Ok(())
+}
+
+/// Whether the values are not written with this one behind them.
+fn are_unwritten_with<F: Ordered>(
+    format: &Tlv<SetOf<F>>,
+    alloc: Global,
+    values: Vec<F::Value>,
+    value: F::Value,
+) -> bool {
+    let mut values = values;
+    match values.push(value) {
+        Ok(()) => is_unwritten(format, alloc, &values),
+        Err(_) => false,
+    }
+}
+
+/// Whether the values of the octets are not written with this one behind them.
+fn is_unwritten_behind<F: Ordered>(
+    format: &Tlv<SetOf<F>>,
+    alloc: Global,
+    octets: &[u8],
+    value: F::Value,
+) -> bool {
+    match value_of(format, alloc, octets) {
+        Some(values) => are_unwritten_with(format, alloc, values, value),
+        None => false,
+    }
+}
+
+/// Whether the values are not written in the reverse order.
+fn are_unwritten_in_reverse<F: Ordered>(
+    format: &Tlv<SetOf<F>>,
+    alloc: Global,
+    values: Vec<F::Value>,
+) -> bool {
+    let mut values = values;
+    values.reverse();
+    is_unwritten(format, alloc, &values)
+}
+
+/// Whether the values of the octets are not written in the reverse order.
+fn is_unwritten_in_reverse<F: Ordered>(
+    format: &Tlv<SetOf<F>>,
+    alloc: Global,
+    octets: &[u8],
+) -> bool {
+    match value_of(format, alloc, octets) {
+        Some(values) => are_unwritten_in_reverse(format, alloc, values),
+        None => false,
+    }
+}
+
+/// Whether a SET OF these items keeps the octets, and is not written in the reverse order.
+fn does_set_ascend<F: Ordered + Copy>(item: &F, alloc: Global, octets: &[u8]) -> bool {
+    let format = element(17, true, SetOf { item: *item });
+    is_kept(&format, alloc, octets) && is_unwritten_in_reverse(&format, alloc, octets)
+}
+
+/// Whether a SET OF SEQUENCE of these elements does so.
+fn do_elements_ascend<E: OrderedElements + Copy>(
+    elements: &E,
+    alloc: Global,
+    octets: &[u8],
+) -> bool {
+    does_set_ascend(&sequence(*elements), alloc, octets)
+}
+
+/// Whether a SET OF these items keeps the octets, and is not written with this value behind.
+fn does_set_end<F: Ordered + Copy>(
+    item: &F,
+    alloc: Global,
+    octets: &[u8],
+    value: F::Value,
+) -> bool {
+    let format = element(17, true, SetOf { item: *item });
+    is_unwritten_behind(&format, alloc, octets, value) && is_kept(&format, alloc, octets)
+}
+
+/// Whether a SET OF SEQUENCE of these elements does so.
+fn do_elements_end<E: OrderedElements + Copy>(
+    elements: &E,
+    alloc: Global,
+    octets: &[u8],
+    value: E::Value,
+) -> bool {
+    does_set_end(&sequence(*elements), alloc, octets, value)
+}
+
+/// Whether the values of a SET OF SEQUENCE { a INTEGER, b BOOLEAN } ascend by b where a is the same.
+fn do_sequences_ascend(alloc: Global) -> bool {
     let second = Required {
         first: element(1, false, BooleanContents {}),
         rest: End {},
     };
-    let item = sequence(Required {
+    let elements = Required {
         first: element(2, false, IntegerContents {}),
         rest: second,
-    });
-    let format = element(17, true, SetOf { item });
+    };
     let octets = [
         0x31, 0x10, 0x30, 0x06, 0x02, 0x01, 0x01, 0x01, 0x01, 0xFF, 0x30, 0x06, 0x02, 0x01, 0x02,
         0x01, 0x01, 0x00,
     ];
-    let mut values = found(&format, rt.alloc(), &octets)?;
-    assert!(rt; is_written(&format, rt.alloc(), &values, &octets));
-    values.push((Integer::from(1), (false, ())))?;
-    assert!(rt; written(&format, rt.alloc(), &values).is_err());
+    do_elements_end(&elements, alloc, &octets, (Integer::from(1), (false, ())))
+}
+
+#[test]
+fn sequences_ascend_by_the_first_element_that_differs(rt: HostRuntime) -> Result<(), Fail> {
+    assert!(rt; do_sequences_ascend(rt.alloc()));
     Ok(())
 }
 
@@ -139,32 +228,29 @@ fn tags_have_an_order(rt: HostRuntime) -> Result<(), Fail> {
         number: 0,
     };
     // X.680 8.6
-    assert!(rt; universal(2, false).precedes(universal(16, true)));
-    assert!(rt; universal(16, true).precedes(context));
-    assert!(rt; !context.precedes(context));
-    assert!(rt; !context.precedes(universal(30, false)));
+    assert!(rt;
+        universal(2, false).precedes(universal(16, true))
+            && universal(16, true).precedes(context)
+            && !context.precedes(context)
+            && !context.precedes(universal(30, false))
+    );
     Ok(())
 }
 
 #[test]
 fn elements_of_any_tag_ascend_by_their_octets(rt: HostRuntime) -> Result<(), Fail> {
-    let format = element(17, true, SetOf { item: Any {} });
     // INTEGER 5, NULL, and the tags 16,384 and 256 of an application, in this order
     // (X.690 8.1.2.4).
     let octets = [
         0x31, 0x0E, 0x02, 0x01, 0x05, 0x05, 0x00, 0x5F, 0x81, 0x80, 0x00, 0x00, 0x5F, 0x82, 0x00,
         0x00,
     ];
-    let mut values = found(&format, rt.alloc(), &octets)?;
-    assert!(rt; is_written(&format, rt.alloc(), &values, &octets));
-    values.reverse();
-    assert!(rt; written(&format, rt.alloc(), &values).is_err());
+    assert!(rt; does_set_ascend(&Any {}, rt.alloc(), &octets));
     Ok(())
 }
 
-#[test]
-fn alternatives_and_missing_elements_ascend_by_their_tags(rt: HostRuntime) -> Result<(), Fail> {
-    // SET OF SEQUENCE { a CHOICE { b INTEGER, c BOOLEAN } OPTIONAL, d NULL OPTIONAL }
+/// Whether a SET OF SEQUENCE { a CHOICE { b INTEGER, c BOOLEAN } OPTIONAL, d NULL OPTIONAL } ascends.
+fn do_alternatives_ascend(alloc: Global, octets: &[u8]) -> bool {
     let rest = Optional {
         first: element(5, false, Sequence { elements: End {} }),
         rest: End {},
@@ -173,23 +259,22 @@ fn alternatives_and_missing_elements_ascend_by_their_tags(rt: HostRuntime) -> Re
         first: element(2, false, IntegerContents {}),
         others: element(1, false, BooleanContents {}),
     };
-    let item = sequence(Optional { first, rest });
-    let format = element(17, true, SetOf { item });
+    do_elements_ascend(&Optional { first, rest }, alloc, octets)
+}
+
+#[test]
+fn alternatives_and_missing_elements_ascend_by_their_tags(rt: HostRuntime) -> Result<(), Fail> {
     // FALSE, INTEGER 5, and TRUE and NULL: 01 is below 02, and more octets are last.
     let octets = [
         0x31, 0x11, 0x30, 0x03, 0x01, 0x01, 0x00, 0x30, 0x03, 0x02, 0x01, 0x05, 0x30, 0x05, 0x01,
         0x01, 0xFF, 0x05, 0x00,
     ];
-    let mut values = found(&format, rt.alloc(), &octets)?;
-    assert!(rt; is_written(&format, rt.alloc(), &values, &octets));
-    values.reverse();
-    assert!(rt; written(&format, rt.alloc(), &values).is_err());
+    assert!(rt; do_alternatives_ascend(rt.alloc(), &octets));
     Ok(())
 }
 
-#[test]
-fn the_tags_of_a_set_ascend(rt: HostRuntime) -> Result<(), Fail> {
-    // SET { a BOOLEAN, b INTEGER OPTIONAL }
+/// Whether the octets are kept of a SET { a BOOLEAN, b INTEGER OPTIONAL }.
+fn is_set_kept(alloc: Global, octets: &[u8]) -> bool {
     let elements = Required {
         first: element(1, false, BooleanContents {}),
         rest: Optional {
@@ -197,15 +282,63 @@ fn the_tags_of_a_set_ascend(rt: HostRuntime) -> Result<(), Fail> {
             rest: End {},
         },
     };
-    let format = element(17, true, Set { elements });
-    let octets = [0x31, 0x06, 0x01, 0x01, 0xFF, 0x02, 0x01, 0x05];
-    let value = found(&format, rt.alloc(), &octets)?;
-    assert!(rt; is_written(&format, rt.alloc(), &value, &octets));
-    Ok(())
+    is_kept(&element(17, true, Set { elements }), alloc, octets)
 }
 
 #[test]
-fn a_set_in_another_order_is_refused(rt: HostRuntime) -> Result<(), Fail> {
+fn the_tags_of_a_set_ascend(rt: HostRuntime) -> Result<(), Fail> {
+    assert!(rt;
+        is_set_kept(
+            rt.alloc(),
+            &[0x31, 0x06, 0x01, 0x01, 0xFF, 0x02, 0x01, 0x05]
+        )
+    );
+    Ok(())
+}
+
+/// Whether the octets of a SET are refused for the order of its tags.
+fn do_read_tags_descend<E: SetElements>(
+    format: &Tlv<Set<E>>,
+    alloc: Global,
+    octets: &[u8],
+) -> bool {
+    match fault_of(format, alloc, octets) {
+        Some(InTlv::Contents(InTagOrder::Descends)) => true,
+        _ => false,
+    }
+}
+
+/// Whether the value of a SET is refused for the order of its tags.
+fn do_tags_descend<E: SetElements>(format: &Tlv<Set<E>>, alloc: Global, value: &E::Value) -> bool {
+    match misfit_of(format, alloc, value) {
+        Some(TlvMisfit::Contents(InTagOrder::Descends)) => true,
+        _ => false,
+    }
+}
+
+/// Whether neither the octets nor the value are a SET of these elements, since its tags descend.
+fn is_set_refused<E: SetElements + Copy>(
+    elements: &E,
+    alloc: Global,
+    octets: &[u8],
+    value: &E::Value,
+) -> bool {
+    let format = element(
+        17,
+        true,
+        Set {
+            elements: *elements,
+        },
+    );
+    do_read_tags_descend(&format, alloc, octets) && do_tags_descend(&format, alloc, value)
+}
+
+/// Whether neither the octets nor the value are a SET { a INTEGER, b BOOLEAN }.
+fn is_number_before_flag_refused(
+    alloc: Global,
+    octets: &[u8],
+    value: &(Integer, (bool, ())),
+) -> bool {
     let elements = Required {
         first: element(2, false, IntegerContents {}),
         rest: Required {
@@ -213,23 +346,13 @@ fn a_set_in_another_order_is_refused(rt: HostRuntime) -> Result<(), Fail> {
             rest: End {},
         },
     };
-    let format = element(17, true, Set { elements });
+    is_set_refused(&elements, alloc, octets, value)
+}
+
+#[test]
+fn a_set_in_another_order_is_refused(rt: HostRuntime) -> Result<(), Fail> {
     let octets = [0x31, 0x06, 0x02, 0x01, 0x05, 0x01, 0x01, 0xFF];
-    assert!(rt;
-        is_refused(
-            &format,
-            rt.alloc(),
-            &octets,
-            InTlv::Contents(InTagOrder::Descends)
-        )
-    );
-    assert!(rt;
-        is_misfit(
-            &format,
-            rt.alloc(),
-            &(Integer::from(5), (true, ())),
-            TlvMisfit::Contents(InTagOrder::Descends)
-        )
-    );
+    let value = (Integer::from(5), (true, ()));
+    assert!(rt; is_number_before_flag_refused(rt.alloc(), &octets, &value));
     Ok(())
 }

@@ -1,120 +1,186 @@
 //! Strings.
 
-use super::calls::{element, found, is_found, is_refused, is_written};
+use super::calls::{are_refused, element, is_found, is_read, is_written, value_of};
 use asn1_der::{
-    BmpStringContents, BmpStringFault, CharacterStringContents, InTlv, NotInSet, NotUtf8,
+    BmpStringContents, BmpStringFault, CharacterStringContents, NotInSet, NotUtf8, Tlv,
     Utf8StringContents,
 };
-use asn1_formats::Refusal;
-use asn1_values::{
-    BmpString, Ia5, Ia5String, Numeric, Printable, PrintableString, StaticPermittedAlphabet,
-    Teletex, Visible, VisibleString,
+use asn1_strings::{
+    BmpString, Ia5, Numeric, Printable, RestrictedString, StaticPermittedAlphabet, StringKind,
+    Teletex, Visible,
 };
+use std::alloc::Global;
 use std::test::Fail;
 
 // Expected octets from `openssl asn1parse -genstr PRINTABLE:..`, and so on.
 
+/// A string of a kind.
+fn string<K>(number: u64, kind: K) -> Tlv<CharacterStringContents<K>> {
+    element(number, false, CharacterStringContents { kind })
+}
+
+/// Whether the octets are a string of these characters.
+fn is_text<K: StringKind<T = u8>>(
+    format: &Tlv<CharacterStringContents<K>>,
+    alloc: Global,
+    text: &[u8],
+    octets: &[u8],
+) -> bool {
+    match RestrictedString::<K>::try_from_slice(alloc, text) {
+        Ok(value) => is_found(format, alloc, octets, &value),
+        Err(_) => false,
+    }
+}
+
+/// Whether a string of these characters is written as the octets.
+fn is_text_written<K: StringKind<T = u8>>(
+    format: &Tlv<CharacterStringContents<K>>,
+    alloc: Global,
+    text: &[u8],
+    octets: &[u8],
+) -> bool {
+    match RestrictedString::<K>::try_from_slice(alloc, text) {
+        Ok(value) => is_written(format, alloc, &value, octets),
+        Err(_) => false,
+    }
+}
+
+/// Whether the octets are a string of so many characters.
+fn is_long<K: StringKind<T = u8>>(
+    format: &Tlv<CharacterStringContents<K>>,
+    alloc: Global,
+    octets: &[u8],
+    count: usize,
+) -> bool {
+    match value_of(format, alloc, octets) {
+        Some(value) => value.len() == count,
+        None => false,
+    }
+}
+
+/// Whether a PrintableString is written and read, and another character refused.
+fn is_printable_string_right(alloc: Global) -> bool {
+    let format = string(19, Printable);
+    let text = b"Test User 1";
+    let octets = b"\x13\x0BTest User 1";
+    let refused: [(&[u8], NotInSet); 1] = [(
+        b"\x13\x03a@*",
+        NotInSet {
+            index: 1,
+            character: b'@',
+        },
+    )];
+    is_text_written(&format, alloc, text, octets)
+        && is_text(&format, alloc, text, octets)
+        && are_refused(&format, alloc, &refused)
+}
+
 #[test]
 fn a_printable_string_has_an_octet_for_each_character(rt: HostRuntime) -> Result<(), Fail> {
-    let format = element(19, false, CharacterStringContents { kind: Printable });
-    let octets = b"\x13\x0BTest User 1";
-    let value = PrintableString::try_from_slice(rt.alloc(), b"Test User 1")?;
-    assert!(rt; is_written(&format, rt.alloc(), &value, octets));
-    assert!(rt; is_found(&format, rt.alloc(), octets, &value));
-    assert!(rt;
-        is_refused(
-            &format,
-            rt.alloc(),
-            b"\x13\x03a@*",
-            InTlv::Contents(NotInSet {
-                index: 1,
-                character: b'@'
-            })
-        )
-    );
+    assert!(rt; is_printable_string_right(rt.alloc()));
     Ok(())
+}
+
+/// Whether an IA5String is read, and another character refused.
+fn is_ia5_string_right(alloc: Global) -> bool {
+    let format = string(22, Ia5);
+    let refused: [(&[u8], NotInSet); 1] = [(
+        b"\x16\x01\x80",
+        NotInSet {
+            index: 0,
+            character: 0x80,
+        },
+    )];
+    is_text(&format, alloc, b"a@b", b"\x16\x03a@b") && are_refused(&format, alloc, &refused)
+}
+
+/// Whether a NumericString is read, and another character refused.
+fn is_numeric_string_right(alloc: Global) -> bool {
+    let format = string(18, Numeric);
+    is_long(&format, alloc, b"\x12\x0412 3", 4) && !is_read(&format, alloc, b"\x12\x041-23")
 }
 
 #[test]
 fn other_sets_have_other_characters(rt: HostRuntime) -> Result<(), Fail> {
+    let alloc = rt.alloc();
     // X.690 8.23.11: the VisibleString "Jones".
-    let visible = element(26, false, CharacterStringContents { kind: Visible });
-    let value = VisibleString::try_from_slice(rt.alloc(), b"Jones")?;
-    assert!(rt; is_found(&visible, rt.alloc(), b"\x1A\x05Jones", &value));
-    let ia5 = element(22, false, CharacterStringContents { kind: Ia5 });
-    let value = Ia5String::try_from_slice(rt.alloc(), b"a@b")?;
-    assert!(rt; is_found(&ia5, rt.alloc(), b"\x16\x03a@b", &value));
     assert!(rt;
-        is_refused(
-            &ia5,
-            rt.alloc(),
-            b"\x16\x01\x80",
-            InTlv::Contents(NotInSet {
-                index: 0,
-                character: 0x80
-            })
-        )
+        is_text(&string(26, Visible), alloc, b"Jones", b"\x1A\x05Jones")
+            && is_ia5_string_right(alloc)
+            && is_numeric_string_right(alloc)
+            && is_long(&string(20, Teletex), alloc, b"\x14\x01\xE9", 1)
     );
-    let numeric = element(18, false, CharacterStringContents { kind: Numeric });
-    assert!(rt; found(&numeric, rt.alloc(), b"\x12\x0412 3")?.len() == 4);
-    assert!(rt; found(&numeric, rt.alloc(), b"\x12\x041-23").is_err());
-    let teletex = element(20, false, CharacterStringContents { kind: Teletex });
-    assert!(rt; found(&teletex, rt.alloc(), b"\x14\x01\xE9")?.len() == 1);
     Ok(())
+}
+
+/// Whether the octets are this text.
+fn is_utf8(alloc: Global, octets: &[u8], text: &str) -> bool {
+    match value_of(&element(12, false, Utf8StringContents {}), alloc, octets) {
+        Some(found) => found.as_str() == text,
+        None => false,
+    }
+}
+
+/// Whether the text is written as the octets.
+fn is_utf8_written(alloc: Global, text: &str, octets: &[u8]) -> bool {
+    let format = element(12, false, Utf8StringContents {});
+    match String::from_str(alloc, text) {
+        Ok(value) => is_written(&format, alloc, &value, octets),
+        Err(_) => false,
+    }
+}
+
+/// Whether octets that are no UTF-8 are refused.
+fn is_no_utf8_refused(alloc: Global) -> bool {
+    // A character that is cut, a surrogate, and an octet that begins none.
+    let rows: [(&[u8], NotUtf8); 3] = [
+        (b"\x0C\x03a\xE2\x82", NotUtf8 { index: 1 }),
+        (b"\x0C\x05ab\xED\xA0\x80", NotUtf8 { index: 2 }),
+        (b"\x0C\x05\xC3\xA9\xC3\xA9\xFF", NotUtf8 { index: 4 }),
+    ];
+    are_refused(&element(12, false, Utf8StringContents {}), alloc, &rows)
 }
 
 #[test]
 fn a_text_is_in_utf8(rt: HostRuntime) -> Result<(), Fail> {
-    let format = element(12, false, Utf8StringContents {});
     let octets = b"\x0C\x06a\xC3\xA9\xE2\x82\xAC";
-    let value = String::from_str(rt.alloc(), "a\u{e9}\u{20ac}")?;
-    assert!(rt; is_written(&format, rt.alloc(), &value, octets));
-    assert!(rt; found(&format, rt.alloc(), octets)?.as_str() == "a\u{e9}\u{20ac}");
-    // A character that is cut, a surrogate, and an octet that begins none.
-    let rows: [(&[u8], usize); 3] = [
-        (b"\x0C\x03a\xE2\x82", 1),
-        (b"\x0C\x05ab\xED\xA0\x80", 2),
-        (b"\x0C\x05\xC3\xA9\xC3\xA9\xFF", 4),
-    ];
-    for (octets, index) in rows {
-        assert!(rt;
-            is_refused(
-                &format,
-                rt.alloc(),
-                octets,
-                InTlv::Contents(NotUtf8 { index })
-            )
-        );
-    }
+    let text = "a\u{e9}\u{20ac}";
+    assert!(rt; is_utf8_written(rt.alloc(), text, octets) && is_utf8(rt.alloc(), octets, text));
+    assert!(rt; is_no_utf8_refused(rt.alloc()));
     Ok(())
+}
+
+/// Whether a BMPString of these contents is written as the octets, and read from them.
+fn is_bmp_text(alloc: Global, contents: &[u8], octets: &[u8]) -> bool {
+    let format = element(30, false, BmpStringContents {});
+    match BmpString::try_from_slice(alloc, contents) {
+        Ok(value) => {
+            is_written(&format, alloc, &value, octets) && is_found(&format, alloc, octets, &value)
+        }
+        Err(_) => false,
+    }
+}
+
+/// Whether another character, and half of one, are refused.
+fn is_no_bmp_text_refused(alloc: Global) -> bool {
+    let rows: [(&[u8], BmpStringFault); 2] = [
+        (
+            b"\x1E\x04\xFF\xFD\xFF\xFE",
+            BmpStringFault::NotInSet {
+                index: 1,
+                character: 0xFFFE,
+            },
+        ),
+        (b"\x1E\x03\x00\x41\x00", BmpStringFault::HalfCharacter),
+    ];
+    are_refused(&element(30, false, BmpStringContents {}), alloc, &rows)
 }
 
 #[test]
 fn a_bmp_string_has_two_octets_for_each_character(rt: HostRuntime) -> Result<(), Fail> {
-    let format = element(30, false, BmpStringContents {});
     // `openssl asn1parse -genstr FORMAT:UTF8,BMPSTRING:Aé€`
     let octets = b"\x1E\x06\x00\x41\x00\xE9\x20\xAC";
-    let value = BmpString::try_from_slice(rt.alloc(), b"\x00\x41\x00\xE9\x20\xAC")?;
-    assert!(rt; is_written(&format, rt.alloc(), &value, octets));
-    assert!(rt; is_found(&format, rt.alloc(), octets, &value));
-    assert!(rt;
-        is_refused(
-            &format,
-            rt.alloc(),
-            b"\x1E\x04\xFF\xFD\xFF\xFE",
-            InTlv::Contents(BmpStringFault::NotInSet {
-                index: 1,
-                character: 0xFFFE
-            })
-        )
-    );
-    assert!(rt;
-        is_refused(
-            &format,
-            rt.alloc(),
-            b"\x1E\x03\x00\x41\x00",
-            InTlv::Contents(BmpStringFault::HalfCharacter)
-        )
-    );
+    assert!(rt; is_bmp_text(rt.alloc(), b"\x00\x41\x00\xE9\x20\xAC", octets));
+    assert!(rt; is_no_bmp_text_refused(rt.alloc()));
     Ok(())
 }

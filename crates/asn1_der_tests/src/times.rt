@@ -1,12 +1,11 @@
 //! Times.
 
-use super::calls::{element, found, is_found, is_misfit, is_refused, is_written};
+use super::calls::{are_refused, element, is_found, is_misfit, is_written};
 use asn1_der::{
-    FractionalTime, FractionalTimeContents, FractionalTimeMisfit, GeneralizedTimeContents, InTlv,
-    Moment, NoTime, TimeFault, TlvMisfit, UtcTime, UtcTimeContents,
+    FractionalTime, FractionalTimeContents, FractionalTimeMisfit, GeneralizedTimeContents, Moment,
+    NoTime, TimeFault, Tlv, UtcTime, UtcTimeContents,
 };
-use asn1_formats::WriteRefusal;
-use std::alloc::{AllocError, Global};
+use std::alloc::Global;
 use std::test::Fail;
 
 /// A time in two digits of the year.
@@ -21,24 +20,32 @@ fn utc(year: u8, month: u8, day: u8) -> UtcTime {
     }
 }
 
-#[test]
-fn a_utc_time_has_two_digits_of_the_year(rt: HostRuntime) -> Result<(), Fail> {
-    let format = element(23, false, UtcTimeContents {});
-    // `openssl asn1parse -genstr UTC:130626133828Z`
-    let octets = b"\x17\x0D130626133828Z";
-    assert!(rt; is_written(&format, rt.alloc(), &utc(13, 6, 26), octets));
-    let time = found(&format, rt.alloc(), octets)?;
-    assert!(rt; time == utc(13, 6, 26));
-    // RFC 5280 4.1.2.5.1
-    assert!(rt; time.moment().year == 2013);
-    assert!(rt; utc(49, 1, 1).moment().year == 2049);
-    assert!(rt; utc(50, 1, 1).moment().year == 1950);
-    Ok(())
+/// The format of a UTCTime.
+fn utc_format() -> Tlv<UtcTimeContents> {
+    element(23, false, UtcTimeContents {})
+}
+
+/// Whether the time is written as the octets, and read from them.
+fn is_utc_spelled(alloc: Global, time: UtcTime, octets: &[u8]) -> bool {
+    let format = utc_format();
+    is_written(&format, alloc, &time, octets) && is_found(&format, alloc, octets, &time)
 }
 
 #[test]
-fn a_wrong_utc_time_is_refused(rt: HostRuntime) -> Result<(), Fail> {
-    let format = element(23, false, UtcTimeContents {});
+fn a_utc_time_has_two_digits_of_the_year(rt: HostRuntime) -> Result<(), Fail> {
+    // `openssl asn1parse -genstr UTC:130626133828Z`
+    assert!(rt; is_utc_spelled(rt.alloc(), utc(13, 6, 26), b"\x17\x0D130626133828Z"));
+    // RFC 5280 4.1.2.5.1
+    assert!(rt;
+        utc(13, 6, 26).moment().year == 2013
+            && utc(49, 1, 1).moment().year == 2049
+            && utc(50, 1, 1).moment().year == 1950
+    );
+    Ok(())
+}
+
+/// Whether octets that are no UTCTime are refused.
+fn is_no_utc_time_refused(alloc: Global) -> bool {
     let rows: [(&[u8], TimeFault); 6] = [
         (b"\x17\x0B1306261338Z", TimeFault::Octets { count: 11 }),
         (
@@ -59,34 +66,20 @@ fn a_wrong_utc_time_is_refused(rt: HostRuntime) -> Result<(), Fail> {
         (b"\x17\x0D130626240000Z", TimeFault::NoSuchTime),
         (b"\x17\x0D130026133828Z", TimeFault::NoSuchTime),
     ];
-    for (octets, fault) in rows {
-        assert!(rt; is_refused(&format, rt.alloc(), octets, InTlv::Contents(fault)));
-    }
-    // 2012 and 2000 have a 29 February.
-    assert!(rt;
-        is_found(
-            &format,
-            rt.alloc(),
-            b"\x17\x0D120229133828Z",
-            &utc(12, 2, 29)
-        )
-    );
-    assert!(rt;
-        is_found(
-            &format,
-            rt.alloc(),
-            b"\x17\x0D000229133828Z",
-            &utc(0, 2, 29)
-        )
-    );
-    assert!(rt;
-        is_misfit(
-            &format,
-            rt.alloc(),
-            &utc(100, 1, 1),
-            TlvMisfit::Contents(NoTime {})
-        )
-    );
+    are_refused(&utc_format(), alloc, &rows)
+}
+
+/// Whether 2012 and 2000 have a 29 February, and no year 100 is written.
+fn is_utc_time_right(alloc: Global) -> bool {
+    let format = utc_format();
+    is_found(&format, alloc, b"\x17\x0D120229133828Z", &utc(12, 2, 29))
+        && is_found(&format, alloc, b"\x17\x0D000229133828Z", &utc(0, 2, 29))
+        && is_misfit(&format, alloc, &utc(100, 1, 1), NoTime {})
+}
+
+#[test]
+fn a_wrong_utc_time_is_refused(rt: HostRuntime) -> Result<(), Fail> {
+    assert!(rt; is_no_utc_time_refused(rt.alloc()) && is_utc_time_right(rt.alloc()));
     Ok(())
 }
 
@@ -102,60 +95,67 @@ fn last_second(year: u16, month: u8, day: u8) -> Moment {
     }
 }
 
-#[test]
-fn a_generalized_time_has_four_digits_of_the_year(rt: HostRuntime) -> Result<(), Fail> {
+/// Whether a GeneralizedTime is written and read, and no other octets are.
+fn is_generalized_time_right(alloc: Global) -> bool {
     let format = element(24, false, GeneralizedTimeContents {});
     // `openssl asn1parse -genstr GENTIME:20501231235959Z`
     let octets = b"\x18\x0F20501231235959Z";
     let value = last_second(2050, 12, 31);
-    assert!(rt; is_written(&format, rt.alloc(), &value, octets));
-    assert!(rt; is_found(&format, rt.alloc(), octets, &value));
     // 2100 has no 29 February, 2400 has one.
-    assert!(rt;
-        is_refused(
-            &format,
-            rt.alloc(),
-            b"\x18\x0F21000229235959Z",
-            InTlv::Contents(TimeFault::NoSuchTime)
-        )
-    );
-    assert!(rt;
-        is_found(
-            &format,
-            rt.alloc(),
-            b"\x18\x0F24000229235959Z",
-            &last_second(2400, 2, 29)
-        )
-    );
-    assert!(rt;
-        is_refused(
-            &format,
-            rt.alloc(),
+    let leap = last_second(2400, 2, 29);
+    let refused: [(&[u8], TimeFault); 2] = [
+        (b"\x18\x0F21000229235959Z", TimeFault::NoSuchTime),
+        (
             b"\x18\x1120501231235959.5Z",
-            InTlv::Contents(TimeFault::Octets { count: 17 })
-        )
-    );
+            TimeFault::Octets { count: 17 },
+        ),
+    ];
+    is_written(&format, alloc, &value, octets)
+        && is_found(&format, alloc, octets, &value)
+        && is_found(&format, alloc, b"\x18\x0F24000229235959Z", &leap)
+        && are_refused(&format, alloc, &refused)
+}
+
+#[test]
+fn a_generalized_time_has_four_digits_of_the_year(rt: HostRuntime) -> Result<(), Fail> {
+    assert!(rt; is_generalized_time_right(rt.alloc()));
     Ok(())
 }
 
-/// A time of 1992 with these digits of a fraction.
-fn fractional(alloc: Global, fraction: &[u8]) -> Result<FractionalTime, AllocError> {
-    Ok(FractionalTime {
-        moment: Moment {
-            year: 1992,
-            month: 7,
-            day: 22,
-            hour: 13,
-            minute: 21,
-            second: 0,
-        },
-        fraction: Vec::from_slice(alloc, fraction)?,
-    })
+/// The format of a GeneralizedTime that may have a fraction.
+fn fractional_format() -> Tlv<FractionalTimeContents> {
+    element(24, false, FractionalTimeContents {})
+}
+
+/// A time of 1992 with these digits of a fraction, where there is memory.
+fn fractional(alloc: Global, fraction: &[u8]) -> Option<FractionalTime> {
+    let moment = Moment {
+        year: 1992,
+        month: 7,
+        day: 22,
+        hour: 13,
+        minute: 21,
+        second: 0,
+    };
+    match Vec::from_slice(alloc, fraction) {
+        Ok(fraction) => Some(FractionalTime { moment, fraction }),
+        Err(_) => None,
+    }
+}
+
+/// Whether the time with this fraction is written as the octets, and read from them.
+fn is_fraction_spelled(alloc: Global, fraction: &[u8], octets: &[u8]) -> bool {
+    let format = fractional_format();
+    match fractional(alloc, fraction) {
+        Some(value) => {
+            is_written(&format, alloc, &value, octets) && is_found(&format, alloc, octets, &value)
+        }
+        None => false,
+    }
 }
 
 #[test]
 fn a_time_may_have_a_fraction(rt: HostRuntime) -> Result<(), Fail> {
-    let format = element(24, false, FractionalTimeContents {});
     // The first is of X.690 11.7.5.
     let rows: [(&[u8], &[u8]); 3] = [
         (b"3", b"\x18\x1119920722132100.3Z"),
@@ -163,16 +163,22 @@ fn a_time_may_have_a_fraction(rt: HostRuntime) -> Result<(), Fail> {
         (b"0625", b"\x18\x1419920722132100.0625Z"),
     ];
     for (fraction, octets) in rows {
-        let value = fractional(rt.alloc(), fraction)?;
-        assert!(rt; is_written(&format, rt.alloc(), &value, octets));
-        assert!(rt; is_found(&format, rt.alloc(), octets, &value));
+        assert!(rt; is_fraction_spelled(rt.alloc(), fraction, octets));
     }
     Ok(())
 }
 
-#[test]
-fn a_wrong_fraction_is_refused(rt: HostRuntime) -> Result<(), Fail> {
-    let format = element(24, false, FractionalTimeContents {});
+/// Whether a fraction with this digit at the end is not written.
+fn is_fraction_misfit(alloc: Global, fraction: &[u8], index: usize) -> bool {
+    let misfit = FractionalTimeMisfit::Fraction { index };
+    match fractional(alloc, fraction) {
+        Some(value) => is_misfit(&fractional_format(), alloc, &value, misfit),
+        None => false,
+    }
+}
+
+/// Whether octets that are no time with a fraction are refused.
+fn are_fractions_refused(alloc: Global) -> bool {
     // The first three are of X.690 11.7.5.
     let rows: [(&[u8], TimeFault); 5] = [
         (b"\x18\x0F19920520240000Z", TimeFault::NoSuchTime),
@@ -199,17 +205,11 @@ fn a_wrong_fraction_is_refused(rt: HostRuntime) -> Result<(), Fail> {
             },
         ),
     ];
-    for (octets, fault) in rows {
-        assert!(rt; is_refused(&format, rt.alloc(), octets, InTlv::Contents(fault)));
-    }
-    let wrong = FractionalTimeMisfit::Fraction { index: 1 };
-    assert!(rt;
-        is_misfit(
-            &format,
-            rt.alloc(),
-            &fractional(rt.alloc(), b"30")?,
-            TlvMisfit::Contents(wrong)
-        )
-    );
+    are_refused(&fractional_format(), alloc, &rows)
+}
+
+#[test]
+fn a_wrong_fraction_is_refused(rt: HostRuntime) -> Result<(), Fail> {
+    assert!(rt; are_fractions_refused(rt.alloc()) && is_fraction_misfit(rt.alloc(), b"30", 1));
     Ok(())
 }
