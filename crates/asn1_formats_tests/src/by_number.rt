@@ -2,12 +2,11 @@
 
 ghost use Rattle.std.specs.Prelude.{cond, ltb};
 
-use super::calls::{is_found, is_misfit, is_refused, is_written};
+use super::calls::{has_form, is_misfit, is_refused};
 use asn1_formats::{Chooses, ConstrainedNumber, Dependent, InThen, Size, SizeFault, SizeMisfit};
-use std::test::Fail;
 
 /// The numbers of version 0, and those of the versions from 1 on.
-#[derive(Clone, Copy, Debug)]
+#[derive(Clone, Copy)]
 pub(crate) struct ByVersion {
     first: ConstrainedNumber,
     later: ConstrainedNumber,
@@ -35,42 +34,19 @@ fn format() -> Dependent<Size, ByVersion> {
 }
 
 #[test]
-fn the_number_in_front_chooses_the_format(rt: HostRuntime) -> Result<(), Fail> {
+fn the_number_in_front_chooses_the_format(rt: HostRuntime) {
+    let format = format();
     // 111 | 00 | 1001
-    assert!(rt; is_written(&format(), rt.alloc(), &(0, 9), &[0xE4, 0x80], 9));
-    assert!(rt; is_found(&format(), rt.alloc(), &[0xE4, 0x80], 3, (0, 9), 7));
+    assert!(rt; has_form(&format, rt.alloc(), &(0, 9), &[0xE4, 0x80], 9, 7));
     // 111 | 10 | 1000001: 1 lies 65 above -64
-    assert!(rt; is_written(&format(), rt.alloc(), &(2, 1), &[0xF4, 0x10], 12));
-    assert!(rt; is_found(&format(), rt.alloc(), &[0xF4, 0x10], 3, (2, 1), 4));
-    Ok(())
-}
-
-#[test]
-fn what_is_wrong_is_named_by_the_format_that_was_chosen(rt: HostRuntime) -> Result<(), Fail> {
+    assert!(rt; has_form(&format, rt.alloc(), &(2, 1), &[0xF4, 0x10], 12, 4));
+    // What is wrong is named by the format that was chosen.
+    let second = InThen::Second(SizeMisfit::BelowLeast);
+    let first = InThen::First(SizeMisfit::AboveMost);
     assert!(rt;
-        is_misfit(
-            &format(),
-            rt.alloc(),
-            &(0, -1),
-            InThen::Second(SizeMisfit::BelowLeast)
-        )
+        is_misfit(&format, rt.alloc(), &(0, -1), second)
+            && is_misfit(&format, rt.alloc(), &(4, -1), first)
     );
-    assert!(rt;
-        is_misfit(
-            &format(),
-            rt.alloc(),
-            &(4, -1),
-            InThen::First(SizeMisfit::AboveMost)
-        )
-    );
-    assert!(rt;
-        is_refused(
-            &format(),
-            rt.alloc(),
-            &[0xF4],
-            3,
-            InThen::Second(SizeFault::Short { missing: 4 })
-        )
-    );
-    Ok(())
+    let short = InThen::Second(SizeFault::Short { missing: 4 });
+    assert!(rt; is_refused(&format, rt.alloc(), &[0xF4], 3, short));
 }

@@ -3,6 +3,7 @@
 use asn1_formats::{Format, Refusal, WriteRefusal, read, write};
 use asn1_values::{BitBuffer, BitReader};
 use std::alloc::Global;
+use std::fmt::Display;
 
 /// The buffer behind three ones.
 pub(crate) fn written<F: Format>(
@@ -80,15 +81,53 @@ pub(crate) fn is_found<F: Format>(
     alloc: Global,
     octets: &[u8],
     start: usize,
-    value: F::Value,
+    value: &F::Value,
     left: usize,
 ) -> bool
 where
     F::Value: PartialEq,
 {
     match found(format, alloc, octets, start) {
-        Ok((read, bits)) => read == value && bits == left,
+        Ok((read, bits)) => read == *value && bits == left,
         Err(_) => false,
+    }
+}
+
+/// Whether the value is written behind three ones as these bits, so many in all, and found there
+/// again with so many bits left.
+pub(crate) fn has_form<F: Format>(
+    format: &F,
+    alloc: Global,
+    value: &F::Value,
+    octets: &[u8],
+    bits: usize,
+    left: usize,
+) -> bool
+where
+    F::Value: PartialEq,
+{
+    is_written(format, alloc, value, octets, bits)
+        && is_found(format, alloc, octets, 3, value, left)
+}
+
+/// The octets of a form behind three ones, how many bits it has in all, and how many are left where
+/// it is read.
+pub(crate) type Form<'a> = (&'a [u8], usize, usize);
+
+/// Whether the value has this form, or is refused for this misfit.
+pub(crate) fn gives<F: Format>(
+    format: &F,
+    alloc: Global,
+    value: &F::Value,
+    expected: Result<Form<'_>, F::Misfit>,
+) -> bool
+where
+    F::Value: PartialEq,
+    F::Misfit: PartialEq,
+{
+    match expected {
+        Ok((octets, bits, left)) => has_form(format, alloc, value, octets, bits, left),
+        Err(misfit) => is_misfit(format, alloc, value, misfit),
     }
 }
 
@@ -106,5 +145,73 @@ where
     match found(format, alloc, octets, start) {
         Err(Refusal::Wrong(found)) => found == fault,
         _ => false,
+    }
+}
+
+/// Whether each of the octets, behind its first bits, is refused for the fault beside it.
+pub(crate) fn are_refused<F: Format>(
+    format: &F,
+    alloc: Global,
+    rows: &[(&[u8], usize, F::Fault)],
+) -> bool
+where
+    F::Fault: PartialEq,
+{
+    for row in rows {
+        match found(format, alloc, row.0, row.1) {
+            Err(Refusal::Wrong(found)) => {
+                if found != row.2 {
+                    return false;
+                }
+            }
+            _ => return false,
+        }
+    }
+    true
+}
+
+/// Whether nothing can be read behind the first `start` bits.
+pub(crate) fn fails<F: Format>(format: &F, alloc: Global, octets: &[u8], start: usize) -> bool {
+    found(format, alloc, octets, start).is_err()
+}
+
+/// Whether the words of what is wrong with the value are these.
+pub(crate) fn misfit_says<F: Format>(
+    format: &F,
+    alloc: Global,
+    value: &F::Value,
+    words: &str,
+) -> bool
+where
+    F::Misfit: Display,
+{
+    match written(format, alloc, value) {
+        Err(refusal) => says(alloc, &refusal, words),
+        Ok(_) => false,
+    }
+}
+
+/// Whether the words of what is wrong behind the first `start` bits are these.
+pub(crate) fn fault_says<F: Format>(
+    format: &F,
+    alloc: Global,
+    octets: &[u8],
+    start: usize,
+    words: &str,
+) -> bool
+where
+    F::Fault: Display,
+{
+    match found(format, alloc, octets, start) {
+        Err(refusal) => says(alloc, &refusal, words),
+        Ok(_) => false,
+    }
+}
+
+/// Whether the words for this are these.
+pub(crate) fn says<T: Display>(alloc: Global, value: &T, words: &str) -> bool {
+    match format!(in alloc; "{value}") {
+        Ok(text) => text.as_str() == words,
+        Err(_) => false,
     }
 }

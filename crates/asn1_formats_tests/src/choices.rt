@@ -1,11 +1,11 @@
 //! CHOICE.
 
-use super::calls::{is_found, is_misfit, is_refused, is_written, written};
+use super::calls::{are_refused, has_form, is_misfit, is_written};
 use asn1_formats::{
     Boolean, Choice, ConstrainedNumber, InChoice, Last, NoBit, Null, Number, OneOf, Or, Short,
     SizeFault, SizeMisfit,
 };
-use std::test::Fail;
+use std::alloc::Global;
 
 /// CHOICE { INTEGER (-5..5), a field of three bits, BOOLEAN }.
 type Three = Or<ConstrainedNumber, Or<Number, Last<Boolean>>>;
@@ -20,101 +20,70 @@ fn three() -> Result<Choice<Three>, Three> {
     })
 }
 
+/// Whether the value is written behind three ones as these octets, so many bits in all, and found
+/// there again with so many bits left.
+fn three_has_form(
+    alloc: Global,
+    value: OneOf<i64, OneOf<u64, bool>>,
+    octets: &[u8],
+    bits: usize,
+    left: usize,
+) -> bool {
+    match three() {
+        Ok(format) => has_form(&format, alloc, &value, octets, bits, left),
+        Err(_) => false,
+    }
+}
+
 #[test]
-fn three_alternatives_have_two_bits_of_index(rt: HostRuntime) -> Result<(), Fail> {
-    let format = three().ok().ok_or("three can be counted")?;
+fn three_alternatives_have_two_bits_of_index(rt: HostRuntime) {
     // 111 | 00 0011
-    assert!(rt;
-        is_written(
-            &format,
-            rt.alloc(),
-            &OneOf::First(-2),
-            &[0b1110_0001, 0b1000_0000],
-            9
-        )
-    );
+    let octets = [0b1110_0001, 0b1000_0000];
+    assert!(rt; three_has_form(rt.alloc(), OneOf::First(-2), &octets, 9, 7));
     // 111 | 01 110
-    let buffer = written(&format, rt.alloc(), &OneOf::Other(OneOf::First(6)))?;
-    assert!(rt; buffer.as_bytes() == [0b1110_1110].as_slice());
-    assert!(rt;
-        is_found(
-            &format,
-            rt.alloc(),
-            &[0b1110_1110],
-            3,
-            OneOf::Other(OneOf::First(6)),
-            0
-        )
-    );
+    let second = OneOf::Other(OneOf::First(6));
+    assert!(rt; three_has_form(rt.alloc(), second, &[0b1110_1110], 8, 0));
     // 111 | 10 1
-    assert!(rt;
-        is_written(
-            &format,
-            rt.alloc(),
-            &OneOf::Other(OneOf::Other(true)),
-            &[0b1111_0100],
-            6
-        )
-    );
-    assert!(rt;
-        is_misfit(
-            &format,
-            rt.alloc(),
-            &OneOf::First(6),
-            OneOf::First(SizeMisfit::AboveMost)
-        )
-    );
-    Ok(())
+    let third = OneOf::Other(OneOf::Other(true));
+    assert!(rt; three_has_form(rt.alloc(), third, &[0b1111_0100], 6, 2));
 }
 
-#[test]
-fn wrong_bits_of_a_choice_are_named(rt: HostRuntime) -> Result<(), Fail> {
-    let format = three().ok().ok_or("three can be counted")?;
-    assert!(rt;
-        is_refused(
-            &format,
-            rt.alloc(),
-            &[0b1100_0000],
+/// Whether a number past its bounds and wrong bits are refused, each by its name.
+fn wrong_is_named(alloc: Global, format: &Choice<Three>) -> bool {
+    let bit = OneOf::Other(OneOf::Other(NoBit {}));
+    let number = OneOf::Other(OneOf::First(Short { missing: 1 }));
+    let rows = [
+        (
+            [0b1100_0000].as_slice(),
             0,
-            InChoice::Index(SizeFault::PastMost { distance: 3 })
-        )
-    );
-    assert!(rt;
-        is_refused(
-            &format,
-            rt.alloc(),
-            &[1],
+            InChoice::Index(SizeFault::PastMost { distance: 3 }),
+        ),
+        (
+            [1].as_slice(),
             7,
-            InChoice::Index(SizeFault::Short { missing: 1 })
-        )
-    );
-    assert!(rt;
-        is_refused(
-            &format,
-            rt.alloc(),
-            &[0b0000_0010],
-            6,
-            InChoice::Alternative(OneOf::Other(OneOf::Other(NoBit {})))
-        )
-    );
-    assert!(rt;
-        is_refused(
-            &format,
-            rt.alloc(),
-            &[0b0000_0100],
-            4,
-            InChoice::Alternative(OneOf::Other(OneOf::First(Short { missing: 1 })))
-        )
-    );
-    Ok(())
+            InChoice::Index(SizeFault::Short { missing: 1 }),
+        ),
+        ([0b0000_0010].as_slice(), 6, InChoice::Alternative(bit)),
+        ([0b0000_0100].as_slice(), 4, InChoice::Alternative(number)),
+    ];
+    let misfit = OneOf::First(SizeMisfit::AboveMost);
+    is_misfit(format, alloc, &OneOf::First(6), misfit) && are_refused(format, alloc, &rows)
 }
 
 #[test]
-fn one_alternative_has_no_index(rt: HostRuntime) -> Result<(), Fail> {
-    let format = Choice::new(Last { part: Null {} })
-        .ok()
-        .ok_or("one can be counted")?;
-    let buffer = written(&format, rt.alloc(), &())?;
-    assert!(rt; buffer.len() == 3);
-    Ok(())
+fn what_is_wrong_with_a_choice_is_named(rt: HostRuntime) {
+    let named = match three() {
+        Ok(format) => wrong_is_named(rt.alloc(), &format),
+        Err(_) => false,
+    };
+    assert!(rt; named);
+}
+
+#[test]
+fn one_alternative_has_no_index(rt: HostRuntime) {
+    let written = match Choice::new(Last { part: Null {} }) {
+        Ok(format) => is_written(&format, rt.alloc(), &(), &[0xE0], 3),
+        Err(_) => false,
+    };
+    assert!(rt; written);
 }

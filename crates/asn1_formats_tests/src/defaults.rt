@@ -1,13 +1,10 @@
 //! DEFAULT: octets worked by hand behind three ones.
 
-use super::calls::{found, is_found, is_misfit, is_refused, is_written, written};
+use super::calls::{are_refused, fails, has_form, is_found, is_misfit};
 use asn1_formats::{
     And, BasicDefault, Boolean, CanonicalDefault, InDefault, InSequence, InThen, Required,
     Sequence, Size, SizeMisfit, Then,
 };
-use asn1_values::BitBuffer;
-use std::alloc::Global;
-use std::test::Fail;
 
 /// SEQUENCE { level INTEGER (0..7) DEFAULT 5, flag BOOLEAN } in CANONICAL-PER.
 fn canonical() -> Sequence<And<CanonicalDefault<Size>, Required<Boolean>>> {
@@ -36,42 +33,30 @@ fn basic() -> Sequence<And<BasicDefault<Size>, Required<Boolean>>> {
 }
 
 #[test]
-fn a_default_is_not_written(rt: HostRuntime) -> Result<(), Fail> {
+fn a_default_is_not_written(rt: HostRuntime) {
+    let format = canonical();
     // 111 | 0 | 1
-    assert!(rt; is_written(&canonical(), rt.alloc(), &(5, true), &[0xE8], 5));
-    assert!(rt; is_written(&basic(), rt.alloc(), &(5, true), &[0xE8], 5));
+    assert!(rt; has_form(&format, rt.alloc(), &(5, true), &[0xE8], 5, 3));
     // 111 | 1 | 011 | 1
-    let buffer = written(&canonical(), rt.alloc(), &(3, true))?;
-    assert!(rt; buffer.as_bytes() == [0xF7].as_slice());
-    assert!(rt;
-        is_misfit(
-            &canonical(),
-            rt.alloc(),
-            &(8, true),
-            InThen::First(SizeMisfit::AboveMost)
-        )
-    );
-    Ok(())
+    assert!(rt; has_form(&format, rt.alloc(), &(3, true), &[0xF7], 8, 0));
+    let above = InThen::First(SizeMisfit::AboveMost);
+    assert!(rt; is_misfit(&format, rt.alloc(), &(8, true), above));
+    let twice = InThen::First(InDefault::Written);
+    let rows = [
+        // 111 | 1 | 101 | 1
+        ([0xFB].as_slice(), 3, InSequence::Component(twice)),
+        ([0xE8].as_slice(), 8, InSequence::Presence),
+    ];
+    assert!(rt; are_refused(&format, rt.alloc(), &rows));
 }
 
 #[test]
-fn a_default_that_is_written_is_read_by_basic_per_alone(rt: HostRuntime) -> Result<(), Fail> {
-    assert!(rt; is_found(&canonical(), rt.alloc(), &[0xE8], 3, (5, true), 3));
-    assert!(rt; is_found(&canonical(), rt.alloc(), &[0xF7], 3, (3, true), 0));
+fn a_default_that_is_written_is_read_by_basic_per_alone(rt: HostRuntime) {
+    let format = basic();
+    // 111 | 0 | 1
+    assert!(rt; has_form(&format, rt.alloc(), &(5, true), &[0xE8], 5, 3));
     // 111 | 1 | 101 | 1
-    assert!(rt;
-        is_refused(
-            &canonical(),
-            rt.alloc(),
-            &[0xFB],
-            3,
-            InSequence::Component(InThen::First(InDefault::Written))
-        )
-    );
-    assert!(rt; is_found(&basic(), rt.alloc(), &[0xFB], 3, (5, true), 0));
-    assert!(rt; is_found(&basic(), rt.alloc(), &[0xE8], 3, (5, true), 3));
-    assert!(rt; is_refused(&canonical(), rt.alloc(), &[0xE8], 8, InSequence::Presence));
-    Ok(())
+    assert!(rt; is_found(&format, rt.alloc(), &[0xFB], 3, &(5, true), 0));
 }
 
 /// SEQUENCE { range SEQUENCE { least INTEGER (0..7), flag BOOLEAN } DEFAULT { 5, TRUE } } in
@@ -88,28 +73,13 @@ fn range() -> Sequence<CanonicalDefault<Then<Size, Boolean>>> {
     }
 }
 
-/// The bits of a value behind three ones.
-fn range_bits(alloc: Global, value: (u64, bool)) -> Option<BitBuffer> {
-    written(&range(), alloc, &value).ok()
-}
-
-/// The value behind three bits, and how many bits are left.
-fn range_found(alloc: Global, octets: &[u8]) -> Option<((u64, bool), usize)> {
-    found(&range(), alloc, octets, 3).ok()
-}
-
 #[test]
-fn a_default_may_have_several_parts(rt: HostRuntime) -> Result<(), Fail> {
+fn a_default_may_have_several_parts(rt: HostRuntime) {
+    let format = range();
     // 111 | 0
-    let buffer = range_bits(rt.alloc(), (5, true)).ok_or("written")?;
-    assert!(rt; buffer.len() == 4);
-    assert!(rt; buffer.as_bytes() == [0xE0].as_slice());
-    assert!(rt; range_found(rt.alloc(), &[0xE0]) == Some(((5, true), 4)));
+    assert!(rt; has_form(&format, rt.alloc(), &(5, true), &[0xE0], 4, 4));
     // 111 | 1 | 101 | 0
-    let buffer = range_bits(rt.alloc(), (5, false)).ok_or("written")?;
-    assert!(rt; buffer.as_bytes() == [0xFA].as_slice());
-    assert!(rt; range_found(rt.alloc(), &[0xFA]) == Some(((5, false), 0)));
+    assert!(rt; has_form(&format, rt.alloc(), &(5, false), &[0xFA], 8, 0));
     // The default value is written.
-    assert!(rt; range_found(rt.alloc(), &[0xFB]) == None);
-    Ok(())
+    assert!(rt; fails(&format, rt.alloc(), &[0xFB], 3));
 }

@@ -1,11 +1,11 @@
 //! DEFAULT {}: octets worked by hand behind three ones.
 
-use super::calls::{found, is_misfit, is_written, written};
+use super::calls::{Form, fault_says, gives, has_form, is_found};
 use asn1_formats::{
     And, BasicEmpty, Boolean, CanonicalEmpty, InNamed, InSequenceOf, InThen, Named, Required,
     Sequence, SequenceOf, Size, SizeMisfit,
 };
-use std::test::Fail;
+use std::alloc::Global;
 
 type Marks = SequenceOf<Size, Boolean>;
 
@@ -39,45 +39,51 @@ fn basic() -> Sequence<And<BasicEmpty<Size, Boolean>, Required<Boolean>>> {
     }
 }
 
-#[test]
-fn an_empty_list_is_not_written(rt: HostRuntime) -> Result<(), Fail> {
-    let none = (Vec::new(rt.alloc()), true);
-    // 111 | 0 | 1
-    assert!(rt; is_written(&canonical(), rt.alloc(), &none, &[0xE8], 5));
-    assert!(rt; is_written(&basic(), rt.alloc(), &none, &[0xE8], 5));
-    // 111 | 1 | 01 | 1 | 0
-    let one = (vec![in rt.alloc(); true]?, false);
-    assert!(rt; is_written(&canonical(), rt.alloc(), &one, &[0xF6], 8));
-    let four = (vec![in rt.alloc(); true, true, true, true]?, false);
-    assert!(rt;
-        is_misfit(
-            &canonical(),
-            rt.alloc(),
-            &four,
-            InThen::First(InNamed {
-                name: "marks",
-                wrong: InSequenceOf::Size(SizeMisfit::AboveMost)
-            })
-        )
-    );
-    Ok(())
+/// Whether these marks and the flag have this form in CANONICAL-PER, or are refused for the number
+/// of the marks.
+fn marks_give(
+    alloc: Global,
+    marks: &[bool],
+    flag: bool,
+    expected: Result<Form<'_>, SizeMisfit>,
+) -> bool {
+    let expected = match expected {
+        Ok(form) => Ok(form),
+        Err(wrong) => Err(InThen::First(InNamed {
+            name: "marks",
+            wrong: InSequenceOf::Size(wrong),
+        })),
+    };
+    match marks.to_vec(alloc) {
+        Ok(marks) => gives(&canonical(), alloc, &(marks, flag), expected),
+        Err(_) => false,
+    }
 }
 
 #[test]
-fn an_empty_list_that_is_written_is_read_by_basic_per_alone(rt: HostRuntime) -> Result<(), Fail> {
-    let ((marks, flag), left) = found(&canonical(), rt.alloc(), &[0xE8], 3)?;
-    assert!(rt; (marks.len(), flag, left) == (0, true, 3));
-    let ((marks, flag), left) = found(&canonical(), rt.alloc(), &[0xF6], 3)?;
-    assert!(rt; (marks.as_slice(), flag, left) == ([true].as_slice(), false, 0));
+fn an_empty_list_is_not_written(rt: HostRuntime) {
+    // 111 | 0 | 1
+    assert!(rt; marks_give(rt.alloc(), &[], true, Ok((&[0xE8], 5, 3))));
+    // 111 | 1 | 01 | 1 | 0
+    assert!(rt; marks_give(rt.alloc(), &[true], false, Ok((&[0xF6], 8, 0))));
+    let four = [true, true, true, true];
+    assert!(rt; marks_give(rt.alloc(), &four, false, Err(SizeMisfit::AboveMost)));
     // 111 | 1 | 00 | 1
-    let said = match found(&canonical(), rt.alloc(), &[0xF2], 3).err() {
-        Some(wrong) => format!(in rt.alloc(); "{wrong}")?,
-        None => return Err("an empty list was read".into()),
-    };
-    assert!(rt; said.as_str() == "marks: the default value is written");
-    let ((marks, flag), left) = found(&basic(), rt.alloc(), &[0xF2], 3)?;
-    assert!(rt; (marks.len(), flag, left) == (0, true, 1));
-    let ((marks, flag), left) = found(&basic(), rt.alloc(), &[0xE8], 3)?;
-    assert!(rt; (marks.len(), flag, left) == (0, true, 3));
-    Ok(())
+    let said = "marks: the default value is written";
+    assert!(rt; fault_says(&canonical(), rt.alloc(), &[0xF2], 3, said));
+}
+
+/// Whether in BASIC-PER no mark and a flag have this form, and are found in the other octets too,
+/// with so many bits left.
+fn none_has_form(alloc: Global, form: Form<'_>, other: &[u8], rest: usize) -> bool {
+    let none = (Vec::new(alloc), true);
+    let (octets, bits, left) = form;
+    has_form(&basic(), alloc, &none, octets, bits, left)
+        && is_found(&basic(), alloc, other, 3, &none, rest)
+}
+
+#[test]
+fn an_empty_list_that_is_written_is_read_by_basic_per_alone(rt: HostRuntime) {
+    // 111 | 0 | 1, and 111 | 1 | 00 | 1
+    assert!(rt; none_has_form(rt.alloc(), (&[0xE8], 5, 3), &[0xF2], 1));
 }

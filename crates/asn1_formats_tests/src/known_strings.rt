@@ -1,33 +1,33 @@
 //! Known-multiplier strings, several codes at a time.
 
-use super::calls::{found, is_misfit, is_refused, written};
+use super::calls::{found, is_found, is_misfit, is_refused, is_written, written};
 use asn1_formats::{
     Character, CharacterFault, InSequenceOf, KnownMultiplierString, NotInAlphabet, SequenceOf, Size,
 };
 use asn1_values::{CharacterAlphabet, StaticPermittedAlphabet, VisibleString};
 use std::alloc::{AllocError, Global};
-use std::test::Fail;
 
 const DIGITS: [u32; 10] = [48, 49, 50, 51, 52, 53, 54, 55, 56, 57];
 
 /// The characters of `VisibleString` that are permitted, or all of them.
-fn item(permitted: Option<&'static [u32]>) -> Result<Character<'static>, Fail> {
+fn item(permitted: Option<&'static [u32]>) -> Option<Character<'static>> {
     if let Some(set) = permitted {
         if set.len() > 100 {
-            return Err("at most a hundred characters".into());
+            return None;
         }
     }
-    match Character::new(CharacterAlphabet::new::<VisibleString>(permitted, false)) {
-        Some(item) => Ok(item),
-        None => Err("no character is there twice".into()),
-    }
+    Character::new(CharacterAlphabet::new::<VisibleString>(permitted, false))
 }
 
 /// VisibleString (SIZE (8)) (FROM ("0".."9")), as a date has it (X.691 A.2).
-fn date() -> Result<KnownMultiplierString<'static, Size>, Fail> {
-    Ok(KnownMultiplierString::new(Size::new(8, 8), item(Some(&DIGITS))?))
+fn date() -> Option<KnownMultiplierString<'static, Size>> {
+    match item(Some(&DIGITS)) {
+        Some(item) => Some(KnownMultiplierString::new(Size::new(8, 8), item)),
+        None => None,
+    }
 }
 
+/// The characters with these codes.
 fn text(alloc: Global, octets: &[u8]) -> Result<Vec<u32>, AllocError> {
     let mut text = Vec::new(alloc);
     for octet in octets {
@@ -36,76 +36,104 @@ fn text(alloc: Global, octets: &[u8]) -> Result<Vec<u32>, AllocError> {
     Ok(text)
 }
 
-#[test]
-fn the_date_of_the_standard(rt: HostRuntime) -> Result<(), Fail> {
-    let digits = text(rt.alloc(), b"19710917")?;
-    let buffer = written(&date()?, rt.alloc(), &digits)?;
-    // 111 behind which 19 71 09 17 stand.
-    assert!(rt; buffer.as_bytes() == [0xE3, 0x2E, 0x21, 0x22, 0xE0].as_slice());
-    let (read, left) = found(&date()?, rt.alloc(), &[0x19, 0x71, 0x09, 0x17], 0)?;
-    assert!(rt; left == 0);
-    assert!(rt; read.as_slice() == digits.as_slice());
-    Ok(())
-}
-
-#[test]
-fn other_digits_are_refused_by_their_place(rt: HostRuntime) -> Result<(), Fail> {
-    assert!(rt;
-        is_misfit(
-            &date()?,
-            rt.alloc(),
-            &text(rt.alloc(), b"197A0917")?,
-            InSequenceOf::Item {
-                index: 3,
-                wrong: NotInAlphabet { character: 65 }
-            }
-        )
-    );
-    assert!(rt;
-        is_refused(
-            &date()?,
-            rt.alloc(),
-            &[0x19, 0x7B, 0x09, 0x17],
-            0,
-            InSequenceOf::Item {
-                index: 3,
-                wrong: CharacterFault::NoCharacter { code: 11 }
-            }
-        )
-    );
-    assert!(rt;
-        is_refused(
-            &date()?,
-            rt.alloc(),
-            &[0x19, 0x71, 0x09],
-            0,
-            InSequenceOf::Item {
-                index: 6,
-                wrong: CharacterFault::Short { missing: 4 }
-            }
-        )
-    );
-    Ok(())
-}
-
-#[test]
-fn long_strings_have_the_bits_of_a_list_of_characters(rt: HostRuntime) -> Result<(), Fail> {
-    let size = Size::new(0, 200);
-    let string = KnownMultiplierString::new(size, item(None)?);
-    let list = SequenceOf {
-        size,
-        item: item(None)?,
+/// Whether the date is written behind three ones as the first octets, and found in the others.
+fn date_has_form(alloc: Global, digits: &[u8], written: &[u8], alone: &[u8]) -> bool {
+    let (Some(format), Ok(digits)) = (date(), text(alloc, digits)) else {
+        return false;
     };
-    // From the first character on, again and again: 95 of them.
-    for length in 0..131usize {
-        let mut characters = Vec::new(rt.alloc());
-        for place in 0..length {
-            characters.push(32 + place as u32 % 95)?;
-        }
-        let buffer = written(&string, rt.alloc(), &characters)?;
-        assert!(rt; buffer == written(&list, rt.alloc(), &characters)?);
-        let (read, _) = found(&string, rt.alloc(), buffer.as_bytes(), 3)?;
-        assert!(rt; read.as_slice() == characters.as_slice());
+    is_written(&format, alloc, &digits, written, 35)
+        && is_found(&format, alloc, alone, 0, &digits, 0)
+}
+
+#[test]
+fn the_date_of_the_standard(rt: HostRuntime) {
+    // 111 behind which 19 71 09 17 stand.
+    let octets = [0xE3, 0x2E, 0x21, 0x22, 0xE0];
+    let alone = [0x19, 0x71, 0x09, 0x17];
+    assert!(rt; date_has_form(rt.alloc(), b"19710917", &octets, &alone));
+}
+
+/// Whether the digits are refused for the character at its place.
+fn date_is_misfit(alloc: Global, digits: &[u8], index: usize, character: u32) -> bool {
+    let misfit = InSequenceOf::Item {
+        index,
+        wrong: NotInAlphabet { character },
+    };
+    match (date(), text(alloc, digits)) {
+        (Some(format), Ok(digits)) => is_misfit(&format, alloc, &digits, misfit),
+        _ => false,
     }
-    Ok(())
+}
+
+/// Whether the octets, and nothing before them, are refused as a date for the digit at its place.
+fn date_is_refused(alloc: Global, octets: &[u8], index: usize, wrong: CharacterFault) -> bool {
+    match date() {
+        Some(format) => {
+            is_refused(
+                &format,
+                alloc,
+                octets,
+                0,
+                InSequenceOf::Item { index, wrong },
+            )
+        }
+        None => false,
+    }
+}
+
+#[test]
+fn other_digits_are_refused_by_their_place(rt: HostRuntime) {
+    assert!(rt; date_is_misfit(rt.alloc(), b"197A0917", 3, 65));
+    let none = CharacterFault::NoCharacter { code: 11 };
+    assert!(rt; date_is_refused(rt.alloc(), &[0x19, 0x7B, 0x09, 0x17], 3, none));
+    let short = CharacterFault::Short { missing: 4 };
+    assert!(rt; date_is_refused(rt.alloc(), &[0x19, 0x71, 0x09], 6, short));
+}
+
+/// So many characters, from the first one on, again and again: 95 of them.
+fn characters(alloc: Global, length: u32) -> Result<Vec<u32>, AllocError> {
+    let mut characters = Vec::new(alloc);
+    for place in 0..length {
+        characters.push(32 + place % 95)?;
+    }
+    Ok(characters)
+}
+
+/// Whether a string of the characters has the bits of a list of them, and is read from those.
+fn has_bits_of_list(alloc: Global, item: Character<'static>, text: &Vec<u32>) -> bool {
+    let size = Size::new(0, 200);
+    let Ok(bits) = written(&SequenceOf { size, item }, alloc, text) else {
+        return false;
+    };
+    let string = KnownMultiplierString::new(size, item);
+    is_written(&string, alloc, text, bits.as_bytes(), bits.len())
+        && begins_with(&string, alloc, bits.as_bytes(), text)
+}
+
+/// Whether the text is found behind the first three bits.
+fn begins_with(
+    format: &KnownMultiplierString<'static, Size>,
+    alloc: Global,
+    octets: &[u8],
+    text: &Vec<u32>,
+) -> bool {
+    match found(format, alloc, octets, 3) {
+        Ok((read, _)) => read == *text,
+        Err(_) => false,
+    }
+}
+
+/// Whether a string of so many characters has the bits of a list of them.
+fn has_bits_of_list_at(alloc: Global, length: u32) -> bool {
+    match (item(None), characters(alloc, length)) {
+        (Some(item), Ok(text)) => has_bits_of_list(alloc, item, &text),
+        _ => false,
+    }
+}
+
+#[test]
+fn long_strings_have_the_bits_of_a_list_of_characters(rt: HostRuntime) {
+    for length in 0..131u32 {
+        assert!(rt; has_bits_of_list_at(rt.alloc(), length));
+    }
 }

@@ -64,29 +64,46 @@ pub fn level_format() -> LevelFormat {
 
 #[cfg(test)]
 mod tests {
-    use super::super::calls::{found, written};
+    use super::super::calls::{found, is_misfit, is_written};
     use super::{Level, level_format};
-    use asn1_formats::{InThen, SizeMisfit, WriteRefusal};
-    use std::test::Fail;
+    use asn1_formats::{InThen, SizeMisfit};
+    use std::alloc::Global;
+
+    /// Whether the level and the flag are written behind three ones as this octet, so many bits in
+    /// all.
+    fn level_is_written(alloc: Global, level: i64, flag: bool, octet: u8, bits: usize) -> bool {
+        is_written(
+            &level_format(),
+            alloc,
+            &Level::new(level, flag),
+            &[octet],
+            bits,
+        )
+    }
+
+    /// Whether the level and the flag are found behind three bits, with so many bits left.
+    fn level_is_found(alloc: Global, octet: u8, level: i64, flag: bool, left: usize) -> bool {
+        match found(&level_format(), alloc, &[octet], 3) {
+            Ok((read, bits)) => read.level() == level && read.flag() == flag && bits == left,
+            Err(_) => false,
+        }
+    }
+
+    /// Whether the level is refused as a wrong one.
+    fn level_is_misfit(alloc: Global, level: i64, flag: bool, wrong: SizeMisfit) -> bool {
+        let misfit = InThen::First(wrong);
+        is_misfit(&level_format(), alloc, &Level::new(level, flag), misfit)
+    }
 
     #[test]
-    fn levels_are_written_and_read(rt: HostRuntime) -> Result<(), Fail> {
-        let format = level_format();
+    fn levels_are_written_and_read(rt: HostRuntime) {
         // 111 | 0 | 1
-        let buffer = written(&format, rt.alloc(), &Level::new(1, true))?;
-        assert!(rt; buffer.as_bytes() == [0xE8].as_slice());
+        assert!(rt; level_is_written(rt.alloc(), 1, true, 0xE8, 5));
         // 111 | 1 | 001 | 0
-        let buffer = written(&format, rt.alloc(), &Level::new(-2, false))?;
-        assert!(rt; buffer.as_bytes() == [0xF2].as_slice());
-        let (level, left) = found(&format, rt.alloc(), &[0xF2], 3)?;
-        assert!(rt; (level.level(), level.flag(), left) == (-2, false, 0));
+        assert!(rt; level_is_written(rt.alloc(), -2, false, 0xF2, 8));
+        assert!(rt; level_is_found(rt.alloc(), 0xF2, -2, false, 0));
         // 111 | 1 | 100 | 1: the default, written
-        let (level, left) = found(&format, rt.alloc(), &[0xF9], 3)?;
-        assert!(rt; (level.level(), level.flag(), left) == (1, true, 0));
-        assert!(rt;
-            written(&format, rt.alloc(), &Level::new(5, true)).err()
-                == Some(WriteRefusal::Wrong(InThen::First(SizeMisfit::AboveMost)))
-        );
-        Ok(())
+        assert!(rt; level_is_found(rt.alloc(), 0xF9, 1, true, 0));
+        assert!(rt; level_is_misfit(rt.alloc(), 5, true, SizeMisfit::AboveMost));
     }
 }

@@ -48,28 +48,46 @@ pub fn drawing_format() -> Drawing {
 
 #[cfg(test)]
 mod tests {
-    use super::super::calls::{found, written};
+    use super::super::calls::{Form, has_form};
     use super::drawing_format;
-    use std::test::Fail;
+    use std::alloc::{AllocError, Global};
+
+    /// A line, where there is one.
+    type Line = Option<Vec<(i64, i64)>>;
+
+    /// The line of these points, where there is one.
+    fn line(alloc: Global, points: Option<&[(i64, i64)]>) -> Result<Line, AllocError> {
+        match points {
+            Some(points) => match points.to_vec(alloc) {
+                Ok(line) => Ok(Some(line)),
+                Err(error) => Err(error),
+            },
+            None => Ok(None),
+        }
+    }
+
+    /// Whether a drawing of this kind with this flag and line has this form.
+    fn drawing_has_form(
+        alloc: Global,
+        kind: u64,
+        flag: bool,
+        points: Option<&[(i64, i64)]>,
+        (octets, bits, left): Form<'_>,
+    ) -> bool {
+        let Ok(line) = line(alloc, points) else {
+            return false;
+        };
+        let drawing = (kind, (Some(flag), line));
+        has_form(&drawing_format(), alloc, &drawing, octets, bits, left)
+    }
 
     #[test]
-    fn drawings_are_written_and_read(rt: HostRuntime) -> Result<(), Fail> {
-        let format = drawing_format();
-        let buffer = written(&format, rt.alloc(), &(1, (Some(true), None)))?;
+    fn drawings_are_written_and_read(rt: HostRuntime) {
         // 111 | 10 | 01 | 1
-        assert!(rt; buffer.as_bytes() == [0xF3].as_slice());
-        let line = vec![in rt.alloc(); (-100, 100), (0, 1)]?;
-        let buffer = written(&format, rt.alloc(), &(2, (Some(false), Some(line))))?;
+        assert!(rt; drawing_has_form(rt.alloc(), 1, true, None, (&[0xF3], 8, 0)));
         // 111 | 11 | 10 | 0 | 000 | 00000000 11001000 | 01100100 01100101
         let octets = [0xFC, 0x00, 0x19, 0x0C, 0x8C, 0xA0];
-        assert!(rt; buffer.as_bytes() == octets.as_slice());
-        assert!(rt; buffer.len() == 43);
-        let ((kind, (flag, line)), left) = found(&format, rt.alloc(), &octets, 3)?;
-        assert!(rt; left == 5);
-        assert!(rt; kind == 2);
-        assert!(rt; flag == Some(false));
-        let line = line.ok_or("a line")?;
-        assert!(rt; line.as_slice() == [(-100, 100), (0, 1)].as_slice());
-        Ok(())
+        let line = Some([(-100, 100), (0, 1)].as_slice());
+        assert!(rt; drawing_has_form(rt.alloc(), 2, false, line, (&octets, 43, 5)));
     }
 }

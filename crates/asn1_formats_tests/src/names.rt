@@ -1,11 +1,12 @@
 //! Errors that say in words where something is wrong.
 
-use super::calls::{found, written};
+use super::calls::{fault_says, misfit_says};
 use asn1_formats::{
-    And, Boolean, Character, Named, Number, Optional, Required, Sequence, SequenceOf, Size, Then,
+    And, Boolean, Character, Format, Named, Number, Optional, Required, Sequence, SequenceOf, Size,
+    Then,
 };
 use asn1_values::{CharacterAlphabet, VisibleString};
-use std::test::Fail;
+use std::alloc::Global;
 
 type Text = Named<SequenceOf<Size, Character<'static>>>;
 
@@ -15,36 +16,39 @@ type Family = Sequence<And<Required<Text>, Optional<Named<SequenceOf<Size, Child
 
 const LETTERS: [u32; 3] = [97, 98, 99];
 
-fn text(name: &'static str) -> Result<Text, Fail> {
+/// One to four letters under a name.
+fn text(name: &'static str) -> Option<Text> {
     let alphabet = CharacterAlphabet::new::<VisibleString>(Some(&LETTERS), false);
-    let Some(item) = Character::new(alphabet) else {
-        return Err("no letter is there twice".into());
-    };
-    Ok(Named {
-        name,
-        part: SequenceOf {
-            size: Size::new(1, 4),
-            item,
-        },
-    })
+    match Character::new(alphabet) {
+        Some(item) => Some(Named {
+            name,
+            part: SequenceOf {
+                size: Size::new(1, 4),
+                item,
+            },
+        }),
+        None => None,
+    }
 }
 
-fn family() -> Result<Family, Fail> {
+/// A name, and behind it up to three children where there are any, each with a name and an age.
+fn family() -> Option<Family> {
+    let (Some(family_name), Some(given_name)) = (text("family name"), text("given name")) else {
+        return None;
+    };
     let child = Named {
         name: "child",
         part: Then {
-            first: text("given name")?,
+            first: given_name,
             second: Named {
                 name: "age",
                 part: Number::new(3),
             },
         },
     };
-    Ok(Sequence {
+    Some(Sequence {
         components: And {
-            first: Required {
-                part: text("family name")?,
-            },
+            first: Required { part: family_name },
             second: Optional {
                 part: Named {
                     name: "children",
@@ -58,36 +62,47 @@ fn family() -> Result<Family, Fail> {
     })
 }
 
-#[test]
-fn a_value_is_refused_by_a_path_in_words(rt: HostRuntime) -> Result<(), Fail> {
-    let format = family()?;
-    let name = Vec::from_slice(rt.alloc(), &[97u32, 33])?;
-    let wrong = match written(&format, rt.alloc(), &(name, None)).err() {
-        Some(wrong) => format!(in rt.alloc(); "{wrong}")?,
-        None => return Err("an exclamation mark was written".into()),
+/// Whether the value is refused with the first words, and what follows the first `start` bits of
+/// the octets with the others.
+fn family_says(
+    format: &Family,
+    alloc: Global,
+    value: &<Family as Format>::Value,
+    words: &str,
+    (octets, start, others): (&[u8], usize, &str),
+) -> bool {
+    misfit_says(format, alloc, value, words) && fault_says(format, alloc, octets, start, others)
+}
+
+/// Whether a family of this name without children is refused with the first words, and what follows
+/// the first `start` bits of the octets with the others.
+fn name_and_bits_say(
+    alloc: Global,
+    name: &[u32],
+    words: &str,
+    behind: (&[u8], usize, &str),
+) -> bool {
+    let Some(format) = family() else {
+        return false;
     };
-    assert!(rt; wrong.as_str() == "family name, item 1: character 33 is not in the alphabet");
-    Ok(())
+    match name.to_vec(alloc) {
+        Ok(name) => family_says(&format, alloc, &(name, None), words, behind),
+        Err(_) => false,
+    }
 }
 
 #[test]
-fn bits_are_refused_by_a_path_in_words(rt: HostRuntime) -> Result<(), Fail> {
-    let format = family()?;
+fn what_is_refused_is_named_by_a_path_in_words(rt: HostRuntime) {
+    let words = "family name, item 1: character 33 is not in the alphabet";
     // From bit 4 on: presence 1, family name 00 00, one child 01, given name 00 00, and one bit of
     // the age.
-    let octets = [0b0000_1000u8, 0b0010_0000];
-    let wrong = match found(&format, rt.alloc(), &octets, 4).err() {
-        Some(wrong) => format!(in rt.alloc(); "{wrong}")?,
-        None => return Err("an age of two bits was read".into()),
-    };
-    assert!(rt; wrong.as_str() == "children, item 0, child, age: 2 bits are missing");
-    Ok(())
+    let octets = [0b0000_1000, 0b0010_0000];
+    let others = "children, item 0, child, age: 2 bits are missing";
+    assert!(rt; name_and_bits_say(rt.alloc(), &[97, 33], words, (&octets, 4, others)));
 }
 
 #[test]
-fn a_named_format_with_a_boolean_says_what_is_wrong_with_values(
-    rt: HostRuntime,
-) -> Result<(), Fail> {
+fn a_named_format_with_a_boolean_says_what_is_wrong_with_values(rt: HostRuntime) {
     let lamp = Named {
         name: "lamp",
         part: Then {
@@ -98,12 +113,6 @@ fn a_named_format_with_a_boolean_says_what_is_wrong_with_values(
             },
         },
     };
-    let Err(refusal) = written(&lamp, rt.alloc(), &(true, 9)) else {
-        return Err("nine needs four bits".into());
-    };
-    assert!(rt;
-        format!(in rt.alloc(); "{refusal}")?.as_str()
-            == "lamp, level: the number does not fit its bits"
-    );
-    Ok(())
+    let words = "lamp, level: the number does not fit its bits";
+    assert!(rt; misfit_says(&lamp, rt.alloc(), &(true, 9), words));
 }

@@ -19,9 +19,12 @@ type Values = (Option<Vec<u32>>, (Vec<u8>, Vec<(bool, bool)>));
 
 /// SEQUENCE { text NumericString (SIZE (0..15)) OPTIONAL, octets OCTET STRING (SIZE (0..15)),
 /// flags SEQUENCE (SIZE (0..7)) OF SEQUENCE { BOOLEAN, BOOLEAN } }
-fn format() -> Result<Message, Fail> {
+fn format() -> Option<Message> {
     let characters = Character::new(CharacterAlphabet::new::<NumericString>(None, false));
-    let text = KnownMultiplierString::new(Size::new(0, 15), characters.ok_or("each once")?);
+    let Some(characters) = characters else {
+        return None;
+    };
+    let text = KnownMultiplierString::new(Size::new(0, 15), characters);
     let octets = OctetString {
         size: Size::new(0, 15),
     };
@@ -32,7 +35,7 @@ fn format() -> Result<Message, Fail> {
             second: Boolean {},
         },
     };
-    Ok(Sequence {
+    Some(Sequence {
         components: And {
             first: Optional { part: text },
             second: And {
@@ -62,16 +65,51 @@ fn three_ones(alloc: Global) -> Result<BitBuffer, AllocError> {
     Ok(buffer)
 }
 
-/// The call under test met the refusal.
-fn met(rt: &HostRuntime, call: &str) -> Result<(), Fail> {
-    println!(rt; "refused: {call}")?;
-    Ok(())
+/// What a call gave.
+#[derive(Clone, Copy)]
+enum Outcome {
+    /// What it has to give.
+    Right,
+    /// Want of memory, and nothing has changed.
+    Refused,
+    /// An argument of the call could not be made.
+    RefusedBefore,
+    /// Anything else.
+    Wrong,
 }
 
-/// An argument of the call could not be made.
-fn met_before(rt: &HostRuntime, call: &str) -> Result<(), Fail> {
-    println!(rt; "refused before: {call}")?;
-    Ok(())
+/// Says in a line where the call under test, or what was made for it, met the refusal.
+fn answers(rt: &HostRuntime, call: &str, outcome: Outcome) -> Result<(), Fail> {
+    match outcome {
+        Outcome::Right => Ok(()),
+        Outcome::Refused => {
+            println!(rt; "refused: {call}")?;
+            Ok(())
+        }
+        Outcome::RefusedBefore => {
+            println!(rt; "refused before: {call}")?;
+            Ok(())
+        }
+        Outcome::Wrong => Err("another answer than the right one, or want of memory".into()),
+    }
+}
+
+/// Right where this holds.
+fn right_if(holds: bool) -> Outcome {
+    if holds {
+        Outcome::Right
+    } else {
+        Outcome::Wrong
+    }
+}
+
+/// Refused where this holds.
+fn refused_if(holds: bool) -> Outcome {
+    if holds {
+        Outcome::Refused
+    } else {
+        Outcome::Wrong
+    }
 }
 
 /// `write`, without its contract.
@@ -92,64 +130,86 @@ fn take<F: Format>(
     read(format, alloc, reader)
 }
 
-#[test]
-fn a_message_is_written(rt: HostRuntime) -> Result<(), Fail> {
-    let format = format()?;
-    let (Ok(values), Ok(mut buffer)) = (values(rt.alloc()), three_ones(rt.alloc())) else {
-        return met_before(&rt, "write");
-    };
-    // The first one fits the octets that the buffer has; some later one asks for more.
+/// Twelve messages behind the buffer's three ones. The first one fits the octets that the buffer
+/// has; some later one asks for more.
+fn write_twelve(format: &Message, values: &Values, buffer: &mut BitBuffer) -> Outcome {
     for count in 0..12usize {
-        match append(&format, &mut buffer, &values) {
+        match append(format, buffer, values) {
             Ok(()) => {}
-            Err(WriteRefusal::Memory) => {
-                assert!(rt; buffer.len() == 3 + 60 * count);
-                return met(&rt, "write");
-            }
-            Err(_) => return Err("the values are right".into()),
+            Err(WriteRefusal::Memory) => return refused_if(buffer.len() == 3 + 60 * count),
+            Err(_) => return Outcome::Wrong,
         }
-        if count == 0 {
-            assert!(rt; buffer.as_bytes() == MESSAGE.as_slice());
+        if count == 0 && buffer.as_bytes() != MESSAGE.as_slice() {
+            return Outcome::Wrong;
         }
     }
-    assert!(rt; buffer.len() == 723);
-    Ok(())
+    right_if(buffer.len() == 723)
+}
+
+/// What writing gives.
+fn write_outcome(alloc: Global, format: &Message) -> Outcome {
+    match (values(alloc), three_ones(alloc)) {
+        (Ok(values), Ok(mut buffer)) => write_twelve(format, &values, &mut buffer),
+        _ => Outcome::RefusedBefore,
+    }
+}
+
+#[test]
+fn a_message_is_written(rt: HostRuntime) -> Result<(), Fail> {
+    let outcome = match format() {
+        Some(format) => write_outcome(rt.alloc(), &format),
+        None => Outcome::Wrong,
+    };
+    answers(&rt, "write", outcome)
+}
+
+/// Whether the values are those of the message.
+fn are_right((text, (octets, flags)): &Values) -> bool {
+    let text_is_right = match text {
+        Some(text) => text.as_slice() == [0x31, 0x32, 0x33, 0x34, 0x35].as_slice(),
+        None => false,
+    };
+    text_is_right
+        && octets.as_slice() == [0xA5, 0xA5, 0xA5].as_slice()
+        && flags.as_slice() == [(true, false), (true, true)].as_slice()
+}
+
+/// What reading the message gives.
+fn read_outcome(alloc: Global, format: &Message, view: BitStr<'_>) -> Outcome {
+    let mut reader = BitReader::new(view);
+    match take(format, alloc, &mut reader) {
+        Ok(values) => right_if(are_right(&values) && reader.len() == 1),
+        Err(Refusal::Memory) => { refused_if(reader.bits() == view && reader.bits().shift() == 3) }
+        Err(_) => Outcome::Wrong,
+    }
 }
 
 #[test]
 fn a_message_is_read(rt: HostRuntime) -> Result<(), Fail> {
-    let format = format()?;
-    let view = BitStr::new(&MESSAGE, 3, 61).ok_or("there")?;
+    let outcome = match (format(), BitStr::new(&MESSAGE, 3, 61)) {
+        (Some(format), Some(view)) => read_outcome(rt.alloc(), &format, view),
+        _ => Outcome::Wrong,
+    };
+    answers(&rt, "read", outcome)
+}
+
+/// Whether the bits are refused for the octets that are missing, and the reader stays.
+fn octets_are_short(alloc: Global, format: &Message, view: BitStr<'_>, missing: u128) -> bool {
+    let short = InOctetString::<SizeFault>::Short { missing };
+    let fault = InSequence::Component(InThen::Second(InThen::First(short)));
     let mut reader = BitReader::new(view);
-    match take(&format, rt.alloc(), &mut reader) {
-        Ok((text, (octets, flags))) => {
-            assert!(rt;
-                text.ok_or("there")?.as_slice() == [0x31, 0x32, 0x33, 0x34, 0x35].as_slice()
-            );
-            assert!(rt; octets.as_slice() == [0xA5, 0xA5, 0xA5].as_slice());
-            assert!(rt; flags.as_slice() == [(true, false), (true, true)].as_slice());
-            assert!(rt; reader.len() == 1);
-            Ok(())
-        }
-        Err(Refusal::Memory) => {
-            assert!(rt; reader.bits() == view && reader.bits().shift() == 3);
-            met(&rt, "read")
-        }
-        Err(_) => Err("the bits are right".into()),
+    match take(format, alloc, &mut reader) {
+        Err(Refusal::Wrong(found)) => found == fault && reader.bits() == view,
+        _ => false,
     }
 }
 
 #[test]
-fn a_wrong_part_keeps_its_name(rt: HostRuntime) -> Result<(), Fail> {
-    let format = format()?;
+fn a_wrong_part_keeps_its_name(rt: HostRuntime) {
     // Behind 29 bits, 12 of the three octets are there.
-    let view = BitStr::new(&MESSAGE, 3, 41).ok_or("there")?;
-    let mut reader = BitReader::new(view);
-    let refused = take(&format, rt.alloc(), &mut reader).err();
-    let short = InOctetString::<SizeFault>::Short { missing: 12 };
-    assert!(rt;
-        refused == Some(Refusal::Wrong(InSequence::Component(InThen::Second(InThen::First(short)))))
-    );
-    assert!(rt; reader.bits() == view);
-    Ok(())
+    let named = match (format(), BitStr::new(&MESSAGE, 3, 41)) {
+        (Some(format), Some(view)) => octets_are_short(rt.alloc(), &format, view, 12),
+        _ => false,
+    };
+    assert!(rt; named);
 }
