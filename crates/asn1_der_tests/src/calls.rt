@@ -35,6 +35,14 @@ pub(crate) fn is_number(value: &Integer, number: i128) -> bool {
     value.to_i128() == Some(number)
 }
 
+/// Whether an integer of this number was read.
+pub(crate) fn is_some_number(value: &Option<Integer>, number: i128) -> bool {
+    match value {
+        Some(value) => is_number(value, number),
+        None => false,
+    }
+}
+
 /// The octets of the value.
 fn written<F: Format>(
     format: &F,

@@ -1,7 +1,8 @@
 //! CHOICE, DEFAULT, explicit tags, names, and values of a program's own.
 
 use super::calls::{
-    are_refused, element, fault_of, is_kept, is_misfit, is_number, is_written, sequence, value_of,
+    are_refused, element, fault_of, is_kept, is_misfit, is_number, is_some_number, is_written,
+    sequence, value_of,
 };
 use asn1_compose::{InNamed, InThen, Mapped, Named, OfParts, OneOf};
 use asn1_der::{
@@ -33,16 +34,22 @@ fn choosing() -> Choosing {
 /// Whether it is this level.
 fn is_level(value: &Option<Chosen>, number: i128) -> bool {
     match value {
-        Some((OneOf::Other(level), ())) => is_number(level, number),
-        _ => false,
+        Some(parts) => match &parts.0 {
+            OneOf::Other(level) => is_number(level, number),
+            OneOf::First(_) => false,
+        },
+        None => false,
     }
 }
 
 /// Whether it is a flag that is set.
 fn is_flag_set(value: &Option<Chosen>) -> bool {
     match value {
-        Some((OneOf::First(flag), ())) => *flag,
-        _ => false,
+        Some(parts) => match &parts.0 {
+            OneOf::First(flag) => *flag,
+            OneOf::Other(_) => false,
+        },
+        None => false,
     }
 }
 
@@ -94,8 +101,8 @@ fn alternatives_of_one_tag_are_refused(rt: HostRuntime) -> Result<(), Fail> {
 /// Whether a SEQUENCE was read whose only element is missing.
 fn is_missing(value: &Option<(Option<bool>, ())>) -> bool {
     match value {
-        Some((None, ())) => true,
-        _ => false,
+        Some(parts) => parts.0 == None,
+        None => false,
     }
 }
 
@@ -132,14 +139,6 @@ fn a_default_is_never_there(rt: HostRuntime) -> Result<(), Fail> {
 fn number_but(default: Integer) -> Tlv<NotDefault<IntegerContents>> {
     let part = IntegerContents {};
     element(2, false, NotDefault { part, default })
-}
-
-/// Whether an integer of this number was read.
-fn is_some_number(value: &Option<Integer>, number: i128) -> bool {
-    match value {
-        Some(value) => is_number(value, number),
-        None => false,
-    }
 }
 
 /// Whether 301 is read, and 300 is refused as the default.

@@ -113,8 +113,8 @@ type Settings = (Option<bool>, (Integer, ()));
 /// Whether a setting of this level was read without a flag.
 fn is_level_alone(value: &Option<Settings>, number: i128) -> bool {
     match value {
-        Some((None, (level, ()))) => is_number(level, number),
-        _ => false,
+        Some(parts) => parts.0 == None && is_number(&parts.1.0, number),
+        None => false,
     }
 }
 
@@ -124,10 +124,10 @@ fn is_flag_told_by_its_tag(alloc: Global, with: &Settings) -> bool {
     let octets = [0x30, 0x06, 0x01, 0x01, 0xFF, 0x02, 0x01, 0x05];
     let other: &[u8] = &[0x30, 0x05, 0x02, 0x01, 0x05, 0x05, 0x00];
     let fault = InThen::Second(InThen::Second(NotEnd { bits: 16 }));
-    is_level_alone(
-        &value_of(&format, alloc, &[0x30, 0x03, 0x02, 0x01, 0x05]),
-        5,
-    ) && is_written(&format, alloc, with, &octets)
+    let level = [0x30, 0x03, 0x02, 0x01, 0x05];
+    let is_alone = is_level_alone(&value_of(&format, alloc, &level), 5);
+    is_alone
+        && is_written(&format, alloc, with, &octets)
         && are_refused(&format, alloc, &[(other, fault)])
 }
 
@@ -182,7 +182,8 @@ fn is_second_item_wrong(alloc: Global) -> bool {
     let other: &[u8] = &[0x30, 0x05, 0x01, 0x01, 0xFF, 0x05, 0x00];
     let found = universal(5, false);
     let wrong = InTlv::Tag(TagFault::Other { found });
-    are_flags(&value_of(&format, alloc, &octets), &[true, false])
+    let are_flags = are_flags(&value_of(&format, alloc, &octets), &[true, false]);
+    are_flags
         && is_kept(&format, alloc, &octets)
         && !is_read(&format, alloc, &[0x30, 0x05, 0x01, 0x01, 0xFF, 0x01, 0x00])
         && are_refused(&format, alloc, &[(other, InItem { index: 1, wrong })])

@@ -1,6 +1,6 @@
 //! Primitive elements.
 
-use super::calls::{are_refused, element, is_found, is_kept, is_number, is_written, value_of};
+use super::calls::{are_refused, element, is_found, is_kept, is_some_number, is_written, value_of};
 use asn1_bits::BitString;
 use asn1_der::{
     BitStringContents, BitStringFault, BooleanContents, BooleanFault, IdentifierFault,
@@ -34,18 +34,10 @@ fn integer() -> Tlv<IntegerContents> {
     element(2, false, IntegerContents {})
 }
 
-/// Whether the octets are this number.
-fn is_integer_read(alloc: Global, number: i128, octets: &[u8]) -> bool {
-    match value_of(&integer(), alloc, octets) {
-        Some(value) => is_number(&value, number),
-        None => false,
-    }
-}
-
 /// Whether the integer is written so, and read back.
 fn is_integer(alloc: Global, number: i128, octets: &[u8]) -> bool {
-    is_written(&integer(), alloc, &Integer::from(number), octets)
-        && is_integer_read(alloc, number, octets)
+    let is_read = is_some_number(&value_of(&integer(), alloc, octets), number);
+    is_read && is_written(&integer(), alloc, &Integer::from(number), octets)
 }
 
 /// Whether the octets of each row are no integer, since fewer octets are enough.
@@ -94,9 +86,8 @@ fn is_identifier_its_subidentifiers(alloc: Global) -> bool {
             IdentifierFault::LargeArc,
         ),
     ];
-    are_arcs(&value_of(&format, alloc, &octets), &[2, 999, 3])
-        && is_kept(&format, alloc, &octets)
-        && are_refused(&format, alloc, &refused)
+    let are_arcs = are_arcs(&value_of(&format, alloc, &octets), &[2, 999, 3]);
+    are_arcs && is_kept(&format, alloc, &octets) && are_refused(&format, alloc, &refused)
 }
 
 #[test]
@@ -129,7 +120,8 @@ fn is_bit_string_counting_unused_bits(alloc: Global) -> bool {
         (&[0x03, 0x01, 0x01], BitStringFault::Unused { count: 1 }),
         (&[0x03, 0x00], BitStringFault::Empty),
     ];
-    are_bits(&value_of(&format, alloc, &octets), 44, &raw)
+    let are_bits = are_bits(&value_of(&format, alloc, &octets), 44, &raw);
+    are_bits
         && is_kept(&format, alloc, &octets)
         && is_no_bit(&format, alloc, &[0x03, 0x01, 0x00])
         && are_refused(&format, alloc, &refused)

@@ -197,7 +197,7 @@ fn do_elements_end<E: OrderedElements + Copy>(
     does_set_end(&sequence(*elements), alloc, octets, value)
 }
 
-/// Whether the values of a SET OF SEQUENCE { a INTEGER, b BOOLEAN } ascend by b where a is the same.
+/// Whether the values of a SET OF SEQUENCE { a INTEGER, b BOOLEAN } ascend by b where a is equal.
 fn do_sequences_ascend(alloc: Global) -> bool {
     let second = Required {
         first: element(1, false, BooleanContents {}),
@@ -249,7 +249,8 @@ fn elements_of_any_tag_ascend_by_their_octets(rt: HostRuntime) -> Result<(), Fai
     Ok(())
 }
 
-/// Whether a SET OF SEQUENCE { a CHOICE { b INTEGER, c BOOLEAN } OPTIONAL, d NULL OPTIONAL } ascends.
+/// Whether a SET OF SEQUENCE { a CHOICE { b INTEGER, c BOOLEAN } OPTIONAL, d NULL OPTIONAL } does
+/// so.
 fn do_alternatives_ascend(alloc: Global, octets: &[u8]) -> bool {
     let rest = Optional {
         first: element(5, false, Sequence { elements: End {} }),
