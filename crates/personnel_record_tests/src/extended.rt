@@ -25,14 +25,6 @@ const RECORD: [u8; 65] = [
     0x80,
 ];
 
-/// The format of records.
-fn format() -> Result<ExtensibleRecordFormat, Fail> {
-    match extensible_record_format() {
-        Some(format) => Ok(format),
-        None => Err("no character is there twice".into()),
-    }
-}
-
 fn name(alloc: Global, given: &[u8], initial: &[u8], family: &[u8]) -> Result<Name, AllocError> {
     let family = text(alloc, family)?;
     Ok(((text(alloc, given)?, (text(alloc, initial)?, family)), ()))
@@ -96,16 +88,37 @@ fn again<F: Format>(
     }
 }
 
-/// A record that is read from a bit on, written again behind so many ones; `None` where it is
-/// refused. Tests that call it do not state what the calls promise of the format's type, which takes
-/// minutes.
-fn record_again(
-    format: &ExtensibleRecordFormat,
-    alloc: Global,
-    octets: &[u8],
-    start: usize,
-) -> Result<Option<Vec<u8>>, AllocError> {
-    again(format, alloc, octets, start)
+/// The format of records, under a name: what holds it does not state the format's type, whose
+/// statement takes a minute in each function.
+#[derive(Drop)]
+struct Records {
+    format: ExtensibleRecordFormat,
+}
+
+impl Records {
+    fn new() -> Result<Records, Fail> {
+        match extensible_record_format() {
+            Some(format) => Ok(Records { format }),
+            None => Err("no character is there twice".into()),
+        }
+    }
+
+    /// A record that is read from a bit on, written again behind so many ones; `None` where it is
+    /// refused.
+    fn again(
+        &self,
+        alloc: Global,
+        octets: &[u8],
+        start: usize,
+    ) -> Result<Option<Vec<u8>>, AllocError> {
+        again(&self.format, alloc, octets, start)
+    }
+
+    /// The octets of the record of the standard; `None` where it is refused.
+    fn octets(&self, alloc: Global) -> Result<Option<Vec<u8>>, AllocError> {
+        let record = record(alloc)?;
+        Ok(encode(&self.format, alloc, &record).ok())
+    }
 }
 
 /// The octets with a bit turned.
@@ -119,30 +132,27 @@ fn turned(alloc: Global, octets: &[u8], bit: usize) -> Result<Vec<u8>, AllocErro
 
 #[test]
 fn the_record_with_markers_has_its_octets(rt: HostRuntime) -> Result<(), Fail> {
-    let record = record(rt.alloc())?;
-    let Ok(octets) = encode(&format()?, rt.alloc(), &record) else {
-        return Err("the record is right".into());
-    };
-    assert!(rt; octets.as_slice() == RECORD.as_slice());
+    let octets = Records::new()?.octets(rt.alloc())?;
+    assert!(rt; octets.ok_or("the record is right")?.as_slice() == RECORD.as_slice());
     Ok(())
 }
 
 #[test]
 fn its_octets_are_a_record_with_markers(rt: HostRuntime) -> Result<(), Fail> {
-    let copy = record_again(&format()?, rt.alloc(), &RECORD, 0)?;
+    let copy = Records::new()?.again(rt.alloc(), &RECORD, 0)?;
     assert!(rt; copy.ok_or("read and written")?.as_slice() == RECORD.as_slice());
     Ok(())
 }
 
 #[test]
 fn a_bit_turned_is_refused_or_another_record(rt: HostRuntime) -> Result<(), Fail> {
-    let format = format()?;
+    let records = Records::new()?;
     for start in 0..8usize {
         let octets = shifted(rt.alloc(), start)?;
-        assert!(rt; record_again(&format, rt.alloc(), &octets, start)?.ok_or("read")? == octets);
+        assert!(rt; records.again(rt.alloc(), &octets, start)?.ok_or("read")? == octets);
         for bit in start..start + 8 * RECORD.len() {
             let other = turned(rt.alloc(), &octets, bit)?;
-            if let Some(again) = record_again(&format, rt.alloc(), &other, start)? {
+            if let Some(again) = records.again(rt.alloc(), &other, start)? {
                 assert_ne!(rt; again, octets);
             }
         }
@@ -161,12 +171,14 @@ fn front(octets: &[u8], count: usize) -> &[u8] {
 
 #[test]
 fn a_cut_record_is_refused(rt: HostRuntime) -> Result<(), Fail> {
-    let format = format()?;
+    let records = Records::new()?;
     for start in 0..8usize {
         let octets = shifted(rt.alloc(), start)?;
         for length in 1..RECORD.len() {
             assert!(rt;
-                record_again(&format, rt.alloc(), front(&octets, length), start)?.is_none()
+                records
+                    .again(rt.alloc(), front(&octets, length), start)?
+                    .is_none()
             );
         }
     }

@@ -1,7 +1,7 @@
 //! The record of X.691 A.2, and octets that differ from it.
 
-use crate::values::{children, format, is_name, is_smith, is_text, name, smith, text};
-use personnel_record::{ChildInformation, PersonnelRecord, decode, encode};
+use crate::values::{children, is_name, is_smith, is_text, name, smith, text};
+use personnel_record::{ChildInformation, PersonnelRecord, decode, encode, record_format};
 use std::alloc::Global;
 use std::test::Fail;
 
@@ -13,10 +13,13 @@ const RECORD: [u8; 61] = [
     0x98, 0x5C, 0xE5, 0x21, 0x88, 0x5D, 0x54, 0xC1, 0x70, 0xCA, 0xC8, 0x38, 0xB8,
 ];
 
-/// The octets of a record, or why it has none, in words. Tests that call it do not state the type
-/// of the format, whose statement takes a minute.
+/// The octets of a record, or why it has none, in words. It and `decoded` alone state the type of
+/// the format, whose statement takes a minute in each function.
 fn encoded(alloc: Global, record: &PersonnelRecord) -> Result<Result<Vec<u8>, String>, Fail> {
-    match encode(&format()?, alloc, record) {
+    let Some(format) = record_format() else {
+        return Err("no character is there twice".into());
+    };
+    match encode(&format, alloc, record) {
         Ok(octets) => Ok(Ok(octets)),
         Err(refusal) => Ok(Err(format!(in alloc; "{refusal}")?)),
     }
@@ -24,7 +27,10 @@ fn encoded(alloc: Global, record: &PersonnelRecord) -> Result<Result<Vec<u8>, St
 
 /// The record of octets, or why they are none, in words.
 fn decoded(alloc: Global, octets: &[u8]) -> Result<Result<PersonnelRecord, String>, Fail> {
-    match decode(&format()?, alloc, octets) {
+    let Some(format) = record_format() else {
+        return Err("no character is there twice".into());
+    };
+    match decode(&format, alloc, octets) {
         Ok(record) => Ok(Ok(record)),
         Err(refusal) => Ok(Err(format!(in alloc; "{refusal}")?)),
     }

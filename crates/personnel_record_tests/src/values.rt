@@ -1,17 +1,8 @@
 //! The record of the standard, and its parts compared.
 
 use asn1_values::Integer;
-use personnel_record::{ChildInformation, Name, PersonnelRecord, RecordFormat, record_format};
+use personnel_record::{ChildInformation, Name, PersonnelRecord};
 use std::alloc::{AllocError, Global};
-use std::test::Fail;
-
-/// The format of records.
-pub(crate) fn format() -> Result<RecordFormat, Fail> {
-    match record_format() {
-        Some(format) => Ok(format),
-        None => Err("no character is there twice".into()),
-    }
-}
 
 pub(crate) fn text(alloc: Global, octets: &[u8]) -> Result<Vec<u32>, AllocError> {
     let mut text = Vec::new(alloc);
