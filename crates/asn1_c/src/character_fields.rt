@@ -7,7 +7,7 @@ ghost use Rattle.asn1_values.specs.Fields as plain;
 ghost use Rattle.asn1_c.specs.Fields.{IsSpelledAt, NamesReason};
 
 use crate::codes::CODE;
-use crate::fields::{Field, Refusal, taken};
+use crate::fields::{Field, Refusal, field_at};
 use asn1_values::{CharacterAlphabet, read_wide};
 
 /// Reads a character of the alphabet, and tells its code with it.
@@ -26,7 +26,7 @@ pub(crate) fn read_character(
     ensures field { IfErr result (λ r. r.field ≡ field) }
 {
     let width = alphabet.width();
-    match taken(octets, at, width as u128, field) {
+    match field_at(octets, at, width as u128, field) {
         Ok(place) => {
             let code = read_wide(octets, at, width) as u32;
             match alphabet.decode(code) {

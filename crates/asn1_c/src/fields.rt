@@ -74,7 +74,7 @@ impl Refusal {
 }
 
 /// A field of so many bits from a place on, without a number, if the octets have them.
-pub(crate) fn taken(octets: &[u8], at: usize, need: u128, field: usize) -> Result<Field, Refusal>
+pub(crate) fn field_at(octets: &[u8], at: usize, need: u128, field: usize) -> Result<Field, Refusal>
     requires few { 8 * length octets.now < 2 ^ 64 }
     requires within { at ≤ 8 * length octets.now }
     requires small { need < 2 ^ 70 }
@@ -131,7 +131,7 @@ fn read_number(octets: &[u8], at: usize, width: usize, field: usize) -> Result<F
     if width > 128 {
         return Err(Refusal::with(WIDTH, field, width as u128));
     }
-    match taken(octets, at, width as u128, field) {
+    match field_at(octets, at, width as u128, field) {
         Ok(place) => Ok(place.with_number(read_wide(octets, at, width))),
         Err(refusal) => Err(refusal),
     }
@@ -146,7 +146,7 @@ fn read_octets(octets: &[u8], at: usize, count: usize, field: usize) -> Result<F
         (NamesReason (plain.OfOctets count) (drop at (bits octets.now))) }
     ensures field { IfErr result (λ r. r.field ≡ field) }
 {
-    taken(octets, at, 8 * (count as u128), field)
+    field_at(octets, at, 8 * (count as u128), field)
 }
 
 /// Reads bits.
@@ -158,7 +158,7 @@ fn read_bits(octets: &[u8], at: usize, count: usize, field: usize) -> Result<Fie
         (NamesReason (plain.OfBits count) (drop at (bits octets.now))) }
     ensures field { IfErr result (λ r. r.field ≡ field) }
 {
-    taken(octets, at, count as u128, field)
+    field_at(octets, at, count as u128, field)
 }
 
 /// The shape that the numbers name.

@@ -8,7 +8,7 @@ ghost use Rattle.asn1_c.specs.Fields.{IsSpelledAt, NamesReason};
 ghost use Rattle.asn1_c.specs.Octets.{octets_at};
 
 use crate::codes::MALFORMED;
-use crate::fields::{Field, Refusal, taken};
+use crate::fields::{Field, Refusal, field_at};
 use crate::identifiers::code_of_contents;
 use crate::octets_at::OctetsAt;
 
@@ -46,7 +46,7 @@ pub(crate) fn read_identifier(
     if count == 0 {
         return Err(Refusal::with(MALFORMED, field, 0));
     }
-    match taken(octets, at, 8 * (count as u128), field) {
+    match field_at(octets, at, 8 * (count as u128), field) {
         Ok(place) => match code_at(octets, at, count) {
             0 => Ok(place),
             code => Err(Refusal::with(code, field, 0)),

@@ -10,7 +10,7 @@ ghost use Rattle.asn1_c.specs.Fields.{IsSpelledAt, NamesReason, TellsNone, signe
 ghost use Rattle.asn1_c.specs.Octets.{octets_at};
 
 use crate::codes::{NOT_SHORTEST, OCTET_COUNT};
-use crate::fields::{Field, Refusal, taken};
+use crate::fields::{Field, Refusal, field_at};
 use crate::octets_at::octet_at;
 use asn1_values::{IntegerType, read_wide, signed_value};
 
@@ -48,7 +48,7 @@ fn value_at(octets: &[u8], at: usize, count: usize) -> i128
 }
 
 /// The field with the number of its octets, where they are at most sixteen.
-fn told(place: &Field, octets: &[u8], at: usize, count: usize) -> Field
+fn with_value(place: &Field, octets: &[u8], at: usize, count: usize) -> Field
     requires some { 0 < count }
     requires within { at + 8 * count ≤ 8 * length octets.now }
     requires none { TellsNone place.now }
@@ -81,12 +81,12 @@ pub(crate) fn read_integer(
     if count == 0 {
         return Err(Refusal::with(NOT_SHORTEST, field, 0));
     }
-    match taken(octets, at, 8 * (count as u128), field) {
+    match field_at(octets, at, 8 * (count as u128), field) {
         Ok(place) => {
             if !are_shortest(octets, at, count) {
                 return Err(Refusal::with(NOT_SHORTEST, field, 0));
             }
-            Ok(told(&place, octets, at, count))
+            Ok(with_value(&place, octets, at, count))
         }
         Err(refusal) => Err(refusal),
     }
@@ -101,7 +101,7 @@ pub(crate) fn read_counted(octets: &[u8], at: usize, field: usize) -> Result<Fie
         (NamesReason plain.OfCountedInteger (drop at (bits octets.now))) }
     ensures field { IfErr result (λ r. r.field ≡ field) }
 {
-    if let Err(refusal) = taken(octets, at, 8, field) {
+    if let Err(refusal) = field_at(octets, at, 8, field) {
         return Err(refusal);
     }
     let octet = octet_at(octets, at);
@@ -109,12 +109,12 @@ pub(crate) fn read_counted(octets: &[u8], at: usize, field: usize) -> Result<Fie
         return Err(Refusal::with(OCTET_COUNT, field, u128::from(octet)));
     }
     let count = usize::from(octet);
-    match taken(octets, at, 8 + 8 * (count as u128), field) {
+    match field_at(octets, at, 8 + 8 * (count as u128), field) {
         Ok(place) => {
             if !are_shortest(octets, at + 8, count) {
                 return Err(Refusal::with(NOT_SHORTEST, field, 0));
             }
-            Ok(told(&place, octets, at + 8, count))
+            Ok(with_value(&place, octets, at + 8, count))
         }
         Err(refusal) => Err(refusal),
     }

@@ -196,14 +196,18 @@ fn fields_of(alloc: Global, view: BitStr<'_>, shapes: &[Shape<'_>]) -> Result<An
 {
     let mut reader = BitReader::new(view);
     match read_fields(alloc, &mut reader, shapes) {
-        Ok(fields) => found(alloc, fields.as_slice(), reader.len()),
+        Ok(fields) => answer_of_fields(alloc, fields.as_slice(), reader.len()),
         Err(ReadError::Memory) => Err(AllocError),
-        Err(error) => refused(alloc, error),
+        Err(error) => answer_of_refusal(alloc, error),
     }
 }
 
 /// The answer of fields that were found.
-fn found(alloc: Global, fields: &[Field<'_, '_>], left: usize) -> Result<Answer, AllocError>
+fn answer_of_fields(
+    alloc: Global,
+    fields: &[Field<'_, '_>],
+    left: usize,
+) -> Result<Answer, AllocError>
     requires { HaveOneSpelling (plain_fields fields.now) }
     ensures { IfOk result
         (λ answer. IsOnly (IsPrinted (plain_fields fields.now) left) (answer_in answer)) }
@@ -220,7 +224,7 @@ fn found(alloc: Global, fields: &[Field<'_, '_>], left: usize) -> Result<Answer,
 }
 
 /// The answer of an input that does not begin with fields of the shapes.
-fn refused(alloc: Global, error: ReadError) -> Result<Answer, AllocError>
+fn answer_of_refusal(alloc: Global, error: ReadError) -> Result<Answer, AllocError>
     ensures { IfOk result (λ answer. answer_in answer
         ≡ record { text = line (codes "refused: " ++ error_text error); status = 1 }) }
 {

@@ -94,7 +94,7 @@ impl Format for ConstrainedNumber {
 
     fn take(&self, _alloc: Global, reader: &mut BitReader<'_>) -> Result<i64, Refusal<SizeFault>> {
         match self.distance.next_in(reader) {
-            Ok(distance) => Ok(at(self.least, self.most, distance)),
+            Ok(distance) => Ok(number_at(self.least, self.most, distance)),
             Err(fault) => Err(Refusal::Wrong(fault)),
         }
     }
@@ -131,7 +131,7 @@ impl Compare for ConstrainedNumber {
 
     fn skip_equal(&self, reader: &mut BitReader<'_>, other: &i64) -> Result<bool, SizeFault> {
         match self.distance.next_in(reader) {
-            Ok(distance) => Ok(at(self.least, self.most, distance) == *other),
+            Ok(distance) => Ok(number_at(self.least, self.most, distance) == *other),
             Err(fault) => Err(fault),
         }
     }
@@ -157,7 +157,7 @@ impl ConstrainedNumber {
 }
 
 /// The number so far above the least. It is not above the greatest.
-fn at(least: i64, most: i64, distance: u64) -> i64
+fn number_at(least: i64, most: i64, distance: u64) -> i64
     requires { (least +ℤ pos distance) ≤ℤ most }
     ensures { result ≡ least +ℤ pos distance }
 {

@@ -70,13 +70,17 @@ impl<'s> CharacterAlphabet<'s> {
         let name = S::CHARACTER_SET_NAME;
         match permitted {
             Some(set) => CharacterAlphabet::permitted_by(name, set, aligned),
-            None => CharacterAlphabet::on(name, None, aligned),
+            None => CharacterAlphabet::of_set(name, None, aligned),
         }
     }
 
     /// The alphabet of a string and of the permitted set that was kept.
     #[inline(always)]
-    fn on(name: CharacterSetName, kept: Option<&'s [u32]>, aligned: bool) -> CharacterAlphabet<'s>
+    fn of_set(
+        name: CharacterSetName,
+        kept: Option<&'s [u32]>,
+        aligned: bool,
+    ) -> CharacterAlphabet<'s>
         requires { length (set_of name kept) ≤ 2 ^ 32 }
         ensures { alphabet_of result ≡ alphabet_on name (option_copied kept.entry) aligned }
     {
@@ -106,7 +110,7 @@ impl<'s> CharacterAlphabet<'s> {
         requires { length set.now ≤ 2 ^ 32 }
         ensures { alphabet_of result ≡ effective name (Some set.now) aligned }
     {
-        CharacterAlphabet::on(name, kept_set(name, set, aligned), aligned)
+        CharacterAlphabet::of_set(name, kept_set(name, set, aligned), aligned)
     }
 
     /// How many bits each character takes, at most 32.

@@ -291,11 +291,11 @@ fn string_of_pieces<S: StaticPermittedAlphabet>(
             });
         }
     }
-    copied::<S>(alloc, source)
+    copy_of_pieces::<S>(alloc, source)
 }
 
 /// The string of characters that its set has.
-fn copied<'a, S: StaticPermittedAlphabet>(
+fn copy_of_pieces<'a, S: StaticPermittedAlphabet>(
     alloc: Global,
     source: OctetPieces<'a>,
 ) -> Result<S, PermittedAlphabetError>

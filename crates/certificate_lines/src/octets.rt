@@ -21,13 +21,13 @@ where
             fault.tell(&mut text)?;
             Err(Stop::Refused(text))
         }
-        Err(DecodeError::Behind { bits }) => Err(behind(alloc, bits / 8)),
+        Err(DecodeError::Behind { bits }) => Err(refuse_behind(alloc, bits / 8)),
         Err(_) => Err(Stop::Memory),
     }
 }
 
 /// So many octets stand behind the certificate.
-fn behind(alloc: Global, count: usize) -> Stop {
+fn refuse_behind(alloc: Global, count: usize) -> Stop {
     match format!(in alloc; "certificate: {count} octets stand behind it") {
         Ok(text) => Stop::Refused(text),
         Err(_) => Stop::Memory,

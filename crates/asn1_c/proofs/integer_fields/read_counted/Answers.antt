@@ -30,15 +30,15 @@ returns-else-not-are_shortest-clause-read c =
     let high = c.if-octet-gt127.false in
     let same = c.from-count.ensures in
     counted_read c.args.octets.now c.args.at c.from-count.result c.requires.within (same ∙ c.octet_at-octet.ensures)
-    c.told.result (omega arith, omega arith) c.in-Ok.ensures.enough (c.told.ensures.place.0 ∙ c.in-Ok.ensures.bits.0)
-    (c.told.ensures.place.1 ∙ c.in-Ok.ensures.bits.1) (c.if-not-are_shortest.ensures.yes refl) c.told.ensures.short
-    c.told.ensures.long
+    c.with_value.result (omega arith, omega arith) c.in-Ok.ensures.enough (c.with_value.ensures.place.0 ∙ c.in-Ok.ensures.bits.0)
+    (c.with_value.ensures.place.1 ∙ c.in-Ok.ensures.bits.1) (c.if-not-are_shortest.ensures.yes refl) c.with_value.ensures.short
+    c.with_value.ensures.long
 
-pub returns-in-Err-taken-clause-refused : goal.returns-in-Err-taken-clause-refused
-returns-in-Err-taken-clause-refused c =
+pub returns-in-Err-field_at-clause-refused : goal.returns-in-Err-field_at-clause-refused
+returns-in-Err-field_at-clause-refused c =
     let low = c.if-octet-eq0.false in
     let high = c.if-octet-gt127.false in
     let same = c.from-count.ensures in
     counted_cut c.args.octets.now c.args.at c.from-count.result c.requires.within (same ∙ c.octet_at-octet.ensures)
-    c.in-Err-taken.refusal c.in_default.ensures.enough c.in-Err-taken.ensures.short.0 c.in-Err-taken.ensures.code.0
-    c.in-Err-taken.ensures.short.1 (omega arith, omega arith)
+    c.in-Err-field_at.refusal c.in_default.ensures.enough c.in-Err-field_at.ensures.short.0 c.in-Err-field_at.ensures.code.0
+    c.in-Err-field_at.ensures.short.1 (omega arith, omega arith)

@@ -17,9 +17,9 @@ returns-then-not-are_shortest-clause-refused c =
 pub returns-else-not-are_shortest-clause-read : goal.returns-else-not-are_shortest-clause-read
 returns-else-not-are_shortest-clause-read c =
     let ne = c.if-count-eq0.false in
-    integer_read c.args.octets.now c.args.at c.args.count (omega arith) c.in-Ok.ensures.enough c.told.result
-    (c.told.ensures.place.0 ∙ c.in-Ok.ensures.bits.0) (c.told.ensures.place.1 ∙ c.in-Ok.ensures.bits.1)
-    (c.if-not-are_shortest.ensures.yes refl) c.told.ensures.short c.told.ensures.long
+    integer_read c.args.octets.now c.args.at c.args.count (omega arith) c.in-Ok.ensures.enough c.with_value.result
+    (c.with_value.ensures.place.0 ∙ c.in-Ok.ensures.bits.0) (c.with_value.ensures.place.1 ∙ c.in-Ok.ensures.bits.1)
+    (c.if-not-are_shortest.ensures.yes refl) c.with_value.ensures.short c.with_value.ensures.long
 
 pub returns-in-Err-clause-refused : goal.returns-in-Err-clause-refused
 returns-in-Err-clause-refused c =

@@ -16,7 +16,7 @@ returns-in-Ok c =
     let fields = plain_fields c.as_slice.result.now in
     let rest = bits_left c.read_fields.new.reader in
     let whole : old ≡ list = ap list_of c.new-reader.ensures in
-    goes_on c.found.result (IsOnly (IsPrinted fields c.len.result)) (IsOnly (IsBitsAnswer list shapes)) c.found.ensures
+    goes_on c.answer_of_fields.result (IsOnly (IsPrinted fields c.len.result)) (IsOnly (IsBitsAnswer list shapes)) c.answer_of_fields.ensures
     (λ answer p. subst (λ (l : List Bool). IsOnly (IsBitsAnswer l shapes) answer) whole
     (fields_only old shapes fields rest
     (rw c.as_slice.ensures.value c.in-Ok.ensures.only)

@@ -17,12 +17,12 @@ loop-i-preserved g c =
     below_more _ _ c.loop-i.invariant
     (rw (← c.character-character.ensures) (sym c.contains_char.ensures ∙ c.if-not-contains_char.false))
 
-pub copied-requires : goal.copied-requires
-copied-requires g c =
+pub copy_of_pieces-requires : goal.copy_of_pieces-requires
+copy_of_pieces-requires g c =
     all_right (base_set g.S.StaticPermittedAlphabet.CHARACTER_SET_NAME) (map unsigned (pieces c.args.width c.args.octets.now))
     (λ k h. c.loop-i.invariant k (omega arith))
 
 pub returns : goal.returns
 returns g c =
     rw (string_of_right g.S.StaticPermittedAlphabet.CHARACTER_SET_NAME (map unsigned (pieces c.args.width c.args.octets.now))
-    (λ k h. c.loop-i.invariant k (omega arith))) c.copied.ensures
+    (λ k h. c.loop-i.invariant k (omega arith))) c.copy_of_pieces.ensures

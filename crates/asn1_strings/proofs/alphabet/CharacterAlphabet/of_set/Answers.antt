@@ -1,6 +1,6 @@
 use Rattle.std.proofs.Common.{refl}
 use Rattle.asn1_strings.proofs.AlphabetLemmas.{few_places, is_some_if, none_if}
-use Rattle.asn1_strings.proofs.alphabet.CharacterAlphabet.on.Goals as goal
+use Rattle.asn1_strings.proofs.alphabet.CharacterAlphabet.of_set.Goals as goal
 
 pub invariant_of-result : goal.invariant_of-result
 invariant_of-result c =

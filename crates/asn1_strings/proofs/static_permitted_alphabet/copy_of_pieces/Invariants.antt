@@ -1,6 +1,6 @@
 use Rattle.std.proofs.Common.{◌≡◌, take, map}
 use Rattle.asn1_strings.specs.Pieces.{pieces, unsigned}
-use Rattle.asn1_strings.proofs.static_permitted_alphabet.copied.Given as goal
+use Rattle.asn1_strings.proofs.static_permitted_alphabet.copy_of_pieces.Given as goal
 
 abbrev pub invariant-loop-i : goal.invariant-loop-i
 invariant-loop-i g l =

@@ -1,6 +1,6 @@
 use Rattle.std.proofs.Common.{◌<◌, length, map, arith}
 use Rattle.asn1_strings.specs.Pieces.{pieces, unsigned}
-use Rattle.asn1_strings.proofs.static_permitted_alphabet.copied.Goals as goal
+use Rattle.asn1_strings.proofs.static_permitted_alphabet.copy_of_pieces.Goals as goal
 
 pub push_char-requires : goal.push_char-requires
 push_char-requires g c =

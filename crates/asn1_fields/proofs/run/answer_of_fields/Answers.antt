@@ -4,7 +4,7 @@ use Rattle.asn1_values.specs.Words.{padded}
 use Rattle.asn1_fields.specs.Output.{printed}
 use Rattle.asn1_fields.specs.Program.{Hold}
 use Rattle.asn1_fields.proofs.OneLemmas.{one_holding}
-use Rattle.asn1_fields.proofs.run.found.Goals as goal
+use Rattle.asn1_fields.proofs.run.answer_of_fields.Goals as goal
 
 pub returns : goal.returns
 returns c =
