@@ -5,8 +5,8 @@ use Rattle.asn1_fields.specs.Program.{IsBitsAnswer, IsOnly, IsPrinted}
 use Rattle.asn1_fields.proofs.AnswerLemmas.{goes_on, fields_only}
 use Rattle.asn1_fields.proofs.run.fields_of.Goals as goal
 
-pub found-requires : goal.found-requires
-found-requires c = rw c.as_slice.ensures.value (c.in-Ok.ensures.one_spelling c.requires)
+pub answer_of_fields-requires : goal.answer_of_fields-requires
+answer_of_fields-requires c = rw c.as_slice.ensures.value (c.in-Ok.ensures.one_spelling c.requires)
 
 pub returns-in-Ok : goal.returns-in-Ok
 returns-in-Ok c =
@@ -16,7 +16,8 @@ returns-in-Ok c =
     let fields = plain_fields c.as_slice.result.now in
     let rest = bits_left c.read_fields.new.reader in
     let whole : old ≡ list = ap list_of c.new-reader.ensures in
-    goes_on c.answer_of_fields.result (IsOnly (IsPrinted fields c.len.result)) (IsOnly (IsBitsAnswer list shapes)) c.answer_of_fields.ensures
+    goes_on c.answer_of_fields.result (IsOnly (IsPrinted fields c.len.result)) (IsOnly (IsBitsAnswer list shapes))
+    c.answer_of_fields.ensures
     (λ answer p. subst (λ (l : List Bool). IsOnly (IsBitsAnswer l shapes) answer) whole
     (fields_only old shapes fields rest
     (rw c.as_slice.ensures.value c.in-Ok.ensures.only)
