@@ -167,7 +167,8 @@ fn does_set_ascend<F: Ordered + Copy>(item: &F, alloc: Global, octets: &[u8]) ->
     is_kept(&format, alloc, octets) && is_unwritten_in_reverse(&format, alloc, octets)
 }
 
-/// Whether a SET OF SEQUENCE of these elements does so.
+/// Whether a SET OF SEQUENCE of these elements keeps the octets, and is not written in the reverse
+/// order.
 fn do_elements_ascend<E: OrderedElements + Copy>(
     elements: &E,
     alloc: Global,
@@ -187,7 +188,8 @@ fn does_set_end<F: Ordered + Copy>(
     is_unwritten_behind(&format, alloc, octets, value) && is_kept(&format, alloc, octets)
 }
 
-/// Whether a SET OF SEQUENCE of these elements does so.
+/// Whether a SET OF SEQUENCE of these elements keeps the octets, and is not written with this value
+/// behind.
 fn do_elements_end<E: OrderedElements + Copy>(
     elements: &E,
     alloc: Global,

@@ -26,7 +26,7 @@ where
     }
 }
 
-/// So many octets stand behind the certificate.
+/// The refusal of a certificate that so many octets stand behind.
 fn refuse_behind(alloc: Global, count: usize) -> Stop {
     match format!(in alloc; "certificate: {count} octets stand behind it") {
         Ok(text) => Stop::Refused(text),
