@@ -45,14 +45,15 @@ eight-copied old new piece src at k z e is h room =
     ∙ ap (ored (bits old) (8 * at)) (ap bits is ∙ bits-eight src k)
 
 -- a word of the end of one and the front of the next
-pub word-of_two : (list : List Bool) (k shift a b : ℕ) → shift < 64 → b < 2 ^ 64
+pub word-of_two : (list : List Bool) (k shift back a b : ℕ) → shift < 64 → back ≡ 64 - shift → b < 2 ^ 64
     → digits a 64 ≡ take 64 (drop (8 * (8 * k)) list) → digits b 64 ≡ take 64 (drop (8 * (8 * k + 8)) list)
-    → digits (bit_or (a * 2 ^ shift % 2 ^ 64) (b / 2 ^ (64 - shift))) 64 ≡ take 64 (drop (64 * k) (drop shift list))
-word-of_two list k shift a b h small e f =
+    → digits (bit_or (a * 2 ^ shift % 2 ^ 64) (b / 2 ^ back)) 64 ≡ take 64 (drop (64 * k) (drop shift list))
+word-of_two list k shift back a b h same small e f =
     let here : 8 * (8 * k) ≡ 64 * k = omega arith in
     let next : 8 * (8 * k + 8) ≡ 64 * k + 64 = omega arith in
     let place : 64 * k + shift ≡ shift + 64 * k = omega arith in
-    joined list (64 * k) 64 64 shift a b (omega arith) (omega arith) small
+    ap (λ (n : ℕ). digits (bit_or (a * 2 ^ shift % 2 ^ 64) (b / 2 ^ n)) 64) same
+    ∙ joined list (64 * k) 64 64 shift a b (omega arith) (omega arith) small
     (e ∙ ap (λ (n : ℕ). take 64 (drop n list)) here) (f ∙ ap (λ (n : ℕ). take 64 (drop n list)) next)
     ∙ ap (take 64) (sym (drop-drop (64 * k) shift list ∙ ap (λ (n : ℕ). drop n list) (sym place)))
 

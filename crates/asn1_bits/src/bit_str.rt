@@ -337,6 +337,9 @@ impl Ord for BitStr<'_> {
             }
         }
         let width = self.len.min(other.len) % 64;
+        if width == 0 {
+            return self.len.cmp(&other.len);
+        }
         let one = self.slice(64 * words, width).first_u128(width);
         let two = other.slice(64 * words, width).first_u128(width);
         one.cmp(&two).then(self.len.cmp(&other.len))

@@ -8,11 +8,11 @@ ghost use Rattle.asn1_bits.specs.Turns.{turns_for};
 ghost use Rattle.asn1_bits.specs.View.{IsAligned};
 
 use crate::bit_str::BitStr;
-use crate::places::place_word;
+use crate::places::{or_aligned, place_word};
 use crate::single_bits::from_octet;
 use crate::target::Target;
 use crate::turns::Turns;
-use crate::window::{eight, load, or_words, whole_word, wide_of_seventeen, word_of_nine};
+use crate::window::{eight, load, whole_word, wide_of_seventeen, word_of_nine};
 use std::alloc::AllocError;
 
 /// ORs the first `count` bits of `src` into `dst` from bit `position` on, and leaves every other
@@ -84,6 +84,11 @@ fn or_long<'a>(
         ≡ turns.old.count + result.placed.count }
     ensures turns { turns.new.count ≡ turns.old.count + div_ceil (view_of src.entry).len 64 }
 {
+    if position % 8 == 0 {
+        if let Some(octets) = src.aligned() {
+            return or_aligned(target, position / 8, octets, turns);
+        }
+    }
     let mut own = target;
     or_each_word(&mut own, position, src, turns);
     own
@@ -136,12 +141,6 @@ fn or_whole_words(dst: &mut Target<'_>, position: usize, src: BitStr<'_>, turns:
 {
     let len = src.len();
     let spill = position % 8;
-    if spill == 0 {
-        if let Some(octets) = src.aligned() {
-            or_words(dst, position / 8, octets, len / 64, turns);
-            return;
-        }
-    }
     let rest = dst.or_begun(position, src.word(0, 64 - spill), 64 - spill, turns);
     src.or_words(64 - spill, dst, position / 8 + 8, len / 64 - 1, turns);
     src.or_edge(len - spill, spill, dst, rest, position / 8 + len / 8);

@@ -1,14 +1,16 @@
 //! Lists of bits that words are ORed into, and a view that is placed in one.
 
-ghost use Rattle.std.specs.Prelude.{◌≡◌, ℕ, ◌+◌, ◌^◌, ◌<◌, ◌≤◌, List, Bool, length};
+ghost use Rattle.std.specs.Prelude.{◌≡◌, ℕ, ◌+◌, ◌*◌, ◌^◌, ◌<◌, ◌≤◌, List, Bool, length};
 ghost use Rattle.std.specs.Int.{div_ceil};
 ghost use Rattle.asn1_bits.specs.Bits.{bits, digits, ored};
 ghost use Rattle.asn1_bits.specs.BitStr.{view_of, bits_of};
 ghost use Rattle.asn1_bits.specs.Turns.{turns_for};
 
 use crate::bit_str::BitStr;
+use crate::single_bits::from_octet;
 use crate::target::Target;
 use crate::turns::Turns;
+use crate::window::or_words;
 
 /// A list of bits into which words are ORed, at any place.
 pub trait Places {
@@ -97,4 +99,32 @@ pub(crate) fn place_word<D: Places>(
     if len > 0 {
         target.place(position, src.word(0, len), len, turns);
     }
+}
+
+/// ORs octets into the target from octet `first` on: a turn for each eight of them, and one for the
+/// rest. Not inlined, since its caller needs more registers for bits off the octet boundary. The
+/// target is passed and given back by value, so its place stays in registers.
+#[inline(never)]
+pub(crate) fn or_aligned<'a>(
+    target: Target<'a>,
+    first: usize,
+    src: &[u8],
+    turns: &mut Turns,
+) -> Target<'a>
+    requires room { first + length src.now ≤ length target.octets.now }
+    requires fits { 8 * (first + length src.now) < 2 ^ 64 }
+    ensures bits { bits result.octets.now
+        ≡ ored (bits target.entry.octets.now) (8 * first) (bits src.now) }
+    ensures same_reference { result.octets.ghost_name ≡ target.entry.octets.ghost_name }
+    ensures length { length result.octets.now ≡ length target.entry.octets.now }
+    ensures each_turn_places { turns.new.count + target.entry.placed.count
+        ≡ turns.old.count + result.placed.count }
+    ensures turns { turns.new.count ≡ turns.old.count + div_ceil (8 * length src.now) 64 }
+{
+    let mut own = target;
+    let words = src.len() / 8;
+    or_words(&mut own, first, src, words, turns);
+    let tail = BitStr::from_octets(from_octet(src, 8 * words));
+    place_word(&mut own, 8 * (first + 8 * words), tail, turns);
+    own
 }

@@ -1,6 +1,6 @@
 //! Words of bits, at any place of octets: read from a slice, and placed in a target.
 
-ghost use Rattle.std.specs.Prelude.{◌≡◌, ◌+◌, ◌*◌, ◌/◌, ◌%◌, ◌^◌, ◌<◌, ◌≤◌, length, take, drop};
+ghost use Rattle.std.specs.Prelude.{◌≡◌, ◌+◌, ◌-◌, ◌*◌, ◌/◌, ◌%◌, ◌^◌, ◌<◌, ◌≤◌, length, take, drop};
 ghost use Rattle.std.specs.Int.{div_ceil};
 ghost use Rattle.asn1_bits.specs.Bits.{bits, digits, ored, IsZeroFrom};
 
@@ -244,8 +244,89 @@ pub(crate) fn or_shifted_words(
         ≡ turns.old.count + dst.new.placed.count }
     ensures turns { turns.new.count ≡ turns.old.count + count }
 {
+    if count < 32 {
+        or_joined_words(dst, first, src, shift, 64 - shift, count, turns);
+    } else {
+        *dst = or_many_words(dst.take(), first, src, shift, count, turns);
+    }
+}
+
+/// The path of `or_shifted_words` for many words, which are joined in vectors of two. Not inlined
+/// and cold, so that the path for few words keeps its registers. The target is passed and given
+/// back by value, so its place stays in registers.
+#[cold]
+#[inline(never)]
+fn or_many_words<'a>(
+    target: Target<'a>,
+    first: usize,
+    src: &[u8],
+    shift: usize,
+    count: usize,
+    turns: &mut Turns,
+) -> Target<'a>
+    requires shift { 0 < shift }
+    requires word { shift < 64 }
+    requires room { first + 8 * count ≤ length target.octets.now }
+    requires source { 8 * count + 8 ≤ length src.now }
+    ensures bits { bits result.octets.now
+        ≡ ored (bits target.entry.octets.now) (8 * first)
+        (take (64 * count) (drop shift (bits src.now))) }
+    ensures same_reference { result.octets.ghost_name ≡ target.entry.octets.ghost_name }
+    ensures length { length result.octets.now ≡ length target.entry.octets.now }
+    ensures each_turn_places { turns.new.count + target.entry.placed.count
+        ≡ turns.old.count + result.placed.count }
+    ensures turns { turns.new.count ≡ turns.old.count + count }
+{
+    let mut own = target;
+    or_joined_words(
+        &mut own,
+        first,
+        src,
+        shift,
+        left_of_word(shift),
+        count,
+        turns,
+    );
+    own
+}
+
+/// The loop of `or_shifted_words`. `back` is what `shift` leaves of 64.
+#[inline(always)]
+fn or_joined_words(
+    dst: &mut Target<'_>,
+    first: usize,
+    src: &[u8],
+    shift: usize,
+    back: usize,
+    count: usize,
+    turns: &mut Turns,
+)
+    requires shift { 0 < shift }
+    requires word { shift < 64 }
+    requires back { back ≡ 64 - shift }
+    requires room { first + 8 * count ≤ length dst.old.octets.now }
+    requires source { 8 * count + 8 ≤ length src.now }
+    ensures bits { bits dst.new.octets.now
+        ≡ ored (bits dst.old.octets.now) (8 * first) (take (64 * count) (drop shift (bits src.now))) }
+    ensures same_reference { dst.new.octets.ghost_name ≡ dst.old.octets.ghost_name }
+    ensures length { length dst.new.octets.now ≡ length dst.old.octets.now }
+    ensures each_turn_places { turns.new.count + dst.old.placed.count
+        ≡ turns.old.count + dst.new.placed.count }
+    ensures turns { turns.new.count ≡ turns.old.count + count }
+{
     for k in 0..count {
-        let word = (load(src, 8 * k) << shift) | (load(src, 8 * k + 8) >> (64 - shift));
+        let word = (load(src, 8 * k) << shift) | (load(src, 8 * k + 8) >> back);
         dst.or_octets(first + 8 * k, word, turns);
     }
+}
+
+/// How many of a word's 64 digits are left behind the first `shift`.
+// Not inlined: a compiler that sees two shifts of 64 digits together takes them for one of 128. A
+// processor has that for one word, which is best for few words, but not for vectors of them.
+#[inline(never)]
+fn left_of_word(shift: usize) -> usize
+    requires { shift < 64 }
+    ensures { result ≡ 64 - shift }
+{
+    64 - shift
 }

@@ -4,7 +4,7 @@ use Rattle.std.proofs.lemmas.List.{length-drop, take-take}
 use Rattle.std.specs.Ordering.{nat_cmp, ordering_then}
 use Rattle.asn1_bits.specs.Bits.{digits, number}
 use Rattle.asn1_bits.specs.BitStr.{view_of, bits_of}
-use Rattle.asn1_bits.specs.NumberLaws.{number_of-digits}
+use Rattle.asn1_bits.specs.NumberLaws.{number-nil, number_of-digits}
 use Rattle.asn1_bits.specs.ViewLaws.{length-list_of}
 use Rattle.asn1_bits.proofs.OrderLemmas.{differ, last-bits}
 use Rattle.asn1_bits.proofs.bit_str.BitStrOrd.cmp.Goals as goal
@@ -38,6 +38,21 @@ loop-k-preserved c =
     ∙ ap (λ (l : List Bool). l ++ take 64 (drop at xs)) c.loop-k.invariant
     ∙ ap (λ (l : List Bool). take at ys ++ l) word
     ∙ sym (take-add at 64 ys) ∙ ap (λ (n : ℕ). take n ys) next
+
+pub returns-then-width-eq0 : goal.returns-then-width-eq0
+returns-then-width-eq0 c =
+    let a = c.args.self.now in
+    let b = c.args.other.now in
+    let xs = bits_of a in
+    let ys = bits_of b in
+    let at = 64 * (c.min-words.result / 64) in
+    let w : c.min-words.result / 64 ≡ c.loop-k.k = omega (arith, c.loop-k-test.false, c.loop-k.auto.k-end) in
+    let same : take at xs ≡ take at ys = ap (λ (k : ℕ). take (64 * k) xs) w ∙ c.loop-k.invariant ∙ ap (λ (k : ℕ). take (64 * k) ys) (sym w) in
+    let p : length xs ≡ a.len = length-list_of (view_of a) a.within in
+    let q : length ys ≡ b.len = length-list_of (view_of b) b.within in
+    c.cmp-then-width-eq0.ensures
+    ∙ ap (λ (k : ℕ). nat_cmp k b.len) (sym p) ∙ ap (nat_cmp (length xs)) (sym q)
+    ∙ last-bits xs ys at 0 0 0 same (omega (arith, p, q, c.min-words.ensures, c.min-width.ensures, c.if-width-eq0.true)) (sym number-nil) (sym number-nil)
 
 pub returns : goal.returns
 returns c =

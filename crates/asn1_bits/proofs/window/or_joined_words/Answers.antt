@@ -4,7 +4,7 @@ use Rattle.asn1_bits.specs.Bits.{bits, ored}
 use Rattle.asn1_bits.specs.DigitLaws.{length-bits}
 use Rattle.asn1_bits.proofs.OredLemmas.{ored-none}
 use Rattle.asn1_bits.proofs.RunLemmas.{more-placed, word-of_two}
-use Rattle.asn1_bits.proofs.window.or_shifted_words.Goals as goal
+use Rattle.asn1_bits.proofs.window.or_joined_words.Goals as goal
 
 pub loop-k-init : goal.loop-k-init
 loop-k-init c = record { bits = sym (ored-none (bits c.args.dst.now.octets.now) (8 * c.args.first)); same_reference = refl; len = refl; placed = omega arith; turns = omega arith }
@@ -21,7 +21,7 @@ loop-k-preserved c =
           (8 * (c.args.first + 8 * k)) (64 * (k + 1))
           c.loop-k.invariant.bits
           (c.or_octets.ensures.bits ∙ ap (ored (bits c.loop-k.dst.octets.now) (8 * (c.args.first + 8 * k)))
-          (word-of_two src k shift c.load.result c.load-in-loop-k.result c.requires.word
+          (word-of_two src k shift c.args.back c.load.result c.load-in-loop-k.result c.requires.word c.requires.back
           (omega (arith, c.load-in-loop-k.type_inv)) c.load.ensures c.load-in-loop-k.ensures))
           (omega arith) (omega arith)
           (omega (arith, length-bits c.args.src.now, length-drop shift src, c.requires.source, c.requires.word))

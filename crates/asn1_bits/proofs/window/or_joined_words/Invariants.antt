@@ -1,6 +1,6 @@
 use Rattle.std.proofs.Common.{◌≡◌, ◌+◌, ◌*◌, take, drop, length}
 use Rattle.asn1_bits.specs.Bits.{bits, ored}
-use Rattle.asn1_bits.proofs.window.or_shifted_words.Given as goal
+use Rattle.asn1_bits.proofs.window.or_joined_words.Given as goal
 
 abbrev pub invariant-loop-k : goal.invariant-loop-k
 invariant-loop-k l = record {
