@@ -323,8 +323,9 @@ fn compare_octets(a: &[u8], b: &[u8]) -> Ordering
     match (a[0] >= 128, b[0] >= 128) {
         (true, false) => Ordering::Less,
         (false, true) => Ordering::Greater,
-        (false, false) => a.len().cmp(&b.len()).then(a.cmp(b)),
-        (true, true) => b.len().cmp(&a.len()).then(a.cmp(b)),
+        _ if a.len() == b.len() => a.cmp(b),
+        (false, false) => a.len().cmp(&b.len()),
+        (true, true) => b.len().cmp(&a.len()),
     }
 }
 

@@ -4,7 +4,6 @@ ghost use Rattle.std.specs.Int.{to_be_bytes, w64};
 ghost use Rattle.asn1_number.specs.Octets.{IsShortest, IsShortestUnsigned};
 
 use crate::sign_octets::zeros_for_sign;
-use arrayvec::ArrayVec;
 use std::marker::Model;
 
 /// The octets of an integer, most significant first: up to seventeen of them inline, or borrowed
@@ -16,10 +15,18 @@ pub struct IntegerBytes<'a> {
 
 #[derive(Debug, Drop)]
 enum Storage<'a> {
-    /// The octets kept, from `start` on.
-    Inline {
+    /// The `count` octets of two words from `start` on, all that follow. A count is kept, so that
+    /// `len` reads it where a borrowed slice has its length.
+    Words {
         start: usize,
-        octets: ArrayVec<u8, 17>,
+        count: usize,
+        words: [[u8; 8]; 2],
+    },
+    /// The `count` octets kept from `first` on, all that follow.
+    Copied {
+        first: usize,
+        count: usize,
+        octets: [u8; 17],
     },
     Borrowed(&'a [u8]),
 }
@@ -42,10 +49,15 @@ impl<'a> IntegerBytes<'a> {
         requires { length octets.now ≤ 17 }
         ensures { result ≡ octets.now }
     {
+        let count = octets.len();
+        let first = 17 - count;
+        let mut kept = [0; 17];
+        kept[first..].copy_from_slice(octets);
         IntegerBytes {
-            storage: Storage::Inline {
-                start: 0,
-                octets: ArrayVec::try_from(octets).unwrap(),
+            storage: Storage::Copied {
+                first,
+                count,
+                octets: kept,
             },
         }
     }
@@ -55,11 +67,12 @@ impl<'a> IntegerBytes<'a> {
         requires { start ≤ 16 }
         ensures { result ≡ drop start (to_be_bytes w64 high ++ to_be_bytes w64 low) }
     {
-        let mut octets = ArrayVec::new();
-        octets.try_extend_from_slice(&high.to_be_bytes()).unwrap();
-        octets.try_extend_from_slice(&low.to_be_bytes()).unwrap();
         IntegerBytes {
-            storage: Storage::Inline { start, octets },
+            storage: Storage::Words {
+                start,
+                count: 16 - start,
+                words: [high.to_be_bytes(), low.to_be_bytes()],
+            },
         }
     }
 
@@ -77,7 +90,16 @@ impl<'a> IntegerBytes<'a> {
         ensures { result.now ≡ self.now }
     {
         match &self.storage {
-            Storage::Inline { start, octets } => &octets.as_slice()[*start..],
+            Storage::Words {
+                start,
+                count,
+                words,
+            } => &words.as_flattened()[*start..*start + *count],
+            Storage::Copied {
+                first,
+                count,
+                octets,
+            } => &octets[*first..*first + *count],
             Storage::Borrowed(octets) => octets,
         }
     }
@@ -96,9 +118,25 @@ impl<'a> IntegerBytes<'a> {
     {
         let skipped = zeros_for_sign(self.as_ref());
         match self.storage {
-            Storage::Inline { start, octets } => IntegerBytes {
-                storage: Storage::Inline {
+            Storage::Words {
+                start,
+                count,
+                words,
+            } => IntegerBytes {
+                storage: Storage::Words {
                     start: start + skipped,
+                    count: count - skipped,
+                    words,
+                },
+            },
+            Storage::Copied {
+                first,
+                count,
+                octets,
+            } => IntegerBytes {
+                storage: Storage::Copied {
+                    first: first + skipped,
+                    count: count - skipped,
                     octets,
                 },
             },

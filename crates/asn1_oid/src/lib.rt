@@ -6,6 +6,7 @@
 #![tactic(auto)]
 
 mod contents;
+mod dotted;
 mod laws;
 mod object_identifier;
 mod oid;

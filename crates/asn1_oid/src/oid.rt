@@ -4,6 +4,7 @@ ghost use Rattle.std.specs.Prelude.{◌≡◌, ◌<◌, ◌≤◌, ◌+◌, ◌*
 ghost use Rattle.asn1_oid.specs.Arcs.{IsValidArcs, dotted};
 ghost use Rattle.asn1_oid.specs.Contents.{IsContents, subidentifiers};
 
+use crate::dotted::group_text;
 use crate::object_identifier::ObjectIdentifier;
 use crate::oid_contents::{OidContents, octet_count, octets_of_arcs};
 use std::alloc::{AllocError, Global};
@@ -115,12 +116,15 @@ impl fmt::Display for Oid<'_> {
     ghost output = { λ oid. Some (dotted (arcs_of oid)) };
 
     fn fmt<W: fmt::Write>(&self, f: &mut fmt::Formatter<W>) -> fmt::Result {
-        let Some((first, rest)) = self.arcs.split_first() else {
-            return Ok(());
-        };
-        write!(f, "{first}")?;
-        for arc in rest {
-            write!(f, ".{arc}")?;
+        let mut room = [b'.'; 88];
+        let mut rest = self.arcs;
+        // The first arc has no full stop in front.
+        let mut skipped = 1;
+        while !rest.is_empty() {
+            let (group, others) = rest.split_at(rest.len().min(8));
+            f.write_str(group_text(group, skipped, &mut room))?;
+            rest = others;
+            skipped = 0;
         }
         Ok(())
     }

@@ -1,13 +1,14 @@
-use Rattle.std.proofs.Common.{◌≡◌, ◌∷◌, ◌++◌, get_or, take, drop}
-use Rattle.std.specs.Fmt.{HasWritten, IsPlainFormatter, decimal}
-use Rattle.std.specs.List.{flat_map}
-use Rattle.asn1_oid.specs.Arcs.{full_stop}
+use Rattle.std.proofs.Common.{◌≡◌, ℕ, ◌≤◌, List, ◌++◌, length, drop}
+use Rattle.std.specs.Fmt.{HasWritten, IsPlainFormatter}
+use Rattle.asn1_oid.specs.Arcs.{dotted, with_stops}
 use Rattle.asn1_oid.proofs.oid.OidDisplay.fmt.Given as goal
 
-abbrev pub invariant-loop-arc : goal.invariant-loop-arc
-invariant-loop-arc g l = record {
-  rest : l.rest ≡ drop 1 l.self.arcs.now;
-  written : IsPlainFormatter l.fn.f
-      → HasWritten g.W.Write.write_str_gives l.fn.f
-      (decimal (get_or l.self.arcs.now 0 0) ++ flat_map (λ b. full_stop ∷ decimal b) (take l.arc-index l.rest)) l.f;
-}
+-- some text is written, and what is left to write ends the dotted text
+abbrev pub invariant-loop-rest : goal.invariant-loop-rest
+invariant-loop-rest g l = (text : List ℕ)
+    × (text ++ drop l.skipped (with_stops l.rest) ≡ dotted l.self.arcs.now)
+    × (l.skipped ≤ 1)
+    × (IsPlainFormatter l.fn.f → HasWritten g.W.Write.write_str_gives l.fn.f text l.f)
+
+abbrev pub decreases-loop-rest : goal.decreases-loop-rest
+decreases-loop-rest g l = length l.rest
