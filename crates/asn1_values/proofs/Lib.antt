@@ -2,6 +2,7 @@ pub mod BitsKind
 pub mod CharacterKind
 pub mod CountedIntegerKind
 pub mod ExactKinds
+pub mod GatherLemmas
 pub mod HeadlineLemmas
 pub mod IdentifierKind
 pub mod IntegerKind

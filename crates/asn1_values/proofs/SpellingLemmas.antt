@@ -9,7 +9,7 @@ use Rattle.asn1_oid.specs.WritingLaws.{contents_only}
 use Rattle.asn1_strings.specs.Alphabet.{Alphabet, IsCode}
 use Rattle.asn1_values.specs.SpellingLaws.{same_shortest}
 use Rattle.std.specs.Option.{option_map}
-use Rattle.std.proofs.lemmas.List.{length-append, map_more, map-append, take-map, take-append-drop, drop_more, append-nil}
+use Rattle.std.proofs.lemmas.List.{length-append, map_more, map-append, take-map, take-append-drop, drop_more}
 use Rattle.std.proofs.lemmas.Nat.{pow_pos}
 use Rattle.std.proofs.Math.Nat.{lt-div-mul-add}
 use Rattle.std.proofs.Math.Seq.{take-append_seam}
@@ -24,9 +24,9 @@ use Rattle.asn1_values.specs.declared.bit_fields.field.Field.{Field as Program}
 use Rattle.asn1_values.specs.Plain.{plain_field, plain_fields}
 use Rattle.asn1_values.specs.Fields.{Field, IsSpelledBy, AreSpelledBy, Number, Octets, Bits, Integer, Character, CountedInteger, Identifier}
 use Rattle.asn1_values.specs.Wrong.{Misfit, WidthOver, PastWidth, NotInAlphabet, PastLength, TooFewArcs, Fits, IsMisfit, IsFirstMisfit}
-use Rattle.asn1_values.specs.Steps.{NamesMisfit, NamesFirstMisfit, Spelling, TakesBits, HasLength, FitsIn, EndsAt, Pushes, PushesAll, HasRoomFor, HaveRoom, TakesTurns, TakeTurns}
+use Rattle.asn1_values.specs.Steps.{NamesMisfit, NamesFirstMisfit, Spelling, TakesBits, HasLength, FitsIn, EndsAt, Pushes, HasRoomFor, TakesTurns}
 use Rattle.asn1_bits.specs.Joined.{AreJoined}
-use Rattle.asn1_values.proofs.JoinedLemmas.{joins_push, joins_append, joins_split, one_joined, each_joined, slice_get_take, some_at, Split}
+use Rattle.asn1_values.proofs.JoinedLemmas.{joins_push, joins_split, one_joined, each_joined, slice_get_take, some_at, Split}
 
 -- ---- one field
 
@@ -140,7 +140,7 @@ names_none fields errors.Memory list h s = h
 -- ---- fields that take bits, whether or not they are spelled
 
 -- what spells a field, it takes
-spelled_taken : (field : Field) (list : List Bool) → IsSpelledBy field list → TakesBits field list
+pub spelled_taken : (field : Field) (list : List Bool) → IsSpelledBy field list → TakesBits field list
 spelled_taken (Number value width) list s = s
 spelled_taken (Octets octets) list s = s
 spelled_taken (Bits view) list s = s
@@ -253,57 +253,6 @@ cut_back bits old pushed n e =
     ∙ ap (λ (l : List Bool). l ++ drop n bits) e ∙ append_assoc old pushed (drop n bits) in
     ap (take (length old)) parts ∙ take-append_seam old (pushed ++ drop n bits)
 
-pub pushed_none : (old : BitAppender) → PushesAll [] old old
-pushed_none old =
-    record { list = []; spelled = refl; written = sym (append-nil (bits_written old)); left = omega arith }
-
-pub pushed_more : (before : List Field) (field : Field) (old now new : BitAppender) → PushesAll before old now
-    → Pushes field now new → PushesAll (before ++ field ∷ []) old new
-pushed_more before field old now new w one = record {
-  list = w.list ++ one.list;
-  spelled = joins_push IsSpelledBy before field w.list one.list w.spelled one.spelled;
-  written = one.written ∙ ap (λ (l : List Bool). l ++ one.list) w.written
-      ∙ append_assoc (bits_written old) w.list one.list;
-  left = omega (arith, w.left, one.left, length-append w.list one.list);
-}
-
-pub no_turns : (n : ℕ) → TakeTurns [] n n
-no_turns n = record {
-  at_least = λ list s. let z : length list ≡ 0 = ap length s in omega arith;
-  at_most = λ list s. omega arith;
-}
-
-pub more_turns : (before : List Field) (field : Field) (old now new : ℕ) → TakeTurns before old now
-    → ((list : List Bool) → IsSpelledBy field list → TakesTurns (length list) now new)
-    → TakeTurns (before ++ field ∷ []) old new
-more_turns before field old now new all one = record { at_least = at_least; at_most = at_most }
-  where
-    cut : (list : List Bool) → AreSpelledBy (before ++ field ∷ []) list → Split IsSpelledBy before (field ∷ []) list
-    cut list s = joins_split IsSpelledBy before (field ∷ []) list s
-
-    sum : (list : List Bool) (s : AreSpelledBy (before ++ field ∷ []) list)
-        → length list ≡ length (cut list s).front + length (cut list s).back
-    sum list s = ap length (cut list s).parts ∙ length-append (cut list s).front (cut list s).back
-
-    last : (list : List Bool) (s : AreSpelledBy (before ++ field ∷ []) list)
-        → TakesTurns (length (cut list s).back) now new
-    last list s = one (cut list s).back (one_joined IsSpelledBy field (cut list s).back (cut list s).of_back)
-
-    at_least : (list : List Bool) → AreSpelledBy (before ++ field ∷ []) list → old + div_ceil (length list) 64 ≤ new
-    at_least list s =
-        let a = all.at_least (cut list s).front (cut list s).of_front in
-        let b = (last list s).at_least in
-        let n = sum list s in
-        omega arith
-
-    at_most : (list : List Bool) → AreSpelledBy (before ++ field ∷ []) list
-        → new ≤ old + length list / 64 + 8 * length (before ++ field ∷ [])
-    at_most list s =
-        let a = all.at_most (cut list s).front (cut list s).of_front in
-        let b = (last list s).at_most in
-        let n = sum list s in
-        omega (arith, length-append before (field ∷ []))
-
 module _ (fields before after : List Field) (field : Field) (cut : fields ≡ before ++ field ∷ after) where
   -- the fields are spelled, and so is each
   pub field_fits : (list : List Bool) → AreSpelledBy fields list → Fits field
@@ -313,25 +262,26 @@ module _ (fields before after : List Field) (field : Field) (cut : fields ≡ be
       (subst (λ (fs : List Field). AreSpelledBy fs list) cut s) in
       (p.of_back.0, p.of_back.2)
 
-  -- behind those that were pushed is room for this one
-  pub room_now : (old now : BitAppender) → HaveRoom fields (room old) → PushesAll before old now
-      → HasRoomFor field (room now)
-  room_now old now h w =
-      let p : Split TakesBits before (field ∷ after) h.list =
-      joins_split TakesBits before (field ∷ after) h.list
-      (subst (λ (fs : List Field). AreJoined TakesBits fs h.list) cut h.joined) in
-      let rest : List Bool = p.of_back.1 in
-      record {
-        some = (p.of_back.0, p.of_back.2);
-        each = λ list l.
-            let whole : AreJoined TakesBits (before ++ field ∷ after) (w.list ++ (list ++ rest)) =
-            joins_append TakesBits before (field ∷ after) w.list (list ++ rest) (all_taken before w.list w.spelled)
-            (list, rest, l, p.of_back.3, refl) in
-            let r =
-            h.each (w.list ++ (list ++ rest))
-            (subst (λ (fs : List Field). AreJoined TakesBits fs (w.list ++ (list ++ rest))) (sym cut) whole) in
-            omega (arith, w.left, length-append w.list (list ++ rest), length-append list rest);
-      }
+  -- the spelling of this one lies behind those before it
+  pub parts_of : (list : List Bool) → AreSpelledBy fields list → (a : List Bool) × (b : List Bool) × AreSpelledBy before a
+      × IsSpelledBy field b × (length a + length b ≤ length list)
+  parts_of list s =
+      let p : Split IsSpelledBy before (field ∷ after) list =
+      joins_split IsSpelledBy before (field ∷ after) list
+      (subst (λ (fs : List Field). AreSpelledBy fs list) cut s) in
+      let of_back = p.of_back in (
+        p.front,
+        of_back.0,
+        p.of_front,
+        of_back.2,
+        omega (
+          arith,
+          ap length p.parts,
+          length-append p.front p.back,
+          ap length of_back.4,
+          length-append of_back.0 of_back.1,
+        ),
+      )
 
 -- ---- fields of the program, by their places
 

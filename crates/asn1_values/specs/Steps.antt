@@ -5,7 +5,7 @@ use Rattle.asn1_bits.specs.declared.bit_appender.BitAppender.{BitAppender}
 use Rattle.asn1_bits.specs.declared.bit_reader.BitReader.{BitReader}
 use Rattle.asn1_bits.specs.BitReader.{view_left, bits_left}
 use Rattle.asn1_bits.specs.View.{part}
-use Rattle.asn1_bits.specs.Bits.{overwritten, octets_for, number, bits}
+use Rattle.asn1_bits.specs.Bits.{overwritten, octets_for, number, bits, digits}
 use Rattle.asn1_bits.specs.Turns.{turns_for}
 use Rattle.asn1_bits.specs.BitAppender.{bits_written, room, lender_of}
 use Rattle.asn1_values.specs.declared.bit_fields.error.ReadError.{ReadError}
@@ -153,6 +153,11 @@ pub record HaveRoom (fields : List Field) (space : ℕ) : Type 0 where
   pub joined : AreJoined TakesBits fields list
   pub each : (others : List Bool) → AreJoined TakesBits fields others → length others ≤ space
 
+-- there is room for the bits of one field, which has some, behind so many others
+pub record HasRoomBehind (field : Field) (width space : ℕ) : Type 0 where
+  pub some : (list : List Bool) × TakesBits field list
+  pub each : (list : List Bool) → TakesBits field list → width + length list ≤ space
+
 -- if the fields are spelled, and the new length fits, then an octet is added to n bits
 abbrev pub CanBeRefused : ℕ → List Field → Type 0
 CanBeRefused n fields = (list : List Bool) → AreSpelledBy fields list → n + length list < 2 ^ 64
@@ -182,6 +187,35 @@ pub record PushesOne (field : Field) (old new : BitAppender) (turns_old turns_ne
   pub lender : lender_of new ≡ lender_of old
   pub pushed : Pushes field old new
   pub counted : (list : List Bool) → IsSpelledBy field list → TakesTurns (length list) turns_old turns_new
+
+-- of the digits of a word a front was pushed, in its turns; the digits of the new word are the rest
+pub record PushesDigits (old new : BitAppender) (word width word_new width_new turns_old turns_new : ℕ) : Type 0 where
+  pub lender : lender_of new ≡ lender_of old
+  pub front : List Bool
+  pub written : bits_written new ≡ bits_written old ++ front
+  pub left : room new + length front ≡ room old
+  pub parts : front ++ digits word_new width_new ≡ digits word width
+  pub at_least : turns_old + div_ceil (length front) 64 ≤ turns_new
+  pub at_most : turns_new + turns_for width_new ≤ turns_old + turns_for width
+
+-- the list was taken behind the digits of a word: a front of both was pushed, in its turns, and the
+-- digits of the new word are the rest
+pub record Gathers (list : List Bool) (old new : BitAppender) (word width word_new width_new turns_old turns_new : ℕ)
+    : Type 0 where
+  pub lender : lender_of new ≡ lender_of old
+  pub front : List Bool
+  pub written : bits_written new ≡ bits_written old ++ front
+  pub left : room new + length front ≡ room old
+  pub parts : front ++ digits word_new width_new ≡ digits word width ++ list
+  pub at_least : turns_old + div_ceil (length front) 64 ≤ turns_new
+  pub at_most : turns_new + turns_for width_new ≤ turns_old + turns_for width + length list / 64 + 8
+
+-- the spelling of the field was taken so
+pub record PushesBehind (field : Field) (old new : BitAppender)
+    (word width word_new width_new turns_old turns_new : ℕ) : Type 0 where
+  pub list : List Bool
+  pub spelled : IsSpelledBy field list
+  pub taken : Gathers list old new word width word_new width_new turns_old turns_new
 
 -- nothing was pushed, since the field does not fit
 pub record PushesNone (field : Field) (old new : BitAppender) : Type 0 where

@@ -8,6 +8,7 @@ mod counted_integer;
 mod error;
 mod examine;
 mod field;
+mod gathered;
 mod identifier;
 mod integer;
 mod number;

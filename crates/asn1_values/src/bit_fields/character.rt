@@ -6,11 +6,12 @@ ghost use Rattle.asn1_bits.specs.BitReader.{bits_left};
 ghost use Rattle.asn1_bits.specs.Bits.{bits, number};
 ghost use Rattle.asn1_strings.specs.AlphabetView.{alphabet_of};
 ghost use Rattle.asn1_values.specs.Fields as plain;
-ghost use Rattle.asn1_values.specs.Steps.{HasRoomFor, PushesOne, PushesNone, FitsWithin, Measures, Overwrites, Moves, Examines, AppendsNext};
+ghost use Rattle.asn1_values.specs.Steps.{HasRoomBehind, PushesBehind, PushesNone, FitsWithin, Measures, Overwrites, Moves, Examines, AppendsNext};
 ghost use Rattle.asn1_values.specs.Walk.{field_at};
 
 use super::error::{ReadError, WriteError};
 use super::field::Field;
+use super::gathered::Gathered;
 use super::number::overwrite_digits;
 use super::take::take_bits;
 use asn1_bits::{BitAppender, BitReader, Turns};
@@ -31,25 +32,28 @@ pub(super) fn fitting_len(
     }
 }
 
-/// Pushes a code of a character, if its alphabet has it. As many bits fit the room.
+/// Gathers a code of a character, if its alphabet has it. As many bits fit the room.
 #[inline(always)]
 pub(super) fn push(
     appender: &mut BitAppender<'_>,
+    gathered: &mut Gathered,
     alphabet: &CharacterAlphabet<'_>,
     character: u32,
     turns: &mut Turns,
 ) -> Option<()>
-    requires { HasRoomFor (plain.Character (alphabet_of alphabet.now) character)
-        (room appender.old) }
-    ensures pushed { OnSome result (PushesOne (plain.Character (alphabet_of alphabet.now) character)
-        appender.old appender.new turns.old.count turns.new.count) }
+    requires { HasRoomBehind (plain.Character (alphabet_of alphabet.now) character)
+        gathered.old.width (room appender.old) }
+    ensures pushed { OnSome result
+        (PushesBehind (plain.Character (alphabet_of alphabet.now) character) appender.old
+        appender.new gathered.old.word gathered.old.width gathered.new.word gathered.new.width
+        turns.old.count turns.new.count) }
     ensures refused { IfNone result
         (PushesNone (plain.Character (alphabet_of alphabet.now) character) appender.old
         appender.new) }
 {
     match alphabet.encode(character) {
         Ok(code) => {
-            appender.push_number(u128::from(code), alphabet.width(), turns);
+            gathered.add(appender, u64::from(code), alphabet.width(), turns);
             Some(())
         }
         Err(_) => None,

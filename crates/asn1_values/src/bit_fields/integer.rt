@@ -11,6 +11,7 @@ ghost use Rattle.asn1_values.specs.Walk.{field_at, integer_at};
 
 use super::error::ReadError;
 use super::field::Field;
+use super::number::overwrite_digits;
 use super::octets::overwrite_octets;
 use super::take::take_bits;
 use asn1_bits::{BitAppender, BitReader, Turns};
@@ -74,14 +75,22 @@ pub(super) fn overwrite(target: &mut [u8], position: usize, number: &Integer) ->
     overwrite_shortest(target, position, number)
 }
 
-/// Writes the shortest octets of a number over what is there, and answers with the bit behind them.
+/// Writes the shortest octets of a number over what is there, and answers with the bit behind them:
+/// up to sixteen of them as one number.
 pub(super) fn overwrite_shortest(target: &mut [u8], position: usize, number: &Integer) -> usize
     requires { (octets : List ℕ) → IsShortest number.now octets
         → IsReached (8 * length target.old) (position + 8 * length octets) }
     ensures { (octets : List ℕ) → IsShortest number.now octets
         → WritesOver (bits octets) position (bits target.old) (bits target.new) result }
 {
-    overwrite_octets(target, position, number.signed_octets().as_ref())
+    match number.to_i128() {
+        Some(value) => {
+            // As in `push_shortest`.
+            let word = value.cast_unsigned();
+            overwrite_digits(target, position, word, 8 * number.signed_len())
+        }
+        None => overwrite_octets(target, position, number.signed_octets().as_ref()),
+    }
 }
 
 /// Goes past an integer, and gives its octets, if they are the shortest of a number: if the first

@@ -5,11 +5,12 @@ ghost use Rattle.asn1_bits.specs.BitAppender.{room};
 ghost use Rattle.asn1_bits.specs.BitReader.{bits_left};
 ghost use Rattle.asn1_bits.specs.Bits.{bits, digits};
 ghost use Rattle.asn1_values.specs.Fields as plain;
-ghost use Rattle.asn1_values.specs.Steps.{HasRoomFor, PushesOne, IsReached, FitsWithin, Measures, WritesOver, Overwrites, Moves, Examines, AppendsNext};
+ghost use Rattle.asn1_values.specs.Steps.{HasRoomBehind, PushesBehind, IsReached, FitsWithin, Measures, WritesOver, Overwrites, Moves, Examines, AppendsNext};
 ghost use Rattle.asn1_values.specs.Walk.{field_at};
 
 use super::error::{ReadError, WriteError};
 use super::field::Field;
+use super::gathered::Gathered;
 use super::take::take_bits;
 use asn1_bits::{BitAppender, BitReader, Turns, overwrite_number};
 
@@ -20,6 +21,10 @@ pub(super) fn fitting_len(value: u128, width: usize, place: usize) -> Result<u12
 {
     // One comparison tells it of a short number that fits.
     if width < 64 && value < u128::from(1u64 << width) {
+        return Ok(width as u128);
+    }
+    // Of a longer one the upper word alone is shifted.
+    if width >= 64 && width < 128 && (value >> 64) as u64 >> (width - 64) == 0 {
         return Ok(width as u128);
     }
     fitting_wide(value, width, place)
@@ -42,14 +47,26 @@ fn fitting_wide(value: u128, width: usize, place: usize) -> Result<u128, WriteEr
     Ok(width as u128)
 }
 
-/// Pushes a number that fits the room.
+/// Gathers a number of at most 21 bits, of which three fit a word, or pushes it behind those that are
+/// gathered.
 #[inline(always)]
-pub(super) fn push(appender: &mut BitAppender<'_>, value: u128, width: usize, turns: &mut Turns)
-    requires { HasRoomFor (plain.Number value width) (room appender.old) }
-    ensures { PushesOne (plain.Number value width) appender.old appender.new turns.old.count
-        turns.new.count }
+pub(super) fn push(
+    appender: &mut BitAppender<'_>,
+    gathered: &mut Gathered,
+    value: u128,
+    width: usize,
+    turns: &mut Turns,
+)
+    requires { HasRoomBehind (plain.Number value width) gathered.old.width (room appender.old) }
+    ensures { PushesBehind (plain.Number value width) appender.old appender.new gathered.old.word
+        gathered.old.width gathered.new.word gathered.new.width turns.old.count turns.new.count }
 {
-    appender.push_number(value, width, turns);
+    if width <= 21 {
+        gathered.add(appender, value as u64, width, turns);
+    } else {
+        gathered.push(appender, turns);
+        appender.push_number(value, width, turns);
+    }
 }
 
 /// Writes a number over what is there, and answers with the bit behind it.

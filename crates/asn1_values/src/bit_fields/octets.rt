@@ -6,12 +6,13 @@ ghost use Rattle.asn1_bits.specs.BitReader.{bits_left};
 ghost use Rattle.asn1_bits.specs.Bits.{bits};
 ghost use Rattle.asn1_bits.specs.Octets.{octets_in};
 ghost use Rattle.asn1_values.specs.Fields as plain;
-ghost use Rattle.asn1_values.specs.Steps.{FitsIn, HasRoomFor, PushesOne, IsReached, FitsWithin, WritesOver, Overwrites, Takes, Examines, AppendsNext};
+ghost use Rattle.asn1_values.specs.Steps.{FitsIn, HasRoomBehind, PushesBehind, IsReached, FitsWithin, WritesOver, Overwrites, Takes, Examines, AppendsNext};
 ghost use Rattle.asn1_values.specs.Walk.{field_at};
 
 use super::bits;
 use super::error::ReadError;
 use super::field::Field;
+use super::gathered::Gathered;
 use super::take::take_bits;
 use asn1_bits::{BitAppender, BitReader, BitStr, Octets, Turns};
 use std::alloc::Global;
@@ -24,14 +25,24 @@ pub(super) fn fitting_len(octets: &Octets<'_>) -> u128
     8 * octets.as_ref().len() as u128
 }
 
-/// Pushes octets that fit the room.
+/// Gathers at most four octets, or pushes more behind what is gathered.
 #[inline(always)]
-pub(super) fn push(appender: &mut BitAppender<'_>, octets: &Octets<'_>, turns: &mut Turns)
-    requires { HasRoomFor (plain.Octets (octets_in octets.now)) (room appender.old) }
-    ensures { PushesOne (plain.Octets (octets_in octets.now)) appender.old appender.new
-        turns.old.count turns.new.count }
+pub(super) fn push(
+    appender: &mut BitAppender<'_>,
+    gathered: &mut Gathered,
+    octets: &Octets<'_>,
+    turns: &mut Turns,
+)
+    requires { HasRoomBehind (plain.Octets (octets_in octets.now)) gathered.old.width
+        (room appender.old) }
+    ensures { PushesBehind (plain.Octets (octets_in octets.now)) appender.old appender.new
+        gathered.old.word gathered.old.width gathered.new.word gathered.new.width turns.old.count
+        turns.new.count }
 {
-    appender.push_octets(octets.as_ref(), turns);
+    // The octets fit the room, and so does the number of their bits.
+    let _room = appender.room();
+    let bits = BitStr::from_octets(octets.as_ref());
+    bits::push(appender, gathered, &bits, turns);
 }
 
 /// Writes octets over what is there, and answers with the bit behind them.

@@ -7,11 +7,12 @@ ghost use Rattle.asn1_bits.specs.BitAppender.{room, lender_of, bits_written};
 ghost use Rattle.asn1_values.specs.Fields.{IsSpelledBy, AreSpelledBy, HaveOneSpelling};
 ghost use Rattle.asn1_values.specs.Plain.{plain_field, plain_fields};
 ghost use Rattle.asn1_values.specs.Refusals.{IsWriteRefusal};
-ghost use Rattle.asn1_values.specs.Steps.{NamesFirstMisfit, TakesBits, HasLength, EndsAt, CanBeRefused, HasRoomFor, HaveRoom, PushesOne, PushesNone, PushesAll, TakeTurns, Measures};
+ghost use Rattle.asn1_values.specs.Steps.{NamesFirstMisfit, TakesBits, HasLength, EndsAt, CanBeRefused, HasRoomBehind, HaveRoom, PushesBehind, PushesNone, PushesAll, TakeTurns, Measures};
 ghost use Rattle.asn1_values.specs.Wrong.{Fits};
 
 use super::error::WriteError;
 use super::field::Field;
+use super::gathered::Gathered;
 use super::{bits, character, counted_integer, identifier, integer, number, octets};
 use asn1_bits::{BitAppender, BitBuffer, Turns};
 
@@ -104,10 +105,7 @@ fn append_all(buffer: &mut BitBuffer, fields: &[Field<'_, '_>], turns: &mut Turn
 {
     let len = buffer.len();
     let end = end_of(len, fields)?;
-    if end > usize::MAX as u128 {
-        return None;
-    }
-    push_or_back(buffer, end as usize - len, fields, turns)
+    push_or_back(buffer, end - len, fields, turns)
 }
 
 /// Appends the fields' bits, which lead to length `end`. `None` if a character is not in its
@@ -171,18 +169,35 @@ fn refusal_of(len: usize, fields: &[Field<'_, '_>]) -> WriteError
 }
 
 /// The length behind the fields, without checking that characters have codes. `None` if a field of
-/// another kind does not fit.
+/// another kind does not fit, or the length passes `usize::MAX`.
 #[inline(always)]
-fn end_of(len: usize, fields: &[Field<'_, '_>]) -> Option<u128>
+fn end_of(len: usize, fields: &[Field<'_, '_>]) -> Option<usize>
     ensures some { IfSome result (EndsAt TakesBits len (plain_fields fields.now)) }
     ensures none { IfNone result
-        ((list : List Bool) → AreSpelledBy (plain_fields fields.now) list → ⊥) }
+        ((list : List Bool) → AreSpelledBy (plain_fields fields.now) list → 2 ^ 64 ≤ len
+        + length list) }
 {
-    let mut end = len as u128;
+    let mut end = len;
     for field in fields {
-        end = sum_of(end, len_of(field)?);
+        end = end_behind(end, len_of(field)?)?;
     }
     Some(end)
+}
+
+/// The end of so many bits behind another end. `None` if it passes `usize::MAX`.
+#[inline(always)]
+pub(super) fn end_behind(end: usize, additional: u128) -> Option<usize>
+    ensures some { IfSome result (λ n. n ≡ end + additional) }
+    ensures none { IfNone result (2 ^ 64 ≤ end + additional) }
+{
+    if additional > usize::MAX as u128 {
+        return None;
+    }
+    let (sum, is_past) = end.overflowing_add(additional as usize);
+    if is_past {
+        return None;
+    }
+    Some(sum)
 }
 
 /// The number of a field's bits: the alphabet's width for a character; for another kind the bits
@@ -234,7 +249,7 @@ fn past_all_lengths(one: u128, other: u128) -> u128
 
 /// The number of a field's bits, if it fits.
 #[inline(always)]
-fn fitting_len(field: &Field<'_, '_>, place: usize) -> Result<u128, WriteError>
+pub(super) fn fitting_len(field: &Field<'_, '_>, place: usize) -> Result<u128, WriteError>
     ensures { Measures place (plain_field field.now) result }
 {
     match field {
@@ -251,7 +266,8 @@ fn fitting_len(field: &Field<'_, '_>, place: usize) -> Result<u128, WriteError>
     }
 }
 
-/// Pushes fields whose bits fit the room, up to the first character that its alphabet lacks.
+/// Pushes fields whose bits fit the room, up to the first character that its alphabet lacks. Short
+/// fields are gathered, and pushed as one word.
 #[inline(always)]
 fn push_all(
     appender: &mut BitAppender<'_>,
@@ -268,32 +284,49 @@ fn push_all(
     ensures lacking { IfNone result
         ((list : List Bool) → AreSpelledBy (plain_fields fields.now) list → ⊥) }
 {
+    let mut gathered = Gathered::none();
     for field in fields {
-        push(appender, field, turns)?;
+        push(appender, &mut gathered, field, turns)?;
     }
+    gathered.push(appender, turns);
     Some(())
 }
 
-/// Pushes a field whose bits fit the room; a character only if its alphabet has it.
+/// Pushes or gathers a field whose bits fit the room behind those that are gathered; a character
+/// only if its alphabet has it.
 #[inline(always)]
-fn push(appender: &mut BitAppender<'_>, field: &Field<'_, '_>, turns: &mut Turns) -> Option<()>
-    requires { HasRoomFor (plain_field field.now) (room appender.old) }
+fn push(
+    appender: &mut BitAppender<'_>,
+    gathered: &mut Gathered,
+    field: &Field<'_, '_>,
+    turns: &mut Turns,
+) -> Option<()>
+    requires { HasRoomBehind (plain_field field.now) gathered.old.width (room appender.old) }
     ensures pushed { OnSome result
-        (PushesOne (plain_field field.now) appender.old appender.new turns.old.count
-        turns.new.count) }
+        (PushesBehind (plain_field field.now) appender.old appender.new gathered.old.word
+        gathered.old.width gathered.new.word gathered.new.width turns.old.count turns.new.count) }
     ensures refused { IfNone result (PushesNone (plain_field field.now) appender.old appender.new) }
 {
     match field {
-        Field::Number { value, width } => number::push(appender, *value, *width, turns),
-        Field::Octets(octets) => octets::push(appender, octets, turns),
-        Field::Bits(bits) => bits::push(appender, bits, turns),
-        Field::Integer(number) => integer::push(appender, number, turns),
+        Field::Number { value, width } => number::push(appender, gathered, *value, *width, turns),
         Field::Character {
             character,
             alphabet,
-        } => return character::push(appender, alphabet, *character, turns),
-        Field::CountedInteger(number) => counted_integer::push(appender, number, turns),
-        Field::Oid(oid) => identifier::push(appender, oid, turns),
+        } => return character::push(appender, gathered, alphabet, *character, turns),
+        Field::Octets(octets) => octets::push(appender, gathered, octets, turns),
+        Field::Bits(bits) => bits::push(appender, gathered, bits, turns),
+        Field::Integer(number) => {
+            gathered.push(appender, turns);
+            integer::push(appender, number, turns);
+        }
+        Field::CountedInteger(number) => {
+            gathered.push(appender, turns);
+            counted_integer::push(appender, number, turns);
+        }
+        Field::Oid(oid) => {
+            gathered.push(appender, turns);
+            identifier::push(appender, oid, turns);
+        }
     }
     Some(())
 }

@@ -1,15 +1,15 @@
 //! Writing fields over the bits of octets.
 
-ghost use Rattle.std.specs.Prelude.{◌≡◌, Bool, List, Err, ◌+◌, ◌*◌, ◌^◌, ◌<◌, ◌≤◌, length, IfOk, IfErr, OnOk, OnErr, IsOk};
+ghost use Rattle.std.specs.Prelude.{◌≡◌, Bool, List, Err, ◌+◌, ◌*◌, ◌^◌, ◌<◌, ◌≤◌, length, IfOk, IfErr, OnOk, OnErr, IsOk, IfSome};
 ghost use Rattle.asn1_bits.specs.Bits.{bits, overwritten};
-ghost use Rattle.asn1_values.specs.Fields.{AreSpelledBy, HaveOneSpelling};
+ghost use Rattle.asn1_values.specs.Fields.{IsSpelledBy, AreSpelledBy, HaveOneSpelling};
 ghost use Rattle.asn1_values.specs.Plain.{plain_field, plain_fields};
 ghost use Rattle.asn1_values.specs.Refusals.{IsPast, IsWriteAtRefusal};
-ghost use Rattle.asn1_values.specs.Steps.{EndWithin, FitsWithin, Overwrites, OverwritesAll};
+ghost use Rattle.asn1_values.specs.Steps.{EndsAt, EndWithin, NamesFirstMisfit, FitsWithin, Overwrites, OverwritesAll};
 
 use super::error::WriteError;
 use super::field::Field;
-use super::write::new_len;
+use super::write::{end_behind, fitting_len, new_len};
 use super::{bits, character, counted_integer, identifier, integer, number, octets};
 
 /// Writes the fields' bits over those of the octets from bit `position` on, one after another, and
@@ -49,11 +49,48 @@ pub fn write_fields_at(
         ≡ Err e }
     ensures unchanged { OnErr result (octets.new ≡ octets.old) }
 {
-    let end = new_len(position, fields)?;
+    let end = end_at(position, fields)?;
     if end > usize::MAX as u128 || end > 8 * octets.len() as u128 {
         return Err(WriteError::TooLong);
     }
     Ok(overwrite_all(octets, position, fields))
+}
+
+/// The place behind the fields, if all fit.
+#[inline(always)]
+fn end_at(position: usize, fields: &[Field<'_, '_>]) -> Result<u128, WriteError>
+    ensures ok { IfOk result (EndsAt IsSpelledBy position (plain_fields fields.now)) }
+    ensures err { IfErr result (NamesFirstMisfit (plain_fields fields.now)) }
+{
+    match fitting_end(position, fields) {
+        Some(end) => Ok(end as u128),
+        None => far_end(position, fields),
+    }
+}
+
+/// The place behind the fields, if all fit and `usize` counts it. It names no misfit.
+#[inline(always)]
+fn fitting_end(position: usize, fields: &[Field<'_, '_>]) -> Option<usize>
+    ensures { IfSome result (EndsAt IsSpelledBy position (plain_fields fields.now)) }
+{
+    let mut end = position;
+    for field in fields {
+        let Ok(additional) = fitting_len(field, 0) else {
+            return None;
+        };
+        end = end_behind(end, additional)?;
+    }
+    Some(end)
+}
+
+/// The path of `end_at` for fields that do not fit, or that end far behind.
+#[cold]
+#[inline(never)]
+fn far_end(position: usize, fields: &[Field<'_, '_>]) -> Result<u128, WriteError>
+    ensures ok { IfOk result (EndsAt IsSpelledBy position (plain_fields fields.now)) }
+    ensures err { IfErr result (NamesFirstMisfit (plain_fields fields.now)) }
+{
+    new_len(position, fields)
 }
 
 /// Writes fields that end within the target, and answers with the bit behind them.

@@ -4,28 +4,49 @@ use Rattle.asn1_bits.specs.Bits.{digits}
 use Rattle.asn1_bits.specs.DigitLaws.{length-digits}
 use Rattle.asn1_values.specs.Fields.{Number}
 use Rattle.asn1_values.proofs.SpellingLemmas.{space_of, pushes, takes, number_fits}
+use Rattle.asn1_values.proofs.GatherLemmas.{space_behind, width_behind, room_behind, field_behind}
 use Rattle.asn1_values.proofs.bit_fields.number.push.Goals as goal
+
+pub add-requires-clause-room : goal.add-requires-clause-room
+add-requires-clause-room c =
+    let n = c.args.value in
+    let w = c.args.width in
+    let fits = c.requires.some in
+    space_behind (Number n w) (digits n w) w c.args.gathered.now.width (room c.args.appender.now)
+    (fits.1.0, fits.1.1, refl) (length-digits n w) c.requires
+
+pub push-requires : goal.push-requires
+push-requires c =
+    width_behind (Number c.args.value c.args.width) c.args.gathered.now.width (room c.args.appender.now) c.requires
 
 pub push_number-requires-clause-room : goal.push_number-requires-clause-room
 push_number-requires-clause-room c =
     let n = c.args.value in
     let w = c.args.width in
     let fits = c.requires.some in
-    space_of (Number n w) (digits n w) w (room c.args.appender.now) (fits.1.0, fits.1.1, refl) (length-digits n w)
-    c.requires
+    let before = c.args.gathered.now in
+    let after = c.push.new.self in
+    space_of (Number n w) (digits n w) w (room c.push.new.appender) (fits.1.0, fits.1.1, refl) (length-digits n w)
+    (room_behind (Number n w) c.args.appender.now c.push.new.appender before.word before.width after.word after.width
+    c.args.turns.now.count c.push.new.turns.count c.push.ensures.pushed c.push.ensures.none c.requires)
 
-pub returns : goal.returns
-returns c =
+pub returns-else-width-le21 : goal.returns-else-width-le21
+returns-else-width-le21 c =
     let n = c.args.value in
     let w = c.args.width in
     let fits = c.requires.some in
     let pushed = c.push_number.ensures in
-    record {
+    let before = c.args.gathered.now in
+    let after = c.push.new.self in
+    field_behind (Number n w) c.args.appender.now c.push.new.appender c.push_number.new.self before.word before.width
+    after.word after.width c.args.turns.now.count c.push.new.turns.count c.push_number.new.turns.count
+    c.push.ensures.pushed c.push.ensures.none
+    (record {
       lender = pushed.lender;
       pushed =
-          pushes (Number n w) (digits n w) w c.args.appender.now c.push_number.new.self (fits.1.0, fits.1.1, refl)
+          pushes (Number n w) (digits n w) w c.push.new.appender c.push_number.new.self (fits.1.0, fits.1.1, refl)
           (length-digits n w) pushed.written pushed.room;
       counted =
-          takes (Number n w) w c.args.turns.now.count c.push_number.new.turns.count
+          takes (Number n w) w c.push.new.turns.count c.push_number.new.turns.count
           (number_fits n w fits.1.0 fits.1.1) pushed.at_least pushed.at_most;
-    }
+    })

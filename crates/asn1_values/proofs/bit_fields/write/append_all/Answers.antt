@@ -4,23 +4,12 @@ use Rattle.asn1_values.specs.Plain.{plain_fields}
 use Rattle.asn1_values.proofs.SpellingLemmas.{all_taken}
 use Rattle.asn1_values.proofs.bit_fields.write.append_all.Goals as goal
 
--- ---- they lead too far
-
-pub returns-then-end-clause-refused : goal.returns-then-end-clause-refused
-returns-then-end-clause-refused c = λ list s lt.
-    let ends = c.in_ok-end.ensures.some in
-    let end = ends.each list (all_taken (plain_fields c.args.fields.now) list s) in
-    let capped = ends.capped in
-    absurd (omega (arith, c.if-end.true))
-
--- ---- they don't
-
 pub push_or_back-requires-clause-all : goal.push_or_back-requires-clause-all
 push_or_back-requires-clause-all c = λ list s.
     let ends = c.in_ok-end.ensures.some in
     let end = ends.each list (all_taken (plain_fields c.args.fields.now) list s) in
     let capped = ends.capped in
-    omega (arith, c.if-end.false, c.len-len.ensures)
+    omega (arith, c.len-len.ensures)
 
 pub returns-clause-fits : goal.returns-clause-fits
 returns-clause-fits c =
@@ -28,4 +17,4 @@ returns-clause-fits c =
     let ends = c.in_ok-end.ensures.some in
     let end = ends.each list (all_taken (plain_fields c.args.fields.now) list s) in
     let capped = ends.capped in
-    omega (arith, c.if-end.false, c.len-len.ensures))
+    omega (arith, c.len-len.ensures))

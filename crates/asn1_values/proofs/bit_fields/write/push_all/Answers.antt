@@ -1,6 +1,9 @@
-use Rattle.std.proofs.Common.{◌+◌, refl, ◌∙◌, take, drop}
+use Rattle.std.proofs.Common.{◌+◌, ◌++◌, ◌∙◌, Bool, List, take, drop, ap, append_assoc, arith}
+use Rattle.std.proofs.lemmas.List.{take_all}
+use Rattle.asn1_bits.specs.BitAppender.{bits_written}
 use Rattle.asn1_values.specs.Plain.{plain_fields, plain_field}
-use Rattle.asn1_values.proofs.SpellingLemmas.{cut_of, more_of, field_fits, room_now, pushed_more, pushed_none, more_turns, no_turns}
+use Rattle.asn1_values.proofs.SpellingLemmas.{cut_of, more_of, field_fits}
+use Rattle.asn1_values.proofs.GatherLemmas.{gathering_none, gathering_more, gathering_room, gathering_fits, gathered_all, gathered_turns}
 use Rattle.asn1_values.proofs.bit_fields.write.push_all.Goals as goal
 
 pub push-requires : goal.push-requires
@@ -8,30 +11,26 @@ push-requires c =
     let fs = c.args.fields.now in
     let i = c.loop-field.field-index in
     let x = c.field-item.result in
-    room_now (plain_fields fs) (plain_fields (take i fs)) (plain_fields (drop (i + 1) fs)) (plain_field x)
-    (cut_of fs i x c.loop-field-test.true c.field-item.is) c.args.appender.now c.loop-field.appender c.requires
-    c.loop-field.invariant.pushed
+    gathering_room (plain_fields fs) (plain_fields (take i fs)) (plain_fields (drop (i + 1) fs)) (plain_field x)
+    (cut_of fs i x c.loop-field-test.true c.field-item.is) c.args.appender.now c.loop-field.appender
+    c.loop-field.gathered.word c.loop-field.gathered.width c.args.turns.now.count c.loop-field.turns.count c.requires
+    c.loop-field.invariant
 
 pub loop-field-init : goal.loop-field-init
 loop-field-init c =
-    record { lender = refl; pushed = pushed_none c.args.appender.now; counted = no_turns c.args.turns.now.count }
+    gathering_none c.args.appender.now c.none-gathered.result.word c.none-gathered.result.width c.args.turns.now.count
+    c.none-gathered.ensures
 
 pub loop-field-preserved : goal.loop-field-preserved
 loop-field-preserved c =
     let fs = c.args.fields.now in
     let i = c.loop-field.field-index in
     let x = c.field-item.result in
-    record {
-      lender = c.in_ok-push.ensures.pushed.lender ∙ c.loop-field.invariant.lender;
-      pushed =
-          rw (more_of fs i x c.loop-field-test.true c.field-item.is)
-          (pushed_more (plain_fields (take i fs)) (plain_field x) c.args.appender.now c.loop-field.appender
-          c.push.new.appender c.loop-field.invariant.pushed c.in_ok-push.ensures.pushed.pushed);
-      counted =
-          rw (more_of fs i x c.loop-field-test.true c.field-item.is)
-          (more_turns (plain_fields (take i fs)) (plain_field x) c.args.turns.now.count c.loop-field.turns.count
-          c.push.new.turns.count c.loop-field.invariant.counted c.in_ok-push.ensures.pushed.counted);
-    }
+    rw (more_of fs i x c.loop-field-test.true c.field-item.is)
+    (gathering_more (plain_fields (take i fs)) (plain_field x) c.args.appender.now c.loop-field.appender
+    c.push.new.appender c.loop-field.gathered.word c.loop-field.gathered.width c.push.new.gathered.word
+    c.push.new.gathered.width c.args.turns.now.count c.loop-field.turns.count c.push.new.turns.count
+    c.loop-field.invariant c.in_ok-push.ensures.pushed)
 
 -- ---- a character that its alphabet lacks
 
@@ -47,10 +46,41 @@ returns-in_err-push-clause-lacking c =
 
 pub returns-in_err-push-clause-kept : goal.returns-in_err-push-clause-kept
 returns-in_err-push-clause-kept c =
-    let w = c.loop-field.invariant.pushed in
-    (w.list, c.in_err-push.ensures.refused.kept ∙ w.written)
+    let w = c.loop-field.invariant in
+    (w.front, c.in_err-push.ensures.refused.kept ∙ w.written)
+
+-- ---- all of them
+
+pub push-requires-2 : goal.push-requires-2
+push-requires-2 c =
+    gathering_fits (plain_fields c.args.fields.now) c.args.appender.now c.loop-field.appender c.loop-field.gathered.word
+    c.loop-field.gathered.width c.args.turns.now.count c.loop-field.turns.count c.requires
+    (rw (take_all c.loop-field.field-index c.args.fields.now (omega (arith, c.loop-field-test.false)))
+    at c.loop-field.invariant)
+
+pub returns-clause-pushed : goal.returns-clause-pushed
+returns-clause-pushed c =
+    gathered_all (plain_fields c.args.fields.now) c.args.appender.now c.loop-field.appender c.push-2.new.appender
+    c.loop-field.gathered.word c.loop-field.gathered.width c.push-2.new.self.word c.push-2.new.self.width
+    c.args.turns.now.count c.loop-field.turns.count c.push-2.new.turns.count
+    (rw (take_all c.loop-field.field-index c.args.fields.now (omega (arith, c.loop-field-test.false)))
+    at c.loop-field.invariant)
+    c.push-2.ensures.pushed c.push-2.ensures.none
+
+pub returns-clause-counted : goal.returns-clause-counted
+returns-clause-counted c =
+    gathered_turns (plain_fields c.args.fields.now) c.args.appender.now c.loop-field.appender c.push-2.new.appender
+    c.loop-field.gathered.word c.loop-field.gathered.width c.push-2.new.self.word c.push-2.new.self.width
+    c.args.turns.now.count c.loop-field.turns.count c.push-2.new.turns.count
+    (rw (take_all c.loop-field.field-index c.args.fields.now (omega (arith, c.loop-field-test.false)))
+    at c.loop-field.invariant)
+    c.push-2.ensures.pushed c.push-2.ensures.none
 
 pub returns-clause-kept : goal.returns-clause-kept
 returns-clause-kept c =
-    let w = c.loop-field.invariant.pushed in
-    (w.list, w.written)
+    let w = c.loop-field.invariant in
+    let p = c.push-2.ensures.pushed in (
+      w.front ++ p.front,
+      p.written ∙ ap (λ (l : List Bool). l ++ p.front) w.written
+          ∙ append_assoc (bits_written c.args.appender.now) w.front p.front,
+    )

@@ -1,0 +1,346 @@
+-- Digits that are gathered into a word before they are pushed.
+use Rattle.std.proofs.Common.{◌≡◌, ℕ, ◌+◌, ◌*◌, ◌/◌, ◌^◌, ◌<◌, ◌≤◌, ◌%◌, Bool, List, [], ◌∷◌, ◌++◌, length, refl, sym, ap, subst, ◌∙◌, append_assoc, arith}
+use Rattle.std.specs.Prelude.{All}
+use Rattle.std.specs.Int.{div_ceil}
+use Rattle.std.proofs.lemmas.List.{length-append, append-nil}
+use Rattle.std.proofs.lemmas.Nat.{pow-add, shr_high, mul-add-lt}
+use Rattle.std.proofs.Math.Nat.{pow-le-pow_right}
+use Rattle.asn1_bits.specs.Bits.{digits, bits}
+use Rattle.asn1_bits.specs.Turns.{turns_for}
+use Rattle.asn1_bits.specs.declared.bit_appender.BitAppender.{BitAppender}
+use Rattle.asn1_bits.specs.BitAppender.{bits_written, room, lender_of}
+use Rattle.asn1_bits.specs.DigitLaws.{length-digits}
+use Rattle.asn1_bits.specs.NumberLaws.{digits-append, digits-low}
+use Rattle.asn1_values.specs.Fields.{Field, IsSpelledBy, AreSpelledBy, Number, Octets, Bits, Integer, Character, CountedInteger, Identifier}
+use Rattle.asn1_values.specs.Steps.{TakesBits, PushesOne, PushesAll, PushesDigits, Gathers, PushesBehind, HasRoomFor, HasRoomBehind, HaveRoom, TakeTurns}
+use Rattle.asn1_bits.specs.Joined.{AreJoined}
+use Rattle.asn1_values.proofs.JoinedLemmas.{joins_push, joins_append, joins_split, Split}
+use Rattle.asn1_values.proofs.SpellingLemmas.{number_fits, octets_fit, bits_fit, integer_fits, character_fits, counted_fits, identifier_fits, all_taken}
+
+-- ---- all spellings of a field are as long
+
+pub as_long : (field : Field) (a b : List Bool) → IsSpelledBy field a → IsSpelledBy field b → length b ≡ length a
+as_long (Number v w) a b s t = let f = number_fits v w s.0 s.1 in f.len b t ∙ sym (f.len a s)
+as_long (Octets o) a b s t = let f = octets_fit o s.0 in f.len b t ∙ sym (f.len a s)
+as_long (Bits view) a b s t = let f = bits_fit view in f.len b t ∙ sym (f.len a s)
+as_long (Integer n) a b s t = let f = integer_fits n s.0 s.1 in f.len b t ∙ sym (f.len a s)
+as_long (Character x c) a b s t = let f = character_fits x c s.0 s.1 in f.len b t ∙ sym (f.len a s)
+as_long (CountedInteger n) a b s t = let f = counted_fits n s.0 s.1 s.2 in f.len b t ∙ sym (f.len a s)
+as_long (Identifier arcs) a b s t = let f = identifier_fits arcs s.0 s.1 s.2 in f.len b t ∙ sym (f.len a s)
+
+pub all_as_long : (fields : List Field) (a b : List Bool) → AreSpelledBy fields a → AreSpelledBy fields b
+    → length b ≡ length a
+all_as_long [] a b s t = ap length t ∙ sym (ap length s)
+all_as_long (field ∷ fields) a b s t =
+    let one = as_long field s.0 t.0 s.2 t.2 in
+    let rest = all_as_long fields s.1 t.1 s.3 t.3 in
+    let m = ap length s.4 ∙ length-append s.0 s.1 in
+    let n = ap length t.4 ∙ length-append t.0 t.1 in
+    omega arith
+
+-- ---- digits behind those of a word
+
+-- both are the digits of one number
+pub digits_behind : (word width number more : ℕ) → number < 2 ^ more
+    → digits (word * 2 ^ more + number) (width + more) ≡ digits word width ++ digits number more
+digits_behind word width number more lt =
+    digits-append (word * 2 ^ more + number) width more
+    ∙ ap (λ (n : ℕ). digits n width ++ digits (word * 2 ^ more + number) more) (shr_high word more number lt)
+    ∙ ap (λ (l : List Bool). digits word width ++ l) (digits-low word number more)
+
+pub below_behind : (word width number more : ℕ) → word < 2 ^ width → number < 2 ^ more
+    → word * 2 ^ more + number < 2 ^ (width + more)
+below_behind word width number more lt below =
+    let p = pow-add 2 more width in
+    let e : more + width ≡ width + more = omega arith in
+    rw (← e, p) (mul-add-lt word (2 ^ more) number (2 ^ width) lt below)
+
+-- a word that is moved loses none of its digits
+pub word_behind : (word width number more : ℕ) → word < 2 ^ width → number < 2 ^ more → width + more ≤ 64
+    → (word * 2 ^ more % 18446744073709551616 ≡ word * 2 ^ more)
+    × (word * 2 ^ more + number < 2 ^ (width + more))
+    × (word * 2 ^ more + number < 18446744073709551616)
+word_behind word width number more lt below fits =
+    let b = below_behind word width number more lt below in
+    let up : 2 ^ (width + more) ≤ 2 ^ 64 = pow-le-pow_right {n = 2} (omega arith) {i = width + more} {j = 64} fits in
+    (omega arith, b, omega arith)
+
+pub gathered_more : (old now : BitAppender) (word width mid_word mid_width number more turns_old turns_new : ℕ)
+    → PushesDigits old now word width mid_word mid_width turns_old turns_new → number < 2 ^ more → more ≤ 32
+    → mid_width + more ≤ 64
+    → Gathers (digits number more) old now word width (mid_word * 2 ^ more + number) (mid_width + more) turns_old turns_new
+gathered_more old now word width mid_word mid_width number more turns_old turns_new p lt few fits = record {
+  lender = p.lender;
+  front = p.front;
+  written = p.written;
+  left = p.left;
+  parts = ap (λ (l : List Bool). p.front ++ l) (digits_behind mid_word mid_width number more lt)
+      ∙ sym (append_assoc p.front (digits mid_word mid_width) (digits number more))
+      ∙ ap (λ (l : List Bool). l ++ digits number more) p.parts;
+  at_least = p.at_least;
+  at_most = let a = p.at_most in let n = length-digits number more in omega arith;
+}
+
+-- the digits are pushed, and then a field of its own
+pub field_behind : (field : Field) (old now new : BitAppender) (word width none zero_width turns_old turns_now turns_new : ℕ)
+    → PushesDigits old now word width none zero_width turns_old turns_now → zero_width ≡ 0
+    → PushesOne field now new turns_now turns_new
+    → PushesBehind field old new word width none zero_width turns_old turns_new
+unfolding digits
+field_behind field old now new word width none zero_width turns_old turns_now turns_new p z one =
+    let all : p.front ≡ digits word width = sym (append-nil p.front)
+    ∙ subst (λ (k : ℕ). p.front ++ digits none k ≡ digits word width) z p.parts in
+    let counted = one.counted one.pushed.list one.pushed.spelled in
+    let n = length-append p.front one.pushed.list in
+    record {
+      list = one.pushed.list;
+      spelled = one.pushed.spelled;
+      taken = record {
+        lender = one.lender ∙ p.lender;
+        front = p.front ++ one.pushed.list;
+        written = one.pushed.written ∙ ap (λ (l : List Bool). l ++ one.pushed.list) p.written
+            ∙ append_assoc (bits_written old) p.front one.pushed.list;
+        left = let a = p.left in let b = one.pushed.left in omega arith;
+        parts = subst
+            (λ (k : ℕ). (p.front ++ one.pushed.list) ++ digits none k ≡ digits word width ++ one.pushed.list)
+            (sym z)
+            (append-nil (p.front ++ one.pushed.list) ∙ ap (λ (l : List Bool). l ++ one.pushed.list) all);
+        at_least = let a = p.at_least in let b = counted.at_least in omega arith;
+        at_most = let a = p.at_most in let b = counted.at_most in omega arith;
+      };
+    }
+
+-- and there is room for it
+pub room_behind : (field : Field) (old now : BitAppender) (word width none zero_width turns_old turns_now : ℕ)
+    → PushesDigits old now word width none zero_width turns_old turns_now → zero_width ≡ 0
+    → HasRoomBehind field width (room old) → HasRoomFor field (room now)
+room_behind field old now word width none zero_width turns_old turns_now p z r =
+    let n : length p.front + zero_width ≡ width =
+    omega (
+      arith,
+      length-append p.front (digits none zero_width),
+      length-digits none zero_width,
+      ap length p.parts,
+      length-digits word width,
+    ) in
+    record {
+      some = r.some;
+      each = λ list s. let a = r.each list s in let b = p.left in omega arith;
+    }
+
+-- ---- fields one after another
+
+-- the spellings of the fields were taken: a front of them was pushed, in its turns, and the digits of
+-- a word are the rest
+pub record Gathering (fields : List Field) (old now : BitAppender) (word width turns_old turns_now : ℕ) : Type 0 where
+  pub lender : lender_of now ≡ lender_of old
+  pub front : List Bool
+  pub spelled : AreSpelledBy fields (front ++ digits word width)
+  pub written : bits_written now ≡ bits_written old ++ front
+  pub left : room now + length front ≡ room old
+  pub at_least : turns_old + div_ceil (length front) 64 ≤ turns_now
+  pub at_most : turns_now + turns_for width ≤ turns_old + (length front + width) / 64 + 8 * length fields
+
+pub gathering_none : (old : BitAppender) (word width turns : ℕ) → width ≡ 0 → Gathering [] old old word width turns turns
+unfolding digits
+gathering_none old word width turns z = record {
+  lender = refl;
+  front = [];
+  spelled = ap (λ (k : ℕ). digits word k) z;
+  written = sym (append-nil (bits_written old));
+  left = omega arith;
+  at_least = omega arith;
+  at_most = omega arith;
+}
+
+pub gathering_more : (before : List Field) (field : Field) (old now new : BitAppender)
+    (word width word_new width_new turns_old turns_now turns_new : ℕ)
+    → Gathering before old now word width turns_old turns_now
+    → PushesBehind field now new word width word_new width_new turns_now turns_new
+    → Gathering (before ++ field ∷ []) old new word_new width_new turns_old turns_new
+gathering_more before field old now new word width word_new width_new turns_old turns_now turns_new g one =
+    let t = one.taken in
+    let whole : (g.front ++ t.front) ++ digits word_new width_new ≡ (g.front ++ digits word width) ++ one.list =
+    append_assoc g.front t.front (digits word_new width_new)
+    ∙ ap (λ (l : List Bool). g.front ++ l) t.parts
+    ∙ sym (append_assoc g.front (digits word width) one.list) in
+    let n = length-append g.front t.front in
+    let m : length t.front + width_new ≡ width + length one.list =
+    omega (
+      arith,
+      length-append t.front (digits word_new width_new),
+      length-append (digits word width) one.list,
+      length-digits word_new width_new,
+      length-digits word width,
+      ap length t.parts,
+    ) in
+    record {
+      lender = t.lender ∙ g.lender;
+      front = g.front ++ t.front;
+      spelled =
+          subst (λ (l : List Bool). AreSpelledBy (before ++ field ∷ []) l) (sym whole)
+          (joins_push IsSpelledBy before field (g.front ++ digits word width) one.list g.spelled one.spelled);
+      written = t.written ∙ ap (λ (l : List Bool). l ++ t.front) g.written
+          ∙ append_assoc (bits_written old) g.front t.front;
+      left = let a = g.left in let b = t.left in omega arith;
+      at_least = let a = g.at_least in let b = t.at_least in omega arith;
+      at_most =
+          let a = g.at_most in
+          let b = t.at_most in
+          let f = length-append before (field ∷ []) in
+          omega arith;
+    }
+
+-- what is gathered fits the room
+pub gathering_fits : (fields : List Field) (old now : BitAppender) (word width turns_old turns_now : ℕ)
+    → HaveRoom fields (room old)
+    → Gathering fields old now word width turns_old turns_now → width ≤ room now
+gathering_fits fields old now word width turns_old turns_now h g =
+    let r = h.each (g.front ++ digits word width) (all_taken fields (g.front ++ digits word width) g.spelled) in
+    omega (arith, g.left, length-append g.front (digits word width), length-digits word width)
+
+-- all of it is pushed
+module _ (fields : List Field) (old now new : BitAppender)
+    (word width none zero_width turns_old turns_now turns_new : ℕ)
+    (g : Gathering fields old now word width turns_old turns_now)
+    (p : PushesDigits now new word width none zero_width turns_now turns_new) (z : zero_width ≡ 0) where
+  whole_front : p.front ≡ digits word width
+  unfolding digits
+  whole_front = sym (append-nil p.front)
+      ∙ subst (λ (k : ℕ). p.front ++ digits none k ≡ digits word width) z p.parts
+
+  pub gathered_all : PushesAll fields old new
+  gathered_all = record {
+    list = g.front ++ digits word width;
+    spelled = g.spelled;
+    written = p.written ∙ ap (λ (l : List Bool). bits_written now ++ l) whole_front
+        ∙ ap (λ (l : List Bool). l ++ digits word width) g.written
+        ∙ append_assoc (bits_written old) g.front (digits word width);
+    left =
+        let a = g.left in
+        let b = p.left in
+        let c = ap length whole_front in
+        let d = length-append g.front (digits word width) in
+        omega arith;
+  }
+
+  pub gathered_turns : TakeTurns fields turns_old turns_new
+  gathered_turns =
+      let c = ap length whole_front ∙ length-digits word width in
+      let d = length-append g.front (digits word width) in
+      let e = length-digits word width in
+      record {
+        at_least = λ list s.
+            let same = all_as_long fields (g.front ++ digits word width) list g.spelled s in
+            let a = g.at_least in
+            let b = p.at_least in
+            omega arith;
+        at_most = λ list s.
+            let same = all_as_long fields (g.front ++ digits word width) list g.spelled s in
+            let a = g.at_most in
+            let b = p.at_most in
+            omega arith;
+      }
+
+module _ (fields before after : List Field) (field : Field) (cut : fields ≡ before ++ field ∷ after) where
+  -- behind those that were taken is room for this one
+  pub gathering_room : (old now : BitAppender) (word width turns_old turns_now : ℕ) → HaveRoom fields (room old)
+      → Gathering before old now word width turns_old turns_now → HasRoomBehind field width (room now)
+  gathering_room old now word width turns_old turns_now h g =
+      let p : Split TakesBits before (field ∷ after) h.list =
+      joins_split TakesBits before (field ∷ after) h.list
+      (subst (λ (fs : List Field). AreJoined TakesBits fs h.list) cut h.joined) in
+      let rest : List Bool = p.of_back.1 in
+      let here : List Bool = g.front ++ digits word width in
+      record {
+        some = (p.of_back.0, p.of_back.2);
+        each = λ list l.
+            let whole : AreJoined TakesBits (before ++ field ∷ after) (here ++ (list ++ rest)) =
+            joins_append TakesBits before (field ∷ after) here (list ++ rest) (all_taken before here g.spelled)
+            (list, rest, l, p.of_back.3, refl) in
+            let r =
+            h.each (here ++ (list ++ rest))
+            (subst (λ (fs : List Field). AreJoined TakesBits fs (here ++ (list ++ rest))) (sym cut) whole) in
+            omega (
+              arith,
+              g.left,
+              length-append here (list ++ rest),
+              length-append list rest,
+              length-append g.front (digits word width),
+              length-digits word width,
+            );
+      }
+
+-- ---- a word that is pushed
+
+-- all its digits are pushed
+pub digits_pushed : (old new : BitAppender) (word width none zero_width turns_old turns_new : ℕ) → zero_width ≡ 0
+    → lender_of new ≡ lender_of old
+    → bits_written new ≡ bits_written old ++ digits word width → room new + width ≡ room old
+    → turns_old + div_ceil width 64 ≤ turns_new → turns_new ≤ turns_old + turns_for width
+    → PushesDigits old new word width none zero_width turns_old turns_new
+unfolding digits
+digits_pushed old new word width none zero_width turns_old turns_new z lender written left low high =
+    let n = length-digits word width in
+    record {
+      lender = lender;
+      front = digits word width;
+      written = written;
+      left = omega arith;
+      parts = subst (λ (k : ℕ). digits word width ++ digits none k ≡ digits word width) (sym z)
+          (append-nil (digits word width));
+      at_least = rw n low;
+      at_most = omega arith;
+    }
+
+-- none are
+pub digits_kept : (old : BitAppender) (word width turns : ℕ) → PushesDigits old old word width word width turns turns
+digits_kept old word width turns = record {
+  lender = refl;
+  front = [];
+  written = sym (append-nil (bits_written old));
+  left = omega arith;
+  parts = refl;
+  at_least = omega arith;
+  at_most = omega arith;
+}
+
+-- a word of no digits is like any other
+pub no_digits : (old : BitAppender) (word width none zero_width turns : ℕ) → width ≡ 0 → zero_width ≡ 0
+    → PushesDigits old old word width none zero_width turns turns
+unfolding digits
+no_digits old word width none zero_width turns w z = record {
+  lender = refl;
+  front = [];
+  written = sym (append-nil (bits_written old));
+  left = omega arith;
+  parts = ap (λ (k : ℕ). digits none k) z ∙ sym (ap (λ (k : ℕ). digits word k) w);
+  at_least = omega arith;
+  at_most = omega (arith, w, z);
+}
+
+-- ---- room
+
+-- a field for which there is room behind others has no more bits than that
+pub space_behind : (field : Field) (list : List Bool) (n width space : ℕ) → TakesBits field list → length list ≡ n
+    → HasRoomBehind field width space → width + n ≤ space
+space_behind field list n width space s len r = let a = r.each list s in omega arith
+
+pub width_behind : (field : Field) (width space : ℕ) → HasRoomBehind field width space → width ≤ space
+width_behind field width space r = let a = r.each r.some.0 r.some.1 in omega arith
+
+-- ---- octets, by their bits
+
+pub octets_room : (octets : List ℕ) (width space : ℕ) → All (λ octet. octet < 256) octets
+    → HasRoomBehind (Octets octets) width space → HasRoomBehind (Bits (bits octets)) width space
+octets_room octets width space are r = record {
+  some = (bits octets, refl);
+  each = λ list s. r.each list (are, s);
+}
+
+pub octets_behind : (octets : List ℕ) (old new : BitAppender)
+    (word width word_new width_new turns_old turns_new : ℕ) → All (λ octet. octet < 256) octets
+    → PushesBehind (Bits (bits octets)) old new word width word_new width_new turns_old turns_new
+    → PushesBehind (Octets octets) old new word width word_new width_new turns_old turns_new
+octets_behind octets old new word width word_new width_new turns_old turns_new are p =
+    record { list = p.list; spelled = (are, p.spelled); taken = p.taken }
