@@ -22,10 +22,9 @@ enum Storage<'a> {
         count: usize,
         words: [[u8; 8]; 2],
     },
-    /// The `count` octets kept from `first` on, all that follow.
+    /// The octets kept from `first` on.
     Copied {
         first: usize,
-        count: usize,
         octets: [u8; 17],
     },
     Borrowed(&'a [u8]),
@@ -49,14 +48,12 @@ impl<'a> IntegerBytes<'a> {
         requires { length octets.now ≤ 17 }
         ensures { result ≡ octets.now }
     {
-        let count = octets.len();
-        let first = 17 - count;
+        let first = 17 - octets.len();
         let mut kept = [0; 17];
         kept[first..].copy_from_slice(octets);
         IntegerBytes {
             storage: Storage::Copied {
                 first,
-                count,
                 octets: kept,
             },
         }
@@ -95,11 +92,7 @@ impl<'a> IntegerBytes<'a> {
                 count,
                 words,
             } => &words.as_flattened()[*start..*start + *count],
-            Storage::Copied {
-                first,
-                count,
-                octets,
-            } => &octets[*first..*first + *count],
+            Storage::Copied { first, octets } => &octets[*first..],
             Storage::Borrowed(octets) => octets,
         }
     }
@@ -129,14 +122,9 @@ impl<'a> IntegerBytes<'a> {
                     words,
                 },
             },
-            Storage::Copied {
-                first,
-                count,
-                octets,
-            } => IntegerBytes {
+            Storage::Copied { first, octets } => IntegerBytes {
                 storage: Storage::Copied {
                     first: first + skipped,
-                    count: count - skipped,
                     octets,
                 },
             },
