@@ -27,7 +27,7 @@ returns-clause-length c =
       length-bits c.place_word.new.target.octets.now,
       ap (λ (l : List Bool). length l) c.place_word.ensures.list,
       length-ored (bits c.or_words.new.dst.octets.now) (8 * (c.args.first + 8 * (length c.args.src.now / 8)))
-      (bits_of c.from_octets-tail.result),
+          (bits_of c.from_octets-tail.result),
       length-bits c.or_words.new.dst.octets.now,
       c.or_words.ensures.length,
     )
