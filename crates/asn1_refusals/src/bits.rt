@@ -2,7 +2,7 @@
 
 ghost use Rattle.std.specs.Prelude.{◌≡◌, length, IfOk};
 
-use crate::refusal::{met, met_before};
+use crate::refusal::{met_before, settle};
 use asn1_values::{
     BitBuffer, BitReader, BitStr, BitString, Octets, extend_bitstring, extend_vec_from_bitslice,
     to_bitstring,
@@ -31,9 +31,14 @@ fn octets(alloc: Global) -> Result<BitBuffer, AllocError>
     Ok(buffer)
 }
 
+/// Whether the buffer holds so many bits, in these octets.
+fn holds(buffer: &BitBuffer, count: usize, octets: &[u8]) -> bool {
+    buffer.len() == count && buffer.as_bytes() == octets
+}
+
 /// Whether the buffer holds 111 and no other bit.
 fn is_three_ones(buffer: &BitBuffer) -> bool {
-    buffer.len() == 3 && buffer.as_bytes() == [0xE0].as_slice()
+    holds(buffer, 3, &[0xE0])
 }
 
 /// Whether the buffer holds 111, and the 64 octets 5A behind it: the octets EB and 4B in turn, and
@@ -42,34 +47,66 @@ fn is_followed_by_octets(buffer: &BitBuffer) -> bool {
     let octets = buffer.as_bytes();
     buffer.len() == 515
         && octets.first() == Some(&0xEB)
-        && octets.last() == Some(&0x40)
-        && octets.iter().skip(1).take(63).all(|octet| *octet == 0x4B)
+        && octets.get(1..64) == Some(&[0x4B; 63])
+        && octets.get(64..) == Some(&[0x40])
 }
+
+/// Whether the buffer holds 111, and behind it, where the call is done, the 64 octets 5A.
+fn is_extended(buffer: &BitBuffer, is_done: bool) -> bool {
+    if is_done {
+        is_followed_by_octets(buffer)
+    } else {
+        is_three_ones(buffer)
+    }
+}
+
+/// Whether the buffer holds 512 ones, or where the call is not done 111 alone.
+fn is_resized(buffer: &BitBuffer, is_done: bool) -> bool {
+    if is_done {
+        holds(buffer, 512, &[0xFF; 64])
+    } else {
+        is_three_ones(buffer)
+    }
+}
+
+/// Whether the buffer holds 11101011 and 507 zeros.
+fn is_followed_by_zeros(buffer: &BitBuffer) -> bool {
+    let octets = buffer.as_bytes();
+    buffer.len() == 515 && octets.first() == Some(&0xEB) && octets.get(1..) == Some(&[0; 64])
+}
+
+/// Whether the string holds the 64 octets.
+fn is_octets(string: &BitString) -> bool {
+    string.as_raw_slice() == OCTETS.as_slice()
+}
+
+/// The 64 octets from bit 4 on, without the last four bits.
+const TURNED: [u8; 63] = [0xA5; 63];
 
 #[test]
 fn bit_buffer_push(rt: HostRuntime) -> Result<(), Fail> {
     let mut buffer = BitBuffer::new(rt.alloc());
-    match buffer.push(true) {
-        Ok(()) => assert!(rt; buffer.len() == 1 && buffer.as_bytes() == [0x80].as_slice()),
-        Err(_) => {
-            met(&rt, "BitBuffer::push")?;
-            assert!(rt; buffer.len() == 0 && buffer.as_bytes().is_empty());
-        }
-    }
-    Ok(())
+    let is_done = buffer.push(true).is_ok();
+    let (count, octets): (usize, &[u8]) = if is_done { (1, &[0x80]) } else { (0, &[]) };
+    settle(
+        &rt,
+        "BitBuffer::push",
+        is_done,
+        holds(&buffer, count, octets),
+    )
 }
 
 #[test]
 fn bit_buffer_push_bits(rt: HostRuntime) -> Result<(), Fail> {
     let mut buffer = BitBuffer::new(rt.alloc());
-    match buffer.push_bits(0b101, 3) {
-        Ok(()) => assert!(rt; buffer.len() == 3 && buffer.as_bytes() == [0xA0].as_slice()),
-        Err(_) => {
-            met(&rt, "BitBuffer::push_bits")?;
-            assert!(rt; buffer.len() == 0 && buffer.as_bytes().is_empty());
-        }
-    }
-    Ok(())
+    let is_done = buffer.push_bits(0b101, 3).is_ok();
+    let (count, octets): (usize, &[u8]) = if is_done { (3, &[0xA0]) } else { (0, &[]) };
+    settle(
+        &rt,
+        "BitBuffer::push_bits",
+        is_done,
+        holds(&buffer, count, octets),
+    )
 }
 
 #[test]
@@ -78,8 +115,8 @@ fn bit_buffer_push_bits_within_an_octet(rt: HostRuntime) -> Result<(), Fail> {
         return met_before(&rt, "BitBuffer::push_bits within an octet");
     };
     // No octet is added, so nothing is asked for.
-    buffer.push_bits(31, 5)?;
-    assert!(rt; buffer.len() == 8 && buffer.as_bytes() == [0xFF].as_slice());
+    let is_pushed = buffer.push_bits(31, 5).is_ok();
+    assert!(rt; is_pushed && holds(&buffer, 8, &[0xFF]));
     Ok(())
 }
 
@@ -88,17 +125,13 @@ fn bit_buffer_resize(rt: HostRuntime) -> Result<(), Fail> {
     let Ok(mut buffer) = three_ones(rt.alloc()) else {
         return met_before(&rt, "BitBuffer::resize");
     };
-    match buffer.resize(512, true) {
-        Ok(()) => {
-            assert!(rt; buffer.as_bytes().len() == 64);
-            assert!(rt; buffer.as_bytes().iter().all(|octet| *octet == 0xFF));
-        }
-        Err(_) => {
-            met(&rt, "BitBuffer::resize")?;
-            assert!(rt; is_three_ones(&buffer));
-        }
-    }
-    Ok(())
+    let is_done = buffer.resize(512, true).is_ok();
+    settle(
+        &rt,
+        "BitBuffer::resize",
+        is_done,
+        is_resized(&buffer, is_done),
+    )
 }
 
 #[test]
@@ -106,14 +139,13 @@ fn bit_buffer_extend_from_bytes(rt: HostRuntime) -> Result<(), Fail> {
     let Ok(mut buffer) = three_ones(rt.alloc()) else {
         return met_before(&rt, "BitBuffer::extend_from_bytes");
     };
-    match buffer.extend_from_bytes(&OCTETS) {
-        Ok(()) => assert!(rt; is_followed_by_octets(&buffer)),
-        Err(_) => {
-            met(&rt, "BitBuffer::extend_from_bytes")?;
-            assert!(rt; is_three_ones(&buffer));
-        }
-    }
-    Ok(())
+    let is_done = buffer.extend_from_bytes(&OCTETS).is_ok();
+    settle(
+        &rt,
+        "BitBuffer::extend_from_bytes",
+        is_done,
+        is_extended(&buffer, is_done),
+    )
 }
 
 #[test]
@@ -121,14 +153,15 @@ fn bit_buffer_extend_from_bitslice(rt: HostRuntime) -> Result<(), Fail> {
     let Ok(mut buffer) = three_ones(rt.alloc()) else {
         return met_before(&rt, "BitBuffer::extend_from_bitslice");
     };
-    match buffer.extend_from_bitslice(BitStr::from_octets(&OCTETS)) {
-        Ok(()) => assert!(rt; is_followed_by_octets(&buffer)),
-        Err(_) => {
-            met(&rt, "BitBuffer::extend_from_bitslice")?;
-            assert!(rt; is_three_ones(&buffer));
-        }
-    }
-    Ok(())
+    let is_done = buffer
+        .extend_from_bitslice(BitStr::from_octets(&OCTETS))
+        .is_ok();
+    settle(
+        &rt,
+        "BitBuffer::extend_from_bitslice",
+        is_done,
+        is_extended(&buffer, is_done),
+    )
 }
 
 #[test]
@@ -139,15 +172,9 @@ fn bit_buffer_extend_from_buffer(rt: HostRuntime) -> Result<(), Fail> {
     let Ok(mut buffer) = three_ones(rt.alloc()) else {
         return met_before(&rt, "BitBuffer::extend_from_buffer");
     };
-    match buffer.extend_from_buffer(&other) {
-        Ok(()) => assert!(rt; is_followed_by_octets(&buffer)),
-        Err(_) => {
-            met(&rt, "BitBuffer::extend_from_buffer")?;
-            assert!(rt; is_three_ones(&buffer));
-        }
-    }
-    assert!(rt; other.as_bytes() == OCTETS.as_slice());
-    Ok(())
+    let is_done = buffer.extend_from_buffer(&other).is_ok();
+    let is_right = is_extended(&buffer, is_done) && other.as_bytes() == OCTETS.as_slice();
+    settle(&rt, "BitBuffer::extend_from_buffer", is_done, is_right)
 }
 
 #[test]
@@ -155,22 +182,19 @@ fn bit_buffer_appender(rt: HostRuntime) -> Result<(), Fail> {
     let Ok(mut buffer) = three_ones(rt.alloc()) else {
         return met_before(&rt, "BitBuffer::appender");
     };
-    match buffer.appender(512) {
+    let room = match buffer.appender(512) {
         Ok(mut appender) => {
             appender.push(0b01011, 5);
-            assert!(rt; appender.room() == 507);
+            Some(appender.room())
         }
-        Err(_) => {
-            met(&rt, "BitBuffer::appender")?;
-            assert!(rt; is_three_ones(&buffer));
-            return Ok(());
-        }
-    }
-    // 111, 01011, and zeros for the room that is left.
-    assert!(rt; buffer.len() == 515);
-    assert!(rt; buffer.as_bytes().first() == Some(&0xEB));
-    assert!(rt; buffer.as_bytes().iter().skip(1).all(|octet| *octet == 0));
-    Ok(())
+        Err(_) => None,
+    };
+    let is_right = match room {
+        // 111, 01011, and zeros for the room that is left.
+        Some(room) => room == 507 && is_followed_by_zeros(&buffer),
+        None => is_three_ones(&buffer),
+    };
+    settle(&rt, "BitBuffer::appender", room.is_some(), is_right)
 }
 
 #[test]
@@ -178,11 +202,13 @@ fn bit_buffer_reserve_bytes(rt: HostRuntime) -> Result<(), Fail> {
     let Ok(mut buffer) = three_ones(rt.alloc()) else {
         return met_before(&rt, "BitBuffer::reserve_bytes");
     };
-    if buffer.reserve_bytes(512).is_err() {
-        met(&rt, "BitBuffer::reserve_bytes")?;
-    }
-    assert!(rt; is_three_ones(&buffer));
-    Ok(())
+    let is_done = buffer.reserve_bytes(512).is_ok();
+    settle(
+        &rt,
+        "BitBuffer::reserve_bytes",
+        is_done,
+        is_three_ones(&buffer),
+    )
 }
 
 #[test]
@@ -190,35 +216,37 @@ fn bit_buffer_clone(rt: HostRuntime) -> Result<(), Fail> {
     let Ok(buffer) = three_ones(rt.alloc()) else {
         return met_before(&rt, "BitBuffer::clone");
     };
-    match buffer.clone() {
-        Ok(copy) => assert!(rt; is_three_ones(&copy)),
-        Err(_) => met(&rt, "BitBuffer::clone")?,
-    }
-    assert!(rt; is_three_ones(&buffer));
-    Ok(())
+    let (is_done, is_right) = match buffer.clone() {
+        Ok(copy) => (true, is_three_ones(&copy)),
+        Err(_) => (false, true),
+    };
+    settle(
+        &rt,
+        "BitBuffer::clone",
+        is_done,
+        is_right && is_three_ones(&buffer),
+    )
 }
 
 #[test]
 fn to_bit_string(rt: HostRuntime) -> Result<(), Fail> {
-    let view = BitStr::from_octets(&OCTETS);
-    match to_bitstring(rt.alloc(), view) {
-        Ok(string) => assert!(rt; string.as_raw_slice() == OCTETS.as_slice()),
-        Err(_) => met(&rt, "to_bitstring")?,
-    }
-    Ok(())
+    let (is_done, is_right) = match to_bitstring(rt.alloc(), BitStr::from_octets(&OCTETS)) {
+        Ok(string) => (true, is_octets(&string)),
+        Err(_) => (false, true),
+    };
+    settle(&rt, "to_bitstring", is_done, is_right)
 }
 
 #[test]
 fn extend_bit_string(rt: HostRuntime) -> Result<(), Fail> {
     let mut string = BitString::new(rt.alloc());
-    match extend_bitstring(&mut string, BitStr::from_octets(&OCTETS)) {
-        Ok(()) => assert!(rt; string.as_raw_slice() == OCTETS.as_slice()),
-        Err(_) => {
-            met(&rt, "extend_bitstring")?;
-            assert!(rt; string.is_empty() && string.as_raw_slice().is_empty());
-        }
-    }
-    Ok(())
+    let is_done = extend_bitstring(&mut string, BitStr::from_octets(&OCTETS)).is_ok();
+    let is_right = if is_done {
+        is_octets(&string)
+    } else {
+        string.is_empty() && string.as_raw_slice().is_empty()
+    };
+    settle(&rt, "extend_bitstring", is_done, is_right)
 }
 
 #[test]
@@ -226,12 +254,16 @@ fn bit_string_clone(rt: HostRuntime) -> Result<(), Fail> {
     let Ok(string) = to_bitstring(rt.alloc(), BitStr::from_octets(&OCTETS)) else {
         return met_before(&rt, "BitString::clone");
     };
-    match string.clone() {
-        Ok(copy) => assert!(rt; copy.as_raw_slice() == OCTETS.as_slice()),
-        Err(_) => met(&rt, "BitString::clone")?,
-    }
-    assert!(rt; string.as_raw_slice() == OCTETS.as_slice());
-    Ok(())
+    let (is_done, is_right) = match string.clone() {
+        Ok(copy) => (true, is_octets(&copy)),
+        Err(_) => (false, true),
+    };
+    settle(
+        &rt,
+        "BitString::clone",
+        is_done,
+        is_right && is_octets(&string),
+    )
 }
 
 #[test]
@@ -239,16 +271,19 @@ fn bit_reader_octets(rt: HostRuntime) -> Result<(), Fail> {
     // 504 bits from bit 4 on: A5 sixty-three times.
     let view = BitStr::new(&OCTETS, 4, 504).ok_or("there")?;
     let reader = BitReader::new(view);
-    match reader.octets(rt.alloc()) {
-        Ok(octets) => {
-            assert!(rt; matches!(octets, Octets::Owned(_)));
-            assert!(rt; octets.as_ref().len() == 63);
-            assert!(rt; octets.as_ref().iter().all(|octet| *octet == 0xA5));
-        }
-        Err(_) => met(&rt, "BitReader::octets")?,
-    }
-    assert!(rt; reader.bits() == view);
-    Ok(())
+    let (is_done, is_right) = match reader.octets(rt.alloc()) {
+        Ok(octets) => (
+            true,
+            matches!(octets, Octets::Owned(_)) && octets.as_ref() == TURNED.as_slice(),
+        ),
+        Err(_) => (false, true),
+    };
+    settle(
+        &rt,
+        "BitReader::octets",
+        is_done,
+        is_right && reader.bits() == view,
+    )
 }
 
 #[test]
@@ -266,16 +301,11 @@ fn vector_from_bits(rt: HostRuntime) -> Result<(), Fail> {
         return met_before(&rt, "extend_vec_from_bitslice");
     };
     let view = BitStr::new(&OCTETS, 4, 504).ok_or("there")?;
-    match extend_vec_from_bitslice(&mut octets, view) {
-        Ok(()) => {
-            assert!(rt; octets.len() == 65);
-            assert!(rt; octets.as_slice().starts_with(&[0x11, 0x22]));
-            assert!(rt; octets.iter().skip(2).all(|octet| *octet == 0xA5));
-        }
-        Err(_) => {
-            met(&rt, "extend_vec_from_bitslice")?;
-            assert!(rt; octets.as_slice() == [0x11, 0x22].as_slice());
-        }
-    }
-    Ok(())
+    let is_done = extend_vec_from_bitslice(&mut octets, view).is_ok();
+    let is_right = if is_done {
+        octets.starts_with(&[0x11, 0x22]) && octets.get(2..) == Some(TURNED.as_slice())
+    } else {
+        octets.as_slice() == [0x11, 0x22].as_slice()
+    };
+    settle(&rt, "extend_vec_from_bitslice", is_done, is_right)
 }

@@ -1,6 +1,6 @@
 //! Object identifiers.
 
-use crate::refusal::{met, met_before};
+use crate::refusal::{met_before, settle};
 use asn1_values::{ContentsError, ObjectIdentifier, Oid, check_contents};
 use std::borrow::CowSlice;
 use std::test::Fail;
@@ -14,21 +14,21 @@ const CONTENTS: [u8; 9] = [0x60, 0x86, 0x48, 0x01, 0x65, 0x03, 0x04, 0x02, 0x03]
 #[test]
 fn oid_to_owned(rt: HostRuntime) -> Result<(), Fail> {
     let oid = Oid::new(&ARCS).ok_or("valid")?;
-    match oid.to_owned(rt.alloc()) {
-        Ok(copy) => assert!(rt; copy.eq_arcs(&ARCS)),
-        Err(_) => met(&rt, "Oid::to_owned")?,
-    }
-    Ok(())
+    let (is_done, is_right) = match oid.to_owned(rt.alloc()) {
+        Ok(copy) => (true, copy.eq_arcs(&ARCS)),
+        Err(_) => (false, true),
+    };
+    settle(&rt, "Oid::to_owned", is_done, is_right)
 }
 
 #[test]
 fn object_identifier_from_oid(rt: HostRuntime) -> Result<(), Fail> {
     let oid = Oid::new(&ARCS).ok_or("valid")?;
-    match ObjectIdentifier::from_oid(rt.alloc(), oid) {
-        Ok(copy) => assert!(rt; copy.eq_arcs(&ARCS)),
-        Err(_) => met(&rt, "ObjectIdentifier::from_oid")?,
-    }
-    Ok(())
+    let (is_done, is_right) = match ObjectIdentifier::from_oid(rt.alloc(), oid) {
+        Ok(copy) => (true, copy.eq_arcs(&ARCS)),
+        Err(_) => (false, true),
+    };
+    settle(&rt, "ObjectIdentifier::from_oid", is_done, is_right)
 }
 
 #[test]
@@ -37,24 +37,26 @@ fn object_identifier_clone(rt: HostRuntime) -> Result<(), Fail> {
     let Ok(owned) = oid.to_owned(rt.alloc()) else {
         return met_before(&rt, "ObjectIdentifier::clone");
     };
-    match owned.clone() {
-        Ok(copy) => assert!(rt; copy.eq_arcs(&ARCS)),
-        Err(_) => met(&rt, "ObjectIdentifier::clone")?,
-    }
-    assert!(rt; owned.eq_arcs(&ARCS));
-    Ok(())
+    let (is_done, is_right) = match owned.clone() {
+        Ok(copy) => (true, copy.eq_arcs(&ARCS)),
+        Err(_) => (false, true),
+    };
+    settle(
+        &rt,
+        "ObjectIdentifier::clone",
+        is_done,
+        is_right && owned.eq_arcs(&ARCS),
+    )
 }
 
 #[test]
 fn object_identifier_from_contents(rt: HostRuntime) -> Result<(), Fail> {
-    match ObjectIdentifier::from_contents(rt.alloc(), &CONTENTS.as_slice()) {
-        Ok(oid) => assert!(rt; oid.eq_arcs(&ARCS)),
-        Err(error) => {
-            met(&rt, "ObjectIdentifier::from_contents")?;
-            assert!(rt; error == ContentsError::Memory);
-        }
-    }
-    Ok(())
+    let read = ObjectIdentifier::from_contents(rt.alloc(), &CONTENTS.as_slice());
+    let (is_done, is_right) = match read {
+        Ok(oid) => (true, oid.eq_arcs(&ARCS)),
+        Err(error) => (false, error == ContentsError::Memory),
+    };
+    settle(&rt, "ObjectIdentifier::from_contents", is_done, is_right)
 }
 
 #[test]
@@ -64,15 +66,10 @@ fn oid_contents_append_to(rt: HostRuntime) -> Result<(), Fail> {
     let Ok(mut octets) = [0x06, 0x09].to_vec(rt.alloc()) else {
         return met_before(&rt, "OidContents::append_to");
     };
-    match contents.append_to(&mut octets) {
-        Ok(()) => assert!(rt; &octets[2..] == CONTENTS.as_slice()),
-        Err(_) => {
-            met(&rt, "OidContents::append_to")?;
-            assert!(rt; octets.len() == 2);
-        }
-    }
-    assert!(rt; octets.starts_with(&[0x06, 0x09]));
-    Ok(())
+    let is_done = contents.append_to(&mut octets).is_ok();
+    let appended: &[u8] = if is_done { &CONTENTS } else { &[] };
+    let is_right = octets.starts_with(&[0x06, 0x09]) && octets.iter().skip(2).eq(appended.iter());
+    settle(&rt, "OidContents::append_to", is_done, is_right)
 }
 
 #[test]
@@ -87,13 +84,18 @@ fn wrong_contents_keep_their_names(rt: HostRuntime) -> Result<(), Fail> {
 }
 
 #[test]
-fn borrowed_arcs_and_contents_ask_for_nothing(rt: HostRuntime) -> Result<(), Fail> {
+fn borrowed_arcs_are_cloned_without_memory(rt: HostRuntime) -> Result<(), Fail> {
     let lent = ObjectIdentifier::new(CowSlice::Borrowed(&[1, 2, 840])).ok_or("valid")?;
-    assert!(rt; lent.clone()?.eq_arcs(&[1, 2, 840]));
-    assert!(rt; check_contents(&CONTENTS.as_slice()) == Ok(()));
+    let is_cloned = matches!(lent.clone(), Ok(copy) if copy.eq_arcs(&[1, 2, 840]));
+    assert!(rt; is_cloned);
+    Ok(())
+}
+
+#[test]
+fn contents_ask_for_nothing(rt: HostRuntime) -> Result<(), Fail> {
     let oid = Oid::new(&ARCS).ok_or("valid")?;
-    assert!(rt; oid.contents_len() == Some(9));
     let octets = oid.contents().ok_or("two arcs")?;
-    assert!(rt; octets.eq(CONTENTS));
+    let is_right = check_contents(&CONTENTS.as_slice()) == Ok(()) && oid.contents_len() == Some(9);
+    assert!(rt; is_right && octets.eq(CONTENTS));
     Ok(())
 }

@@ -1,6 +1,6 @@
 //! Whole numbers.
 
-use crate::refusal::{met, met_before};
+use crate::refusal::{met, met_before, settle};
 use asn1_values::{ConstrainedInteger, Integer, IntegerError, IntegerType};
 use std::test::Fail;
 
@@ -15,86 +15,73 @@ fn is_power(number: &Integer) -> bool {
     number.signed_octets().as_ref() == POWER.as_slice()
 }
 
+/// Whether the number is 2 to the power of 128, less 1.
+fn is_largest(number: &Integer) -> bool {
+    let octets = number.signed_octets();
+    octets.as_ref().first() == Some(&0) && octets.as_ref().get(1..) == Some(&[0xFF; 16])
+}
+
+/// A call answered with 2 to the power of 199, or with want of memory; another answer fails the
+/// test.
+fn gives_power(
+    rt: &HostRuntime,
+    call: &str,
+    answer: &Result<Integer, IntegerError>,
+) -> Result<(), Fail> {
+    match answer {
+        Ok(number) if is_power(number) => Ok(()),
+        Err(IntegerError::Memory) => met(rt, call),
+        _ => Err("another answer".into()),
+    }
+}
+
 #[test]
 fn integer_from_signed_octets(rt: HostRuntime) -> Result<(), Fail> {
-    match Integer::from_signed_octets(rt.alloc(), &POWER) {
-        Ok(number) => assert!(rt; is_power(&number)),
-        Err(error) => {
-            met(&rt, "Integer::from_signed_octets")?;
-            assert!(rt; error == IntegerError::Memory);
-        }
-    }
-    Ok(())
+    let read = Integer::from_signed_octets(rt.alloc(), &POWER);
+    gives_power(&rt, "Integer::from_signed_octets", &read)
 }
 
 #[test]
 fn integer_from_unsigned_octets(rt: HostRuntime) -> Result<(), Fail> {
-    match Integer::from_unsigned_octets(rt.alloc(), &POWER[1..]) {
-        Ok(number) => assert!(rt; is_power(&number)),
-        Err(error) => {
-            met(&rt, "Integer::from_unsigned_octets")?;
-            assert!(rt; error == IntegerError::Memory);
-        }
-    }
-    Ok(())
+    let read = Integer::from_unsigned_octets(rt.alloc(), &POWER[1..]);
+    gives_power(&rt, "Integer::from_unsigned_octets", &read)
 }
 
 #[test]
 fn integer_try_from_bytes(rt: HostRuntime) -> Result<(), Fail> {
-    match <Integer as IntegerType>::try_from_bytes(rt.alloc(), &POWER) {
-        Ok(number) => assert!(rt; is_power(&number)),
-        Err(error) => {
-            met(&rt, "Integer::try_from_bytes")?;
-            assert!(rt; error == IntegerError::Memory);
-        }
-    }
-    Ok(())
+    let read = <Integer as IntegerType>::try_from_bytes(rt.alloc(), &POWER);
+    gives_power(&rt, "Integer::try_from_bytes", &read)
 }
 
 #[test]
 fn integer_try_from_signed_bytes(rt: HostRuntime) -> Result<(), Fail> {
-    match <Integer as IntegerType>::try_from_signed_bytes(rt.alloc(), &POWER) {
-        Ok(number) => assert!(rt; is_power(&number)),
-        Err(error) => {
-            met(&rt, "Integer::try_from_signed_bytes")?;
-            assert!(rt; error == IntegerError::Memory);
-        }
-    }
-    Ok(())
+    let read = <Integer as IntegerType>::try_from_signed_bytes(rt.alloc(), &POWER);
+    gives_power(&rt, "Integer::try_from_signed_bytes", &read)
 }
 
 #[test]
 fn integer_try_from_unsigned_bytes(rt: HostRuntime) -> Result<(), Fail> {
-    match <Integer as IntegerType>::try_from_unsigned_bytes(rt.alloc(), &POWER[1..]) {
-        Ok(number) => assert!(rt; is_power(&number)),
-        Err(error) => {
-            met(&rt, "Integer::try_from_unsigned_bytes")?;
-            assert!(rt; error == IntegerError::Memory);
-        }
-    }
-    Ok(())
+    let read = <Integer as IntegerType>::try_from_unsigned_bytes(rt.alloc(), &POWER[1..]);
+    gives_power(&rt, "Integer::try_from_unsigned_bytes", &read)
 }
 
 #[test]
 fn integer_from_u128(rt: HostRuntime) -> Result<(), Fail> {
-    // 2 to the power of 128, less 1: seventeen octets, the first of them 0.
-    match Integer::from_u128(rt.alloc(), u128::MAX) {
-        Ok(number) => {
-            assert!(rt; number.signed_octets().len() == 17);
-            assert!(rt; number.unsigned_octets().as_ref() == [0xFF; 16].as_slice());
-        }
-        Err(_) => met(&rt, "Integer::from_u128")?,
-    }
-    Ok(())
+    // Seventeen octets, the first of them 0.
+    let (is_done, is_right) = match Integer::from_u128(rt.alloc(), u128::MAX) {
+        Ok(number) => (true, is_largest(&number)),
+        Err(_) => (false, true),
+    };
+    settle(&rt, "Integer::from_u128", is_done, is_right)
 }
 
 #[test]
 fn native_to_integer(rt: HostRuntime) -> Result<(), Fail> {
-    match u128::MAX.to_integer(rt.alloc()) {
-        Ok(number) => assert!(rt; number.unsigned_octets().as_ref() == [0xFF; 16].as_slice()),
-        Err(_) => met(&rt, "u128::to_integer")?,
-    }
-    Ok(())
+    let (is_done, is_right) = match u128::MAX.to_integer(rt.alloc()) {
+        Ok(number) => (true, is_largest(&number)),
+        Err(_) => (false, true),
+    };
+    settle(&rt, "u128::to_integer", is_done, is_right)
 }
 
 #[test]
@@ -102,12 +89,16 @@ fn integer_clone(rt: HostRuntime) -> Result<(), Fail> {
     let Ok(number) = Integer::from_signed_octets(rt.alloc(), &POWER) else {
         return met_before(&rt, "Integer::clone");
     };
-    match number.clone() {
-        Ok(copy) => assert!(rt; is_power(&copy)),
-        Err(_) => met(&rt, "Integer::clone")?,
-    }
-    assert!(rt; is_power(&number));
-    Ok(())
+    let (is_done, is_right) = match number.clone() {
+        Ok(copy) => (true, is_power(&copy)),
+        Err(_) => (false, true),
+    };
+    settle(
+        &rt,
+        "Integer::clone",
+        is_done,
+        is_right && is_power(&number),
+    )
 }
 
 #[test]
@@ -119,25 +110,45 @@ fn refused_conversion_clone(rt: HostRuntime) -> Result<(), Fail> {
     let Err(refused) = i64::try_from(number) else {
         return Err("too large".into());
     };
-    match refused.clone() {
-        Ok(copy) => assert!(rt; is_power(&copy.into_original())),
-        Err(_) => met(&rt, "TryFromIntegerError::clone")?,
-    }
-    assert!(rt; is_power(&refused.into_original()));
+    let (is_done, is_right) = match refused.clone() {
+        Ok(copy) => (true, is_power(&copy.into_original())),
+        Err(_) => (false, true),
+    };
+    let is_right = is_right && is_power(&refused.into_original());
+    settle(&rt, "TryFromIntegerError::clone", is_done, is_right)
+}
+
+#[test]
+fn a_short_number_in_many_octets_asks_for_nothing(rt: HostRuntime) -> Result<(), Fail> {
+    let minus_one = Integer::from_signed_octets(rt.alloc(), &[0xFF; 40])?;
+    assert!(rt; minus_one.to_i128() == Some(-1));
     Ok(())
 }
 
 #[test]
-fn numbers_within_sixteen_octets_ask_for_nothing(rt: HostRuntime) -> Result<(), Fail> {
-    let minus_one = Integer::from_signed_octets(rt.alloc(), &[0xFF; 40])?;
-    assert!(rt; minus_one.to_i128() == Some(-1));
-    let large = Integer::from_u128(rt.alloc(), 5)?;
-    assert!(rt; large.clone()?.to_i128() == Some(5));
-    let within = ConstrainedInteger::<-8, 360>::try_from(360i64)
-        .ok()
-        .ok_or("within")?;
-    assert!(rt; within.clone()?.to_i128() == Some(360));
-    assert!(rt; i8::try_from_signed_bytes(rt.alloc(), &[0xFB])? == -5);
+fn a_short_number_is_cloned_without_memory(rt: HostRuntime) -> Result<(), Fail> {
+    let is_made = match Integer::from_u128(rt.alloc(), 5) {
+        Ok(number) => number.to_i128() == Some(5),
+        Err(_) => false,
+    };
+    let is_cloned = matches!(Integer::from(5).clone(), Ok(copy) if copy.to_i128() == Some(5));
+    assert!(rt; is_made && is_cloned);
+    Ok(())
+}
+
+#[test]
+fn a_constrained_number_is_cloned_without_memory(rt: HostRuntime) -> Result<(), Fail> {
+    let Ok(within) = ConstrainedInteger::<-8, 360>::try_from(360i64) else {
+        return Err("within".into());
+    };
+    let is_cloned = matches!(within.clone(), Ok(copy) if copy.to_i128() == Some(360));
+    assert!(rt; is_cloned);
+    Ok(())
+}
+
+#[test]
+fn a_native_number_asks_for_nothing(rt: HostRuntime) -> Result<(), Fail> {
+    assert!(rt; i8::try_from_signed_bytes(rt.alloc(), &[0xFB]) == Ok(-5));
     Ok(())
 }
 
@@ -160,8 +171,8 @@ fn long_numbers_are_compared_and_spelled_without_memory(rt: HostRuntime) -> Resu
     let Ok(number) = Integer::from_signed_octets(rt.alloc(), &POWER) else {
         return met_before(&rt, "comparisons of long numbers");
     };
-    assert!(rt; number > Integer::from(5) && number == number);
-    assert!(rt; number.signed_len() == 26);
-    assert!(rt; number.checked_add(&Integer::from(1)).is_none());
+    let is_compared = number > Integer::from(5) && number == number;
+    let is_past = number.signed_len() == 26 && number.checked_add(&Integer::from(1)).is_none();
+    assert!(rt; is_compared && is_past);
     Ok(())
 }

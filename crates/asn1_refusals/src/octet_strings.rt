@@ -1,28 +1,33 @@
 //! Octet strings.
 
-use crate::refusal::{met, met_before};
+use crate::refusal::{met_before, settle};
 use asn1_values::{FixedOctetString, OctetString};
 use std::test::Fail;
 
 /// Sixty-four octets.
 const OCTETS: [u8; 64] = [0x5A; 64];
 
+/// Whether the octets are the sixty-four.
+fn is_whole(octets: &[u8]) -> bool {
+    octets == OCTETS.as_slice()
+}
+
 #[test]
 fn octet_string_from_slice(rt: HostRuntime) -> Result<(), Fail> {
-    match OctetString::from_slice(rt.alloc(), &OCTETS) {
-        Ok(string) => assert!(rt; string.eq_bytes(&OCTETS)),
-        Err(_) => met(&rt, "OctetString::from_slice")?,
-    }
-    Ok(())
+    let (is_done, is_right) = match OctetString::from_slice(rt.alloc(), &OCTETS) {
+        Ok(string) => (true, string.eq_bytes(&OCTETS)),
+        Err(_) => (false, true),
+    };
+    settle(&rt, "OctetString::from_slice", is_done, is_right)
 }
 
 #[test]
 fn octet_string_from_array(rt: HostRuntime) -> Result<(), Fail> {
-    match OctetString::from_array(rt.alloc(), OCTETS) {
-        Ok(string) => assert!(rt; string.eq_bytes(&OCTETS)),
-        Err(_) => met(&rt, "OctetString::from_array")?,
-    }
-    Ok(())
+    let (is_done, is_right) = match OctetString::from_array(rt.alloc(), OCTETS) {
+        Ok(string) => (true, string.eq_bytes(&OCTETS)),
+        Err(_) => (false, true),
+    };
+    settle(&rt, "OctetString::from_array", is_done, is_right)
 }
 
 #[test]
@@ -30,14 +35,11 @@ fn octet_string_from_vec(rt: HostRuntime) -> Result<(), Fail> {
     let Ok(octets) = Vec::from_slice(rt.alloc(), &OCTETS) else {
         return met_before(&rt, "OctetString::from_vec");
     };
-    match OctetString::from_vec(octets) {
-        Ok(string) => assert!(rt; string.eq_bytes(&OCTETS)),
-        Err(octets) => {
-            met(&rt, "OctetString::from_vec")?;
-            assert!(rt; octets.as_slice() == OCTETS.as_slice());
-        }
-    }
-    Ok(())
+    let (is_done, is_right) = match OctetString::from_vec(octets) {
+        Ok(string) => (true, string.eq_bytes(&OCTETS)),
+        Err(octets) => (false, is_whole(octets.as_slice())),
+    };
+    settle(&rt, "OctetString::from_vec", is_done, is_right)
 }
 
 #[test]
@@ -45,13 +47,16 @@ fn shared_octets_ask_for_nothing(rt: HostRuntime) -> Result<(), Fail> {
     let Ok(string) = OctetString::from_slice(rt.alloc(), &OCTETS) else {
         return met_before(&rt, "copies of shared octets");
     };
-    assert!(rt; string.clone()?.eq_bytes(&OCTETS));
-    assert!(rt; string.to_bytes(rt.alloc())?.as_slice() == OCTETS.as_slice());
-    let Ok(bytes) = string.into_bytes(rt.alloc()) else {
-        return Err("nothing is asked for".into());
+    let is_cloned = matches!(string.clone(), Ok(copy) if copy.eq_bytes(&OCTETS));
+    let is_lent = matches!(string.to_bytes(rt.alloc()), Ok(bytes) if is_whole(bytes.as_slice()));
+    let is_given = match string.into_bytes(rt.alloc()) {
+        Ok(bytes) => {
+            is_whole(bytes.as_slice())
+                && matches!(OctetString::from_bytes_ref(&bytes), Ok(copy) if copy.eq_bytes(&OCTETS))
+        }
+        Err(_) => false,
     };
-    assert!(rt; OctetString::from_bytes_ref(&bytes)?.eq_bytes(&OCTETS));
-    assert!(rt; bytes.as_slice() == OCTETS.as_slice());
+    assert!(rt; is_cloned && is_lent && is_given);
     Ok(())
 }
 
@@ -59,12 +64,13 @@ fn shared_octets_ask_for_nothing(rt: HostRuntime) -> Result<(), Fail> {
 fn static_and_empty_octets_ask_for_nothing(rt: HostRuntime) -> Result<(), Fail> {
     assert!(rt; OctetString::from_static(&OCTETS).eq_bytes(&OCTETS));
     let empty = OctetString::from_slice(rt.alloc(), &[])?;
-    assert!(rt; empty.clone()?.as_ref().is_empty());
-    assert!(rt; empty.to_bytes(rt.alloc())?.is_empty());
-    let Ok(bytes) = empty.into_bytes(rt.alloc()) else {
-        return Err("nothing is asked for".into());
+    let is_cloned = matches!(empty.clone(), Ok(copy) if copy.as_ref().is_empty());
+    let is_lent = matches!(empty.to_bytes(rt.alloc()), Ok(bytes) if bytes.is_empty());
+    let is_given = match empty.into_bytes(rt.alloc()) {
+        Ok(bytes) => OctetString::from_bytes(bytes).as_ref().is_empty(),
+        Err(_) => false,
     };
-    assert!(rt; OctetString::from_bytes(bytes).as_ref().is_empty());
+    assert!(rt; is_cloned && is_lent && is_given);
     Ok(())
 }
 
@@ -76,10 +82,11 @@ fn octets_of_another_number_are_handed_back(rt: HostRuntime) -> Result<(), Fail>
     let Err(octets) = FixedOctetString::<63>::try_from_vec(octets) else {
         return Err("sixty-four octets".into());
     };
-    assert!(rt; octets.as_slice() == OCTETS.as_slice());
-    let Ok(string) = FixedOctetString::<64>::try_from_vec(octets) else {
-        return Err("nothing is asked for".into());
+    let is_handed_back = is_whole(octets.as_slice());
+    let is_taken = match FixedOctetString::<64>::try_from_vec(octets) {
+        Ok(string) => string == FixedOctetString::new(OCTETS),
+        Err(_) => false,
     };
-    assert!(rt; string == FixedOctetString::new(OCTETS));
+    assert!(rt; is_handed_back && is_taken);
     Ok(())
 }

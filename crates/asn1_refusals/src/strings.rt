@@ -1,6 +1,6 @@
 //! The eight restricted strings.
 
-use crate::refusal::{met, met_before};
+use crate::refusal::{met, met_before, settle};
 use asn1_values::{
     BitStr, BmpString, GeneralString, GraphicString, Ia5String, NumericString, OctetString,
     PermittedAlphabetError, PrintableString, StaticPermittedAlphabet, TeletexString, VisibleString,
@@ -186,14 +186,9 @@ fn push_char(rt: HostRuntime) -> Result<(), Fail> {
     if !PrintableString::contains_char(0x32) {
         return Err("a digit".into());
     }
-    match string.push_char(0x32) {
-        Ok(()) => assert!(rt; has(&string, 1, 0x32)),
-        Err(_) => {
-            met(&rt, "PrintableString::push_char")?;
-            assert!(rt; string.len() == 0);
-        }
-    }
-    Ok(())
+    let is_done = string.push_char(0x32).is_ok();
+    let is_right = has(&string, usize::from(is_done), 0x32);
+    settle(&rt, "PrintableString::push_char", is_done, is_right)
 }
 
 #[test]
@@ -201,11 +196,13 @@ fn reserve(rt: HostRuntime) -> Result<(), Fail> {
     let Some(mut string) = twos::<VisibleString>(rt.alloc()) else {
         return met_before(&rt, "reserve");
     };
-    if string.reserve(1000).is_err() {
-        met(&rt, "VisibleString::reserve")?;
-    }
-    assert!(rt; has(&string, 48, 0x32));
-    Ok(())
+    let is_done = string.reserve(1000).is_ok();
+    settle(
+        &rt,
+        "VisibleString::reserve",
+        is_done,
+        has(&string, 48, 0x32),
+    )
 }
 
 #[test]
@@ -213,12 +210,16 @@ fn clone(rt: HostRuntime) -> Result<(), Fail> {
     let Some(string) = twos::<GraphicString>(rt.alloc()) else {
         return met_before(&rt, "clone");
     };
-    match string.clone() {
-        Ok(copy) => assert!(rt; copy == string),
-        Err(_) => met(&rt, "GraphicString::clone")?,
-    }
-    assert!(rt; has(&string, 48, 0x32));
-    Ok(())
+    let (is_done, is_right) = match string.clone() {
+        Ok(copy) => (true, copy == string),
+        Err(_) => (false, true),
+    };
+    settle(
+        &rt,
+        "GraphicString::clone",
+        is_done,
+        is_right && has(&string, 48, 0x32),
+    )
 }
 
 #[test]
@@ -226,12 +227,16 @@ fn bmp_string_to_bytes(rt: HostRuntime) -> Result<(), Fail> {
     let Some(string) = twos::<BmpString>(rt.alloc()) else {
         return met_before(&rt, "BmpString::to_bytes");
     };
-    match string.to_bytes() {
-        Ok(octets) => assert!(rt; octets.as_slice() == TWOS.as_slice()),
-        Err(_) => met(&rt, "BmpString::to_bytes")?,
-    }
-    assert!(rt; has(&string, 24, 0x3232));
-    Ok(())
+    let (is_done, is_right) = match string.to_bytes() {
+        Ok(octets) => (true, octets.as_slice() == TWOS.as_slice()),
+        Err(_) => (false, true),
+    };
+    settle(
+        &rt,
+        "BmpString::to_bytes",
+        is_done,
+        is_right && has(&string, 24, 0x3232),
+    )
 }
 
 #[test]
@@ -239,12 +244,16 @@ fn teletex_string_to_bytes(rt: HostRuntime) -> Result<(), Fail> {
     let Some(string) = twos::<TeletexString>(rt.alloc()) else {
         return met_before(&rt, "TeletexString::to_bytes");
     };
-    match string.to_bytes() {
-        Ok(octets) => assert!(rt; octets.as_slice() == TWOS.as_slice()),
-        Err(_) => met(&rt, "TeletexString::to_bytes")?,
-    }
-    assert!(rt; has(&string, 48, 0x32));
-    Ok(())
+    let (is_done, is_right) = match string.to_bytes() {
+        Ok(octets) => (true, octets.as_slice() == TWOS.as_slice()),
+        Err(_) => (false, true),
+    };
+    settle(
+        &rt,
+        "TeletexString::to_bytes",
+        is_done,
+        is_right && has(&string, 48, 0x32),
+    )
 }
 
 #[test]
@@ -252,14 +261,11 @@ fn into_octet_string(rt: HostRuntime) -> Result<(), Fail> {
     let Some(string) = twos::<Ia5String>(rt.alloc()) else {
         return met_before(&rt, "into_octet_string");
     };
-    match string.into_octet_string() {
-        Ok(octets) => assert!(rt; octets.eq_bytes(&TWOS)),
-        Err(string) => {
-            met(&rt, "Ia5String::into_octet_string")?;
-            assert!(rt; has(&string, 48, 0x32));
-        }
-    }
-    Ok(())
+    let (is_done, is_right) = match string.into_octet_string() {
+        Ok(octets) => (true, octets.eq_bytes(&TWOS)),
+        Err(string) => (false, has(&string, 48, 0x32)),
+    };
+    settle(&rt, "Ia5String::into_octet_string", is_done, is_right)
 }
 
 #[test]
@@ -274,10 +280,13 @@ fn into_string_asks_for_nothing(rt: HostRuntime) -> Result<(), Fail> {
 #[test]
 fn empty_strings_ask_for_nothing(rt: HostRuntime) -> Result<(), Fail> {
     let empty = from_slice::<Ia5String>(rt.alloc(), &[])?;
-    assert!(rt; empty.clone()?.len() == 0);
-    assert!(rt; from_str::<BmpString>(rt.alloc(), "")?.to_bytes()?.len() == 0);
+    let is_cloned = matches!(empty.clone(), Ok(copy) if copy.len() == 0);
+    let text = from_str::<BmpString>(rt.alloc(), "")?;
+    let is_spelled = matches!(text.to_bytes(), Ok(octets) if octets.len() == 0);
     let octets = OctetString::from_static(&[]);
-    assert!(rt; VisibleString::try_from_octet_string(rt.alloc(), octets)?.len() == 0);
+    let read = VisibleString::try_from_octet_string(rt.alloc(), octets);
+    let is_read = matches!(read, Ok(string) if string.len() == 0);
+    assert!(rt; is_cloned && is_spelled && is_read);
     Ok(())
 }
 

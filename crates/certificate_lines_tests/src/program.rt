@@ -102,6 +102,12 @@ fn what_is_wrong_is_named(rt: HostRuntime) -> Result<(), Fail> {
         ),
         (
             ED25519,
+            20,
+            5,
+            "refused: certificate, tbsCertificate, signature: another tag, of number 5\n",
+        ),
+        (
+            ED25519,
             38,
             b'@',
             "refused: certificate, tbsCertificate, issuer, item 0, item 0: \

@@ -1,8 +1,13 @@
 //! The record of X.691 A.2, and octets that differ from it.
 
 use crate::values::{children, is_name, is_smith, is_text, name, smith, text};
-use personnel_record::{ChildInformation, PersonnelRecord, decode, encode, record_format};
+use asn1_formats::Format;
+use asn1_per::Complete;
+use personnel_record::{
+    ChildInformation, PersonnelRecord, RecordFormat, decode, encode, record_format,
+};
 use std::alloc::Global;
+use std::fmt::Display;
 use std::test::Fail;
 
 /// The octets of the record (X.691 A.2.3).
@@ -13,27 +18,76 @@ const RECORD: [u8; 61] = [
     0x98, 0x5C, 0xE5, 0x21, 0x88, 0x5D, 0x54, 0xC1, 0x70, 0xCA, 0xC8, 0x38, 0xB8,
 ];
 
-/// The octets of a record, or why it has none, in words. It and `decoded` alone state the type of
-/// the format, whose statement takes a minute in each function.
-fn encoded(alloc: Global, record: &PersonnelRecord) -> Result<Result<Vec<u8>, String>, Fail> {
-    let Some(format) = record_format() else {
-        return Err("no character is there twice".into());
-    };
-    match encode(&format, alloc, record) {
+/// `encode` without its contract: the octets of a value, or why it has none, in words.
+fn octets_of<F: Format>(
+    format: &Complete<F>,
+    alloc: Global,
+    value: &F::Value,
+) -> Result<Result<Vec<u8>, String>, Fail>
+where
+    F::Misfit: Display,
+{
+    match encode(format, alloc, value) {
         Ok(octets) => Ok(Ok(octets)),
         Err(refusal) => Ok(Err(format!(in alloc; "{refusal}")?)),
     }
 }
 
-/// The record of octets, or why they are none, in words.
-fn decoded(alloc: Global, octets: &[u8]) -> Result<Result<PersonnelRecord, String>, Fail> {
-    let Some(format) = record_format() else {
-        return Err("no character is there twice".into());
-    };
-    match decode(&format, alloc, octets) {
-        Ok(record) => Ok(Ok(record)),
+/// `decode` without its contract: the value of octets, or why they are none, in words.
+fn value_of<F: Format>(
+    format: &Complete<F>,
+    alloc: Global,
+    octets: &[u8],
+) -> Result<Result<F::Value, String>, Fail>
+where
+    F::Fault: Display,
+{
+    match decode(format, alloc, octets) {
+        Ok(value) => Ok(Ok(value)),
         Err(refusal) => Ok(Err(format!(in alloc; "{refusal}")?)),
     }
+}
+
+/// The format of records, under a name: what holds it does not state the format's type, whose
+/// statement takes a minute in each function.
+#[derive(Drop)]
+struct Records {
+    format: RecordFormat,
+}
+
+impl Records {
+    fn new() -> Result<Records, Fail> {
+        match record_format() {
+            Some(format) => Ok(Records { format }),
+            None => Err("no character is there twice".into()),
+        }
+    }
+
+    fn encoded(
+        &self,
+        alloc: Global,
+        record: &PersonnelRecord,
+    ) -> Result<Result<Vec<u8>, String>, Fail> {
+        octets_of(&self.format, alloc, record)
+    }
+
+    fn decoded(
+        &self,
+        alloc: Global,
+        octets: &[u8],
+    ) -> Result<Result<PersonnelRecord, String>, Fail> {
+        value_of(&self.format, alloc, octets)
+    }
+}
+
+/// The octets of a record, or why it has none, in words.
+fn encoded(alloc: Global, record: &PersonnelRecord) -> Result<Result<Vec<u8>, String>, Fail> {
+    Records::new()?.encoded(alloc, record)
+}
+
+/// The record of octets, or why they are none, in words.
+fn decoded(alloc: Global, octets: &[u8]) -> Result<Result<PersonnelRecord, String>, Fail> {
+    Records::new()?.decoded(alloc, octets)
 }
 
 /// The octets of a record that has some.
