@@ -16,7 +16,7 @@ use crate::bits::{Appended, Copied, Numbers};
 use crate::fields::{Characters, Integers, Message, Widths};
 use crate::identifiers::{By, Read, Size, Way, Written};
 use crate::numbers::Octets;
-use crate::row::{Row, machine, show};
+use crate::row::{Row, show};
 use crate::strings::{Bits, Kind, Text};
 use std::env;
 
@@ -24,9 +24,6 @@ fn main(rt: HostRuntime) -> anyhow::Result<()> {
     let mut rounds = 0;
     if let Some(text) = env::args(&rt)?.nth(1) {
         rounds = text.parse::<u32>().unwrap_or(0);
-    }
-    if rounds > 0 {
-        println!(rt; "{}", machine(&rt)?)?;
     }
     let alloc = rt.alloc();
     show(&rt, &mut Copied::new(alloc, 0, 0)?, rounds)?;

@@ -1,7 +1,6 @@
 //! A piece of work, and how it is timed.
 
 use std::alloc::{AllocError, Global};
-use std::fs;
 use std::time::Instant;
 
 /// A piece of work that is done many times in a round.
@@ -60,15 +59,4 @@ fn best_of<R: Row>(rt: &HostRuntime, row: &mut R, rounds: u32) -> anyhow::Result
 /// Octets a second, from the octets of some nanoseconds.
 fn per_second(octets: u64, nanoseconds: u64) -> u128 {
     u128::from(octets) * 1_000_000_000 / u128::from(nanoseconds.max(1))
-}
-
-/// The processor, as the system names it.
-pub fn machine(rt: &HostRuntime) -> anyhow::Result<String> {
-    let text = fs::read_to_string(rt, "/proc/cpuinfo")?;
-    for line in text.as_str().lines() {
-        if line.starts_with("model name") {
-            return Ok(String::from_str(rt.alloc(), line)?);
-        }
-    }
-    Ok(String::from_str(rt.alloc(), "an unknown processor")?)
 }
