@@ -1,4 +1,4 @@
-use Rattle.std.proofs.Common.{◌≡◌, ℕ, List, Bool, ◌++◌, length, refl, sym, ap, subst, ◌∙◌, append_assoc}
+use Rattle.std.proofs.Common.{ℕ, List, Bool, ◌++◌, refl, sym, ap, subst, ◌∙◌, append_assoc}
 use Rattle.asn1_per.specs.Extensions.{IsBeyondMisfit}
 use Rattle.asn1_per.specs.Additions.{IsSmallLength}
 use Rattle.asn1_per.proofs.extension.append_additions.Goals as goal
@@ -24,8 +24,8 @@ returns-in-Ok-append-clause-written g c =
         parts = refl;
       };
       parts = q.parts ∙ ap (λ (l : List Bool). l ++ q.list) c.in-Ok-append_presence.ensures.ok
-      ∙ append_assoc mid shown q.list ∙ ap (λ (l : List Bool). l ++ (shown ++ q.list)) p.parts
-      ∙ append_assoc old p.list (shown ++ q.list);
+          ∙ append_assoc mid shown q.list ∙ ap (λ (l : List Bool). l ++ (shown ++ q.list)) p.parts
+          ∙ append_assoc old p.list (shown ++ q.list);
     }
 
 pub returns-in-Err-Wrong-clause-refused : goal.returns-in-Err-Wrong-clause-refused

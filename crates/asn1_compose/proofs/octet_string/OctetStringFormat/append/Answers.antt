@@ -21,5 +21,5 @@ returns-in-Ok-push_octets-clause-written g c =
         parts = refl;
       };
       parts = behind ∙ ap (λ (l : List Bool). l ++ bits octets) p.parts
-      ∙ append_assoc c.args.buffer.now p.list (bits octets);
+          ∙ append_assoc c.args.buffer.now p.list (bits octets);
     }

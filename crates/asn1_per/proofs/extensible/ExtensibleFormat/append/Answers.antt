@@ -9,7 +9,7 @@ returns-then-missing-clause-written g c =
       list = false ∷ root.list;
       spelled = (c.if-missing.ensures.0 refl, root.spelled);
       parts = root.parts ∙ ap (λ (l : List Bool). l ++ root.list) marked
-      ∙ append_assoc c.args.buffer.now (false ∷ []) root.list;
+          ∙ append_assoc c.args.buffer.now (false ∷ []) root.list;
     }
 
 pub returns-in-Ok-append_additions-clause-written : goal.returns-in-Ok-append_additions-clause-written
@@ -27,7 +27,7 @@ returns-in-Ok-append_additions-clause-written g c =
         parts = refl;
       };
       parts = more.parts ∙ ap (λ (l : List Bool). l ++ more.list)
-      (root.parts ∙ ap (λ (l : List Bool). l ++ root.list) marked
-      ∙ append_assoc c.args.buffer.now (true ∷ []) root.list)
-      ∙ append_assoc c.args.buffer.now (true ∷ root.list) more.list;
+          (root.parts ∙ ap (λ (l : List Bool). l ++ root.list) marked
+          ∙ append_assoc c.args.buffer.now (true ∷ []) root.list)
+          ∙ append_assoc c.args.buffer.now (true ∷ root.list) more.list;
     }
