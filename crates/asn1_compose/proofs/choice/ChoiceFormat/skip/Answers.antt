@@ -13,3 +13,12 @@ returns-in-Ok-skip-clause-skipped g c =
           (bits_left c.args.reader.now) (bits_left c.next_in.new.reader) (bits_left c.skip.new.reader) c.in-Ok.index p.0
           c.in-Ok.ensures.read p.1,
     )
+
+pub returns-in-Err-skip-clause-fault : goal.returns-in-Err-skip-clause-fault
+returns-in-Err-skip-clause-fault g c =
+    record {
+      value = c.in-Ok.index;
+      rest = bits_left c.next_in.new.reader;
+      starts = c.in-Ok.ensures.read;
+      holds = c.in-Err-skip.ensures.fault;
+    }

@@ -10,3 +10,13 @@ returns-in-Ok-take-clause-read g c =
     (g.A.Alternatives.reads f.alternatives)
     (bits_left c.args.reader.now) (bits_left c.next_in.new.reader) (bits_left c.take.new.reader) c.in-Ok.index
     (g.A.Alternatives.plain c.in-Ok-take.value) c.in-Ok.ensures.read c.in-Ok-take.ensures.read
+
+pub returns-in-Err-Wrong-clause-refused : goal.returns-in-Err-Wrong-clause-refused
+returns-in-Err-Wrong-clause-refused g c =
+    rw c.in-Err-Wrong.e-is
+    (record {
+      value = c.in-Ok.index;
+      rest = bits_left c.next_in.new.reader;
+      starts = c.in-Ok.ensures.read;
+      holds = rw c.in-Err-Wrong.field-0-is at c.in-Err-Wrong.ensures.refused;
+    })

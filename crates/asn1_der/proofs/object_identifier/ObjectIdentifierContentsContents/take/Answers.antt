@@ -13,3 +13,10 @@ returns-in-Err-Malformed-clause-refused c =
     malformed (bits_left c.args.contents) (octets_in n (bits_of b)) (octets_in_below n (bits_of b))
     c.source_of-source.ensures
     (c.in-Err-Malformed.ensures.malformed.0 (ap (λ (e : ContentsError). Err e) c.in-Err-Malformed.field-0-is))
+
+pub returns-in-Err-ArcTooLarge-clause-refused : goal.returns-in-Err-ArcTooLarge-clause-refused
+returns-in-Err-ArcTooLarge-clause-refused c =
+    let b = c.source_of-source.result.bits in
+    let p = c.in-Err-ArcTooLarge.ensures.arc_too_large.0
+    (ap (λ (e : ContentsError). Err e) c.in-Err-ArcTooLarge.field-0-is) in
+    (octets_in ((view_of b).len / 8) (bits_of b), p.0, c.source_of-source.ensures, p.1, p.2)

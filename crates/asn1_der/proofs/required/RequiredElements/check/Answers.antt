@@ -11,3 +11,13 @@ returns-in-Ok-check-clause-checked g c =
       required_is (g.F.Element.spells f.first) (g.R.Elements.spells f.rest) (bits_left c.args.contents)
           (bits_left c.skip_front.new.contents) p.0 q.0 p.1 q.1,
     )
+
+pub returns-in-Err-check-clause-fault : goal.returns-in-Err-check-clause-fault
+returns-in-Err-check-clause-fault g c =
+    let p = c.in-Ok.ensures.skipped in
+    record {
+      value = p.0;
+      rest = bits_left c.skip_front.new.contents;
+      starts = p.1;
+      holds = c.in-Err-check.ensures.fault;
+    }

@@ -15,3 +15,13 @@ returns-in-Ok-skip-clause-skipped g c =
           (subst (λ part. Starts (g.C.Chosen.Format.reads part) (bits_left c.next_count.new.reader) p.0
           (bits_left c.skip.new.reader)) c.choose.ensures p.1),
     )
+
+pub returns-clause-fault : goal.returns-clause-fault
+returns-clause-fault g c =
+    let rest = bits_left c.next_count.new.reader in
+    record {
+      value = c.in-Ok.number;
+      rest = rest;
+      starts = c.in-Ok.ensures.read;
+      holds = subst (λ part. g.C.Chosen.Format.is_fault part rest c.in-Err-skip.e) c.choose.ensures c.in-Err-skip.ensures.fault;
+    }

@@ -13,3 +13,15 @@ returns-in-Ok-take-clause-read g c =
     c.in-Ok.number value c.in-Ok.ensures.read
     (subst (λ part. Starts (g.C.Chosen.Format.reads part) (bits_left c.next_count.new.reader) value
     (bits_left c.take.new.reader)) c.choose.ensures c.in-Ok-take.ensures.read)
+
+pub returns-in-Err-Wrong-clause-refused : goal.returns-in-Err-Wrong-clause-refused
+returns-in-Err-Wrong-clause-refused g c =
+    let rest = bits_left c.next_count.new.reader in
+    let wrong = rw c.in-Err-Wrong.field-0-is at c.in-Err-Wrong.ensures.refused in
+    rw c.in-Err-Wrong.e-is
+    (record {
+      value = c.in-Ok.number;
+      rest = rest;
+      starts = c.in-Ok.ensures.read;
+      holds = subst (λ part. g.C.Chosen.Format.is_fault part rest c.in-Err-Wrong.e) c.choose.ensures wrong;
+    })
