@@ -108,6 +108,11 @@ pub(super) fn examine(
         ≡ Ok (plain.Number n width, bits_left reader.new)) }
     ensures moved { OnOk result (Moves width reader.old reader.new) }
 {
+    // One comparison tells it of a number that a word holds.
+    if 0 < width && width <= 64 {
+        let word = take_few(reader, width, field)?;
+        return Ok(word.first_u128(width));
+    }
     if width > 128 {
         return Err(ReadError::NumberWidth { field, width });
     }
