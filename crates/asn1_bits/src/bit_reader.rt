@@ -103,7 +103,7 @@ impl<'a> BitReader<'a> {
         if count > len {
             return Err(count - len);
         }
-        let (front, rest) = self.view.split_at(count);
+        let (front, rest) = self.view.split_either(count);
         self.view = rest;
         Ok(BitReader { view: front })
     }

@@ -4,6 +4,8 @@ ghost use Rattle.std.specs.Prelude.{◌≡◌, ◌+◌, ◌*◌, ◌/◌, ◌^�
 ghost use Rattle.asn1_bits.specs.Bits.{bits, digits, number, ored};
 ghost use Rattle.asn1_bits.specs.View.{IsWithin};
 
+mod near;
+
 use crate::kernels::{read_front, read_word, write_bitslice};
 use crate::single_bits::{bit_from, from_octet};
 use crate::target::{Rest, Target};

@@ -13,7 +13,7 @@ use super::error::{ReadError, WriteError};
 use super::field::Field;
 use super::gathered::Gathered;
 use super::number::overwrite_digits;
-use super::take::take_bits;
+use super::take::take_few;
 use asn1_bits::{BitAppender, BitReader, Turns};
 use asn1_strings::CharacterAlphabet;
 
@@ -95,7 +95,7 @@ pub(super) fn examine(
     ensures moved { OnOk result (Moves (alphabet_of alphabet.now).width reader.old reader.new) }
 {
     let width = alphabet.width();
-    let front = take_bits(reader, width as u128, field)?;
+    let front = take_few(reader, width, field)?;
     let code = front.first_bits(width);
     match alphabet.decode(code) {
         Ok(character) => Ok(character),
@@ -120,8 +120,8 @@ pub(super) fn append<'a, 's>(
     Ok(())
 }
 
-/// Stores a character. Not inlined, so that the alphabet is copied as a whole.
-#[inline(never)]
+/// Stores a character. Inlined, so that the reader stays in registers.
+#[inline(always)]
 fn store<'a, 's>(fields: &mut Vec<Field<'a, 's>>, character: u32, alphabet: &CharacterAlphabet<'s>)
     requires { vec_len fields.old < vec_capacity fields.old }
     ensures kept { fields.new.items
@@ -129,9 +129,8 @@ fn store<'a, 's>(fields: &mut Vec<Field<'a, 's>>, character: u32, alphabet: &Cha
     ensures len { vec_len fields.new ≡ vec_len fields.old + 1 }
     ensures capacity { vec_capacity fields.new ≡ vec_capacity fields.old }
 {
-    let alphabet = *alphabet;
     fields.push_reserved(Field::Character {
         character,
-        alphabet,
+        alphabet: *alphabet,
     });
 }

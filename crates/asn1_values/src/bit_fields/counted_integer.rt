@@ -13,7 +13,7 @@ use super::error::{ReadError, WriteError};
 use super::field::Field;
 use super::integer::{self, overwrite_shortest, push_shortest};
 use super::number::overwrite_digits;
-use super::take::take_bits;
+use super::take::take_few;
 use asn1_bits::{BitAppender, BitReader, Turns};
 use asn1_integer::{Integer, integer_of};
 use std::alloc::Global;
@@ -63,7 +63,7 @@ pub(super) fn examine<'a>(
         reader.new result }
     ensures taken { IfOk result (TakesCounted reader.old reader.new) }
 {
-    let octet = take_bits(reader, 8, field)?.first_u128(8) as u8;
+    let octet = take_few(reader, 8, field)?.first_u128(8) as u8;
     if octet == 0 || octet > 127 {
         return Err(ReadError::Length { field, octet });
     }

@@ -11,7 +11,7 @@ ghost use Rattle.asn1_values.specs.Walk.{field_at};
 use super::error::{ReadError, WriteError};
 use super::field::Field;
 use super::gathered::Gathered;
-use super::take::take_bits;
+use super::take::take_few;
 use asn1_bits::{BitAppender, BitReader, Turns, overwrite_number};
 
 /// The width, if it is at most 128 and the number is below 2 to its power.
@@ -108,10 +108,15 @@ pub(super) fn examine(
         ≡ Ok (plain.Number n width, bits_left reader.new)) }
     ensures moved { OnOk result (Moves width reader.old reader.new) }
 {
+    // One comparison tells it of a number that a word holds.
+    if 0 < width && width <= 64 {
+        let word = take_few(reader, width, field)?;
+        return Ok(word.first_u128(width));
+    }
     if width > 128 {
         return Err(ReadError::NumberWidth { field, width });
     }
-    let front = take_bits(reader, width as u128, field)?;
+    let front = take_few(reader, width, field)?;
     Ok(front.first_u128(width))
 }
 

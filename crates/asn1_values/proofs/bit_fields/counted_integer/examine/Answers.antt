@@ -11,12 +11,12 @@ use Rattle.asn1_values.proofs.bit_fields.counted_integer.examine.Goals as goal
 pub returns-clause-taken : goal.returns-clause-taken
 returns-clause-taken c =
     let old = view_left c.args.reader.now in
-    let mid = c.take_bits.new.reader in
-    let first = c.in_ok-take_bits.ensures.taken in
+    let mid = c.take_few.new.reader in
+    let first = c.in_ok-take_few.ensures.taken in
     let octet = c.from.result in
     let counted : octet ≡ number (take 8 (bits_left c.args.reader.now)) = c.from.ensures
     ∙ c.first_u128-octet.ensures.number
-    ∙ ap number (cut_twice 8 (bits_left c.args.reader.now) (bits_left c.in_ok-take_bits.field-0) first.list) in
+    ∙ ap number (cut_twice 8 (bits_left c.args.reader.now) (bits_left c.in_ok-take_few.field-0) first.list) in
     IfOk-weaker c.examine.result (Takes (8 * octet) mid c.examine.new.reader)
     (TakesCounted c.args.reader.now c.examine.new.reader)
     (λ front t. record {

@@ -1,0 +1,52 @@
+//! A view split near its first bit.
+
+ghost use Rattle.std.specs.Prelude.{◌≡◌, ◌<◌, ◌≤◌, ◌-◌, take, drop};
+ghost use Rattle.asn1_bits.specs.BitStr.{view_of, bits_of};
+ghost use Rattle.asn1_bits.specs.View.{part};
+
+use super::BitStr;
+
+impl<'a> BitStr<'a> {
+    /// `split_at`. Where the compiler knows that there are few bits before `at`, only the way of
+    /// `split_near` is left.
+    #[inline(always)]
+    pub(crate) fn split_either(&self, at: usize) -> (BitStr<'a>, BitStr<'a>)
+        requires { at ≤ (view_of self.now).len }
+        ensures front { view_of result.0 ≡ part (view_of self.now) 0 at }
+        ensures back { view_of result.1 ≡ part (view_of self.now) at ((view_of self.now).len - at) }
+        ensures front_list { bits_of result.0 ≡ take at (bits_of self.now) }
+        ensures back_list { bits_of result.1 ≡ drop at (bits_of self.now) }
+    {
+        if at < 256 {
+            self.split_near(at)
+        } else {
+            self.split_at(at)
+        }
+    }
+
+    /// `split_at` for fewer than 256 bits: with so few no sum of places passes `usize`.
+    #[inline(always)]
+    fn split_near(&self, at: usize) -> (BitStr<'a>, BitStr<'a>)
+        requires near { at < 256 }
+        requires within { at ≤ (view_of self.now).len }
+        ensures front { view_of result.0 ≡ part (view_of self.now) 0 at }
+        ensures back { view_of result.1 ≡ part (view_of self.now) at ((view_of self.now).len - at) }
+        ensures front_list { bits_of result.0 ≡ take at (bits_of self.now) }
+        ensures back_list { bits_of result.1 ≡ drop at (bits_of self.now) }
+    {
+        let behind = self.shift + at;
+        let front = BitStr {
+            storage: self.storage,
+            octet: self.octet,
+            shift: self.shift,
+            len: at,
+        };
+        let back = BitStr {
+            storage: self.storage,
+            octet: self.octet + behind / 8,
+            shift: behind % 8,
+            len: self.len - at,
+        };
+        (front, back)
+    }
+}
