@@ -3,7 +3,7 @@
 use crate::values::text;
 use asn1_formats::{Format, push_number, read, write};
 use asn1_values::{BitBuffer, BitReader, Integer};
-use personnel_record::{ExtensibleRecordFormat, encode, extensible_record_format};
+use personnel_record::{ExtensibleRecordFormat, extensible_record_format};
 use std::alloc::{AllocError, Global};
 use std::test::Fail;
 
@@ -15,6 +15,8 @@ type Root = (
     Name,
     (Integer, (Vec<u32>, (Vec<u32>, (Name, Option<Vec<Child>>)))),
 );
+
+type Record = (Root, ());
 
 /// The octets of the record (X.691 A.3.3), which the bits worked out by hand agree with.
 const RECORD: [u8; 65] = [
@@ -41,7 +43,7 @@ fn children(alloc: Global) -> Result<Vec<Child>, AllocError> {
 }
 
 /// The record (X.691 A.3.2).
-fn record(alloc: Global) -> Result<(Root, ()), AllocError> {
+fn record(alloc: Global) -> Result<Record, AllocError> {
     let spouse = name(alloc, b"Mary", b"T", b"Smith")?;
     let last = (spouse, Some(children(alloc)?));
     let date = text(alloc, b"19710917")?;
@@ -66,19 +68,30 @@ fn shifted(alloc: Global, start: usize) -> Result<Vec<u8>, AllocError> {
     Ok(buffer.into_vec())
 }
 
-/// What is read from a bit on, written again behind so many ones; `None` where it is refused.
-fn again<F: Format>(
-    format: &F,
-    alloc: Global,
-    octets: &[u8],
-    start: usize,
-) -> Result<Option<Vec<u8>>, AllocError> {
+/// What is read from a bit on; `None` where it is refused.
+fn value_of<F: Format>(format: &F, alloc: Global, octets: &[u8], start: usize) -> Option<F::Value> {
     if octets.len() > 1000 {
-        return Ok(None);
+        return None;
     }
     let mut reader = BitReader::from_octets(octets);
     let _ = reader.split(start);
-    let Ok(value) = read(format, alloc, &mut reader) else {
+    read(format, alloc, &mut reader).ok()
+}
+
+/// A value, or what is read from a bit on where none is given, written behind so many ones; `None`
+/// where it is refused.
+fn written<F: Format>(
+    format: &F,
+    alloc: Global,
+    value: Option<F::Value>,
+    octets: &[u8],
+    start: usize,
+) -> Result<Option<Vec<u8>>, AllocError> {
+    let found = match value {
+        Some(value) => Some(value),
+        None => value_of(format, alloc, octets, start),
+    };
+    let Some(value) = found else {
         return Ok(None);
     };
     let mut buffer = ones(alloc, start)?;
@@ -103,6 +116,18 @@ impl Records {
         }
     }
 
+    /// A record, or one that is read from a bit on where none is given, written behind so many
+    /// ones; `None` where it is refused.
+    fn written(
+        &self,
+        alloc: Global,
+        record: Option<Record>,
+        octets: &[u8],
+        start: usize,
+    ) -> Result<Option<Vec<u8>>, AllocError> {
+        written(&self.format, alloc, record, octets, start)
+    }
+
     /// A record that is read from a bit on, written again behind so many ones; `None` where it is
     /// refused.
     fn again(
@@ -111,13 +136,7 @@ impl Records {
         octets: &[u8],
         start: usize,
     ) -> Result<Option<Vec<u8>>, AllocError> {
-        again(&self.format, alloc, octets, start)
-    }
-
-    /// The octets of the record of the standard; `None` where it is refused.
-    fn octets(&self, alloc: Global) -> Result<Option<Vec<u8>>, AllocError> {
-        let record = record(alloc)?;
-        Ok(encode(&self.format, alloc, &record).ok())
+        self.written(alloc, None, octets, start)
     }
 }
 
@@ -132,7 +151,8 @@ fn turned(alloc: Global, octets: &[u8], bit: usize) -> Result<Vec<u8>, AllocErro
 
 #[test]
 fn the_record_with_markers_has_its_octets(rt: HostRuntime) -> Result<(), Fail> {
-    let octets = Records::new()?.octets(rt.alloc())?;
+    let record = record(rt.alloc())?;
+    let octets = Records::new()?.written(rt.alloc(), Some(record), &[], 0)?;
     assert!(rt; octets.ok_or("the record is right")?.as_slice() == RECORD.as_slice());
     Ok(())
 }
