@@ -66,7 +66,7 @@ pub(crate) fn wide_of_seventeen(octets: &[u8], shift: usize) -> u128
     requires seventeen { 17 ≤ length octets.now }
     ensures { digits result 128 ≡ take 128 (drop shift (bits octets.now)) }
 {
-    // Less than 8 already; so the compiler knows it.
+    // It is below 8 already. The remainder tells the compiler so.
     let shift = shift % 8;
     let front = (u128::from(load(octets, 0)) << 64) | u128::from(load(octets, 8));
     let last = (u128::from(octets[16]) << shift) >> 8;

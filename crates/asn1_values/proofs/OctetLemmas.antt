@@ -4,7 +4,6 @@ use Rattle.std.proofs.lemmas.List.{nil_from_length, take_at, drop_at, length-tak
 use Rattle.std.proofs.lemmas.List.Elements.{All-nil, All-cons, All-head, All-tail}
 use Rattle.std.specs.Prelude.{All}
 use Rattle.asn1_bits.specs.Bits.{digits, number, bits}
-use Rattle.asn1_number.specs.Octets.{IsOctets}
 use Rattle.asn1_values.specs.Walk.{octets_of}
 use Rattle.asn1_bits.specs.DigitLaws.{length-digits}
 use Rattle.asn1_bits.specs.NumberLaws.{number_of-digits, digits_of-number, number-below}

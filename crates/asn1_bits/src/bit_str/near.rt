@@ -7,8 +7,8 @@ ghost use Rattle.asn1_bits.specs.View.{part};
 use super::BitStr;
 
 impl<'a> BitStr<'a> {
-    /// `split_at`. Where the compiler knows that there are few bits before `at`, only the way of
-    /// `split_near` is left.
+    /// Splits as `split_at` does. Where the compiler knows that `at` is below 256, only the call of
+    /// `split_near` is compiled.
     #[inline(always)]
     pub(crate) fn split_either(&self, at: usize) -> (BitStr<'a>, BitStr<'a>)
         requires { at ≤ (view_of self.now).len }

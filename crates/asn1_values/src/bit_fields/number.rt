@@ -108,7 +108,7 @@ pub(super) fn examine(
         ≡ Ok (plain.Number n width, bits_left reader.new)) }
     ensures moved { OnOk result (Moves width reader.old reader.new) }
 {
-    // One comparison tells it of a number that a word holds.
+    // A width of 1 to 64 bits is the common one. The compiler tests it by one comparison.
     if 0 < width && width <= 64 {
         let word = take_few(reader, width, field)?;
         return Ok(word.first_u128(width));
