@@ -1,5 +1,5 @@
 -- The first wrong field, and its reason.
-use Rattle.std.specs.Prelude.{◌≡◌, ℕ, ℤ, ◌+◌, ◌*◌, ◌^◌, ◌<◌, ◌≤◌, ◌⊎◌, Bool, List, Some, length, take, drop, slice_get}
+use Rattle.std.specs.Prelude.{◌≡◌, ℕ, ◌+◌, ◌*◌, ◌^◌, ◌<◌, ◌≤◌, ◌⊎◌, Bool, List, Some, length, take, drop, slice_get}
 use Rattle.asn1_bits.specs.Bits.{number, bits}
 use Rattle.asn1_number.specs.Octets.{IsShortest}
 use Rattle.asn1_integer.specs.IntegerOctets.{IsNoInteger}

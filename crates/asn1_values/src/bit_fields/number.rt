@@ -19,8 +19,8 @@ use asn1_bits::{BitAppender, BitReader, Turns, overwrite_number};
 pub(super) fn fitting_len(value: u128, width: usize, place: usize) -> Result<u128, WriteError>
     ensures { Measures place (plain.Number value width) result }
 {
-    // One comparison tells it of a short number that fits.
-    if width < 64 && value < u128::from(1u64 << width) {
+    // A short number that fits has no upper word, and nothing of its lower one above its width.
+    if width < 64 && (value >> 64) as u64 == 0 && (value as u64) >> width == 0 {
         return Ok(width as u128);
     }
     // Of a longer one the upper word alone is shifted.
