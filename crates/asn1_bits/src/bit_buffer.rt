@@ -194,7 +194,7 @@ impl BitBuffer {
         if width == 0 || width > 56 {
             return self.push_digits(value, width);
         }
-        if octets - position / 8 < 8 {
+        if position / 8 + 8 > octets {
             let capacity = self.bytes.capacity();
             if (position + width).div_ceil(8) <= capacity && capacity - octets < READY {
                 // The digits fit the capacity, so this allocates nothing.

@@ -158,7 +158,7 @@ impl<'a> BitStr<'a> {
         ensures digits { digits result width ≡ take width (bits_of self.now) }
         ensures below { result < 2 ^ width }
     {
-        read_front(from_octet(self.storage, self.octet), self.shift, width)
+        read_front(self.storage, self.octet, self.shift, width)
     }
 
     /// `width` bits from bit `at` on, as the lowest digits of a word.
@@ -169,8 +169,17 @@ impl<'a> BitStr<'a> {
         ensures { digits result width ≡ take width (drop at (bits_of self.now)) }
     {
         let low = self.shift + at % 8;
-        let octets = from_octet(self.storage, self.octet + at / 8 + low / 8);
-        read_word(octets, low % 8, width)
+        let octet = self.octet + at / 8 + low / 8;
+        read_word(self.storage, octet, low % 8, width)
+    }
+
+    /// The view's bits, at most 64, as the lowest digits of a word.
+    #[inline(always)]
+    pub(crate) fn own_word(&self) -> u64
+        requires { (view_of self.now).len ≤ 64 }
+        ensures { digits result (view_of self.now).len ≡ bits_of self.now }
+    {
+        read_word(self.storage, self.octet, self.shift, self.len)
     }
 
     /// ORs the `width` bits from bit `at` on into the front of an octet of the target. They

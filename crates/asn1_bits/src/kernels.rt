@@ -235,59 +235,91 @@ pub fn read_wide(bytes: &[u8], position: usize, width: usize) -> u128
     ensures digits { digits result width ≡ take width (drop position (bits bytes.now)) }
     ensures below { result < 2 ^ width }
 {
-    read_front(from_octet(bytes, position / 8), position % 8, width)
+    read_front(bytes, position / 8, position % 8, width)
 }
 
-/// The number of the `width` bits from bit `shift` of the first octet on, the first of them its
+/// The number of the `width` bits from bit `shift` of octet `first` on, the first of them its
 /// highest digit. `width` is at most 128, and the bits lie within the octets.
 #[inline(always)]
-pub(crate) fn read_front(octets: &[u8], shift: usize, width: usize) -> u128
+pub(crate) fn read_front(octets: &[u8], first: usize, shift: usize, width: usize) -> u128
     requires shift { shift < 8 }
     requires width { width ≤ 128 }
-    requires within { shift + width ≤ 8 * length octets.now }
-    ensures number { result ≡ number (take width (drop shift (bits octets.now))) }
-    ensures digits { digits result width ≡ take width (drop shift (bits octets.now)) }
+    requires within { 8 * first + shift + width ≤ 8 * length octets.now }
+    ensures number { result ≡ number (take width (drop (8 * first + shift) (bits octets.now))) }
+    ensures digits { digits result width ≡ take width (drop (8 * first + shift) (bits octets.now)) }
     ensures below { result < 2 ^ width }
 {
-    read_number(octets, shift, width)
+    read_number(octets, first, shift, width)
 }
 
-/// The number of `width` bits, read from seventeen octets at once or, near the end of the octets,
-/// from two words.
+/// The number of `width` bits, read from eight octets, nine or seventeen at once or, near the end
+/// of the octets, from two words.
 #[inline(always)]
-fn read_number(octets: &[u8], shift: usize, width: usize) -> u128
+fn read_number(octets: &[u8], first: usize, shift: usize, width: usize) -> u128
     requires shift { shift < 8 }
     requires width { width ≤ 128 }
-    requires within { shift + width ≤ 8 * length octets.now }
-    ensures { result ≡ number (take width (drop shift (bits octets.now))) }
+    requires within { 8 * first + shift + width ≤ 8 * length octets.now }
+    ensures { result ≡ number (take width (drop (8 * first + shift) (bits octets.now))) }
 {
-    if width <= 64 {
-        return u128::from(read_word(octets, shift, width));
+    if width <= 57 {
+        return u128::from(read_few(octets, first, shift, width));
     }
-    if octets.len() >= 17 {
-        return wide_of_seventeen(octets, shift) >> (128 - width);
+    if width <= 64 {
+        return u128::from(read_many(octets, first, shift, width));
+    }
+    if first + 17 <= octets.len() {
+        // The remainder tells the compiler that the shift is below 64.
+        return wide_of_seventeen(octets, first, shift) >> ((128 - width) % 64);
     }
     let low = shift + (width - 64);
-    let high = whole_word(octets, 0, shift);
-    let rest = whole_word(octets, low / 8, low % 8);
+    let high = whole_word(octets, first, shift);
+    let rest = whole_word(octets, first + low / 8, low % 8);
     (u128::from(high >> (128 - width)) << 64) | u128::from(rest)
 }
 
-/// The number of `width` bits from bit `shift` of the first octet on.
+/// The number of `width` bits from bit `shift` of octet `first` on.
 #[inline(always)]
-pub(crate) fn read_word(octets: &[u8], shift: usize, width: usize) -> u64
+pub(crate) fn read_word(octets: &[u8], first: usize, shift: usize, width: usize) -> u64
     requires shift { shift < 8 }
     requires width { width ≤ 64 }
-    requires within { shift + width ≤ 8 * length octets.now }
-    ensures { result ≡ number (take width (drop shift (bits octets.now))) }
+    requires within { 8 * first + shift + width ≤ 8 * length octets.now }
+    ensures { result ≡ number (take width (drop (8 * first + shift) (bits octets.now))) }
 {
-    if width > 0 && octets.len() >= 9 {
-        return word_of_nine(octets, shift) >> (64 - width);
+    if width <= 57 {
+        read_few(octets, first, shift, width)
+    } else {
+        read_many(octets, first, shift, width)
     }
-    if width > 0 && octets.len() == 8 {
-        return (load(octets, 0) << shift) >> (64 - width);
+}
+
+/// The path of `read_word` for so few bits that they lie within eight octets.
+#[inline(always)]
+fn read_few(octets: &[u8], first: usize, shift: usize, width: usize) -> u64
+    requires shift { shift < 8 }
+    requires width { width ≤ 57 }
+    requires within { 8 * first + shift + width ≤ 8 * length octets.now }
+    ensures { result ≡ number (take width (drop (8 * first + shift) (bits octets.now))) }
+{
+    if width > 0 && first + 8 <= octets.len() {
+        return (load(octets, first) << shift) >> (64 - width);
     }
-    read_octets(octets, shift, width)
+    read_octets(from_octet(octets, first), shift, width)
+}
+
+/// The path of `read_word` for so many bits that eight octets are there, and that may reach a
+/// ninth.
+#[inline(always)]
+fn read_many(octets: &[u8], first: usize, shift: usize, width: usize) -> u64
+    requires shift { shift < 8 }
+    requires some { 57 < width }
+    requires width { width ≤ 64 }
+    requires within { 8 * first + shift + width ≤ 8 * length octets.now }
+    ensures { result ≡ number (take width (drop (8 * first + shift) (bits octets.now))) }
+{
+    if first + 9 <= octets.len() {
+        return word_of_nine(octets, first, shift) >> (64 - width);
+    }
+    (load(octets, first) << shift) >> (64 - width)
 }
 
 /// The number of `width` bits within eight octets, read octet by octet. Slow path for the last

@@ -57,31 +57,31 @@ pub(super) fn or_word(dst: &mut [u8], position: usize, word: u64, width: usize)
     requires within { position + width ≤ 8 * length dst.old }
     ensures { bits dst.new ≡ ored (bits dst.old) position (digits word width) }
 {
-    if position % 8 + width <= 64 {
-        or_near(dst, position, word, width);
-    } else {
-        // The last digits lie in a ninth octet.
-        let past = position % 8 + width - 64;
-        or_near(dst, position, word >> past, width - past);
-        or_front(dst, position / 8 + 8, word, past);
-    }
-}
-
-/// The path of `or_word` for digits within eight octets.
-#[inline(always)]
-fn or_near(dst: &mut [u8], position: usize, word: u64, width: usize)
-    requires width { position % 8 + width ≤ 64 }
-    requires within { position + width ≤ 8 * length dst.old }
-    ensures { bits dst.new ≡ ored (bits dst.old) position (digits word width) }
-{
-    if width == 0 || dst.len() - position / 8 < 8 {
+    if width == 0 || position / 8 + 8 > dst.len() {
         or_short(dst, position, word, width);
-    } else {
-        or_within_eight(dst, position, word, width);
+        return;
+    }
+    or_front_of(dst, position, word, width);
+    if position % 8 + width > 64 {
+        // The last digits lie in a ninth octet.
+        or_front(dst, position / 8 + 8, word, position % 8 + width - 64);
     }
 }
 
-/// The path of `or_near` for at least one digit, where the slice has all eight octets.
+/// ORs those of the lowest `width` digits of the word in that lie in the first eight octets.
+#[inline(always)]
+fn or_front_of(dst: &mut [u8], position: usize, word: u64, width: usize)
+    requires some { 0 < width }
+    requires width { width ≤ 64 }
+    requires eight { position / 8 + 8 ≤ length dst.old }
+    ensures { let past = position % 8 + width - 64 in bits dst.new
+        ≡ ored (bits dst.old) position (digits (word / 2 ^ past) (width - past)) }
+{
+    let moved = (word << (64 - width)) >> (position % 8);
+    or_octets(dst, position / 8, moved);
+}
+
+/// The path of `or_word` for at least one digit, where the slice has all eight octets.
 #[inline(always)]
 pub(super) fn or_within_eight(dst: &mut [u8], position: usize, word: u64, width: usize)
     requires some { 0 < width }
@@ -93,7 +93,7 @@ pub(super) fn or_within_eight(dst: &mut [u8], position: usize, word: u64, width:
     or_octets(dst, position / 8, moved);
 }
 
-/// Slow path of `or_near` for the last octets of a slice: octet by octet. Not inlined.
+/// Slow path of `or_word` for the last octets of a slice: octet by octet. Not inlined.
 #[cold]
 #[inline(never)]
 pub(super) fn or_short(dst: &mut [u8], position: usize, word: u64, width: usize)

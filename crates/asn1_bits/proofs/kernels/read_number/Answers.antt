@@ -4,9 +4,12 @@ use Rattle.asn1_bits.specs.Bits.{bits}
 use Rattle.asn1_bits.proofs.ReadWideLemmas.{read-top, read-two}
 use Rattle.asn1_bits.proofs.kernels.read_number.Goals as goal
 
-pub returns-then-octets-ge17 : goal.returns-then-octets-ge17
-returns-then-octets-ge17 c =
-    read-top (drop c.args.shift (bits c.args.octets.now)) 128 c.args.width c.wide_of_seventeen.result
+pub returns-then-first-octets : goal.returns-then-first-octets
+returns-then-first-octets c =
+    let width = c.args.width in
+    let same : (128 - width) % 64 ≡ 128 - width = omega (arith, c.if-width-le64.false) in
+    ap (λ (k : ℕ). c.wide_of_seventeen.result / 2 ^ k) same
+    ∙ read-top (drop (8 * c.args.first + c.args.shift) (bits c.args.octets.now)) 128 width c.wide_of_seventeen.result
     c.requires.width (omega (arith, c.wide_of_seventeen.type_inv)) c.wide_of_seventeen.ensures
 
 pub returns : goal.returns
@@ -14,14 +17,12 @@ returns c =
     let list = bits c.args.octets.now in
     let width = c.args.width in
     let shift = c.args.shift in
+    let place = 8 * c.args.first + shift in
     let low = shift + (width - 64) in
+    let last = 8 * (c.args.first + low / 8) + low % 8 in
     let high = c.whole_word-high.result in
     let rest = c.whole_word-rest.result in
-    let p : 8 * 0 + shift ≡ shift = omega arith in
-    let q : 8 * (low / 8) + low % 8 ≡ low = omega arith in
     ap (λ (m : ℕ). bit_or (m * 2 ^ 64 % 2 ^ 128) c.from-3.result) c.from-2.ensures
     ∙ ap (λ (m : ℕ). bit_or (high / 2 ^ (128 - width) * 2 ^ 64 % 2 ^ 128) m) c.from-3.ensures
-    ∙ read-two list shift low width high rest (omega (arith, c.if-width-le64.false)) c.requires.width (omega arith)
-    (omega arith) (omega arith)
-    (c.whole_word-high.ensures ∙ ap (λ (k : ℕ). take 64 (drop k list)) p)
-    (c.whole_word-rest.ensures ∙ ap (λ (k : ℕ). take 64 (drop k list)) q)
+    ∙ read-two list place last width high rest (omega (arith, c.if-width-le64.false)) c.requires.width (omega arith)
+    (omega arith) (omega arith) c.whole_word-high.ensures c.whole_word-rest.ensures
