@@ -6,7 +6,7 @@ ghost use Rattle.asn1_bits.specs.View.{IsWithin};
 
 mod near;
 
-use crate::kernels::{read_front, read_word, write_bitslice};
+use crate::kernels::{read_front, read_many, read_near, read_word, write_bitslice};
 use crate::single_bits::{bit_from, from_octet};
 use crate::target::{Rest, Target};
 use crate::turns::Turns;
@@ -180,6 +180,33 @@ impl<'a> BitStr<'a> {
         ensures { digits result (view_of self.now).len ≡ bits_of self.now }
     {
         read_word(self.storage, self.octet, self.shift, self.len)
+    }
+
+    /// The view's bits, of which there are 1 to 64, as the lowest digits of a word. None near the
+    /// end of the storage.
+    #[inline(always)]
+    pub(crate) fn near_word(&self) -> Option<u64>
+        requires some { 0 < (view_of self.now).len }
+        requires len { (view_of self.now).len ≤ 64 }
+        ensures { IfSome result (λ n. digits n (view_of self.now).len ≡ bits_of self.now) }
+    {
+        if self.len > 57 {
+            return Some(read_many(
+                self.storage,
+                self.octet,
+                self.shift,
+                self.len,
+            ));
+        }
+        if self.octet + 8 > self.storage.len() {
+            return None;
+        }
+        Some(read_near(
+            self.storage,
+            self.octet,
+            self.shift,
+            self.len,
+        ))
     }
 
     /// ORs the `width` bits from bit `at` on into the front of an octet of the target. They

@@ -57,16 +57,45 @@ fn or_view(dst: &mut Target<'_>, position: usize, src: BitStr<'_>, turns: &mut T
         ≡ turns.old.count + dst.new.placed.count }
     ensures turns { turns.new.count ≡ turns.old.count + div_ceil (view_of src.entry).len 64 }
 {
-    if src.len() > 64 {
-        *dst = or_long(dst.take(), position, src, turns);
-    } else {
-        place_word(dst, position, src, turns);
+    if src.len() > 0 && src.len() <= 64 {
+        if let Some(word) = src.near_word() {
+            dst.or_word(position, word, src.len(), turns);
+            return;
+        }
     }
+    *dst = or_far(dst.take(), position, src, turns);
 }
 
-/// The path of `or_view` for more than a word. Not inlined, so that callers inline only the path
-/// for short views. The target is passed and given back by value, so its place stays in registers.
+/// The path of `or_view` for no bits, for more than a word, and for those of the last octets of a
+/// storage. Not inlined, so that callers inline only the path for short views. The target is passed
+/// and given back by value, so its place stays in registers.
 #[inline(never)]
+fn or_far<'a>(
+    target: Target<'a>,
+    position: usize,
+    src: BitStr<'_>,
+    turns: &mut Turns,
+) -> Target<'a>
+    requires room { position + (view_of src).len ≤ 8 * length target.octets.now }
+    requires fits { position + (view_of src).len < 2 ^ 64 }
+    ensures bits { bits result.octets.now
+        ≡ ored (bits target.entry.octets.now) position (bits_of src.entry) }
+    ensures same_reference { result.octets.ghost_name ≡ target.entry.octets.ghost_name }
+    ensures length { length result.octets.now ≡ length target.entry.octets.now }
+    ensures each_turn_places { turns.new.count + target.entry.placed.count
+        ≡ turns.old.count + result.placed.count }
+    ensures turns { turns.new.count ≡ turns.old.count + div_ceil (view_of src.entry).len 64 }
+{
+    if src.len() > 64 {
+        return or_long(target, position, src, turns);
+    }
+    let mut own = target;
+    place_word(&mut own, position, src, turns);
+    own
+}
+
+/// The path of `or_far` for more than a word.
+#[inline(always)]
 fn or_long<'a>(
     target: Target<'a>,
     position: usize,
@@ -301,15 +330,27 @@ fn read_few(octets: &[u8], first: usize, shift: usize, width: usize) -> u64
     ensures { result ≡ number (take width (drop (8 * first + shift) (bits octets.now))) }
 {
     if width > 0 && first + 8 <= octets.len() {
-        return (load(octets, first) << shift) >> (64 - width);
+        return read_near(octets, first, shift, width);
     }
-    read_octets(from_octet(octets, first), shift, width)
+    read_last(octets, first, shift, width)
+}
+
+/// The path of `read_few` where there are bits, and all eight octets.
+#[inline(always)]
+pub(crate) fn read_near(octets: &[u8], first: usize, shift: usize, width: usize) -> u64
+    requires shift { shift < 8 }
+    requires some { 0 < width }
+    requires width { width ≤ 57 }
+    requires eight { first + 8 ≤ length octets.now }
+    ensures { result ≡ number (take width (drop (8 * first + shift) (bits octets.now))) }
+{
+    (load(octets, first) << shift) >> (64 - width)
 }
 
 /// The path of `read_word` for so many bits that eight octets are there, and that may reach a
 /// ninth.
 #[inline(always)]
-fn read_many(octets: &[u8], first: usize, shift: usize, width: usize) -> u64
+pub(crate) fn read_many(octets: &[u8], first: usize, shift: usize, width: usize) -> u64
     requires shift { shift < 8 }
     requires some { 57 < width }
     requires width { width ≤ 64 }
@@ -322,9 +363,20 @@ fn read_many(octets: &[u8], first: usize, shift: usize, width: usize) -> u64
     (load(octets, first) << shift) >> (64 - width)
 }
 
-/// The number of `width` bits within eight octets, read octet by octet. Slow path for the last
-/// octets of a slice; not inlined.
+/// The path of `read_few` for the last octets of a slice, and for no bits. Cold and not inlined.
+#[cold]
 #[inline(never)]
+fn read_last(octets: &[u8], first: usize, shift: usize, width: usize) -> u64
+    requires shift { shift < 8 }
+    requires width { shift + width ≤ 64 }
+    requires within { 8 * first + shift + width ≤ 8 * length octets.now }
+    ensures { result ≡ number (take width (drop (8 * first + shift) (bits octets.now))) }
+{
+    read_octets(from_octet(octets, first), shift, width)
+}
+
+/// The number of `width` bits within eight octets, read octet by octet.
+#[inline(always)]
 fn read_octets(octets: &[u8], shift: usize, width: usize) -> u64
     requires shift { shift < 8 }
     requires width { shift + width ≤ 64 }

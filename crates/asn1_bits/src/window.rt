@@ -126,6 +126,26 @@ pub(crate) fn put_word(dst: &mut [u8], position: usize, word: u64, width: usize)
     Target::new(dst).put_word(position, word, width, &mut Turns::new());
 }
 
+/// Writes a number of at most 57 digits over zeros from bit `position` on. It counts no turn.
+#[inline(always)]
+pub(crate) fn put_few(dst: &mut [u8], position: usize, word: u64, width: usize)
+    requires width { width ≤ 57 }
+    requires below { word < 2 ^ width }
+    requires within { position + width ≤ 8 * length dst.old }
+    requires zeros { IsZeroFrom position (bits dst.old) }
+    ensures { bits dst.new ≡ ored (bits dst.old) position (digits word width) }
+{
+    if width == 0 {
+        return;
+    }
+    // The bound is the same for each number that a loop writes into one slice.
+    if position / 8 < dst.len().saturating_sub(7) {
+        put_word(dst, position, word, width);
+    } else {
+        Target::new(dst).or_short(position, word, width, &mut Turns::new());
+    }
+}
+
 /// Writes a number of up to 128 digits over zeros from bit `position` on, and ticks once for each
 /// 64 of them.
 // One line, since the clause `each_turn_places` of `put_in` can't see a store that would stand

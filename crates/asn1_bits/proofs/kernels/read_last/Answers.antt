@@ -1,14 +1,8 @@
-use Rattle.std.proofs.Common.{ℕ, List, ◌+◌, ◌*◌, take, drop, ap, ◌∙◌, arith}
+use Rattle.std.proofs.Common.{ℕ, List, ◌*◌, take, drop, ap, ◌∙◌}
 use Rattle.std.proofs.lemmas.List.{drop-drop}
 use Rattle.asn1_bits.specs.Bits.{bits, number}
 use Rattle.asn1_bits.specs.DigitLaws.{bits-drop}
-use Rattle.asn1_bits.proofs.ReadWideLemmas.{read-word}
-use Rattle.asn1_bits.proofs.kernels.read_few.Goals as goal
-
-pub returns-then-first-octets : goal.returns-then-first-octets
-returns-then-first-octets c =
-    read-word (bits c.args.octets.now) (8 * c.args.first) c.args.shift c.args.width c.load.result
-    (omega (arith, c.requires)) c.load.ensures
+use Rattle.asn1_bits.proofs.kernels.read_last.Goals as goal
 
 pub returns : goal.returns
 returns c =
