@@ -57,14 +57,21 @@ pub(super) fn or_word(dst: &mut [u8], position: usize, word: u64, width: usize)
     requires within { position + width ≤ 8 * length dst.old }
     ensures { bits dst.new ≡ ored (bits dst.old) position (digits word width) }
 {
-    if width == 0 || position / 8 + 8 > dst.len() {
-        or_short(dst, position, word, width);
+    if width == 0 {
+        return;
+    }
+    // All that follows is made of this one shift, so that the compiler joins it with a shift before.
+    let top = word << (64 - width);
+    if position / 8 + 8 > dst.len() {
+        or_short(dst, position, top >> (64 - width), width);
         return;
     }
     or_front_of(dst, position, word, width);
-    if position % 8 + width > 64 {
+    let shift = position % 8;
+    if shift + width > 64 {
         // The last digits lie in a ninth octet.
-        or_front(dst, position / 8 + 8, word, position % 8 + width - 64);
+        let past = shift + width - 64;
+        or_top(dst, position / 8 + 8, word, past, top << (64 - shift));
     }
 }
 
@@ -168,10 +175,21 @@ pub(super) fn or_front(dst: &mut [u8], octet: usize, word: u64, width: usize)
     requires within { 8 * octet + width ≤ 8 * length dst.old }
     ensures { bits dst.new ≡ ored (bits dst.old) (8 * octet) (digits word width) }
 {
-    if width == 0 {
-        return;
+    if width > 0 {
+        or_top(dst, octet, word, width, word << (64 - width));
     }
-    let octets = (word << (64 - width)).to_be_bytes();
+}
+
+/// The path of `or_front` for at least one digit. `moved` has them as its first, and no others.
+#[inline(always)]
+fn or_top(dst: &mut [u8], octet: usize, word: u64, width: usize, moved: u64)
+    requires some { 0 < width }
+    requires width { width ≤ 8 }
+    requires within { 8 * octet + width ≤ 8 * length dst.old }
+    requires moved { moved ≡ word * 2 ^ (64 - width) % 2 ^ 64 }
+    ensures { bits dst.new ≡ ored (bits dst.old) (8 * octet) (digits word width) }
+{
+    let octets = moved.to_be_bytes();
     dst[octet] |= octets[0];
 }
 
