@@ -344,7 +344,7 @@ pub(crate) fn read_near(octets: &[u8], first: usize, shift: usize, width: usize)
     requires eight { first + 8 ≤ length octets.now }
     ensures { result ≡ number (take width (drop (8 * first + shift) (bits octets.now))) }
 {
-    (load(octets, first) << shift) >> (64 - width)
+    (load(octets, first) << shift) >> ((64 - width) % 64)
 }
 
 /// The path of `read_word` for so many bits that eight octets are there, and that may reach a
@@ -358,9 +358,9 @@ pub(crate) fn read_many(octets: &[u8], first: usize, shift: usize, width: usize)
     ensures { result ≡ number (take width (drop (8 * first + shift) (bits octets.now))) }
 {
     if first + 9 <= octets.len() {
-        return word_of_nine(octets, first, shift) >> (64 - width);
+        return word_of_nine(octets, first, shift) >> ((64 - width) % 64);
     }
-    (load(octets, first) << shift) >> (64 - width)
+    (load(octets, first) << shift) >> ((64 - width) % 64)
 }
 
 /// The path of `read_few` for the last octets of a slice, and for no bits. Cold and not inlined.

@@ -61,9 +61,10 @@ pub(super) fn or_word(dst: &mut [u8], position: usize, word: u64, width: usize)
         return;
     }
     // All that follows is made of this one shift, so that the compiler joins it with a shift before.
-    let top = word << (64 - width);
+    // The remainder lets it count both shifts at once.
+    let top = word << ((64 - width) % 64);
     if position / 8 + 8 > dst.len() {
-        or_short(dst, position, top >> (64 - width), width);
+        or_last(dst, position, top, width);
         return;
     }
     or_front_of(dst, position, word, width);
@@ -75,6 +76,19 @@ pub(super) fn or_word(dst: &mut [u8], position: usize, word: u64, width: usize)
     }
 }
 
+/// The path of `or_word` for the last octets of a slice: ORs the highest `width` digits of a word.
+/// Not inlined.
+#[cold]
+#[inline(never)]
+fn or_last(dst: &mut [u8], position: usize, top: u64, width: usize)
+    requires some { 0 < width }
+    requires width { position % 8 + width ≤ 64 }
+    requires within { position + width ≤ 8 * length dst.old }
+    ensures { bits dst.new ≡ ored (bits dst.old) position (digits (top / 2 ^ (64 - width)) width) }
+{
+    or_short(dst, position, top >> (64 - width), width);
+}
+
 /// ORs those of the lowest `width` digits of the word in that lie in the first eight octets.
 #[inline(always)]
 fn or_front_of(dst: &mut [u8], position: usize, word: u64, width: usize)
@@ -84,7 +98,7 @@ fn or_front_of(dst: &mut [u8], position: usize, word: u64, width: usize)
     ensures { let past = position % 8 + width - 64 in bits dst.new
         ≡ ored (bits dst.old) position (digits (word / 2 ^ past) (width - past)) }
 {
-    let moved = (word << (64 - width)) >> (position % 8);
+    let moved = (word << ((64 - width) % 64)) >> (position % 8);
     or_octets(dst, position / 8, moved);
 }
 

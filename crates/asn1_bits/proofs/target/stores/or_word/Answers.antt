@@ -12,7 +12,10 @@ returns-then-width-eq0 c =
 
 pub returns-then-position-dst : goal.returns-then-position-dst
 returns-then-position-dst c =
-    c.or_short.ensures
+    let j = 64 - c.args.width in
+    let same : j % 64 ≡ j = omega (arith, c.if-width-eq0.false) in
+    c.or_last.ensures
+    ∙ ap (λ (k : ℕ). ored (bits c.args.dst.now) c.args.position (digits (c.args.word * 2 ^ k % 2 ^ 64 / 2 ^ j) c.args.width)) same
     ∙ ap (ored (bits c.args.dst.now) c.args.position) (up-down c.args.word c.args.width c.requires.width)
 
 pub or_top-requires-clause-moved : goal.or_top-requires-clause-moved
@@ -21,7 +24,9 @@ or_top-requires-clause-moved c =
     let width = c.args.width in
     let past = shift + width - 64 in
     let all : 64 - width + (64 - shift) ≡ 64 - past = omega (arith, c.if-shift-width-gt64.true, c.requires.width) in
-    up-again c.args.word (64 - width) (64 - shift)
+    let same : (64 - width) % 64 ≡ 64 - width = omega (arith, c.if-width-eq0.false) in
+    ap (λ (k : ℕ). c.args.word * 2 ^ k % 2 ^ 64 * 2 ^ (64 - shift) % 2 ^ 64) same
+    ∙ up-again c.args.word (64 - width) (64 - shift)
     ∙ ap (λ (k : ℕ). c.args.word * 2 ^ k % 2 ^ 64) all
 
 pub returns-then-shift-width-gt64 : goal.returns-then-shift-width-gt64
