@@ -5,12 +5,15 @@ ghost use Rattle.asn1_bits.specs.Bits.{bits, digits, number, ored};
 ghost use Rattle.asn1_bits.specs.View.{IsWithin};
 
 mod near;
+mod order;
+mod words;
 
-use crate::kernels::{read_front, read_many, read_near, read_word, write_bitslice};
+use crate::kernels::write_bitslice;
+use crate::reads::read_front;
 use crate::single_bits::{bit_from, from_octet};
 use crate::target::{Rest, Target};
 use crate::turns::Turns;
-use crate::window::{or_shifted_words, or_words, whole_word};
+use crate::window::{or_shifted_words, or_words};
 use std::alloc::AllocError;
 use std::cmp::Ordering;
 use std::hash::{Hash, Hasher};
@@ -161,54 +164,6 @@ impl<'a> BitStr<'a> {
         read_front(self.storage, self.octet, self.shift, width)
     }
 
-    /// `width` bits from bit `at` on, as the lowest digits of a word.
-    #[inline(always)]
-    pub(crate) fn word(&self, at: usize, width: usize) -> u64
-        requires width { width ≤ 64 }
-        requires within { at + width ≤ (view_of self.now).len }
-        ensures { digits result width ≡ take width (drop at (bits_of self.now)) }
-    {
-        let low = self.shift + at % 8;
-        let octet = self.octet + at / 8 + low / 8;
-        read_word(self.storage, octet, low % 8, width)
-    }
-
-    /// The view's bits, at most 64, as the lowest digits of a word.
-    #[inline(always)]
-    pub(crate) fn own_word(&self) -> u64
-        requires { (view_of self.now).len ≤ 64 }
-        ensures { digits result (view_of self.now).len ≡ bits_of self.now }
-    {
-        read_word(self.storage, self.octet, self.shift, self.len)
-    }
-
-    /// The view's bits, of which there are 1 to 64, as the lowest digits of a word. None near the
-    /// end of the storage.
-    #[inline(always)]
-    pub(crate) fn near_word(&self) -> Option<u64>
-        requires some { 0 < (view_of self.now).len }
-        requires len { (view_of self.now).len ≤ 64 }
-        ensures { IfSome result (λ n. digits n (view_of self.now).len ≡ bits_of self.now) }
-    {
-        if self.len > 57 {
-            return Some(read_many(
-                self.storage,
-                self.octet,
-                self.shift,
-                self.len,
-            ));
-        }
-        if self.octet + 8 > self.storage.len() {
-            return None;
-        }
-        Some(read_near(
-            self.storage,
-            self.octet,
-            self.shift,
-            self.len,
-        ))
-    }
-
     /// ORs the `width` bits from bit `at` on into the front of an octet of the target. They
     /// complete a word whose first bits are stored.
     #[inline]
@@ -233,16 +188,6 @@ impl<'a> BitStr<'a> {
         if width > 0 {
             dst.or_rest(rest, octet, self.word(at, width), width);
         }
-    }
-
-    /// The 64 bits from bit `at` on, as the digits of a word.
-    #[inline]
-    pub(crate) fn word_of_64(&self, at: usize) -> u64
-        requires { at + 64 ≤ (view_of self.now).len }
-        ensures { digits result 64 ≡ take 64 (drop at (bits_of self.now)) }
-    {
-        let low = self.shift + at % 8;
-        whole_word(self.storage, self.octet + at / 8 + low / 8, low % 8)
     }
 
     /// ORs `count` words of 64 bits, taken from bit `at` on, into `dst` from octet `first` on.
@@ -367,20 +312,13 @@ impl Ord for BitStr<'_> {
     ghost matches_eq = { ties_by bits_of };
 
     fn cmp(&self, other: &Self) -> Ordering {
-        let words = self.len.min(other.len) / 64;
-        for k in 0..words {
-            let (one, two) = (self.word_of_64(64 * k), other.word_of_64(64 * k));
+        if self.len >= 64 && other.len >= 64 {
+            let (one, two) = (self.first_word(), other.first_word());
             if one != two {
                 return one.cmp(&two);
             }
         }
-        let width = self.len.min(other.len) % 64;
-        if width == 0 {
-            return self.len.cmp(&other.len);
-        }
-        let one = self.slice(64 * words, width).first_u128(width);
-        let two = other.slice(64 * words, width).first_u128(width);
-        one.cmp(&two).then(self.len.cmp(&other.len))
+        self.cmp_words(other)
     }
 }
 

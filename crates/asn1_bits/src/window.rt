@@ -39,11 +39,10 @@ pub(crate) fn whole_word(octets: &[u8], first: usize, shift: usize) -> u64
     requires within { 8 * first + shift + 64 ≤ 8 * length octets.now }
     ensures { digits result 64 ≡ take 64 (drop (8 * first + shift) (bits octets.now)) }
 {
-    let high = load(octets, first);
     if shift == 0 {
-        high
+        load(octets, first)
     } else {
-        (high << shift) | u64::from(octets[first + 8] >> (8 - shift))
+        word_of_nine(octets, first, shift)
     }
 }
 

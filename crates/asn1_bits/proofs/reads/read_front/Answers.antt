@@ -3,7 +3,7 @@ use Rattle.std.proofs.lemmas.List.{length-take, length-drop}
 use Rattle.asn1_bits.specs.Bits.{bits, digits}
 use Rattle.asn1_bits.specs.DigitLaws.{length-bits}
 use Rattle.asn1_bits.specs.NumberLaws.{number_is}
-use Rattle.asn1_bits.proofs.kernels.read_front.Goals as goal
+use Rattle.asn1_bits.proofs.reads.read_front.Goals as goal
 
 field : (c : goal.After-read_number) → (c.read_number.result < 2 ^ c.args.width)
     × (digits c.read_number.result c.args.width ≡ take c.args.width

@@ -2,7 +2,7 @@ use Rattle.std.proofs.Common.{◌≡◌, ℕ, ◌+◌, ◌-◌, ◌*◌, ◌/◌
 use Rattle.std.specs.Prelude.{bit_or}
 use Rattle.asn1_bits.specs.Bits.{bits}
 use Rattle.asn1_bits.proofs.ReadWideLemmas.{read-top, read-two}
-use Rattle.asn1_bits.proofs.kernels.read_number.Goals as goal
+use Rattle.asn1_bits.proofs.reads.read_number.Goals as goal
 
 pub returns-then-first-octets : goal.returns-then-first-octets
 returns-then-first-octets c =

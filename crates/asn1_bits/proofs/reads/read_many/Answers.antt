@@ -1,7 +1,7 @@
 use Rattle.std.proofs.Common.{◌≡◌, ℕ, ◌+◌, ◌-◌, ◌*◌, ◌/◌, ◌%◌, ◌^◌, drop, ap, ◌∙◌, arith}
 use Rattle.asn1_bits.specs.Bits.{bits}
 use Rattle.asn1_bits.proofs.ReadWideLemmas.{read-word, read-top}
-use Rattle.asn1_bits.proofs.kernels.read_many.Goals as goal
+use Rattle.asn1_bits.proofs.reads.read_many.Goals as goal
 
 pub returns-then-first-octets : goal.returns-then-first-octets
 returns-then-first-octets c =

@@ -1,7 +1,7 @@
 use Rattle.std.proofs.Common.{◌≡◌, ℕ, ◌-◌, ◌*◌, ◌/◌, ◌%◌, ◌^◌, ap, ◌∙◌, arith}
 use Rattle.asn1_bits.specs.Bits.{bits}
 use Rattle.asn1_bits.proofs.ReadWideLemmas.{read-word}
-use Rattle.asn1_bits.proofs.kernels.read_near.Goals as goal
+use Rattle.asn1_bits.proofs.reads.read_near.Goals as goal
 
 pub returns : goal.returns
 returns c =
