@@ -164,29 +164,24 @@ impl<'a> BitStr<'a> {
         read_front(self.storage, self.octet, self.shift, width)
     }
 
-    /// ORs the `width` bits from bit `at` on into the front of an octet of the target. They
-    /// complete a word whose first bits are stored.
+    /// ORs the last `width` bits of a view of whole words into the front of an octet of the target.
+    /// They complete a word whose first bits are stored.
     #[inline]
-    pub(crate) fn or_edge(
-        &self,
-        at: usize,
-        width: usize,
-        dst: &mut Target<'_>,
-        rest: Rest,
-        octet: usize,
-    )
-        requires source { at + width ≤ (view_of self.now).len }
+    pub(crate) fn or_edge(&self, width: usize, dst: &mut Target<'_>, rest: Rest, octet: usize)
+        requires some { 64 ≤ (view_of self.now).len }
+        requires whole { (view_of self.now).len % 64 ≡ 0 }
         requires left { width ≤ rest.left }
         requires width { width ≤ 8 }
         requires within { 8 * octet + width ≤ 8 * length dst.old.octets.now }
         ensures bits { bits dst.new.octets.now
-            ≡ ored (bits dst.old.octets.now) (8 * octet) (take width (drop at (bits_of self.now))) }
+            ≡ ored (bits dst.old.octets.now) (8 * octet)
+            (take width (drop ((view_of self.now).len - width) (bits_of self.now))) }
         ensures same_reference { dst.new.octets.ghost_name ≡ dst.old.octets.ghost_name }
         ensures length { length dst.new.octets.now ≡ length dst.old.octets.now }
         ensures placed { dst.new.placed.count ≡ dst.old.placed.count }
     {
         if width > 0 {
-            dst.or_rest(rest, octet, self.word(at, width), width);
+            dst.or_rest(rest, octet, self.last_word(), width);
         }
     }
 
@@ -318,7 +313,7 @@ impl Ord for BitStr<'_> {
                 return one.cmp(&two);
             }
         }
-        self.cmp_words(other)
+        self.cmp_words(*other)
     }
 }
 

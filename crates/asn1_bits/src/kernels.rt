@@ -71,12 +71,7 @@ fn or_view(dst: &mut Target<'_>, position: usize, src: BitStr<'_>, turns: &mut T
 /// storage. Not inlined, so that callers inline only the path for short views. The target is passed
 /// and given back by value, so its place stays in registers.
 #[inline(never)]
-fn or_far<'a>(
-    target: Target<'a>,
-    position: usize,
-    src: BitStr<'_>,
-    turns: &mut Turns,
-) -> Target<'a>
+fn or_far<'a>(target: Target<'a>, position: usize, src: BitStr<'_>, turns: &mut Turns) -> Target<'a>
     requires room { position + (view_of src).len ≤ 8 * length target.octets.now }
     requires fits { position + (view_of src).len < 2 ^ 64 }
     ensures bits { bits result.octets.now
@@ -171,9 +166,10 @@ fn or_whole_words(dst: &mut Target<'_>, position: usize, src: BitStr<'_>, turns:
 {
     let len = src.len();
     let spill = position % 8;
-    let rest = dst.or_begun(position, src.word(0, 64 - spill), 64 - spill, turns);
+    let front = src.front_word(64 - spill);
+    let rest = dst.or_begun(position, front, 64 - spill, turns);
     src.or_words(64 - spill, dst, position / 8 + 8, len / 64 - 1, turns);
-    src.or_edge(len - spill, spill, dst, rest, position / 8 + len / 8);
+    src.or_edge(spill, dst, rest, position / 8 + len / 8);
 }
 
 /// Writes the view over zeros from bit `position` on. Octets on octet boundaries are copied.

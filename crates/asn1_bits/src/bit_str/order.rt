@@ -8,10 +8,11 @@ use super::BitStr;
 use std::cmp::Ordering;
 
 impl BitStr<'_> {
-    /// The path of `cmp` for views whose first words decide nothing. Not inlined.
+    /// The path of `cmp` for views whose first words decide nothing. Not inlined, and the views are
+    /// passed by value, so that they are stored for this call alone.
     #[inline(never)]
-    pub(super) fn cmp_words(&self, other: &BitStr<'_>) -> Ordering
-        ensures { result ≡ bits_cmp (bits_of self.now) (bits_of other.now) }
+    pub(super) fn cmp_words(self, other: BitStr<'_>) -> Ordering
+        ensures { result ≡ bits_cmp (bits_of self.entry) (bits_of other.entry) }
     {
         let words = self.len.min(other.len) / 64;
         for k in 0..words {

@@ -1,6 +1,6 @@
 //! Bits of a view as words.
 
-ghost use Rattle.std.specs.Prelude.{◌≡◌, ◌+◌, ◌<◌, ◌≤◌, IfSome, take, drop};
+ghost use Rattle.std.specs.Prelude.{◌≡◌, ◌+◌, ◌-◌, ◌%◌, ◌<◌, ◌≤◌, IfSome, take, drop};
 ghost use Rattle.asn1_bits.specs.Bits.{digits, number};
 ghost use Rattle.asn1_bits.specs.BitStr.{view_of, bits_of};
 
@@ -39,22 +39,12 @@ impl BitStr<'_> {
         ensures { IfSome result (λ n. digits n (view_of self.now).len ≡ bits_of self.now) }
     {
         if self.len > 57 {
-            return Some(read_many(
-                self.storage,
-                self.octet,
-                self.shift,
-                self.len,
-            ));
+            return Some(read_many(self.storage, self.octet, self.shift, self.len));
         }
         if self.octet + 8 > self.storage.len() {
             return None;
         }
-        Some(read_near(
-            self.storage,
-            self.octet,
-            self.shift,
-            self.len,
-        ))
+        Some(read_near(self.storage, self.octet, self.shift, self.len))
     }
 
     /// The number of the first 64 bits.
@@ -64,6 +54,30 @@ impl BitStr<'_> {
         ensures { result ≡ number (take 64 (bits_of self.now)) }
     {
         read_many(self.storage, self.octet, self.shift, 64)
+    }
+
+    /// The first `width` bits, which are 56 to 64, of a view of at least 64, as the lowest digits of
+    /// a word.
+    #[inline(always)]
+    pub(crate) fn front_word(&self, width: usize) -> u64
+        requires some { 56 ≤ width }
+        requires width { width ≤ 64 }
+        requires len { 64 ≤ (view_of self.now).len }
+        ensures { digits result width ≡ take width (bits_of self.now) }
+    {
+        self.first_word() >> (64 - width)
+    }
+
+    /// The last 64 bits of a view of whole words, as the digits of a word.
+    #[inline(always)]
+    pub(super) fn last_word(&self) -> u64
+        requires some { 64 ≤ (view_of self.now).len }
+        requires whole { (view_of self.now).len % 64 ≡ 0 }
+        ensures { digits result 64 ≡ take 64 (drop ((view_of self.now).len - 64) (bits_of self.now)) }
+    {
+        // Whole words later the shift is the same.
+        let octet = self.octet + (self.len / 8 - 8);
+        read_many(self.storage, octet, self.shift, 64)
     }
 
     /// The 64 bits from bit `at` on, as the digits of a word.

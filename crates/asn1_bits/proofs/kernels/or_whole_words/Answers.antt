@@ -19,7 +19,7 @@ returns-clause-bits c =
     (8 * (place / 8 + 8)) (8 * (place / 8 + len / 8))
     (omega (arith, c.requires.some, all.len)) (omega arith) (omega (arith, all.list))
     (omega (arith, length-bits c.args.dst.now.octets.now, all.len, c.requires.room))
-    (c.or_begun-rest.ensures.bits ∙ ap (ored old place) c.word.ensures) c.or_words.ensures.bits (omega arith)
+    (c.or_begun-rest.ensures.bits ∙ ap (ored old place) c.front_word-front.ensures) c.or_words.ensures.bits (omega arith)
     (c.or_edge.ensures.bits
     ∙ ap (λ (k : ℕ). ored (bits c.or_words.new.dst.octets.now) (8 * (place / 8 + len / 8)) (take spill (drop (k - spill) src)))
     (omega (arith, c.requires.whole, all.len)))

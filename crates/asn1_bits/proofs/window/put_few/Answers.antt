@@ -1,4 +1,3 @@
-use Rattle.std.proofs.Common.{arith}
 use Rattle.asn1_bits.specs.Bits.{bits}
 use Rattle.asn1_bits.proofs.WindowLemmas.{ored-no_digits}
 use Rattle.asn1_bits.proofs.window.put_few.Goals as goal

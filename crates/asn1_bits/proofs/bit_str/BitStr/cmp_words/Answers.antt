@@ -11,8 +11,8 @@ use Rattle.asn1_bits.proofs.bit_str.BitStr.cmp_words.Goals as goal
 
 pub returns-then-one-two : goal.returns-then-one-two
 returns-then-one-two c =
-    let a = c.args.self.now in
-    let b = c.args.other.now in
+    let a = c.args.self in
+    let b = c.args.other in
     let xs = bits_of a in
     let ys = bits_of b in
     let at = 64 * c.loop-k.k in
@@ -28,8 +28,8 @@ returns-then-one-two c =
 
 pub loop-k-preserved : goal.loop-k-preserved
 loop-k-preserved c =
-    let xs = bits_of c.args.self.now in
-    let ys = bits_of c.args.other.now in
+    let xs = bits_of c.args.self in
+    let ys = bits_of c.args.other in
     let at = 64 * c.loop-k.k in
     let next : at + 64 ≡ 64 * (c.loop-k.k + 1) = omega arith in
     let word : take 64 (drop at xs) ≡ take 64 (drop at ys) = sym c.word_of_64-one.ensures
@@ -41,8 +41,8 @@ loop-k-preserved c =
 
 pub returns-then-width-eq0 : goal.returns-then-width-eq0
 returns-then-width-eq0 c =
-    let a = c.args.self.now in
-    let b = c.args.other.now in
+    let a = c.args.self in
+    let b = c.args.other in
     let xs = bits_of a in
     let ys = bits_of b in
     let at = 64 * (c.min-words.result / 64) in
@@ -56,8 +56,8 @@ returns-then-width-eq0 c =
 
 pub returns : goal.returns
 returns c =
-    let a = c.args.self.now in
-    let b = c.args.other.now in
+    let a = c.args.self in
+    let b = c.args.other in
     let xs = bits_of a in
     let ys = bits_of b in
     let words = c.min-words.result / 64 in
