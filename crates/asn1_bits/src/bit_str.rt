@@ -185,36 +185,37 @@ impl<'a> BitStr<'a> {
         }
     }
 
-    /// ORs `count` words of 64 bits, taken from bit `at` on, into `dst` from octet `first` on.
-    /// Ticks once for each word.
+    /// ORs `count` words of 64 bits, taken from bit `64 - spill` on, into `dst` from octet `first`
+    /// on. Ticks once for each word.
     pub(crate) fn or_words(
         &self,
-        at: usize,
+        spill: usize,
         dst: &mut Target<'_>,
         first: usize,
         count: usize,
         turns: &mut Turns,
     )
-        requires behind { 56 ≤ at }
-        requires within { at + 64 * count ≤ (view_of self.now).len }
+        requires spill { spill < 8 }
+        requires within { 64 - spill + 64 * count ≤ (view_of self.now).len }
         requires room { first + 8 * count ≤ length dst.old.octets.now }
         ensures bits { bits dst.new.octets.now
             ≡ ored (bits dst.old.octets.now) (8 * first)
-            (take (64 * count) (drop at (bits_of self.now))) }
+            (take (64 * count) (drop (64 - spill) (bits_of self.now))) }
         ensures same_reference { dst.new.octets.ghost_name ≡ dst.old.octets.ghost_name }
         ensures length { length dst.new.octets.now ≡ length dst.old.octets.now }
         ensures each_turn_places { turns.new.count + dst.old.placed.count
             ≡ turns.old.count + dst.new.placed.count }
         ensures turns { turns.new.count ≡ turns.old.count + count }
     {
-        let low = self.shift + at % 8;
-        let octet = self.octet + at / 8 + low / 8;
+        let low = self.shift + 8 - spill;
+        let octet = self.octet + low / 8;
         if low % 8 == 0 {
-            or_words(dst, first, from_octet(self.storage, octet), count, turns);
+            let src = from_octet(self.storage, octet + 7);
+            or_words(dst, first, src, count, turns);
         } else {
             // Start seven octets earlier, so that the second load of each pair does not read past
             // the last octet.
-            let src = from_octet(self.storage, octet - 7);
+            let src = from_octet(self.storage, octet);
             or_shifted_words(dst, first, src, 56 + low % 8, count, turns);
         }
     }

@@ -61,46 +61,27 @@ fn or_view(dst: &mut Target<'_>, position: usize, src: BitStr<'_>, turns: &mut T
     if src.len() > 0 && src.len() <= 64 {
         if let Some(word) = src.near_word() {
             dst.or_word(position, word, src.len(), turns);
-            return;
+        } else {
+            *dst = or_last(dst.take(), position, src, turns);
         }
+    } else {
+        // A copy is lent, so that the view itself stays in registers.
+        let lent = src;
+        *dst = or_far(dst.take(), position, &lent, turns);
     }
-    *dst = or_far(dst.take(), position, src, turns);
 }
 
-/// The path of `or_view` for no bits, for more than a word, and for those of the last octets of a
-/// storage. Not inlined, so that callers inline only the path for short views. The target is passed
-/// and given back by value, so its place stays in registers.
+/// The path of `or_view` for at most a word near the end of its storage. Cold and not inlined.
+#[cold]
 #[inline(never)]
-fn or_far<'a>(target: Target<'a>, position: usize, src: BitStr<'_>, turns: &mut Turns) -> Target<'a>
-    requires room { position + (view_of src).len ≤ 8 * length target.octets.now }
-    requires fits { position + (view_of src).len < 2 ^ 64 }
-    ensures bits { bits result.octets.now
-        ≡ ored (bits target.entry.octets.now) position (bits_of src.entry) }
-    ensures same_reference { result.octets.ghost_name ≡ target.entry.octets.ghost_name }
-    ensures length { length result.octets.now ≡ length target.entry.octets.now }
-    ensures each_turn_places { turns.new.count + target.entry.placed.count
-        ≡ turns.old.count + result.placed.count }
-    ensures turns { turns.new.count ≡ turns.old.count + div_ceil (view_of src.entry).len 64 }
-{
-    if src.len() > 64 {
-        return or_long(target, position, src, turns);
-    }
-    let mut own = target;
-    place_word(&mut own, position, src, turns);
-    own
-}
-
-/// The path of `or_far` for more than a word.
-#[inline(always)]
-fn or_long<'a>(
+fn or_last<'a>(
     target: Target<'a>,
     position: usize,
     src: BitStr<'_>,
     turns: &mut Turns,
 ) -> Target<'a>
-    requires long { 64 < (view_of src).len }
+    requires short { (view_of src).len ≤ 64 }
     requires room { position + (view_of src).len ≤ 8 * length target.octets.now }
-    requires fits { position + (view_of src).len < 2 ^ 64 }
     ensures bits { bits result.octets.now
         ≡ ored (bits target.entry.octets.now) position (bits_of src.entry) }
     ensures same_reference { result.octets.ghost_name ≡ target.entry.octets.ghost_name }
@@ -109,13 +90,65 @@ fn or_long<'a>(
         ≡ turns.old.count + result.placed.count }
     ensures turns { turns.new.count ≡ turns.old.count + div_ceil (view_of src.entry).len 64 }
 {
+    let mut own = target;
+    place_word(&mut own, position, src, turns);
+    own
+}
+
+/// The path of `or_view` for no bits, and for more than a word. Not inlined, so that callers inline
+/// only the path for short views. The target is passed and given back by value, so its place stays
+/// in registers; the view is lent, so that `or_long` is jumped to.
+#[inline(never)]
+fn or_far<'a>(
+    target: Target<'a>,
+    position: usize,
+    src: &BitStr<'_>,
+    turns: &mut Turns,
+) -> Target<'a>
+    requires far { 0 < (view_of src.now).len → 64 < (view_of src.now).len }
+    requires room { position + (view_of src.now).len ≤ 8 * length target.octets.now }
+    requires fits { position + (view_of src.now).len < 2 ^ 64 }
+    ensures bits { bits result.octets.now
+        ≡ ored (bits target.entry.octets.now) position (bits_of src.now) }
+    ensures same_reference { result.octets.ghost_name ≡ target.entry.octets.ghost_name }
+    ensures length { length result.octets.now ≡ length target.entry.octets.now }
+    ensures each_turn_places { turns.new.count + target.entry.placed.count
+        ≡ turns.old.count + result.placed.count }
+    ensures turns { turns.new.count ≡ turns.old.count + div_ceil (view_of src.now).len 64 }
+{
+    if src.len() == 0 {
+        return target;
+    }
     if position % 8 == 0 {
         if let Some(octets) = src.aligned() {
             return or_aligned(target, position / 8, octets, turns);
         }
     }
+    or_long(target, position, src, turns)
+}
+
+/// The path of `or_far` for bits that are not copied octet by octet. Not inlined, since it needs
+/// more registers.
+#[inline(never)]
+fn or_long<'a>(
+    target: Target<'a>,
+    position: usize,
+    src: &BitStr<'_>,
+    turns: &mut Turns,
+) -> Target<'a>
+    requires long { 64 < (view_of src.now).len }
+    requires room { position + (view_of src.now).len ≤ 8 * length target.octets.now }
+    requires fits { position + (view_of src.now).len < 2 ^ 64 }
+    ensures bits { bits result.octets.now
+        ≡ ored (bits target.entry.octets.now) position (bits_of src.now) }
+    ensures same_reference { result.octets.ghost_name ≡ target.entry.octets.ghost_name }
+    ensures length { length result.octets.now ≡ length target.entry.octets.now }
+    ensures each_turn_places { turns.new.count + target.entry.placed.count
+        ≡ turns.old.count + result.placed.count }
+    ensures turns { turns.new.count ≡ turns.old.count + div_ceil (view_of src.now).len 64 }
+{
     let mut own = target;
-    or_each_word(&mut own, position, src, turns);
+    or_each_word(&mut own, position, *src, turns);
     own
 }
 
@@ -136,7 +169,7 @@ fn or_each_word(dst: &mut Target<'_>, position: usize, src: BitStr<'_>, turns: &
     let len = src.len();
     let words = len / 64;
     let tail = len % 64;
-    or_whole_words(dst, position, src.slice(0, 64 * words), turns);
+    or_whole_words(dst, position, src.front(64 * words), turns);
     if tail > 0 {
         dst.or_word(
             position + 64 * words,
@@ -166,9 +199,8 @@ fn or_whole_words(dst: &mut Target<'_>, position: usize, src: BitStr<'_>, turns:
 {
     let len = src.len();
     let spill = position % 8;
-    let front = src.front_word(64 - spill);
-    let rest = dst.or_begun(position, front, 64 - spill, turns);
-    src.or_words(64 - spill, dst, position / 8 + 8, len / 64 - 1, turns);
+    let rest = dst.or_begun(position, src.first_word(), turns);
+    src.or_words(spill, dst, position / 8 + 8, len / 64 - 1, turns);
     src.or_edge(spill, dst, rest, position / 8 + len / 8);
 }
 

@@ -49,23 +49,11 @@ impl BitStr<'_> {
 
     /// The number of the first 64 bits.
     #[inline(always)]
-    pub(super) fn first_word(&self) -> u64
+    pub(crate) fn first_word(&self) -> u64
         requires { 64 ≤ (view_of self.now).len }
         ensures { result ≡ number (take 64 (bits_of self.now)) }
     {
         read_many(self.storage, self.octet, self.shift, 64)
-    }
-
-    /// The first `width` bits, which are 56 to 64, of a view of at least 64, as the lowest digits of
-    /// a word.
-    #[inline(always)]
-    pub(crate) fn front_word(&self, width: usize) -> u64
-        requires some { 56 ≤ width }
-        requires width { width ≤ 64 }
-        requires len { 64 ≤ (view_of self.now).len }
-        ensures { digits result width ≡ take width (bits_of self.now) }
-    {
-        self.first_word() >> (64 - width)
     }
 
     /// The last 64 bits of a view of whole words, as the digits of a word.

@@ -102,16 +102,15 @@ fn or_front_of(dst: &mut [u8], position: usize, word: u64, width: usize)
     or_octets(dst, position / 8, moved);
 }
 
-/// The path of `or_word` for at least one digit, where the slice has all eight octets.
+/// ORs the first digits of a word in, as many as reach the end of the eight octets from that of
+/// `position` on.
 #[inline(always)]
-pub(super) fn or_within_eight(dst: &mut [u8], position: usize, word: u64, width: usize)
-    requires some { 0 < width }
-    requires width { position % 8 + width ≤ 64 }
-    requires eight { position / 8 + 8 ≤ length dst.old }
-    ensures { bits dst.new ≡ ored (bits dst.old) position (digits word width) }
+pub(super) fn or_upper(dst: &mut [u8], position: usize, word: u64)
+    requires { position / 8 + 8 ≤ length dst.old }
+    ensures { bits dst.new
+        ≡ ored (bits dst.old) position (digits (word / 2 ^ (position % 8)) (64 - position % 8)) }
 {
-    let moved = (word << (64 - width)) >> (position % 8);
-    or_octets(dst, position / 8, moved);
+    or_octets(dst, position / 8, word >> (position % 8));
 }
 
 /// Slow path of `or_word` for the last octets of a slice: octet by octet. Not inlined.
