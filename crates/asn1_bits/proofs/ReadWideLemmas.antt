@@ -1,14 +1,15 @@
 -- The number of bits that are read octet by octet.
-use Rattle.std.proofs.Common.{◌≡◌, ℕ, ◌+◌, ◌-◌, ◌*◌, ◌/◌, ◌%◌, ◌^◌, ◌<◌, ◌≤◌, Bool, List, [], ◌++◌, length, get_or, take, drop, sym, ap, ◌∙◌, arith}
+use Rattle.std.proofs.Common.{◌≡◌, ℕ, ◌+◌, ◌-◌, ◌*◌, ◌/◌, ◌%◌, ◌^◌, ◌<◌, ◌≤◌, Bool, false, List, [], ◌++◌, length, get_or, take, drop, replicate, sym, ap, ◌∙◌, append_assoc, arith}
 use Rattle.std.specs.Prelude.{bit_and, bit_or}
 use Rattle.std.proofs.Math.Nat.{pow-le-pow_right, mod-eq_of_lt}
 use Rattle.std.proofs.Math.Seq.{take-add}
-use Rattle.std.proofs.lemmas.List.{take_at, drop-drop, length-take, length-drop, take_more, take-take, drop-take, take-append-drop, drop_at, drop-append-le}
+use Rattle.std.proofs.lemmas.List.{take_at, drop-drop, length-take, length-drop, take_more, take-take, drop-take, take-append-drop, take-append-le, append-nil, drop_at, drop-append-le}
 use Rattle.std.proofs.lemmas.Nat.{shr_high, and_mask, or_shifted, shl_whole, shr_below, field_of, shr-shr, shl-shr}
 use Rattle.std.proofs.lemmas.Nat.Bits.{ones_shr}
 use Rattle.asn1_bits.specs.Bits.{digits, number, bits}
 use Rattle.asn1_bits.specs.DigitLaws.{length-digits, length-bits, bits-take, bits-push}
-use Rattle.asn1_bits.proofs.WindowLemmas.{low-part}
+use Rattle.asn1_bits.specs.ByteLaws.{digits-mod}
+use Rattle.asn1_bits.proofs.WindowLemmas.{low-part, shifted-digits}
 use Rattle.asn1_bits.specs.NumberLaws.{number-append, number-digits, number-lt, digits-append, digits-low}
 
 -- the number of the bits of the first k octets, but for the first shift bits
@@ -191,3 +192,78 @@ read-two list place last width high low more most l hs ls a b =
     ∙ ap (λ (k : ℕ). number (digits g top) * 2 ^ k + number (digits low 64)) (length-digits low 64)
     ∙ ap (λ (m : ℕ). m * 2 ^ 64 + number (digits low 64)) (number-digits g top ∙ mod-eq_of_lt less)
     ∙ ap (λ (m : ℕ). g * 2 ^ 64 + m) (number-digits low 64 ∙ omega (arith, ls)))
+
+-- ---- nine octets, and seventeen
+
+-- 64 digits of two words, by one shift of 128
+pub from-two : (a b shift : ℕ) → shift < 8 → a < 2 ^ 64 → b < 2 ^ 64
+    → digits (bit_or (a * 2 ^ 64 % 2 ^ 128) b * 2 ^ shift % 2 ^ 128 / 2 ^ 64) 64 ≡ take 64
+    (drop shift (digits a 64 ++ digits b 64))
+from-two a b shift h small low =
+    let n = a * 2 ^ 64 + b in
+    let end = 64 - shift in
+    let top = n / 2 ^ end in
+    let s : 64 ≡ shift + end = omega arith in
+    let w : 128 ≡ shift + (64 + end) = omega arith in
+    let value : n * 2 ^ shift % 2 ^ 128 / 2 ^ 64 ≡ top % 2 ^ 64 =
+    field_of (n * 2 ^ shift) 64 64
+    ∙ ap (λ (k : ℕ). n * 2 ^ shift / 2 ^ k % 2 ^ 64) s
+    ∙ ap (λ (m : ℕ). m % 2 ^ 64)
+    (sym (shr-shr (n * 2 ^ shift) shift end) ∙ ap (λ (m : ℕ). m / 2 ^ end) (shl-shr n shift)) in
+    let part : take 64 (drop shift (digits n 128)) ≡ digits top 64 =
+    ap (λ (k : ℕ). take 64 (drop shift (digits n k))) w
+    ∙ ap (take 64) (low-part n shift (64 + end) ∙ digits-append n 64 end)
+    ∙ take_at (digits top 64) (digits n end) 64 (length-digits top 64) in
+    let whole : digits n 128 ≡ digits a 64 ++ digits b 64 =
+    digits-append n 64 64
+    ∙ ap (λ (m : ℕ). digits m 64 ++ digits n 64) (shr_high a 64 b low)
+    ∙ ap (λ (l : List Bool). digits a 64 ++ l) (digits-low a b 64) in
+    ap (λ (m : ℕ). digits (m * 2 ^ shift % 2 ^ 128 / 2 ^ 64) 64) (joined a b 64 128 64 small (omega arith) low)
+    ∙ ap (λ (m : ℕ). digits m 64) value
+    ∙ digits-mod top 64
+    ∙ sym part
+    ∙ ap (λ (l : List Bool). take 64 (drop shift l)) whole
+
+-- 64 bits that lie in the front of a list
+part-of-front : (list rest : List Bool) (n shift : ℕ) → 64 + shift ≤ n → n ≤ length list
+    → take 64 (drop shift (take n list ++ rest)) ≡ take 64 (drop shift list)
+part-of-front list rest n shift h k =
+    let m = n - shift in
+    let s : n ≡ shift + m = omega arith in
+    let all : length (take n list) ≡ n = omega (arith, length-take n list) in
+    ap (take 64) (drop-append-le shift (take n list) rest (omega (arith, all)))
+    ∙ take-append-le 64 (drop shift (take n list)) rest (omega (arith, all, length-drop shift (take n list)))
+    ∙ ap (take 64) (ap (λ (j : ℕ). drop shift (take j list)) s ∙ drop-take shift m list)
+    ∙ take-take 64 m (drop shift list) (omega arith)
+
+-- those of nine octets, of the word of eight and the ninth
+pub nine-digits : (list : List Bool) (a o shift : ℕ) → shift < 8 → 72 ≤ length list
+    → digits a 64 ≡ take 64 list → digits o 8 ≡ take 8 (drop 64 list)
+    → take 64 (drop shift (digits a 64 ++ digits (o * 2 ^ 56 % 2 ^ 64) 64)) ≡ take 64 (drop shift list)
+nine-digits list a o shift h room e f =
+    let zeros = replicate 56 false in
+    let ninth : digits (o * 2 ^ 56 % 2 ^ 64) 64 ≡ take 8 (drop 64 list) ++ zeros =
+    digits-mod (o * 2 ^ 56) 64 ∙ shifted-digits o 8 56 ∙ ap (λ (l : List Bool). l ++ zeros) f in
+    ap (λ (l : List Bool). take 64 (drop shift (l ++ digits (o * 2 ^ 56 % 2 ^ 64) 64))) e
+    ∙ ap (λ (l : List Bool). take 64 (drop shift (take 64 list ++ l))) ninth
+    ∙ ap (λ (l : List Bool). take 64 (drop shift l))
+    (sym (append_assoc (take 64 list) (take 8 (drop 64 list)) zeros)
+    ∙ ap (λ (l : List Bool). l ++ zeros) (sym (take-add 64 8 list)))
+    ∙ part-of-front list zeros 72 shift (omega arith) room
+
+-- those of sixteen octets, of two words
+pub sixteen-digits : (list : List Bool) (a b shift : ℕ) → shift < 8 → 128 ≤ length list
+    → digits a 64 ≡ take 64 list → digits b 64 ≡ take 64 (drop 64 list)
+    → take 64 (drop shift (digits a 64 ++ digits b 64)) ≡ take 64 (drop shift list)
+sixteen-digits list a b shift h room e f =
+    ap (λ (l : List Bool). take 64 (drop shift (l ++ digits b 64))) e
+    ∙ ap (λ (l : List Bool). take 64 (drop shift (take 64 list ++ l))) f
+    ∙ ap (λ (l : List Bool). take 64 (drop shift l)) (sym (take-add 64 64 list) ∙ sym (append-nil (take 128 list)))
+    ∙ part-of-front list [] 128 shift (omega arith) room
+
+-- the bits of octets from octet `first` on are 64 fewer eight octets later
+pub eight-later : (octets : List ℕ) (first n : ℕ)
+    → take n (drop (8 * (first + 8)) (bits octets)) ≡ take n (drop 64 (drop (8 * first) (bits octets)))
+eight-later octets first n =
+    let next : 8 * (first + 8) ≡ 8 * first + 64 = omega arith in
+    ap (take n) (ap (λ (k : ℕ). drop k (bits octets)) next ∙ sym (drop-drop 64 (8 * first) (bits octets)))

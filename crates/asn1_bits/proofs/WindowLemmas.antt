@@ -2,12 +2,12 @@
 use Rattle.std.proofs.Common.{◌≡◌, ℕ, zero, suc, ◌+◌, ◌-◌, ◌*◌, ◌/◌, ◌%◌, ◌^◌, ◌<◌, ◌≤◌, max, Bool, false, eqb, ◌||◌, List, ◌++◌, length, get_or, set, take, drop, replicate, refl, sym, ap, ◌∙◌, inl, inr, append_assoc, arith}
 use Rattle.std.specs.Prelude.{bit_or}
 use Rattle.std.specs.Int.{bit_at, bytes_high_first, from_be_bytes, w64}
-use Rattle.std.proofs.Math.Nat.{mul_assoc, mul-mod_left, div-eq_of_lt, mod-eq_of_lt}
+use Rattle.std.proofs.Math.Nat.{div-one, mul_assoc, mul-mod_left, div-eq_of_lt, mod-eq_of_lt}
 use Rattle.std.proofs.Math.Pow.{pow_mono}
 use Rattle.std.proofs.Math.Seq.{take-add}
 use Rattle.std.proofs.lemmas.Bool.{cases_eq, cases_lt}
 use Rattle.std.proofs.lemmas.List.{length-append, length-replicate, length-set, length-take, length-drop, ext_get_or, get_or-set_same, get_or-set_other, get_or-take, get_or-drop, get_or_past, drop_at, drop-drop, drop-take, take-take, take_at, take_all, drop_more, replicate-append-replicate}
-use Rattle.std.proofs.lemmas.Nat.{mod-pow-add, pow-add, pow_pos, shl-shr, shr-shr, shl_below, shl_whole, shr_below, shr_high, or_shifted, be_bytes_8, mod_below}
+use Rattle.std.proofs.lemmas.Nat.{field_of, mul-mod_first, mod-pow-add, pow-add, pow_pos, shl-shr, shr-shr, shl_below, shl_whole, shr_below, shr_high, or_shifted, be_bytes_8, mod_below}
 use Rattle.std.proofs.lemmas.Nat.Bits.{bit_at_or, bit_at-lt}
 use Rattle.asn1_bits.specs.Bits.{is_odd, digits, bits, ored}
 use Rattle.asn1_bits.specs.DigitLaws.{length-digits, length-bits, get_or-digits, get_or-bits, bits-drop, bits-take}
@@ -212,6 +212,58 @@ unfolding digits
 ored-no_digits old place n = sym (ored-none old place)
 
 -- ---- several octets at a time
+
+-- moved to the top of a word, and down again
+pub up-down : (n width : ℕ) → width ≤ 64
+    → digits (n * 2 ^ (64 - width) % 2 ^ 64 / 2 ^ (64 - width)) width ≡ digits n width
+up-down n width h =
+    let j = 64 - width in
+    let a : 64 ≡ width + j = omega arith in
+    ap (λ (k : ℕ). digits (n * 2 ^ j % 2 ^ k / 2 ^ j) width) a
+    ∙ ap (λ (m : ℕ). digits m width) (ap (λ (m : ℕ). m / 2 ^ j) (top-shifted n width j) ∙ shl-shr (n % 2 ^ width) j)
+    ∙ digits-mod n width
+
+-- two shifts to the left are one
+pub up-again : (n j k : ℕ) → n * 2 ^ j % 2 ^ 64 * 2 ^ k % 2 ^ 64 ≡ n * 2 ^ (j + k) % 2 ^ 64
+up-again n j k =
+    mul-mod_first (n * 2 ^ j) (2 ^ k) (2 ^ 64)
+    ∙ ap (λ (m : ℕ). m % 2 ^ 64) (mul_assoc n (2 ^ j) (2 ^ k) ∙ ap (λ (m : ℕ). n * m) (sym (pow-add 2 j k)))
+
+-- the shift drops the digits that lie in a ninth octet
+pub moved-past : (n width shift : ℕ) → shift < 8 → 0 < width → width ≤ 64
+    → n * 2 ^ (64 - width) % 2 ^ 64 / 2 ^ shift ≡ n / 2 ^ (shift + width - 64)
+    * 2 ^ (64 - (width - (shift + width - 64))) % 2 ^ 64 / 2 ^ shift
+moved-past n width shift h some most =
+    let past = shift + width - 64 in
+    elim (cases_lt 64 (shift + width)) [
+      | inl over ↦
+          let j = 64 - width in
+          let near = width - past in
+          let a : 64 ≡ width + j = omega arith in
+          let b : 64 ≡ near + (0 + shift) = omega arith in
+          let s : shift ≡ j + past = omega arith in
+          let w : width ≡ near + past = omega arith in
+          let up : 64 - near ≡ 0 + shift = omega arith in
+          let low : n * 2 ^ j % 2 ^ 64 / 2 ^ shift ≡ n / 2 ^ past % 2 ^ near =
+          ap (λ (k : ℕ). n * 2 ^ j % 2 ^ k / 2 ^ shift) a
+          ∙ ap (λ (m : ℕ). m / 2 ^ shift) (top-shifted n width j)
+          ∙ ap (λ (k : ℕ). (n % 2 ^ width) * 2 ^ j / 2 ^ k) s
+          ∙ sym (shr-shr ((n % 2 ^ width) * 2 ^ j) j past)
+          ∙ ap (λ (m : ℕ). m / 2 ^ past) (shl-shr (n % 2 ^ width) j)
+          ∙ ap (λ (k : ℕ). n % 2 ^ k / 2 ^ past) w
+          ∙ field_of n near past in
+          low
+          ∙ sym (ap (λ (k : ℕ). n / 2 ^ past * 2 ^ k % 2 ^ 64 / 2 ^ shift) up
+          ∙ ap (λ (k : ℕ). n / 2 ^ past * 2 ^ (0 + shift) % 2 ^ k / 2 ^ shift) b
+          ∙ window_is (n / 2 ^ past) near 0 shift
+          ∙ omega arith)
+      | inr within ↦
+          let none : past ≡ 0 = omega arith in
+          let same : width - past ≡ width = omega arith in
+          sym (ap (λ (k : ℕ). n / 2 ^ k * 2 ^ (64 - (width - past)) % 2 ^ 64 / 2 ^ shift) none
+          ∙ ap (λ (k : ℕ). n / 2 ^ 0 * 2 ^ (64 - k) % 2 ^ 64 / 2 ^ shift) same
+          ∙ ap (λ (m : ℕ). m * 2 ^ (64 - width) % 2 ^ 64 / 2 ^ shift) (div-one n))
+    ]
 
 -- the digits of a number, shifted to where they stand, where m octets hold them
 pub or-near : (m : ℕ) (old new : List Bool) (place n width : ℕ) → 0 < width → place % 8 + width ≤ 8 * m

@@ -77,9 +77,8 @@ impl<'a> BitAppender<'a> {
         let _len = self.buffer.len();
         // As in `push_number`.
         self.position += width;
-        let number = u128::from(lowest(u64::from(value), width));
-        self.buffer
-            .put_number(position, number, width, &mut Turns::new());
+        let number = lowest(u64::from(value), width);
+        self.buffer.put_few(position, number, width);
     }
 
     /// Pushes the lowest `width` binary digits of `value`, most significant first, and ticks once

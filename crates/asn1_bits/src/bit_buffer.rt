@@ -11,7 +11,7 @@ use crate::kernels::put_bitslice;
 use crate::octets::known_octets;
 use crate::single_bits::{clear_from, set_bit};
 use crate::turns::Turns;
-use crate::window::{lowest, lowest_wide, put_digits, put_word};
+use crate::window::{lowest, lowest_wide, put_digits, put_few, put_word};
 use std::alloc::{AllocError, Global};
 use std::marker::Model;
 
@@ -194,7 +194,7 @@ impl BitBuffer {
         if width == 0 || width > 56 {
             return self.push_digits(value, width);
         }
-        if octets - position / 8 < 8 {
+        if position / 8 + 8 > octets {
             let capacity = self.bytes.capacity();
             if (position + width).div_ceil(8) <= capacity && capacity - octets < READY {
                 // The digits fit the capacity, so this allocates nothing.
@@ -329,6 +329,18 @@ impl BitBuffer {
         ensures turns { turns.new.count ≡ turns.old.count + div_ceil width 64 }
     {
         put_digits(self.bytes.as_mut_slice(), position, number, width, turns);
+    }
+
+    /// Writes a number of at most 57 binary digits over the zeros from bit `position` on.
+    #[inline(always)]
+    pub(crate) fn put_few(&mut self, position: usize, number: u64, width: usize)
+        requires width { width ≤ 57 }
+        requires below { number < 2 ^ width }
+        requires within { position + width ≤ length self.old }
+        requires zeros { IsZeroFrom position self.old }
+        ensures { self.new ≡ ored self.old position (digits number width) }
+    {
+        put_few(self.bytes.as_mut_slice(), position, number, width);
     }
 
     /// Writes the view over the zeros from bit `position` on.

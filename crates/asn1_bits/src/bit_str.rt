@@ -5,12 +5,15 @@ ghost use Rattle.asn1_bits.specs.Bits.{bits, digits, number, ored};
 ghost use Rattle.asn1_bits.specs.View.{IsWithin};
 
 mod near;
+mod order;
+mod words;
 
-use crate::kernels::{read_front, read_word, write_bitslice};
+use crate::kernels::write_bitslice;
+use crate::reads::read_front;
 use crate::single_bits::{bit_from, from_octet};
 use crate::target::{Rest, Target};
 use crate::turns::Turns;
-use crate::window::{or_shifted_words, or_words, whole_word};
+use crate::window::{or_shifted_words, or_words};
 use std::alloc::AllocError;
 use std::cmp::Ordering;
 use std::hash::{Hash, Hasher};
@@ -158,87 +161,61 @@ impl<'a> BitStr<'a> {
         ensures digits { digits result width ≡ take width (bits_of self.now) }
         ensures below { result < 2 ^ width }
     {
-        read_front(from_octet(self.storage, self.octet), self.shift, width)
+        read_front(self.storage, self.octet, self.shift, width)
     }
 
-    /// `width` bits from bit `at` on, as the lowest digits of a word.
-    #[inline(always)]
-    pub(crate) fn word(&self, at: usize, width: usize) -> u64
-        requires width { width ≤ 64 }
-        requires within { at + width ≤ (view_of self.now).len }
-        ensures { digits result width ≡ take width (drop at (bits_of self.now)) }
-    {
-        let low = self.shift + at % 8;
-        let octets = from_octet(self.storage, self.octet + at / 8 + low / 8);
-        read_word(octets, low % 8, width)
-    }
-
-    /// ORs the `width` bits from bit `at` on into the front of an octet of the target. They
-    /// complete a word whose first bits are stored.
+    /// ORs the last `width` bits of a view of whole words into the front of an octet of the target.
+    /// They complete a word whose first bits are stored.
     #[inline]
-    pub(crate) fn or_edge(
-        &self,
-        at: usize,
-        width: usize,
-        dst: &mut Target<'_>,
-        rest: Rest,
-        octet: usize,
-    )
-        requires source { at + width ≤ (view_of self.now).len }
+    pub(crate) fn or_edge(&self, width: usize, dst: &mut Target<'_>, rest: Rest, octet: usize)
+        requires some { 64 ≤ (view_of self.now).len }
+        requires whole { (view_of self.now).len % 64 ≡ 0 }
         requires left { width ≤ rest.left }
         requires width { width ≤ 8 }
         requires within { 8 * octet + width ≤ 8 * length dst.old.octets.now }
         ensures bits { bits dst.new.octets.now
-            ≡ ored (bits dst.old.octets.now) (8 * octet) (take width (drop at (bits_of self.now))) }
+            ≡ ored (bits dst.old.octets.now) (8 * octet)
+            (take width (drop ((view_of self.now).len - width) (bits_of self.now))) }
         ensures same_reference { dst.new.octets.ghost_name ≡ dst.old.octets.ghost_name }
         ensures length { length dst.new.octets.now ≡ length dst.old.octets.now }
         ensures placed { dst.new.placed.count ≡ dst.old.placed.count }
     {
         if width > 0 {
-            dst.or_rest(rest, octet, self.word(at, width), width);
+            dst.or_rest(rest, octet, self.last_word(), width);
         }
     }
 
-    /// The 64 bits from bit `at` on, as the digits of a word.
-    #[inline]
-    pub(crate) fn word_of_64(&self, at: usize) -> u64
-        requires { at + 64 ≤ (view_of self.now).len }
-        ensures { digits result 64 ≡ take 64 (drop at (bits_of self.now)) }
-    {
-        let low = self.shift + at % 8;
-        whole_word(self.storage, self.octet + at / 8 + low / 8, low % 8)
-    }
-
-    /// ORs `count` words of 64 bits, taken from bit `at` on, into `dst` from octet `first` on.
-    /// Ticks once for each word.
+    /// ORs `count` words of 64 bits, taken from bit `64 - spill` on, into `dst` from octet `first`
+    /// on. Ticks once for each word.
     pub(crate) fn or_words(
         &self,
-        at: usize,
+        spill: usize,
         dst: &mut Target<'_>,
         first: usize,
         count: usize,
         turns: &mut Turns,
     )
-        requires behind { 56 ≤ at }
-        requires within { at + 64 * count ≤ (view_of self.now).len }
+        requires spill { spill < 8 }
+        requires within { 64 - spill + 64 * count ≤ (view_of self.now).len }
         requires room { first + 8 * count ≤ length dst.old.octets.now }
         ensures bits { bits dst.new.octets.now
             ≡ ored (bits dst.old.octets.now) (8 * first)
-            (take (64 * count) (drop at (bits_of self.now))) }
+            (take (64 * count) (drop (64 - spill) (bits_of self.now))) }
         ensures same_reference { dst.new.octets.ghost_name ≡ dst.old.octets.ghost_name }
         ensures length { length dst.new.octets.now ≡ length dst.old.octets.now }
         ensures each_turn_places { turns.new.count + dst.old.placed.count
             ≡ turns.old.count + dst.new.placed.count }
         ensures turns { turns.new.count ≡ turns.old.count + count }
     {
-        let low = self.shift + at % 8;
-        let octet = self.octet + at / 8 + low / 8;
+        let low = self.shift + 8 - spill;
+        let octet = self.octet + low / 8;
         if low % 8 == 0 {
-            or_words(dst, first, from_octet(self.storage, octet), count, turns);
+            let src = from_octet(self.storage, octet + 7);
+            or_words(dst, first, src, count, turns);
         } else {
             // Start seven octets earlier, so that the second load of each pair does not read past
             // the last octet.
-            let src = from_octet(self.storage, octet - 7);
+            let src = from_octet(self.storage, octet);
             or_shifted_words(dst, first, src, 56 + low % 8, count, turns);
         }
     }
@@ -331,20 +308,13 @@ impl Ord for BitStr<'_> {
     ghost matches_eq = { ties_by bits_of };
 
     fn cmp(&self, other: &Self) -> Ordering {
-        let words = self.len.min(other.len) / 64;
-        for k in 0..words {
-            let (one, two) = (self.word_of_64(64 * k), other.word_of_64(64 * k));
+        if self.len >= 64 && other.len >= 64 {
+            let (one, two) = (self.first_word(), other.first_word());
             if one != two {
                 return one.cmp(&two);
             }
         }
-        let width = self.len.min(other.len) % 64;
-        if width == 0 {
-            return self.len.cmp(&other.len);
-        }
-        let one = self.slice(64 * words, width).first_u128(width);
-        let two = other.slice(64 * words, width).first_u128(width);
-        one.cmp(&two).then(self.len.cmp(&other.len))
+        self.cmp_words(*other)
     }
 }
 

@@ -9,10 +9,11 @@ ghost use Rattle.asn1_bits.specs.View.{IsAligned};
 
 use crate::bit_str::BitStr;
 use crate::places::{or_aligned, place_word};
+use crate::reads::read_front;
 use crate::single_bits::from_octet;
 use crate::target::Target;
 use crate::turns::Turns;
-use crate::window::{eight, load, whole_word, wide_of_seventeen, word_of_nine};
+use crate::window::eight;
 use std::alloc::AllocError;
 
 /// ORs the first `count` bits of `src` into `dst` from bit `position` on, and leaves every other
@@ -57,25 +58,30 @@ fn or_view(dst: &mut Target<'_>, position: usize, src: BitStr<'_>, turns: &mut T
         ≡ turns.old.count + dst.new.placed.count }
     ensures turns { turns.new.count ≡ turns.old.count + div_ceil (view_of src.entry).len 64 }
 {
-    if src.len() > 64 {
-        *dst = or_long(dst.take(), position, src, turns);
+    if src.len() > 0 && src.len() <= 64 {
+        if let Some(word) = src.near_word() {
+            dst.or_word(position, word, src.len(), turns);
+        } else {
+            *dst = or_last(dst.take(), position, src, turns);
+        }
     } else {
-        place_word(dst, position, src, turns);
+        // A copy is lent, so that the view itself stays in registers.
+        let lent = src;
+        *dst = or_far(dst.take(), position, &lent, turns);
     }
 }
 
-/// The path of `or_view` for more than a word. Not inlined, so that callers inline only the path
-/// for short views. The target is passed and given back by value, so its place stays in registers.
+/// The path of `or_view` for at most a word near the end of its storage. Cold and not inlined.
+#[cold]
 #[inline(never)]
-fn or_long<'a>(
+fn or_last<'a>(
     target: Target<'a>,
     position: usize,
     src: BitStr<'_>,
     turns: &mut Turns,
 ) -> Target<'a>
-    requires long { 64 < (view_of src).len }
+    requires short { (view_of src).len ≤ 64 }
     requires room { position + (view_of src).len ≤ 8 * length target.octets.now }
-    requires fits { position + (view_of src).len < 2 ^ 64 }
     ensures bits { bits result.octets.now
         ≡ ored (bits target.entry.octets.now) position (bits_of src.entry) }
     ensures same_reference { result.octets.ghost_name ≡ target.entry.octets.ghost_name }
@@ -84,13 +90,65 @@ fn or_long<'a>(
         ≡ turns.old.count + result.placed.count }
     ensures turns { turns.new.count ≡ turns.old.count + div_ceil (view_of src.entry).len 64 }
 {
+    let mut own = target;
+    place_word(&mut own, position, src, turns);
+    own
+}
+
+/// The path of `or_view` for no bits, and for more than a word. Not inlined, so that callers inline
+/// only the path for short views. The target is passed and given back by value, so its place stays
+/// in registers; the view is lent, so that `or_long` is jumped to.
+#[inline(never)]
+fn or_far<'a>(
+    target: Target<'a>,
+    position: usize,
+    src: &BitStr<'_>,
+    turns: &mut Turns,
+) -> Target<'a>
+    requires far { 0 < (view_of src.now).len → 64 < (view_of src.now).len }
+    requires room { position + (view_of src.now).len ≤ 8 * length target.octets.now }
+    requires fits { position + (view_of src.now).len < 2 ^ 64 }
+    ensures bits { bits result.octets.now
+        ≡ ored (bits target.entry.octets.now) position (bits_of src.now) }
+    ensures same_reference { result.octets.ghost_name ≡ target.entry.octets.ghost_name }
+    ensures length { length result.octets.now ≡ length target.entry.octets.now }
+    ensures each_turn_places { turns.new.count + target.entry.placed.count
+        ≡ turns.old.count + result.placed.count }
+    ensures turns { turns.new.count ≡ turns.old.count + div_ceil (view_of src.now).len 64 }
+{
+    if src.len() == 0 {
+        return target;
+    }
     if position % 8 == 0 {
         if let Some(octets) = src.aligned() {
             return or_aligned(target, position / 8, octets, turns);
         }
     }
+    or_long(target, position, src, turns)
+}
+
+/// The path of `or_far` for bits that are not copied octet by octet. Not inlined, since it needs
+/// more registers.
+#[inline(never)]
+fn or_long<'a>(
+    target: Target<'a>,
+    position: usize,
+    src: &BitStr<'_>,
+    turns: &mut Turns,
+) -> Target<'a>
+    requires long { 64 < (view_of src.now).len }
+    requires room { position + (view_of src.now).len ≤ 8 * length target.octets.now }
+    requires fits { position + (view_of src.now).len < 2 ^ 64 }
+    ensures bits { bits result.octets.now
+        ≡ ored (bits target.entry.octets.now) position (bits_of src.now) }
+    ensures same_reference { result.octets.ghost_name ≡ target.entry.octets.ghost_name }
+    ensures length { length result.octets.now ≡ length target.entry.octets.now }
+    ensures each_turn_places { turns.new.count + target.entry.placed.count
+        ≡ turns.old.count + result.placed.count }
+    ensures turns { turns.new.count ≡ turns.old.count + div_ceil (view_of src.now).len 64 }
+{
     let mut own = target;
-    or_each_word(&mut own, position, src, turns);
+    or_each_word(&mut own, position, *src, turns);
     own
 }
 
@@ -111,7 +169,7 @@ fn or_each_word(dst: &mut Target<'_>, position: usize, src: BitStr<'_>, turns: &
     let len = src.len();
     let words = len / 64;
     let tail = len % 64;
-    or_whole_words(dst, position, src.slice(0, 64 * words), turns);
+    or_whole_words(dst, position, src.front(64 * words), turns);
     if tail > 0 {
         dst.or_word(
             position + 64 * words,
@@ -141,9 +199,9 @@ fn or_whole_words(dst: &mut Target<'_>, position: usize, src: BitStr<'_>, turns:
 {
     let len = src.len();
     let spill = position % 8;
-    let rest = dst.or_begun(position, src.word(0, 64 - spill), 64 - spill, turns);
-    src.or_words(64 - spill, dst, position / 8 + 8, len / 64 - 1, turns);
-    src.or_edge(len - spill, spill, dst, rest, position / 8 + len / 8);
+    let rest = dst.or_begun(position, src.first_word(), turns);
+    src.or_words(spill, dst, position / 8 + 8, len / 64 - 1, turns);
+    src.or_edge(spill, dst, rest, position / 8 + len / 8);
 }
 
 /// Writes the view over zeros from bit `position` on. Octets on octet boundaries are copied.
@@ -235,80 +293,7 @@ pub fn read_wide(bytes: &[u8], position: usize, width: usize) -> u128
     ensures digits { digits result width ≡ take width (drop position (bits bytes.now)) }
     ensures below { result < 2 ^ width }
 {
-    read_front(from_octet(bytes, position / 8), position % 8, width)
-}
-
-/// The number of the `width` bits from bit `shift` of the first octet on, the first of them its
-/// highest digit. `width` is at most 128, and the bits lie within the octets.
-#[inline(always)]
-pub(crate) fn read_front(octets: &[u8], shift: usize, width: usize) -> u128
-    requires shift { shift < 8 }
-    requires width { width ≤ 128 }
-    requires within { shift + width ≤ 8 * length octets.now }
-    ensures number { result ≡ number (take width (drop shift (bits octets.now))) }
-    ensures digits { digits result width ≡ take width (drop shift (bits octets.now)) }
-    ensures below { result < 2 ^ width }
-{
-    read_number(octets, shift, width)
-}
-
-/// The number of `width` bits, read from seventeen octets at once or, near the end of the octets,
-/// from two words.
-#[inline(always)]
-fn read_number(octets: &[u8], shift: usize, width: usize) -> u128
-    requires shift { shift < 8 }
-    requires width { width ≤ 128 }
-    requires within { shift + width ≤ 8 * length octets.now }
-    ensures { result ≡ number (take width (drop shift (bits octets.now))) }
-{
-    if width <= 64 {
-        return u128::from(read_word(octets, shift, width));
-    }
-    if octets.len() >= 17 {
-        return wide_of_seventeen(octets, shift) >> (128 - width);
-    }
-    let low = shift + (width - 64);
-    let high = whole_word(octets, 0, shift);
-    let rest = whole_word(octets, low / 8, low % 8);
-    (u128::from(high >> (128 - width)) << 64) | u128::from(rest)
-}
-
-/// The number of `width` bits from bit `shift` of the first octet on.
-#[inline(always)]
-pub(crate) fn read_word(octets: &[u8], shift: usize, width: usize) -> u64
-    requires shift { shift < 8 }
-    requires width { width ≤ 64 }
-    requires within { shift + width ≤ 8 * length octets.now }
-    ensures { result ≡ number (take width (drop shift (bits octets.now))) }
-{
-    if width > 0 && octets.len() >= 9 {
-        return word_of_nine(octets, shift) >> (64 - width);
-    }
-    if width > 0 && octets.len() == 8 {
-        return (load(octets, 0) << shift) >> (64 - width);
-    }
-    read_octets(octets, shift, width)
-}
-
-/// The number of `width` bits within eight octets, read octet by octet. Slow path for the last
-/// octets of a slice; not inlined.
-#[inline(never)]
-fn read_octets(octets: &[u8], shift: usize, width: usize) -> u64
-    requires shift { shift < 8 }
-    requires width { shift + width ≤ 64 }
-    requires within { shift + width ≤ 8 * length octets.now }
-    ensures { result ≡ number (take width (drop shift (bits octets.now))) }
-{
-    if width == 0 {
-        return 0;
-    }
-    let needed = (shift + width).div_ceil(8);
-    let excess = needed * 8 - shift - width;
-    let mut value = u64::from(octets[0] & (0xff >> shift));
-    for k in 1..needed {
-        value = value * 256 + u64::from(octets[k]);
-    }
-    value >> excess
+    read_front(bytes, position / 8, position % 8, width)
 }
 
 /// The number of the `width` bits from bit `position` on, the first of them its highest digit.

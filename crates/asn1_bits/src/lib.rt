@@ -15,6 +15,7 @@ mod kernels;
 mod octets;
 mod overwrite;
 mod places;
+mod reads;
 mod single_bits;
 mod target;
 mod turns;

@@ -97,7 +97,7 @@ pub(crate) fn place_word<D: Places>(
 {
     let len = src.len();
     if len > 0 {
-        target.place(position, src.word(0, len), len, turns);
+        target.place(position, src.own_word(), len, turns);
     }
 }
 

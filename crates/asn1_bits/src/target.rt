@@ -2,14 +2,14 @@
 //! module: a body elsewhere that holds a `Target` stores by its methods alone, which count each
 //! word and take its turn.
 
-ghost use Rattle.std.specs.Prelude.{◌≡◌, ◌+◌, ◌*◌, ◌++◌, ◌/◌, ◌%◌, ◌≤◌, ◌<◌, ◌^◌, length, take, drop};
+ghost use Rattle.std.specs.Prelude.{◌≡◌, ◌+◌, ◌-◌, ◌*◌, ◌++◌, ◌/◌, ◌%◌, ◌≤◌, ◌<◌, ◌^◌, length, take, drop};
 ghost use Rattle.std.specs.Int.{div_ceil};
 ghost use Rattle.asn1_bits.specs.Bits.{bits, digits, ored, overwritten, IsZeroFrom};
 
 use crate::turns::Turns;
 use stores::{
-    or_eight, or_front, or_octets, or_short, or_within_eight, or_word, put_pair, put_word,
-    set_octets, set_word,
+    or_eight, or_front, or_octets, or_short, or_upper, or_word, put_pair, put_word, set_octets,
+    set_word,
 };
 
 mod stores;
@@ -107,31 +107,24 @@ impl<'a> Target<'a> {
         turns.tick();
     }
 
-    /// ORs the first bits of a word in, whose rest `or_rest` stores later, and counts one turn. The
-    /// bits lie within eight octets of the slice.
+    /// ORs the first digits of a word in, as many as reach the end of the eight octets from that of
+    /// `position` on, and counts one turn. `or_rest` stores the others later.
     #[inline(always)]
-    pub(crate) fn or_begun(
-        &mut self,
-        position: usize,
-        word: u64,
-        width: usize,
-        turns: &mut Turns,
-    ) -> Rest
-        requires some { 0 < width }
-        requires width { position % 8 + width ≤ 64 }
-        requires eight { position / 8 + 8 ≤ length self.old.octets.now }
+    pub(crate) fn or_begun(&mut self, position: usize, word: u64, turns: &mut Turns) -> Rest
+        requires { position / 8 + 8 ≤ length self.old.octets.now }
         ensures bits { bits self.new.octets.now
-            ≡ ored (bits self.old.octets.now) position (digits word width) }
+            ≡ ored (bits self.old.octets.now) position
+            (digits (word / 2 ^ (position % 8)) (64 - position % 8)) }
         ensures same_reference { self.new.octets.ghost_name ≡ self.old.octets.ghost_name }
         ensures length { length self.new.octets.now ≡ length self.old.octets.now }
-        ensures left { result.left + width ≡ 64 }
+        ensures left { result.left ≡ position % 8 }
         ensures placed { self.new.placed.count ≡ self.old.placed.count + 1 }
         ensures turn { turns.new.count ≡ turns.old.count + 1 }
     {
-        or_within_eight(self.octets, position, word, width);
+        or_upper(self.octets, position, word);
         self.placed.tick();
         turns.tick();
-        Rest { left: 64 - width }
+        Rest { left: position % 8 }
     }
 
     /// ORs the rest of a begun word in, from the first bit of an octet on. `or_begun` has counted

@@ -1,6 +1,6 @@
 //! Words of bits, at any place of octets: read from a slice, and placed in a target.
 
-ghost use Rattle.std.specs.Prelude.{◌≡◌, ◌+◌, ◌-◌, ◌*◌, ◌/◌, ◌%◌, ◌^◌, ◌<◌, ◌≤◌, length, take, drop};
+ghost use Rattle.std.specs.Prelude.{◌≡◌, ◌+◌, ◌-◌, ◌*◌, ◌/◌, ◌%◌, ◌^◌, ◌<◌, ◌≤◌, ◌++◌, length, take, drop};
 ghost use Rattle.std.specs.Int.{div_ceil};
 ghost use Rattle.asn1_bits.specs.Bits.{bits, digits, ored, IsZeroFrom};
 
@@ -39,38 +39,46 @@ pub(crate) fn whole_word(octets: &[u8], first: usize, shift: usize) -> u64
     requires within { 8 * first + shift + 64 ≤ 8 * length octets.now }
     ensures { digits result 64 ≡ take 64 (drop (8 * first + shift) (bits octets.now)) }
 {
-    let high = load(octets, first);
     if shift == 0 {
-        high
+        load(octets, first)
     } else {
-        (high << shift) | u64::from(octets[first + 8] >> (8 - shift))
+        word_of_nine(octets, first, shift)
     }
+}
+
+/// The 64 digits from digit `shift` on of two words, one behind the other.
+#[inline(always)]
+fn digits_from(high: u64, low: u64, shift: usize) -> u64
+    requires { shift < 8 }
+    ensures { digits result 64 ≡ take 64 (drop shift (digits high 64 ++ digits low 64)) }
+{
+    let both = (u128::from(high) << 64) | u128::from(low);
+    // It is below 8 already. The remainder tells the compiler so.
+    ((both << (shift % 8)) >> 64) as u64
 }
 
 /// The word of the 64 bits from bit `shift` of the first of nine octets on, with no branch on the
 /// shift.
 #[inline(always)]
-pub(crate) fn word_of_nine(octets: &[u8], shift: usize) -> u64
+pub(crate) fn word_of_nine(octets: &[u8], first: usize, shift: usize) -> u64
     requires shift { shift < 8 }
-    requires nine { 9 ≤ length octets.now }
-    ensures { digits result 64 ≡ take 64 (drop shift (bits octets.now)) }
+    requires nine { first + 9 ≤ length octets.now }
+    ensures { digits result 64 ≡ take 64 (drop (8 * first + shift) (bits octets.now)) }
 {
-    let last = (u64::from(octets[8]) << shift) >> 8;
-    (load(octets, 0) << shift) | last
+    let ninth = u64::from(octets[first + 8]) << 56;
+    digits_from(load(octets, first), ninth, shift)
 }
 
 /// The 128 bits from bit `shift` of the first of seventeen octets on, as a number's digits.
-#[inline]
-pub(crate) fn wide_of_seventeen(octets: &[u8], shift: usize) -> u128
+#[inline(always)]
+pub(crate) fn wide_of_seventeen(octets: &[u8], first: usize, shift: usize) -> u128
     requires shift { shift < 8 }
-    requires seventeen { 17 ≤ length octets.now }
-    ensures { digits result 128 ≡ take 128 (drop shift (bits octets.now)) }
+    requires seventeen { first + 17 ≤ length octets.now }
+    ensures { digits result 128 ≡ take 128 (drop (8 * first + shift) (bits octets.now)) }
 {
-    // It is below 8 already. The remainder tells the compiler so.
-    let shift = shift % 8;
-    let front = (u128::from(load(octets, 0)) << 64) | u128::from(load(octets, 8));
-    let last = (u128::from(octets[16]) << shift) >> 8;
-    (front << shift) | last
+    let high = digits_from(load(octets, first), load(octets, first + 8), shift);
+    let low = word_of_nine(octets, first + 8, shift);
+    (u128::from(high) << 64) | u128::from(low)
 }
 
 /// The number of the lowest `width` digits of the word.
@@ -115,6 +123,26 @@ pub(crate) fn put_word(dst: &mut [u8], position: usize, word: u64, width: usize)
     ensures { bits dst.new ≡ ored (bits dst.old) position (digits word width) }
 {
     Target::new(dst).put_word(position, word, width, &mut Turns::new());
+}
+
+/// Writes a number of at most 57 digits over zeros from bit `position` on. It counts no turn.
+#[inline(always)]
+pub(crate) fn put_few(dst: &mut [u8], position: usize, word: u64, width: usize)
+    requires width { width ≤ 57 }
+    requires below { word < 2 ^ width }
+    requires within { position + width ≤ 8 * length dst.old }
+    requires zeros { IsZeroFrom position (bits dst.old) }
+    ensures { bits dst.new ≡ ored (bits dst.old) position (digits word width) }
+{
+    if width == 0 {
+        return;
+    }
+    // The bound is the same for each number that a loop writes into one slice.
+    if position / 8 < dst.len().saturating_sub(7) {
+        put_word(dst, position, word, width);
+    } else {
+        Target::new(dst).or_short(position, word, width, &mut Turns::new());
+    }
 }
 
 /// Writes a number of up to 128 digits over zeros from bit `position` on, and ticks once for each
@@ -162,12 +190,12 @@ fn put_in(dst: &mut Target<'_>, position: usize, number: u128, width: usize, tur
         if width == 0 {
             return;
         }
-        if dst.octet_count() - position / 8 < 8 {
+        if position / 8 + 8 > dst.octet_count() {
             dst.or_short(position, low, width, turns);
         } else {
             dst.put_word(position, low, width, turns);
         }
-    } else if position % 8 + width <= 128 && dst.octet_count() - position / 8 >= 16 {
+    } else if position % 8 + width <= 128 && position / 8 + 16 <= dst.octet_count() {
         dst.put_pair(position, number, width, turns);
     } else {
         put_apart(dst, position, number, width, turns);

@@ -7,6 +7,21 @@ ghost use Rattle.asn1_bits.specs.View.{part};
 use super::BitStr;
 
 impl<'a> BitStr<'a> {
+    /// The first `len` bits of the view.
+    #[inline(always)]
+    pub(crate) fn front(&self, len: usize) -> BitStr<'a>
+        requires { len ≤ (view_of self.now).len }
+        ensures view { view_of result ≡ part (view_of self.now) 0 len }
+        ensures list { bits_of result ≡ take len (bits_of self.now) }
+    {
+        BitStr {
+            storage: self.storage,
+            octet: self.octet,
+            shift: self.shift,
+            len,
+        }
+    }
+
     /// Splits as `split_at` does. Where the compiler knows that `at` is below 256, only the call of
     /// `split_near` is compiled.
     #[inline(always)]

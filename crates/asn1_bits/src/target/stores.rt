@@ -57,43 +57,63 @@ pub(super) fn or_word(dst: &mut [u8], position: usize, word: u64, width: usize)
     requires within { position + width ≤ 8 * length dst.old }
     ensures { bits dst.new ≡ ored (bits dst.old) position (digits word width) }
 {
-    if position % 8 + width <= 64 {
-        or_near(dst, position, word, width);
-    } else {
+    if width == 0 {
+        return;
+    }
+    // All that follows is made of this one shift, so that the compiler joins it with a shift before.
+    // The remainder lets it count both shifts at once.
+    let top = word << ((64 - width) % 64);
+    if position / 8 + 8 > dst.len() {
+        or_last(dst, position, top, width);
+        return;
+    }
+    or_front_of(dst, position, word, width);
+    let shift = position % 8;
+    if shift + width > 64 {
         // The last digits lie in a ninth octet.
-        let past = position % 8 + width - 64;
-        or_near(dst, position, word >> past, width - past);
-        or_front(dst, position / 8 + 8, word, past);
+        let past = shift + width - 64;
+        or_top(dst, position / 8 + 8, word, past, top << (64 - shift));
     }
 }
 
-/// The path of `or_word` for digits within eight octets.
-#[inline(always)]
-fn or_near(dst: &mut [u8], position: usize, word: u64, width: usize)
-    requires width { position % 8 + width ≤ 64 }
-    requires within { position + width ≤ 8 * length dst.old }
-    ensures { bits dst.new ≡ ored (bits dst.old) position (digits word width) }
-{
-    if width == 0 || dst.len() - position / 8 < 8 {
-        or_short(dst, position, word, width);
-    } else {
-        or_within_eight(dst, position, word, width);
-    }
-}
-
-/// The path of `or_near` for at least one digit, where the slice has all eight octets.
-#[inline(always)]
-pub(super) fn or_within_eight(dst: &mut [u8], position: usize, word: u64, width: usize)
+/// The path of `or_word` for the last octets of a slice: ORs the highest `width` digits of a word.
+/// Not inlined.
+#[cold]
+#[inline(never)]
+fn or_last(dst: &mut [u8], position: usize, top: u64, width: usize)
     requires some { 0 < width }
     requires width { position % 8 + width ≤ 64 }
-    requires eight { position / 8 + 8 ≤ length dst.old }
-    ensures { bits dst.new ≡ ored (bits dst.old) position (digits word width) }
+    requires within { position + width ≤ 8 * length dst.old }
+    ensures { bits dst.new ≡ ored (bits dst.old) position (digits (top / 2 ^ (64 - width)) width) }
 {
-    let moved = (word << (64 - width)) >> (position % 8);
+    or_short(dst, position, top >> (64 - width), width);
+}
+
+/// ORs those of the lowest `width` digits of the word in that lie in the first eight octets.
+#[inline(always)]
+fn or_front_of(dst: &mut [u8], position: usize, word: u64, width: usize)
+    requires some { 0 < width }
+    requires width { width ≤ 64 }
+    requires eight { position / 8 + 8 ≤ length dst.old }
+    ensures { let past = position % 8 + width - 64 in bits dst.new
+        ≡ ored (bits dst.old) position (digits (word / 2 ^ past) (width - past)) }
+{
+    let moved = (word << ((64 - width) % 64)) >> (position % 8);
     or_octets(dst, position / 8, moved);
 }
 
-/// Slow path of `or_near` for the last octets of a slice: octet by octet. Not inlined.
+/// ORs the first digits of a word in, as many as reach the end of the eight octets from that of
+/// `position` on.
+#[inline(always)]
+pub(super) fn or_upper(dst: &mut [u8], position: usize, word: u64)
+    requires { position / 8 + 8 ≤ length dst.old }
+    ensures { bits dst.new
+        ≡ ored (bits dst.old) position (digits (word / 2 ^ (position % 8)) (64 - position % 8)) }
+{
+    or_octets(dst, position / 8, word >> (position % 8));
+}
+
+/// Slow path of `or_word` for the last octets of a slice: octet by octet. Not inlined.
 #[cold]
 #[inline(never)]
 pub(super) fn or_short(dst: &mut [u8], position: usize, word: u64, width: usize)
@@ -168,10 +188,21 @@ pub(super) fn or_front(dst: &mut [u8], octet: usize, word: u64, width: usize)
     requires within { 8 * octet + width ≤ 8 * length dst.old }
     ensures { bits dst.new ≡ ored (bits dst.old) (8 * octet) (digits word width) }
 {
-    if width == 0 {
-        return;
+    if width > 0 {
+        or_top(dst, octet, word, width, word << (64 - width));
     }
-    let octets = (word << (64 - width)).to_be_bytes();
+}
+
+/// The path of `or_front` for at least one digit. `moved` has them as its first, and no others.
+#[inline(always)]
+fn or_top(dst: &mut [u8], octet: usize, word: u64, width: usize, moved: u64)
+    requires some { 0 < width }
+    requires width { width ≤ 8 }
+    requires within { 8 * octet + width ≤ 8 * length dst.old }
+    requires moved { moved ≡ word * 2 ^ (64 - width) % 2 ^ 64 }
+    ensures { bits dst.new ≡ ored (bits dst.old) (8 * octet) (digits word width) }
+{
+    let octets = moved.to_be_bytes();
     dst[octet] |= octets[0];
 }
 

@@ -16,7 +16,7 @@ returns-then-tail-gt0-clause-bits c =
     let all = c.len-len.ensures in
     more-placed old (bits c.or_whole_words.new.dst.octets.now) (bits c.or_word.new.self.octets.now) src place (64 * count) (len % 64)
     (place + 64 * count) len
-    (c.or_whole_words.ensures.bits ∙ ap (ored old place) c.slice.ensures.list)
+    (c.or_whole_words.ensures.bits ∙ ap (ored old place) c.front.ensures.list)
     (c.or_word.ensures.bits ∙ ap (ored (bits c.or_whole_words.new.dst.octets.now) (place + 64 * count)) c.word.ensures)
     refl (omega arith) (omega (arith, all.list))
     (omega (arith, length-bits c.args.dst.now.octets.now, all.len, c.requires.room))

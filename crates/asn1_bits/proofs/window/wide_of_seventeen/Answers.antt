@@ -1,29 +1,30 @@
-use Rattle.std.proofs.Common.{◌≡◌, ℕ, ◌*◌, ◌/◌, ◌%◌, ◌^◌, get_or, take, drop, sym, ap, ◌∙◌, arith}
+use Rattle.std.proofs.Common.{◌≡◌, ℕ, ◌+◌, ◌*◌, ◌%◌, ◌^◌, take, drop, sym, ap, ◌∙◌, arith}
 use Rattle.std.specs.Prelude.{bit_or}
+use Rattle.std.proofs.lemmas.List.{drop-drop}
 use Rattle.asn1_bits.specs.Bits.{bits, digits}
-use Rattle.asn1_bits.proofs.ReadWideLemmas.{pair-digits}
-use Rattle.asn1_bits.proofs.WindowLemmas.{bits-octet, carry-joined}
+use Rattle.asn1_bits.specs.DigitLaws.{length-drop_bits}
+use Rattle.asn1_bits.proofs.ReadWideLemmas.{pair-digits, sixteen-digits, eight-later}
 use Rattle.asn1_bits.proofs.window.wide_of_seventeen.Goals as goal
 
 pub returns : goal.returns
 returns c =
     let octets = c.args.octets.now in
-    let list = bits octets in
-    let shift = c.args.shift % 8 in
-    let is : shift ≡ c.args.shift = omega (arith, c.requires.shift) in
-    let a = c.load.result in
-    let b = c.load-2.result in
-    let front = bit_or (a * 2 ^ 64 % 2 ^ 128) b in
-    ap
-    (λ (n : ℕ). digits (bit_or (bit_or (n * 2 ^ 64 % 2 ^ 128) c.from-2.result * 2 ^ shift % 2 ^ 128)
-    (c.from-3.result * 2 ^ shift % 2 ^ 128 / 2 ^ 8)) 128) c.from.ensures
-    ∙ ap
-    (λ (n : ℕ). digits (bit_or (bit_or (a * 2 ^ 64 % 2 ^ 128) n * 2 ^ shift % 2 ^ 128)
-    (c.from-3.result * 2 ^ shift % 2 ^ 128 / 2 ^ 8)) 128) c.from-2.ensures
-    ∙ ap (λ (n : ℕ). digits (bit_or (front * 2 ^ shift % 2 ^ 128) (n * 2 ^ shift % 2 ^ 128 / 2 ^ 8)) 128)
-    c.from-3.ensures
-    ∙ carry-joined list 128 shift front (get_or octets 16 0) (omega arith) (omega arith)
-    (omega (arith, c.type_inv.octets 16))
-    (pair-digits list a b (omega (arith, c.load.type_inv)) (omega (arith, c.load-2.type_inv)) c.load.ensures
-    c.load-2.ensures) (sym (bits-octet octets 16 (omega (arith, c.requires.seventeen))))
-    ∙ ap (λ (n : ℕ). take 128 (drop n list)) is
+    let first = c.args.first in
+    let shift = c.args.shift in
+    let place = 8 * first in
+    let list = drop place (bits octets) in
+    let a = c.digits_from-high.result in
+    let b = c.word_of_nine-low.result in
+    let next : 8 * (first + 8) + shift ≡ place + shift + 64 = omega arith in
+    let high : digits a 64 ≡ take 64 (drop (place + shift) (bits octets)) =
+    c.digits_from-high.ensures
+    ∙ sixteen-digits list c.load.result c.load-2.result shift c.requires.shift
+    (omega (arith, length-drop_bits octets place, c.requires.seventeen)) c.load.ensures
+    (c.load-2.ensures ∙ eight-later octets first 64)
+    ∙ ap (take 64) (drop-drop shift place (bits octets)) in
+    let low : digits b 64 ≡ take 64 (drop 64 (drop (place + shift) (bits octets))) =
+    c.word_of_nine-low.ensures
+    ∙ ap (take 64) (ap (λ (k : ℕ). drop k (bits octets)) next ∙ sym (drop-drop 64 (place + shift) (bits octets))) in
+    ap (λ (n : ℕ). digits (bit_or (n * 2 ^ 64 % 2 ^ 128) c.from-2.result) 128) c.from.ensures
+    ∙ ap (λ (n : ℕ). digits (bit_or (a * 2 ^ 64 % 2 ^ 128) n) 128) c.from-2.ensures
+    ∙ pair-digits (drop (place + shift) (bits octets)) a b (omega arith) (omega arith) high low

@@ -3,14 +3,14 @@ use Rattle.asn1_bits.specs.Bits.{bits}
 use Rattle.asn1_bits.specs.BitStr.{bits_of}
 use Rattle.asn1_bits.specs.DigitLaws.{length-bits}
 use Rattle.asn1_bits.proofs.OredLemmas.{length-ored}
-use Rattle.asn1_bits.proofs.kernels.or_view.Goals as goal
+use Rattle.asn1_bits.proofs.kernels.or_last.Goals as goal
 
 pub place_word-requires-clause-within : goal.place_word-requires-clause-within
-place_word-requires-clause-within c = omega (arith, length-bits c.args.dst.now.octets.now, c.requires.room)
+place_word-requires-clause-within c = omega (arith, length-bits c.args.target.octets.now, c.requires.room)
 
-pub returns-else-len-gt64-clause-length : goal.returns-else-len-gt64-clause-length
-returns-else-len-gt64-clause-length c =
-    let old = c.args.dst.now.octets.now in
+pub returns-clause-length : goal.returns-clause-length
+returns-clause-length c =
+    let old = c.args.target.octets.now in
     omega (
       arith,
       length-bits c.place_word.new.target.octets.now,

@@ -1,7 +1,7 @@
 use Rattle.std.proofs.Common.{◌-◌, ◌*◌, sym, ◌∙◌, arith}
 use Rattle.asn1_bits.specs.NumberLaws.{number-nil}
 use Rattle.asn1_bits.proofs.ReadWideLemmas.{gathered-first, gathered-more, gathered-fits, read-short}
-use Rattle.asn1_bits.proofs.kernels.read_octets.Goals as goal
+use Rattle.asn1_bits.proofs.reads.read_octets.Goals as goal
 
 pub returns-then-width-eq0 : goal.returns-then-width-eq0
 returns-then-width-eq0 c = rw c.if-width-eq0.true (sym number-nil)

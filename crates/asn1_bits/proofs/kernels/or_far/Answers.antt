@@ -1,0 +1,13 @@
+use Rattle.std.proofs.Common.{◌≡◌, [], sym, ap, ◌∙◌, arith}
+use Rattle.std.proofs.lemmas.List.{nil_from_length}
+use Rattle.asn1_bits.specs.Bits.{bits, ored}
+use Rattle.asn1_bits.specs.BitStr.{bits_of}
+use Rattle.asn1_bits.proofs.OredLemmas.{ored-none}
+use Rattle.asn1_bits.proofs.kernels.or_far.Goals as goal
+
+pub returns-then-len-eq0-clause-bits : goal.returns-then-len-eq0-clause-bits
+returns-then-len-eq0-clause-bits c =
+    let old = bits c.args.target.octets.now in
+    let none : bits_of c.args.src.now ≡ [] =
+    nil_from_length (bits_of c.args.src.now) (omega (arith, c.if-len-eq0.true, c.len.ensures.list)) in
+    sym (ap (ored old c.args.position) none ∙ ored-none old c.args.position)
