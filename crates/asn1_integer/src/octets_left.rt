@@ -19,7 +19,7 @@ pub fn integer_of(alloc: Global, reader: &BitReader<'_>) -> Result<Integer, Allo
 {
     let width = reader.len();
     if width > 0 && width <= 128 {
-        return Ok(Integer::from(signed_word(reader.first_u128(width), width)));
+        return Ok(integer_of_word(reader.first_u128(width), width));
     }
     copied_integer_of(alloc, reader)
 }
@@ -52,7 +52,7 @@ fn long_integer_of(alloc: Global, reader: &BitReader<'_>) -> Result<Integer, All
 
 /// The two's complement value of a word's lowest `width` bits, where it has no others.
 #[inline(always)]
-fn signed_word(word: u128, width: usize) -> i128
+fn integer_of_word(word: u128, width: usize) -> Integer
     requires some { 0 < width }
     requires few { width ≤ 128 }
     requires below { word < 2 ^ width }
@@ -60,8 +60,20 @@ fn signed_word(word: u128, width: usize) -> i128
     ensures high { 2 ^ (width - 1) ≤ word → result ≡ pos word -ℤ pos (2 ^ width) }
 {
     if width <= 64 {
-        return signed_short(word as u64, width);
+        return Integer::from(signed_short(word as u64, width));
     }
+    Integer::from(signed_word(word, width))
+}
+
+/// The number of `integer_of_word`.
+#[inline(always)]
+fn signed_word(word: u128, width: usize) -> i128
+    requires some { 0 < width }
+    requires few { width ≤ 128 }
+    requires below { word < 2 ^ width }
+    ensures low { word < 2 ^ (width - 1) → result ≡ pos word }
+    ensures high { 2 ^ (width - 1) ≤ word → result ≡ pos word -ℤ pos (2 ^ width) }
+{
     let half = 1u128 << (width - 1);
     if word < half {
         word as i128
@@ -70,9 +82,9 @@ fn signed_word(word: u128, width: usize) -> i128
     }
 }
 
-/// The path of `signed_word` for at most 64 digits.
+/// The number of `integer_of_word`, of at most 64 digits.
 #[inline(always)]
-fn signed_short(word: u64, width: usize) -> i128
+fn signed_short(word: u64, width: usize) -> i64
     requires some { 0 < width }
     requires few { width ≤ 64 }
     requires below { word < 2 ^ width }
@@ -81,8 +93,8 @@ fn signed_short(word: u64, width: usize) -> i128
 {
     let half = 1u64 << (width - 1);
     if word < half {
-        i128::from(word)
+        word as i64
     } else {
-        -1 - i128::from(half - 1 - (word - half))
+        -1 - (half - 1 - (word - half)) as i64
     }
 }

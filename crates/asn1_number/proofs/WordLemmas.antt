@@ -1,21 +1,23 @@
 -- Lemmas on the first eight octets of a number.
-use Rattle.std.proofs.Common.{◌≡◌, ℕ, zero, suc, ◌+◌, ◌-◌, ◌*◌, ◌^◌, ◌<◌, ◌≤◌, ◌<ℤ◌, pos, ◌+ℤ◌, ◌*ℤ◌, List, [], ◌∷◌, ◌++◌, length, take, get_or, refl, sym, ap, subst, ◌∙◌, arith, ⊎_elim, length-append}
-use Rattle.std.proofs.lemmas.Nat.{pow-add, be_bytes_8}
-use Rattle.std.proofs.Math.Nat.{pow-le-pow_right}
-use Rattle.std.proofs.lemmas.Bool.{cases_lt}
-use mir.Val.{SFits}
+use Rattle.std.proofs.Common.{◌≡◌, ℕ, zero, suc, ◌+◌, ◌-◌, ◌*◌, ◌/◌, ◌%◌, ◌^◌, ◌<◌, ◌≤◌, ◌<ℤ◌, ℤ, pos, negsuc, ◌+ℤ◌, ◌*ℤ◌, List, [], ◌∷◌, ◌++◌, length, take, drop, get_or, refl, sym, ap, subst, ◌∙◌, arith, ⊎_elim, length-append, length-take}
+use Rattle.std.proofs.lemmas.List.{length-drop, take-append-drop}
+use Rattle.std.proofs.lemmas.Nat.{pow-add, be_bytes_8, mod_below, same_from_place}
+use Rattle.std.proofs.Math.Nat.{pow-le-pow_right, div-add-mod'}
+use Rattle.std.proofs.lemmas.Bool.{cases_lt, lt-ltb, le-ltb}
+use mir.Val.{SFits, sel}
+use lib.Dec.{ltb}
 use borrow.Author.Differences.{up, down, sum_is_lem, product_is, same_in}
 use Rattle.std.proofs.Math.Seq.{take-length}
-use Rattle.std.proofs.lemmas.Int.{ints}
+use Rattle.std.proofs.lemmas.Int.{ints, of_z-to_z}
 use Rattle.std.specs.Cmp.{int_cmp_is}
-use Rattle.std.proofs.lemmas.Cmp.{int_ranked}
+use Rattle.std.proofs.lemmas.Cmp.{int_ranked, ranked}
 use Rattle.std.specs.declared.cmp.Ordering.{Ordering}
 use Rattle.std.specs.declared.cmp.Ordering.TheVariants.{Less, Equal, Greater}
-use Rattle.std.specs.Int.{from_be_bytes, cast_signed, w64, w128}
-use Rattle.std.specs.Ordering.{MatchOrdering, int_cmp}
+use Rattle.std.specs.Int.{from_be_bytes, cast_signed, cast_unsigned, w64, w128}
+use Rattle.std.specs.Ordering.{MatchOrdering, int_cmp, nat_cmp}
 use Rattle.asn1_number.specs.Octets.{IsOctets, unsigned, signed}
-use Rattle.asn1_number.specs.OctetLaws.{unsigned-cons, unsigned_nil, low_parts, high_parts, signed_range}
-use Rattle.asn1_number.specs.WidthLaws.{unsigned-bytes, signed-bytes, signed_more, octet_at, fits_by_parts}
+use Rattle.asn1_number.specs.OctetLaws.{unsigned-cons, unsigned_nil, low_parts, high_parts, signed_range, octets-drop}
+use Rattle.asn1_number.specs.WidthLaws.{unsigned-bytes, signed-bytes, signed_as_bits, signed_more, octet_at, octets-take, fits_by_parts}
 
 -- a word's bytes spell it
 pub word_value : (o : List ℕ) (n : ℕ) → length o ≡ 8 → ((i : ℕ) → get_or o i 0 < 256) → n ≡ from_be_bytes w64 o
@@ -118,3 +120,109 @@ order_by_first k a b h g p l e d =
     by_cases Less m = below_by_first k a b h g p l e m
     by_cases Equal m = absurd (d m)
     by_cases Greater m = below_by_first k b a g h p (omega arith) (sym e) m
+
+-- ---- words in the order of numbers
+
+-- a word with its sign bit turned is the number, moved up by half of the words
+biased : (n : ℕ) → n < 2 ^ 64 → pos ((n + 2 ^ 63) % 2 ^ 64) ≡ cast_signed w64 n +ℤ pos (2 ^ 63)
+biased n h = ⊎_elim low high (cases_lt n (2 ^ 63))
+  where
+    low : n < 2 ^ 63 → pos ((n + 2 ^ 63) % 2 ^ 64) ≡ cast_signed w64 n +ℤ pos (2 ^ 63)
+    low l =
+        let e : cast_signed w64 n ≡ pos n = ap (λ t. sel t (pos n) (negsuc (2 ^ 64 - suc n))) (lt-ltb n (2 ^ 63) l) in
+        omega (arith, ints, e, div-add-mod' (n + 2 ^ 63) (2 ^ 64), mod_below (n + 2 ^ 63) (2 ^ 64) (omega arith))
+
+    high : 2 ^ 63 ≤ n → pos ((n + 2 ^ 63) % 2 ^ 64) ≡ cast_signed w64 n +ℤ pos (2 ^ 63)
+    high l =
+        let e : cast_signed w64 n ≡ negsuc (2 ^ 64 - suc n) =
+        ap (λ t. sel t (pos n) (negsuc (2 ^ 64 - suc n))) (le-ltb n (2 ^ 63) l) in
+        omega (arith, ints, e, div-add-mod' (n + 2 ^ 63) (2 ^ 64), mod_below (n + 2 ^ 63) (2 ^ 64) (omega arith))
+
+-- two words with one signed value are one
+pub same_word : (m n : ℕ) → m < 2 ^ 64 → n < 2 ^ 64 → cast_signed w64 m ≡ cast_signed w64 n → m ≡ n
+same_word m n h g e = sym (of_z-to_z w64 m h) ∙ (ap (cast_unsigned w64) e ∙ of_z-to_z w64 n g)
+
+pub biased_order : (m n : ℕ) → m < 2 ^ 64 → n < 2 ^ 64
+    → nat_cmp ((m + 2 ^ 63) % 2 ^ 64) ((n + 2 ^ 63) % 2 ^ 64) ≡ int_cmp (cast_signed w64 m) (cast_signed w64 n)
+biased_order m n h g =
+    int_cmp_is (cast_signed w64 m) (cast_signed w64 n) (nat_cmp x y) (by_cases (nat_cmp x y) (ranked x y (nat_cmp x y) refl))
+  where
+    x : ℕ
+    x = (m + 2 ^ 63) % 2 ^ 64
+
+    y : ℕ
+    y = (n + 2 ^ 63) % 2 ^ 64
+
+    by_cases : (o : Ordering) → MatchOrdering o (x < y) (x ≡ y) (y < x)
+        → MatchOrdering o (cast_signed w64 m <ℤ cast_signed w64 n) (cast_signed w64 m ≡ cast_signed w64 n)
+        (cast_signed w64 n <ℤ cast_signed w64 m)
+    by_cases Less l = omega (arith, ints, l, biased m h, biased n g)
+    by_cases Equal l = omega (arith, ints, l, biased m h, biased n g)
+    by_cases Greater l = omega (arith, ints, l, biased m h, biased n g)
+
+-- what is added to one number orders the sums
+moved_order : (z : ℤ) (x y : ℕ) → nat_cmp x y ≡ int_cmp (z +ℤ pos x) (z +ℤ pos y)
+moved_order z x y = int_cmp_is (z +ℤ pos x) (z +ℤ pos y) (nat_cmp x y) (by_cases (nat_cmp x y) (ranked x y (nat_cmp x y) refl))
+  where
+    by_cases : (o : Ordering) → MatchOrdering o (x < y) (x ≡ y) (y < x)
+        → MatchOrdering o ((z +ℤ pos x) <ℤ (z +ℤ pos y)) ((z +ℤ pos x) ≡ (z +ℤ pos y))
+        ((z +ℤ pos y) <ℤ (z +ℤ pos x))
+    by_cases Less l = omega (arith, ints, l)
+    by_cases Equal l = omega (arith, ints, l)
+    by_cases Greater l = omega (arith, ints, l)
+
+-- two numbers of sixteen octets with the same first eight are ordered by the last eight
+pub order_by_last : (a b : List ℕ) → IsOctets a → IsOctets b → length a ≡ 16 → length b ≡ 16
+    → signed (take 8 a) ≡ signed (take 8 b)
+    → nat_cmp (unsigned (drop 8 a)) (unsigned (drop 8 b)) ≡ int_cmp (signed a) (signed b)
+order_by_last a b h g l k e =
+    let x = parts a h l in
+    let y = parts b g k in
+    let e' : signed a ≡ signed (take 8 b) *ℤ pos (2 ^ 64) +ℤ pos (unsigned (drop 8 a)) =
+    x ∙ ap (λ (z : ℤ). z *ℤ pos (2 ^ 64) +ℤ pos (unsigned (drop 8 a))) e in
+    moved_order (signed (take 8 b) *ℤ pos (2 ^ 64)) (unsigned (drop 8 a)) (unsigned (drop 8 b))
+    ∙ (ap (λ z. int_cmp z (signed (take 8 b) *ℤ pos (2 ^ 64) +ℤ pos (unsigned (drop 8 b)))) (sym e')
+    ∙ ap (int_cmp (signed a)) (sym y))
+  where
+    parts : (o : List ℕ) → IsOctets o → length o ≡ 16
+        → signed o ≡ signed (take 8 o) *ℤ pos (2 ^ 64) +ℤ pos (unsigned (drop 8 o))
+    parts o h l =
+        ap signed (sym (take-append-drop 8 o))
+        ∙ signed-eight_more (take 8 o) (drop 8 o) (omega (arith, length-take 8 o)) (octets-take 8 o h) (octets-drop 8 o h)
+        (length-drop 8 o ∙ omega arith)
+
+-- ---- a number of two words
+
+pub two_halves : (h l : ℕ) → l < 2 ^ 64 → ((h * 2 ^ 64 + l) / 2 ^ 64 ≡ h) × ((h * 2 ^ 64 + l) % 2 ^ 64 ≡ l)
+two_halves h l b =
+    let d = div-add-mod' (h * 2 ^ 64 + l) (2 ^ 64) in
+    let m = mod_below (h * 2 ^ 64 + l) (2 ^ 64) (omega arith) in
+    same_from_place ((h * 2 ^ 64 + l) / 2 ^ 64) ((h * 2 ^ 64 + l) % 2 ^ 64) h l (2 ^ 64) m b d
+
+-- sixteen octets spell the number of their two words
+pub sixteen_by_halves : (a : List ℕ) → IsOctets a → length a ≡ 16
+    → cast_signed w128 (unsigned (take 8 a) * 2 ^ 64 + unsigned (drop 8 a)) ≡ signed a
+sixteen_by_halves [] h l = absurd (omega arith)
+sixteen_by_halves (b ∷ bs) h l =
+    let n : length bs ≡ 15 = omega arith in
+    let w : length (drop 8 (b ∷ bs)) ≡ 8 = length-drop 8 (b ∷ bs) ∙ omega arith in
+    let u : unsigned (b ∷ bs) ≡ unsigned (take 8 (b ∷ bs)) * 2 ^ 64 + unsigned (drop 8 (b ∷ bs)) =
+    ap unsigned (sym (take-append-drop 8 (b ∷ bs))) ∙ unsigned-eight_more (take 8 (b ∷ bs)) (drop 8 (b ∷ bs)) w in
+    let s : signed (b ∷ bs) ≡ sel (ltb (unsigned (b ∷ bs)) (128 * 256 ^ 15)) (pos (unsigned (b ∷ bs)))
+    (negsuc (256 ^ 16 - suc (unsigned (b ∷ bs)))) =
+    signed_as_bits b bs h
+    ∙ ap (λ (k : ℕ). sel (ltb (unsigned (b ∷ bs)) (128 * 256 ^ k)) (pos (unsigned (b ∷ bs)))
+    (negsuc (256 ^ suc k - suc (unsigned (b ∷ bs))))) n in
+    ap (cast_signed w128) (sym u) ∙ sym s
+
+-- one or two octets fit a word
+pub two_fit : (o : List ℕ) → IsOctets o → 0 < length o → length o ≤ 2 → SFits w64 (signed o)
+two_fit [] h some few = absurd (omega arith)
+two_fit (b ∷ bs) h some few =
+    let r = signed_range b bs h in
+    let p : 256 ^ length bs ≤ 256 ^ 1 = pow-le-pow_right (omega arith) {i = length bs} {j = 1} (omega arith) in
+    fits (signed (b ∷ bs)) (omega arith) (omega arith)
+  where
+    fits : (z : ℤ) → up z < 2 ^ 63 → down z ≤ 2 ^ 63 → SFits w64 z
+    fits (pos n) h k = record { sfits = h }
+    fits (negsuc n) h k = record { sfits = k }

@@ -71,7 +71,7 @@ impl From<i64> for Integer {
     ghost from_gives = { λ n number. number ≡ n };
 
     fn from(n: i64) -> Integer {
-        Integer::from(i128::from(n))
+        Integer::of_word(n)
     }
 }
 

@@ -1,8 +1,8 @@
 //! Whole numbers of any size, and their octets (X.690 8.3).
-ghost use Rattle.std.specs.Prelude.{◌≡◌, ◌≢◌, ℕ, ◌<◌, ◌≤◌, ◌^◌, ◌↔◌, List, [], length, take, pos, Some};
+ghost use Rattle.std.specs.Prelude.{◌≡◌, ◌≢◌, ℕ, ◌+◌, ◌*◌, ◌<◌, ◌≤◌, ◌^◌, ◌↔◌, List, [], length, pos, Some};
 ghost use Rattle.std.specs.Prelude.{IsTrue, IfOk, IfErr, OnErr, IsErrOf, SomeIff, MatchOption};
-ghost use Rattle.std.specs.Int.{IsNonNegative};
-ghost use Rattle.std.specs.Ordering.{int_cmp, int_eq};
+ghost use Rattle.std.specs.Int.{IsNonNegative, cast_signed, w128};
+ghost use Rattle.std.specs.Ordering.{int_cmp, int_eq, nat_cmp};
 ghost use Rattle.std.specs.Cmp.Rules.{comparing, hashing};
 ghost use Rattle.std.specs.Hash as fed;
 ghost use Rattle.std.proofs.Common.{rules};
@@ -13,8 +13,12 @@ ghost use Rattle.asn1_number.specs.Shortest.{shortest_octets};
 
 use crate::error::IntegerError;
 use crate::integer_bytes::IntegerBytes;
-use crate::sign_octets::without_redundant_sign_octets;
-use crate::values::{shortest_of, signed_value, unsigned_value, words_of};
+use crate::order::{compare_octets, octets_keys, rank_of, sixteen_keys};
+use crate::sign_octets::shortest_part;
+use crate::values::{
+    halves_among, halves_of, signed_value, spare_of_eight, start_among, start_of, unsigned_value,
+    widened,
+};
 use std::alloc::{AllocError, Global};
 use std::cmp::Ordering;
 use std::hash::{Hash, Hasher};
@@ -29,7 +33,9 @@ pub struct Integer {
 /// Each number has one form: inline within `i128`, else its shortest two's complement octets.
 #[derive(Debug, Drop)]
 enum Form {
-    Inline(i128),
+    /// The sixteen octets of the number, of which those from `start` on are the shortest. So these
+    /// can be lent.
+    Inline { start: usize, words: [[u8; 8]; 2] },
     Shortest(Vec<u8>),
 }
 
@@ -63,9 +69,43 @@ impl Integer {
     pub(crate) fn inline(number: i128) -> Integer
         ensures { result ≡ number }
     {
+        let (high, low) = halves_of(number);
+        Integer::spelled(start_of(number), high, low)
+    }
+
+    /// A number within `i64`: it takes the work of one word.
+    #[inline]
+    pub(crate) fn of_word(number: i64) -> Integer
+        ensures { result ≡ number }
+    {
+        let (high, low) = widened(number);
+        Integer::spelled(8 + spare_of_eight(number), high, low)
+    }
+
+    /// The number of two words, whose shortest octets begin at a place of its sixteen.
+    #[inline]
+    fn spelled(start: usize, high: u64, low: u64) -> Integer
+        requires { let number = cast_signed w128 (high * 2 ^ 64 + low) in
+            start + length (shortest_octets number) ≡ 16 }
+        ensures { result ≡ cast_signed w128 (high * 2 ^ 64 + low) }
+    {
         Integer {
-            form: Form::Inline(number),
+            form: Form::Inline {
+                start,
+                words: [high.to_be_bytes(), low.to_be_bytes()],
+            },
         }
+    }
+
+    /// The two's complement value of one to sixteen octets.
+    #[inline(always)]
+    fn of_few_octets(octets: &[u8]) -> Integer
+        requires some { 0 < length octets.now }
+        requires few { length octets.now ≤ 16 }
+        ensures { result ≡ signed octets.now }
+    {
+        let (high, low) = halves_among(octets);
+        Integer::spelled(start_among(octets), high, low)
     }
 
     /// The same number. Memory is asked for only where it lies outside `i128`.
@@ -74,7 +114,12 @@ impl Integer {
         ensures memory { OnErr result (¬ (FitsI128 self.now)) }
     {
         match &self.form {
-            Form::Inline(number) => Ok(Integer::inline(*number)),
+            Form::Inline { start, words } => Ok(Integer {
+                form: Form::Inline {
+                    start: *start,
+                    words: *words,
+                },
+            }),
             Form::Shortest(octets) => {
                 let Ok(copy) = Vec::from_slice(*octets.allocator(), octets.as_slice()) else {
                     return Err(AllocError);
@@ -102,7 +147,7 @@ impl Integer {
 
     /// The two's complement value of the octets, at any length (X.690 8.3.3). Memory is asked for
     /// only where it lies outside `i128`, and then for its shortest octets alone.
-    #[inline]
+    #[inline(always)]
     pub fn from_signed_octets(alloc: Global, octets: &[u8]) -> Result<Integer, IntegerError>
         ensures empty { octets.now ≡ [] → IsErrOf result IntegerError.UnexpectedEmptyInput }
         ensures value { IfOk result (λ n. n ≡ signed octets.now) }
@@ -113,13 +158,27 @@ impl Integer {
             return Err(IntegerError::UnexpectedEmptyInput);
         }
         if octets.len() <= 16 {
-            return Ok(Integer::inline(signed_value(octets)));
+            return Ok(Integer::of_few_octets(octets));
         }
-        Integer::from_many_octets(alloc, octets)
+        Integer::from_more_octets(alloc, octets)
     }
 
-    /// The two's complement value of one octet or more. Up to sixteen octets are read where they
-    /// stand, without this call.
+    /// The path of `from_signed_octets` for more than sixteen octets. Inlined, so that the place of
+    /// the call's answer is made ready on this path alone.
+    #[inline(always)]
+    fn from_more_octets(alloc: Global, octets: &[u8]) -> Result<Integer, IntegerError>
+        requires { 0 < length octets.now }
+        ensures value { IfOk result (λ n. n ≡ signed octets.now) }
+        ensures memory { IfErr result
+            (λ e. (e ≡ IntegerError.Memory) × ¬ (FitsI128 (signed octets.now))) }
+    {
+        match Integer::from_many_octets(alloc, octets) {
+            Ok(number) => Ok(number),
+            Err(_) => Err(IntegerError::Memory),
+        }
+    }
+
+    /// The two's complement value of many octets, which take memory.
     #[inline(never)]
     fn from_many_octets(alloc: Global, octets: &[u8]) -> Result<Integer, IntegerError>
         requires { 0 < length octets.now }
@@ -127,15 +186,15 @@ impl Integer {
         ensures memory { IfErr result
             (λ e. (e ≡ IntegerError.Memory) × ¬ (FitsI128 (signed octets.now))) }
     {
-        let shortest = without_redundant_sign_octets(octets);
-        if shortest.len() <= 16 {
-            return Ok(Integer::inline(signed_value(shortest)));
+        let kept = shortest_part(octets);
+        if kept.len() <= 16 {
+            return Ok(Integer::of_few_octets(kept));
         }
-        let Ok(octets) = Vec::from_slice(alloc, shortest) else {
+        let Ok(kept) = Vec::from_slice(alloc, kept) else {
             return Err(IntegerError::Memory);
         };
         Ok(Integer {
-            form: Form::Shortest(octets),
+            form: Form::Shortest(kept),
         })
     }
 
@@ -173,7 +232,9 @@ impl Integer {
         ensures { IsShortest self.now result }
     {
         match &self.form {
-            Form::Inline(number) => shortest_of(*number),
+            Form::Inline { start, words } => {
+                IntegerBytes::borrowed(&words.as_flattened()[*start..])
+            }
             Form::Shortest(octets) => IntegerBytes::borrowed(octets.as_slice()),
         }
     }
@@ -183,10 +244,7 @@ impl Integer {
         ensures { (o : List ℕ) → IsShortest self.now o → result ≡ length o }
     {
         match &self.form {
-            Form::Inline(number) => {
-                let (start, _, _) = words_of(*number);
-                16 - start
-            }
+            Form::Inline { start, .. } => 16 - *start,
             Form::Shortest(octets) => octets.as_slice().len(),
         }
     }
@@ -199,18 +257,19 @@ impl Integer {
         self.signed_octets().without_sign()
     }
 
-    /// Two numbers within `i128` in the order of these: inline numbers themselves, so that no more
-    /// is done for `<` or `==` than `i128` does.
+    /// Two words in the order of these, so that no more is done for `<` or `==` than `u64` does.
     #[inline]
-    fn order_keys(&self, other: &Integer) -> (i128, i128)
-        ensures { int_cmp result.0 result.1 ≡ int_cmp self.now other.now }
+    fn order_keys(&self, other: &Integer) -> (u64, u64)
+        ensures { nat_cmp result.0 result.1 ≡ int_cmp self.now other.now }
     {
         match (&self.form, &other.form) {
-            (Form::Inline(number), Form::Inline(other)) => (*number, *other),
+            (Form::Inline { words, .. }, Form::Inline { words: others, .. }) => {
+                sixteen_keys(words.as_flattened(), others.as_flattened())
+            }
             (Form::Shortest(octets), Form::Shortest(others)) => {
                 octets_keys(octets.as_slice(), others.as_slice())
             }
-            _ => (sign_of(self.compare_by_octets(other)), 0),
+            _ => (rank_of(self.compare_by_octets(other)), 1),
         }
     }
 
@@ -231,7 +290,7 @@ impl Integer {
         ensures { SomeIff result (FitsI128 self.now) self.now }
     {
         match &self.form {
-            Form::Inline(number) => Some(*number),
+            Form::Inline { words, .. } => Some(signed_value(words.as_flattened())),
             Form::Shortest(_) => None,
         }
     }
@@ -257,7 +316,7 @@ impl Integer {
             (λ n. (pos n ≡ self.now) × IsInRange kind_u128 self.now) }
     {
         match &self.form {
-            Form::Inline(number) => u128::try_from(*number).ok(),
+            Form::Inline { words, .. } => u128::try_from(signed_value(words.as_flattened())).ok(),
             Form::Shortest(octets) => match octets.as_slice() {
                 [0, rest @ ..] if rest.len() == 16 => Some(unsigned_value(rest)),
                 _ => None,
@@ -271,61 +330,6 @@ impl Default for Integer {
 
     fn default() -> Integer {
         Integer::zero()
-    }
-}
-
-/// Two numbers within `i128` in the order of those that eight or more shortest octets each spell.
-/// Mostly the first eight, which hold the sign, tell two numbers of one length apart.
-#[inline]
-fn octets_keys(a: &[u8], b: &[u8]) -> (i128, i128)
-    requires a_shortest { IsShortest (signed a.now) a.now }
-    requires b_shortest { IsShortest (signed b.now) b.now }
-    requires many { (8 ≤ length a.now) × (8 ≤ length b.now) }
-    ensures { int_cmp result.0 result.1 ≡ octets_cmp a.now b.now }
-{
-    let (first, other) = (first_word(a), first_word(b));
-    if a.len() == b.len() && first != other {
-        return (i128::from(first), i128::from(other));
-    }
-    (sign_of(compare_octets(a, b)), 0)
-}
-
-/// The number -1, 0 or 1 that is to 0 as the order says.
-fn sign_of(order: Ordering) -> i128
-    ensures { int_cmp result (pos 0) ≡ order }
-{
-    match order {
-        Ordering::Less => -1,
-        Ordering::Equal => 0,
-        Ordering::Greater => 1,
-    }
-}
-
-/// The two's complement value of the first eight octets.
-fn first_word(octets: &[u8]) -> i64
-    requires { 8 ≤ length octets.now }
-    ensures { result ≡ signed (take 8 octets.now) }
-{
-    let Some(first) = octets.first_chunk::<8>() else {
-        unreachable!()
-    };
-    u64::from_be_bytes(*first).cast_signed()
-}
-
-/// The order of two numbers by their shortest octets: by sign, then by length, then octet by
-/// octet.
-#[inline(never)]
-fn compare_octets(a: &[u8], b: &[u8]) -> Ordering
-    requires a_shortest { IsShortest (signed a.now) a.now }
-    requires b_shortest { IsShortest (signed b.now) b.now }
-    ensures { result ≡ octets_cmp a.now b.now }
-{
-    match (a[0] >= 128, b[0] >= 128) {
-        (true, false) => Ordering::Less,
-        (false, true) => Ordering::Greater,
-        _ if a.len() == b.len() => a.cmp(b),
-        (false, false) => a.len().cmp(&b.len()),
-        (true, true) => b.len().cmp(&a.len()),
     }
 }
 

@@ -12,6 +12,7 @@ mod from_native;
 mod integer;
 mod integer_bytes;
 mod laws;
+mod order;
 mod sign_octets;
 mod try_from_integer;
 mod values;

@@ -9,6 +9,16 @@ fn repeats_sign(first: u8, second: u8) -> bool
     first == 0 && second < 128 || first == 255 && second >= 128
 }
 
+/// Whether the first octet alone tells that the octets are the shortest of their two's complement
+/// value (X.690 8.3.2), as it mostly does.
+#[inline]
+pub(crate) fn is_plainly_shortest(octets: &[u8]) -> bool
+    requires { 0 < length octets.now }
+    ensures { IsTrue result → IsShortest (signed octets.now) octets.now }
+{
+    octets.len() == 1 || octets[0].wrapping_add(1) > 1
+}
+
 /// The end of the list that is the shortest spelling of the same two's complement value
 /// (X.690 8.3.2); empty for an empty list.
 pub fn without_redundant_sign_octets(octets: &[u8]) -> &[u8]
@@ -23,6 +33,18 @@ pub fn without_redundant_sign_octets(octets: &[u8]) -> &[u8]
         rest = &rest[1..];
     }
     rest
+}
+
+/// `without_redundant_sign_octets`, where mostly the first octet tells that there are none.
+#[inline]
+pub(crate) fn shortest_part(octets: &[u8]) -> &[u8]
+    requires { 0 < length octets.now }
+    ensures { IsShortest (signed octets.now) result.now }
+{
+    if is_plainly_shortest(octets) {
+        return octets;
+    }
+    without_redundant_sign_octets(octets)
 }
 
 /// How many first octets of a number's shortest two's complement octets only say that it is not

@@ -1,10 +1,11 @@
 //! Values of at most sixteen octets, and the shortest octets of numbers within `i128` (X.690 8.3).
-ghost use Rattle.std.specs.Prelude.{◌≡◌, ◌+◌, ◌<◌, ◌≤◌, ◌++◌, length, drop};
-ghost use Rattle.std.specs.Int.{to_be_bytes, cast_signed, w64};
+ghost use Rattle.std.specs.Prelude.{◌≡◌, ◌+◌, ◌*◌, ◌^◌, ◌<◌, ◌≤◌, ◌++◌, length, drop};
+ghost use Rattle.std.specs.Int.{to_be_bytes, cast_signed, w64, w128};
 ghost use Rattle.asn1_number.specs.Octets.{IsShortest, signed, unsigned};
 ghost use Rattle.asn1_number.specs.Shortest.{shortest_octets};
 
 use crate::integer_bytes::IntegerBytes;
+use crate::sign_octets::is_plainly_shortest;
 
 /// The number of eight octets, most significant first.
 #[inline]
@@ -78,12 +79,109 @@ pub fn unsigned_value(octets: &[u8]) -> u128
 }
 
 /// How many of the eight octets of the number only repeat its sign.
-fn spare_of_eight(number: i64) -> usize
+pub(crate) fn spare_of_eight(number: i64) -> usize
     ensures { result + length (shortest_octets number) ≡ 8 }
 {
     let distance = if number < 0 { -1 - number } else { number };
     // 0 and -1 need a bit too, and each number one more bit, its sign.
     ((2 * distance.cast_unsigned() + 1).leading_zeros() / 8) as usize
+}
+
+/// Where the shortest octets of the number begin in its sixteen octets. A number within `i64`
+/// takes the work of one word.
+pub(crate) fn start_of(number: i128) -> usize
+    ensures { result + length (shortest_octets number) ≡ 16 }
+{
+    match i64::try_from(number) {
+        Ok(short) => 8 + spare_of_eight(short),
+        // The low word's octets are all needed: the high word's tell how many are spare.
+        Err(_) => spare_of_eight(((number.cast_unsigned() >> 64) as u64).cast_signed()),
+    }
+}
+
+/// Where the shortest octets begin in the sixteen of the number that these octets spell. Mostly
+/// they are the shortest.
+#[inline]
+pub(crate) fn start_among(octets: &[u8]) -> usize
+    requires some { 0 < length octets.now }
+    requires few { length octets.now ≤ 16 }
+    ensures { result + length (shortest_octets (signed octets.now)) ≡ 16 }
+{
+    if is_plainly_shortest(octets) {
+        return 16 - octets.len();
+    }
+    later_start(octets)
+}
+
+/// The path of `start_among` where the first octet does not tell.
+#[cold]
+#[inline(never)]
+fn later_start(octets: &[u8]) -> usize
+    requires some { 0 < length octets.now }
+    requires few { length octets.now ≤ 16 }
+    ensures { result + length (shortest_octets (signed octets.now)) ≡ 16 }
+{
+    start_of(signed_value(octets))
+}
+
+/// The two words of the two's complement value of one to sixteen octets.
+#[inline]
+pub(crate) fn halves_among(octets: &[u8]) -> (u64, u64)
+    requires some { 0 < length octets.now }
+    requires few { length octets.now ≤ 16 }
+    ensures { cast_signed w128 (result.0 * 2 ^ 64 + result.1) ≡ signed octets.now }
+{
+    match octets.len() {
+        1 | 2 => widened(signed_of_two(octets)),
+        8 => widened(word_of_eight(octets).cast_signed()),
+        16 => {
+            let (front, last) = octets.split_at(8);
+            (word_of_eight(front), word_of_eight(last))
+        }
+        _ => halves_by_octets(octets),
+    }
+}
+
+/// The path of `halves_among` for other counts. Not inlined, since it has loops.
+#[inline(never)]
+fn halves_by_octets(octets: &[u8]) -> (u64, u64)
+    requires some { 0 < length octets.now }
+    requires few { length octets.now ≤ 16 }
+    ensures { cast_signed w128 (result.0 * 2 ^ 64 + result.1) ≡ signed octets.now }
+{
+    halves_of(signed_value(octets))
+}
+
+/// The two words of a number.
+#[inline]
+pub(crate) fn halves_of(number: i128) -> (u64, u64)
+    ensures { cast_signed w128 (result.0 * 2 ^ 64 + result.1) ≡ number }
+{
+    let bits = number.cast_unsigned();
+    ((bits >> 64) as u64, (bits % (1 << 64)) as u64)
+}
+
+/// The two words of a number within one.
+#[inline]
+pub(crate) fn widened(number: i64) -> (u64, u64)
+    ensures { cast_signed w128 (result.0 * 2 ^ 64 + result.1) ≡ number }
+{
+    let high = if number < 0 { u64::MAX } else { 0 };
+    (high, number.cast_unsigned())
+}
+
+/// The two's complement value of one or two octets.
+#[inline]
+fn signed_of_two(octets: &[u8]) -> i64
+    requires some { 0 < length octets.now }
+    requires few { length octets.now ≤ 2 }
+    ensures { result ≡ signed octets.now }
+{
+    let first = i128::from(octets[0].cast_signed());
+    if octets.len() == 1 {
+        return first as i64;
+    }
+    (first * 256 + i128::from(octets[1])) as i64
 }
 
 /// Two words of eight octets that end with the shortest octets of the number, and where these

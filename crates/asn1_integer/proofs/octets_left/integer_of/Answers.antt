@@ -1,13 +1,10 @@
-use Rattle.std.proofs.Common.{◌∙◌, to_z-of_z}
-use Rattle.std.specs.Int.{w128}
+use Rattle.std.proofs.Common.{◌∙◌}
 use Rattle.asn1_bits.specs.BitReader.{bits_left}
 use Rattle.asn1_integer.specs.WordLaws.{word_value}
 use Rattle.asn1_integer.proofs.octets_left.integer_of.Goals as goal
 
 pub returns-then-width-le128 : goal.returns-then-width-le128
 returns-then-width-le128 c = λ octets is are.
-    c.from.ensures
-    ∙ to_z-of_z {w = w128} (record { sfits = c.signed_word.type_inv })
-    ∙ word_value octets (bits_left c.args.reader.now) c.first_u128.result c.len-width.result c.signed_word.result are is
-    c.len-width.ensures.list c.first_u128.ensures.number c.if-width-gt0.true c.signed_word.ensures.low
-    c.signed_word.ensures.high
+    word_value octets (bits_left c.args.reader.now) c.first_u128.result c.len-width.result c.integer_of_word.result are is
+    c.len-width.ensures.list c.first_u128.ensures.number c.if-width-gt0.true c.integer_of_word.ensures.low
+    c.integer_of_word.ensures.high

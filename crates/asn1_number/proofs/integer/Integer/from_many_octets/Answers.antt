@@ -1,4 +1,4 @@
-use Rattle.std.proofs.Common.{rules, arith, ◌≡◌, ◌<◌, length, refl}
+use Rattle.std.proofs.Common.{arith, ◌≡◌, refl}
 use Rattle.asn1_number.specs.Octets.{signed}
 use Rattle.asn1_number.specs.OctetLaws.{nine_bits_from_shortest}
 use Rattle.asn1_number.specs.ReadingLaws.{past_sixteen}
@@ -6,10 +6,8 @@ use Rattle.asn1_number.proofs.integer.Integer.from_many_octets.Goals as goal
 
 pub returns-in_default-clause-memory : goal.returns-in_default-clause-memory
 returns-in_default-clause-memory c =
-    let some : 0 < length c.args.octets.now = search rules in
-    let s = c.without_redundant_sign_octets-shortest.ensures.shortest some in
-    let e : signed c.without_redundant_sign_octets-shortest.result.now ≡ signed c.args.octets.now = s.value in (
+    let s = c.shortest_part-kept.ensures in
+    let e : signed c.shortest_part-kept.result.now ≡ signed c.args.octets.now = s.value in (
       refl,
-      λ r. past_sixteen c.without_redundant_sign_octets-shortest.result.now s.octets
-          (nine_bits_from_shortest _ _ s) (omega arith) (rw e r),
+      λ r. past_sixteen c.shortest_part-kept.result.now s.octets (nine_bits_from_shortest _ _ s) (omega arith) (rw e r),
     )

@@ -5,5 +5,5 @@ returns-in-Shortest c =
     let i = c.self.invariant in
     let e = c.in-Shortest.is in
     let v = c.self.view_is in
-    rw (← c.self.view_is, c.in-Shortest.is, c.borrowed.ensures, c.as_slice.ensures.value)
+    rw (← c.self.view_is, c.in-Shortest.is, c.borrowed-in-Shortest.ensures, c.as_slice.ensures.value)
     (rw c.in-Shortest.is at c.self.invariant).0
