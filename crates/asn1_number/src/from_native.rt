@@ -6,6 +6,7 @@ use crate::integer::Integer;
 impl From<i128> for Integer {
     ghost from_gives = { λ n number. number ≡ n };
 
+    #[inline]
     fn from(n: i128) -> Integer {
         Integer::inline(n)
     }
@@ -70,6 +71,7 @@ impl From<u64> for Integer {
 impl From<i64> for Integer {
     ghost from_gives = { λ n number. number ≡ n };
 
+    #[inline]
     fn from(n: i64) -> Integer {
         Integer::of_word(n)
     }

@@ -66,6 +66,7 @@ impl Integer {
         Integer::inline(1)
     }
 
+    #[inline]
     pub(crate) fn inline(number: i128) -> Integer
         ensures { result ≡ number }
     {

@@ -79,6 +79,7 @@ pub fn unsigned_value(octets: &[u8]) -> u128
 }
 
 /// How many of the eight octets of the number only repeat its sign.
+#[inline]
 pub(crate) fn spare_of_eight(number: i64) -> usize
     ensures { result + length (shortest_octets number) ≡ 8 }
 {
@@ -89,6 +90,7 @@ pub(crate) fn spare_of_eight(number: i64) -> usize
 
 /// Where the shortest octets of the number begin in its sixteen octets. A number within `i64`
 /// takes the work of one word.
+#[inline]
 pub(crate) fn start_of(number: i128) -> usize
     ensures { result + length (shortest_octets number) ≡ 16 }
 {
