@@ -65,21 +65,31 @@ fn integer_of_word(word: u128, width: usize) -> Integer
     Integer::from(signed_word(word, width))
 }
 
-/// The number of `integer_of_word`.
+/// The number of `integer_of_word`, of more than 64 digits.
 #[inline(always)]
 fn signed_word(word: u128, width: usize) -> i128
-    requires some { 0 < width }
+    requires many { 64 < width }
     requires few { width ≤ 128 }
     requires below { word < 2 ^ width }
     ensures low { word < 2 ^ (width - 1) → result ≡ pos word }
     ensures high { 2 ^ (width - 1) ≤ word → result ≡ pos word -ℤ pos (2 ^ width) }
 {
-    let half = 1u128 << (width - 1);
+    let half = half_of(width);
     if word < half {
         word as i128
     } else {
         -1 - (half - 1 - (word - half)) as i128
     }
+}
+
+/// Half of 2 to the power `width`, made of one word, since it lies in the upper one.
+#[inline(always)]
+fn half_of(width: usize) -> u128
+    requires many { 64 < width }
+    requires few { width ≤ 128 }
+    ensures { result ≡ 2 ^ (width - 1) }
+{
+    u128::from(1u64 << (width - 65)) << 64
 }
 
 /// The number of `integer_of_word`, of at most 64 digits.

@@ -6,7 +6,7 @@ use crate::integer::Integer;
 impl From<i128> for Integer {
     ghost from_gives = { λ n number. number ≡ n };
 
-    #[inline]
+    #[inline(always)]
     fn from(n: i128) -> Integer {
         Integer::inline(n)
     }

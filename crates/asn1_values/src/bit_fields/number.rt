@@ -20,11 +20,14 @@ pub(super) fn fitting_len(value: u128, width: usize, place: usize) -> Result<u12
     ensures { Measures place (plain.Number value width) result }
 {
     // A short number that fits has no upper word, and nothing of its lower one above its width.
-    if width < 64 && (value >> 64) as u64 == 0 && (value as u64) >> width == 0 {
-        return Ok(width as u128);
+    if width < 64 {
+        if (value >> 64) as u64 == 0 && (value as u64) >> width == 0 {
+            return Ok(width as u128);
+        }
+        return fitting_wide(value, width, place);
     }
     // Of a longer one the upper word alone is shifted.
-    if width >= 64 && width < 128 && (value >> 64) as u64 >> (width - 64) == 0 {
+    if width < 128 && (value >> 64) as u64 >> (width - 64) == 0 {
         return Ok(width as u128);
     }
     fitting_wide(value, width, place)

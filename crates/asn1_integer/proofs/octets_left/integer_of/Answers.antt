@@ -1,4 +1,3 @@
-use Rattle.std.proofs.Common.{◌∙◌}
 use Rattle.asn1_bits.specs.BitReader.{bits_left}
 use Rattle.asn1_integer.specs.WordLaws.{word_value}
 use Rattle.asn1_integer.proofs.octets_left.integer_of.Goals as goal

@@ -2,7 +2,6 @@ use Rattle.std.proofs.Common.{◌≡◌, ◌-◌, ◌^◌, ◌≤◌, ℕ, ℤ, 
 use Rattle.std.specs.Int.{w128}
 use mir.Val.{SFits, of_z, to_z}
 use Rattle.std.proofs.Math.Nat.{pow-le-pow_right}
-use Rattle.std.proofs.lemmas.Nat.{one_shl}
 use Rattle.std.proofs.lemmas.Int.{to_z_pos, ints}
 use Rattle.asn1_integer.specs.WordLaws.{twice}
 use Rattle.asn1_integer.proofs.octets_left.signed_word.Goals as goal
@@ -14,12 +13,12 @@ half_fits width few = pow-le-pow_right {n = 2} (omega arith) {i = width - 1} {j 
 pub overflow_cast-result : goal.overflow_cast-result
 overflow_cast-result c =
     let less =
-    rw (one_shl (c.args.width - 1) 128 (omega (arith, c.requires.some, c.requires.few))) at c.if-word-half.true in
+    rw c.half_of-half.ensures at c.if-word-half.true in
     omega (arith, ints, less, half_fits c.args.width c.requires.few)
 
 pub overflow_cast-result-else-word-half : goal.overflow_cast-result-else-word-half
 overflow_cast-result-else-word-half c =
-    rw (one_shl (c.args.width - 1) 128 (omega (arith, c.requires.some, c.requires.few)))
+    rw c.half_of-half.ensures
     (omega (arith, ints, half_fits c.args.width c.requires.few))
 
 pub returns-then-word-half-clause-low : goal.returns-then-word-half-clause-low
@@ -31,14 +30,14 @@ returns-else-word-half-clause-high c = λ le.
     let half : ℕ = 2 ^ (c.args.width - 1) in
     let fits = half_fits c.args.width c.requires.few in
     let below = c.requires.below in
-    let two = twice c.args.width c.requires.some in
+    let two = twice c.args.width (omega (arith, c.requires.many)) in
     let k : ℕ = half - 1 - (c.args.word - half) in
     let value : ℤ = negsuc 0 -ℤ pos k in
     let fit : SFits w128 value = omega (arith, ints, fits) in
     let kept : to_z w128 (of_z w128 value) ≡ value = to_z-of_z fit in
     let is : value ≡ pos c.args.word -ℤ pos (2 ^ c.args.width) = omega (arith, ints, le, two, below) in
     rw (
-      one_shl (c.args.width - 1) 128 (omega (arith, c.requires.some, c.requires.few)),
+      c.half_of-half.ensures,
       to_z_pos w128 k
           (omega (arith, fits)),
     ) (kept ∙ is)

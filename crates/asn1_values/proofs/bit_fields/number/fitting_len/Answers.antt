@@ -17,7 +17,7 @@ pub returns-then-value-width-eq0-2 : goal.returns-then-value-width-eq0-2
 returns-then-value-width-eq0-2 c =
     let value = c.args.value in
     let width = c.args.width in
-    let e : 64 + (width - 64) ≡ width = omega (arith, c.if-width-ge64.true) in
+    let e : 64 + (width - 64) ≡ width = omega (arith, c.if-width-lt64.false) in
     let none : value / 2 ^ width ≡ 0 = ap (λ (k : ℕ). value / 2 ^ k) (sym e) ∙ sym (shr-shr value 64 (width - 64))
     ∙ c.if-value-width-eq0-2.true in
     record {
