@@ -6,7 +6,8 @@ use crate::integer::Integer;
 impl From<i128> for Integer {
     ghost from_gives = { λ n number. number ≡ n };
 
-    #[inline(always)]
+    // Not inlined, so that a loop that reads shorter numbers too keeps its registers.
+    #[inline(never)]
     fn from(n: i128) -> Integer {
         Integer::inline(n)
     }
