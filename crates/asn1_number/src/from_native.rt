@@ -6,8 +6,8 @@ use crate::integer::Integer;
 impl From<i128> for Integer {
     ghost from_gives = { λ n number. number ≡ n };
 
-    // Not inlined, so that a loop that reads shorter numbers too keeps its registers.
-    #[inline(never)]
+    // Inlined, so that a number that is read is stored where it is kept, and not first elsewhere.
+    #[inline(always)]
     fn from(n: i128) -> Integer {
         Integer::inline(n)
     }

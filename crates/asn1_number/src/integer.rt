@@ -66,7 +66,7 @@ impl Integer {
         Integer::inline(1)
     }
 
-    #[inline]
+    #[inline(always)]
     pub(crate) fn inline(number: i128) -> Integer
         ensures { result ≡ number }
     {
