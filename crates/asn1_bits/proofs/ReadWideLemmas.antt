@@ -11,6 +11,8 @@ use Rattle.asn1_bits.specs.DigitLaws.{length-digits, length-bits, bits-take, bit
 use Rattle.asn1_bits.specs.ByteLaws.{digits-mod}
 use Rattle.asn1_bits.proofs.WindowLemmas.{low-part, shifted-digits}
 use Rattle.asn1_bits.specs.NumberLaws.{number-append, number-digits, number-lt, digits-append, digits-low}
+use Rattle.asn1_bits.specs.View.{View, list_of}
+use Rattle.asn1_bits.specs.ViewLaws.{list_of-part}
 
 -- the number of the bits of the first k octets, but for the first shift bits
 abbrev pub gathered : List ℕ → ℕ → ℕ → ℕ
@@ -192,6 +194,11 @@ read-two list place last width high low more most l hs ls a b =
     ∙ ap (λ (k : ℕ). number (digits g top) * 2 ^ k + number (digits low 64)) (length-digits low 64)
     ∙ ap (λ (m : ℕ). m * 2 ^ 64 + number (digits low 64)) (number-digits g top ∙ mod-eq_of_lt less)
     ∙ ap (λ (m : ℕ). g * 2 ^ 64 + m) (number-digits low 64 ∙ omega (arith, ls)))
+
+-- bits of a view from one of them on stand in its storage
+pub cut-storage : (v : View) (at n : ℕ) → at + n ≤ v.len → take n (drop (v.first + at) (bits v.storage)) ≡ take n (drop at (list_of v))
+unfolding list_of
+cut-storage v at n h = list_of-part v at n h
 
 -- ---- nine octets, and seventeen
 

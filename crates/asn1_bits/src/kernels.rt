@@ -97,7 +97,7 @@ fn or_last<'a>(
 
 /// The path of `or_view` for no bits, and for more than a word. Not inlined, so that callers inline
 /// only the path for short views. The target is passed and given back by value, so its place stays
-/// in registers; the view is lent, so that `or_long` is jumped to.
+/// in registers; the view is lent, so that the call of `or_long` is a jump.
 #[inline(never)]
 fn or_far<'a>(
     target: Target<'a>,

@@ -137,7 +137,7 @@ pub(crate) fn put_few(dst: &mut [u8], position: usize, word: u64, width: usize)
     if width == 0 {
         return;
     }
-    // The bound is the same for each number that a loop writes into one slice.
+    // The right side does not depend on the position, so a loop computes it once.
     if position / 8 < dst.len().saturating_sub(7) {
         put_word(dst, position, word, width);
     } else {

@@ -32,8 +32,12 @@ pub above_half : (size m : ℕ) → IsInRange (SignedOf size) (negsuc m) → suc
 above_half size m r =
     omega (arith, le_out (neg_ℤ (pos (2 ^ (8 * size - 1)))) (negsuc m) r.0, neg_is (pos (2 ^ (8 * size - 1))))
 
+-- half of the numbers of a width are at most half of those of a larger one
+pub half_within : (width most : ℕ) → width ≤ most + 1 → 2 ^ (width - 1) ≤ 2 ^ most
+half_within width most few = pow-le-pow_right {n = 2} (omega arith) {i = width - 1} {j = most} (omega arith)
+
 pub half_fits : (size : ℕ) → IsNativeSize size → 2 ^ (8 * size - 1) ≤ 2 ^ 127
-half_fits size s = pow-le-pow_right (omega arith) {i = 8 * size - 1} {j = 127} (omega arith)
+half_fits size s = half_within (8 * size) 127 (omega arith)
 
 less_one : (q p : ℕ) → 1 ≤ q → (q - 1) * p + p ≡ q * p
 less_one zero p h = absurd (omega arith)

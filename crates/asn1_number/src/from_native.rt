@@ -6,7 +6,7 @@ use crate::integer::Integer;
 impl From<i128> for Integer {
     ghost from_gives = { λ n number. number ≡ n };
 
-    // Inlined, so that a number that is read is stored where it is kept, and not first elsewhere.
+    // Inlined, so that the caller stores the number in its place, and copies no result.
     #[inline(always)]
     fn from(n: i128) -> Integer {
         Integer::inline(n)

@@ -164,8 +164,8 @@ impl Integer {
         Integer::from_more_octets(alloc, octets)
     }
 
-    /// The path of `from_signed_octets` for more than sixteen octets. Inlined, so that the place of
-    /// the call's answer is made ready on this path alone.
+    /// The path of `from_signed_octets` for more than sixteen octets. Inlined, so that the stack
+    /// slot for the call's result is initialised on this path alone.
     #[inline(always)]
     fn from_more_octets(alloc: Global, octets: &[u8]) -> Result<Integer, IntegerError>
         requires { 0 < length octets.now }

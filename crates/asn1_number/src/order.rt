@@ -10,8 +10,8 @@ use std::cmp::Ordering;
 /// The bit of a word that is its sign.
 const SIGN: u64 = 1 << 63;
 
-/// Two words in the order of two numbers of sixteen octets: mostly the first eight, which hold the
-/// sign, tell these apart.
+/// Two words in the order of two numbers of sixteen octets: the first eight, which hold the sign,
+/// where these differ, and else the last eight.
 #[inline]
 pub(crate) fn sixteen_keys(a: &[u8], b: &[u8]) -> (u64, u64)
     requires { (length a.now ≡ 16) × (length b.now ≡ 16) }

@@ -60,8 +60,8 @@ pub(super) fn or_word(dst: &mut [u8], position: usize, word: u64, width: usize)
     if width == 0 {
         return;
     }
-    // All that follows is made of this one shift, so that the compiler joins it with a shift
-    // before. The remainder lets it count both at once.
+    // All below uses this one shift, so that the compiler joins it with a shift of the read before.
+    // The remainder changes nothing; it tells the compiler that the shift is below 64.
     let top = word << ((64 - width) % 64);
     if position / 8 + 8 > dst.len() {
         or_last(dst, position, top, width);

@@ -1,6 +1,6 @@
-use Rattle.std.proofs.Common.{◌≡◌, ℕ, ◌-◌, ◌+◌, ◌*◌, ◌^◌, ◌≤◌, ap, sym, ◌∙◌, arith}
-use Rattle.std.proofs.Math.Nat.{pow-le-pow_right}
+use Rattle.std.proofs.Common.{◌≡◌, ℕ, ◌-◌, ◌+◌, ◌*◌, ◌^◌, ap, sym, ◌∙◌, arith}
 use Rattle.std.proofs.lemmas.Nat.{one_shl, pow-add}
+use Rattle.asn1_integer.proofs.NativeLemmas.{half_within}
 use Rattle.asn1_integer.proofs.octets_left.half_of.Goals as goal
 
 pub returns : goal.returns
@@ -11,6 +11,5 @@ returns c =
     ∙ one_shl above 64 (omega (arith, c.requires.few, c.requires.many)) in
     let e : above + 64 ≡ width - 1 = omega (arith, c.requires.many) in
     let half : 2 ^ above * 2 ^ 64 ≡ 2 ^ (width - 1) = sym (pow-add 2 above 64) ∙ ap (λ (k : ℕ). 2 ^ k) e in
-    let fits : 2 ^ (width - 1) ≤ 2 ^ 127 = pow-le-pow_right {n = 2} (omega arith) {i = width - 1} {j = 127}
-    (omega (arith, c.requires.few)) in
+    let fits = half_within width 127 c.requires.few in
     omega (arith, word, half, fits)

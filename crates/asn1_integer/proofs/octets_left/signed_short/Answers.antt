@@ -1,35 +1,31 @@
-use Rattle.std.proofs.Common.{◌≡◌, ◌-◌, ◌^◌, ◌≤◌, ℕ, ℤ, pos, negsuc, ◌-ℤ◌, arith, ◌∙◌, to_z-of_z}
+use Rattle.std.proofs.Common.{◌≡◌, ◌-◌, ◌^◌, ℕ, ℤ, pos, negsuc, ◌-ℤ◌, arith, ◌∙◌, to_z-of_z}
 use Rattle.std.specs.Int.{w64}
 use mir.Val.{SFits, of_z, to_z}
-use Rattle.std.proofs.Math.Nat.{pow-le-pow_right}
 use Rattle.std.proofs.lemmas.Nat.{one_shl}
 use Rattle.std.proofs.lemmas.Int.{to_z_pos, ints}
 use Rattle.asn1_integer.specs.WordLaws.{twice}
+use Rattle.asn1_integer.proofs.NativeLemmas.{half_within}
 use Rattle.asn1_integer.proofs.octets_left.signed_short.Goals as goal
-
--- half of the numbers of a width fit
-half_fits : (width : ℕ) → width ≤ 64 → 2 ^ (width - 1) ≤ 2 ^ 63
-half_fits width few = pow-le-pow_right {n = 2} (omega arith) {i = width - 1} {j = 63} (omega arith)
 
 pub overflow_cast-result : goal.overflow_cast-result
 overflow_cast-result c =
     let less =
     rw (one_shl (c.args.width - 1) 64 (omega (arith, c.requires.some, c.requires.few))) at c.if-word-half.true in
-    omega (arith, ints, less, half_fits c.args.width c.requires.few)
+    omega (arith, ints, less, half_within c.args.width 63 c.requires.few)
 
 pub overflow_cast-result-else-word-half : goal.overflow_cast-result-else-word-half
 overflow_cast-result-else-word-half c =
     rw (one_shl (c.args.width - 1) 64 (omega (arith, c.requires.some, c.requires.few)))
-    (omega (arith, ints, half_fits c.args.width c.requires.few))
+    (omega (arith, ints, half_within c.args.width 63 c.requires.few))
 
 pub returns-then-word-half-clause-low : goal.returns-then-word-half-clause-low
 returns-then-word-half-clause-low c =
-    λ less. to_z_pos w64 c.args.word (omega (arith, less, half_fits c.args.width c.requires.few))
+    λ less. to_z_pos w64 c.args.word (omega (arith, less, half_within c.args.width 63 c.requires.few))
 
 pub returns-else-word-half-clause-high : goal.returns-else-word-half-clause-high
 returns-else-word-half-clause-high c = λ le.
     let half : ℕ = 2 ^ (c.args.width - 1) in
-    let fits = half_fits c.args.width c.requires.few in
+    let fits = half_within c.args.width 63 c.requires.few in
     let below = c.requires.below in
     let two = twice c.args.width c.requires.some in
     let k : ℕ = half - 1 - (c.args.word - half) in

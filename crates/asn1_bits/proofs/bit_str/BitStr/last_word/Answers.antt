@@ -1,16 +1,11 @@
-use Rattle.std.proofs.Common.{◌≡◌, ℕ, ◌+◌, ◌-◌, ◌*◌, ◌/◌, ◌≤◌, length, take, drop, ap, ◌∙◌, arith}
+use Rattle.std.proofs.Common.{◌≡◌, ℕ, ◌+◌, ◌-◌, ◌*◌, ◌/◌, length, take, drop, ap, ◌∙◌, arith}
 use Rattle.std.proofs.lemmas.List.{length-take, length-drop}
 use Rattle.asn1_bits.specs.Bits.{bits, digits, number}
 use Rattle.asn1_bits.specs.BitStr.{view_of, bits_of}
-use Rattle.asn1_bits.specs.View.{View, list_of}
 use Rattle.asn1_bits.specs.NumberLaws.{digits_of-number}
-use Rattle.asn1_bits.specs.ViewLaws.{length-list_of, list_of-part}
+use Rattle.asn1_bits.specs.ViewLaws.{length-list_of}
+use Rattle.asn1_bits.proofs.ReadWideLemmas.{cut-storage}
 use Rattle.asn1_bits.proofs.bit_str.BitStr.last_word.Goals as goal
-
--- bits of the view from one of them on stand in its storage
-cut : (v : View) (at n : ℕ) → at + n ≤ v.len → take n (drop (v.first + at) (bits v.storage)) ≡ take n (drop at (list_of v))
-unfolding list_of
-cut v at n h = list_of-part v at n h
 
 pub returns : goal.returns
 returns c =
@@ -22,6 +17,6 @@ returns c =
     let many : length (bits_of b) ≡ b.len = length-list_of (view_of b) b.within in
     ap (λ (n : ℕ). digits n 64) (c.read_many.ensures
     ∙ ap (λ (k : ℕ). number (take 64 (drop k (bits b.storage.now)))) from
-    ∙ ap number (cut (view_of b) at 64 (omega (arith, c.requires.some))))
+    ∙ ap number (cut-storage (view_of b) at 64 (omega (arith, c.requires.some))))
     ∙ digits_of-number piece 64
     (omega (arith, length-take 64 (drop at (bits_of b)), length-drop at (bits_of b), many, c.requires.some))

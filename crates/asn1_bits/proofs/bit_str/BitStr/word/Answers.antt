@@ -1,16 +1,11 @@
-use Rattle.std.proofs.Common.{◌≡◌, ℕ, ◌+◌, ◌*◌, ◌/◌, ◌%◌, ◌≤◌, take, drop, ap, ◌∙◌, arith}
+use Rattle.std.proofs.Common.{◌≡◌, ℕ, ◌+◌, ◌*◌, ◌/◌, ◌%◌, take, drop, ap, ◌∙◌, arith}
 use Rattle.std.proofs.lemmas.List.{length-take, length-drop}
 use Rattle.asn1_bits.specs.Bits.{bits, digits, number}
-use Rattle.asn1_bits.specs.View.{View, list_of}
 use Rattle.asn1_bits.specs.BitStr.{view_of, bits_of}
 use Rattle.asn1_bits.specs.NumberLaws.{digits_of-number}
-use Rattle.asn1_bits.specs.ViewLaws.{length-list_of, list_of-part}
+use Rattle.asn1_bits.specs.ViewLaws.{length-list_of}
+use Rattle.asn1_bits.proofs.ReadWideLemmas.{cut-storage}
 use Rattle.asn1_bits.proofs.bit_str.BitStr.word.Goals as goal
-
--- bits of the view from one of them on stand in its storage
-cut : (v : View) (at n : ℕ) → at + n ≤ v.len → take n (drop (v.first + at) (bits v.storage)) ≡ take n (drop at (list_of v))
-unfolding list_of
-cut v at n h = list_of-part v at n h
 
 pub returns : goal.returns
 returns c =
@@ -22,7 +17,7 @@ returns c =
     let from : 8 * octet + low % 8 ≡ 8 * b.octet + b.shift + at = omega arith in
     ap (λ (n : ℕ). digits n c.args.width) (c.read_word.ensures
     ∙ ap (λ (k : ℕ). number (take c.args.width (drop k (bits b.storage.now)))) from
-    ∙ ap number (cut (view_of b) at c.args.width c.requires.within))
+    ∙ ap number (cut-storage (view_of b) at c.args.width c.requires.within))
     ∙ digits_of-number piece c.args.width
     (omega (
       arith,
