@@ -10,9 +10,9 @@ use Rattle.asn1_bits.specs.Bits.{digits, number, bits}
 use Rattle.asn1_bits.specs.DigitLaws.{length-digits, length-bits, bits-take, bits-push}
 use Rattle.asn1_bits.specs.ByteLaws.{digits-mod}
 use Rattle.asn1_bits.proofs.WindowLemmas.{low-part, shifted-digits}
-use Rattle.asn1_bits.specs.NumberLaws.{number-append, number-digits, number-lt, digits-append, digits-low}
-use Rattle.asn1_bits.specs.View.{View, list_of}
-use Rattle.asn1_bits.specs.ViewLaws.{list_of-part}
+use Rattle.asn1_bits.specs.NumberLaws.{number_is, number-append, number-digits, number-lt, digits-append, digits-low}
+use Rattle.asn1_bits.specs.View.{View, IsWithin, list_of}
+use Rattle.asn1_bits.specs.ViewLaws.{length-list_of, list_of-part}
 
 -- the number of the bits of the first k octets, but for the first shift bits
 abbrev pub gathered : List ℕ → ℕ → ℕ → ℕ
@@ -199,6 +199,23 @@ read-two list place last width high low more most l hs ls a b =
 pub cut-storage : (v : View) (at n : ℕ) → at + n ≤ v.len → take n (drop (v.first + at) (bits v.storage)) ≡ take n (drop at (list_of v))
 unfolding list_of
 cut-storage v at n h = list_of-part v at n h
+
+-- the number of a view's first bits, which was read in its storage
+pub record IsFront (v : View) (width n : ℕ) : Type 0 where
+  pub number : n ≡ number (take width (list_of v))
+  pub digits : digits n width ≡ take width (list_of v)
+  pub below : n < 2 ^ width
+
+pub front-read : (v : View) (width n : ℕ) → IsWithin v → width ≤ v.len → n ≡ number (take width (drop v.first (bits v.storage)))
+    → IsFront v width n
+unfolding list_of
+front-read v width n within h e =
+    let rest = drop v.first (bits v.storage) in
+    let is : n ≡ number (take width (list_of v)) = e ∙ ap number (sym (take-take width v.len rest h)) in
+    let len : length (take width (list_of v)) ≡ width =
+    length-take width (list_of v) ∙ omega (arith, length-list_of v within, h) in
+    let told = number_is (take width (list_of v)) n width len is in
+    record { number = is; digits = told.1; below = told.0 }
 
 -- ---- nine octets, and seventeen
 

@@ -283,7 +283,7 @@ impl BitBuffer {
         ensures storage { bits (view_of result).storage ≡ padded self.now }
     {
         let len = self.len;
-        BitStr::front_of(self.as_bytes(), len)
+        BitStr::part_of(self.as_bytes(), 0, len)
     }
 
     /// A buffer with all bits of the octets, which `from_vec` would drop.

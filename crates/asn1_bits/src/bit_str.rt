@@ -9,7 +9,6 @@ mod order;
 mod words;
 
 use crate::kernels::write_bitslice;
-use crate::reads::read_front;
 use crate::single_bits::{bit_from, from_octet};
 use crate::target::{Rest, Target};
 use crate::turns::Turns;
@@ -47,12 +46,7 @@ impl<'a> BitStr<'a> {
         if first as u128 + len as u128 > 8 * (octets.len() as u128) {
             return None;
         }
-        Some(BitStr {
-            storage: octets,
-            octet: first / 8,
-            shift: first % 8,
-            len,
-        })
+        Some(BitStr::part_of(octets, first, len))
     }
 
     /// All bits of the octets. How many they are fits `usize`.
@@ -61,7 +55,7 @@ impl<'a> BitStr<'a> {
         ensures view { view_of result ≡ whole octets.now }
         ensures list { bits_of result ≡ bits octets.now }
     {
-        BitStr::front_of(octets, octets.len() * 8)
+        BitStr::part_of(octets, 0, octets.len() * 8)
     }
 
     /// The number of bits.
@@ -123,17 +117,17 @@ impl<'a> BitStr<'a> {
         (self.slice(0, at), self.slice(at, self.len - at))
     }
 
-    /// The first `len` bits of the octets.
+    /// The `len` bits of the octets from bit `first` on, which lie within them.
     #[inline(always)]
-    pub(crate) fn front_of(octets: &'a [u8], len: usize) -> BitStr<'a>
-        requires { len ≤ 8 * length octets.now }
-        ensures view { view_of result ≡ record { storage = octets.now; first = 0; len = len } }
-        ensures list { bits_of result ≡ take len (bits octets.now) }
+    pub(crate) fn part_of(octets: &'a [u8], first: usize, len: usize) -> BitStr<'a>
+        requires { first + len ≤ 8 * length octets.now }
+        ensures view { view_of result ≡ record { storage = octets.now; first = first; len = len } }
+        ensures list { bits_of result ≡ take len (drop first (bits octets.now)) }
     {
         BitStr {
             storage: octets,
-            octet: 0,
-            shift: 0,
+            octet: first / 8,
+            shift: first % 8,
             len,
         }
     }
@@ -150,18 +144,6 @@ impl<'a> BitStr<'a> {
         }
         let (octets, _) = from_octet(self.storage, self.octet).split_at(self.len / 8);
         Some(octets)
-    }
-
-    /// The number of the first `width` bits.
-    #[inline(always)]
-    pub(crate) fn first_u128(&self, width: usize) -> u128
-        requires width { width ≤ 128 }
-        requires len { width ≤ (view_of self.now).len }
-        ensures number { result ≡ number (take width (bits_of self.now)) }
-        ensures digits { digits result width ≡ take width (bits_of self.now) }
-        ensures below { result < 2 ^ width }
-    {
-        read_front(self.storage, self.octet, self.shift, width)
     }
 
     /// ORs the last `width` bits of a view of whole words into the front of an octet of the target.

@@ -33,7 +33,7 @@ impl<const N: usize> FixedBitString<N> {
     pub fn new(octets: [u8; N]) -> Self
         ensures { fixed_bits N result ≡ take N (bits octets.entry) }
     {
-        FixedBitString::of_view(BitStr::front_of(&octets, N))
+        FixedBitString::of_view(BitStr::part_of(&octets, 0, N))
     }
 
     /// The bits of the view; None where they are not `N`.
@@ -72,7 +72,7 @@ impl<const N: usize> FixedBitString<N> {
         ensures storage { bits (view_of result).storage ≡ fixed_bits N self.now
             ++ replicate (7 * N) false }
     {
-        BitStr::front_of(&self.octets, N)
+        BitStr::part_of(&self.octets, 0, N)
     }
 
     /// The bits of a view that has `N`.

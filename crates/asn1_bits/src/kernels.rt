@@ -9,7 +9,6 @@ ghost use Rattle.asn1_bits.specs.View.{IsAligned};
 
 use crate::bit_str::BitStr;
 use crate::places::{or_aligned, place_word};
-use crate::reads::read_front;
 use crate::single_bits::from_octet;
 use crate::target::Target;
 use crate::turns::Turns;
@@ -26,7 +25,7 @@ pub fn or_bits(dst: &mut [u8], position: usize, src: &[u8], count: usize, turns:
     ensures at_least { turns.old.count + div_ceil count 64 ≤ turns.new.count }
     ensures at_most { turns.new.count ≤ turns.old.count + turns_for count }
 {
-    write_bitslice(dst, position, BitStr::front_of(src, count), turns);
+    write_bitslice(dst, position, BitStr::part_of(src, 0, count), turns);
 }
 
 /// ORs the view into `dst` from bit `position` on, and leaves every other bit. It ends within
@@ -293,7 +292,7 @@ pub fn read_wide(bytes: &[u8], position: usize, width: usize) -> u128
     ensures digits { digits result width ≡ take width (drop position (bits bytes.now)) }
     ensures below { result < 2 ^ width }
 {
-    read_front(bytes, position / 8, position % 8, width)
+    BitStr::part_of(bytes, position, width).first_u128(width)
 }
 
 /// The number of the `width` bits from bit `position` on, the first of them its highest digit.

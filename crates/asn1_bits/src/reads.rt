@@ -6,45 +6,6 @@ ghost use Rattle.asn1_bits.specs.Bits.{bits, digits, number};
 use crate::single_bits::from_octet;
 use crate::window::{load, whole_word, wide_of_seventeen, word_of_nine};
 
-/// The number of the `width` bits from bit `shift` of octet `first` on, the first of them its
-/// highest digit. `width` is at most 128, and the bits lie within the octets.
-#[inline(always)]
-pub(crate) fn read_front(octets: &[u8], first: usize, shift: usize, width: usize) -> u128
-    requires shift { shift < 8 }
-    requires width { width ≤ 128 }
-    requires within { 8 * first + shift + width ≤ 8 * length octets.now }
-    ensures number { result ≡ number (take width (drop (8 * first + shift) (bits octets.now))) }
-    ensures digits { digits result width ≡ take width (drop (8 * first + shift) (bits octets.now)) }
-    ensures below { result < 2 ^ width }
-{
-    read_number(octets, first, shift, width)
-}
-
-/// The number of `width` bits, read from eight octets, nine or seventeen at once or, near the end
-/// of the octets, from two words.
-#[inline(always)]
-fn read_number(octets: &[u8], first: usize, shift: usize, width: usize) -> u128
-    requires shift { shift < 8 }
-    requires width { width ≤ 128 }
-    requires within { 8 * first + shift + width ≤ 8 * length octets.now }
-    ensures { result ≡ number (take width (drop (8 * first + shift) (bits octets.now))) }
-{
-    if width <= 57 {
-        return u128::from(read_few(octets, first, shift, width));
-    }
-    if width <= 64 {
-        return u128::from(read_many(octets, first, shift, width));
-    }
-    if first + 17 <= octets.len() {
-        // The remainder tells the compiler that the shift is below 64.
-        return wide_of_seventeen(octets, first, shift) >> ((128 - width) % 64);
-    }
-    let low = shift + (width - 64);
-    let high = whole_word(octets, first, shift);
-    let rest = whole_word(octets, first + low / 8, low % 8);
-    (u128::from(high >> (128 - width)) << 64) | u128::from(rest)
-}
-
 /// The number of `width` bits from bit `shift` of octet `first` on.
 #[inline(always)]
 pub(crate) fn read_word(octets: &[u8], first: usize, shift: usize, width: usize) -> u64
@@ -60,30 +21,19 @@ pub(crate) fn read_word(octets: &[u8], first: usize, shift: usize, width: usize)
     }
 }
 
-/// The path of `read_word` for so few bits that they lie within eight octets.
+/// The path of `read_word` for so few bits that they lie within eight octets, which are loaded where
+/// all of them are there.
 #[inline(always)]
-fn read_few(octets: &[u8], first: usize, shift: usize, width: usize) -> u64
+pub(crate) fn read_few(octets: &[u8], first: usize, shift: usize, width: usize) -> u64
     requires shift { shift < 8 }
     requires width { width ≤ 57 }
     requires within { 8 * first + shift + width ≤ 8 * length octets.now }
     ensures { result ≡ number (take width (drop (8 * first + shift) (bits octets.now))) }
 {
     if width > 0 && first + 8 <= octets.len() {
-        return read_near(octets, first, shift, width);
+        return (load(octets, first) << shift) >> ((64 - width) % 64);
     }
     read_last(octets, first, shift, width)
-}
-
-/// The path of `read_few` where there are bits, and all eight octets.
-#[inline(always)]
-pub(crate) fn read_near(octets: &[u8], first: usize, shift: usize, width: usize) -> u64
-    requires shift { shift < 8 }
-    requires some { 0 < width }
-    requires width { width ≤ 57 }
-    requires eight { first + 8 ≤ length octets.now }
-    ensures { result ≡ number (take width (drop (8 * first + shift) (bits octets.now))) }
-{
-    (load(octets, first) << shift) >> ((64 - width) % 64)
 }
 
 /// The path of `read_word` for so many bits that eight octets are there, and that may reach a
@@ -100,6 +50,26 @@ pub(crate) fn read_many(octets: &[u8], first: usize, shift: usize, width: usize)
         return word_of_nine(octets, first, shift) >> ((64 - width) % 64);
     }
     (load(octets, first) << shift) >> ((64 - width) % 64)
+}
+
+/// The number of more than 64 bits, at most 128, from bit `shift` of octet `first` on: read from
+/// seventeen octets at once or, near the end of the octets, from two words.
+#[inline(always)]
+pub(crate) fn read_long(octets: &[u8], first: usize, shift: usize, width: usize) -> u128
+    requires shift { shift < 8 }
+    requires many { 64 < width }
+    requires width { width ≤ 128 }
+    requires within { 8 * first + shift + width ≤ 8 * length octets.now }
+    ensures { result ≡ number (take width (drop (8 * first + shift) (bits octets.now))) }
+{
+    if first + 17 <= octets.len() {
+        // The remainder tells the compiler that the shift is below 64.
+        return wide_of_seventeen(octets, first, shift) >> ((128 - width) % 64);
+    }
+    let low = shift + (width - 64);
+    let high = whole_word(octets, first, shift);
+    let rest = whole_word(octets, first + low / 8, low % 8);
+    (u128::from(high >> (128 - width)) << 64) | u128::from(rest)
 }
 
 /// The path of `read_few` for the last octets of a slice, and for no bits. Cold and not inlined.

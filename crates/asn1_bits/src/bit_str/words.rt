@@ -1,14 +1,32 @@
 //! Bits of a view as words.
 
-ghost use Rattle.std.specs.Prelude.{◌≡◌, ◌+◌, ◌-◌, ◌%◌, ◌<◌, ◌≤◌, IfSome, take, drop};
+ghost use Rattle.std.specs.Prelude.{◌≡◌, ◌+◌, ◌-◌, ◌%◌, ◌^◌, ◌<◌, ◌≤◌, IfSome, take, drop};
 ghost use Rattle.asn1_bits.specs.Bits.{digits, number};
 ghost use Rattle.asn1_bits.specs.BitStr.{view_of, bits_of};
 
 use super::BitStr;
-use crate::reads::{read_many, read_near, read_word};
+use crate::reads::{read_few, read_long, read_many, read_word};
 use crate::window::whole_word;
 
 impl BitStr<'_> {
+    /// The number of the first `width` bits, the first of them its highest digit.
+    #[inline(always)]
+    pub(crate) fn first_u128(&self, width: usize) -> u128
+        requires width { width ≤ 128 }
+        requires len { width ≤ (view_of self.now).len }
+        ensures number { result ≡ number (take width (bits_of self.now)) }
+        ensures digits { digits result width ≡ take width (bits_of self.now) }
+        ensures below { result < 2 ^ width }
+    {
+        if width <= 57 {
+            return u128::from(read_few(self.storage, self.octet, self.shift, width));
+        }
+        if width <= 64 {
+            return u128::from(read_many(self.storage, self.octet, self.shift, width));
+        }
+        read_long(self.storage, self.octet, self.shift, width)
+    }
+
     /// `width` bits from bit `at` on, as the lowest digits of a word.
     #[inline(always)]
     pub(crate) fn word(&self, at: usize, width: usize) -> u64
@@ -44,7 +62,7 @@ impl BitStr<'_> {
         if self.octet + 8 > self.storage.len() {
             return None;
         }
-        Some(read_near(self.storage, self.octet, self.shift, self.len))
+        Some(read_few(self.storage, self.octet, self.shift, self.len))
     }
 
     /// The number of the first 64 bits.

@@ -5,4 +5,4 @@ use Rattle.asn1_bits.proofs.kernels.or_bits.Goals as goal
 pub returns-clause-bits : goal.returns-clause-bits
 returns-clause-bits c =
     c.write_bitslice.ensures.bits ∙ ap (λ (l : List Bool). ored (bits c.args.dst.now) c.args.position l)
-    c.front_of.ensures.list
+    c.part_of.ensures.list

@@ -5,8 +5,8 @@ use Rattle.asn1_bits.specs.View.{View}
 use Rattle.asn1_bits.proofs.BufferLemmas.{length-bits_shown}
 use Rattle.asn1_bits.proofs.bit_buffer.BitBuffer.as_bitstr.Goals as goal
 
-pub front_of-requires : goal.front_of-requires
-front_of-requires c =
+pub part_of-requires : goal.part_of-requires
+part_of-requires c =
     let b = c.self.inside in
     omega (
       arith,
@@ -22,18 +22,18 @@ returns-clause-list c =
     let list = c.args.self.now in
     let n : b.len ≡ length list = sym (length-bits_shown b.bytes.items b.len c.self.invariant)
     ∙ ap (λ (l : List Bool). length l) c.self.view_is in
-    c.front_of.ensures.list
+    c.part_of.ensures.list
     ∙ ap (take b.len) c.as_bytes.ensures.spelled
     ∙ take_at list (replicate (8 * octets_for (length list) - length list) false) b.len (sym n)
 
 pub returns-clause-len : goal.returns-clause-len
 returns-clause-len c =
     let b = c.self.inside in
-    ap (λ (v : View). v.len) c.front_of.ensures.view
+    ap (λ (v : View). v.len) c.part_of.ensures.view
     ∙ sym (length-bits_shown b.bytes.items b.len c.self.invariant) ∙ ap (λ (l : List Bool). length l) c.self.view_is
 
 pub returns-clause-first : goal.returns-clause-first
-returns-clause-first c = ap (λ (v : View). v.first) c.front_of.ensures.view
+returns-clause-first c = ap (λ (v : View). v.first) c.part_of.ensures.view
 
 pub returns-clause-storage : goal.returns-clause-storage
-returns-clause-storage c = ap (λ (v : View). bits v.storage) c.front_of.ensures.view ∙ c.as_bytes.ensures.spelled
+returns-clause-storage c = ap (λ (v : View). bits v.storage) c.part_of.ensures.view ∙ c.as_bytes.ensures.spelled

@@ -1,21 +1,46 @@
-use Rattle.std.proofs.Common.{◌≡◌, ◌+◌, ◌*◌, take, drop, sym, ap, ◌∙◌}
-use Rattle.std.proofs.lemmas.List.{take-take}
-use Rattle.asn1_bits.specs.Bits.{bits, number}
-use Rattle.asn1_bits.specs.BitStr.{bits_of}
-use Rattle.asn1_bits.specs.View.{list_of}
+use Rattle.std.proofs.Common.{◌∙◌}
+use Rattle.asn1_bits.specs.BitStr.{view_of}
+use Rattle.asn1_bits.proofs.ReadWideLemmas.{IsFront, front-read}
 use Rattle.asn1_bits.proofs.bit_str.BitStr.first_u128.Goals as goal
 
--- what is read is the view's front
-front : (c : goal.After-read_front)
-    → take c.args.width (drop (8 * c.args.self.now.octet + c.args.self.now.shift) (bits c.args.self.now.storage.now))
-    ≡ take c.args.width (bits_of c.args.self.now)
-unfolding list_of
-front c =
-    let b = c.args.self.now in
-    sym (take-take c.args.width b.len (drop (8 * b.octet + b.shift) (bits b.storage.now)) c.requires.len)
+few : (c : goal.After-from) → IsFront (view_of c.args.self.now) c.args.width c.from.result
+few c =
+    let v = view_of c.args.self.now in
+    front-read v c.args.width c.from.result c.args.self.now.within c.requires.len (c.from.ensures ∙ c.read_few.ensures)
+
+many : (c : goal.After-from-then-width-le64) → IsFront (view_of c.args.self.now) c.args.width c.from-then-width-le64.result
+many c =
+    let v = view_of c.args.self.now in
+    front-read v c.args.width c.from-then-width-le64.result c.args.self.now.within c.requires.len (c.from-then-width-le64.ensures ∙ c.read_many.ensures)
+
+long : (c : goal.After-read_long) → IsFront (view_of c.args.self.now) c.args.width c.read_long.result
+long c =
+    let v = view_of c.args.self.now in
+    front-read v c.args.width c.read_long.result c.args.self.now.within c.requires.len c.read_long.ensures
+
+pub returns-then-width-le57-clause-number : goal.returns-then-width-le57-clause-number
+returns-then-width-le57-clause-number c = (few c).number
+
+pub returns-then-width-le57-clause-digits : goal.returns-then-width-le57-clause-digits
+returns-then-width-le57-clause-digits c = (few c).digits
+
+pub returns-then-width-le57-clause-below : goal.returns-then-width-le57-clause-below
+returns-then-width-le57-clause-below c = (few c).below
+
+pub returns-then-width-le64-clause-number : goal.returns-then-width-le64-clause-number
+returns-then-width-le64-clause-number c = (many c).number
+
+pub returns-then-width-le64-clause-digits : goal.returns-then-width-le64-clause-digits
+returns-then-width-le64-clause-digits c = (many c).digits
+
+pub returns-then-width-le64-clause-below : goal.returns-then-width-le64-clause-below
+returns-then-width-le64-clause-below c = (many c).below
 
 pub returns-clause-number : goal.returns-clause-number
-returns-clause-number c = c.read_front.ensures.number ∙ ap number (front c)
+returns-clause-number c = (long c).number
 
 pub returns-clause-digits : goal.returns-clause-digits
-returns-clause-digits c = c.read_front.ensures.digits ∙ front c
+returns-clause-digits c = (long c).digits
+
+pub returns-clause-below : goal.returns-clause-below
+returns-clause-below c = (long c).below

@@ -7,4 +7,4 @@ use Rattle.asn1_bits.proofs.bit_str.BitStr.from_octets.Goals as goal
 pub returns-clause-list : goal.returns-clause-list
 returns-clause-list c =
     let octets = c.args.octets.now in
-    c.front_of.ensures.list ∙ take_all (length octets * 8) (bits octets) (omega (arith, length-bits octets))
+    c.part_of.ensures.list ∙ take_all (length octets * 8) (bits octets) (omega (arith, length-bits octets))

@@ -17,5 +17,5 @@ pub returns : goal.returns
 unfolding list_of
 returns c =
     let b = c.args.self.now in
-    ap (λ (n : ℕ). digits n b.len) c.read_near.ensures
+    ap (λ (n : ℕ). digits n b.len) c.read_few.ensures
     ∙ digits_of-number (bits_of b) b.len (length-list_of (view_of b) b.within)

@@ -10,6 +10,6 @@ returns-clause-storage g c =
     let octets = c.args.self.now.octets in
     let n : length octets ≡ g.row.N = search rules in
     let rest : length (bits octets) - g.row.N ≡ 7 * g.row.N = omega (arith, length-bits octets) in
-    ap (λ (v : View). bits v.storage) c.front_of.ensures.view
+    ap (λ (v : View). bits v.storage) c.part_of.ensures.view
     ∙ zeros_behind g.row.N (bits octets) c.args.self.now.zeros
     ∙ ap (λ (n : ℕ). take g.row.N (bits octets) ++ replicate n false) rest

@@ -2,12 +2,12 @@ use Rattle.std.proofs.Common.{◌≡◌, ℕ, ◌+◌, ◌-◌, ◌*◌, ◌/◌
 use Rattle.std.specs.Prelude.{bit_or}
 use Rattle.asn1_bits.specs.Bits.{bits}
 use Rattle.asn1_bits.proofs.ReadWideLemmas.{read-top, read-two}
-use Rattle.asn1_bits.proofs.reads.read_number.Goals as goal
+use Rattle.asn1_bits.proofs.reads.read_long.Goals as goal
 
 pub returns-then-first-octets : goal.returns-then-first-octets
 returns-then-first-octets c =
     let width = c.args.width in
-    let same : (128 - width) % 64 ≡ 128 - width = omega (arith, c.if-width-le64.false) in
+    let same : (128 - width) % 64 ≡ 128 - width = omega (arith, c.requires.many) in
     ap (λ (k : ℕ). c.wide_of_seventeen.result / 2 ^ k) same
     ∙ read-top (drop (8 * c.args.first + c.args.shift) (bits c.args.octets.now)) 128 width c.wide_of_seventeen.result
     c.requires.width (omega (arith, c.wide_of_seventeen.type_inv)) c.wide_of_seventeen.ensures
@@ -22,7 +22,7 @@ returns c =
     let last = 8 * (c.args.first + low / 8) + low % 8 in
     let high = c.whole_word-high.result in
     let rest = c.whole_word-rest.result in
-    ap (λ (m : ℕ). bit_or (m * 2 ^ 64 % 2 ^ 128) c.from-3.result) c.from-2.ensures
-    ∙ ap (λ (m : ℕ). bit_or (high / 2 ^ (128 - width) * 2 ^ 64 % 2 ^ 128) m) c.from-3.ensures
-    ∙ read-two list place last width high rest (omega (arith, c.if-width-le64.false)) c.requires.width (omega arith)
+    ap (λ (m : ℕ). bit_or (m * 2 ^ 64 % 2 ^ 128) c.from-2.result) c.from.ensures
+    ∙ ap (λ (m : ℕ). bit_or (high / 2 ^ (128 - width) * 2 ^ 64 % 2 ^ 128) m) c.from-2.ensures
+    ∙ read-two list place last width high rest (omega (arith, c.requires.many)) c.requires.width (omega arith)
     (omega arith) (omega arith) c.whole_word-high.ensures c.whole_word-rest.ensures
