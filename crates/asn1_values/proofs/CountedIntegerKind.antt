@@ -1,5 +1,5 @@
 -- The laws of counted integers as fields: an octet, and behind it an integer of so many octets.
-use Rattle.std.proofs.Common.{◌≡◌, ℕ, ◌+◌, ◌-◌, ◌*◌, ◌<◌, ◌≤◌, ℤ, Bool, true, false, eqb, ltb, List, ◌∷◌, ◌++◌, length, take, drop, Ok, Err, refl, sym, ap, subst, ◌∙◌, append_assoc, arith, inl, inr}
+use Rattle.std.proofs.Common.{◌≡◌, ℕ, ◌+◌, ◌-◌, ◌*◌, ◌<◌, ◌≤◌, ℤ, Bool, true, false, eqb, ltb, List, ◌∷◌, ◌++◌, length, take, drop, Result, Ok, Err, refl, sym, ap, subst, ◌∙◌, append_assoc, arith, inl, inr}
 use Rattle.std.specs.Prelude.{◌||◌, is_ok}
 use Rattle.std.proofs.lemmas.List.{length-append, take_at, drop_at, length-take, length-drop, take-append-drop}
 use Rattle.std.proofs.lemmas.Bool.{ltb-true, ltb-false, le-ltb, eqb-false, ne_eqb}
@@ -7,6 +7,9 @@ use Rattle.asn1_bits.specs.Bits.{digits, number, bits}
 use Rattle.asn1_bits.specs.View.{View, part}
 use Rattle.asn1_bits.specs.DigitLaws.{length-digits, length-bits}
 use Rattle.asn1_bits.specs.NumberLaws.{number_of-digits, digits_of-number}
+use Rattle.asn1_bits.specs.declared.bit_reader.BitReader.{BitReader}
+use Rattle.asn1_values.specs.declared.bit_fields.error.ReadError.{ReadError}
+use Rattle.asn1_values.specs.Steps.{past, Examines}
 use Rattle.asn1_values.specs.Fields.{Field, IsSpelledBy, IsOfShape, Integer, CountedInteger, OfInteger, OfCountedInteger}
 use Rattle.asn1_values.specs.Wrong.{Fault, NumberWidth, NotInteger, Short, NoCharacter, NoLength, NotIdentifier, ArcOver, IsReason, IsCount, first_octet}
 use Rattle.asn1_values.specs.Walk.{as_counted, counted, integer_at, counted_at, field_at}
@@ -202,6 +205,20 @@ unfolding field_at counted_at is_no_count
 read_counted list left n ok read =
     let there = counted_there list ok in
     rw (le-ltb _ _ there.0, there.1, read) refl
+
+past_as_counted : (at : ℕ) (read : Result (Field × List Bool) Fault) → past at (counted read) ≡ past at read
+past_as_counted at (Ok x) = refl
+past_as_counted at (Err fault) = refl
+
+-- behind a count it is examined as the integer is
+pub examined_counted : {A : Type 0} (at k : ℕ) (list : List Bool) (new : BitReader) (result : Result A ReadError)
+    → 8 ≤ length list → k ≡ first_octet list → IsCount k → Examines at (integer_at k (drop 8 list)) new result
+    → Examines at (field_at OfCountedInteger list) new result
+unfolding field_at counted_at is_no_count
+examined_counted at k list new result enough is count read =
+    let same : past at (field_at OfCountedInteger list) ≡ past at (integer_at k (drop 8 list)) =
+    rw (le-ltb _ _ enough, ← is, count_test k count) (past_as_counted at (integer_at k (drop 8 list))) in
+    record { ok = rw same read.ok; err = rw same read.err }
 
 -- and every list that spells it has the bits of the octets that were asked for, and eight more
 pub length-read_counted : (k : ℕ) (list left : List Bool) (n : ℤ) → integer_at k list ≡ Ok (Integer n, left)

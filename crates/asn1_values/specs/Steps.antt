@@ -1,5 +1,5 @@
 -- How the steps of the calls are stated. No public contract cites this.
-use Rattle.std.specs.Prelude.{◌≡◌, ℕ, ◌+◌, ◌-◌, ◌*◌, ◌/◌, ◌^◌, ◌<◌, ◌≤◌, Bool, List, [], ◌∷◌, ◌++◌, length, take, drop, min, Result, Ok, Err, OnOk, IfOk, IfErr, Vec, vec_items, vec_len, vec_capacity, ◌≢◌}
+use Rattle.std.specs.Prelude.{◌≡◌, ℕ, ◌+◌, ◌-◌, ◌*◌, ◌/◌, ◌^◌, ◌<◌, ◌≤◌, Bool, List, [], ◌∷◌, ◌++◌, length, take, drop, min, Result, Ok, Err, OnOk, IfOk, IfErr, IsOk, Vec, vec_items, vec_len, vec_capacity, ◌≢◌}
 use Rattle.std.specs.Int.{div_ceil}
 use Rattle.asn1_bits.specs.declared.bit_appender.BitAppender.{BitAppender}
 use Rattle.asn1_bits.specs.declared.bit_reader.BitReader.{BitReader}
@@ -15,8 +15,8 @@ use Rattle.asn1_values.specs.declared.bit_fields.error.WriteError.TheVariants as
 use Rattle.asn1_values.specs.declared.bit_fields.field.Field.{Field as InMemory}
 use Rattle.asn1_values.specs.Fields.{Field, Shape, IsSpelledBy, AreSpelledBy, Character}
 use Rattle.asn1_bits.specs.Joined.{AreJoined}
-use Rattle.asn1_values.specs.Plain.{plain_field, LiesAt}
-use Rattle.asn1_values.specs.Walk.{field_at}
+use Rattle.asn1_values.specs.Plain.{plain_field, plain_fields, LiesAt, LieFrom}
+use Rattle.asn1_values.specs.Walk.{field_at, fields_at}
 use Rattle.asn1_values.specs.Wrong.{Fault, NumberWidth, NotInteger, Short, NoCharacter, NoLength, NotIdentifier, ArcOver, WidthOver, PastWidth, NotInAlphabet, PastLength, TooFewArcs, IsMisfit, IsFirstMisfit, Fits}
 
 -- ---- reading
@@ -53,6 +53,11 @@ pub record Takes (n : ℕ) (old new front : BitReader) : Type 0 where
   pub moved : Moves n old new
   pub rest : bits_left new ≡ drop n (bits_left old)
 
+-- so many bits were taken, or the error says how many are missing
+pub record Cuts (n at : ℕ) (old new : BitReader) (result : Result BitReader ReadError) : Type 0 where
+  pub taken : IfOk result (Takes n old new)
+  pub short : IfErr result (λ e. (length (bits_left old) < n) × (e ≡ reading.Short at (n - length (bits_left old))))
+
 -- a counted integer was taken, and its octets are the front
 pub record TakesCounted (old new front : BitReader) : Type 0 where
   pub octets : ℕ
@@ -67,6 +72,25 @@ pub record Examines {A : Type 0} (at : ℕ) (read : Result (Field × List Bool) 
     (result : Result A ReadError) : Type 0 where
   pub ok : OnOk result (past at read ≡ Ok (bits_left new))
   pub err : IfErr result (λ e. past at read ≡ Err e)
+
+-- a field was gone past, and its bits were taken so, or the error names its fault
+pub record ExaminesBits (Taken : BitReader → Type 0) (at : ℕ) (read : Result (Field × List Bool) Fault) (new : BitReader)
+    (result : Result BitReader ReadError) : Type 0 where
+  pub examined : Examines at read new result
+  pub taken : IfOk result Taken
+
+-- a field of the shape and of n bits was gone past, and is made of the value, or the error names its
+-- fault
+pub record ExaminesValue (field_of : ℕ → Field) (n at : ℕ) (shape : Shape) (old new : BitReader) (result : Result ℕ ReadError)
+    : Type 0 where
+  pub examined : Examines at (field_at shape (bits_left old)) new result
+  pub read : IfOk result (λ value. field_at shape (bits_left old) ≡ Ok (field_of value, bits_left new))
+  pub moved : OnOk result (Moves n old new)
+
+-- a field of each shape was gone past, or the error names the first fault
+pub record ExaminesAll (shapes : List Shape) (old : BitReader) (result : Result Unit ReadError) : Type 0 where
+  pub ok : OnOk result (IsOk (fields_at shapes (bits_left old)))
+  pub err : IfErr result (λ e. past_all 0 (fields_at shapes (bits_left old)) ≡ Err e)
 
 -- a field of the shape was read from the front of the bits that were left, and stands behind the
 -- others
@@ -86,6 +110,16 @@ pub record AppendsNext {Z : Type 0} (shape : Shape) (at : ℕ) (old new : BitRea
   pub len : OnOk result (vec_len after ≡ vec_len before + 1)
   pub capacity : OnOk result (vec_capacity after ≡ vec_capacity before)
   pub err : IfErr result (λ e. e ≢ reading.Memory → past at (field_at shape (bits_left old)) ≡ Err e)
+
+-- a field of each shape was read; or the error names the first fault, unless memory was wanting
+pub record Collects {Z : Type 0} (shapes : List Shape) (old new : BitReader) (result : Result (Vec InMemory Z) ReadError)
+    : Type 0 where
+  pub fields : IfOk result (λ fields. fields_at shapes (bits_left old) ≡ Ok (plain_fields (vec_items fields), bits_left new))
+  pub places : IfOk result (λ fields. LieFrom (view_left old) (vec_items fields))
+  pub rest : IfOk result (λ fields. (front : List Bool) → AreSpelledBy (plain_fields (vec_items fields)) front
+      → view_left new ≡ part (view_left old) (length front) ((view_left old).len - length front))
+  pub err : IfErr result (λ e. e ≢ reading.Memory → past_all 0 (fields_at shapes (bits_left old)) ≡ Err e)
+  pub no_shapes : shapes ≡ [] → IsOk result
 
 -- ---- writing
 

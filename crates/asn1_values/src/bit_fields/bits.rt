@@ -6,7 +6,7 @@ ghost use Rattle.asn1_bits.specs.BitReader.{bits_left};
 ghost use Rattle.asn1_bits.specs.BitStr.{view_of, bits_of};
 ghost use Rattle.asn1_bits.specs.Bits.{bits};
 ghost use Rattle.asn1_values.specs.Fields as plain;
-ghost use Rattle.asn1_values.specs.Steps.{FitsIn, HasRoomFor, HasRoomBehind, PushesOne, PushesBehind, IsReached, FitsWithin, WritesOver, Overwrites, Takes, Examines, AppendsNext};
+ghost use Rattle.asn1_values.specs.Steps.{FitsIn, HasRoomFor, HasRoomBehind, PushesOne, PushesBehind, IsReached, FitsWithin, WritesOver, Overwrites, Takes, ExaminesBits, AppendsNext};
 ghost use Rattle.asn1_values.specs.Walk.{field_at};
 
 use super::error::ReadError;
@@ -103,9 +103,8 @@ pub(super) fn examine<'a>(
     length: usize,
     field: usize,
 ) -> Result<BitReader<'a>, ReadError>
-    ensures examined { Examines field (field_at (plain.OfBits length) (bits_left reader.old))
-        reader.new result }
-    ensures taken { IfOk result (λ front. Takes length reader.old reader.new front) }
+    ensures { ExaminesBits (Takes length reader.old reader.new) field
+        (field_at (plain.OfBits length) (bits_left reader.old)) reader.new result }
 {
     take_bits(reader, length as u128, field)
 }

@@ -6,7 +6,7 @@ ghost use Rattle.asn1_bits.specs.BitReader.{bits_left};
 ghost use Rattle.asn1_bits.specs.Bits.{bits, number};
 ghost use Rattle.asn1_strings.specs.AlphabetView.{alphabet_of};
 ghost use Rattle.asn1_values.specs.Fields as plain;
-ghost use Rattle.asn1_values.specs.Steps.{HasRoomBehind, PushesBehind, PushesNone, FitsWithin, Measures, Overwrites, Moves, Examines, AppendsNext};
+ghost use Rattle.asn1_values.specs.Steps.{HasRoomBehind, PushesBehind, PushesNone, FitsWithin, Measures, Overwrites, ExaminesValue, AppendsNext};
 ghost use Rattle.asn1_values.specs.Walk.{field_at};
 
 use super::error::{ReadError, WriteError};
@@ -86,13 +86,9 @@ pub(super) fn examine(
     alphabet: &CharacterAlphabet<'_>,
     field: usize,
 ) -> Result<u32, ReadError>
-    ensures examined { Examines field
-        (field_at (plain.OfCharacter (alphabet_of alphabet.now)) (bits_left reader.old)) reader.new
-        result }
-    ensures read { IfOk result
-        (λ c. field_at (plain.OfCharacter (alphabet_of alphabet.now)) (bits_left reader.old)
-        ≡ Ok (plain.Character (alphabet_of alphabet.now) c, bits_left reader.new)) }
-    ensures moved { OnOk result (Moves (alphabet_of alphabet.now).width reader.old reader.new) }
+    ensures { let set = alphabet_of alphabet.now in
+        ExaminesValue (plain.Character set) set.width field (plain.OfCharacter set) reader.old
+        reader.new result }
 {
     let width = alphabet.width();
     let front = take_few(reader, width, field)?;
@@ -116,21 +112,9 @@ pub(super) fn append<'a, 's>(
         fields.old fields.new result }
 {
     let character = examine(reader, alphabet, field)?;
-    store(fields, character, alphabet);
-    Ok(())
-}
-
-/// Stores a character. Inlined, so that the reader stays in registers.
-#[inline(always)]
-fn store<'a, 's>(fields: &mut Vec<Field<'a, 's>>, character: u32, alphabet: &CharacterAlphabet<'s>)
-    requires { vec_len fields.old < vec_capacity fields.old }
-    ensures kept { fields.new.items
-        ≡ fields.old.items ++ Field.Character character alphabet.now ∷ [] }
-    ensures len { vec_len fields.new ≡ vec_len fields.old + 1 }
-    ensures capacity { vec_capacity fields.new ≡ vec_capacity fields.old }
-{
     fields.push_reserved(Field::Character {
         character,
         alphabet: *alphabet,
     });
+    Ok(())
 }

@@ -6,7 +6,7 @@ ghost use Rattle.asn1_bits.specs.BitAppender.{room};
 ghost use Rattle.asn1_bits.specs.BitReader.{bits_left};
 ghost use Rattle.asn1_bits.specs.Bits.{bits, number};
 ghost use Rattle.asn1_values.specs.Fields as plain;
-ghost use Rattle.asn1_values.specs.Steps.{HasRoomFor, PushesOne, FitsWithin, Measures, Overwrites, TakesCounted, Examines, AppendsNext};
+ghost use Rattle.asn1_values.specs.Steps.{HasRoomFor, PushesOne, FitsWithin, Measures, Overwrites, TakesCounted, ExaminesBits, AppendsNext};
 ghost use Rattle.asn1_values.specs.Walk.{field_at};
 
 use super::error::{ReadError, WriteError};
@@ -59,9 +59,8 @@ pub(super) fn examine<'a>(
     reader: &mut BitReader<'a>,
     field: usize,
 ) -> Result<BitReader<'a>, ReadError>
-    ensures examined { Examines field (field_at plain.OfCountedInteger (bits_left reader.old))
-        reader.new result }
-    ensures taken { IfOk result (TakesCounted reader.old reader.new) }
+    ensures { ExaminesBits (TakesCounted reader.old reader.new) field
+        (field_at plain.OfCountedInteger (bits_left reader.old)) reader.new result }
 {
     let octet = take_few(reader, 8, field)?.first_u128(8) as u8;
     if octet == 0 || octet > 127 {

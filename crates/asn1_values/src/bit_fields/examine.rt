@@ -4,7 +4,7 @@ ghost use Rattle.std.specs.Prelude.{◌≡◌, Ok, Err, ◌*◌, ◌<◌, length
 ghost use Rattle.asn1_bits.specs.BitReader.{bits_left};
 ghost use Rattle.asn1_bits.specs.Bits.{bits, number};
 ghost use Rattle.asn1_values.specs.Plain.{plain_shape, plain_shapes};
-ghost use Rattle.asn1_values.specs.Steps.{past_all, Examines};
+ghost use Rattle.asn1_values.specs.Steps.{Examines, ExaminesAll};
 ghost use Rattle.asn1_values.specs.Walk.{field_at, fields_at};
 
 use super::error::ReadError;
@@ -14,9 +14,7 @@ use asn1_bits::BitReader;
 
 /// Goes past a field of each shape.
 pub(super) fn examine_all(reader: BitReader<'_>, shapes: &[Shape<'_>]) -> Result<(), ReadError>
-    ensures ok { OnOk result (IsOk (fields_at (plain_shapes shapes.now) (bits_left reader.entry))) }
-    ensures err { IfErr result
-        (λ e. past_all 0 (fields_at (plain_shapes shapes.now) (bits_left reader.entry)) ≡ Err e) }
+    ensures { ExaminesAll (plain_shapes shapes.now) reader.entry result }
 {
     let mut left = reader;
     for (i, shape) in shapes.iter().enumerate() {

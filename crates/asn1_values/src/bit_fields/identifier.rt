@@ -7,7 +7,7 @@ ghost use Rattle.asn1_bits.specs.Bits.{bits, number};
 ghost use Rattle.asn1_oid.specs.Contents.{FitU32};
 ghost use Rattle.asn1_oid.specs.Reading.{contents_reading};
 ghost use Rattle.asn1_values.specs.Fields as plain;
-ghost use Rattle.asn1_values.specs.Steps.{HasRoomFor, PushesOne, TakesTurns, IsReached, FitsWithin, Measures, WritesOver, Overwrites, Takes, Examines, AppendsNext};
+ghost use Rattle.asn1_values.specs.Steps.{HasRoomFor, PushesOne, TakesTurns, IsReached, FitsWithin, Measures, WritesOver, Overwrites, Takes, ExaminesBits, AppendsNext};
 ghost use Rattle.asn1_values.specs.Walk.{field_at, octets_of};
 
 use super::error::{ReadError, WriteError};
@@ -115,10 +115,8 @@ pub(super) fn examine<'a>(
     octet_count: usize,
     field: usize,
 ) -> Result<BitReader<'a>, ReadError>
-    ensures examined { Examines field
-        (field_at (plain.OfIdentifier octet_count) (bits_left reader.old))
-        reader.new result }
-    ensures taken { IfOk result (λ front. Takes (8 * octet_count) reader.old reader.new front) }
+    ensures { ExaminesBits (Takes (8 * octet_count) reader.old reader.new) field
+        (field_at (plain.OfIdentifier octet_count) (bits_left reader.old)) reader.new result }
 {
     if octet_count == 0 {
         return Err(ReadError::Identifier { field });

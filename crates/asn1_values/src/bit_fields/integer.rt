@@ -6,7 +6,7 @@ ghost use Rattle.asn1_bits.specs.BitReader.{bits_left};
 ghost use Rattle.asn1_bits.specs.Bits.{bits, number};
 ghost use Rattle.asn1_number.specs.Octets.{IsShortest};
 ghost use Rattle.asn1_values.specs.Fields as plain;
-ghost use Rattle.asn1_values.specs.Steps.{FitsIn, HasRoomFor, PushesOctets, PushesOne, IsReached, FitsWithin, WritesOver, Overwrites, Takes, Examines, AppendsNext};
+ghost use Rattle.asn1_values.specs.Steps.{FitsIn, HasRoomFor, PushesOctets, PushesOne, IsReached, FitsWithin, WritesOver, Overwrites, Takes, ExaminesBits, AppendsNext};
 ghost use Rattle.asn1_values.specs.Walk.{field_at, integer_at};
 
 use super::error::ReadError;
@@ -102,8 +102,8 @@ pub(super) fn examine<'a>(
     octets: usize,
     field: usize,
 ) -> Result<BitReader<'a>, ReadError>
-    ensures examined { Examines field (integer_at octets (bits_left reader.old)) reader.new result }
-    ensures taken { IfOk result (λ front. Takes (8 * octets) reader.old reader.new front) }
+    ensures { ExaminesBits (Takes (8 * octets) reader.old reader.new) field
+        (integer_at octets (bits_left reader.old)) reader.new result }
 {
     if octets == 0 {
         return Err(ReadError::Integer { field });

@@ -5,7 +5,7 @@ ghost use Rattle.asn1_bits.specs.BitAppender.{room};
 ghost use Rattle.asn1_bits.specs.BitReader.{bits_left};
 ghost use Rattle.asn1_bits.specs.Bits.{bits, digits};
 ghost use Rattle.asn1_values.specs.Fields as plain;
-ghost use Rattle.asn1_values.specs.Steps.{HasRoomBehind, PushesBehind, IsReached, FitsWithin, Measures, WritesOver, Overwrites, Moves, Examines, AppendsNext};
+ghost use Rattle.asn1_values.specs.Steps.{HasRoomBehind, PushesBehind, IsReached, FitsWithin, Measures, WritesOver, Overwrites, ExaminesValue, AppendsNext};
 ghost use Rattle.asn1_values.specs.Walk.{field_at};
 
 use super::error::{ReadError, WriteError};
@@ -105,11 +105,8 @@ pub(super) fn examine(
     width: usize,
     field: usize,
 ) -> Result<u128, ReadError>
-    ensures examined { Examines field (field_at (plain.OfNumber width) (bits_left reader.old))
-        reader.new result }
-    ensures read { IfOk result (λ n. field_at (plain.OfNumber width) (bits_left reader.old)
-        ≡ Ok (plain.Number n width, bits_left reader.new)) }
-    ensures moved { OnOk result (Moves width reader.old reader.new) }
+    ensures { ExaminesValue (λ n. plain.Number n width) width field (plain.OfNumber width)
+        reader.old reader.new result }
 {
     // A width of 1 to 64 bits is the common one. The compiler tests it by one comparison.
     if 0 < width && width <= 64 {

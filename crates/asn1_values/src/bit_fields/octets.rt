@@ -6,7 +6,7 @@ ghost use Rattle.asn1_bits.specs.BitReader.{bits_left};
 ghost use Rattle.asn1_bits.specs.Bits.{bits};
 ghost use Rattle.asn1_bits.specs.Octets.{octets_in};
 ghost use Rattle.asn1_values.specs.Fields as plain;
-ghost use Rattle.asn1_values.specs.Steps.{FitsIn, HasRoomBehind, PushesBehind, IsReached, FitsWithin, WritesOver, Overwrites, Takes, Examines, AppendsNext};
+ghost use Rattle.asn1_values.specs.Steps.{FitsIn, HasRoomBehind, PushesBehind, IsReached, FitsWithin, WritesOver, Overwrites, Takes, ExaminesBits, AppendsNext};
 ghost use Rattle.asn1_values.specs.Walk.{field_at};
 
 use super::bits;
@@ -70,9 +70,8 @@ pub(super) fn examine<'a>(
     count: usize,
     field: usize,
 ) -> Result<BitReader<'a>, ReadError>
-    ensures examined { Examines field (field_at (plain.OfOctets count) (bits_left reader.old))
-        reader.new result }
-    ensures taken { IfOk result (λ front. Takes (8 * count) reader.old reader.new front) }
+    ensures { ExaminesBits (Takes (8 * count) reader.old reader.new) field
+        (field_at (plain.OfOctets count) (bits_left reader.old)) reader.new result }
 {
     take_bits(reader, 8 * count as u128, field)
 }

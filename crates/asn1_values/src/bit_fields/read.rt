@@ -9,7 +9,7 @@ ghost use Rattle.asn1_values.specs.Fields as plain;
 ghost use Rattle.asn1_values.specs.Fields.{Begins, IsOfShape, AreSpelledBy, NoSpellingBeginsAnother, NoneBeginsAnother, needs, HaveOneSpelling, GiveOneSpelling};
 ghost use Rattle.asn1_values.specs.Plain.{plain_fields, plain_shape, plain_shapes, LieFrom};
 ghost use Rattle.asn1_values.specs.Refusals.{IsReadRefusal};
-ghost use Rattle.asn1_values.specs.Steps.{past_all, AppendsNext};
+ghost use Rattle.asn1_values.specs.Steps.{AppendsNext, Collects};
 ghost use Rattle.asn1_values.specs.Walk.{fields_at};
 ghost use Rattle.asn1_values.specs.Wrong.{CanBegin};
 
@@ -119,17 +119,7 @@ fn collect<'a, 's>(
     reader: &mut BitReader<'a>,
     shapes: &[Shape<'s>],
 ) -> Result<Vec<Field<'a, 's>>, ReadError>
-    ensures fields { IfOk result
-        (λ fields. fields_at (plain_shapes shapes.now) (bits_left reader.old)
-        ≡ Ok (plain_fields fields.items, bits_left reader.new)) }
-    ensures places { IfOk result (λ fields. LieFrom (view_left reader.old) fields.items) }
-    ensures rest { IfOk result (λ fields. (front : List Bool)
-        → AreSpelledBy (plain_fields fields.items) front
-        → view_left reader.new ≡ part (view_left reader.old) (length front)
-        ((view_left reader.old).len - length front)) }
-    ensures err { IfErr result (λ e. e ≢ ReadError.Memory
-        → past_all 0 (fields_at (plain_shapes shapes.now) (bits_left reader.old)) ≡ Err e) }
-    ensures no_shapes { shapes.now ≡ [] → IsOk result }
+    ensures { Collects (plain_shapes shapes.now) reader.old reader.new result }
 {
     // One request for all fields, and none for no shapes.
     let mut fields = Vec::new(alloc);

@@ -1,9 +1,6 @@
 //! Takes the bits of a field from a reader.
 
-ghost use Rattle.std.specs.Prelude.{◌-◌, ◌≡◌, Err, ◌<◌, length, IfOk, IfErr};
-ghost use Rattle.asn1_bits.specs.BitReader.{bits_left};
-ghost use Rattle.asn1_bits.specs.Bits.{bits};
-ghost use Rattle.asn1_values.specs.Steps.{Takes};
+ghost use Rattle.asn1_values.specs.Steps.{Cuts};
 
 use super::error::ReadError;
 use asn1_bits::BitReader;
@@ -15,9 +12,7 @@ pub(super) fn take_bits<'a>(
     need: u128,
     field: usize,
 ) -> Result<BitReader<'a>, ReadError>
-    ensures taken { IfOk result (λ front. Takes need reader.old reader.new front) }
-    ensures short { IfErr result (λ e. (length (bits_left reader.old) < need)
-        × (e ≡ ReadError.Short field (need - length (bits_left reader.old)))) }
+    ensures { Cuts need field reader.old reader.new result }
 {
     let view = reader.bits();
     let left = view.len() as u128;
@@ -39,9 +34,7 @@ pub(super) fn take_few<'a>(
     width: usize,
     field: usize,
 ) -> Result<BitReader<'a>, ReadError>
-    ensures taken { IfOk result (λ front. Takes width reader.old reader.new front) }
-    ensures short { IfErr result (λ e. (length (bits_left reader.old) < width)
-        × (e ≡ ReadError.Short field (width - length (bits_left reader.old)))) }
+    ensures { Cuts width field reader.old reader.new result }
 {
     reader.split(width).map_err(|bits| ReadError::Short {
         field,

@@ -13,13 +13,13 @@ returns c =
     record {
       read = record {
         field = fields.Character character c.args.alphabet.now;
-        appended = c.store.ensures.kept;
+        appended = c.push_reserved.ensures.items;
         read = got.read;
         place = tt;
         rest =
             λ list s. rw (length-spelled (plain.OfCharacter a) (plain.Character a character) list refl s) got.moved;
       };
-      len = c.store.ensures.len;
-      capacity = c.store.ensures.capacity;
+      len = c.push_reserved.ensures.len;
+      capacity = c.push_reserved.ensures.capacity;
       err = tt;
     }

@@ -6,12 +6,14 @@ use Rattle.asn1_values.specs.Steps.{past_all}
 use Rattle.asn1_values.proofs.WalkLemmas.{examined_more, examined_stop, examined_all, is_ok_from_past}
 use Rattle.asn1_values.proofs.bit_fields.examine.examine_all.Goals as goal
 
-pub returns-in_err-examine-clause-err : goal.returns-in_err-examine-clause-err
-returns-in_err-examine-clause-err c =
+pub returns-in_err-examine : goal.returns-in_err-examine
+returns-in_err-examine c =
     let p = err_from_is_err_and c.from_residual.result c.from_residual.ensures.1 in
-    rw (p.1, p.2) (examined_stop c.args.shapes.now c.loop-i.i c.index-shapes-i.result (bits_left c.loop-i.left)
+    let stop =
+    examined_stop c.args.shapes.now c.loop-i.i c.index-shapes-i.result (bits_left c.loop-i.left)
     c.in_err-examine.field-0.0 (past_all 0 (fields_at (plain_shapes c.args.shapes.now) (bits_left c.args.reader)))
-    c.loop-i-test.true c.index-shapes-i.is c.in_err-examine.ensures.err c.loop-i.invariant)
+    c.loop-i-test.true c.index-shapes-i.is c.in_err-examine.ensures.err c.loop-i.invariant in
+    rw (p.1, p.2) (record { ok = tt; err = stop })
 
 pub loop-i-preserved : goal.loop-i-preserved
 loop-i-preserved c =
@@ -20,8 +22,12 @@ loop-i-preserved c =
     (past_all 0 (fields_at (plain_shapes c.args.shapes.now) (bits_left c.args.reader))) c.loop-i-test.true
     c.index-shapes-i.is c.in_ok-examine.ensures.ok c.loop-i.invariant
 
-pub returns-clause-ok : goal.returns-clause-ok
-returns-clause-ok c =
+pub returns : goal.returns
+returns c =
     let total = past_all 0 (fields_at (plain_shapes c.args.shapes.now) (bits_left c.args.reader)) in
-    is_ok_from_past 0 (fields_at (plain_shapes c.args.shapes.now) (bits_left c.args.reader)) (bits_left c.loop-i.left)
-    (examined_all c.args.shapes.now c.loop-i.i (bits_left c.loop-i.left) total c.loop-i-test.false c.loop-i.invariant)
+    record {
+      ok =
+          is_ok_from_past 0 (fields_at (plain_shapes c.args.shapes.now) (bits_left c.args.reader)) (bits_left c.loop-i.left)
+          (examined_all c.args.shapes.now c.loop-i.i (bits_left c.loop-i.left) total c.loop-i-test.false c.loop-i.invariant);
+      err = tt;
+    }

@@ -7,8 +7,8 @@ use Rattle.asn1_values.specs.Steps.{past}
 use Rattle.asn1_values.proofs.IdentifierKind.{source_is, identifier_there, identifier_large, identifier_none}
 use Rattle.asn1_values.proofs.bit_fields.identifier.examine.Goals as goal
 
-pub returns-in-Ok-clause-examined : goal.returns-in-Ok-clause-examined
-returns-in-Ok-clause-examined c =
+pub returns-in-Ok : goal.returns-in-Ok
+returns-in-Ok c =
     let list = bits_left c.args.reader.now in
     let b = c.bits.result in
     let front = c.in_ok-front.ensures.taken in
@@ -18,14 +18,17 @@ returns-in-Ok-clause-examined c =
     front.list in
     let some = c.in-Ok.ensures.ok.0 refl in
     record {
-      ok =
-          ap (past c.args.field) (identifier_there c.args.octet_count list _ c.if-octet_count-eq0.false front.enough source
-          some.0 some.1 some.2) ∙ ap (λ (l : List Bool). Ok l) (sym front.rest);
-      err = tt;
+      examined = record {
+        ok =
+            ap (past c.args.field) (identifier_there c.args.octet_count list _ c.if-octet_count-eq0.false front.enough source
+            some.0 some.1 some.2) ∙ ap (λ (l : List Bool). Ok l) (sym front.rest);
+        err = tt;
+      };
+      taken = front;
     }
 
-pub returns-in-Err-Malformed-clause-examined : goal.returns-in-Err-Malformed-clause-examined
-returns-in-Err-Malformed-clause-examined c =
+pub returns-in-Err-Malformed : goal.returns-in-Err-Malformed
+returns-in-Err-Malformed c =
     let list = bits_left c.args.reader.now in
     let b = c.bits.result in
     let front = c.in_ok-front.ensures.taken in
@@ -36,14 +39,17 @@ returns-in-Err-Malformed-clause-examined c =
     let none =
     c.in-Err-Malformed.ensures.malformed.0 (ap (λ (e : ContentsError). Err e) c.in-Err-Malformed.field-0-is) in
     record {
-      err =
-          ap (past c.args.field) (identifier_none c.args.octet_count list _ c.if-octet_count-eq0.false front.enough source
-          none);
-      ok = tt;
+      examined = record {
+        err =
+            ap (past c.args.field) (identifier_none c.args.octet_count list _ c.if-octet_count-eq0.false front.enough source
+            none);
+        ok = tt;
+      };
+      taken = tt;
     }
 
-pub returns-in-Err-ArcTooLarge-clause-examined : goal.returns-in-Err-ArcTooLarge-clause-examined
-returns-in-Err-ArcTooLarge-clause-examined c =
+pub returns-in-Err-ArcTooLarge : goal.returns-in-Err-ArcTooLarge
+returns-in-Err-ArcTooLarge c =
     let list = bits_left c.args.reader.now in
     let b = c.bits.result in
     let front = c.in_ok-front.ensures.taken in
@@ -55,8 +61,11 @@ returns-in-Err-ArcTooLarge-clause-examined c =
     c.in-Err-ArcTooLarge.ensures.arc_too_large.0
     (ap (λ (e : ContentsError). Err e) c.in-Err-ArcTooLarge.field-0-is) in
     record {
-      err =
-          ap (past c.args.field) (identifier_large c.args.octet_count list _ c.if-octet_count-eq0.false front.enough source
-          large.0 large.1 large.2);
-      ok = tt;
+      examined = record {
+        err =
+            ap (past c.args.field) (identifier_large c.args.octet_count list _ c.if-octet_count-eq0.false front.enough source
+            large.0 large.1 large.2);
+        ok = tt;
+      };
+      taken = tt;
     }

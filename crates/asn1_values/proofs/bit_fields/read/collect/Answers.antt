@@ -1,8 +1,8 @@
-use Rattle.std.proofs.Common.{◌≡◌, Bool, List, [], refl, sym, ap, ◌∙◌, arith}
-use Rattle.std.proofs.lemmas.List.{map_push}
+use Rattle.std.proofs.Common.{◌≡◌, ◌<◌, Bool, List, [], length, refl, sym, ap, ◌∙◌, arith}
+use Rattle.std.proofs.lemmas.List.{length-map, map_push}
 use Rattle.std.proofs.lemmas.Result.{err_from_is_err_and}
 use Rattle.asn1_bits.specs.BitReader.{view_left, bits_left}
-use Rattle.asn1_values.specs.Plain.{plain_field, plain_fields, plain_shapes}
+use Rattle.asn1_values.specs.Plain.{plain_field, plain_fields, plain_shape, plain_shapes}
 use Rattle.asn1_values.specs.Steps.{past_all}
 use Rattle.asn1_values.specs.Walk.{fields_at}
 use Rattle.asn1_values.proofs.LiesLemmas.{after, lie_none, lie_more, left_more, after-none, lies_there}
@@ -51,18 +51,33 @@ loop-i-preserved c =
       room = omega (arith, c.in_ok-append_next.ensures.capacity, inv.room);
     }
 
-pub returns-in_err-append_next-clause-err : goal.returns-in_err-append_next-clause-err
-returns-in_err-append_next-clause-err c =
+pub returns-in_err-append_next : goal.returns-in_err-append_next
+returns-in_err-append_next c =
     let from = c.from_residual-in_err-append_next in
     let p = err_from_is_err_and from.result from.ensures.1 in
-    rw (p.1, p.2) (λ ne.
-    examined_stop c.args.shapes.now c.loop-i.i c.index-shapes-i.result (bits_left c.loop-i.reader)
-    c.in_err-append_next.field-0.0
-    (past_all 0 (fields_at (plain_shapes c.args.shapes.now) (bits_left c.args.reader.now))) c.loop-i-test.true
-    c.index-shapes-i.is (c.in_err-append_next.ensures.err ne) c.loop-i.invariant.refused)
+    let some : 0 < length c.args.shapes.now = omega (arith, c.loop-i-test.true) in
+    rw (p.1, p.2) (record {
+      fields = tt;
+      places = tt;
+      rest = tt;
+      err = λ ne.
+          examined_stop c.args.shapes.now c.loop-i.i c.index-shapes-i.result (bits_left c.loop-i.reader)
+          c.in_err-append_next.field-0.0
+          (past_all 0 (fields_at (plain_shapes c.args.shapes.now) (bits_left c.args.reader.now))) c.loop-i-test.true
+          c.index-shapes-i.is (c.in_err-append_next.ensures.err ne) c.loop-i.invariant.refused;
+      no_shapes = λ none. absurd (omega (arith, some, length-map c.args.shapes.now plain_shape, ap length none));
+    })
 
-pub returns-clause-fields : goal.returns-clause-fields
-returns-clause-fields c =
-    read_all c.args.shapes.now c.loop-i.i (plain_fields c.loop-i.fields.items)
-    (bits_left c.loop-i.reader) (fields_at (plain_shapes c.args.shapes.now) (bits_left c.args.reader.now))
-    c.loop-i-test.false c.loop-i.invariant.walk
+pub returns : goal.returns
+returns c =
+    let inv = c.loop-i.invariant in
+    record {
+      fields =
+          read_all c.args.shapes.now c.loop-i.i (plain_fields c.loop-i.fields.items)
+          (bits_left c.loop-i.reader) (fields_at (plain_shapes c.args.shapes.now) (bits_left c.args.reader.now))
+          c.loop-i-test.false inv.walk;
+      places = inv.places;
+      rest = inv.rest;
+      err = tt;
+      no_shapes = λ none. refl;
+    }
