@@ -13,11 +13,11 @@ use Rattle.asn1_values.specs.declared.bit_fields.error.ReadError.TheVariants as 
 use Rattle.asn1_values.specs.declared.bit_fields.error.WriteError.{WriteError}
 use Rattle.asn1_values.specs.declared.bit_fields.error.WriteError.TheVariants as writing
 use Rattle.asn1_values.specs.declared.bit_fields.field.Field.{Field as InMemory}
-use Rattle.asn1_values.specs.Fields.{Field, Shape, IsSpelledBy, AreSpelledBy, Character}
+use Rattle.asn1_values.specs.Fields.{Field, Shape, IsSpelledBy, AreSpelledBy, Character, OfCountedInteger}
 use Rattle.asn1_bits.specs.Joined.{AreJoined}
 use Rattle.asn1_values.specs.Plain.{plain_field, plain_fields, LiesAt, LieFrom}
 use Rattle.asn1_values.specs.Walk.{field_at, fields_at}
-use Rattle.asn1_values.specs.Wrong.{Fault, NumberWidth, NotInteger, Short, NoCharacter, NoLength, NotIdentifier, ArcOver, WidthOver, PastWidth, NotInAlphabet, PastLength, TooFewArcs, IsMisfit, IsFirstMisfit, Fits}
+use Rattle.asn1_values.specs.Wrong.{Fault, NumberWidth, NotInteger, Short, NoCharacter, NoLength, NotIdentifier, ArcOver, WidthOver, PastWidth, NotInAlphabet, PastLength, TooFewArcs, IsCount, first_octet, IsMisfit, IsFirstMisfit, Fits}
 
 -- ---- reading
 
@@ -58,10 +58,23 @@ pub record Cuts (n at : ℕ) (old new : BitReader) (result : Result BitReader Re
   pub taken : IfOk result (Takes n old new)
   pub short : IfErr result (λ e. (length (bits_left old) < n) × (e ≡ reading.Short at (n - length (bits_left old))))
 
+-- an octet was taken that can count the octets of an integer
+pub record CountIsTaken (old new : BitReader) (octets : ℕ) : Type 0 where
+  pub enough : 8 ≤ length (bits_left old)
+  pub counted : octets ≡ first_octet (bits_left old)
+  pub is : IsCount octets
+  pub moved : Moves 8 old new
+  pub rest : bits_left new ≡ drop 8 (bits_left old)
+
+-- an octet was taken so, or the error names the fault of a counted integer
+pub record TakesCount (at : ℕ) (old new : BitReader) (result : Result ℕ ReadError) : Type 0 where
+  pub taken : IfOk result (CountIsTaken old new)
+  pub err : IfErr result (λ e. past at (field_at OfCountedInteger (bits_left old)) ≡ Err e)
+
 -- a counted integer was taken, and its octets are the front
 pub record TakesCounted (old new front : BitReader) : Type 0 where
   pub octets : ℕ
-  pub counted : octets ≡ number (take 8 (bits_left old))
+  pub counted : octets ≡ first_octet (bits_left old)
   pub len : (view_left front).len ≡ 8 * octets
   pub list : bits_left front ≡ take (8 * octets) (drop 8 (bits_left old))
   pub moved : Moves (8 + 8 * octets) old new

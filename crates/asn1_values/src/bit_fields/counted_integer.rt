@@ -6,7 +6,7 @@ ghost use Rattle.asn1_bits.specs.BitAppender.{room};
 ghost use Rattle.asn1_bits.specs.BitReader.{bits_left};
 ghost use Rattle.asn1_bits.specs.Bits.{bits, number};
 ghost use Rattle.asn1_values.specs.Fields as plain;
-ghost use Rattle.asn1_values.specs.Steps.{HasRoomFor, PushesOne, FitsWithin, Measures, Overwrites, TakesCounted, ExaminesBits, AppendsNext};
+ghost use Rattle.asn1_values.specs.Steps.{HasRoomFor, PushesOne, FitsWithin, Measures, Overwrites, TakesCount, TakesCounted, ExaminesBits, AppendsNext};
 ghost use Rattle.asn1_values.specs.Walk.{field_at};
 
 use super::error::{ReadError, WriteError};
@@ -54,7 +54,6 @@ pub(super) fn overwrite(target: &mut [u8], position: usize, number: &Integer) ->
 /// Goes past a counted integer, and gives the octets behind its first, if that is 1 to 127, and so
 /// many octets are the shortest of a number.
 #[inline(always)]
-#[tactic(auto, unfolding(crate::specs::Walk::field_at, crate::specs::Walk::counted_at))]
 pub(super) fn examine<'a>(
     reader: &mut BitReader<'a>,
     field: usize,
@@ -62,11 +61,21 @@ pub(super) fn examine<'a>(
     ensures { ExaminesBits (TakesCounted reader.old reader.new) field
         (field_at plain.OfCountedInteger (bits_left reader.old)) reader.new result }
 {
+    let octets = take_count(reader, field)?;
+    integer::examine(reader, usize::from(octets), field)
+}
+
+/// Takes the octet that counts, if it is 1 to 127.
+#[inline(always)]
+#[tactic(auto, unfolding(crate::specs::Walk::field_at, crate::specs::Walk::counted_at))]
+fn take_count(reader: &mut BitReader<'_>, field: usize) -> Result<u8, ReadError>
+    ensures { TakesCount field reader.old reader.new result }
+{
     let octet = take_few(reader, 8, field)?.first_u128(8) as u8;
     if octet == 0 || octet > 127 {
         return Err(ReadError::Length { field, octet });
     }
-    integer::examine(reader, usize::from(octet), field)
+    Ok(octet)
 }
 
 /// Appends the next counted integer to the fields, for which there is room.
