@@ -1,10 +1,7 @@
-//! Contents of identifiers (X.690 8.19), read and written by the crate, and by loops of which it is
-//! proved alone that they stay in range and end.
-
-ghost use Rattle.std.specs.Prelude.{◌<◌, ◌≤◌, length, IfSome};
+//! Contents of identifiers (X.690 8.19), read and written.
 
 use crate::row::Row;
-use asn1_values::{ContentsError, ObjectIdentifier, Oid};
+use asn1_values::{ObjectIdentifier, Oid};
 use std::alloc::{AllocError, Global};
 
 /// How long an identifier is.
@@ -16,24 +13,13 @@ pub enum Size {
     Many,
 }
 
-/// Who reads.
-#[derive(Clone, Copy)]
-pub enum By {
-    /// The crate.
-    Values,
-    /// A loop.
-    Loop,
-}
-
-/// Who writes, and how.
+/// How the contents are written.
 #[derive(Clone, Copy)]
 pub enum Way {
     /// The crate gives octet by octet, and each is pushed.
     Octets,
     /// The crate appends them all by one call.
     Call,
-    /// A loop.
-    Loop,
 }
 
 /// The arcs, of which the last is below 128.
@@ -54,17 +40,16 @@ fn arcs_of(alloc: Global, size: Size) -> Result<Vec<u32>, AllocError> {
 #[derive(Drop)]
 pub struct Read {
     size: Size,
-    by: By,
     octets: Vec<u8>,
 }
 
 impl Read {
     /// Of one identifier.
-    pub fn new(alloc: Global, size: Size, by: By) -> Result<Read, AllocError> {
+    pub fn new(alloc: Global, size: Size) -> Result<Read, AllocError> {
         let arcs = arcs_of(alloc, size)?;
         let mut octets = Vec::new(alloc);
-        write_by_loop(arcs.as_slice(), &mut octets)?;
-        Ok(Read { size, by, octets })
+        append(arcs.as_slice(), &mut octets)?;
+        Ok(Read { size, octets })
     }
 }
 
@@ -82,67 +67,11 @@ fn sum_read(alloc: Global, octets: &[u8]) -> u64 {
     }
 }
 
-fn read_by_loop(alloc: Global, octets: &[u8]) -> Result<Vec<u32>, ContentsError> {
-    let Ok(mut arcs) = Vec::with_capacity(alloc, octets.len() + 1) else {
-        return Err(ContentsError::Memory);
-    };
-    let Some((first, mut at)) = number_at(octets, 0) else {
-        return Err(ContentsError::Malformed);
-    };
-    let x = (first / 40).min(2);
-    let y = first.wrapping_sub(40 * x);
-    let mut fits = y >> 32 == 0;
-    arcs.push_reserved(x as u32);
-    arcs.push_reserved((y & 0xFFFF_FFFF) as u32);
-    while at < octets.len() {
-        let Some((number, next)) = number_at(octets, at) else {
-            return Err(ContentsError::Malformed);
-        };
-        fits = fits && number >> 32 == 0;
-        arcs.push_reserved((number & 0xFFFF_FFFF) as u32);
-        at = next;
-    }
-    if fits {
-        Ok(arcs)
-    } else {
-        Err(ContentsError::ArcTooLarge)
-    }
-}
-
-/// A number by seven bits an octet, which stops growing at 2^40, and the place behind it.
-fn number_at(octets: &[u8], at: usize) -> Option<(u64, usize)>
-    requires { at ≤ length octets.now }
-    ensures later { IfSome result (λ r. at < r.1) }
-    ensures within { IfSome result (λ r. r.1 ≤ length octets.now) }
-{
-    let first = *octets.get(at)?;
-    if first < 0x80 {
-        return Some((u64::from(first), at + 1));
-    }
-    if first == 0x80 {
-        return None;
-    }
-    let mut number = u64::from(first & 0x7F);
-    for i in at + 1..octets.len() {
-        let octet = octets[i];
-        number = number
-            .wrapping_mul(128)
-            .wrapping_add(u64::from(octet & 0x7F))
-            .min(1 << 40);
-        if octet < 0x80 {
-            return Some((number, i + 1));
-        }
-    }
-    None
-}
-
 impl Row for Read {
     fn name(&self) -> &'static str {
-        match (self.size, self.by) {
-            (Size::Seven, By::Values) => "an identifier read from nine octets of contents",
-            (Size::Seven, By::Loop) => "    the same by a loop",
-            (Size::Many, By::Values) => "an identifier of 32 arcs read from 73 octets of contents",
-            (Size::Many, By::Loop) => "    the same by a loop",
+        match self.size {
+            Size::Seven => "an identifier read from nine octets of contents",
+            Size::Many => "an identifier of 32 arcs read from 73 octets of contents",
         }
     }
 
@@ -164,10 +93,7 @@ impl Row for Read {
                 *last = (i % 128) as u8;
             }
             let octets = self.octets.as_slice();
-            sum = sum.wrapping_add(match self.by {
-                By::Values => sum_read(alloc, octets),
-                By::Loop => read_by_loop(alloc, octets).map_or(0, |arcs| sum_of(arcs.as_slice())),
-            });
+            sum = sum.wrapping_add(sum_read(alloc, octets));
         }
         Ok(sum)
     }
@@ -217,45 +143,12 @@ fn append(arcs: &[u32], octets: &mut Vec<u8>) -> Result<(), AllocError> {
     Ok(())
 }
 
-#[inline(never)]
-fn write_by_loop(arcs: &[u32], octets: &mut Vec<u8>) -> Result<(), AllocError> {
-    if let [x, y, others @ ..] = arcs {
-        if *x == 2 || *x < 2 && *y <= 39 {
-            write_number(u64::from(*x) * 40 + u64::from(*y), octets)?;
-            for arc in others {
-                write_number(u64::from(*arc), octets)?;
-            }
-        }
-    }
-    Ok(())
-}
-
-/// Seven bits an octet, in as few octets as can be, of a number below 2^35.
-#[inline(always)]
-fn write_number(number: u64, octets: &mut Vec<u8>) -> Result<(), AllocError> {
-    if number >= 1 << 7 {
-        if number >= 1 << 14 {
-            if number >= 1 << 21 {
-                if number >= 1 << 28 {
-                    octets.push((number >> 28 & 0x7F | 0x80) as u8)?;
-                }
-                octets.push((number >> 21 & 0x7F | 0x80) as u8)?;
-            }
-            octets.push((number >> 14 & 0x7F | 0x80) as u8)?;
-        }
-        octets.push((number >> 7 & 0x7F | 0x80) as u8)?;
-    }
-    octets.push((number & 0x7F) as u8)?;
-    Ok(())
-}
-
 impl Row for Written {
     fn name(&self) -> &'static str {
         match (self.size, self.way) {
             (Size::Seven, Way::Octets) => "nine octets of contents written",
             (Size::Many, Way::Octets) => "73 octets of contents written",
             (_, Way::Call) => "    the same appended by one call",
-            (_, Way::Loop) => "    the same by a loop",
         }
     }
 
@@ -280,7 +173,6 @@ impl Row for Written {
             match self.way {
                 Way::Octets => write(self.arcs.as_slice(), &mut self.octets)?,
                 Way::Call => append(self.arcs.as_slice(), &mut self.octets)?,
-                Way::Loop => write_by_loop(self.arcs.as_slice(), &mut self.octets)?,
             }
             let last = self
                 .octets

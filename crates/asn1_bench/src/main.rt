@@ -14,7 +14,7 @@ mod strings;
 use crate::alphabets::{Codes, Set};
 use crate::bits::{Appended, Copied, Numbers};
 use crate::fields::{Characters, Integers, Message, Widths};
-use crate::identifiers::{By, Read, Size, Way, Written};
+use crate::identifiers::{Read, Size, Way, Written};
 use crate::numbers::Octets;
 use crate::row::{Row, show};
 use crate::strings::{Bits, Kind, Text};
@@ -44,14 +44,12 @@ fn main(rt: HostRuntime) -> anyhow::Result<()> {
     show_formats(&rt, rounds)
 }
 
-/// The rows of identifiers, each with that of a loop.
+/// The rows of identifiers.
 fn show_identifiers(rt: &HostRuntime, rounds: u32) -> anyhow::Result<()> {
     let alloc = rt.alloc();
     for size in [Size::Seven, Size::Many] {
-        for by in [By::Values, By::Loop] {
-            show(rt, &mut Read::new(alloc, size, by)?, rounds)?;
-        }
-        for way in [Way::Octets, Way::Call, Way::Loop] {
+        show(rt, &mut Read::new(alloc, size)?, rounds)?;
+        for way in [Way::Octets, Way::Call] {
             show(rt, &mut Written::new(alloc, size, way)?, rounds)?;
         }
     }
