@@ -47,8 +47,7 @@ impl<'s> EffectiveSet<'s> {
         ensures { result ≡ name_of self.entry }
     {
         match self {
-            EffectiveSet::Base(name) => name,
-            EffectiveSet::Permitted { name, .. } => name,
+            EffectiveSet::Permitted { name, .. } | EffectiveSet::Base(name) => name,
         }
     }
 
@@ -58,8 +57,8 @@ impl<'s> EffectiveSet<'s> {
         ensures { result ≡ length (characters_of self.entry) }
     {
         match self {
-            EffectiveSet::Base(name) => name.count() as u64,
             EffectiveSet::Permitted { set, .. } => set.len() as u64,
+            EffectiveSet::Base(name) => name.count() as u64,
         }
     }
 
@@ -70,9 +69,9 @@ impl<'s> EffectiveSet<'s> {
         ensures { result ≡ largest (characters_of self.entry) }
     {
         match self {
-            EffectiveSet::Base(name) => name.largest(),
             EffectiveSet::Permitted { set, .. } if run => largest_of_run(set),
             EffectiveSet::Permitted { set, .. } => largest_of(set),
+            EffectiveSet::Base(name) => name.largest(),
         }
     }
 
@@ -85,8 +84,8 @@ impl<'s> EffectiveSet<'s> {
             ¬ (IsNonDecreasing (characters_of self.entry)) }
     {
         match self {
-            EffectiveSet::Base(_) => false,
             EffectiveSet::Permitted { set, .. } => run || is_ascending(set),
+            EffectiveSet::Base(_) => false,
         }
     }
 
@@ -98,14 +97,14 @@ impl<'s> EffectiveSet<'s> {
         ensures wordless { IsNone result → run ≡ false → 256 ≤ most }
     {
         match self {
-            EffectiveSet::Base(name) => match name {
-                CharacterSetName::Bmp => None,
-                _ => Some(name.words()),
-            },
             EffectiveSet::Permitted { set, .. } if !run && most < 256 => {
                 Some(CharacterWords::of(set))
             }
             EffectiveSet::Permitted { .. } => None,
+            EffectiveSet::Base(name) => match name {
+                CharacterSetName::Bmp => None,
+                _ => Some(name.words()),
+            },
         }
     }
 
