@@ -1,7 +1,7 @@
 -- Characters at a place of the octets.
 use Rattle.std.proofs.Common.{◌≡◌, ℕ, ◌+◌, ◌-◌, ◌*◌, ◌<◌, ◌≤◌, List, length, take, drop, refl, sym, ap, subst, ◌∙◌, arith}
 use Rattle.asn1_bits.specs.Bits.{digits, number, bits}
-use Rattle.asn1_strings.specs.Alphabet.{Alphabet, IsCode}
+use Rattle.asn1_alphabets.specs.Alphabet.{Alphabet, IsCode}
 use Rattle.asn1_values.specs.Fields as plain
 use Rattle.asn1_values.specs.Wrong.{NoCharacter, Short}
 use Rattle.asn1_c.specs.declared.fields.Field.{Field}

@@ -6,7 +6,7 @@ use Rattle.asn1_bits.specs.Bits.{bits, digits, number}
 use Rattle.asn1_bits.specs.DigitLaws.{length-digits, length-bits}
 use Rattle.asn1_bits.specs.NumberLaws.{number_of-digits, same_octets}
 use Rattle.asn1_number.specs.Octets.{IsShortest}
-use Rattle.asn1_strings.specs.Alphabet.{Alphabet}
+use Rattle.asn1_alphabets.specs.Alphabet.{Alphabet}
 use Rattle.asn1_oid.specs.Contents.{IsContents, FitU32}
 use Rattle.asn1_oid.specs.WritingLaws.{contents_only, some_contents, contents_octets}
 use Rattle.asn1_oid.specs.ReadingLaws.{one_list_of_arcs}

@@ -10,7 +10,7 @@ use Rattle.asn1_bits.specs.OverwrittenLaws.{overwritten-append}
 use Rattle.asn1_bits.specs.View.{View, list_of}
 use Rattle.asn1_number.specs.Octets.{IsShortest}
 use Rattle.asn1_number.specs.LawsHold.{one_shortest_list}
-use Rattle.asn1_strings.specs.Alphabet.{Alphabet, IsCode}
+use Rattle.asn1_alphabets.specs.Alphabet.{Alphabet, IsCode}
 use Rattle.asn1_values.specs.Fields as plain
 use Rattle.asn1_values.specs.Fields.{IsSpelledBy}
 use Rattle.asn1_values.specs.Wrong.{WidthOver, NotInAlphabet}

@@ -3,7 +3,7 @@ use Rattle.std.specs.Prelude.{◌≡◌, ◌+◌, ◌*◌, ◌^◌, ◌≤◌, �
 use Rattle.std.specs.Option.{option_map}
 use Rattle.std.specs.Int.{cast_signed, w128}
 use Rattle.asn1_bits.specs.Bits.{bits}
-use Rattle.asn1_strings.specs.Alphabet.{IsCode}
+use Rattle.asn1_alphabets.specs.Alphabet.{IsCode}
 use Rattle.asn1_values.specs.Fields as plain
 use Rattle.asn1_values.specs.Fields.{IsOfShape, IsSpelledBy}
 use Rattle.asn1_values.specs.Wrong.{Fault, NumberWidth, NotInteger, Short, NoCharacter, NoLength, NotIdentifier, ArcOver, IsReason}

@@ -7,7 +7,7 @@ use Rattle.asn1_characters.specs.Sets.{base_set, has_character}
 use Rattle.std.specs.Option.{option_map, option_and_then}
 use Rattle.asn1_characters.specs.declared.character_set.CharacterSetName.{CharacterSetName}
 use Rattle.asn1_characters.specs.declared.character_set.CharacterSetName.TheVariants.{Bmp, General, Graphic, IA5, Numeric, Printable, Teletex, Visible}
-use Rattle.asn1_strings.specs.Alphabet.{Alphabet, effective}
+use Rattle.asn1_alphabets.specs.Alphabet.{Alphabet, effective}
 use Rattle.asn1_c.specs.declared.alphabets.Alphabet.{Alphabet as InC}
 use Rattle.asn1_strings.specs.Strings.{character_octets}
 

@@ -2,8 +2,8 @@
 
 ghost use Rattle.std.specs.Prelude.{◌≡◌, ◌≢◌, ◌↔◌, ◌<◌, ◌≤◌, ◌^◌, ℕ, true, Some, None, length, MatchOption};
 ghost use Rattle.std.specs.Option.{ForSome, option_copied};
-ghost use Rattle.asn1_strings.specs.Alphabet.{Alphabet as Plain, effective, IsCode};
-ghost use Rattle.asn1_strings.specs.AlphabetView.{alphabet_of};
+ghost use Rattle.asn1_alphabets.specs.Alphabet.{Alphabet as Plain, effective, IsCode};
+ghost use Rattle.asn1_alphabets.specs.AlphabetView.{alphabet_of};
 ghost use Rattle.asn1_c.specs.Sets.{set_named, alphabet_named, alphabet_in};
 
 use crate::codes::{ALPHABET, CHARACTER, CODE, DONE, KIND, SET};

@@ -2,7 +2,7 @@
 
 ghost use Rattle.std.specs.Prelude.{◌≡◌, ◌+◌, ◌*◌, ◌^◌, ◌<◌, ◌≤◌, ℕ, List, length, IfOk, IfErr};
 ghost use Rattle.asn1_bits.specs.Bits.{bits, overwritten};
-ghost use Rattle.asn1_strings.specs.AlphabetView.{alphabet_of};
+ghost use Rattle.asn1_alphabets.specs.AlphabetView.{alphabet_of};
 ghost use Rattle.asn1_values.specs.Fields as plain;
 ghost use Rattle.asn1_values.specs.Plain.{plain_shape};
 ghost use Rattle.asn1_c.specs.Writing.{IsNamedAs, IsWrong, IsMisplaced, IsSound, planned};

@@ -2,3 +2,4 @@ pub mod SetLemmas
 pub mod PlaceLemmas
 pub mod WordLemmas
 pub mod TableLemmas
+pub mod WidthLemmas

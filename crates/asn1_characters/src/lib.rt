@@ -3,8 +3,8 @@
 //!
 //! An octet string is a list of octets (X.680 23), shared or in place. A base set is the list of
 //! characters that one of the eight strings may hold (X.680 41), by its ranges; one look at four
-//! words tells whether a character below 256 is among them. Each string has an error of its own,
-//! with its text.
+//! words tells whether a character below 256 is among them. [`widths`] tells how many bits the
+//! characters of a set take. Each string has an error of its own, with its text.
 #![tactic(auto)]
 
 mod character_set;
@@ -12,7 +12,9 @@ mod character_table;
 mod character_words;
 mod error;
 mod fixed_octet_string;
+mod has_character_set;
 mod octet_string;
+pub mod widths;
 
 pub use character_set::{CharacterRanges, CharacterSetName};
 pub use character_words::CharacterWords;
@@ -22,4 +24,5 @@ pub use error::{
     InvalidVisibleString, PermittedAlphabetError,
 };
 pub use fixed_octet_string::FixedOctetString;
+pub use has_character_set::HasCharacterSet;
 pub use octet_string::OctetString;

@@ -5,7 +5,7 @@ use Rattle.std.proofs.Math.Seq.{drop-append_seam}
 use Rattle.std.proofs.lemmas.List.{length-append, take_all, take_more}
 use Rattle.asn1_bits.specs.Bits.{digits}
 use Rattle.asn1_bits.specs.DigitLaws.{length-digits}
-use Rattle.asn1_strings.specs.Alphabet.{Alphabet, IsCode}
+use Rattle.asn1_alphabets.specs.Alphabet.{Alphabet, IsCode}
 use Rattle.asn1_bits.specs.Joined.{AreJoined}
 use Rattle.asn1_compose.specs.Spelling.{Starts, IsWritten, Extends}
 use Rattle.asn1_compose.specs.Combined.{SoMany}

@@ -3,8 +3,8 @@ use Rattle.std.proofs.Common.{◌≡◌, ℕ, Bool, true, false, List, Some, ref
 use Rattle.std.specs.Prelude.{◌≢◌}
 use Rattle.std.specs.List.{AllPairs}
 use Rattle.asn1_bits.specs.Bits.{digits}
-use Rattle.asn1_strings.specs.Alphabet.{Alphabet, IsCode}
-use Rattle.asn1_strings.specs.AlphabetLaws.{code_is_one}
+use Rattle.asn1_alphabets.specs.Alphabet.{Alphabet, IsCode}
+use Rattle.asn1_alphabets.specs.AlphabetLaws.{code_is_one}
 use Rattle.asn1_formats.specs.declared.character.CharacterFault.{CharacterFault}
 use Rattle.asn1_formats.specs.declared.character.CharacterFault.TheVariants.{Short, NoCharacter}
 use Rattle.asn1_compose.specs.Spelling.{Starts, CanRead, ReadsOne, SpellsOne, NamesFault, NamesMisfit}

@@ -1,6 +1,6 @@
 -- Tables of codes and of characters, in which 0 says nothing.
 use Rattle.std.specs.Prelude.{ℕ, ◌<◌, List, get_or}
-use Rattle.asn1_strings.specs.Alphabet.{Alphabet, IsCode}
+use Rattle.asn1_alphabets.specs.Alphabet.{Alphabet, IsCode}
 
 -- what stands at the place of a character is a code of it
 abbrev pub AreCodes : Alphabet → List ℕ → Type 0

@@ -2,11 +2,11 @@
 
 ghost use Rattle.std.specs.Prelude.{◌≡◌, ◌≢◌, ℕ, ⊤, IfSome, IfNone};
 ghost use Rattle.std.specs.List.{AllPairs};
-ghost use Rattle.asn1_strings.specs.AlphabetView.{alphabet_of};
+ghost use Rattle.asn1_alphabets.specs.AlphabetView.{alphabet_of};
 
+use asn1_alphabets::CharacterAlphabet;
 use asn1_bits::{BitBuffer, BitReader};
 use asn1_compose::{Format, Refusal, next_number32, push_number};
-use asn1_strings::CharacterAlphabet;
 use std::alloc::Global;
 use thiserror::Error;
 

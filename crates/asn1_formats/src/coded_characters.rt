@@ -2,12 +2,12 @@
 
 ghost use Rattle.std.specs.Prelude.{◌≡◌, ◌^◌, ◌<◌, ◌≤◌, ℕ, IfSome};
 ghost use Rattle.std.proofs.Props.{props};
-ghost use Rattle.asn1_strings.specs.Alphabet.{IsCode};
-ghost use Rattle.asn1_strings.specs.AlphabetView.{alphabet_of};
+ghost use Rattle.asn1_alphabets.specs.Alphabet.{IsCode};
+ghost use Rattle.asn1_alphabets.specs.AlphabetView.{alphabet_of};
 ghost use Rattle.asn1_formats.specs.CodedCharacters.{AreCodes, AreCharacters};
 
 use crate::character::Character;
-use asn1_strings::CharacterAlphabet;
+use asn1_alphabets::CharacterAlphabet;
 
 /// The characters of an alphabet, with tables of those whose code and number are both from 1 to
 /// 255.

@@ -2,8 +2,8 @@
 
 ghost use Rattle.std.specs.Prelude.{◌≡◌, ◌≤◌, ◌+◌, ℕ, List, Bool, IsTrue, IfSome, IfNone, OnSome, vec_len, vec_capacity};
 ghost use Rattle.asn1_bits.specs.BitReader.{bits_left};
-ghost use Rattle.asn1_strings.specs.Alphabet.{IsCode};
-ghost use Rattle.asn1_strings.specs.AlphabetView.{alphabet_of};
+ghost use Rattle.asn1_alphabets.specs.Alphabet.{IsCode};
+ghost use Rattle.asn1_alphabets.specs.AlphabetView.{alphabet_of};
 ghost use Rattle.asn1_bits.specs.Joined.{AreJoined};
 ghost use Rattle.asn1_compose.specs.Spelling.{Starts, IsWritten, Extends};
 ghost use Rattle.asn1_compose.specs.Combined.{SoMany};

@@ -3,9 +3,4 @@ pub mod PieceLemmas
 pub mod TextLemmas
 pub mod BmpLemmas
 pub mod KeyLemmas
-pub mod AscendingLemmas
-pub mod RepeatLemmas
-pub mod AlphabetLemmas
-pub mod RunLemmas
 pub mod OctetLemmas
-pub mod WidthLemmas

@@ -11,7 +11,7 @@ use crate::code_unit::CodeUnit;
 use crate::key_maps::Keys;
 use crate::pieces::BitPieces;
 use crate::static_permitted_alphabet::StaticPermittedAlphabet;
-use crate::widths::codes_of;
+use asn1_characters::widths::codes_of;
 use asn1_characters::{CharacterSetName, PermittedAlphabetError};
 use std::alloc::Global;
 

@@ -1,17 +1,14 @@
-//! The eight restricted character strings and permitted alphabets of ASN.1, over the base sets and
-//! octet strings of `asn1_characters`, which are passed on.
+//! The eight restricted character strings of ASN.1, over the base sets and octet strings of
+//! `asn1_characters`.
 //!
 //! A string is a list of characters, each in the base set of its kind (X.680 41). It is read from
 //! its contents (X.690 8.21), a text, bits or an alphabet, whole and in order, or refused by its
-//! first wrong piece. An alphabet gives a character the code that X.691 30.5 names, and takes no
-//! memory.
+//! first wrong piece. The names of `asn1_characters` and of `asn1_alphabets` are passed on.
 #![tactic(auto)]
 
-mod alphabet;
 mod bmp_string;
 mod chars;
 mod code_unit;
-mod effective_set;
 mod general_string;
 mod graphic_string;
 mod ia5_string;
@@ -19,25 +16,21 @@ mod key_maps;
 mod key_walk;
 mod numeric_string;
 mod octet_kinds;
-mod permitted_set;
 mod pieces;
 mod printable_string;
 mod restricted_string;
-mod run;
-mod search;
 mod static_permitted_alphabet;
 mod string_kind;
 mod teletex_string;
 mod utf8_string;
 mod visible_string;
-mod widths;
 
-pub use alphabet::{CharacterAlphabet, should_be_indexed};
+pub use asn1_alphabets::{CharacterAlphabet, Entries, Looks, find_ascending, should_be_indexed};
 pub use asn1_characters::{
-    CharacterRanges, CharacterSetName, FixedOctetString, InvalidBmpString, InvalidGeneralString,
-    InvalidGraphicString, InvalidIA5String, InvalidNumericString, InvalidPrintableString,
-    InvalidRestrictedString, InvalidTeletexString, InvalidVisibleString, OctetString,
-    PermittedAlphabetError,
+    CharacterRanges, CharacterSetName, FixedOctetString, HasCharacterSet, InvalidBmpString,
+    InvalidGeneralString, InvalidGraphicString, InvalidIA5String, InvalidNumericString,
+    InvalidPrintableString, InvalidRestrictedString, InvalidTeletexString, InvalidVisibleString,
+    OctetString, PermittedAlphabetError,
 };
 pub use bmp_string::{Bmp, BmpString};
 pub use chars::Chars;
@@ -49,7 +42,6 @@ pub use numeric_string::{Numeric, NumericString};
 pub use octet_kinds::{AsBytes, FromBytes, Iso646};
 pub use printable_string::{Printable, PrintableString};
 pub use restricted_string::RestrictedString;
-pub use search::{Entries, Looks, find_ascending};
 pub use static_permitted_alphabet::StaticPermittedAlphabet;
 pub use string_kind::StringKind;
 pub use teletex_string::{Teletex, TeletexString};

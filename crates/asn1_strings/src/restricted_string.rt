@@ -12,7 +12,7 @@ use crate::chars::Chars;
 use crate::code_unit::CodeUnit;
 use crate::static_permitted_alphabet::StaticPermittedAlphabet;
 use crate::string_kind::StringKind;
-use asn1_characters::{CharacterRanges, CharacterSetName};
+use asn1_characters::{CharacterRanges, CharacterSetName, HasCharacterSet};
 use std::alloc::{AllocError, Global};
 use std::cmp::Ordering;
 use std::hash::{Hash, Hasher};
@@ -34,16 +34,18 @@ impl<K: StringKind> Model for RestrictedString<K> {
         (map K.T.value s.units.items) };
 }
 
+impl<K: StringKind> HasCharacterSet for RestrictedString<K> {
+    ghost CHARACTER_SET_NAME = { K.NAME };
+
+    const CHARACTER_SET_NAME: CharacterSetName = K::NAME;
+}
+
 impl<K: StringKind> StaticPermittedAlphabet for RestrictedString<K> {
     type T = K::T;
 
     ghost CHARACTER_SET_RANGES = { record { name = K.NAME } };
 
     const CHARACTER_SET_RANGES: CharacterRanges = CharacterRanges::of(K::NAME);
-
-    ghost CHARACTER_SET_NAME = { K.NAME };
-
-    const CHARACTER_SET_NAME: CharacterSetName = K::NAME;
 
     ghost CHARACTER_SET_COUNT = { base_count K.NAME };
 

@@ -15,7 +15,8 @@ use crate::key_maps::{string_of_bits_in, string_of_numbers};
 use crate::pieces::{BitPieces, OctetPieces};
 use asn1_bits::{BitStr, BitString};
 use asn1_characters::{
-    CharacterRanges, CharacterSetName, InvalidRestrictedString, OctetString, PermittedAlphabetError,
+    CharacterRanges, CharacterSetName, HasCharacterSet, InvalidRestrictedString, OctetString,
+    PermittedAlphabetError,
 };
 use std::alloc::{AllocError, Global};
 use std::collections::BTreeMap;
@@ -26,8 +27,7 @@ use std::collections::BTreeMap;
 /// by `Other`, `InvalidData` or the first wrong character, in this order, and by `Memory` only what
 /// would else be a string that is not empty. Those that read bits ask for room for all characters
 /// before they look at the first.
-pub trait StaticPermittedAlphabet: Sized + Drop {
-    ghost use Rattle.asn1_characters.specs.declared.character_set.CharacterSetName.{CharacterSetName};
+pub trait StaticPermittedAlphabet: HasCharacterSet + Sized + Drop {
     ghost use Rattle.asn1_characters.specs.declared.character_set.CharacterRanges.{CharacterRanges};
 
     /// The integer that keeps a character.
@@ -37,11 +37,6 @@ pub trait StaticPermittedAlphabet: Sized + Drop {
 
     /// First and last character of each range of the set, in the set's order: `as_slice` has them.
     const CHARACTER_SET_RANGES: CharacterRanges;
-
-    ghost CHARACTER_SET_NAME: { CharacterSetName };
-
-    /// Which of the eight strings it is.
-    const CHARACTER_SET_NAME: CharacterSetName;
 
     ghost CHARACTER_SET_COUNT: { ℕ };
 
@@ -72,7 +67,7 @@ pub trait StaticPermittedAlphabet: Sized + Drop {
 
     /// Appends a character of the set. Where memory is refused the string is as before.
     fn push_char(&mut self, character: u32) -> Result<(), AllocError>
-        requires { has_character (base_set CHARACTER_SET_NAME) character ≡ true }
+        requires { has_character (base_set Self.CHARACTER_SET_NAME) character ≡ true }
         ensures ok { OnOk result (characters self.new ≡ characters self.old ++ character ∷ []) }
         ensures err { OnErr result (characters self.new ≡ characters self.old) };
 
@@ -88,26 +83,26 @@ pub trait StaticPermittedAlphabet: Sized + Drop {
 
     /// The string of these units, each of which the caller knows to be in the set.
     fn from_units(units: Vec<Self::T>) -> Self
-        requires { All (λ c. has_character (base_set CHARACTER_SET_NAME) c ≡ true)
+        requires { All (λ c. has_character (base_set Self.CHARACTER_SET_NAME) c ≡ true)
             (map Self.T.value units.items) }
         ensures { characters result ≡ map Self.T.value units.items };
 
     /// Its characters, in their order.
     fn chars(&self) -> Chars<'_, Self::T>
         ensures list { result ≡ characters self.now }
-        ensures in_set { All (λ c. has_character (base_set CHARACTER_SET_NAME) c ≡ true)
+        ensures in_set { All (λ c. has_character (base_set Self.CHARACTER_SET_NAME) c ≡ true)
             (characters self.now) };
 
     /// Whether the set has the character, as `CharacterSetName::contains` says.
     fn contains_char(character: u32) -> bool
-        ensures { result ≡ has_character (base_set CHARACTER_SET_NAME) character }
+        ensures { result ≡ has_character (base_set Self.CHARACTER_SET_NAME) character }
     {
         Self::CHARACTER_SET_NAME.contains(character)
     }
 
     /// The string's own error for a character.
     fn invalid_restricted_string(character: u32) -> InvalidRestrictedString
-        ensures { result ≡ own_error CHARACTER_SET_NAME character }
+        ensures { result ≡ own_error Self.CHARACTER_SET_NAME character }
     {
         InvalidRestrictedString::of(Self::CHARACTER_SET_NAME, character)
     }
@@ -119,7 +114,8 @@ pub trait StaticPermittedAlphabet: Sized + Drop {
         width: usize,
     ) -> Result<Self, PermittedAlphabetError>
         requires { (width ≡ 0) ⊎ (width ≡ 1) ⊎ (width ≡ 2) ⊎ (width ≡ 4) }
-        ensures { Answers characters result (string_of_octets CHARACTER_SET_NAME width input.now) }
+        ensures { Answers characters result
+            (string_of_octets Self.CHARACTER_SET_NAME width input.now) }
     {
         if width == 0 {
             return Err(PermittedAlphabetError::Other {
@@ -142,33 +138,33 @@ pub trait StaticPermittedAlphabet: Sized + Drop {
     /// The string that these octets are the contents of (X.690 8.21): one octet a character, two in
     /// `BmpString`, most significant first.
     final fn try_from_slice(alloc: Global, input: &[u8]) -> Result<Self, PermittedAlphabetError>
-        ensures { let width = character_octets CHARACTER_SET_NAME in
-            Answers characters result (string_of_octets CHARACTER_SET_NAME width input.now) }
+        ensures { let width = character_octets Self.CHARACTER_SET_NAME in
+            Answers characters result (string_of_octets Self.CHARACTER_SET_NAME width input.now) }
     {
         Self::try_from_slice_with_width(alloc, input, <Self::T as CodeUnit>::OCTETS)
     }
 
     /// As `try_from_slice`, of the octets of the text in UTF-8, for `BmpString` too.
     final fn try_from_str(alloc: Global, input: &str) -> Result<Self, PermittedAlphabetError>
-        ensures { let width = character_octets CHARACTER_SET_NAME in
-            Answers characters result (string_of_octets CHARACTER_SET_NAME width input.now) }
+        ensures { let width = character_octets Self.CHARACTER_SET_NAME in
+            Answers characters result (string_of_octets Self.CHARACTER_SET_NAME width input.now) }
     {
         Self::try_from_slice(alloc, input.as_bytes())
     }
 
     /// As `try_from_slice`, of the octets of the vector.
     final fn try_from_vec(alloc: Global, input: Vec<u8>) -> Result<Self, PermittedAlphabetError>
-        ensures { let width = character_octets CHARACTER_SET_NAME in
-            Answers characters result (string_of_octets CHARACTER_SET_NAME width input.items) }
+        ensures { let width = character_octets Self.CHARACTER_SET_NAME in
+            Answers characters result (string_of_octets Self.CHARACTER_SET_NAME width input.items) }
     {
         Self::try_from_slice(alloc, input.as_slice())
     }
 
     /// As `try_from_slice`, of the octets of the text in UTF-8, for `BmpString` too.
     final fn try_from_string(alloc: Global, input: String) -> Result<Self, PermittedAlphabetError>
-        ensures { let width = character_octets CHARACTER_SET_NAME in
+        ensures { let width = character_octets Self.CHARACTER_SET_NAME in
             let octets = string_bytes input in
-            Answers characters result (string_of_octets CHARACTER_SET_NAME width octets) }
+            Answers characters result (string_of_octets Self.CHARACTER_SET_NAME width octets) }
     {
         Self::try_from_slice(alloc, input.as_bytes())
     }
@@ -178,8 +174,8 @@ pub trait StaticPermittedAlphabet: Sized + Drop {
         alloc: Global,
         input: OctetString,
     ) -> Result<Self, PermittedAlphabetError>
-        ensures { let width = character_octets CHARACTER_SET_NAME in
-            Answers characters result (string_of_octets CHARACTER_SET_NAME width input) }
+        ensures { let width = character_octets Self.CHARACTER_SET_NAME in
+            Answers characters result (string_of_octets Self.CHARACTER_SET_NAME width input) }
     {
         Self::try_from_slice(alloc, input.as_ref())
     }
@@ -193,7 +189,7 @@ pub trait StaticPermittedAlphabet: Sized + Drop {
     ) -> Result<Self, PermittedAlphabetError>
         requires { width ≤ 32 }
         ensures { let bits = bits_of input.entry in
-            Answers characters result (string_of_bits CHARACTER_SET_NAME width bits) }
+            Answers characters result (string_of_bits Self.CHARACTER_SET_NAME width bits) }
     {
         if width == 0 || input.len() % width != 0 {
             return Err(PermittedAlphabetError::InvalidData {
@@ -228,7 +224,7 @@ pub trait StaticPermittedAlphabet: Sized + Drop {
         requires { ForSome (option_copied alphabet) (λ m. btree_map_len m ≤ 2 ^ 31) }
         ensures { let map = option_copied alphabet.entry in
             let bits = bits_of input.entry in
-            Answers characters result (string_of_alphabet CHARACTER_SET_NAME map bits) }
+            Answers characters result (string_of_alphabet Self.CHARACTER_SET_NAME map bits) }
     {
         match alphabet {
             Some(map) => string_of_bits_in::<Self, &BTreeMap<u32, u32>>(alloc, input, &map),
@@ -244,27 +240,28 @@ pub trait StaticPermittedAlphabet: Sized + Drop {
         alloc: Global,
         input: BitString,
     ) -> Result<Self, PermittedAlphabetError>
-        ensures { Answers characters result (string_of_alphabet CHARACTER_SET_NAME None input) }
+        ensures { Answers characters result
+            (string_of_alphabet Self.CHARACTER_SET_NAME None input) }
     {
         Self::try_from_permitted_alphabet(alloc, input.as_bitstr(), None)
     }
 
     // The constants are what the table of base sets gives.
-    ghost ranges: { CHARACTER_SET_RANGES.name ≡ CHARACTER_SET_NAME };
+    ghost ranges: { CHARACTER_SET_RANGES.name ≡ Self.CHARACTER_SET_NAME };
 
-    ghost count: { CHARACTER_SET_COUNT ≡ base_count CHARACTER_SET_NAME };
+    ghost count: { CHARACTER_SET_COUNT ≡ base_count Self.CHARACTER_SET_NAME };
 
-    ghost width: { CHARACTER_SET_WIDTH ≡ base_width CHARACTER_SET_NAME };
+    ghost width: { CHARACTER_SET_WIDTH ≡ base_width Self.CHARACTER_SET_NAME };
 
-    ghost most: { CHARACTER_SET_MAX ≡ base_largest CHARACTER_SET_NAME };
+    ghost most: { CHARACTER_SET_MAX ≡ base_largest Self.CHARACTER_SET_NAME };
 
-    ghost indexed: { IS_INDEXED ≡ base_indexed CHARACTER_SET_NAME };
+    ghost indexed: { IS_INDEXED ≡ base_indexed Self.CHARACTER_SET_NAME };
 
     // A character has as many octets as the standard gives it.
-    ghost octets: { Self.T.OCTETS ≡ character_octets CHARACTER_SET_NAME };
+    ghost octets: { Self.T.OCTETS ≡ character_octets Self.CHARACTER_SET_NAME };
 
     // Every character of the set can be kept.
-    ghost fits: { (c : ℕ) → has_character (base_set CHARACTER_SET_NAME) c ≡ true →
+    ghost fits: { (c : ℕ) → has_character (base_set Self.CHARACTER_SET_NAME) c ≡ true →
         c < Self.T.limit };
 }
 

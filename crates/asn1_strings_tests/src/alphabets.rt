@@ -4,10 +4,10 @@ ghost use Rattle.std.specs.Prelude.{◌≤◌, ◌^◌, length};
 ghost use Rattle.std.specs.Option.{ForSome, option_copied};
 
 use crate::lists::{MOST, list};
+use asn1_alphabets::{CharacterAlphabet, should_be_indexed};
 use asn1_bits::Turns;
 use asn1_strings::{
-    BmpString, CharacterAlphabet, Ia5String, NumericString, PermittedAlphabetError,
-    PrintableString, VisibleString, should_be_indexed,
+    BmpString, Ia5String, NumericString, PermittedAlphabetError, PrintableString, VisibleString,
 };
 use asn1_test_rows::{RowError, outcome, parsed, shown, wrong};
 use std::alloc::Global;

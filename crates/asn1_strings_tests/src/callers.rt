@@ -3,7 +3,8 @@
 
 ghost use Rattle.std.specs.Prelude.{◌≡◌, ◌≢◌, [], IfOk, IfSome, OnErr};
 
-use asn1_strings::{CharacterAlphabet, Ia5String, NumericString, StaticPermittedAlphabet};
+use asn1_alphabets::CharacterAlphabet;
+use asn1_strings::{Ia5String, NumericString, StaticPermittedAlphabet};
 use asn1_test_rows::{RowError, hex_of, octets, one, optional, parsed, wrong};
 use std::alloc::{AllocError, Global};
 

@@ -4,8 +4,8 @@ ghost use Rattle.std.specs.Prelude.{◌≡◌, true};
 ghost use Rattle.std.specs.List.Sorted.{IsNonDecreasing};
 
 use crate::lists::list;
+use asn1_alphabets::{Entries, find_ascending};
 use asn1_bits::Turns;
-use asn1_strings::{Entries, find_ascending};
 use asn1_test_rows::{RowError, parsed, two, wrong};
 use std::alloc::Global;
 

@@ -8,7 +8,7 @@ use Rattle.asn1_bits.specs.Bits.{digits, number}
 use Rattle.asn1_bits.specs.DigitLaws.{length-digits}
 use Rattle.asn1_bits.specs.NumberLaws.{number_of-digits, digits_of-number}
 use Rattle.asn1_strings.specs.Sets.{has_character}
-use Rattle.asn1_strings.specs.Alphabet.{Alphabet, IsCode}
+use Rattle.asn1_alphabets.specs.Alphabet.{Alphabet, IsCode}
 use Rattle.asn1_values.specs.Fields.{Field, IsSpelledBy, IsOfShape, Character, OfCharacter}
 use Rattle.asn1_values.specs.Wrong.{Fault, NoCharacter, IsReason}
 use Rattle.asn1_values.specs.Walk.{character_of, character_or_none, character_content, cut_at, field_at}

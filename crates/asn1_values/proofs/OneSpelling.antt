@@ -1,7 +1,7 @@
 -- Fields have one spelling, where no alphabet gives a character two codes.
 use Rattle.std.proofs.Common.{inl, inr, arith, ◌≡◌, ℕ, ◌+◌, ◌*◌, List, [], ◌∷◌, ◌++◌, Bool, Option, Some, None, length, sym, ap, subst, ◌∙◌}
 use Rattle.std.specs.Prelude.{IfSome}
-use Rattle.asn1_strings.specs.Alphabet.{Alphabet}
+use Rattle.asn1_alphabets.specs.Alphabet.{Alphabet}
 use Rattle.asn1_oid.specs.Contents.{IsContents}
 use Rattle.asn1_oid.specs.WritingLaws.{contents_only}
 use Rattle.asn1_values.specs.SpellingLaws.{same_shortest, all_one}

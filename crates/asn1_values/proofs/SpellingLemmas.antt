@@ -6,7 +6,7 @@ use Rattle.asn1_bits.specs.Turns.{turns_for}
 use Rattle.asn1_number.specs.Octets.{IsShortest}
 use Rattle.asn1_oid.specs.Contents.{IsContents, FitU32}
 use Rattle.asn1_oid.specs.WritingLaws.{contents_only}
-use Rattle.asn1_strings.specs.Alphabet.{Alphabet, IsCode}
+use Rattle.asn1_alphabets.specs.Alphabet.{Alphabet, IsCode}
 use Rattle.asn1_values.specs.SpellingLaws.{same_shortest}
 use Rattle.std.specs.Option.{option_map}
 use Rattle.std.proofs.lemmas.List.{length-append, map_more, map-append, take-map, take-append-drop, drop_more}

@@ -4,7 +4,7 @@ use Rattle.std.specs.List.{AllZip, AllByRecursion}
 use Rattle.asn1_bits.specs.Bits.{digits, bits}
 use Rattle.asn1_number.specs.Octets.{IsShortest}
 use Rattle.asn1_oid.specs.Contents.{IsContents, FitU32}
-use Rattle.asn1_strings.specs.Alphabet.{Alphabet, IsCode}
+use Rattle.asn1_alphabets.specs.Alphabet.{Alphabet, IsCode}
 use Rattle.asn1_bits.specs.Joined.{AreJoined}
 
 -- what a field says, whatever storage holds it

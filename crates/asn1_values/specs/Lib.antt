@@ -34,8 +34,8 @@ pub use Rattle.asn1_characters.specs.Errors
 pub use Rattle.asn1_characters.specs.Sets
 pub use Rattle.asn1_characters.specs.Texts
 pub use Rattle.asn1_characters.specs.Widths
-pub use Rattle.asn1_strings.specs.Alphabet
-pub use Rattle.asn1_strings.specs.AlphabetView
+pub use Rattle.asn1_alphabets.specs.Alphabet
+pub use Rattle.asn1_alphabets.specs.AlphabetView
 pub use Rattle.asn1_strings.specs.Maps
 pub use Rattle.asn1_strings.specs.Pieces
 pub use Rattle.asn1_strings.specs.Strings

@@ -3,7 +3,7 @@ use Rattle.std.specs.Prelude.{◌≡◌, ◌↔◌, ◌+◌, ◌%◌, length, �
 use Rattle.asn1_bits.specs.BitStr.{view_of, bits_of}
 use Rattle.asn1_bits.specs.Octets.{octets_in, IsBorrowed}
 use Rattle.asn1_bits.specs.View.{View}
-use Rattle.asn1_strings.specs.AlphabetView.{alphabet_of}
+use Rattle.asn1_alphabets.specs.AlphabetView.{alphabet_of}
 use Rattle.asn1_values.specs.declared.bit_fields.field.Field.{Field}
 use Rattle.asn1_values.specs.declared.bit_fields.field.Field.TheVariants as fields
 use Rattle.asn1_values.specs.declared.bit_fields.shape.Shape.{Shape}

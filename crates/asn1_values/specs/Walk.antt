@@ -7,7 +7,7 @@ use Rattle.asn1_oid.specs.declared.contents.ContentsError.{ContentsError}
 use Rattle.asn1_oid.specs.declared.contents.ContentsError.TheVariants.{ArcTooLarge}
 use Rattle.asn1_oid.specs.Reading.{contents_reading}
 use Rattle.asn1_strings.specs.Sets.{has_character}
-use Rattle.asn1_strings.specs.Alphabet.{Alphabet}
+use Rattle.asn1_alphabets.specs.Alphabet.{Alphabet}
 use Rattle.asn1_values.specs.Fields.{Field, Shape, Number, Octets, Bits, Integer, Character, CountedInteger, Identifier, OfNumber, OfOctets, OfBits, OfInteger, OfCharacter, OfCountedInteger, OfIdentifier}
 use Rattle.asn1_values.specs.Wrong.{Fault, NumberWidth, NotInteger, Short, NoCharacter, NoLength, NotIdentifier, ArcOver}
 

@@ -12,8 +12,8 @@ pub use Rattle.asn1_number.specs.Octets.{IsShortest}
 unfoldable pub use Rattle.asn1_number.specs.Shortest.{shortest_octets}
 pub use Rattle.asn1_oid.specs.Arcs.{dotted}
 unfoldable pub use Rattle.asn1_strings.specs.Sets.{base_set}
-pub use Rattle.asn1_strings.specs.Alphabet.{Alphabet, counting_set, effective, keeps}
-pub use Rattle.asn1_strings.specs.AlphabetView.{alphabet_of}
-pub use Rattle.asn1_strings.specs.AlphabetLaws.{code_is_one}
+pub use Rattle.asn1_alphabets.specs.Alphabet.{Alphabet, counting_set, effective, keeps}
+pub use Rattle.asn1_alphabets.specs.AlphabetView.{alphabet_of}
+pub use Rattle.asn1_alphabets.specs.AlphabetLaws.{code_is_one}
 pub use Rattle.asn1_characters.specs.declared.character_set.CharacterSetName.{CharacterSetName}
 pub use Rattle.asn1_characters.specs.declared.character_set.CharacterSetName.TheVariants.{Bmp, General, Graphic, IA5, Numeric, Printable, Teletex, Visible}

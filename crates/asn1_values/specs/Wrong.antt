@@ -4,7 +4,7 @@ use Rattle.asn1_bits.specs.Bits.{number, bits}
 use Rattle.asn1_number.specs.Octets.{IsShortest}
 use Rattle.asn1_integer.specs.IntegerOctets.{IsNoInteger}
 use Rattle.asn1_oid.specs.Contents.{IsContents, FitU32}
-use Rattle.asn1_strings.specs.Alphabet.{IsCode}
+use Rattle.asn1_alphabets.specs.Alphabet.{IsCode}
 use Rattle.asn1_values.specs.Fields.{Field, Shape, IsSpelledBy, Begins, Number, Character, CountedInteger, Identifier, OfNumber, OfOctets, OfBits, OfInteger, OfCharacter, OfCountedInteger, OfIdentifier}
 
 -- ---- reading

@@ -7,6 +7,7 @@
 
 pub mod bit_fields;
 
+pub use asn1_alphabets::{CharacterAlphabet, Entries, Looks, find_ascending, should_be_indexed};
 pub use asn1_bits::{
     BitAppender, BitBuffer, BitReader, BitStr, BitString, FixedBitString, Octets, Places, Turns,
     aligned_octets, extend_bitstring, extend_vec_from_bitslice, or_bits, overwrite_bitslice,
@@ -23,14 +24,13 @@ pub use asn1_oid::{
     laws_of_contents,
 };
 pub use asn1_strings::{
-    AsBytes, Bmp, BmpString, CharacterAlphabet, CharacterRanges, CharacterSetName, Chars, CodeUnit,
-    Entries, FixedOctetString, FromBytes, General, GeneralString, Graphic, GraphicString, Ia5,
-    Ia5String, InvalidBmpString, InvalidGeneralString, InvalidGraphicString, InvalidIA5String,
+    AsBytes, Bmp, BmpString, CharacterRanges, CharacterSetName, Chars, CodeUnit, FixedOctetString,
+    FromBytes, General, GeneralString, Graphic, GraphicString, HasCharacterSet, Ia5, Ia5String,
+    InvalidBmpString, InvalidGeneralString, InvalidGraphicString, InvalidIA5String,
     InvalidNumericString, InvalidPrintableString, InvalidRestrictedString, InvalidTeletexString,
-    InvalidVisibleString, Iso646, Looks, Numeric, NumericString, OctetString,
-    PermittedAlphabetError, Printable, PrintableString, RestrictedString, StaticPermittedAlphabet,
-    StringKind, Teletex, TeletexString, Utf8String, Visible, VisibleString, find_ascending,
-    should_be_indexed,
+    InvalidVisibleString, Iso646, Numeric, NumericString, OctetString, PermittedAlphabetError,
+    Printable, PrintableString, RestrictedString, StaticPermittedAlphabet, StringKind, Teletex,
+    TeletexString, Utf8String, Visible, VisibleString,
 };
 pub use bit_fields::{
     Field, ReadError, Shape, WriteError, read_fields, shape_of, write_fields, write_fields_at,

@@ -4,7 +4,7 @@ ghost use Rattle.std.specs.Prelude.{◌≡◌, Err, ◌+◌, ◌*◌, ◌<◌, �
 ghost use Rattle.asn1_bits.specs.BitAppender.{room};
 ghost use Rattle.asn1_bits.specs.BitReader.{bits_left};
 ghost use Rattle.asn1_bits.specs.Bits.{bits, number};
-ghost use Rattle.asn1_strings.specs.AlphabetView.{alphabet_of};
+ghost use Rattle.asn1_alphabets.specs.AlphabetView.{alphabet_of};
 ghost use Rattle.asn1_values.specs.Fields as plain;
 ghost use Rattle.asn1_values.specs.Steps.{HasRoomBehind, PushesBehind, PushesNone, FitsWithin, Measures, Overwrites, ExaminesValue, AppendsNext};
 ghost use Rattle.asn1_values.specs.Walk.{field_at};
@@ -14,8 +14,8 @@ use super::field::Field;
 use super::gathered::Gathered;
 use super::number::overwrite_digits;
 use super::take::take_few;
+use asn1_alphabets::CharacterAlphabet;
 use asn1_bits::{BitAppender, BitReader, Turns};
-use asn1_strings::CharacterAlphabet;
 
 /// The width of the alphabet, if it has a code for the character.
 #[inline(always)]

@@ -1,9 +1,9 @@
 //! Fields.
 
+use asn1_alphabets::CharacterAlphabet;
 use asn1_bits::{BitStr, Octets};
 use asn1_integer::Integer;
 use asn1_oid::ObjectIdentifier;
-use asn1_strings::CharacterAlphabet;
 
 /// A field that is written, or that was read.
 #[derive(Debug, Drop)]

@@ -6,7 +6,7 @@ ghost use Rattle.asn1_values.specs.Fields.{IsOfShape, IsSpelledBy, HasShape, nee
 ghost use Rattle.asn1_values.specs.Plain.{plain_field, plain_shape};
 
 use super::field::Field;
-use asn1_strings::CharacterAlphabet;
+use asn1_alphabets::CharacterAlphabet;
 
 /// What a reader has to know of a field: its kind, and its width, count or alphabet.
 #[derive(Clone, Copy, Debug)]

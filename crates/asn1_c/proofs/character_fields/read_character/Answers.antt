@@ -1,6 +1,6 @@
 use Rattle.std.proofs.Common.{◌∙◌, subst, sym}
-use Rattle.asn1_strings.specs.Alphabet.{IsCode}
-use Rattle.asn1_strings.specs.AlphabetView.{alphabet_of}
+use Rattle.asn1_alphabets.specs.Alphabet.{IsCode}
+use Rattle.asn1_alphabets.specs.AlphabetView.{alphabet_of}
 use Rattle.asn1_c.proofs.CharacterFieldLemmas.{character_read, character_wrong, character_short}
 use Rattle.asn1_c.proofs.character_fields.read_character.Goals as goal
 

@@ -1,5 +1,5 @@
 use Rattle.std.proofs.Common.{◌∙◌, inr, arith}
-use Rattle.asn1_strings.specs.AlphabetView.{alphabet_of}
+use Rattle.asn1_alphabets.specs.AlphabetView.{alphabet_of}
 use Rattle.asn1_c.proofs.PlanLemmas.{character_named, not_in_alphabet}
 use Rattle.asn1_c.proofs.plans.plan_character.Goals as goal
 

@@ -1,7 +1,7 @@
 use Rattle.std.proofs.Common.{arith, refl, ◌∙◌}
 use Rattle.std.proofs.lemmas.List.{length-set}
-use Rattle.asn1_strings.specs.Alphabet.{IsCode}
-use Rattle.asn1_strings.specs.AlphabetView.{alphabet_of}
+use Rattle.asn1_alphabets.specs.Alphabet.{IsCode}
+use Rattle.asn1_alphabets.specs.AlphabetView.{alphabet_of}
 use Rattle.asn1_formats.proofs.TableSteps.{none_said, one_more}
 use Rattle.asn1_formats.proofs.coded_characters.characters_of.Goals as goal
 

@@ -1,5 +1,5 @@
 use Rattle.std.proofs.Common.{◌≡◌, length}
-use Rattle.asn1_strings.specs.AlphabetView.{alphabet_of}
+use Rattle.asn1_alphabets.specs.AlphabetView.{alphabet_of}
 use Rattle.asn1_formats.specs.CodedCharacters.{AreCharacters}
 use Rattle.asn1_formats.proofs.coded_characters.characters_of.Given as goal
 

@@ -1,4 +1,4 @@
-use Rattle.asn1_strings.specs.AlphabetView.{alphabet_of}
+use Rattle.asn1_alphabets.specs.AlphabetView.{alphabet_of}
 use Rattle.asn1_formats.specs.CodedCharacters.{AreCodes}
 use Rattle.asn1_formats.proofs.coded_characters.codes_of.Given as goal
 

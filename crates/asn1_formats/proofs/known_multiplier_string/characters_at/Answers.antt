@@ -1,6 +1,6 @@
 use Rattle.std.proofs.Common.{◌≡◌, ℕ, ◌+◌, ◌-◌, refl, arith}
 use Rattle.asn1_bits.specs.BitReader.{bits_left}
-use Rattle.asn1_strings.specs.AlphabetView.{alphabet_of}
+use Rattle.asn1_alphabets.specs.AlphabetView.{alphabet_of}
 use Rattle.asn1_formats.proofs.CharacterSteps.{many_same}
 use Rattle.asn1_formats.proofs.known_multiplier_string.characters_at.Goals as goal
 

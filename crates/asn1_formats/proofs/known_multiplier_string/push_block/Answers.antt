@@ -1,7 +1,7 @@
 use Rattle.std.proofs.Common.{◌≡◌, ◌+◌, ◌++◌, Bool, List, ap, refl, ◌∙◌, arith, append_assoc}
 use Rattle.asn1_bits.specs.Bits.{digits}
 use Rattle.asn1_bits.specs.BitReader.{bits_left}
-use Rattle.asn1_strings.specs.AlphabetView.{alphabet_of}
+use Rattle.asn1_alphabets.specs.AlphabetView.{alphabet_of}
 use Rattle.asn1_formats.specs.Characters.{IsCharacter}
 use Rattle.asn1_compose.specs.ListLaws.{many_snoc}
 use Rattle.asn1_formats.proofs.CharacterSteps.{character_starts, many_same}

@@ -1,7 +1,7 @@
 use Rattle.std.proofs.Common.{◌≡◌, ◌+◌, ◌++◌, ℕ, List, Bool, vec_len, vec_capacity}
 use Rattle.asn1_bits.specs.Bits.{digits}
 use Rattle.asn1_bits.specs.BitReader.{bits_left}
-use Rattle.asn1_strings.specs.AlphabetView.{alphabet_of}
+use Rattle.asn1_alphabets.specs.AlphabetView.{alphabet_of}
 use Rattle.asn1_compose.specs.Spelling.{Starts}
 use Rattle.asn1_compose.specs.Combined.{SoMany}
 use Rattle.asn1_formats.specs.Characters.{IsCharacter}

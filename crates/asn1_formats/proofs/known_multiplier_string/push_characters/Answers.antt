@@ -1,6 +1,6 @@
 use Rattle.std.proofs.Common.{◌++◌}
 use Rattle.asn1_bits.specs.Bits.{digits}
-use Rattle.asn1_strings.specs.AlphabetView.{alphabet_of}
+use Rattle.asn1_alphabets.specs.AlphabetView.{alphabet_of}
 use Rattle.asn1_formats.proofs.CharacterSteps.{extends_again, character_written, characters_whole}
 use Rattle.asn1_formats.proofs.known_multiplier_string.push_characters.Goals as goal
 

@@ -1,6 +1,6 @@
 use Rattle.std.proofs.Common.{◌++◌, take}
 use Rattle.asn1_bits.specs.Bits.{digits}
-use Rattle.asn1_strings.specs.AlphabetView.{alphabet_of}
+use Rattle.asn1_alphabets.specs.AlphabetView.{alphabet_of}
 use Rattle.asn1_bits.specs.Joined.{AreJoined}
 use Rattle.asn1_compose.specs.Spelling.{IsWritten, Extends}
 use Rattle.asn1_formats.specs.Characters.{IsCharacter}

@@ -17,7 +17,7 @@ space_in Teletex = has_in_base Teletex 32
 space_in Visible = has_in_base Visible 32
 
 pub returns-in_default-clause-held : goal.returns-in_default-clause-held
-returns-in_default-clause-held g c = space_in g.S.StaticPermittedAlphabet.CHARACTER_SET_NAME
+returns-in_default-clause-held g c = space_in g.S.HasCharacterSet.CHARACTER_SET_NAME
 
 pub returns-in_default-2-clause-held : goal.returns-in_default-2-clause-held
-returns-in_default-2-clause-held g c = space_in g.S.StaticPermittedAlphabet.CHARACTER_SET_NAME
+returns-in_default-2-clause-held g c = space_in g.S.HasCharacterSet.CHARACTER_SET_NAME

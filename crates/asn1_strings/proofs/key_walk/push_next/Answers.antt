@@ -34,7 +34,7 @@ loop-i-preserved g c =
           let so_far = c.loop-i.invariant.read held.0 before in
           let found = sym c.get.ensures ∙ c.examined-character.ensures.right held.1 in
           let next =
-          read_next g.S.StaticPermittedAlphabet.CHARACTER_SET_NAME get numbers (map value items) (n + i) _ _
+          read_next g.S.HasCharacterSet.CHARACTER_SET_NAME get numbers (map value items) (n + i) _ _
           (length-map items value ∙ omega (arith, c.loop-i.units.ok.0)) so_far at found
           c.examined-character.ensures.held in
           λ k h. rw (c.push_reserved.ensures.items, map-append, c.from_character.ensures) (next k (omega arith));

@@ -8,7 +8,7 @@ use Rattle.asn1_strings.proofs.key_walk.push_next.Given as goal
 
 abbrev pub invariant-loop-i : goal.invariant-loop-i
 invariant-loop-i g l =
-    let name = g.S.StaticPermittedAlphabet.CHARACTER_SET_NAME in
+    let name = g.S.HasCharacterSet.CHARACTER_SET_NAME in
     let get = (g.M.Keys.key_map l.map).get in
     let numbers = map number (pieces l.keys.width (bits_of l.keys.bits)) in
     record {

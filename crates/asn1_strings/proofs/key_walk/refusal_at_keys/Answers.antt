@@ -11,7 +11,7 @@ returns-in_default g c =
     let get : ℕ → Option ℕ = (g.M.Keys.key_map c.args.map.now).get in
     let here : get (get_or keys c.loop-i.i 0) ≡ None =
     rw (← c.character-key.ensures, ← c.get.ensures) c.in_default.is in
-    rw c.character-key.ensures (keyed_missing g.S.StaticPermittedAlphabet.CHARACTER_SET_NAME get keys c.loop-i.i
+    rw c.character-key.ensures (keyed_missing g.S.HasCharacterSet.CHARACTER_SET_NAME get keys c.loop-i.i
     (omega arith) c.loop-i.invariant here)
 
 pub returns-then-not-contains_char : goal.returns-then-not-contains_char
@@ -21,11 +21,11 @@ returns-then-not-contains_char g c =
     let here : get (get_or keys c.loop-i.i 0) ≡ Some c.in-Some.character =
     rw (← c.character-key.ensures, ← c.get.ensures) c.in-Some.is in
     rw c.invalid_restricted_string.ensures
-    (keyed_outside g.S.StaticPermittedAlphabet.CHARACTER_SET_NAME get keys c.loop-i.i c.in-Some.character
+    (keyed_outside g.S.HasCharacterSet.CHARACTER_SET_NAME get keys c.loop-i.i c.in-Some.character
     (omega arith) c.loop-i.invariant here (sym c.contains_char.ensures ∙ c.if-not-contains_char.true))
 
 pub returns : goal.returns
 returns g c =
     let keys = map number (pieces c.args.keys.width (bits_of c.args.keys.bits)) in
-    keyed_wanting g.S.StaticPermittedAlphabet.CHARACTER_SET_NAME (g.M.Keys.key_map c.args.map.now).get keys c.requires
+    keyed_wanting g.S.HasCharacterSet.CHARACTER_SET_NAME (g.M.Keys.key_map c.args.map.now).get keys c.requires
     (λ k h. c.loop-i.invariant k (omega arith))

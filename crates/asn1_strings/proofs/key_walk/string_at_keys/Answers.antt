@@ -11,7 +11,7 @@ from_units-requires g c =
     let value = g.S.T.CodeUnit.value in
     let numbers = map number (pieces c.args.keys.width (bits_of c.args.keys.bits)) in
     let get : ℕ → Option ℕ = (g.M.Keys.key_map c.args.map.now).get in
-    read_in_set g.S.StaticPermittedAlphabet.CHARACTER_SET_NAME get numbers (map value c.in-Some.units.items)
+    read_in_set g.S.HasCharacterSet.CHARACTER_SET_NAME get numbers (map value c.in-Some.units.items)
     (length-map c.in-Some.units.items value ∙ c.in-Some.ensures.some.0) c.in-Some.ensures.some.1
 
 pub returns-in-Some : goal.returns-in-Some
@@ -20,5 +20,5 @@ returns-in-Some g c =
     let numbers = map number (pieces c.args.keys.width (bits_of c.args.keys.bits)) in
     let get : ℕ → Option ℕ = (g.M.Keys.key_map c.args.map.now).get in
     rw c.from_units.ensures
-    (keyed_read g.S.StaticPermittedAlphabet.CHARACTER_SET_NAME get numbers (map value c.in-Some.units.items)
+    (keyed_read g.S.HasCharacterSet.CHARACTER_SET_NAME get numbers (map value c.in-Some.units.items)
     (length-map c.in-Some.units.items value ∙ c.in-Some.ensures.some.0) c.in-Some.ensures.some.1)

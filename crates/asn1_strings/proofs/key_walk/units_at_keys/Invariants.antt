@@ -11,7 +11,7 @@ invariant-loop g l = record {
   len : vec_len l.units ≡ l.counter * l.each;
   capacity : vec_capacity l.units ≡ l.count;
   read : l.right ≡ true
-      → AreCharactersOf g.S.StaticPermittedAlphabet.CHARACTER_SET_NAME (g.M.Keys.key_map l.map).get
+      → AreCharactersOf g.S.HasCharacterSet.CHARACTER_SET_NAME (g.M.Keys.key_map l.map).get
       (map number (pieces l.keys.width (bits_of l.keys.bits))) (vec_len l.units)
       (map g.S.T.CodeUnit.value l.units.items);
   empty : l.count ≡ 0 → l.right ≡ true;

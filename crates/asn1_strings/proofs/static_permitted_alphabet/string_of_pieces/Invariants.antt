@@ -5,5 +5,5 @@ use Rattle.asn1_strings.proofs.static_permitted_alphabet.string_of_pieces.Given 
 
 abbrev pub invariant-loop-i : goal.invariant-loop-i
 invariant-loop-i g l =
-    (k : ℕ) → k < l.i → has_character (base_set (g.S.StaticPermittedAlphabet.CHARACTER_SET_NAME))
+    (k : ℕ) → k < l.i → has_character (base_set (g.S.HasCharacterSet.CHARACTER_SET_NAME))
     (get_or (map unsigned (pieces l.fn.width l.fn.octets)) k 0) ≡ true

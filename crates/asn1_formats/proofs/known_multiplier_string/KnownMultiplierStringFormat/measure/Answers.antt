@@ -1,6 +1,6 @@
 use Rattle.std.proofs.Common.{◌≡◌, ℕ, length, ap, sym, subst, arith}
 use Rattle.std.proofs.lemmas.List.{map-id}
-use Rattle.asn1_strings.specs.AlphabetView.{alphabet_of}
+use Rattle.asn1_alphabets.specs.AlphabetView.{alphabet_of}
 use Rattle.asn1_formats.specs.Characters.{IsCharacter}
 use Rattle.asn1_compose.specs.ListLaws.{count_measured}
 use Rattle.asn1_formats.proofs.known_multiplier_string.KnownMultiplierStringFormat.measure.Goals as goal

@@ -1,6 +1,6 @@
 use Rattle.std.proofs.lemmas.List.{map-id}
 use Rattle.asn1_bits.specs.BitReader.{bits_left}
-use Rattle.asn1_strings.specs.AlphabetView.{alphabet_of}
+use Rattle.asn1_alphabets.specs.AlphabetView.{alphabet_of}
 use Rattle.asn1_formats.specs.Characters.{IsCharacter}
 use Rattle.asn1_compose.specs.CountedLaws.{counted_of}
 use Rattle.asn1_formats.proofs.known_multiplier_string.KnownMultiplierStringFormat.take.Goals as goal

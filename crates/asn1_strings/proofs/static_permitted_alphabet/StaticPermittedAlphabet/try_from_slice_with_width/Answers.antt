@@ -10,7 +10,7 @@ returns-then-are_in g c =
     let width : c.args.width ≡ g.Self.T.CodeUnit.OCTETS = c.if-width-OCTETS.true ∙ c.OCTETS.ensures in
     let right = rw (c.CHARACTER_SET_NAME-name.ensures, ← width) at (c.are_in.ensures.0 c.if-are_in.true) in
     rw (
-      string_of_whole g.Self.StaticPermittedAlphabet.CHARACTER_SET_NAME c.args.width c.args.input.now
+      string_of_whole g.Self.HasCharacterSet.CHARACTER_SET_NAME c.args.width c.args.input.now
           c.if-width-eq0.false c.if-input-width-ne0.false right,
       width,
     ) c.copied_octets.ensures

@@ -1,5 +1,5 @@
 use Rattle.std.proofs.Common.{refl}
-use Rattle.asn1_strings.specs.AlphabetView.{alphabet_of}
+use Rattle.asn1_alphabets.specs.AlphabetView.{alphabet_of}
 use Rattle.asn1_values.specs.declared.bit_fields.field.Field.TheVariants as fields
 use Rattle.asn1_values.specs.Fields as plain
 use Rattle.asn1_values.proofs.OneSpelling.{length-spelled}

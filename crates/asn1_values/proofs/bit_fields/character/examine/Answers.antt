@@ -1,6 +1,6 @@
 use Rattle.std.proofs.Common.{ap, ◌∙◌}
 use Rattle.asn1_bits.specs.BitReader.{bits_left}
-use Rattle.asn1_strings.specs.AlphabetView.{alphabet_of}
+use Rattle.asn1_alphabets.specs.AlphabetView.{alphabet_of}
 use Rattle.asn1_bits.specs.Bits.{number}
 use Rattle.asn1_values.specs.Steps.{past}
 use Rattle.asn1_values.proofs.CharacterKind.{character_refused, cut_twice}

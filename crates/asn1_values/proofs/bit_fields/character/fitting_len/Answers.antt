@@ -1,4 +1,4 @@
-use Rattle.asn1_strings.specs.AlphabetView.{alphabet_of}
+use Rattle.asn1_alphabets.specs.AlphabetView.{alphabet_of}
 use Rattle.asn1_values.proofs.SpellingLemmas.{character_fits}
 use Rattle.asn1_values.proofs.bit_fields.character.fitting_len.Goals as goal
 

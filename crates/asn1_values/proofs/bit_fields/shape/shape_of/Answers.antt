@@ -1,6 +1,6 @@
 use Rattle.std.proofs.Common.{length, sym}
 use Rattle.asn1_number.specs.LawsHold.{one_shortest_list}
-use Rattle.asn1_strings.specs.AlphabetView.{alphabet_of}
+use Rattle.asn1_alphabets.specs.AlphabetView.{alphabet_of}
 use Rattle.asn1_values.specs.Fields.{OfNumber, OfOctets, OfInteger, OfCharacter, OfIdentifier}
 use Rattle.asn1_values.proofs.OneSpelling.{length-spelled}
 use Rattle.asn1_values.proofs.bit_fields.shape.shape_of.Goals as goal

@@ -1,4 +1,4 @@
-use Rattle.asn1_strings.specs.AlphabetView.{alphabet_of}
+use Rattle.asn1_alphabets.specs.AlphabetView.{alphabet_of}
 use Rattle.asn1_values.proofs.SpellingLemmas.{character_taken}
 use Rattle.asn1_values.proofs.bit_fields.write.len_of.Goals as goal
 

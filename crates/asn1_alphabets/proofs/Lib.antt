@@ -1,0 +1,4 @@
+pub mod AlphabetLemmas
+pub mod AscendingLemmas
+pub mod RepeatLemmas
+pub mod RunLemmas

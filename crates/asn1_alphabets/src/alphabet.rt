@@ -1,0 +1,371 @@
+//! The alphabets that characters are written in (X.691 30.5).
+ghost use Rattle.std.specs.Prelude.{◌≡◌, ◌≢◌, ◌≤◌, ◌+◌, ◌<◌, ◌^◌, ℕ, true, false, AllPairs, length, slice_get, is_some, Some, OnSome, OnOk, MatchBool, MatchOption};
+ghost use Rattle.std.specs.Option.{ForSome, option_copied};
+ghost use Rattle.std.specs.List.Sorted.{IsNonDecreasing};
+ghost use Rattle.asn1_characters.specs.Sets.{has_character, largest};
+ghost use Rattle.asn1_characters.specs.Widths.{ceil_log2};
+ghost use Rattle.asn1_alphabets.specs.Alphabet.{is_indexed, alphabet_on, effective, IsCode, missing_error, uncoded_error, Encodes, Decodes, IsLongAscending};
+ghost use Rattle.asn1_alphabets.specs.AlphabetInMemory.{some_if, IsKnown};
+
+use crate::effective_set::{EffectiveSet, parts_of_words};
+use crate::permitted_set::{largest_of, repeats_in};
+use crate::run::Run;
+use crate::search::{Entries, Looks, find_ascending, find_one_by_one};
+use asn1_bits::Turns;
+use asn1_characters::widths::{codes_of, width_for};
+use asn1_characters::{
+    CharacterSetName, CharacterWords, HasCharacterSet, InvalidRestrictedString,
+    PermittedAlphabetError,
+};
+
+/// Whether characters of a set are written by their places in `width` bits, since its largest
+/// character does not fit them. The largest of no characters is 0. `width` is at most 31.
+pub fn should_be_indexed(width: u32, set: &[u32]) -> bool
+    requires { width ≤ 31 }
+    ensures { result ≡ is_indexed width set.now }
+{
+    1 << width <= largest_of(set)
+}
+
+/// An alphabet: a set of characters, their width in bits, and whether a character is written by its
+/// place in the set or by its value. No call allocates.
+#[derive(Clone, Copy, Debug)]
+pub struct CharacterAlphabet<'s> {
+    name: CharacterSetName,
+    // At most 32 bits.
+    width: u8,
+    indexed: bool,
+    // Whether the effective set is the permitted set. Else it is the base set of `name`.
+    kept: bool,
+    // Whether the permitted set is ascending: no character is below the one before it.
+    ascending: bool,
+    // Whether the effective set leaves no gap.
+    run: bool,
+    // Whether the words are those of the effective set. Then its characters are below 256.
+    worded: bool,
+    // The effective set, where it is a permitted set or leaves no gap. Else it is empty.
+    set: &'s [u32],
+    words: CharacterWords,
+    ghost known: { IsKnown name kept set width indexed ascending run (some_if worded words) },
+}
+
+impl<'s> CharacterAlphabet<'s> {
+    ghost use Rattle.asn1_alphabets.specs.AlphabetView.{alphabet_of};
+    ghost use Rattle.asn1_alphabets.specs.EffectiveSets.{name_of, permitted_of, characters_of};
+
+    /// The alphabet of the string `S` with a permitted set. The permitted set is effective if `S`
+    /// is written by places or needs more bits than the set does; else the base set is. An
+    /// effective permitted set may hold characters that the base set lacks. The permitted set has
+    /// at most 2^32 characters.
+    #[inline(always)]
+    pub fn new<S: HasCharacterSet>(
+        permitted: Option<&'s [u32]>,
+        aligned: bool,
+    ) -> CharacterAlphabet<'s>
+        requires { ForSome (option_copied permitted) (λ set. length set ≤ 2 ^ 32) }
+        ensures { let set = option_copied permitted.entry in
+            alphabet_of result ≡ effective S.CHARACTER_SET_NAME set aligned }
+    {
+        let name = S::CHARACTER_SET_NAME;
+        match permitted {
+            Some(set) => CharacterAlphabet::permitted_by(name, set, aligned),
+            None => CharacterAlphabet::of_set(EffectiveSet::Base(name), aligned),
+        }
+    }
+
+    /// The alphabet of an effective set.
+    #[inline(always)]
+    fn of_set(set: EffectiveSet<'s>, aligned: bool) -> CharacterAlphabet<'s>
+        requires { length (characters_of set) ≤ 2 ^ 32 }
+        ensures { let kept = option_copied (permitted_of set.entry) in
+            alphabet_of result ≡ alphabet_on (name_of set.entry) kept aligned }
+    {
+        let width = width_for(aligned, set.count());
+        let listing = set.listing();
+        let run = listing.run;
+        let largest = set.largest(run);
+        let indexed = codes_of(width) <= largest as u64;
+        let ascending = set.is_ascending(run);
+        let (worded, words) = parts_of_words(set.words(run, largest));
+        CharacterAlphabet {
+            name: set.name(),
+            width: width as u8,
+            indexed,
+            kept: listing.kept,
+            ascending,
+            run,
+            worded,
+            set: listing.set,
+            words,
+        }
+    }
+
+    /// The alphabet of a string with this permitted set.
+    #[inline(never)]
+    fn permitted_by(name: CharacterSetName, set: &'s [u32], aligned: bool) -> CharacterAlphabet<'s>
+        requires { length set.now ≤ 2 ^ 32 }
+        ensures { alphabet_of result ≡ effective name (Some set.now) aligned }
+    {
+        CharacterAlphabet::of_set(EffectiveSet::of(name, set, aligned), aligned)
+    }
+
+    /// How many bits each character takes, at most 32.
+    #[inline]
+    pub fn width(&self) -> usize
+        ensures value { result ≡ (alphabet_of self.now).width }
+        ensures bound { result ≤ 32 }
+        ensures codes { (c k : ℕ) → IsCode (alphabet_of self.now) c k → k < 2 ^ result }
+    {
+        self.width as usize
+    }
+
+    /// A code of the character. Where it has none, it is `CharacterNotFound` in a permitted set,
+    /// and the string's own error in a base set.
+    #[inline(always)]
+    pub fn encode(&self, character: u32) -> Result<u32, PermittedAlphabetError>
+        ensures { Encodes (alphabet_of self.now) character result }
+    {
+        self.encode_counted(character, &mut Turns::new())
+    }
+
+    /// `encode` with a counter of probes. In an ascending set of more than 64 characters it makes
+    /// at most w + 1 probes, where w is the least width in which its characters have codes.
+    #[inline(always)]
+    pub fn encode_counted(
+        &self,
+        character: u32,
+        probes: &mut Turns,
+    ) -> Result<u32, PermittedAlphabetError>
+        ensures code { Encodes (alphabet_of self.now) character result }
+        ensures counts { probes.old.count ≤ probes.new.count }
+        ensures cost { let set = (alphabet_of self.now).characters in
+            IsLongAscending set → probes.new.count ≤ probes.old.count + ceil_log2 (length set) + 1 }
+        ensures looked { IsLongAscending (alphabet_of self.now).characters →
+            (alphabet_of self.now).indexed ≡ true →
+            OnOk result (probes.old.count + 1 ≤ probes.new.count) }
+    {
+        match self.code_of(character, probes) {
+            Some(code) => Ok(code),
+            None => Err(self.missing(character)),
+        }
+    }
+
+    /// The character of the code. A place past the set is `IndexNotFound`; a value that is not in
+    /// the set is refused as by `encode`.
+    #[inline(always)]
+    pub fn decode(&self, code: u32) -> Result<u32, PermittedAlphabetError>
+        ensures character { Decodes (alphabet_of self.now) code result }
+        // No code is of two characters.
+        ensures of_one { let alphabet = alphabet_of self.now in
+            (c d : ℕ) → IsCode alphabet c code → IsCode alphabet d code → c ≡ d }
+    {
+        match self.character_of(code) {
+            Some(character) => Ok(character),
+            None => Err(self.uncoded(code)),
+        }
+    }
+
+    /// Whether the set has a character twice. Where it has none, each character has one code.
+    pub fn repeats(&self) -> bool
+        ensures twice { let set = (alphabet_of self.now).characters in
+            MatchBool result (¬ (AllPairs (λ a b. a ≢ b) set)) (AllPairs (λ a b. a ≢ b) set) }
+        ensures once { result ≡ false → (c j k : ℕ) → IsCode (alphabet_of self.now) c j →
+            IsCode (alphabet_of self.now) c k → j ≡ k }
+    {
+        match self.permitted() {
+            Some(set) => repeats_in(set, self.ascending),
+            None => false,
+        }
+    }
+
+    /// The permitted set, where it is kept.
+    #[inline]
+    fn permitted(&self) -> Option<&'s [u32]>
+        ensures { result ≡ some_if self.now.kept self.now.set }
+    {
+        if self.kept { Some(self.set) } else { None }
+    }
+
+    /// The error for a character that the set lacks.
+    #[cold]
+    #[inline(never)]
+    fn missing(&self, character: u32) -> PermittedAlphabetError
+        ensures { result ≡ missing_error (alphabet_of self.now) character }
+    {
+        match self.permitted() {
+            Some(_) => PermittedAlphabetError::CharacterNotFound { character },
+            None => PermittedAlphabetError::InvalidRestrictedString {
+                source: InvalidRestrictedString::of(self.name, character),
+            },
+        }
+    }
+
+    /// The error for a number that is no code.
+    #[cold]
+    #[inline(never)]
+    fn uncoded(&self, code: u32) -> PermittedAlphabetError
+        ensures { result ≡ uncoded_error (alphabet_of self.now) code }
+    {
+        if self.indexed {
+            PermittedAlphabetError::IndexNotFound {
+                index: code as usize,
+            }
+        } else {
+            self.missing(code)
+        }
+    }
+
+    /// A code of the character, and None where it has none.
+    #[inline(always)]
+    fn code_of(&self, character: u32, probes: &mut Turns) -> Option<u32>
+        ensures code { MatchOption result
+            (has_character (alphabet_of self.now).characters character ≡ false)
+            (λ k. IsCode (alphabet_of self.now) character k) }
+        ensures counts { probes.old.count ≤ probes.new.count }
+        ensures cost { let set = (alphabet_of self.now).characters in
+            IsLongAscending set → probes.new.count ≤ probes.old.count + ceil_log2 (length set) + 1 }
+        ensures looked { IsLongAscending (alphabet_of self.now).characters →
+            (alphabet_of self.now).indexed ≡ true →
+            OnSome result (probes.old.count + 1 ≤ probes.new.count) }
+    {
+        if self.run {
+            let place = Run::of(self.set).place(character, probes)?;
+            return Some(if self.indexed { place } else { character });
+        }
+        if self.indexed {
+            return self.place_of(character, probes);
+        }
+        if self.contains(character, probes) {
+            Some(character)
+        } else {
+            None
+        }
+    }
+
+    /// The character of the code, and None where it is no code.
+    #[inline(always)]
+    fn character_of(&self, code: u32) -> Option<u32>
+        ensures { MatchOption result ((c : ℕ) → ¬ (IsCode (alphabet_of self.now) c code))
+            (λ c. IsCode (alphabet_of self.now) c code) }
+    {
+        if self.indexed {
+            return self.character_at(code);
+        }
+        if self.contains(code, &mut Turns::new()) {
+            Some(code)
+        } else {
+            None
+        }
+    }
+
+    /// Whether the set has the character: by its ends where it leaves no gap, by its words where it
+    /// has any.
+    #[inline(always)]
+    fn contains(&self, character: u32, probes: &mut Turns) -> bool
+        ensures value { result ≡ has_character (alphabet_of self.now).characters character }
+        ensures counts { probes.old.count ≤ probes.new.count }
+        ensures cost { let set = (alphabet_of self.now).characters in
+            IsLongAscending set → probes.new.count ≤ probes.old.count + ceil_log2 (length set) + 1 }
+    {
+        if self.run {
+            return Run::of(self.set).place(character, probes).is_some();
+        }
+        if self.worded {
+            return self.words.contains(character);
+        }
+        self.contains_by_looks(character, probes)
+    }
+
+    /// Whether the set has the character: by looks at a permitted set, else as its base set says.
+    #[inline(never)]
+    fn contains_by_looks(&self, character: u32, probes: &mut Turns) -> bool
+        ensures value { result ≡ has_character (alphabet_of self.now).characters character }
+        ensures counts { probes.old.count ≤ probes.new.count }
+        ensures cost { let set = (alphabet_of self.now).characters in
+            IsLongAscending set →
+            probes.new.count ≤ probes.old.count + (ceil_log2 (length set) + 1) }
+    {
+        match self.permitted() {
+            Some(set) => place_by_looks(set, self.ascending, character, probes).is_some(),
+            None => self.name.contains(character),
+        }
+    }
+
+    /// A place of the character, in a set that is written by places and leaves a gap.
+    #[inline(always)]
+    fn place_of(&self, character: u32, probes: &mut Turns) -> Option<u32>
+        requires { self.now.indexed ≡ true }
+        ensures place { let set = (alphabet_of self.now).characters in
+            MatchOption result (has_character set character ≡ false)
+            (λ k. slice_get set k ≡ Some character) }
+        ensures counts { probes.old.count ≤ probes.new.count }
+        ensures cost { let set = (alphabet_of self.now).characters in
+            IsLongAscending set → probes.new.count ≤ probes.old.count + ceil_log2 (length set) + 1 }
+        ensures looked { IsLongAscending (alphabet_of self.now).characters →
+            OnSome result (probes.old.count + 1 ≤ probes.new.count) }
+    {
+        match self.permitted() {
+            Some(set) => place_by_looks(set, self.ascending, character, probes),
+            None => self.name.place_of(character),
+        }
+    }
+
+    /// The character at a place: in a set without a gap it is that far from the first.
+    #[inline(always)]
+    fn character_at(&self, place: u32) -> Option<u32>
+        ensures { result ≡ slice_get (alphabet_of self.now).characters place }
+    {
+        if self.run {
+            return Run::of(self.set).character(place);
+        }
+        match self.permitted() {
+            Some(set) => set.get(place as usize).copied(),
+            None => self.name.character_at(place),
+        }
+    }
+}
+
+/// A place of the character: by halves where the list is long and ascending, else one by one. It
+/// sees the list through looks alone.
+#[inline(always)]
+fn place_among<L: Entries>(
+    entries: &mut L,
+    ascending: bool,
+    character: u32,
+    probes: &mut Turns,
+) -> Option<usize>
+    requires ascends { ascending ≡ true → IsNonDecreasing (L.list entries.old) }
+    requires not_ascending { ascending ≡ false → ¬ (IsNonDecreasing (L.list entries.old)) }
+    ensures place { MatchOption result (has_character (L.list entries.old) character ≡ false)
+        (λ k. slice_get (L.list entries.old) k ≡ Some character) }
+    ensures each_look_counts { probes.new.count + L.looks entries.old
+        ≡ probes.old.count + L.looks entries.new }
+    ensures counts { probes.old.count ≤ probes.new.count }
+    ensures cost { let list = L.list entries.old in
+        IsLongAscending list → probes.new.count ≤ probes.old.count + (ceil_log2 (length list) + 1) }
+    ensures looked { OnSome result (probes.old.count + 1 ≤ probes.new.count) }
+{
+    if ascending && entries.count() > 64 {
+        find_ascending(entries, character, probes)
+    } else {
+        find_one_by_one(entries, character, probes)
+    }
+}
+
+/// A place of the character in a permitted set.
+#[inline(never)]
+fn place_by_looks(set: &[u32], ascending: bool, character: u32, probes: &mut Turns) -> Option<u32>
+    requires few { length set.now ≤ 2 ^ 32 }
+    requires ascends { ascending ≡ true → IsNonDecreasing set.now }
+    requires not_ascending { ascending ≡ false → ¬ (IsNonDecreasing set.now) }
+    ensures place { MatchOption result (has_character set.now character ≡ false)
+        (λ k. slice_get set.now k ≡ Some character) }
+    ensures counts { probes.old.count ≤ probes.new.count }
+    ensures cost { IsLongAscending set.now →
+        probes.new.count ≤ probes.old.count + (ceil_log2 (length set.now) + 1) }
+    ensures looked { IsLongAscending set.now →
+        OnSome result (probes.old.count + 1 ≤ probes.new.count) }
+{
+    let place = place_among(&mut Looks::at(set), ascending, character, probes)?;
+    Some(place as u32)
+}

@@ -1,0 +1,13 @@
+//! The base set that a string names.
+use crate::character_set::CharacterSetName;
+
+/// A type of string whose characters are in one of the eight base sets. This is all that a
+/// character alphabet takes of a string.
+pub trait HasCharacterSet {
+    ghost use Rattle.asn1_characters.specs.declared.character_set.CharacterSetName.{CharacterSetName};
+
+    ghost CHARACTER_SET_NAME: { CharacterSetName };
+
+    /// Which of the eight strings it is.
+    const CHARACTER_SET_NAME: CharacterSetName;
+}

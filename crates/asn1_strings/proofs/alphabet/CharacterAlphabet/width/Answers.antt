@@ -1,5 +1,0 @@
-use Rattle.asn1_strings.specs.AlphabetViewLaws.{codes_fit}
-use Rattle.asn1_strings.proofs.alphabet.CharacterAlphabet.width.Goals as goal
-
-pub returns-clause-codes : goal.returns-clause-codes
-returns-clause-codes c = codes_fit c.args.self.now

@@ -1,5 +1,0 @@
-use Rattle.asn1_characters.specs.WidthLaws.{codes_small}
-use Rattle.asn1_strings.proofs.widths.codes_of.Goals as goal
-
-pub returns : goal.returns
-returns c = codes_small c.args.width c.requires
