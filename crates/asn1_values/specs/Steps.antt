@@ -1,5 +1,5 @@
 -- How the steps of the calls are stated. No public contract cites this.
-use Rattle.std.specs.Prelude.{◌≡◌, ℕ, ◌+◌, ◌-◌, ◌*◌, ◌/◌, ◌^◌, ◌<◌, ◌≤◌, Bool, List, [], ◌∷◌, ◌++◌, length, take, drop, min, Result, Ok, Err, OnOk, IfOk, IfErr, Vec, vec_items, vec_len, vec_capacity, ◌≢◌}
+use Rattle.std.specs.Prelude.{◌≡◌, ℕ, ◌+◌, ◌-◌, ◌*◌, ◌/◌, ◌^◌, ◌<◌, ◌≤◌, Bool, List, [], ◌∷◌, ◌++◌, length, take, drop, min, Result, Ok, Err, OnOk, IfOk, IfErr, Vec, vec_items, vec_len, vec_capacity, ◌≢◌, Option, OnSome, IfNone}
 use Rattle.std.specs.Int.{div_ceil}
 use Rattle.asn1_bits.specs.declared.bit_appender.BitAppender.{BitAppender}
 use Rattle.asn1_bits.specs.declared.bit_reader.BitReader.{BitReader}
@@ -17,6 +17,7 @@ use Rattle.asn1_values.specs.Fields.{Field, Shape, IsSpelledBy, AreSpelledBy, Ch
 use Rattle.asn1_bits.specs.Joined.{AreJoined}
 use Rattle.asn1_values.specs.Plain.{plain_field, LiesAt}
 use Rattle.asn1_values.specs.Walk.{field_at}
+use Rattle.asn1_values.specs.Refusals.{IsWriteRefusal}
 use Rattle.asn1_values.specs.Wrong.{Fault, NumberWidth, NotInteger, Short, NoCharacter, NoLength, NotIdentifier, ArcOver, WidthOver, PastWidth, NotInAlphabet, PastLength, TooFewArcs, IsMisfit, IsFirstMisfit, Fits}
 
 -- ---- reading
@@ -142,6 +143,11 @@ pub record EndsAt (P : Spelling) (start : ℕ) (fields : List Field) (n : ℕ) :
   pub each : (others : List Bool) → AreJoined P fields others → start + length others ≡ end
   pub capped : n ≡ min end (2 ^ 128 - 1)
 
+-- the fields fit, and end there behind the start; or the error names the first that doesn't fit
+pub record MeasuresAll (start : ℕ) (fields : List Field) (result : Result ℕ WriteError) : Type 0 where
+  pub ok : IfOk result (EndsAt IsSpelledBy start fields)
+  pub err : IfErr result (NamesFirstMisfit fields)
+
 -- there is room for the bits of one field, which has some
 pub record HasRoomFor (field : Field) (space : ℕ) : Type 0 where
   pub some : (list : List Bool) × TakesBits field list
@@ -162,6 +168,14 @@ pub record HasRoomBehind (field : Field) (width space : ℕ) : Type 0 where
 abbrev pub CanBeRefused : ℕ → List Field → Type 0
 CanBeRefused n fields = (list : List Bool) → AreSpelledBy fields list → n + length list < 2 ^ 64
     → octets_for n < octets_for (n + length list)
+
+-- the error is the refusal of fields that can be refused: the one that is not want of memory, or
+-- want of memory where all fit
+pub record IsTheRefusal (n : ℕ) (fields : List Field) (error : WriteError) : Type 0 where
+  pub refusal : IsWriteRefusal n fields error
+  pub named : (e : WriteError) → e ≢ writing.Memory → IsWriteRefusal n fields e → error ≡ e
+  pub too_long : (list : List Bool) → AreSpelledBy fields list → 2 ^ 64 ≤ n + length list → error ≡ writing.TooLong
+  pub memory : (list : List Bool) → AreSpelledBy fields list → n + length list < 2 ^ 64 → error ≡ writing.Memory
 
 -- the spelling of the field was pushed
 pub record Pushes (field : Field) (old new : BitAppender) : Type 0 where
@@ -223,6 +237,12 @@ pub record PushesNone (field : Field) (old new : BitAppender) : Type 0 where
   pub kept : bits_written new ≡ bits_written old
   pub lacking : Fits field → ⊥
 
+-- the spelling of the field was taken so; or nothing was pushed, since the field does not fit
+pub record PushesIfFits (field : Field) (old new : BitAppender)
+    (word width word_new width_new turns_old turns_new : ℕ) (result : Option Unit) : Type 0 where
+  pub pushed : OnSome result (PushesBehind field old new word width word_new width_new turns_old turns_new)
+  pub refused : IfNone result (PushesNone field old new)
+
 -- the bits of the octets were pushed, in turns for so many
 pub record PushesOctets (octets : List ℕ) (old new : BitAppender) (turns_old turns_new : ℕ) : Type 0 where
   pub written : bits_written new ≡ bits_written old ++ bits octets
@@ -234,6 +254,33 @@ pub record PushesOctets (octets : List ℕ) (old new : BitAppender) (turns_old t
 pub record TakeTurns (fields : List Field) (old new : ℕ) : Type 0 where
   pub at_least : (list : List Bool) → AreSpelledBy fields list → old + div_ceil (length list) 64 ≤ new
   pub at_most : (list : List Bool) → AreSpelledBy fields list → new ≤ old + length list / 64 + 8 * length fields
+
+-- the fields can be appended to n bits: so many more are room for them, are as many as spell them,
+-- and lead to a length that usize counts
+pub record CanBeAppended (fields : List Field) (n additional : ℕ) : Type 0 where
+  pub room : HaveRoom fields additional
+  pub all : (list : List Bool) → AreSpelledBy fields list → length list ≡ additional
+  pub fits : n + additional < 2 ^ 64
+
+-- the spellings of the fields were appended, in their turns; or nothing has changed, and the fields
+-- can be refused
+pub record AppendsFields (fields : List Field) (old new : List Bool) (turns_old turns_new : ℕ) (result : Option Unit)
+    : Type 0 where
+  pub written : OnSome result ((list : List Bool) × AreSpelledBy fields list × (new ≡ old ++ list))
+  pub fits : OnSome result ((list : List Bool) → AreSpelledBy fields list → length old + length list < 2 ^ 64)
+  pub counted : OnSome result (TakeTurns fields turns_old turns_new)
+  pub refused : IfNone result (CanBeRefused (length old) fields)
+  pub unchanged : IfNone result (new ≡ old)
+  pub uncounted : IfNone result (turns_new ≡ turns_old)
+
+-- the spellings of the fields were pushed, in their turns; or some bits, since a field does not fit
+pub record PushesAllIfFit (fields : List Field) (old new : BitAppender) (turns_old turns_new : ℕ)
+    (result : Option Unit) : Type 0 where
+  pub lender : lender_of new ≡ lender_of old
+  pub kept : (list : List Bool) × (bits_written new ≡ bits_written old ++ list)
+  pub pushed : OnSome result (PushesAll fields old new)
+  pub counted : OnSome result (TakeTurns fields turns_old turns_new)
+  pub lacking : IfNone result ((list : List Bool) → AreSpelledBy fields list → ⊥)
 
 -- ---- writing over what is there
 
