@@ -177,13 +177,6 @@ pub record IsTheRefusal (n : ℕ) (fields : List Field) (error : WriteError) : T
   pub too_long : (list : List Bool) → AreSpelledBy fields list → 2 ^ 64 ≤ n + length list → error ≡ writing.TooLong
   pub memory : (list : List Bool) → AreSpelledBy fields list → n + length list < 2 ^ 64 → error ≡ writing.Memory
 
--- the spelling of the field was pushed
-pub record Pushes (field : Field) (old new : BitAppender) : Type 0 where
-  pub list : List Bool
-  pub spelled : IsSpelledBy field list
-  pub written : bits_written new ≡ bits_written old ++ list
-  pub left : room new + length list ≡ room old
-
 -- the spellings of the fields were pushed, one after another
 pub record PushesAll (fields : List Field) (old new : BitAppender) : Type 0 where
   pub list : List Bool
@@ -196,21 +189,31 @@ pub record TakesTurns (n old new : ℕ) : Type 0 where
   pub at_least : old + div_ceil n 64 ≤ new
   pub at_most : new ≤ old + n / 64 + 8
 
--- the spelling of the field was pushed, in its turns, and the storage is the same
-pub record PushesOne (field : Field) (old new : BitAppender) (turns_old turns_new : ℕ) : Type 0 where
+-- the list was pushed, in its turns, and the storage is the same
+pub record PushesList (list : List Bool) (old new : BitAppender) (turns_old turns_new : ℕ) : Type 0 where
   pub lender : lender_of new ≡ lender_of old
-  pub pushed : Pushes field old new
-  pub counted : (list : List Bool) → IsSpelledBy field list → TakesTurns (length list) turns_old turns_new
+  pub written : bits_written new ≡ bits_written old ++ list
+  pub left : room new + length list ≡ room old
+  pub counted : TakesTurns (length list) turns_old turns_new
 
--- of the digits of a word a front was pushed, in its turns; the digits of the new word are the rest
-pub record PushesDigits (old new : BitAppender) (word width word_new width_new turns_old turns_new : ℕ) : Type 0 where
+-- the spelling of the field was pushed so
+pub record PushesOne (field : Field) (old new : BitAppender) (turns_old turns_new : ℕ) : Type 0 where
+  pub list : List Bool
+  pub spelled : IsSpelledBy field list
+  pub pushed : PushesList list old new turns_old turns_new
+
+-- the digits of a word were pushed, in turns for so many
+pub record PushesDigits (old new : BitAppender) (word width turns_old turns_new : ℕ) : Type 0 where
   pub lender : lender_of new ≡ lender_of old
-  pub front : List Bool
-  pub written : bits_written new ≡ bits_written old ++ front
-  pub left : room new + length front ≡ room old
-  pub parts : front ++ digits word_new width_new ≡ digits word width
-  pub at_least : turns_old + div_ceil (length front) 64 ≤ turns_new
-  pub at_most : turns_new + turns_for width_new ≤ turns_old + turns_for width
+  pub written : bits_written new ≡ bits_written old ++ digits word width
+  pub left : room new + width ≡ room old
+  pub at_least : turns_old + div_ceil width 64 ≤ turns_new
+  pub at_most : turns_new ≤ turns_old + turns_for width
+
+-- they were pushed so, and the new word has none
+pub record PushesGathered (old new : BitAppender) (word width width_new turns_old turns_new : ℕ) : Type 0 where
+  pub pushed : PushesDigits old new word width turns_old turns_new
+  pub none : width_new ≡ 0
 
 -- the list was taken behind the digits of a word: a front of both was pushed, in its turns, and the
 -- digits of the new word are the rest
@@ -243,8 +246,9 @@ pub record PushesIfFits (field : Field) (old new : BitAppender)
   pub pushed : OnSome result (PushesBehind field old new word width word_new width_new turns_old turns_new)
   pub refused : IfNone result (PushesNone field old new)
 
--- the bits of the octets were pushed, in turns for so many
+-- the bits of the octets were pushed, in turns for so many, and the storage is the same
 pub record PushesOctets (octets : List ℕ) (old new : BitAppender) (turns_old turns_new : ℕ) : Type 0 where
+  pub lender : lender_of new ≡ lender_of old
   pub written : bits_written new ≡ bits_written old ++ bits octets
   pub left : room new + 8 * length octets ≡ room old
   pub at_least : turns_old + div_ceil (8 * length octets) 64 ≤ turns_new
@@ -287,6 +291,11 @@ pub record PushesAllIfFit (fields : List Field) (old new : BitAppender) (turns_o
 -- bits that end at the place end within n bits, and usize counts it
 abbrev pub IsReached : ℕ → ℕ → Type 0
 IsReached n place = (place ≤ n) × (place < 2 ^ 64)
+
+-- a word holds so many digits, and from a place on they are within n bits
+pub record DigitsFit (n place width : ℕ) : Type 0 where
+  pub few : width ≤ 128
+  pub within : IsReached n (place + width)
 
 -- the field fits, and its bits from a place on are within n bits
 pub record FitsWithin (n place : ℕ) (field : Field) : Type 0 where

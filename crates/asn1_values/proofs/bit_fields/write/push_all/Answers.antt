@@ -1,6 +1,7 @@
 use Rattle.std.proofs.Common.{◌+◌, ◌++◌, ◌∙◌, Bool, List, take, drop, ap, append_assoc, arith}
 use Rattle.std.proofs.lemmas.List.{take_all}
 use Rattle.asn1_bits.specs.BitAppender.{bits_written}
+use Rattle.asn1_bits.specs.Bits.{digits}
 use Rattle.asn1_values.specs.Plain.{plain_fields, plain_field}
 use Rattle.asn1_values.proofs.SpellingLemmas.{cut_of, more_of, field_fits}
 use Rattle.asn1_values.proofs.GatherLemmas.{gathering_none, gathering_more, gathering_room, gathering_fits, gathered_all, gathered_turns}
@@ -69,23 +70,23 @@ returns c =
     let new = c.push-2.new in
     let word = now.gathered.word in
     let width = now.gathered.width in
-    let pushed = c.push-2.ensures.pushed in
-    let none = c.push-2.ensures.none in
+    let last = c.push-2.ensures in
+    let digits_left = digits word width in
     let count = c.args.turns.now.count in
     let all =
     rw (take_all now.field-index c.args.fields.now (omega (arith, c.loop-field-test.false))) at now.invariant in
     record {
-      lender = pushed.lender ∙ all.lender;
+      lender = last.pushed.lender ∙ all.lender;
       kept = (
-        all.front ++ pushed.front,
-        pushed.written ∙ ap (λ (l : List Bool). l ++ pushed.front) all.written
-            ∙ append_assoc (bits_written old) all.front pushed.front,
+        all.front ++ digits_left,
+        last.pushed.written ∙ ap (λ (l : List Bool). l ++ digits_left) all.written
+            ∙ append_assoc (bits_written old) all.front digits_left,
       );
       pushed =
-          gathered_all fs old now.appender new.appender word width new.self.word new.self.width count now.turns.count
-          new.turns.count all pushed none;
+          gathered_all fs old now.appender new.appender word width new.self.width count now.turns.count new.turns.count
+          all last;
       counted =
-          gathered_turns fs old now.appender new.appender word width new.self.word new.self.width count now.turns.count
-          new.turns.count all pushed none;
+          gathered_turns fs old now.appender new.appender word width new.self.width count now.turns.count new.turns.count
+          all last;
       lacking = tt;
     }

@@ -1,4 +1,4 @@
-use Rattle.std.proofs.Common.{◌≡◌, List, length, take, ◌++◌, Bool, ap, ◌∙◌, arith}
+use Rattle.std.proofs.Common.{◌≡◌, List, length, take, ◌++◌, Bool, ap, ◌∙◌, arith, rules}
 use Rattle.std.proofs.lemmas.Grind.{common_steps}
 use Rattle.asn1_values.proofs.SpellingLemmas.{cut_back}
 use Rattle.asn1_values.proofs.bit_fields.write.push_or_back.Goals as goal

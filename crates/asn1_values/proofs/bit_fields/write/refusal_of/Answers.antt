@@ -1,4 +1,4 @@
-use Rattle.std.proofs.Common.{sym, refl, arith}
+use Rattle.std.proofs.Common.{sym, refl, arith, rules}
 use Rattle.asn1_values.specs.Plain.{plain_fields}
 use Rattle.asn1_values.proofs.OneRefusal.{one_write_refusal, only_too_long}
 use Rattle.asn1_values.proofs.SpellingLemmas.{names_none}
