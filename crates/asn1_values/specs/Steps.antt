@@ -169,8 +169,8 @@ abbrev pub CanBeRefused : ℕ → List Field → Type 0
 CanBeRefused n fields = (list : List Bool) → AreSpelledBy fields list → n + length list < 2 ^ 64
     → octets_for n < octets_for (n + length list)
 
--- the error is the refusal of fields that can be refused: the one that is not want of memory, or
--- want of memory where all fit
+-- the error is a refusal of the fields behind n bits, and no other but want of memory is one; where
+-- all fit, it tells whether the new length does
 pub record IsTheRefusal (n : ℕ) (fields : List Field) (error : WriteError) : Type 0 where
   pub refusal : IsWriteRefusal n fields error
   pub named : (e : WriteError) → e ≢ writing.Memory → IsWriteRefusal n fields e → error ≡ e
@@ -210,7 +210,7 @@ pub record PushesDigits (old new : BitAppender) (word width turns_old turns_new 
   pub at_least : turns_old + div_ceil width 64 ≤ turns_new
   pub at_most : turns_new ≤ turns_old + turns_for width
 
--- they were pushed so, and the new word has none
+-- the digits of the old word were pushed so, and the new word has none
 pub record PushesGathered (old new : BitAppender) (word width width_new turns_old turns_new : ℕ) : Type 0 where
   pub pushed : PushesDigits old new word width turns_old turns_new
   pub none : width_new ≡ 0
@@ -259,8 +259,8 @@ pub record TakeTurns (fields : List Field) (old new : ℕ) : Type 0 where
   pub at_least : (list : List Bool) → AreSpelledBy fields list → old + div_ceil (length list) 64 ≤ new
   pub at_most : (list : List Bool) → AreSpelledBy fields list → new ≤ old + length list / 64 + 8 * length fields
 
--- the fields can be appended to n bits: so many more are room for them, are as many as spell them,
--- and lead to a length that usize counts
+-- the fields can be appended to n bits: in so many more is room for them, each list that spells them
+-- is as long, and usize counts the sum
 pub record CanBeAppended (fields : List Field) (n additional : ℕ) : Type 0 where
   pub room : HaveRoom fields additional
   pub all : (list : List Bool) → AreSpelledBy fields list → length list ≡ additional

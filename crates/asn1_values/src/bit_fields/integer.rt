@@ -1,6 +1,6 @@
 //! An integer as a field: its shortest octets (X.690 8.3).
 
-ghost use Rattle.std.specs.Prelude.{◌≡◌, ℕ, List, Err, ◌+◌, ◌*◌, ◌<◌, ◌≤◌, length, IfOk, Ok, take, vec_len, vec_capacity};
+ghost use Rattle.std.specs.Prelude.{ℕ, List, Err, ◌+◌, ◌*◌, ◌<◌, ◌≤◌, length, IfOk, Ok, take, vec_len, vec_capacity};
 ghost use Rattle.asn1_bits.specs.BitAppender.{room};
 ghost use Rattle.asn1_bits.specs.BitReader.{bits_left};
 ghost use Rattle.asn1_bits.specs.Bits.{bits, number};

@@ -4,7 +4,7 @@ ghost use Rattle.std.specs.Prelude.{◌-◌, ◌≡◌, ◌≢◌, Bool, List, E
 ghost use Rattle.std.specs.Int.{div_ceil};
 ghost use Rattle.asn1_bits.specs.Bits.{AddsNoOctet, bits};
 ghost use Rattle.asn1_bits.specs.BitAppender.{room};
-ghost use Rattle.asn1_values.specs.Fields.{IsSpelledBy, AreSpelledBy, HaveOneSpelling};
+ghost use Rattle.asn1_values.specs.Fields.{AreSpelledBy, HaveOneSpelling};
 ghost use Rattle.asn1_values.specs.Plain.{plain_field, plain_fields};
 ghost use Rattle.asn1_values.specs.Refusals.{IsWriteRefusal};
 ghost use Rattle.asn1_values.specs.Steps.{TakesBits, HasLength, EndsAt, CanBeRefused, HasRoomBehind, HaveRoom, Measures, MeasuresAll, IsTheRefusal, CanBeAppended, AppendsFields, PushesAllIfFit, PushesIfFits};
