@@ -4,7 +4,6 @@ ghost use Rattle.std.specs.Prelude.{◌≡◌, Err, ◌+◌, ◌*◌, ◌/◌, �
 ghost use Rattle.asn1_bits.specs.BitAppender.{room};
 ghost use Rattle.asn1_bits.specs.BitReader.{view_left, bits_left};
 ghost use Rattle.asn1_bits.specs.Bits.{bits, number};
-ghost use Rattle.asn1_oid.specs.Contents.{FitU32};
 ghost use Rattle.asn1_oid.specs.Reading.{contents_reading};
 ghost use Rattle.asn1_values.specs.Fields as plain;
 ghost use Rattle.asn1_values.specs.Steps.{HasRoomFor, PushesOne, IsReached, FitsWithin, Measures, WritesOver, Overwrites, Takes, Examines, AppendsNext, PushesList};
@@ -34,7 +33,6 @@ fn fitting_contents(oid: &ObjectIdentifier, place: usize) -> Result<u128, WriteE
     ensures { Measures place (plain.Identifier oid.now) result }
 {
     let arcs = oid.as_ref();
-    arcs_fit(arcs);
     // The number of arcs fits `usize`, and so their octets are not too many.
     let _len = arcs.len();
     match oid.as_oid().contents_len() {
@@ -42,11 +40,6 @@ fn fitting_contents(oid: &ObjectIdentifier, place: usize) -> Result<u128, WriteE
         None => Err(WriteError::ArcCount { field: place }),
     }
 }
-
-/// Arcs are below 2 to the power of 32. It does nothing: its clause tells the proof so.
-fn arcs_fit(arcs: &[u32])
-    ensures { FitU32 arcs.now }
-{}
 
 /// Pushes the contents of an identifier, which fit the room.
 #[inline(never)]
