@@ -12,7 +12,7 @@ use Rattle.asn1_bits.specs.BitAppender.{bits_written, room, lender_of}
 use Rattle.asn1_bits.specs.DigitLaws.{length-digits}
 use Rattle.asn1_bits.specs.NumberLaws.{digits-append, digits-low}
 use Rattle.asn1_values.specs.Fields.{Field, IsSpelledBy, AreSpelledBy, Number, Octets, Bits, Integer, Character, CountedInteger, Identifier}
-use Rattle.asn1_values.specs.Steps.{TakesBits, PushesOne, PushesAll, PushesDigits, Gathers, PushesBehind, HasRoomFor, HasRoomBehind, HaveRoom, TakeTurns}
+use Rattle.asn1_values.specs.Steps.{TakesBits, PushesOne, PushesAll, PushesGathered, Gathers, PushesBehind, HasRoomFor, HasRoomBehind, HaveRoom, TakeTurns}
 use Rattle.asn1_bits.specs.Joined.{AreJoined}
 use Rattle.asn1_values.proofs.JoinedLemmas.{joins_push, joins_append, joins_split, Split}
 use Rattle.asn1_values.proofs.SpellingLemmas.{number_fits, octets_fit, bits_fit, integer_fits, character_fits, counted_fits, identifier_fits, all_taken}
@@ -65,8 +65,50 @@ word_behind word width number more lt below fits =
     let up : 2 ^ (width + more) ≤ 2 ^ 64 = pow-le-pow_right {n = 2} (omega arith) {i = width + more} {j = 64} fits in
     (omega arith, b, omega arith)
 
+-- of the digits of a word a front was pushed, in its turns; the digits of the new word are the rest
+pub record PushesFront (old new : BitAppender) (word width word_new width_new turns_old turns_new : ℕ) : Type 0 where
+  pub lender : lender_of new ≡ lender_of old
+  pub front : List Bool
+  pub written : bits_written new ≡ bits_written old ++ front
+  pub left : room new + length front ≡ room old
+  pub parts : front ++ digits word_new width_new ≡ digits word width
+  pub at_least : turns_old + div_ceil (length front) 64 ≤ turns_new
+  pub at_most : turns_new + turns_for width_new ≤ turns_old + turns_for width
+
+-- none are
+pub front_none : (old : BitAppender) (word width turns : ℕ) → PushesFront old old word width word width turns turns
+front_none old word width turns = record {
+  lender = refl;
+  front = [];
+  written = sym (append-nil (bits_written old));
+  left = omega arith;
+  parts = refl;
+  at_least = omega arith;
+  at_most = omega arith;
+}
+
+-- all are
+pub front_all : (old new : BitAppender) (word width none zero_width turns_old turns_new : ℕ)
+    → PushesGathered old new word width zero_width turns_old turns_new
+    → PushesFront old new word width none zero_width turns_old turns_new
+unfolding digits
+front_all old new word width none zero_width turns_old turns_new p =
+    let n = length-digits word width in
+    let d = p.pushed in
+    let z = p.none in
+    record {
+      lender = d.lender;
+      front = digits word width;
+      written = d.written;
+      left = let a = d.left in omega arith;
+      parts = subst (λ (k : ℕ). digits word width ++ digits none k ≡ digits word width) (sym z)
+          (append-nil (digits word width));
+      at_least = rw n d.at_least;
+      at_most = let a = d.at_most in omega arith;
+    }
+
 pub gathered_more : (old now : BitAppender) (word width mid_word mid_width number more turns_old turns_new : ℕ)
-    → PushesDigits old now word width mid_word mid_width turns_old turns_new → number < 2 ^ more → more ≤ 32
+    → PushesFront old now word width mid_word mid_width turns_old turns_new → number < 2 ^ more → more ≤ 32
     → mid_width + more ≤ 64
     → Gathers (digits number more) old now word width (mid_word * 2 ^ more + number) (mid_width + more) turns_old turns_new
 gathered_more old now word width mid_word mid_width number more turns_old turns_new p lt few fits = record {
@@ -81,52 +123,59 @@ gathered_more old now word width mid_word mid_width number more turns_old turns_
   at_most = let a = p.at_most in let n = length-digits number more in omega arith;
 }
 
+-- a word of no digits is pushed by doing nothing
+pub no_digits : (old : BitAppender) (word width zero_width turns : ℕ) → width ≡ 0 → zero_width ≡ 0
+    → PushesGathered old old word width zero_width turns turns
+unfolding digits
+no_digits old word width zero_width turns w z = record {
+  pushed = record {
+    lender = refl;
+    written = sym (append-nil (bits_written old))
+        ∙ ap (λ (k : ℕ). bits_written old ++ digits word k) (sym w);
+    left = omega (arith, w);
+    at_least = rw w (omega arith);
+    at_most = rw w (omega arith);
+  };
+  none = z;
+}
+
 -- the digits are pushed, and then a field of its own
 pub field_behind : (field : Field) (old now new : BitAppender) (word width none zero_width turns_old turns_now turns_new : ℕ)
-    → PushesDigits old now word width none zero_width turns_old turns_now → zero_width ≡ 0
+    → PushesGathered old now word width zero_width turns_old turns_now
     → PushesOne field now new turns_now turns_new
     → PushesBehind field old new word width none zero_width turns_old turns_new
 unfolding digits
-field_behind field old now new word width none zero_width turns_old turns_now turns_new p z one =
-    let all : p.front ≡ digits word width = sym (append-nil p.front)
-    ∙ subst (λ (k : ℕ). p.front ++ digits none k ≡ digits word width) z p.parts in
-    let counted = one.counted one.pushed.list one.pushed.spelled in
-    let n = length-append p.front one.pushed.list in
+field_behind field old now new word width none zero_width turns_old turns_now turns_new p one =
+    let d = p.pushed in
+    let l = one.pushed in
+    let n = length-append (digits word width) one.list in
+    let m = length-digits word width in
     record {
-      list = one.pushed.list;
-      spelled = one.pushed.spelled;
+      list = one.list;
+      spelled = one.spelled;
       taken = record {
-        lender = one.lender ∙ p.lender;
-        front = p.front ++ one.pushed.list;
-        written = one.pushed.written ∙ ap (λ (l : List Bool). l ++ one.pushed.list) p.written
-            ∙ append_assoc (bits_written old) p.front one.pushed.list;
-        left = let a = p.left in let b = one.pushed.left in omega arith;
+        lender = l.lender ∙ d.lender;
+        front = digits word width ++ one.list;
+        written = l.written ∙ ap (λ (l : List Bool). l ++ one.list) d.written
+            ∙ append_assoc (bits_written old) (digits word width) one.list;
+        left = let a = d.left in let b = l.left in omega arith;
         parts = subst
-            (λ (k : ℕ). (p.front ++ one.pushed.list) ++ digits none k ≡ digits word width ++ one.pushed.list)
-            (sym z)
-            (append-nil (p.front ++ one.pushed.list) ∙ ap (λ (l : List Bool). l ++ one.pushed.list) all);
-        at_least = let a = p.at_least in let b = counted.at_least in omega arith;
-        at_most = let a = p.at_most in let b = counted.at_most in omega arith;
+            (λ (k : ℕ). (digits word width ++ one.list) ++ digits none k ≡ digits word width ++ one.list)
+            (sym p.none)
+            (append-nil (digits word width ++ one.list));
+        at_least = let a = d.at_least in let b = l.counted.at_least in omega arith;
+        at_most = let a = d.at_most in let b = l.counted.at_most in let z = p.none in omega arith;
       };
     }
 
 -- and there is room for it
-pub room_behind : (field : Field) (old now : BitAppender) (word width none zero_width turns_old turns_now : ℕ)
-    → PushesDigits old now word width none zero_width turns_old turns_now → zero_width ≡ 0
+pub room_behind : (field : Field) (old now : BitAppender) (word width zero_width turns_old turns_now : ℕ)
+    → PushesGathered old now word width zero_width turns_old turns_now
     → HasRoomBehind field width (room old) → HasRoomFor field (room now)
-room_behind field old now word width none zero_width turns_old turns_now p z r =
-    let n : length p.front + zero_width ≡ width =
-    omega (
-      arith,
-      length-append p.front (digits none zero_width),
-      length-digits none zero_width,
-      ap length p.parts,
-      length-digits word width,
-    ) in
-    record {
-      some = r.some;
-      each = λ list s. let a = r.each list s in let b = p.left in omega arith;
-    }
+room_behind field old now word width zero_width turns_old turns_now p r = record {
+  some = r.some;
+  each = λ list s. let a = r.each list s in let b = p.pushed.left in omega arith;
+}
 
 -- ---- fields one after another
 
@@ -201,44 +250,37 @@ gathering_fits fields old now word width turns_old turns_now h g =
 
 -- all of it is pushed
 module _ (fields : List Field) (old now new : BitAppender)
-    (word width none zero_width turns_old turns_now turns_new : ℕ)
+    (word width zero_width turns_old turns_now turns_new : ℕ)
     (g : Gathering fields old now word width turns_old turns_now)
-    (p : PushesDigits now new word width none zero_width turns_now turns_new) (z : zero_width ≡ 0) where
-  whole_front : p.front ≡ digits word width
-  unfolding digits
-  whole_front = sym (append-nil p.front)
-      ∙ subst (λ (k : ℕ). p.front ++ digits none k ≡ digits word width) z p.parts
-
+    (p : PushesGathered now new word width zero_width turns_now turns_new) where
   pub gathered_all : PushesAll fields old new
   gathered_all = record {
     list = g.front ++ digits word width;
     spelled = g.spelled;
-    written = p.written ∙ ap (λ (l : List Bool). bits_written now ++ l) whole_front
-        ∙ ap (λ (l : List Bool). l ++ digits word width) g.written
+    written = p.pushed.written ∙ ap (λ (l : List Bool). l ++ digits word width) g.written
         ∙ append_assoc (bits_written old) g.front (digits word width);
     left =
         let a = g.left in
-        let b = p.left in
-        let c = ap length whole_front in
+        let b = p.pushed.left in
+        let c = length-digits word width in
         let d = length-append g.front (digits word width) in
         omega arith;
   }
 
   pub gathered_turns : TakeTurns fields turns_old turns_new
   gathered_turns =
-      let c = ap length whole_front ∙ length-digits word width in
       let d = length-append g.front (digits word width) in
       let e = length-digits word width in
       record {
         at_least = λ list s.
             let same = all_as_long fields (g.front ++ digits word width) list g.spelled s in
             let a = g.at_least in
-            let b = p.at_least in
+            let b = p.pushed.at_least in
             omega arith;
         at_most = λ list s.
             let same = all_as_long fields (g.front ++ digits word width) list g.spelled s in
             let a = g.at_most in
-            let b = p.at_most in
+            let b = p.pushed.at_most in
             omega arith;
       }
 
@@ -270,54 +312,6 @@ module _ (fields before after : List Field) (field : Field) (cut : fields ≡ be
               length-digits word width,
             );
       }
-
--- ---- a word that is pushed
-
--- all its digits are pushed
-pub digits_pushed : (old new : BitAppender) (word width none zero_width turns_old turns_new : ℕ) → zero_width ≡ 0
-    → lender_of new ≡ lender_of old
-    → bits_written new ≡ bits_written old ++ digits word width → room new + width ≡ room old
-    → turns_old + div_ceil width 64 ≤ turns_new → turns_new ≤ turns_old + turns_for width
-    → PushesDigits old new word width none zero_width turns_old turns_new
-unfolding digits
-digits_pushed old new word width none zero_width turns_old turns_new z lender written left low high =
-    let n = length-digits word width in
-    record {
-      lender = lender;
-      front = digits word width;
-      written = written;
-      left = omega arith;
-      parts = subst (λ (k : ℕ). digits word width ++ digits none k ≡ digits word width) (sym z)
-          (append-nil (digits word width));
-      at_least = rw n low;
-      at_most = omega arith;
-    }
-
--- none are
-pub digits_kept : (old : BitAppender) (word width turns : ℕ) → PushesDigits old old word width word width turns turns
-digits_kept old word width turns = record {
-  lender = refl;
-  front = [];
-  written = sym (append-nil (bits_written old));
-  left = omega arith;
-  parts = refl;
-  at_least = omega arith;
-  at_most = omega arith;
-}
-
--- a word of no digits is like any other
-pub no_digits : (old : BitAppender) (word width none zero_width turns : ℕ) → width ≡ 0 → zero_width ≡ 0
-    → PushesDigits old old word width none zero_width turns turns
-unfolding digits
-no_digits old word width none zero_width turns w z = record {
-  lender = refl;
-  front = [];
-  written = sym (append-nil (bits_written old));
-  left = omega arith;
-  parts = ap (λ (k : ℕ). digits none k) z ∙ sym (ap (λ (k : ℕ). digits word k) w);
-  at_least = omega arith;
-  at_most = omega (arith, w, z);
-}
 
 -- ---- room
 

@@ -8,9 +8,9 @@ use Rattle.asn1_bits.specs.Bits.{digits, bits}
 use Rattle.asn1_bits.specs.Turns.{turns_for}
 use Rattle.asn1_bits.specs.declared.bit_appender.BitAppender.{BitAppender}
 use Rattle.asn1_bits.specs.BitAppender.{bits_written, room, lender_of}
-use Rattle.asn1_bits.specs.DigitLaws.{bits-push}
+use Rattle.asn1_bits.specs.DigitLaws.{bits-push, length-bits}
 use Rattle.asn1_bits.specs.NumberLaws.{digits-append, digits-low}
-use Rattle.asn1_values.specs.Steps.{TakesTurns}
+use Rattle.asn1_values.specs.Steps.{PushesList}
 
 -- of all octets those before the rest were taken, the last of them as a word of so many bits that is yet to be pushed
 pub record Pushing (old now : BitAppender) (all rest : List ℕ) (word width count_old count_now : ℕ) : Type 0 where
@@ -124,17 +124,19 @@ module _ (old now new : BitAppender) (all rest : List ℕ) (word width count_old
   whole_front : all ≡ p.front
   whole_front = p.parts ∙ ap (λ (l : List ℕ). p.front ++ l) none ∙ append-nil p.front
 
-  pub all_written : bits_written new ≡ bits_written now ++ digits word width
-      → bits_written new ≡ bits_written old ++ bits all
-  all_written written = written ∙ p.written ∙ ap (λ (l : List ℕ). bits_written old ++ bits l) (sym whole_front)
-
-  pub all_left : room new + width ≡ room now → room new + 8 * length all ≡ room old
-  all_left left = let l = p.left in let n = ap length whole_front in omega arith
-
-  pub all_counted : count_now + div_ceil width 64 ≤ count_new → count_new ≤ count_now + turns_for width
-      → TakesTurns (8 * length all) count_old count_new
-  all_counted low high =
+  pub all_pushed : lender_of new ≡ lender_of now → bits_written new ≡ bits_written now ++ digits word width
+      → room new + width ≡ room now
+      → count_now + div_ceil width 64 ≤ count_new → count_new ≤ count_now + turns_for width
+      → PushesList (bits all) old new count_old count_new
+  all_pushed lender written left low high =
+      let l = p.left in
       let t = p.turns in
       let s = p.so_far in
       let n = ap length whole_front in
-      record { at_least = omega arith; at_most = omega arith }
+      let m = length-bits all in
+      record {
+        lender = lender ∙ p.lender;
+        written = written ∙ p.written ∙ ap (λ (l : List ℕ). bits_written old ++ bits l) (sym whole_front);
+        left = omega arith;
+        counted = record { at_least = omega arith; at_most = omega arith };
+      }

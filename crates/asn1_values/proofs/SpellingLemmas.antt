@@ -16,7 +16,7 @@ use Rattle.std.proofs.Math.Seq.{take-append_seam}
 use Rattle.std.proofs.lemmas.Option.{same_Some, slice_get_read, slice_get-map}
 use Rattle.asn1_bits.specs.Bits.{digits, bits}
 use Rattle.asn1_bits.specs.declared.bit_appender.BitAppender.{BitAppender}
-use Rattle.asn1_bits.specs.BitAppender.{bits_written, room}
+use Rattle.asn1_bits.specs.BitAppender.{bits_written, room, lender_of}
 use Rattle.asn1_bits.specs.DigitLaws.{length-digits, length-bits}
 use Rattle.asn1_values.specs.declared.bit_fields.error.WriteError.{WriteError}
 use Rattle.asn1_values.specs.declared.bit_fields.error.WriteError.TheVariants as errors
@@ -24,7 +24,7 @@ use Rattle.asn1_values.specs.declared.bit_fields.field.Field.{Field as Program}
 use Rattle.asn1_values.specs.Plain.{plain_field, plain_fields}
 use Rattle.asn1_values.specs.Fields.{Field, IsSpelledBy, AreSpelledBy, Number, Octets, Bits, Integer, Character, CountedInteger, Identifier}
 use Rattle.asn1_values.specs.Wrong.{Misfit, WidthOver, PastWidth, NotInAlphabet, PastLength, TooFewArcs, Fits, IsMisfit, IsFirstMisfit}
-use Rattle.asn1_values.specs.Steps.{NamesMisfit, NamesFirstMisfit, Spelling, TakesBits, HasLength, FitsIn, EndsAt, Pushes, HasRoomFor, TakesTurns}
+use Rattle.asn1_values.specs.Steps.{NamesMisfit, NamesFirstMisfit, Spelling, TakesBits, HasLength, FitsIn, EndsAt, HasRoomFor, PushesList, PushesDigits, PushesOctets}
 use Rattle.asn1_bits.specs.Joined.{AreJoined}
 use Rattle.asn1_values.proofs.JoinedLemmas.{joins_push, joins_split, one_joined, each_joined, slice_get_take, some_at, Split}
 
@@ -203,15 +203,23 @@ pub space_of : (field : Field) (list : List Bool) (n space : ℕ) → TakesBits 
     → HasRoomFor field space → n ≤ space
 space_of field list n space s len enough = let r = enough.each list s in omega arith
 
-pub pushes : (field : Field) (list : List Bool) (n : ℕ) (old new : BitAppender) → IsSpelledBy field list
-    → length list ≡ n → bits_written new ≡ bits_written old ++ list → room new + n ≡ room old → Pushes field old new
-pushes field list n old new s len e r = record { list = list; spelled = s; written = e; left = omega arith }
+-- a list of n bits was pushed, in turns for so many
+pub list_pushed : (list : List Bool) (n : ℕ) (old new : BitAppender) (turns_old turns_new : ℕ) → length list ≡ n
+    → lender_of new ≡ lender_of old → bits_written new ≡ bits_written old ++ list → room new + n ≡ room old
+    → turns_old + div_ceil n 64 ≤ turns_new → turns_new ≤ turns_old + turns_for n
+    → PushesList list old new turns_old turns_new
+list_pushed list n old new turns_old turns_new len lender written left low high = record {
+  lender = lender;
+  written = written;
+  left = omega arith;
+  counted = rw len (record { at_least = low; at_most = omega arith });
+}
 
--- the turns of one field, whichever list spells it
-pub takes : (field : Field) (n old new : ℕ) → FitsIn field n → old + div_ceil n 64 ≤ new → new ≤ old + turns_for n
-    → (list : List Bool) → IsSpelledBy field list → TakesTurns (length list) old new
-takes field n old new fits low high list s =
-    subst (λ (k : ℕ). TakesTurns k old new) (sym (fits.len list s)) (record { at_least = low; at_most = omega arith })
+pub octets_pushed : (octets : List ℕ) (old new : BitAppender) (turns_old turns_new : ℕ)
+    → PushesOctets octets old new turns_old turns_new → PushesList (bits octets) old new turns_old turns_new
+octets_pushed octets old new turns_old turns_new p =
+    list_pushed (bits octets) (8 * length octets) old new turns_old turns_new (length-bits octets) p.lender p.written
+    p.left p.at_least p.at_most
 
 -- ---- a counted integer: an octet, and octets behind it
 
@@ -227,24 +235,26 @@ counted_space n octets space shortest enough =
     let r = enough.each (bits (length octets ∷ octets)) (octets, shortest, le, refl) in
     (le, omega arith)
 
-pub counted_pushes : (n : ℤ) (octets : List ℕ) (old now new : BitAppender) → IsShortest n octets → length octets ≤ 127
-    → bits_written now ≡ bits_written old ++ digits (length octets) 8 → room now + 8 ≡ room old
-    → bits_written new ≡ bits_written now ++ bits octets → room new + 8 * length octets ≡ room now
-    → Pushes (CountedInteger n) old new
+-- the octet was pushed, and then the others
+pub counted_pushed : (octets : List ℕ) (old now new : BitAppender) (turns_old turns_now turns_new : ℕ)
+    → PushesDigits old now (length octets) 8 turns_old turns_now → PushesOctets octets now new turns_now turns_new
+    → PushesList (bits (length octets ∷ octets)) old new turns_old turns_new
 unfolding bits
-counted_pushes n octets old now new shortest le first before second after =
+counted_pushed octets old now new turns_old turns_now turns_new one two =
     let list : List Bool = bits (length octets ∷ octets) in
-    let written : bits_written new ≡ bits_written old ++ list =
-    second ∙ ap (λ (l : List Bool). l ++ bits octets) first
-    ∙ append_assoc (bits_written old) (digits (length octets) 8) (bits octets) in
     let len : length list ≡ 8 + 8 * length octets = omega (arith, length-bits (length octets ∷ octets)) in
-    pushes (CountedInteger n) list (8 + 8 * length octets) old new (octets, shortest, le, refl) len written
-    (omega arith)
-
--- the turns of an octet, and of n octets behind it
-pub counted_turns : (n old now new : ℕ) → old + div_ceil 8 64 ≤ now → now ≤ old + turns_for 8
-    → now + div_ceil (8 * n) 64 ≤ new → new ≤ now + turns_for (8 * n) → TakesTurns (8 + 8 * n) old new
-counted_turns n old now new low high low_2 high_2 = record { at_least = omega arith; at_most = omega arith }
+    record {
+      lender = two.lender ∙ one.lender;
+      written = two.written ∙ ap (λ (l : List Bool). l ++ bits octets) one.written
+          ∙ append_assoc (bits_written old) (digits (length octets) 8) (bits octets);
+      left = let a = one.left in let b = two.left in omega arith;
+      counted =
+          let low = one.at_least in
+          let high = one.at_most in
+          let low_2 = two.at_least in
+          let high_2 = two.at_most in
+          record { at_least = omega arith; at_most = omega arith };
+    }
 
 -- bits that were pushed are cut off again
 pub cut_back : (bits old pushed : List Bool) (n : ℕ) → take n bits ≡ old ++ pushed → take (length old) bits ≡ old

@@ -1,5 +1,5 @@
 -- How the steps of the calls are stated. No public contract cites this.
-use Rattle.std.specs.Prelude.{◌≡◌, ℕ, ◌+◌, ◌-◌, ◌*◌, ◌/◌, ◌^◌, ◌<◌, ◌≤◌, Bool, List, [], ◌∷◌, ◌++◌, length, take, drop, min, Result, Ok, Err, OnOk, IfOk, IfErr, IsOk, Vec, vec_items, vec_len, vec_capacity, ◌≢◌}
+use Rattle.std.specs.Prelude.{◌≡◌, ℕ, ◌+◌, ◌-◌, ◌*◌, ◌/◌, ◌^◌, ◌<◌, ◌≤◌, Bool, List, [], ◌∷◌, ◌++◌, length, take, drop, min, Result, Ok, Err, OnOk, IfOk, IfErr, IsOk, Vec, vec_items, vec_len, vec_capacity, ◌≢◌, Option, OnSome, IfNone}
 use Rattle.std.specs.Int.{div_ceil}
 use Rattle.asn1_bits.specs.declared.bit_appender.BitAppender.{BitAppender}
 use Rattle.asn1_bits.specs.declared.bit_reader.BitReader.{BitReader}
@@ -17,6 +17,7 @@ use Rattle.asn1_values.specs.Fields.{Field, Shape, IsSpelledBy, AreSpelledBy, Ch
 use Rattle.asn1_bits.specs.Joined.{AreJoined}
 use Rattle.asn1_values.specs.Plain.{plain_field, plain_fields, LiesAt, LieFrom}
 use Rattle.asn1_values.specs.Walk.{field_at, fields_at}
+use Rattle.asn1_values.specs.Refusals.{IsWriteRefusal}
 use Rattle.asn1_values.specs.Wrong.{Fault, NumberWidth, NotInteger, Short, NoCharacter, NoLength, NotIdentifier, ArcOver, WidthOver, PastWidth, NotInAlphabet, PastLength, TooFewArcs, IsCount, first_octet, IsMisfit, IsFirstMisfit, Fits}
 
 -- ---- reading
@@ -189,6 +190,11 @@ pub record EndsAt (P : Spelling) (start : ℕ) (fields : List Field) (n : ℕ) :
   pub each : (others : List Bool) → AreJoined P fields others → start + length others ≡ end
   pub capped : n ≡ min end (2 ^ 128 - 1)
 
+-- the fields fit, and end there behind the start; or the error names the first that doesn't fit
+pub record MeasuresAll (start : ℕ) (fields : List Field) (result : Result ℕ WriteError) : Type 0 where
+  pub ok : IfOk result (EndsAt IsSpelledBy start fields)
+  pub err : IfErr result (NamesFirstMisfit fields)
+
 -- there is room for the bits of one field, which has some
 pub record HasRoomFor (field : Field) (space : ℕ) : Type 0 where
   pub some : (list : List Bool) × TakesBits field list
@@ -210,12 +216,13 @@ abbrev pub CanBeRefused : ℕ → List Field → Type 0
 CanBeRefused n fields = (list : List Bool) → AreSpelledBy fields list → n + length list < 2 ^ 64
     → octets_for n < octets_for (n + length list)
 
--- the spelling of the field was pushed
-pub record Pushes (field : Field) (old new : BitAppender) : Type 0 where
-  pub list : List Bool
-  pub spelled : IsSpelledBy field list
-  pub written : bits_written new ≡ bits_written old ++ list
-  pub left : room new + length list ≡ room old
+-- the error is a refusal of the fields behind n bits, and no other but want of memory is one; where
+-- all fit, it tells whether the new length does
+pub record IsTheRefusal (n : ℕ) (fields : List Field) (error : WriteError) : Type 0 where
+  pub refusal : IsWriteRefusal n fields error
+  pub named : (e : WriteError) → e ≢ writing.Memory → IsWriteRefusal n fields e → error ≡ e
+  pub too_long : (list : List Bool) → AreSpelledBy fields list → 2 ^ 64 ≤ n + length list → error ≡ writing.TooLong
+  pub memory : (list : List Bool) → AreSpelledBy fields list → n + length list < 2 ^ 64 → error ≡ writing.Memory
 
 -- the spellings of the fields were pushed, one after another
 pub record PushesAll (fields : List Field) (old new : BitAppender) : Type 0 where
@@ -229,21 +236,31 @@ pub record TakesTurns (n old new : ℕ) : Type 0 where
   pub at_least : old + div_ceil n 64 ≤ new
   pub at_most : new ≤ old + n / 64 + 8
 
--- the spelling of the field was pushed, in its turns, and the storage is the same
-pub record PushesOne (field : Field) (old new : BitAppender) (turns_old turns_new : ℕ) : Type 0 where
+-- the list was pushed, in its turns, and the storage is the same
+pub record PushesList (list : List Bool) (old new : BitAppender) (turns_old turns_new : ℕ) : Type 0 where
   pub lender : lender_of new ≡ lender_of old
-  pub pushed : Pushes field old new
-  pub counted : (list : List Bool) → IsSpelledBy field list → TakesTurns (length list) turns_old turns_new
+  pub written : bits_written new ≡ bits_written old ++ list
+  pub left : room new + length list ≡ room old
+  pub counted : TakesTurns (length list) turns_old turns_new
 
--- of the digits of a word a front was pushed, in its turns; the digits of the new word are the rest
-pub record PushesDigits (old new : BitAppender) (word width word_new width_new turns_old turns_new : ℕ) : Type 0 where
+-- the spelling of the field was pushed so
+pub record PushesOne (field : Field) (old new : BitAppender) (turns_old turns_new : ℕ) : Type 0 where
+  pub list : List Bool
+  pub spelled : IsSpelledBy field list
+  pub pushed : PushesList list old new turns_old turns_new
+
+-- the digits of a word were pushed, in turns for so many
+pub record PushesDigits (old new : BitAppender) (word width turns_old turns_new : ℕ) : Type 0 where
   pub lender : lender_of new ≡ lender_of old
-  pub front : List Bool
-  pub written : bits_written new ≡ bits_written old ++ front
-  pub left : room new + length front ≡ room old
-  pub parts : front ++ digits word_new width_new ≡ digits word width
-  pub at_least : turns_old + div_ceil (length front) 64 ≤ turns_new
-  pub at_most : turns_new + turns_for width_new ≤ turns_old + turns_for width
+  pub written : bits_written new ≡ bits_written old ++ digits word width
+  pub left : room new + width ≡ room old
+  pub at_least : turns_old + div_ceil width 64 ≤ turns_new
+  pub at_most : turns_new ≤ turns_old + turns_for width
+
+-- the digits of the old word were pushed so, and the new word has none
+pub record PushesGathered (old new : BitAppender) (word width width_new turns_old turns_new : ℕ) : Type 0 where
+  pub pushed : PushesDigits old new word width turns_old turns_new
+  pub none : width_new ≡ 0
 
 -- the list was taken behind the digits of a word: a front of both was pushed, in its turns, and the
 -- digits of the new word are the rest
@@ -270,8 +287,15 @@ pub record PushesNone (field : Field) (old new : BitAppender) : Type 0 where
   pub kept : bits_written new ≡ bits_written old
   pub lacking : Fits field → ⊥
 
--- the bits of the octets were pushed, in turns for so many
+-- the spelling of the field was taken so; or nothing was pushed, since the field does not fit
+pub record PushesIfFits (field : Field) (old new : BitAppender)
+    (word width word_new width_new turns_old turns_new : ℕ) (result : Option Unit) : Type 0 where
+  pub pushed : OnSome result (PushesBehind field old new word width word_new width_new turns_old turns_new)
+  pub refused : IfNone result (PushesNone field old new)
+
+-- the bits of the octets were pushed, in turns for so many, and the storage is the same
 pub record PushesOctets (octets : List ℕ) (old new : BitAppender) (turns_old turns_new : ℕ) : Type 0 where
+  pub lender : lender_of new ≡ lender_of old
   pub written : bits_written new ≡ bits_written old ++ bits octets
   pub left : room new + 8 * length octets ≡ room old
   pub at_least : turns_old + div_ceil (8 * length octets) 64 ≤ turns_new
@@ -282,11 +306,43 @@ pub record TakeTurns (fields : List Field) (old new : ℕ) : Type 0 where
   pub at_least : (list : List Bool) → AreSpelledBy fields list → old + div_ceil (length list) 64 ≤ new
   pub at_most : (list : List Bool) → AreSpelledBy fields list → new ≤ old + length list / 64 + 8 * length fields
 
+-- the fields can be appended to n bits: in so many more is room for them, each list that spells them
+-- is as long, and usize counts the sum
+pub record CanBeAppended (fields : List Field) (n additional : ℕ) : Type 0 where
+  pub room : HaveRoom fields additional
+  pub all : (list : List Bool) → AreSpelledBy fields list → length list ≡ additional
+  pub fits : n + additional < 2 ^ 64
+
+-- the spellings of the fields were appended, in their turns; or nothing has changed, and the fields
+-- can be refused
+pub record AppendsFields (fields : List Field) (old new : List Bool) (turns_old turns_new : ℕ) (result : Option Unit)
+    : Type 0 where
+  pub written : OnSome result ((list : List Bool) × AreSpelledBy fields list × (new ≡ old ++ list))
+  pub fits : OnSome result ((list : List Bool) → AreSpelledBy fields list → length old + length list < 2 ^ 64)
+  pub counted : OnSome result (TakeTurns fields turns_old turns_new)
+  pub refused : IfNone result (CanBeRefused (length old) fields)
+  pub unchanged : IfNone result (new ≡ old)
+  pub uncounted : IfNone result (turns_new ≡ turns_old)
+
+-- the spellings of the fields were pushed, in their turns; or some bits, since a field does not fit
+pub record PushesAllIfFit (fields : List Field) (old new : BitAppender) (turns_old turns_new : ℕ)
+    (result : Option Unit) : Type 0 where
+  pub lender : lender_of new ≡ lender_of old
+  pub kept : (list : List Bool) × (bits_written new ≡ bits_written old ++ list)
+  pub pushed : OnSome result (PushesAll fields old new)
+  pub counted : OnSome result (TakeTurns fields turns_old turns_new)
+  pub lacking : IfNone result ((list : List Bool) → AreSpelledBy fields list → ⊥)
+
 -- ---- writing over what is there
 
 -- bits that end at the place end within n bits, and usize counts it
 abbrev pub IsReached : ℕ → ℕ → Type 0
 IsReached n place = (place ≤ n) × (place < 2 ^ 64)
+
+-- a word holds so many digits, and from a place on they are within n bits
+pub record DigitsFit (n place width : ℕ) : Type 0 where
+  pub few : width ≤ 128
+  pub within : IsReached n (place + width)
 
 -- the field fits, and its bits from a place on are within n bits
 pub record FitsWithin (n place : ℕ) (field : Field) : Type 0 where

@@ -1,12 +1,12 @@
 //! A character as a field: its code in the width of its alphabet (X.691 30.5).
 
-ghost use Rattle.std.specs.Prelude.{◌≡◌, Err, ◌+◌, ◌*◌, ◌<◌, ◌++◌, length, OnOk, IfOk, OnSome, IfNone, Ok, take, [], ◌∷◌, vec_len, vec_capacity};
+ghost use Rattle.std.specs.Prelude.{◌≡◌, Err, ◌+◌, ◌*◌, ◌<◌, ◌++◌, length, OnOk, IfOk, Ok, take, [], ◌∷◌, vec_len, vec_capacity};
 ghost use Rattle.asn1_bits.specs.BitAppender.{room};
 ghost use Rattle.asn1_bits.specs.BitReader.{bits_left};
 ghost use Rattle.asn1_bits.specs.Bits.{bits, number};
 ghost use Rattle.asn1_alphabets.specs.AlphabetView.{alphabet_of};
 ghost use Rattle.asn1_values.specs.Fields as plain;
-ghost use Rattle.asn1_values.specs.Steps.{HasRoomBehind, PushesBehind, PushesNone, FitsWithin, Measures, Overwrites, ExaminesValue, AppendsNext};
+ghost use Rattle.asn1_values.specs.Steps.{HasRoomBehind, FitsWithin, Measures, Overwrites, ExaminesValue, AppendsNext, PushesIfFits};
 ghost use Rattle.asn1_values.specs.Walk.{field_at};
 
 use super::error::{ReadError, WriteError};
@@ -43,13 +43,9 @@ pub(super) fn push(
 ) -> Option<()>
     requires { HasRoomBehind (plain.Character (alphabet_of alphabet.now) character)
         gathered.old.width (room appender.old) }
-    ensures pushed { OnSome result
-        (PushesBehind (plain.Character (alphabet_of alphabet.now) character) appender.old
+    ensures { PushesIfFits (plain.Character (alphabet_of alphabet.now) character) appender.old
         appender.new gathered.old.word gathered.old.width gathered.new.word gathered.new.width
-        turns.old.count turns.new.count) }
-    ensures refused { IfNone result
-        (PushesNone (plain.Character (alphabet_of alphabet.now) character) appender.old
-        appender.new) }
+        turns.old.count turns.new.count result }
 {
     match alphabet.encode(character) {
         Ok(code) => {

@@ -3,7 +3,7 @@
 ghost use Rattle.std.specs.Prelude.{◌≡◌, ◌+◌, ◌^◌, ◌<◌, ◌≤◌};
 ghost use Rattle.asn1_bits.specs.BitAppender.{room};
 ghost use Rattle.asn1_bits.specs.Bits.{digits};
-ghost use Rattle.asn1_values.specs.Steps.{Gathers, PushesDigits};
+ghost use Rattle.asn1_values.specs.Steps.{Gathers, PushesDigits, PushesGathered};
 
 use asn1_bits::{BitAppender, Turns};
 
@@ -40,52 +40,37 @@ impl Gathered {
         ensures { Gathers (digits number width) appender.old appender.new self.old.word
             self.old.width self.new.word self.new.width turns.old.count turns.new.count }
     {
-        self.make_room(appender, width, turns);
+        if self.width + width > 64 {
+            self.push(appender, turns);
+        }
         *self = Gathered {
             word: (self.word << width) + number,
             width: self.width + width,
         };
     }
 
-    /// Pushes the digits if the word has no room for `width` more.
-    #[inline(always)]
-    fn make_room(&mut self, appender: &mut BitAppender<'_>, width: usize, turns: &mut Turns)
-        requires width { width ≤ 32 }
-        requires room { self.old.width ≤ room appender.old }
-        ensures room { self.new.width + width ≤ 64 }
-        ensures pushed { PushesDigits appender.old appender.new self.old.word self.old.width
-            self.new.word self.new.width turns.old.count turns.new.count }
-    {
-        if self.width + width <= 64 {
-            return;
-        }
-        self.push(appender, turns);
-    }
-
     /// Pushes the digits, and keeps none.
     #[inline(always)]
     pub(super) fn push(&mut self, appender: &mut BitAppender<'_>, turns: &mut Turns)
         requires { self.old.width ≤ room appender.old }
-        ensures none { self.new.width ≡ 0 }
-        ensures pushed { PushesDigits appender.old appender.new self.old.word self.old.width
-            self.new.word self.new.width turns.old.count turns.new.count }
+        ensures { PushesGathered appender.old appender.new self.old.word self.old.width
+            self.new.width turns.old.count turns.new.count }
     {
         let digits = *self;
         *self = Gathered::none();
         if digits.width == 0 {
             return;
         }
-        push_word(appender, digits.word, digits.width, turns);
+        push_word(appender, digits, turns);
     }
 }
 
-/// Pushes a number of at most 64 digits. Not inlined, so that the loop over fields stays short.
+/// Pushes the digits. Not inlined, so that the loop over fields stays short.
 #[inline(never)]
-fn push_word(appender: &mut BitAppender<'_>, word: u64, width: usize, turns: &mut Turns)
-    requires width { width ≤ 64 }
-    requires below { word < 2 ^ width }
-    requires room { width ≤ room appender.old }
-    ensures { PushesDigits appender.old appender.new word width 0 0 turns.old.count turns.new.count }
+fn push_word(appender: &mut BitAppender<'_>, digits: Gathered, turns: &mut Turns)
+    requires { digits.width ≤ room appender.old }
+    ensures { PushesDigits appender.old appender.new digits.word digits.width turns.old.count
+        turns.new.count }
 {
-    appender.push_number(u128::from(word), width, turns);
+    appender.push_number(u128::from(digits.word), digits.width, turns);
 }

@@ -1,13 +1,12 @@
 //! An object identifier as a field: its contents (X.690 8.19).
 
-ghost use Rattle.std.specs.Prelude.{◌≡◌, Err, ◌+◌, ◌*◌, ◌/◌, ◌<◌, ◌≤◌, ◌++◌, length, IfOk, Ok, take, vec_len, vec_capacity};
-ghost use Rattle.asn1_bits.specs.BitAppender.{room, lender_of, bits_written};
+ghost use Rattle.std.specs.Prelude.{◌≡◌, Err, ◌+◌, ◌*◌, ◌/◌, ◌<◌, ◌≤◌, length, IfOk, Ok, take, vec_len, vec_capacity};
+ghost use Rattle.asn1_bits.specs.BitAppender.{room};
 ghost use Rattle.asn1_bits.specs.BitReader.{view_left, bits_left};
 ghost use Rattle.asn1_bits.specs.Bits.{bits, number};
-ghost use Rattle.asn1_oid.specs.Contents.{FitU32};
 ghost use Rattle.asn1_oid.specs.Reading.{contents_reading};
 ghost use Rattle.asn1_values.specs.Fields as plain;
-ghost use Rattle.asn1_values.specs.Steps.{HasRoomFor, PushesOne, TakesTurns, IsReached, FitsWithin, Measures, WritesOver, Overwrites, Takes, ExaminesBits, AppendsNext};
+ghost use Rattle.asn1_values.specs.Steps.{HasRoomFor, PushesOne, IsReached, FitsWithin, Measures, WritesOver, Overwrites, Takes, ExaminesBits, AppendsNext, PushesList};
 ghost use Rattle.asn1_values.specs.Walk.{field_at, octets_of};
 
 use super::error::{ReadError, WriteError};
@@ -34,7 +33,6 @@ fn fitting_contents(oid: &ObjectIdentifier, place: usize) -> Result<u128, WriteE
     ensures { Measures place (plain.Identifier oid.now) result }
 {
     let arcs = oid.as_ref();
-    arcs_fit(arcs);
     // The number of arcs fits `usize`, and so their octets are not too many.
     let _len = arcs.len();
     match oid.as_oid().contents_len() {
@@ -42,11 +40,6 @@ fn fitting_contents(oid: &ObjectIdentifier, place: usize) -> Result<u128, WriteE
         None => Err(WriteError::ArcCount { field: place }),
     }
 }
-
-/// Arcs are below 2 to the power of 32. It does nothing: its clause tells the proof so.
-fn arcs_fit(arcs: &[u32])
-    ensures { FitU32 arcs.now }
-{}
 
 /// Pushes the contents of an identifier, which fit the room.
 #[inline(never)]
@@ -64,10 +57,8 @@ pub(super) fn push(appender: &mut BitAppender<'_>, oid: &ObjectIdentifier, turns
 /// Pushes octets that fit the room, sixteen at a time.
 fn push_each(appender: &mut BitAppender<'_>, octets: OidContents<'_>, turns: &mut Turns)
     requires { 8 * length octets ≤ room appender.old }
-    ensures lender { lender_of appender.new ≡ lender_of appender.old }
-    ensures written { bits_written appender.new ≡ bits_written appender.old ++ bits octets.entry }
-    ensures room { room appender.new + 8 * length octets.entry ≡ room appender.old }
-    ensures counted { TakesTurns (8 * length octets.entry) turns.old.count turns.new.count }
+    ensures { PushesList (bits octets.entry) appender.old appender.new turns.old.count
+        turns.new.count }
 {
     let mut word = 0u128;
     let mut width = 0usize;

@@ -1,7 +1,7 @@
 //! An integer as a field: its shortest octets (X.690 8.3).
 
-ghost use Rattle.std.specs.Prelude.{◌≡◌, ℕ, List, Err, ◌+◌, ◌*◌, ◌<◌, ◌≤◌, length, IfOk, Ok, take, vec_len, vec_capacity};
-ghost use Rattle.asn1_bits.specs.BitAppender.{room, lender_of};
+ghost use Rattle.std.specs.Prelude.{ℕ, List, Err, ◌+◌, ◌*◌, ◌<◌, ◌≤◌, length, IfOk, Ok, take, vec_len, vec_capacity};
+ghost use Rattle.asn1_bits.specs.BitAppender.{room};
 ghost use Rattle.asn1_bits.specs.BitReader.{bits_left};
 ghost use Rattle.asn1_bits.specs.Bits.{bits, number};
 ghost use Rattle.asn1_number.specs.Octets.{IsShortest};
@@ -41,8 +41,7 @@ pub(super) fn push(appender: &mut BitAppender<'_>, number: &Integer, turns: &mut
 pub(super) fn push_shortest(appender: &mut BitAppender<'_>, number: &Integer, turns: &mut Turns)
     requires { (octets : List ℕ) → IsShortest number.now octets → 8 * length octets
         ≤ room appender.old }
-    ensures lender { lender_of appender.new ≡ lender_of appender.old }
-    ensures pushed { (octets : List ℕ) → IsShortest number.now octets
+    ensures { (octets : List ℕ) → IsShortest number.now octets
         → PushesOctets octets appender.old appender.new turns.old.count turns.new.count }
 {
     match number.to_i128() {
@@ -59,8 +58,7 @@ pub(super) fn push_shortest(appender: &mut BitAppender<'_>, number: &Integer, tu
 fn push_long(appender: &mut BitAppender<'_>, number: &Integer, turns: &mut Turns)
     requires { (octets : List ℕ) → IsShortest number.now octets → 8 * length octets
         ≤ room appender.old }
-    ensures lender { lender_of appender.new ≡ lender_of appender.old }
-    ensures pushed { (octets : List ℕ) → IsShortest number.now octets
+    ensures { (octets : List ℕ) → IsShortest number.now octets
         → PushesOctets octets appender.old appender.new turns.old.count turns.new.count }
 {
     appender.push_octets(number.signed_octets().as_ref(), turns);

@@ -1,11 +1,11 @@
 //! A number of up to 128 bits as a field: its binary digits.
 
-ghost use Rattle.std.specs.Prelude.{◌≡◌, Err, ◌+◌, ◌*◌, ◌<◌, ◌≤◌, length, OnOk, IfOk, Ok, take, vec_len, vec_capacity};
+ghost use Rattle.std.specs.Prelude.{◌≡◌, Err, ◌+◌, ◌*◌, ◌<◌, length, OnOk, IfOk, Ok, take, vec_len, vec_capacity};
 ghost use Rattle.asn1_bits.specs.BitAppender.{room};
 ghost use Rattle.asn1_bits.specs.BitReader.{bits_left};
 ghost use Rattle.asn1_bits.specs.Bits.{bits, digits};
 ghost use Rattle.asn1_values.specs.Fields as plain;
-ghost use Rattle.asn1_values.specs.Steps.{HasRoomBehind, PushesBehind, IsReached, FitsWithin, Measures, WritesOver, Overwrites, ExaminesValue, AppendsNext};
+ghost use Rattle.asn1_values.specs.Steps.{HasRoomBehind, PushesBehind, FitsWithin, Measures, WritesOver, Overwrites, ExaminesValue, AppendsNext, DigitsFit};
 ghost use Rattle.asn1_values.specs.Walk.{field_at};
 
 use super::error::{ReadError, WriteError};
@@ -89,8 +89,7 @@ pub(super) fn overwrite_digits(
     value: u128,
     width: usize,
 ) -> usize
-    requires width { width ≤ 128 }
-    requires within { IsReached (8 * length target.old) (position + width) }
+    requires { DigitsFit (8 * length target.old) position width }
     ensures { WritesOver (digits value width) position (bits target.old) (bits target.new) result }
 {
     overwrite_number(target, position, value, width, &mut Turns::new());

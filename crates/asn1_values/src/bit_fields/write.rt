@@ -1,13 +1,13 @@
 //! Writing fields.
 
-ghost use Rattle.std.specs.Prelude.{◌-◌, ◌≡◌, ◌≢◌, Bool, List, Err, ◌+◌, ◌*◌, ◌/◌, ◌^◌, ◌<◌, ◌≤◌, ◌++◌, min, length, OnOk, IfOk, IfErr, OnErr, OnSome, IfSome, IfNone, IsOk, IsOkUnless};
+ghost use Rattle.std.specs.Prelude.{◌-◌, ◌≡◌, ◌≢◌, Bool, List, Err, ◌+◌, ◌*◌, ◌/◌, ◌^◌, ◌<◌, ◌≤◌, ◌++◌, min, length, OnOk, IfErr, OnErr, IsOk, IsOkUnless, MatchOption};
 ghost use Rattle.std.specs.Int.{div_ceil};
 ghost use Rattle.asn1_bits.specs.Bits.{AddsNoOctet, bits};
-ghost use Rattle.asn1_bits.specs.BitAppender.{room, lender_of, bits_written};
-ghost use Rattle.asn1_values.specs.Fields.{IsSpelledBy, AreSpelledBy, HaveOneSpelling};
+ghost use Rattle.asn1_bits.specs.BitAppender.{room};
+ghost use Rattle.asn1_values.specs.Fields.{AreSpelledBy, HaveOneSpelling};
 ghost use Rattle.asn1_values.specs.Plain.{plain_field, plain_fields};
 ghost use Rattle.asn1_values.specs.Refusals.{IsWriteRefusal};
-ghost use Rattle.asn1_values.specs.Steps.{NamesFirstMisfit, TakesBits, HasLength, EndsAt, CanBeRefused, HasRoomBehind, HaveRoom, PushesBehind, PushesNone, PushesAll, TakeTurns, Measures};
+ghost use Rattle.asn1_values.specs.Steps.{TakesBits, HasLength, EndsAt, CanBeRefused, HasRoomBehind, HaveRoom, Measures, MeasuresAll, IsTheRefusal, CanBeAppended, AppendsFields, PushesAllIfFit, PushesIfFits};
 ghost use Rattle.asn1_values.specs.Wrong.{Fits};
 
 use super::error::WriteError;
@@ -92,16 +92,8 @@ pub fn write_fields_counted(
 /// lookup.
 #[inline(always)]
 fn append_all(buffer: &mut BitBuffer, fields: &[Field<'_, '_>], turns: &mut Turns) -> Option<()>
-    ensures written { OnSome result
-        ((list : List Bool) × AreSpelledBy (plain_fields fields.now) list
-        × (buffer.new ≡ buffer.old ++ list)) }
-    ensures fits { OnSome result ((list : List Bool) → AreSpelledBy (plain_fields fields.now) list
-        → length buffer.old + length list < 2 ^ 64) }
-    ensures counted { OnSome result
-        (TakeTurns (plain_fields fields.now) turns.old.count turns.new.count) }
-    ensures refused { IfNone result (CanBeRefused (length buffer.old) (plain_fields fields.now)) }
-    ensures unchanged { IfNone result (buffer.new ≡ buffer.old) }
-    ensures uncounted { IfNone result (turns.new.count ≡ turns.old.count) }
+    ensures { AppendsFields (plain_fields fields.now) buffer.old buffer.new turns.old.count
+        turns.new.count result }
 {
     let len = buffer.len();
     let end = end_of(len, fields)?;
@@ -117,18 +109,9 @@ fn push_or_back(
     fields: &[Field<'_, '_>],
     turns: &mut Turns,
 ) -> Option<()>
-    requires room { HaveRoom (plain_fields fields.now) additional }
-    requires all { (list : List Bool) → AreSpelledBy (plain_fields fields.now) list → length list
-        ≡ additional }
-    requires fits { length buffer.old + additional < 2 ^ 64 }
-    ensures written { OnSome result
-        ((list : List Bool) × AreSpelledBy (plain_fields fields.now) list
-        × (buffer.new ≡ buffer.old ++ list)) }
-    ensures counted { OnSome result
-        (TakeTurns (plain_fields fields.now) turns.old.count turns.new.count) }
-    ensures refused { IfNone result (CanBeRefused (length buffer.old) (plain_fields fields.now)) }
-    ensures unchanged { IfNone result (buffer.new ≡ buffer.old) }
-    ensures uncounted { IfNone result (turns.new.count ≡ turns.old.count) }
+    requires { CanBeAppended (plain_fields fields.now) (length buffer.old) additional }
+    ensures { AppendsFields (plain_fields fields.now) buffer.old buffer.new turns.old.count
+        turns.new.count result }
 {
     let len = buffer.len();
     let mut taken = Turns::new();
@@ -153,13 +136,7 @@ fn push_or_back(
 #[inline(never)]
 fn refusal_of(len: usize, fields: &[Field<'_, '_>]) -> WriteError
     requires { CanBeRefused len (plain_fields fields.now) }
-    ensures refusal { IsWriteRefusal len (plain_fields fields.now) result }
-    ensures named { (e : WriteError) → e ≢ WriteError.Memory
-        → IsWriteRefusal len (plain_fields fields.now) e → result ≡ e }
-    ensures too_long { (list : List Bool) → AreSpelledBy (plain_fields fields.now) list
-        → 2 ^ 64 ≤ len + length list → result ≡ WriteError.TooLong }
-    ensures memory { (list : List Bool) → AreSpelledBy (plain_fields fields.now) list
-        → len + length list < 2 ^ 64 → result ≡ WriteError.Memory }
+    ensures { IsTheRefusal len (plain_fields fields.now) result }
 {
     match new_len(len, fields) {
         Err(misfit) => misfit,
@@ -172,10 +149,10 @@ fn refusal_of(len: usize, fields: &[Field<'_, '_>]) -> WriteError
 /// another kind does not fit, or the length passes `usize::MAX`.
 #[inline(always)]
 fn end_of(len: usize, fields: &[Field<'_, '_>]) -> Option<usize>
-    ensures some { IfSome result (EndsAt TakesBits len (plain_fields fields.now)) }
-    ensures none { IfNone result
+    ensures { MatchOption result
         ((list : List Bool) → AreSpelledBy (plain_fields fields.now) list → 2 ^ 64 ≤ len
-        + length list) }
+        + length list)
+        (EndsAt TakesBits len (plain_fields fields.now)) }
 {
     let mut end = len;
     for field in fields {
@@ -187,8 +164,7 @@ fn end_of(len: usize, fields: &[Field<'_, '_>]) -> Option<usize>
 /// The end of so many bits behind another end. `None` if it passes `usize::MAX`.
 #[inline(always)]
 pub(super) fn end_behind(end: usize, additional: u128) -> Option<usize>
-    ensures some { IfSome result (λ n. n ≡ end + additional) }
-    ensures none { IfNone result (2 ^ 64 ≤ end + additional) }
+    ensures { MatchOption result (2 ^ 64 ≤ end + additional) (λ n. n ≡ end + additional) }
 {
     if additional > usize::MAX as u128 {
         return None;
@@ -204,8 +180,8 @@ pub(super) fn end_behind(end: usize, additional: u128) -> Option<usize>
 /// that spell it, if it fits.
 #[inline(always)]
 fn len_of(field: &Field<'_, '_>) -> Option<u128>
-    ensures some { IfSome result (HasLength TakesBits (plain_field field.now)) }
-    ensures none { IfNone result (Fits (plain_field field.now) → ⊥) }
+    ensures { MatchOption result (Fits (plain_field field.now) → ⊥)
+        (HasLength TakesBits (plain_field field.now)) }
 {
     match field {
         Field::Character { alphabet, .. } => Some(alphabet.width() as u128),
@@ -217,8 +193,7 @@ fn len_of(field: &Field<'_, '_>) -> Option<u128>
 /// still examined.
 #[inline(always)]
 pub(super) fn new_len(len: usize, fields: &[Field<'_, '_>]) -> Result<u128, WriteError>
-    ensures ok { IfOk result (EndsAt IsSpelledBy len (plain_fields fields.now)) }
-    ensures err { IfErr result (NamesFirstMisfit (plain_fields fields.now)) }
+    ensures { MeasuresAll len (plain_fields fields.now) result }
 {
     let mut end = len as u128;
     for (i, field) in fields.iter().enumerate() {
@@ -275,14 +250,8 @@ fn push_all(
     turns: &mut Turns,
 ) -> Option<()>
     requires { HaveRoom (plain_fields fields.now) (room appender.old) }
-    ensures lender { lender_of appender.new ≡ lender_of appender.old }
-    ensures kept { (list : List Bool)
-        × (bits_written appender.new ≡ bits_written appender.old ++ list) }
-    ensures pushed { OnSome result (PushesAll (plain_fields fields.now) appender.old appender.new) }
-    ensures counted { OnSome result
-        (TakeTurns (plain_fields fields.now) turns.old.count turns.new.count) }
-    ensures lacking { IfNone result
-        ((list : List Bool) → AreSpelledBy (plain_fields fields.now) list → ⊥) }
+    ensures { PushesAllIfFit (plain_fields fields.now) appender.old appender.new turns.old.count
+        turns.new.count result }
 {
     let mut gathered = Gathered::none();
     for field in fields {
@@ -302,10 +271,9 @@ fn push(
     turns: &mut Turns,
 ) -> Option<()>
     requires { HasRoomBehind (plain_field field.now) gathered.old.width (room appender.old) }
-    ensures pushed { OnSome result
-        (PushesBehind (plain_field field.now) appender.old appender.new gathered.old.word
-        gathered.old.width gathered.new.word gathered.new.width turns.old.count turns.new.count) }
-    ensures refused { IfNone result (PushesNone (plain_field field.now) appender.old appender.new) }
+    ensures { PushesIfFits (plain_field field.now) appender.old appender.new gathered.old.word
+        gathered.old.width gathered.new.word gathered.new.width turns.old.count turns.new.count
+        result }
 {
     match field {
         Field::Number { value, width } => number::push(appender, gathered, *value, *width, turns),

@@ -5,7 +5,7 @@ ghost use Rattle.asn1_bits.specs.Bits.{bits, overwritten};
 ghost use Rattle.asn1_values.specs.Fields.{IsSpelledBy, AreSpelledBy, HaveOneSpelling};
 ghost use Rattle.asn1_values.specs.Plain.{plain_field, plain_fields};
 ghost use Rattle.asn1_values.specs.Refusals.{IsPast, IsWriteAtRefusal};
-ghost use Rattle.asn1_values.specs.Steps.{EndsAt, EndWithin, NamesFirstMisfit, FitsWithin, Overwrites, OverwritesAll};
+ghost use Rattle.asn1_values.specs.Steps.{EndsAt, EndWithin, FitsWithin, Overwrites, OverwritesAll, MeasuresAll};
 
 use super::error::WriteError;
 use super::field::Field;
@@ -59,8 +59,7 @@ pub fn write_fields_at(
 /// The place behind the fields, if all fit.
 #[inline(always)]
 fn end_at(position: usize, fields: &[Field<'_, '_>]) -> Result<u128, WriteError>
-    ensures ok { IfOk result (EndsAt IsSpelledBy position (plain_fields fields.now)) }
-    ensures err { IfErr result (NamesFirstMisfit (plain_fields fields.now)) }
+    ensures { MeasuresAll position (plain_fields fields.now) result }
 {
     match fitting_end(position, fields) {
         Some(end) => Ok(end as u128),
@@ -87,8 +86,7 @@ fn fitting_end(position: usize, fields: &[Field<'_, '_>]) -> Option<usize>
 #[cold]
 #[inline(never)]
 fn far_end(position: usize, fields: &[Field<'_, '_>]) -> Result<u128, WriteError>
-    ensures ok { IfOk result (EndsAt IsSpelledBy position (plain_fields fields.now)) }
-    ensures err { IfErr result (NamesFirstMisfit (plain_fields fields.now)) }
+    ensures { MeasuresAll position (plain_fields fields.now) result }
 {
     new_len(position, fields)
 }

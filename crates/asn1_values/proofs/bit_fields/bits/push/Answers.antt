@@ -21,8 +21,8 @@ pub push_apart-requires : goal.push_apart-requires
 push_apart-requires c =
     let before = c.args.gathered.now in
     let now = c.push.new in
-    room_behind (Bits (bits_of c.args.bits.now)) c.args.appender.now now.appender before.word before.width now.self.word
-    now.self.width c.args.turns.now.count now.turns.count c.push.ensures.pushed c.push.ensures.none c.requires
+    room_behind (Bits (bits_of c.args.bits.now)) c.args.appender.now now.appender before.word before.width now.self.width
+    c.args.turns.now.count now.turns.count c.push.ensures c.requires
 
 pub returns-then-len-le32 : goal.returns-then-len-le32
 returns-then-len-le32 c =
@@ -38,5 +38,5 @@ returns-else-len-le32 c =
     let now = c.push.new in
     let new = c.push_apart.new in
     field_behind (Bits (bits_of c.args.bits.now)) c.args.appender.now now.appender new.appender before.word before.width
-    now.self.word now.self.width c.args.turns.now.count now.turns.count new.turns.count c.push.ensures.pushed
-    c.push.ensures.none c.push_apart.ensures
+    now.self.word now.self.width c.args.turns.now.count now.turns.count new.turns.count c.push.ensures
+    c.push_apart.ensures

@@ -1,9 +1,9 @@
-use Rattle.std.proofs.Common.{length, refl}
+use Rattle.std.proofs.Common.{refl}
 use Rattle.asn1_bits.specs.BitAppender.{room}
 use Rattle.asn1_bits.specs.BitStr.{view_of, bits_of}
 use Rattle.asn1_bits.specs.ViewLaws.{length-list_of}
 use Rattle.asn1_values.specs.Fields.{Bits}
-use Rattle.asn1_values.proofs.SpellingLemmas.{space_of, pushes, takes, bits_fit}
+use Rattle.asn1_values.proofs.SpellingLemmas.{space_of, list_pushed}
 use Rattle.asn1_values.proofs.bit_fields.bits.push_apart.Goals as goal
 
 pub push_bitslice-requires : goal.push_bitslice-requires
@@ -18,11 +18,9 @@ returns-else-len-le128 c =
     let n = length-list_of (view_of b) b.within in
     let pushed = c.push_bitslice.ensures in
     record {
-      lender = pushed.lender;
+      list = bits_of b;
+      spelled = refl;
       pushed =
-          pushes (Bits (bits_of b)) (bits_of b) (view_of b).len c.args.appender.now c.push_bitslice.new.self refl n
-          pushed.written pushed.room;
-      counted =
-          takes (Bits (bits_of b)) (length (bits_of b)) c.args.turns.now.count c.push_bitslice.new.turns.count
-          (bits_fit (bits_of b)) (rw n pushed.at_least) (rw n pushed.at_most);
+          list_pushed (bits_of b) (view_of b).len c.args.appender.now c.push_bitslice.new.self c.args.turns.now.count
+          c.push_bitslice.new.turns.count n pushed.lender pushed.written pushed.room pushed.at_least pushed.at_most;
     }

@@ -1,9 +1,9 @@
-use Rattle.std.proofs.Common.{length, refl}
+use Rattle.std.proofs.Common.{refl}
 use Rattle.asn1_bits.specs.BitAppender.{room}
 use Rattle.asn1_bits.specs.BitStr.{view_of, bits_of}
 use Rattle.asn1_bits.specs.ViewLaws.{length-list_of}
 use Rattle.asn1_values.specs.Fields.{Bits}
-use Rattle.asn1_values.proofs.SpellingLemmas.{space_of, pushes, takes, bits_fit}
+use Rattle.asn1_values.proofs.SpellingLemmas.{space_of, list_pushed}
 use Rattle.asn1_values.proofs.bit_fields.bits.push_few.Goals as goal
 
 pub push_number-requires-clause-room : goal.push_number-requires-clause-room
@@ -20,11 +20,10 @@ returns c =
     let len = c.len.ensures.len in
     let pushed = c.push_number.ensures in
     record {
-      lender = pushed.lender;
+      list = bits_of b;
+      spelled = refl;
       pushed =
-          pushes (Bits (bits_of b)) (bits_of b) (view_of b).len c.args.appender.now c.push_number.new.self refl n
-          (rw (len, c.read_u128.ensures.digits) at pushed.written) (rw len at pushed.room);
-      counted =
-          takes (Bits (bits_of b)) (length (bits_of b)) c.args.turns.now.count c.push_number.new.turns.count
-          (bits_fit (bits_of b)) (rw n (rw len at pushed.at_least)) (rw n (rw len at pushed.at_most));
+          list_pushed (bits_of b) (view_of b).len c.args.appender.now c.push_number.new.self c.args.turns.now.count
+          c.push_number.new.turns.count n pushed.lender (rw (len, c.read_u128.ensures.digits) at pushed.written)
+          (rw len at pushed.room) (rw len at pushed.at_least) (rw len at pushed.at_most);
     }

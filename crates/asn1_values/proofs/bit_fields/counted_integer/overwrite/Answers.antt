@@ -6,13 +6,13 @@ use Rattle.asn1_values.specs.Steps.{WritesOver}
 use Rattle.asn1_values.proofs.OverLemmas.{over_same, counted_reached, counted_over}
 use Rattle.asn1_values.proofs.bit_fields.counted_integer.overwrite.Goals as goal
 
-pub overwrite_digits-next-requires-clause-within : goal.overwrite_digits-next-requires-clause-within
-overwrite_digits-next-requires-clause-within c =
+pub overwrite_digits-next-requires : goal.overwrite_digits-next-requires
+overwrite_digits-next-requires c =
     let one = one_shortest_list c.args.number.now in
     let r =
     (counted_reached c.args.number.now one.0 (8 * length c.args.target.now) c.args.position one.1 c.requires.fits
     c.requires.within).1 in
-    (omega (arith, r.0), omega (arith, r.1))
+    record { few = omega arith; within = (omega (arith, r.0), omega (arith, r.1)) }
 
 pub overwrite_shortest-requires : goal.overwrite_shortest-requires
 overwrite_shortest-requires c = λ octets s.

@@ -1,7 +1,8 @@
-use Rattle.std.proofs.Common.{length, arith, ◌∙◌}
+use Rattle.std.proofs.Common.{length, ◌∷◌, refl, arith}
 use Rattle.asn1_bits.specs.BitAppender.{room}
+use Rattle.asn1_bits.specs.Bits.{bits}
 use Rattle.asn1_number.specs.LawsHold.{one_shortest_list}
-use Rattle.asn1_values.proofs.SpellingLemmas.{counted_space, counted_pushes, counted_turns, counted_fits}
+use Rattle.asn1_values.proofs.SpellingLemmas.{counted_space, counted_pushed}
 use Rattle.asn1_values.proofs.bit_fields.counted_integer.push.Goals as goal
 
 pub push_wide-requires-clause-room : goal.push_wide-requires-clause-room
@@ -21,15 +22,19 @@ returns c =
     let one = one_shortest_list n in
     let p = counted_space n one.0 (room c.args.appender.now) one.1 c.requires in
     let first = c.push_wide.ensures in
-    let then = c.push_shortest.ensures.pushed one.0 one.1 in
+    let len = c.signed_len.ensures one.0 one.1 in
     record {
-      lender = c.push_shortest.ensures.lender ∙ first.lender;
+      list = bits (length one.0 ∷ one.0);
+      spelled = (one.0, one.1, p.0, refl);
       pushed =
-          counted_pushes n one.0 c.args.appender.now c.push_wide.new.self c.push_shortest.new.appender one.1 p.0
-          (rw (c.signed_len.ensures one.0 one.1) at first.written) first.room then.written then.left;
-      counted =
-          λ list s. let len = (counted_fits n one.0 one.1 p.0).len list s in
-          rw len
-          (counted_turns (length one.0) c.args.turns.now.count c.push_wide.new.turns.count
-          c.push_shortest.new.turns.count first.at_least first.at_most then.at_least then.at_most);
+          counted_pushed one.0 c.args.appender.now c.push_wide.new.self c.push_shortest.new.appender
+          c.args.turns.now.count c.push_wide.new.turns.count c.push_shortest.new.turns.count
+          (record {
+            lender = first.lender;
+            written = rw len at first.written;
+            left = first.room;
+            at_least = first.at_least;
+            at_most = first.at_most;
+          })
+          (c.push_shortest.ensures one.0 one.1);
     }

@@ -1,5 +1,5 @@
 use Rattle.std.proofs.Common.{◌^◌, ◌<◌, ◌≤◌, arith}
-use Rattle.asn1_values.proofs.SixteenLemmas.{Pushing, pushing_none, word_pushed, octet_taken, full_or_not, word_fits}
+use Rattle.asn1_values.proofs.SixteenLemmas.{Pushing, pushing_none, word_pushed, octet_taken, full_or_not, word_fits, all_pushed}
 use Rattle.asn1_values.proofs.bit_fields.identifier.push_each.Goals as goal
 use Rattle.asn1_values.proofs.bit_fields.identifier.push_each.Goals.{then-width-eq128, else-width-eq128}
 
@@ -53,3 +53,13 @@ loop-octet-preserved c =
     rw c.from.ensures
     (octet_taken old c.if-width-eq128.appender all rest c.next.new.self c.if-width-eq128.word c.if-width-eq128.width
     c.in-Some.octet count c.if-width-eq128.turns.count after.0 after.1 octet c.in-Some.ensures.steps)
+
+pub returns : goal.returns
+returns c =
+    let l = c.loop-octet in
+    let new = c.push_wide-2.new in
+    let p = c.push_wide-2.ensures in
+    rw c.into_iter-octet-iterator.ensures.into_iter_gives at
+    (all_pushed c.args.appender.now l.appender new.self c.into_iter-octet-iterator.result l.octet-iterator l.word l.width
+    c.args.turns.now.count l.turns.count new.turns.count l.invariant c.in-None.ensures.steps.0 p.lender p.written p.room
+    p.at_least p.at_most)

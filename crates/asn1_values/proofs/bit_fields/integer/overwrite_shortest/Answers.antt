@@ -14,17 +14,15 @@ overflow_mul-signed_len c =
     let one = one_shortest_list c.args.number.now in
     omega (arith, c.signed_len.ensures one.0 one.1, sixteen_at_most c.args.number.now one.0 c.in-Some.ensures.0 one.1)
 
-pub overwrite_digits-requires-clause-width : goal.overwrite_digits-requires-clause-width
-overwrite_digits-requires-clause-width c =
-    let one = one_shortest_list c.args.number.now in
-    omega (arith, c.signed_len.ensures one.0 one.1, sixteen_at_most c.args.number.now one.0 c.in-Some.ensures.0 one.1)
-
-pub overwrite_digits-requires-clause-within : goal.overwrite_digits-requires-clause-within
-overwrite_digits-requires-clause-within c =
+pub overwrite_digits-requires : goal.overwrite_digits-requires
+overwrite_digits-requires c =
     let one = one_shortest_list c.args.number.now in
     let r = c.requires one.0 one.1 in
     let n = c.signed_len.ensures one.0 one.1 in
-    (omega (arith, n, r.0), omega (arith, n, r.1))
+    record {
+      few = omega (arith, n, sixteen_at_most c.args.number.now one.0 c.in-Some.ensures.0 one.1);
+      within = (omega (arith, n, r.0), omega (arith, n, r.1));
+    }
 
 pub returns-in-Some : goal.returns-in-Some
 returns-in-Some c = λ octets s.

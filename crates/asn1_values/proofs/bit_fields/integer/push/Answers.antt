@@ -4,7 +4,7 @@ use Rattle.asn1_bits.specs.Bits.{bits}
 use Rattle.asn1_bits.specs.DigitLaws.{length-bits}
 use Rattle.asn1_number.specs.LawsHold.{one_shortest_list}
 use Rattle.asn1_values.specs.Fields.{Integer}
-use Rattle.asn1_values.proofs.SpellingLemmas.{space_of, pushes, takes, integer_fits}
+use Rattle.asn1_values.proofs.SpellingLemmas.{space_of, octets_pushed}
 use Rattle.asn1_values.proofs.bit_fields.integer.push.Goals as goal
 
 pub push_shortest-requires : goal.push_shortest-requires
@@ -17,13 +17,10 @@ returns c =
     let n = c.args.number.now in
     let one = one_shortest_list n in
     let o = one.0 in
-    let pushed = c.push_shortest.ensures.pushed o one.1 in
     record {
-      lender = c.push_shortest.ensures.lender;
+      list = bits o;
+      spelled = (o, one.1, refl);
       pushed =
-          pushes (Integer n) (bits o) (8 * length o) c.args.appender.now c.push_shortest.new.appender (o, one.1, refl)
-          (length-bits o) pushed.written pushed.left;
-      counted =
-          takes (Integer n) (8 * length o) c.args.turns.now.count c.push_shortest.new.turns.count
-          (integer_fits n o one.1) pushed.at_least pushed.at_most;
+          octets_pushed o c.args.appender.now c.push_shortest.new.appender c.args.turns.now.count
+          c.push_shortest.new.turns.count (c.push_shortest.ensures o one.1);
     }

@@ -23,8 +23,8 @@ push_wide-requires-clause-room c =
     let one = one_shortest_list c.args.number.now in
     omega (arith, c.signed_len.ensures one.0 one.1, c.requires one.0 one.1)
 
-pub returns-in-Some-clause-pushed : goal.returns-in-Some-clause-pushed
-returns-in-Some-clause-pushed c = λ octets s.
+pub returns-in-Some : goal.returns-in-Some
+returns-in-Some c = λ octets s.
     let n = c.args.number.now in
     let few = sixteen_at_most n octets c.in-Some.ensures.0 s in
     let fit : SFits w128 n = subst (SFits w128) s.value (sixteen_fit octets s.octets s.some few) in
@@ -37,6 +37,7 @@ returns-in-Some-clause-pushed c = λ octets s.
     ∙ lowest_octets n octets s.octets s.value s.some few) in
     let len = c.signed_len.ensures octets s in
     record {
+      lender = c.push_wide.ensures.lender;
       written = written;
       left = rw len at c.push_wide.ensures.room;
       at_least = rw len at c.push_wide.ensures.at_least;

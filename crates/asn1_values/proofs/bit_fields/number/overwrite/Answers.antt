@@ -5,10 +5,14 @@ use Rattle.asn1_values.specs.Fields.{Number}
 use Rattle.asn1_values.proofs.OverLemmas.{reached}
 use Rattle.asn1_values.proofs.bit_fields.number.overwrite.Goals as goal
 
-pub overwrite_digits-requires-clause-within : goal.overwrite_digits-requires-clause-within
-overwrite_digits-requires-clause-within c =
+pub overwrite_digits-requires : goal.overwrite_digits-requires
+overwrite_digits-requires c =
     let n = c.args.value in
     let w = c.args.width in
     let fits = c.requires.fits in
-    reached (Number n w) (digits n w) w (8 * length c.args.target.now) c.args.position (fits.1.0, fits.1.1, refl)
-    (length-digits n w) c.requires.within
+    record {
+      few = fits.1.0;
+      within =
+          reached (Number n w) (digits n w) w (8 * length c.args.target.now) c.args.position
+          (fits.1.0, fits.1.1, refl) (length-digits n w) c.requires.within;
+    }

@@ -3,7 +3,7 @@ use Rattle.asn1_bits.specs.BitAppender.{room}
 use Rattle.asn1_bits.specs.Bits.{digits}
 use Rattle.asn1_bits.specs.DigitLaws.{length-digits}
 use Rattle.asn1_values.specs.Fields.{Number}
-use Rattle.asn1_values.proofs.SpellingLemmas.{space_of, pushes, takes, number_fits}
+use Rattle.asn1_values.proofs.SpellingLemmas.{space_of, list_pushed}
 use Rattle.asn1_values.proofs.GatherLemmas.{space_behind, width_behind, room_behind, field_behind}
 use Rattle.asn1_values.proofs.bit_fields.number.push.Goals as goal
 
@@ -27,8 +27,8 @@ push_number-requires-clause-room c =
     let before = c.args.gathered.now in
     let after = c.push.new.self in
     space_of (Number n w) (digits n w) w (room c.push.new.appender) (fits.1.0, fits.1.1, refl) (length-digits n w)
-    (room_behind (Number n w) c.args.appender.now c.push.new.appender before.word before.width after.word after.width
-    c.args.turns.now.count c.push.new.turns.count c.push.ensures.pushed c.push.ensures.none c.requires)
+    (room_behind (Number n w) c.args.appender.now c.push.new.appender before.word before.width after.width
+    c.args.turns.now.count c.push.new.turns.count c.push.ensures c.requires)
 
 pub returns-else-width-le21 : goal.returns-else-width-le21
 returns-else-width-le21 c =
@@ -40,13 +40,12 @@ returns-else-width-le21 c =
     let after = c.push.new.self in
     field_behind (Number n w) c.args.appender.now c.push.new.appender c.push_number.new.self before.word before.width
     after.word after.width c.args.turns.now.count c.push.new.turns.count c.push_number.new.turns.count
-    c.push.ensures.pushed c.push.ensures.none
+    c.push.ensures
     (record {
-      lender = pushed.lender;
+      list = digits n w;
+      spelled = (fits.1.0, fits.1.1, refl);
       pushed =
-          pushes (Number n w) (digits n w) w c.push.new.appender c.push_number.new.self (fits.1.0, fits.1.1, refl)
-          (length-digits n w) pushed.written pushed.room;
-      counted =
-          takes (Number n w) w c.push.new.turns.count c.push_number.new.turns.count
-          (number_fits n w fits.1.0 fits.1.1) pushed.at_least pushed.at_most;
+          list_pushed (digits n w) w c.push.new.appender c.push_number.new.self c.push.new.turns.count
+          c.push_number.new.turns.count (length-digits n w) pushed.lender pushed.written pushed.room pushed.at_least
+          pushed.at_most;
     })

@@ -9,8 +9,8 @@ loop-field-init c = ends_none TakesBits c.args.len c.ranges.len.fits
 
 -- ---- too many bits
 
-pub returns-in_err-len_of-clause-none : goal.returns-in_err-len_of-clause-none
-returns-in_err-len_of-clause-none c =
+pub returns-in_err-len_of : goal.returns-in_err-len_of
+returns-in_err-len_of c =
     let fs = c.args.fields.now in
     let i = c.loop-field.field-index in
     let x = c.field-item.result in
@@ -18,10 +18,10 @@ returns-in_err-len_of-clause-none c =
     let p =
     parts_of (plain_fields fs) (plain_fields (take i fs)) (plain_fields (drop (i + 1) fs)) (plain_field x)
     (cut_of fs i x c.loop-field-test.true c.field-item.is) list s in
-    absurd (c.in_err-len_of.ensures.none (p.1, p.3)))
+    absurd (c.in_err-len_of.ensures (p.1, p.3)))
 
-pub returns-in_err-end-clause-none : goal.returns-in_err-end-clause-none
-returns-in_err-end-clause-none c =
+pub returns-in_err-end : goal.returns-in_err-end
+returns-in_err-end c =
     let fs = c.args.fields.now in
     let i = c.loop-field.field-index in
     let x = c.field-item.result in
@@ -31,7 +31,7 @@ returns-in_err-end-clause-none c =
     parts_of (plain_fields fs) (plain_fields (take i fs)) (plain_fields (drop (i + 1) fs)) (plain_field x)
     (cut_of fs i x c.loop-field-test.true c.field-item.is) list s in
     let front = ends.each p.0 (all_taken (plain_fields (take i fs)) p.0 p.2) in
-    let one = c.in_ok-len_of.ensures.some.len p.1 (spelled_taken (plain_field x) p.1 p.3) in
+    let one = c.in_ok-len_of.ensures.len p.1 (spelled_taken (plain_field x) p.1 p.3) in
     omega (arith, c.in_err-end.ensures, ends.capped, p.4))
 
 -- ---- one field more
@@ -43,5 +43,5 @@ loop-field-preserved c =
     let x = c.field-item.result in
     rw (more_of fs i x c.loop-field-test.true c.field-item.is)
     (ends_more TakesBits c.args.len c.loop-field.end c.in_ok-len_of.field-0 c.in_ok-end.end
-    (plain_fields (take i fs)) (plain_field x) c.loop-field.invariant c.in_ok-len_of.ensures.some
+    (plain_fields (take i fs)) (plain_field x) c.loop-field.invariant c.in_ok-len_of.ensures
     (omega (arith, c.in_ok-end.ensures)))

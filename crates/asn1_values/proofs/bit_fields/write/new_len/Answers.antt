@@ -9,16 +9,20 @@ use Rattle.asn1_values.proofs.bit_fields.write.new_len.Goals as goal
 pub loop-i-init : goal.loop-i-init
 loop-i-init c = ends_none IsSpelledBy c.args.len c.ranges.len.fits
 
-pub returns-in_err-fitting_len-clause-err : goal.returns-in_err-fitting_len-clause-err
-returns-in_err-fitting_len-clause-err c =
+pub returns-in_err-fitting_len : goal.returns-in_err-fitting_len
+returns-in_err-fitting_len c =
     let p = err_from_is_err_and c.from_residual.result c.from_residual.ensures.1 in
     let inv = c.loop-i.invariant in
     let before : AreSpelledBy (take c.loop-i.i (plain_fields c.args.fields.now)) inv.list = rw take_of inv.joined in
-    rw (p.1, p.2) (names_first (plain_fields c.args.fields.now) inv.list c.loop-i.i
-    (plain_field c.index-fields-i.result) c.in_err-fitting_len.field-0.0 before
-    (omega (arith, length-map c.args.fields.now plain_field, c.loop-i-test.true))
-    (here_of c.args.fields.now c.loop-i.i c.index-fields-i.result c.loop-i-test.true c.index-fields-i.is)
-    c.in_err-fitting_len.ensures.err)
+    rw (p.1, p.2) (record {
+      ok = tt;
+      err =
+          names_first (plain_fields c.args.fields.now) inv.list c.loop-i.i (plain_field c.index-fields-i.result)
+          c.in_err-fitting_len.field-0.0 before
+          (omega (arith, length-map c.args.fields.now plain_field, c.loop-i-test.true))
+          (here_of c.args.fields.now c.loop-i.i c.index-fields-i.result c.loop-i-test.true c.index-fields-i.is)
+          c.in_err-fitting_len.ensures.err;
+    })
 
 pub loop-i-preserved : goal.loop-i-preserved
 loop-i-preserved c =

@@ -1,6 +1,7 @@
 use Rattle.std.proofs.Common.{◌+◌, ◌++◌, ◌∙◌, Bool, List, take, drop, ap, append_assoc, arith}
 use Rattle.std.proofs.lemmas.List.{take_all}
 use Rattle.asn1_bits.specs.BitAppender.{bits_written}
+use Rattle.asn1_bits.specs.Bits.{digits}
 use Rattle.asn1_values.specs.Plain.{plain_fields, plain_field}
 use Rattle.asn1_values.proofs.SpellingLemmas.{cut_of, more_of, field_fits}
 use Rattle.asn1_values.proofs.GatherLemmas.{gathering_none, gathering_more, gathering_room, gathering_fits, gathered_all, gathered_turns}
@@ -34,20 +35,23 @@ loop-field-preserved c =
 
 -- ---- a character that its alphabet lacks
 
-pub returns-in_err-push-clause-lacking : goal.returns-in_err-push-clause-lacking
-returns-in_err-push-clause-lacking c =
+pub returns-in_err-push : goal.returns-in_err-push
+returns-in_err-push c =
     let fs = c.args.fields.now in
     let i = c.loop-field.field-index in
     let x = c.field-item.result in
-    rw c.from_residual.ensures (λ list s.
-    c.in_err-push.ensures.refused.lacking
-    (field_fits (plain_fields fs) (plain_fields (take i fs)) (plain_fields (drop (i + 1) fs)) (plain_field x)
-    (cut_of fs i x c.loop-field-test.true c.field-item.is) list s))
-
-pub returns-in_err-push-clause-kept : goal.returns-in_err-push-clause-kept
-returns-in_err-push-clause-kept c =
     let w = c.loop-field.invariant in
-    (w.front, c.in_err-push.ensures.refused.kept ∙ w.written)
+    let none = c.in_err-push.ensures.refused in
+    rw c.from_residual.ensures (record {
+      lender = none.lender ∙ w.lender;
+      kept = (w.front, none.kept ∙ w.written);
+      pushed = tt;
+      counted = tt;
+      lacking = λ list s.
+          none.lacking
+          (field_fits (plain_fields fs) (plain_fields (take i fs)) (plain_fields (drop (i + 1) fs)) (plain_field x)
+          (cut_of fs i x c.loop-field-test.true c.field-item.is) list s);
+    })
 
 -- ---- all of them
 
@@ -58,29 +62,31 @@ push-requires-2 c =
     (rw (take_all c.loop-field.field-index c.args.fields.now (omega (arith, c.loop-field-test.false)))
     at c.loop-field.invariant)
 
-pub returns-clause-pushed : goal.returns-clause-pushed
-returns-clause-pushed c =
-    gathered_all (plain_fields c.args.fields.now) c.args.appender.now c.loop-field.appender c.push-2.new.appender
-    c.loop-field.gathered.word c.loop-field.gathered.width c.push-2.new.self.word c.push-2.new.self.width
-    c.args.turns.now.count c.loop-field.turns.count c.push-2.new.turns.count
-    (rw (take_all c.loop-field.field-index c.args.fields.now (omega (arith, c.loop-field-test.false)))
-    at c.loop-field.invariant)
-    c.push-2.ensures.pushed c.push-2.ensures.none
-
-pub returns-clause-counted : goal.returns-clause-counted
-returns-clause-counted c =
-    gathered_turns (plain_fields c.args.fields.now) c.args.appender.now c.loop-field.appender c.push-2.new.appender
-    c.loop-field.gathered.word c.loop-field.gathered.width c.push-2.new.self.word c.push-2.new.self.width
-    c.args.turns.now.count c.loop-field.turns.count c.push-2.new.turns.count
-    (rw (take_all c.loop-field.field-index c.args.fields.now (omega (arith, c.loop-field-test.false)))
-    at c.loop-field.invariant)
-    c.push-2.ensures.pushed c.push-2.ensures.none
-
-pub returns-clause-kept : goal.returns-clause-kept
-returns-clause-kept c =
-    let w = c.loop-field.invariant in
-    let p = c.push-2.ensures.pushed in (
-      w.front ++ p.front,
-      p.written ∙ ap (λ (l : List Bool). l ++ p.front) w.written
-          ∙ append_assoc (bits_written c.args.appender.now) w.front p.front,
-    )
+pub returns : goal.returns
+returns c =
+    let fs = plain_fields c.args.fields.now in
+    let old = c.args.appender.now in
+    let now = c.loop-field in
+    let new = c.push-2.new in
+    let word = now.gathered.word in
+    let width = now.gathered.width in
+    let last = c.push-2.ensures in
+    let digits_left = digits word width in
+    let count = c.args.turns.now.count in
+    let all =
+    rw (take_all now.field-index c.args.fields.now (omega (arith, c.loop-field-test.false))) at now.invariant in
+    record {
+      lender = last.pushed.lender ∙ all.lender;
+      kept = (
+        all.front ++ digits_left,
+        last.pushed.written ∙ ap (λ (l : List Bool). l ++ digits_left) all.written
+            ∙ append_assoc (bits_written old) all.front digits_left,
+      );
+      pushed =
+          gathered_all fs old now.appender new.appender word width new.self.width count now.turns.count new.turns.count
+          all last;
+      counted =
+          gathered_turns fs old now.appender new.appender word width new.self.width count now.turns.count new.turns.count
+          all last;
+      lacking = tt;
+    }
