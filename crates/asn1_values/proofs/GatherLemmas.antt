@@ -100,10 +100,10 @@ front_all old new word width none zero_width turns_old turns_new p =
       lender = d.lender;
       front = digits word width;
       written = d.written;
-      left = let a = d.left in omega arith;
+      left = d.left;
       parts = subst (λ (k : ℕ). digits word width ++ digits none k ≡ digits word width) (sym z)
           (append-nil (digits word width));
-      at_least = rw n d.at_least;
+      at_least = d.at_least;
       at_most = let a = d.at_most in omega arith;
     }
 
@@ -132,7 +132,7 @@ no_digits old word width zero_width turns w z = record {
     lender = refl;
     written = sym (append-nil (bits_written old))
         ∙ ap (λ (k : ℕ). bits_written old ++ digits word k) (sym w);
-    left = omega (arith, w);
+    left = rw w (omega arith);
     at_least = rw w (omega arith);
     at_most = rw w (omega arith);
   };
@@ -147,24 +147,23 @@ pub field_behind : (field : Field) (old now new : BitAppender) (word width none 
 unfolding digits
 field_behind field old now new word width none zero_width turns_old turns_now turns_new p one =
     let d = p.pushed in
-    let l = one.pushed in
     let n = length-append (digits word width) one.list in
     let m = length-digits word width in
     record {
       list = one.list;
       spelled = one.spelled;
       taken = record {
-        lender = l.lender ∙ d.lender;
+        lender = one.lender ∙ d.lender;
         front = digits word width ++ one.list;
-        written = l.written ∙ ap (λ (l : List Bool). l ++ one.list) d.written
+        written = one.written ∙ ap (λ (l : List Bool). l ++ one.list) d.written
             ∙ append_assoc (bits_written old) (digits word width) one.list;
-        left = let a = d.left in let b = l.left in omega arith;
+        left = let a = d.left in let b = one.left in omega arith;
         parts = subst
             (λ (k : ℕ). (digits word width ++ one.list) ++ digits none k ≡ digits word width ++ one.list)
             (sym p.none)
             (append-nil (digits word width ++ one.list));
-        at_least = let a = d.at_least in let b = l.counted.at_least in omega arith;
-        at_most = let a = d.at_most in let b = l.counted.at_most in let z = p.none in omega arith;
+        at_least = let a = d.at_least in let b = one.at_least in omega arith;
+        at_most = let a = d.at_most in let b = one.at_most in let z = p.none in omega arith;
       };
     }
 
@@ -174,7 +173,7 @@ pub room_behind : (field : Field) (old now : BitAppender) (word width zero_width
     → HasRoomBehind field width (room old) → HasRoomFor field (room now)
 room_behind field old now word width zero_width turns_old turns_now p r = record {
   some = r.some;
-  each = λ list s. let a = r.each list s in let b = p.pushed.left in omega arith;
+  each = λ list s. let a = r.each list s in let b = p.pushed.left in let n = length-digits word width in omega arith;
 }
 
 -- ---- fields one after another

@@ -138,5 +138,6 @@ module _ (old now new : BitAppender) (all rest : List ℕ) (word width count_old
         lender = lender ∙ p.lender;
         written = written ∙ p.written ∙ ap (λ (l : List ℕ). bits_written old ++ bits l) (sym whole_front);
         left = omega arith;
-        counted = record { at_least = omega arith; at_most = omega arith };
+        at_least = omega arith;
+        at_most = omega arith;
       }

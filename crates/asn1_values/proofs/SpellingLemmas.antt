@@ -24,7 +24,7 @@ use Rattle.asn1_values.specs.declared.bit_fields.field.Field.{Field as Program}
 use Rattle.asn1_values.specs.Plain.{plain_field, plain_fields}
 use Rattle.asn1_values.specs.Fields.{Field, IsSpelledBy, AreSpelledBy, Number, Octets, Bits, Integer, Character, CountedInteger, Identifier}
 use Rattle.asn1_values.specs.Wrong.{Misfit, WidthOver, PastWidth, NotInAlphabet, PastLength, TooFewArcs, Fits, IsMisfit, IsFirstMisfit}
-use Rattle.asn1_values.specs.Steps.{NamesMisfit, NamesFirstMisfit, Spelling, TakesBits, HasLength, FitsIn, EndsAt, HasRoomFor, PushesList, PushesDigits, PushesOctets}
+use Rattle.asn1_values.specs.Steps.{NamesMisfit, NamesFirstMisfit, Spelling, TakesBits, HasLength, FitsIn, EndsAt, HasRoomFor, PushesList, PushesOne}
 use Rattle.asn1_bits.specs.Joined.{AreJoined}
 use Rattle.asn1_values.proofs.JoinedLemmas.{joins_push, joins_split, one_joined, each_joined, slice_get_take, some_at, Split}
 
@@ -211,15 +211,24 @@ pub list_pushed : (list : List Bool) (n : ℕ) (old new : BitAppender) (turns_ol
 list_pushed list n old new turns_old turns_new len lender written left low high = record {
   lender = lender;
   written = written;
-  left = omega arith;
-  counted = rw len (record { at_least = low; at_most = omega arith });
+  left = rw len left;
+  at_least = rw len low;
+  at_most = rw len high;
 }
 
-pub octets_pushed : (octets : List ℕ) (old new : BitAppender) (turns_old turns_new : ℕ)
-    → PushesOctets octets old new turns_old turns_new → PushesList (bits octets) old new turns_old turns_new
-octets_pushed octets old new turns_old turns_new p =
-    list_pushed (bits octets) (8 * length octets) old new turns_old turns_new (length-bits octets) p.lender p.written
-    p.left p.at_least p.at_most
+-- and it spells a field
+pub one_pushed : (field : Field) (list : List Bool) (old new : BitAppender) (turns_old turns_new : ℕ)
+    → IsSpelledBy field list → PushesList list old new turns_old turns_new
+    → PushesOne field old new turns_old turns_new
+one_pushed field list old new turns_old turns_new spelled p = record {
+  list = list;
+  spelled = spelled;
+  lender = p.lender;
+  written = p.written;
+  left = p.left;
+  at_least = p.at_least;
+  at_most = let a = p.at_most in omega arith;
+}
 
 -- ---- a counted integer: an octet, and octets behind it
 
@@ -236,24 +245,24 @@ counted_space n octets space shortest enough =
     (le, omega arith)
 
 -- the octet was pushed, and then the others
-pub counted_pushed : (octets : List ℕ) (old now new : BitAppender) (turns_old turns_now turns_new : ℕ)
-    → PushesDigits old now (length octets) 8 turns_old turns_now → PushesOctets octets now new turns_now turns_new
-    → PushesList (bits (length octets ∷ octets)) old new turns_old turns_new
+pub counted_pushed : (n : ℤ) (octets : List ℕ) (old now new : BitAppender) (turns_old turns_now turns_new : ℕ)
+    → IsShortest n octets → length octets ≤ 127 → PushesList (digits (length octets) 8) old now turns_old turns_now
+    → PushesList (bits octets) now new turns_now turns_new
+    → PushesOne (CountedInteger n) old new turns_old turns_new
 unfolding bits
-counted_pushed octets old now new turns_old turns_now turns_new one two =
-    let list : List Bool = bits (length octets ∷ octets) in
-    let len : length list ≡ 8 + 8 * length octets = omega (arith, length-bits (length octets ∷ octets)) in
+counted_pushed n octets old now new turns_old turns_now turns_new shortest le one two =
+    let all = length-bits (length octets ∷ octets) in
+    let rest = length-bits octets in
+    let first = length-digits (length octets) 8 in
     record {
+      list = bits (length octets ∷ octets);
+      spelled = (octets, shortest, le, refl);
       lender = two.lender ∙ one.lender;
       written = two.written ∙ ap (λ (l : List Bool). l ++ bits octets) one.written
           ∙ append_assoc (bits_written old) (digits (length octets) 8) (bits octets);
       left = let a = one.left in let b = two.left in omega arith;
-      counted =
-          let low = one.at_least in
-          let high = one.at_most in
-          let low_2 = two.at_least in
-          let high_2 = two.at_most in
-          record { at_least = omega arith; at_most = omega arith };
+      at_least = let a = one.at_least in let b = two.at_least in omega arith;
+      at_most = let a = one.at_most in let b = two.at_most in omega arith;
     }
 
 -- bits that were pushed are cut off again

@@ -5,7 +5,7 @@ use Rattle.asn1_bits.specs.declared.bit_appender.BitAppender.{BitAppender}
 use Rattle.asn1_bits.specs.declared.bit_reader.BitReader.{BitReader}
 use Rattle.asn1_bits.specs.BitReader.{view_left, bits_left}
 use Rattle.asn1_bits.specs.View.{part}
-use Rattle.asn1_bits.specs.Bits.{overwritten, octets_for, number, bits, digits}
+use Rattle.asn1_bits.specs.Bits.{overwritten, octets_for, number, digits}
 use Rattle.asn1_bits.specs.Turns.{turns_for}
 use Rattle.asn1_bits.specs.BitAppender.{bits_written, room, lender_of}
 use Rattle.asn1_values.specs.declared.bit_fields.error.ReadError.{ReadError}
@@ -231,35 +231,27 @@ pub record PushesAll (fields : List Field) (old new : BitAppender) : Type 0 wher
   pub written : bits_written new ≡ bits_written old ++ list
   pub left : room new + length list ≡ room old
 
--- so many turns were taken for one field of n bits
-pub record TakesTurns (n old new : ℕ) : Type 0 where
-  pub at_least : old + div_ceil n 64 ≤ new
-  pub at_most : new ≤ old + n / 64 + 8
-
--- the list was pushed, in its turns, and the storage is the same
+-- the list was pushed, in turns for its bits, and the storage is the same
 pub record PushesList (list : List Bool) (old new : BitAppender) (turns_old turns_new : ℕ) : Type 0 where
   pub lender : lender_of new ≡ lender_of old
   pub written : bits_written new ≡ bits_written old ++ list
   pub left : room new + length list ≡ room old
-  pub counted : TakesTurns (length list) turns_old turns_new
+  pub at_least : turns_old + div_ceil (length list) 64 ≤ turns_new
+  pub at_most : turns_new ≤ turns_old + turns_for (length list)
 
--- the spelling of the field was pushed so
+-- the spelling of the field was pushed, in its turns, and the storage is the same
 pub record PushesOne (field : Field) (old new : BitAppender) (turns_old turns_new : ℕ) : Type 0 where
   pub list : List Bool
   pub spelled : IsSpelledBy field list
-  pub pushed : PushesList list old new turns_old turns_new
-
--- the digits of a word were pushed, in turns for so many
-pub record PushesDigits (old new : BitAppender) (word width turns_old turns_new : ℕ) : Type 0 where
   pub lender : lender_of new ≡ lender_of old
-  pub written : bits_written new ≡ bits_written old ++ digits word width
-  pub left : room new + width ≡ room old
-  pub at_least : turns_old + div_ceil width 64 ≤ turns_new
-  pub at_most : turns_new ≤ turns_old + turns_for width
+  pub written : bits_written new ≡ bits_written old ++ list
+  pub left : room new + length list ≡ room old
+  pub at_least : turns_old + div_ceil (length list) 64 ≤ turns_new
+  pub at_most : turns_new ≤ turns_old + length list / 64 + 8
 
 -- the digits of the old word were pushed so, and the new word has none
 pub record PushesGathered (old new : BitAppender) (word width width_new turns_old turns_new : ℕ) : Type 0 where
-  pub pushed : PushesDigits old new word width turns_old turns_new
+  pub pushed : PushesList (digits word width) old new turns_old turns_new
   pub none : width_new ≡ 0
 
 -- the list was taken behind the digits of a word: a front of both was pushed, in its turns, and the
@@ -292,14 +284,6 @@ pub record PushesIfFits (field : Field) (old new : BitAppender)
     (word width word_new width_new turns_old turns_new : ℕ) (result : Option Unit) : Type 0 where
   pub pushed : OnSome result (PushesBehind field old new word width word_new width_new turns_old turns_new)
   pub refused : IfNone result (PushesNone field old new)
-
--- the bits of the octets were pushed, in turns for so many, and the storage is the same
-pub record PushesOctets (octets : List ℕ) (old new : BitAppender) (turns_old turns_new : ℕ) : Type 0 where
-  pub lender : lender_of new ≡ lender_of old
-  pub written : bits_written new ≡ bits_written old ++ bits octets
-  pub left : room new + 8 * length octets ≡ room old
-  pub at_least : turns_old + div_ceil (8 * length octets) 64 ≤ turns_new
-  pub at_most : turns_new ≤ turns_old + turns_for (8 * length octets)
 
 -- so many turns were taken for the fields, whichever list spells them
 pub record TakeTurns (fields : List Field) (old new : ℕ) : Type 0 where

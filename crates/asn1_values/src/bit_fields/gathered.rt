@@ -3,7 +3,7 @@
 ghost use Rattle.std.specs.Prelude.{◌≡◌, ◌+◌, ◌^◌, ◌<◌, ◌≤◌};
 ghost use Rattle.asn1_bits.specs.BitAppender.{room};
 ghost use Rattle.asn1_bits.specs.Bits.{digits};
-ghost use Rattle.asn1_values.specs.Steps.{Gathers, PushesDigits, PushesGathered};
+ghost use Rattle.asn1_values.specs.Steps.{Gathers, PushesList, PushesGathered};
 
 use asn1_bits::{BitAppender, Turns};
 
@@ -67,10 +67,10 @@ impl Gathered {
 
 /// Pushes the digits. Not inlined, so that the loop over fields stays short.
 #[inline(never)]
-fn push_word(appender: &mut BitAppender<'_>, digits: Gathered, turns: &mut Turns)
-    requires { digits.width ≤ room appender.old }
-    ensures { PushesDigits appender.old appender.new digits.word digits.width turns.old.count
-        turns.new.count }
+fn push_word(appender: &mut BitAppender<'_>, gathered: Gathered, turns: &mut Turns)
+    requires { gathered.width ≤ room appender.old }
+    ensures { PushesList (digits gathered.word gathered.width) appender.old appender.new
+        turns.old.count turns.new.count }
 {
-    appender.push_number(u128::from(digits.word), digits.width, turns);
+    appender.push_number(u128::from(gathered.word), gathered.width, turns);
 }

@@ -6,7 +6,7 @@ ghost use Rattle.asn1_bits.specs.BitReader.{bits_left};
 ghost use Rattle.asn1_bits.specs.Bits.{bits, number};
 ghost use Rattle.asn1_number.specs.Octets.{IsShortest};
 ghost use Rattle.asn1_values.specs.Fields as plain;
-ghost use Rattle.asn1_values.specs.Steps.{FitsIn, HasRoomFor, PushesOctets, PushesOne, IsReached, FitsWithin, WritesOver, Overwrites, Takes, ExaminesBits, AppendsNext};
+ghost use Rattle.asn1_values.specs.Steps.{FitsIn, HasRoomFor, PushesOne, IsReached, FitsWithin, WritesOver, Overwrites, Takes, ExaminesBits, AppendsNext, PushesList};
 ghost use Rattle.asn1_values.specs.Walk.{field_at, integer_at};
 
 use super::error::ReadError;
@@ -42,7 +42,8 @@ pub(super) fn push_shortest(appender: &mut BitAppender<'_>, number: &Integer, tu
     requires { (octets : List ℕ) → IsShortest number.now octets → 8 * length octets
         ≤ room appender.old }
     ensures { (octets : List ℕ) → IsShortest number.now octets
-        → PushesOctets octets appender.old appender.new turns.old.count turns.new.count }
+        → PushesList (bits octets) appender.old appender.new turns.old.count
+        turns.new.count }
 {
     match number.to_i128() {
         Some(value) => {
@@ -59,7 +60,8 @@ fn push_long(appender: &mut BitAppender<'_>, number: &Integer, turns: &mut Turns
     requires { (octets : List ℕ) → IsShortest number.now octets → 8 * length octets
         ≤ room appender.old }
     ensures { (octets : List ℕ) → IsShortest number.now octets
-        → PushesOctets octets appender.old appender.new turns.old.count turns.new.count }
+        → PushesList (bits octets) appender.old appender.new turns.old.count
+        turns.new.count }
 {
     appender.push_octets(number.signed_octets().as_ref(), turns);
 }

@@ -100,8 +100,8 @@ fn append_all(buffer: &mut BitBuffer, fields: &[Field<'_, '_>], turns: &mut Turn
     push_or_back(buffer, end - len, fields, turns)
 }
 
-/// Appends the fields' bits, which lead to length `end`. `None` if a character is not in its
-/// alphabet, or memory fails; then nothing has changed.
+/// Appends the fields' bits, `additional` in number. `None` if a character is not in its alphabet,
+/// or memory fails; then nothing has changed.
 #[inline(always)]
 fn push_or_back(
     buffer: &mut BitBuffer,

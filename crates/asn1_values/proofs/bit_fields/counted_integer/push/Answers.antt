@@ -1,8 +1,9 @@
-use Rattle.std.proofs.Common.{length, ◌∷◌, refl, arith}
+use Rattle.std.proofs.Common.{length, arith}
 use Rattle.asn1_bits.specs.BitAppender.{room}
-use Rattle.asn1_bits.specs.Bits.{bits}
+use Rattle.asn1_bits.specs.Bits.{digits}
+use Rattle.asn1_bits.specs.DigitLaws.{length-digits}
 use Rattle.asn1_number.specs.LawsHold.{one_shortest_list}
-use Rattle.asn1_values.proofs.SpellingLemmas.{counted_space, counted_pushed}
+use Rattle.asn1_values.proofs.SpellingLemmas.{counted_space, counted_pushed, list_pushed}
 use Rattle.asn1_values.proofs.bit_fields.counted_integer.push.Goals as goal
 
 pub push_wide-requires-clause-room : goal.push_wide-requires-clause-room
@@ -23,18 +24,9 @@ returns c =
     let p = counted_space n one.0 (room c.args.appender.now) one.1 c.requires in
     let first = c.push_wide.ensures in
     let len = c.signed_len.ensures one.0 one.1 in
-    record {
-      list = bits (length one.0 ∷ one.0);
-      spelled = (one.0, one.1, p.0, refl);
-      pushed =
-          counted_pushed one.0 c.args.appender.now c.push_wide.new.self c.push_shortest.new.appender
-          c.args.turns.now.count c.push_wide.new.turns.count c.push_shortest.new.turns.count
-          (record {
-            lender = first.lender;
-            written = rw len at first.written;
-            left = first.room;
-            at_least = first.at_least;
-            at_most = first.at_most;
-          })
-          (c.push_shortest.ensures one.0 one.1);
-    }
+    counted_pushed n one.0 c.args.appender.now c.push_wide.new.self c.push_shortest.new.appender c.args.turns.now.count
+    c.push_wide.new.turns.count c.push_shortest.new.turns.count one.1 p.0
+    (list_pushed (digits (length one.0) 8) 8 c.args.appender.now c.push_wide.new.self c.args.turns.now.count
+    c.push_wide.new.turns.count (length-digits (length one.0) 8) first.lender (rw len at first.written) first.room
+    first.at_least first.at_most)
+    (c.push_shortest.ensures one.0 one.1)

@@ -3,7 +3,7 @@ use Rattle.asn1_bits.specs.Bits.{bits}
 use Rattle.asn1_bits.specs.BitAppender.{room}
 use Rattle.asn1_bits.specs.DigitLaws.{length-bits}
 use Rattle.asn1_values.specs.Fields.{Identifier}
-use Rattle.asn1_values.proofs.SpellingLemmas.{space_of}
+use Rattle.asn1_values.proofs.SpellingLemmas.{space_of, one_pushed}
 use Rattle.asn1_values.proofs.bit_fields.identifier.push.Goals as goal
 
 pub push_each-requires : goal.push_each-requires
@@ -21,4 +21,5 @@ returns c =
     let o = c.in-Some.octets in
     let fits = c.requires.some in
     let contents = rw c.as_oid.ensures at c.in-Some.ensures in
-    record { list = bits o; spelled = (o, contents, fits.1.2, refl); pushed = c.push_each.ensures }
+    one_pushed (Identifier arcs) (bits o) c.args.appender.now c.push_each.new.appender c.args.turns.now.count
+    c.push_each.new.turns.count (o, contents, fits.1.2, refl) c.push_each.ensures

@@ -4,7 +4,7 @@ use Rattle.asn1_bits.specs.Bits.{bits}
 use Rattle.asn1_bits.specs.DigitLaws.{length-bits}
 use Rattle.asn1_number.specs.LawsHold.{one_shortest_list}
 use Rattle.asn1_values.specs.Fields.{Integer}
-use Rattle.asn1_values.proofs.SpellingLemmas.{space_of, octets_pushed}
+use Rattle.asn1_values.proofs.SpellingLemmas.{space_of, one_pushed}
 use Rattle.asn1_values.proofs.bit_fields.integer.push.Goals as goal
 
 pub push_shortest-requires : goal.push_shortest-requires
@@ -17,10 +17,5 @@ returns c =
     let n = c.args.number.now in
     let one = one_shortest_list n in
     let o = one.0 in
-    record {
-      list = bits o;
-      spelled = (o, one.1, refl);
-      pushed =
-          octets_pushed o c.args.appender.now c.push_shortest.new.appender c.args.turns.now.count
-          c.push_shortest.new.turns.count (c.push_shortest.ensures o one.1);
-    }
+    one_pushed (Integer n) (bits o) c.args.appender.now c.push_shortest.new.appender c.args.turns.now.count
+    c.push_shortest.new.turns.count (o, one.1, refl) (c.push_shortest.ensures o one.1)

@@ -1,11 +1,13 @@
-use Rattle.std.proofs.Common.{ℕ, ℤ, Bool, List, ◌*◌, ◌++◌, ap, subst, ◌∙◌, arith, to_z-of_z}
+use Rattle.std.proofs.Common.{ℕ, ℤ, Bool, List, ◌*◌, ◌++◌, length, ap, subst, ◌∙◌, arith, to_z-of_z}
 use Rattle.std.specs.Int.{w128}
 use mir.Val.{SFits, of_z, to_z}
-use Rattle.asn1_bits.specs.Bits.{digits}
+use Rattle.asn1_bits.specs.Bits.{bits, digits}
 use Rattle.asn1_bits.specs.BitAppender.{bits_written}
+use Rattle.asn1_bits.specs.DigitLaws.{length-bits}
 use Rattle.asn1_number.specs.LawsHold.{one_shortest_list}
 use Rattle.asn1_number.specs.WidthLaws.{sixteen_fit}
 use Rattle.asn1_integer.specs.WordLaws.{sixteen_at_most, lowest_octets}
+use Rattle.asn1_values.proofs.SpellingLemmas.{list_pushed}
 use Rattle.asn1_values.proofs.bit_fields.integer.push_shortest.Goals as goal
 
 pub overflow_mul-signed_len : goal.overflow_mul-signed_len
@@ -36,10 +38,7 @@ returns-in-Some c = λ octets s.
     ∙ ap (λ (k : ℕ). digits (of_z w128 n) (8 * k)) (c.signed_len.ensures octets s)
     ∙ lowest_octets n octets s.octets s.value s.some few) in
     let len = c.signed_len.ensures octets s in
-    record {
-      lender = c.push_wide.ensures.lender;
-      written = written;
-      left = rw len at c.push_wide.ensures.room;
-      at_least = rw len at c.push_wide.ensures.at_least;
-      at_most = rw len at c.push_wide.ensures.at_most;
-    }
+    let p = c.push_wide.ensures in
+    list_pushed (bits octets) (8 * length octets) c.args.appender.now c.push_wide.new.self c.args.turns.now.count
+    c.push_wide.new.turns.count (length-bits octets) p.lender written (rw len at p.room) (rw len at p.at_least)
+    (rw len at p.at_most)

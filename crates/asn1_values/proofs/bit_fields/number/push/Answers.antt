@@ -3,7 +3,7 @@ use Rattle.asn1_bits.specs.BitAppender.{room}
 use Rattle.asn1_bits.specs.Bits.{digits}
 use Rattle.asn1_bits.specs.DigitLaws.{length-digits}
 use Rattle.asn1_values.specs.Fields.{Number}
-use Rattle.asn1_values.proofs.SpellingLemmas.{space_of, list_pushed}
+use Rattle.asn1_values.proofs.SpellingLemmas.{space_of, list_pushed, one_pushed}
 use Rattle.asn1_values.proofs.GatherLemmas.{space_behind, width_behind, room_behind, field_behind}
 use Rattle.asn1_values.proofs.bit_fields.number.push.Goals as goal
 
@@ -41,11 +41,8 @@ returns-else-width-le21 c =
     field_behind (Number n w) c.args.appender.now c.push.new.appender c.push_number.new.self before.word before.width
     after.word after.width c.args.turns.now.count c.push.new.turns.count c.push_number.new.turns.count
     c.push.ensures
-    (record {
-      list = digits n w;
-      spelled = (fits.1.0, fits.1.1, refl);
-      pushed =
-          list_pushed (digits n w) w c.push.new.appender c.push_number.new.self c.push.new.turns.count
-          c.push_number.new.turns.count (length-digits n w) pushed.lender pushed.written pushed.room pushed.at_least
-          pushed.at_most;
-    })
+    (one_pushed (Number n w) (digits n w) c.push.new.appender c.push_number.new.self c.push.new.turns.count
+    c.push_number.new.turns.count (fits.1.0, fits.1.1, refl)
+    (list_pushed (digits n w) w c.push.new.appender c.push_number.new.self c.push.new.turns.count
+    c.push_number.new.turns.count (length-digits n w) pushed.lender pushed.written pushed.room pushed.at_least
+    pushed.at_most))
