@@ -110,7 +110,6 @@ impl<'s> CharacterAlphabet<'s> {
     }
 
     /// How many bits each character takes, at most 32.
-    #[inline]
     pub fn width(&self) -> usize
         ensures value { result ≡ (alphabet_of self.now).width }
         ensures bound { result ≤ 32 }
@@ -179,7 +178,6 @@ impl<'s> CharacterAlphabet<'s> {
     }
 
     /// The permitted set, where it is kept.
-    #[inline]
     fn permitted(&self) -> Option<&'s [u32]>
         ensures { result ≡ some_if self.now.kept self.now.set }
     {

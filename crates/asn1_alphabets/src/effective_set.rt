@@ -26,7 +26,6 @@ impl<'s> EffectiveSet<'s> {
     ghost use Rattle.asn1_alphabets.specs.EffectiveSets.{name_of, permitted_of, characters_of};
 
     /// The effective set of a string with a permitted set.
-    #[inline]
     pub(crate) fn of(name: CharacterSetName, set: &'s [u32], aligned: bool) -> EffectiveSet<'s>
         requires { length set.now ≤ 2 ^ 32 }
         ensures name { name_of result ≡ name }
@@ -42,7 +41,6 @@ impl<'s> EffectiveSet<'s> {
     }
 
     /// The string whose alphabet it is.
-    #[inline]
     pub(crate) fn name(self) -> CharacterSetName
         ensures { result ≡ name_of self.entry }
     {
@@ -52,7 +50,6 @@ impl<'s> EffectiveSet<'s> {
     }
 
     /// The number of its characters.
-    #[inline]
     pub(crate) fn count(self) -> u64
         ensures { result ≡ length (characters_of self.entry) }
     {
@@ -63,7 +60,6 @@ impl<'s> EffectiveSet<'s> {
     }
 
     /// Its largest character. `run` tells whether it is known to leave no gap.
-    #[inline]
     pub(crate) fn largest(self, run: bool) -> u32
         requires { run ≡ true → IsRun (characters_of self) }
         ensures { result ≡ largest (characters_of self.entry) }
@@ -76,7 +72,6 @@ impl<'s> EffectiveSet<'s> {
     }
 
     /// Whether it is a permitted set that is ascending.
-    #[inline]
     pub(crate) fn is_ascending(self, run: bool) -> bool
         requires { run ≡ true → IsRun (characters_of self) }
         ensures ascends { result ≡ true → IsNonDecreasing (characters_of self.entry) }
@@ -90,7 +85,6 @@ impl<'s> EffectiveSet<'s> {
     }
 
     /// Its words, where its characters are below 256. A permitted set without a gap needs none.
-    #[inline]
     pub(crate) fn words(self, run: bool, most: u32) -> Option<CharacterWords>
         requires { most ≡ largest (characters_of self) }
         ensures worded { ForSome result (HasWords (characters_of self.entry)) }
@@ -109,7 +103,6 @@ impl<'s> EffectiveSet<'s> {
     }
 
     /// How it lies in memory.
-    #[inline]
     pub(crate) fn listing(self) -> Listing<'s>
         ensures kept { some_if result.kept result.set ≡ permitted_of self.entry }
         ensures listing { result.run ≡ true → result.set.now ≡ characters_of self.entry }
@@ -149,7 +142,6 @@ pub(crate) struct Listing<'s> {
 }
 
 /// Whether there are words, and the words, or those of no character.
-#[inline]
 pub(crate) fn parts_of_words(words: Option<CharacterWords>) -> (bool, CharacterWords)
     ensures { some_if result.0 result.1 ≡ words }
 {

@@ -16,7 +16,6 @@ pub(crate) fn largest_of(set: &[u32]) -> u32
 }
 
 /// The largest character of a list without a gap: its last.
-#[inline]
 pub(crate) fn largest_of_run(set: &[u32]) -> u32
     requires { IsRun set.now }
     ensures { result ≡ largest set.now }

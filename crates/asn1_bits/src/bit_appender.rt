@@ -54,7 +54,6 @@ impl<'a> BitAppender<'a> {
     ghost use Rattle.asn1_bits.specs.BitAppender.{bits_written, room, lender_of, EndsInZeros};
 
     /// The number of bits that may still be pushed.
-    #[inline]
     pub fn room(&self) -> usize
         ensures { result ≡ room self.now }
     {
@@ -63,7 +62,6 @@ impl<'a> BitAppender<'a> {
 
     /// Pushes the lowest `width` binary digits of `value`, most significant first. `width` is at
     /// most 32 and at most the room.
-    #[inline]
     pub fn push(&mut self, value: u32, width: usize)
         requires width { width ≤ 32 }
         requires room { width ≤ room self.old }

@@ -58,7 +58,6 @@ impl BitBuffer {
     }
 
     /// The number of bits.
-    #[inline]
     pub fn len(&self) -> usize
         ensures { result ≡ length self.now }
     {

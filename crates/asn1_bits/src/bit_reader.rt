@@ -44,7 +44,6 @@ impl<'a> BitReader<'a> {
     }
 
     /// The number of bits that are left.
-    #[inline]
     pub fn len(&self) -> usize
         ensures len { result ≡ (view_left self.now).len }
         ensures list { result ≡ length (bits_left self.now) }

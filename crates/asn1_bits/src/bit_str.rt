@@ -59,7 +59,6 @@ impl<'a> BitStr<'a> {
     }
 
     /// The number of bits.
-    #[inline]
     pub fn len(&self) -> usize
         ensures len { result ≡ (view_of self.now).len }
         ensures list { result ≡ length (bits_of self.now) }
@@ -148,7 +147,6 @@ impl<'a> BitStr<'a> {
 
     /// ORs the last `width` bits of a view of whole words into the front of an octet of the target.
     /// They complete a word whose first bits are stored.
-    #[inline]
     pub(crate) fn or_edge(&self, width: usize, dst: &mut Target<'_>, rest: Rest, octet: usize)
         requires some { 64 ≤ (view_of self.now).len }
         requires whole { (view_of self.now).len % 64 ≡ 0 }

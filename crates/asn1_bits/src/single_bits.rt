@@ -15,7 +15,6 @@ pub(crate) fn bit_from(octets: &[u8], octet: usize, shift: usize, i: usize) -> b
 }
 
 /// The octets from one of them on.
-#[inline]
 pub(crate) fn from_octet(octets: &[u8], at: usize) -> &[u8]
     requires { at ≤ length octets.now }
     ensures { result.now ≡ drop at octets.now }

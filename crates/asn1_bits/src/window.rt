@@ -33,7 +33,6 @@ pub(crate) fn load(octets: &[u8], first: usize) -> u64
 }
 
 /// The word of the 64 bits from bit `shift` of an octet on.
-#[inline]
 pub(crate) fn whole_word(octets: &[u8], first: usize, shift: usize) -> u64
     requires shift { shift < 8 }
     requires within { 8 * first + shift + 64 ≤ 8 * length octets.now }

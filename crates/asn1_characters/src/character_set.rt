@@ -59,7 +59,6 @@ impl CharacterSetName {
     }
 
     /// How many characters the set has.
-    #[inline]
     pub const fn count(self) -> u32
         ensures { result ≡ base_count self }
     {
@@ -76,7 +75,6 @@ impl CharacterSetName {
     }
 
     /// The least number of bits that gives each of its characters a code, at most 16.
-    #[inline]
     pub const fn width(self) -> usize
         ensures value { result ≡ base_width self }
         ensures bound { result ≤ 16 }
@@ -94,7 +92,6 @@ impl CharacterSetName {
     }
 
     /// Its largest character.
-    #[inline]
     pub const fn largest(self) -> u32
         ensures { result ≡ base_largest self }
     {
@@ -112,7 +109,6 @@ impl CharacterSetName {
 
     /// Whether its characters are written by their places, since the largest does not fit the width
     /// (X.691 30.5).
-    #[inline]
     pub const fn is_indexed(self) -> bool
         ensures { result ≡ base_indexed self }
     {
@@ -121,7 +117,6 @@ impl CharacterSetName {
 
     /// Whether the set has the character: for `BmpString` by its range, else by one look at four
     /// words.
-    #[inline]
     pub fn contains(self, character: u32) -> bool
         ensures { result ≡ has_character (base_set self) character }
     {
@@ -154,7 +149,6 @@ impl CharacterSetName {
     }
 
     /// The set as words. That of `BmpString` has characters from 256 on, so it has none.
-    #[inline]
     pub fn words(self) -> CharacterWords
         requires { self ≢ Bmp }
         ensures { (c : ℕ) → c < 256 → in_words result.words c ≡ has_character (base_set self) c }
@@ -202,7 +196,6 @@ impl CharacterSetName {
     }
 
     /// The character at a place, and None past the set. Places count from 0.
-    #[inline]
     pub fn character_at(self, place: u32) -> Option<u32>
         ensures { result ≡ slice_get (base_set self) place }
     {
@@ -217,7 +210,6 @@ impl CharacterSetName {
     }
 
     /// The place of a character, and None where the set lacks it. Places count from 0.
-    #[inline]
     pub fn place_of(self, character: u32) -> Option<u32>
         ensures { MatchOption result (has_character (base_set self) character ≡ false)
             (λ k. slice_get (base_set self) k ≡ Some character) }

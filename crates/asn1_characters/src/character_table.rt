@@ -8,7 +8,6 @@ use crate::character_set::CharacterSetName;
 impl CharacterSetName {
     /// The characters of `IA5String` and `VisibleString`, in the set's order. The other sets have
     /// no table.
-    #[inline]
     pub fn table(self) -> Option<&'static [u32]>
         ensures lists { ForSome (option_copied result) (λ table. table ≡ base_set self) }
         ensures listed { is_some result ≡ is_listed self }

@@ -14,7 +14,6 @@ pub struct CharacterWords {
 
 impl CharacterWords {
     /// The set of these words, that of the least characters first.
-    #[inline]
     pub const fn new(first: u64, second: u64, third: u64, fourth: u64) -> CharacterWords
         ensures { result.words ≡ first ∷ second ∷ third ∷ fourth ∷ [] }
     {
@@ -24,7 +23,6 @@ impl CharacterWords {
     }
 
     /// Whether the set has the character. It has none from 256 on.
-    #[inline]
     pub fn contains(&self, character: u32) -> bool
         ensures { result ≡ (nat_lt character 256 && in_words self.now.words character) }
     {

@@ -4,7 +4,6 @@ ghost use Rattle.asn1_characters.specs.Widths.{IsLeastWidth, ceil_log2, align, w
 
 /// The least number of bits in which `count` things have codes of their own: 0 for one thing and
 /// for none.
-#[inline]
 pub fn ceil_log2(count: u64) -> u32
     requires { count ≤ 2 ^ 32 }
     ensures value { result ≡ ceil_log2 count }
@@ -18,7 +17,6 @@ pub fn ceil_log2(count: u64) -> u32
 }
 
 /// How many codes a width has: two to its power.
-#[inline]
 pub fn codes_of(width: u32) -> u64
     requires { width ≤ 32 }
     ensures { result ≡ 2 ^ width }
@@ -28,7 +26,6 @@ pub fn codes_of(width: u32) -> u64
 
 /// The width itself, and in the aligned variant the least power of two that is not below it, which
 /// is 1 for 0.
-#[inline]
 pub fn align(aligned: bool, width: u32) -> u32
     requires { width ≤ 32 }
     ensures value { result ≡ align aligned width }
@@ -43,7 +40,6 @@ pub fn align(aligned: bool, width: u32) -> u32
 }
 
 /// The width of the characters of a set of `count`: 0 for a set of one character and of none.
-#[inline]
 pub fn width_for(aligned: bool, count: u64) -> u32
     requires { count ≤ 2 ^ 32 }
     ensures value { result ≡ width_for aligned count }

@@ -118,7 +118,6 @@ fn without_zero_first(octets: &[u8]) -> &[u8]
 }
 
 /// The shortest two's complement octets of the number of a native type that has these bits.
-#[inline]
 pub(crate) fn signed_octets_of<'a>(bits: u128, is_signed: bool) -> IntegerBytes<'a>
     ensures { (n : ℤ) → AreBitsOf is_signed n bits → IsShortest n result }
 {
@@ -141,7 +140,6 @@ fn octets_behind_zero<'a>(bits: u128) -> IntegerBytes<'a>
 }
 
 /// The shortest octets without a sign of the bits of so many low octets.
-#[inline]
 pub(crate) fn unsigned_octets_of<'a>(bits: u128, size: usize) -> IntegerBytes<'a>
     requires { IsNativeSize size }
     ensures { IsShortestUnsigned (bits % 2 ^ (8 * size)) result }

@@ -72,7 +72,6 @@ impl From<u64> for Integer {
 impl From<i64> for Integer {
     ghost from_gives = { λ n number. number ≡ n };
 
-    #[inline]
     fn from(n: i64) -> Integer {
         Integer::of_word(n)
     }

@@ -75,7 +75,6 @@ impl Integer {
     }
 
     /// A number within `i64`: it takes the work of one word.
-    #[inline]
     pub(crate) fn of_word(number: i64) -> Integer
         ensures { result ≡ number }
     {
@@ -84,7 +83,6 @@ impl Integer {
     }
 
     /// The number of two words, whose shortest octets begin at a place of its sixteen.
-    #[inline]
     fn spelled(start: usize, high: u64, low: u64) -> Integer
         requires { let number = cast_signed w128 (high * 2 ^ 64 + low) in
             start + length (shortest_octets number) ≡ 16 }
@@ -259,7 +257,6 @@ impl Integer {
     }
 
     /// Two words in the order of these, so that no more is done for `<` or `==` than `u64` does.
-    #[inline]
     fn order_keys(&self, other: &Integer) -> (u64, u64)
         ensures { nat_cmp result.0 result.1 ≡ int_cmp self.now other.now }
     {
@@ -339,7 +336,6 @@ impl PartialEq for Integer {
 
     ghost laws = { Prim.search (comparing, rules) };
 
-    #[inline]
     fn eq(&self, other: &Integer) -> bool
         ensures value { result ≡ int_eq self.now other.now }
         ensures numbers { IsTrue result ↔ (self.now ≡ other.now) }
@@ -373,7 +369,6 @@ impl Ord for Integer {
 
     ghost matches_eq = { Prim.search rules };
 
-    #[inline]
     fn cmp(&self, other: &Integer) -> Ordering
         ensures value { result ≡ int_cmp self.now other.now }
         ensures octets { (a b : List ℕ) → IsShortest self.now a → IsShortest other.now b

@@ -12,7 +12,6 @@ const SIGN: u64 = 1 << 63;
 
 /// Two words in the order of two numbers of sixteen octets: the first eight, which hold the sign,
 /// where these differ, and else the last eight.
-#[inline]
 pub(crate) fn sixteen_keys(a: &[u8], b: &[u8]) -> (u64, u64)
     requires { (length a.now ≡ 16) × (length b.now ≡ 16) }
     ensures { nat_cmp result.0 result.1 ≡ int_cmp (signed a.now) (signed b.now) }
@@ -28,7 +27,6 @@ pub(crate) fn sixteen_keys(a: &[u8], b: &[u8]) -> (u64, u64)
 
 /// Two words in the order of the numbers that eight or more shortest octets each spell. Mostly the
 /// first eight, which hold the sign, tell two numbers of one length apart.
-#[inline]
 pub(crate) fn octets_keys(a: &[u8], b: &[u8]) -> (u64, u64)
     requires a_shortest { IsShortest (signed a.now) a.now }
     requires b_shortest { IsShortest (signed b.now) b.now }

@@ -11,7 +11,6 @@ fn repeats_sign(first: u8, second: u8) -> bool
 
 /// Whether the first octet alone tells that the octets are the shortest of their two's complement
 /// value (X.690 8.3.2), as it mostly does.
-#[inline]
 pub(crate) fn is_plainly_shortest(octets: &[u8]) -> bool
     requires { 0 < length octets.now }
     ensures { IsTrue result → IsShortest (signed octets.now) octets.now }
@@ -36,7 +35,6 @@ pub fn without_redundant_sign_octets(octets: &[u8]) -> &[u8]
 }
 
 /// `without_redundant_sign_octets`, where mostly the first octet tells that there are none.
-#[inline]
 pub(crate) fn shortest_part(octets: &[u8]) -> &[u8]
     requires { 0 < length octets.now }
     ensures { IsShortest (signed octets.now) result.now }

@@ -8,7 +8,6 @@ use crate::integer_bytes::IntegerBytes;
 use crate::sign_octets::is_plainly_shortest;
 
 /// The number of eight octets, most significant first.
-#[inline]
 pub(crate) fn word_of_eight(octets: &[u8]) -> u64
     requires { length octets.now ≡ 8 }
     ensures value { result ≡ unsigned octets.now }
@@ -21,7 +20,6 @@ pub(crate) fn word_of_eight(octets: &[u8]) -> u64
 }
 
 /// The two's complement value of one to sixteen octets, most significant first (X.690 8.3.3).
-#[inline]
 pub fn signed_value(octets: &[u8]) -> i128
     requires some { 0 < length octets.now }
     requires few { length octets.now ≤ 16 }
@@ -40,7 +38,6 @@ pub fn signed_value(octets: &[u8]) -> i128
 }
 
 /// The two's complement value of one to eight octets: of eight as one word.
-#[inline]
 fn signed_front(octets: &[u8]) -> i128
     requires some { 0 < length octets.now }
     requires few { length octets.now ≤ 8 }
@@ -53,7 +50,6 @@ fn signed_front(octets: &[u8]) -> i128
 }
 
 /// The two's complement value of one to sixteen octets, octet by octet.
-#[inline]
 fn signed_by_octets(octets: &[u8]) -> i128
     requires some { 0 < length octets.now }
     requires few { length octets.now ≤ 16 }
@@ -79,7 +75,6 @@ pub fn unsigned_value(octets: &[u8]) -> u128
 }
 
 /// How many of the eight octets of the number only repeat its sign.
-#[inline]
 pub(crate) fn spare_of_eight(number: i64) -> usize
     ensures { result + length (shortest_octets number) ≡ 8 }
 {
@@ -90,7 +85,6 @@ pub(crate) fn spare_of_eight(number: i64) -> usize
 
 /// Where the shortest octets of the number begin in its sixteen octets. A number within `i64`
 /// takes the work of one word.
-#[inline]
 pub(crate) fn start_of(number: i128) -> usize
     ensures { result + length (shortest_octets number) ≡ 16 }
 {
@@ -103,7 +97,6 @@ pub(crate) fn start_of(number: i128) -> usize
 
 /// Where the shortest octets begin in the sixteen of the number that these octets spell. Mostly
 /// they are the shortest.
-#[inline]
 pub(crate) fn start_among(octets: &[u8]) -> usize
     requires some { 0 < length octets.now }
     requires few { length octets.now ≤ 16 }
@@ -127,7 +120,6 @@ fn later_start(octets: &[u8]) -> usize
 }
 
 /// The two words of the two's complement value of one to sixteen octets.
-#[inline]
 pub(crate) fn halves_among(octets: &[u8]) -> (u64, u64)
     requires some { 0 < length octets.now }
     requires few { length octets.now ≤ 16 }
@@ -155,7 +147,6 @@ fn halves_by_octets(octets: &[u8]) -> (u64, u64)
 }
 
 /// The two words of a number.
-#[inline]
 pub(crate) fn halves_of(number: i128) -> (u64, u64)
     ensures { cast_signed w128 (result.0 * 2 ^ 64 + result.1) ≡ number }
 {
@@ -164,7 +155,6 @@ pub(crate) fn halves_of(number: i128) -> (u64, u64)
 }
 
 /// The two words of a number within one.
-#[inline]
 pub(crate) fn widened(number: i64) -> (u64, u64)
     ensures { cast_signed w128 (result.0 * 2 ^ 64 + result.1) ≡ number }
 {
@@ -173,7 +163,6 @@ pub(crate) fn widened(number: i64) -> (u64, u64)
 }
 
 /// The two's complement value of one or two octets.
-#[inline]
 fn signed_of_two(octets: &[u8]) -> i64
     requires some { 0 < length octets.now }
     requires few { length octets.now ≤ 2 }

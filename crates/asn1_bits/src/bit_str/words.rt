@@ -87,7 +87,6 @@ impl BitStr<'_> {
     }
 
     /// The 64 bits from bit `at` on, as the digits of a word.
-    #[inline]
     pub(crate) fn word_of_64(&self, at: usize) -> u64
         requires { at + 64 ≤ (view_of self.now).len }
         ensures { digits result 64 ≡ take 64 (drop at (bits_of self.now)) }

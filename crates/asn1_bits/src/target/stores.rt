@@ -17,7 +17,6 @@ fn load_native(octets: &[u8], first: usize) -> u64
 }
 
 /// Writes eight octets over those from one of them on.
-#[inline]
 pub(super) fn set_octets(dst: &mut [u8], first: usize, octets: [u8; 8])
     requires { first + 8 ≤ length dst.old }
     ensures { dst.new ≡ take first dst.old ++ (octets ++ drop (first + 8) dst.old) }
@@ -31,7 +30,6 @@ pub(super) fn set_octets(dst: &mut [u8], first: usize, octets: [u8; 8])
 }
 
 /// ORs eight octets of `src`, from octet `at` on, into those of `dst` from octet `first` on.
-#[inline]
 pub(super) fn or_eight(dst: &mut [u8], first: usize, src: &[u8], at: usize)
     requires room { first + 8 ≤ length dst.old }
     requires source { at + 8 ≤ length src.now }
@@ -42,7 +40,6 @@ pub(super) fn or_eight(dst: &mut [u8], first: usize, src: &[u8], at: usize)
 }
 
 /// ORs the digits of the word into the eight octets from one of them on.
-#[inline]
 pub(super) fn or_octets(dst: &mut [u8], first: usize, word: u64)
     requires { first + 8 ≤ length dst.old }
     ensures { bits dst.new ≡ ored (bits dst.old) (8 * first) (digits word 64) }
@@ -136,7 +133,6 @@ pub(super) fn or_short(dst: &mut [u8], position: usize, word: u64, width: usize)
 /// Writes eight octets from octet `position / 8` on. All bits from `position` on are zero, and the
 /// word has no digit before that bit. Only the partial first octet is loaded. It is added after the
 /// byte swap, since the bits do not overlap: consecutive pushes depend on one load and one add.
-#[inline]
 pub(super) fn add_octets(dst: &mut [u8], position: usize, word: u64)
     requires below { word < 2 ^ (64 - position % 8) }
     requires eight { position / 8 + 8 ≤ length dst.old }
@@ -182,7 +178,6 @@ pub(super) fn put_pair(dst: &mut [u8], position: usize, number: u128, width: usi
 
 /// ORs the lowest `width` digits of the word in from the first bit of an octet on, of which there
 /// are at most eight.
-#[inline]
 pub(super) fn or_front(dst: &mut [u8], octet: usize, word: u64, width: usize)
     requires width { width ≤ 8 }
     requires within { 8 * octet + width ≤ 8 * length dst.old }
