@@ -1,7 +1,7 @@
 //! Permitted sets: lists of characters in the caller's order.
-ghost use Rattle.std.specs.Prelude.{◌≡◌, ◌≢◌, ◌≤◌, ◌^◌, ◌↔◌, true, false, AllPairs, IsTrue, length, slice_get, Some, MatchBool, MatchOption};
+ghost use Rattle.std.specs.Prelude.{◌≡◌, ◌≢◌, ◌↔◌, true, false, AllPairs, IsTrue, MatchBool};
 ghost use Rattle.std.specs.List.Sorted.{IsNonDecreasing};
-ghost use Rattle.asn1_characters.specs.Sets.{has_character, largest};
+ghost use Rattle.asn1_characters.specs.Sets.{largest};
 ghost use Rattle.asn1_alphabets.specs.AlphabetInMemory.{IsRun};
 
 /// The largest character, or 0.

@@ -1,5 +1,5 @@
 //! Lists of characters without a gap.
-ghost use Rattle.std.specs.Prelude.{◌≡◌, ◌≢◌, ◌≤◌, ◌+◌, ◌<◌, ◌^◌, ℕ, false, slice_get, Some, MatchOption};
+ghost use Rattle.std.specs.Prelude.{◌≡◌, ◌+◌, ◌<◌, ◌^◌, false, slice_get, Some, MatchOption};
 ghost use Rattle.std.specs.List.{range_with_len};
 ghost use Rattle.asn1_characters.specs.Sets.{has_character};
 ghost use Rattle.asn1_alphabets.specs.AlphabetInMemory.{IsRun};

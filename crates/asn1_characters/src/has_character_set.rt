@@ -1,8 +1,8 @@
 //! The base set that a string names.
 use crate::character_set::CharacterSetName;
 
-/// A type of string whose characters are in one of the eight base sets. This is all that a
-/// character alphabet takes of a string.
+/// A type of string whose characters are in one of the eight base sets. It is all that the
+/// alphabets of `asn1_alphabets` take of a string.
 pub trait HasCharacterSet {
     ghost use Rattle.asn1_characters.specs.declared.character_set.CharacterSetName.{CharacterSetName};
 
