@@ -12,7 +12,7 @@ pub fn answer(alloc: Global, text: &mut String, name: &str, words: &[&str]) -> O
     match name {
         "new" => tell(alloc, text, words),
         "cmp" => cmp(alloc, text, words),
-        "to_bitstring" => copied(alloc, text, words),
+        "to_bitstring" => compare_copy(alloc, text, words),
         "into_vec" => into_vec(alloc, text, words),
         _ => answer_on(alloc, text, name, &string_of(alloc, words)?),
     }
@@ -127,7 +127,7 @@ fn string_at(alloc: Global, word: &str) -> Option<BitString> {
 }
 
 /// `OCTETS FIRST LEN`: the octets of a copy's bits, and how it compares with the view.
-fn copied(alloc: Global, text: &mut String, words: &[&str]) -> Option<()> {
+fn compare_copy(alloc: Global, text: &mut String, words: &[&str]) -> Option<()> {
     let part = part_of_three(alloc, words)?;
     let copy = copy_of(alloc, &part)?;
     push_packed(alloc, text, copy.as_bitstr())?;

@@ -2,7 +2,7 @@
 
 use crate::bit_string::{extend, string_in};
 use crate::steps::{ones, push_part};
-use crate::words::{Part, append, packed, part_of_three, push_octets, size};
+use crate::words::{Part, append, pack_bits, part_of_three, push_octets, size};
 use asn1_bits::BitString;
 use std::alloc::Global;
 
@@ -50,6 +50,6 @@ fn string_of(octets: Vec<u8>, count: usize, part: &Part) -> Option<BitString> {
 
 /// Whether a string has these octets and shows their bits.
 fn is_string_of(alloc: Global, string: &BitString, octets: &[u8]) -> Option<bool> {
-    let shown = packed(alloc, string.as_bitstr())?;
+    let shown = pack_bits(alloc, string.as_bitstr())?;
     Some(string.as_raw_slice() == octets && shown.as_slice() == octets)
 }

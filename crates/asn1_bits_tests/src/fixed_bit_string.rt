@@ -18,7 +18,7 @@ pub fn answer(alloc: Global, text: &mut String, name: &str, words: &[&str]) -> O
 
 /// The string that a word names: `zero`, or `new` and three octets, or `from_bitstr` and a view, or
 /// `set` and the bits that zeros are set to.
-fn made(alloc: Global, word: &str) -> Option<FixedBitString<3>> {
+fn string_of_word(alloc: Global, word: &str) -> Option<FixedBitString<3>> {
     match word.split_once(':') {
         Some(("new", rest)) => new(octets_of(alloc, rest)?),
         Some(("from_bitstr", rest)) => of_view(alloc, rest),
@@ -59,7 +59,7 @@ fn push_state(text: &mut String, bits: &FixedBitString<3>) -> Option<()> {
 /// The bits of a string, and after each bit that is set, as `1:0`.
 fn set_each(alloc: Global, text: &mut String, words: &[&str]) -> Option<()> {
     let (first, steps) = words.split_first()?;
-    let mut bits = made(alloc, first)?;
+    let mut bits = string_of_word(alloc, first)?;
     push_state(text, &bits)?;
     for step in steps {
         set(&mut bits, bit_of(step)?)?;
@@ -90,7 +90,7 @@ fn as_bitstr(alloc: Global, text: &mut String, words: &[&str]) -> Option<()> {
     let [own, view] = words else {
         return None;
     };
-    let own = made(alloc, own)?;
+    let own = string_of_word(alloc, own)?;
     tell_bits(alloc, text, own.as_bitstr(), view)
 }
 
@@ -98,5 +98,9 @@ fn cmp(alloc: Global, text: &mut String, words: &[&str]) -> Option<()> {
     let [one, other] = words else {
         return None;
     };
-    push_order(text, &made(alloc, one)?, &made(alloc, other)?)
+    push_order(
+        text,
+        &string_of_word(alloc, one)?,
+        &string_of_word(alloc, other)?,
+    )
 }

@@ -14,7 +14,7 @@ pub fn or(alloc: Global, text: &mut String, words: &[&str]) -> Option<()> {
     let (positions, counts) = (size(positions)?, size(counts)?);
     let src = octets_of(alloc, src)?;
     let old = octets_of(alloc, old)?;
-    let right = ored(alloc, old.as_slice(), src.as_slice(), (positions, counts))?;
+    let right = sweep_ors(alloc, old.as_slice(), src.as_slice(), (positions, counts))?;
     push_number(alloc, text, right)
 }
 
@@ -27,12 +27,12 @@ pub fn overwrite(alloc: Global, text: &mut String, words: &[&str]) -> Option<()>
     let (positions, widths) = (size(positions)?, size(widths)?);
     let value = wide(value)?;
     let old = octets_of(alloc, old)?;
-    let right = overwritten(alloc, old.as_slice(), value, (positions, widths))?;
+    let right = sweep_overwrites(alloc, old.as_slice(), value, (positions, widths))?;
     push_number(alloc, text, right)
 }
 
 /// How many positions and counts leave the right bits.
-fn ored(alloc: Global, old: &[u8], src: &[u8], end: (usize, usize)) -> Option<u128> {
+fn sweep_ors(alloc: Global, old: &[u8], src: &[u8], end: (usize, usize)) -> Option<u128> {
     let mut right = 0u128;
     for position in 0..end.0 {
         right = right.saturating_add(ored_at(alloc, old, src, position, end.1)?);
@@ -86,7 +86,7 @@ fn bit(octets: &[u8], place: usize) -> bool {
 }
 
 /// How many positions and widths leave the right bits.
-fn overwritten(alloc: Global, old: &[u8], value: u128, end: (usize, usize)) -> Option<u128> {
+fn sweep_overwrites(alloc: Global, old: &[u8], value: u128, end: (usize, usize)) -> Option<u128> {
     let mut right = 0u128;
     for position in 0..end.0 {
         right = right.saturating_add(overwritten_at(alloc, old, value, position, end.1)?);

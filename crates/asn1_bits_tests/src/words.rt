@@ -1,7 +1,7 @@
 //! The words of rows on bits. What cannot be read of a word, or for want of memory, is none.
 
 use asn1_bits::BitStr;
-use asn1_test_rows::{hex_of, octets, shown};
+use asn1_test_rows::{hex_of, octets, show_value};
 use std::alloc::Global;
 
 /// More bits than any row has.
@@ -80,7 +80,7 @@ pub fn append(text: &mut String, word: &str) -> Option<()> {
 
 /// Appends a number.
 pub fn push_number(alloc: Global, text: &mut String, number: u128) -> Option<()> {
-    let digits = shown(alloc, number).ok()?;
+    let digits = show_value(alloc, number).ok()?;
     append(text, digits.as_str())
 }
 
@@ -114,12 +114,12 @@ pub fn push_bits(text: &mut String, view: BitStr<'_>) -> Option<()> {
 
 /// Appends the bits that a view shows in octets, with zeros to the end of the last.
 pub fn push_packed(alloc: Global, text: &mut String, view: BitStr<'_>) -> Option<()> {
-    let octets = packed(alloc, view)?;
+    let octets = pack_bits(alloc, view)?;
     push_octets(alloc, text, octets.as_slice())
 }
 
 /// The bits that a view shows in octets, with zeros to the end of the last.
-pub fn packed(alloc: Global, view: BitStr<'_>) -> Option<Vec<u8>> {
+pub fn pack_bits(alloc: Global, view: BitStr<'_>) -> Option<Vec<u8>> {
     let mut octets = Vec::new(alloc);
     let mut octet = 0u8;
     for place in 0..view.len() {

@@ -48,12 +48,12 @@ fn write_part(target: &mut [u8], position: usize, part: &Part) -> Option<()> {
 pub fn extend(alloc: Global, text: &mut String, words: &[&str]) -> Option<()> {
     let (old, src) = words.split_first()?;
     let part = part_of_three(alloc, src)?;
-    let own = extended(octets_of(alloc, old)?, &part)?;
+    let own = join_octets(octets_of(alloc, old)?, &part)?;
     push_octets(alloc, text, own.as_slice())
 }
 
 /// The octets, and behind them those of a part.
-fn extended(octets: Vec<u8>, part: &Part) -> Option<Vec<u8>> {
+fn join_octets(octets: Vec<u8>, part: &Part) -> Option<Vec<u8>> {
     let mut own = octets;
     extend_octets(&mut own, part)?;
     Some(own)

@@ -44,7 +44,7 @@ pub(crate) fn is_some_number(value: &Option<Integer>, number: i128) -> bool {
 }
 
 /// The octets of the value.
-fn written<F: Format>(
+fn octets_of_value<F: Format>(
     format: &F,
     alloc: Global,
     value: &F::Value,
@@ -60,7 +60,7 @@ fn written<F: Format>(
 }
 
 /// The value that the octets are, where no octet is left behind it.
-fn found<F: Format>(
+fn value_in<F: Format>(
     format: &F,
     alloc: Global,
     octets: &[u8],
@@ -82,7 +82,7 @@ fn found<F: Format>(
 
 /// The octets of the value, if it has some.
 pub(crate) fn octets_of<F: Format>(format: &F, alloc: Global, value: &F::Value) -> Option<Vec<u8>> {
-    match written(format, alloc, value) {
+    match octets_of_value(format, alloc, value) {
         Ok(octets) => Some(octets),
         Err(_) => None,
     }
@@ -90,7 +90,7 @@ pub(crate) fn octets_of<F: Format>(format: &F, alloc: Global, value: &F::Value) 
 
 /// The value of the octets, if they have one.
 pub(crate) fn value_of<F: Format>(format: &F, alloc: Global, octets: &[u8]) -> Option<F::Value> {
-    match found(format, alloc, octets) {
+    match value_in(format, alloc, octets) {
         Ok(value) => Some(value),
         Err(_) => None,
     }
@@ -98,7 +98,7 @@ pub(crate) fn value_of<F: Format>(format: &F, alloc: Global, octets: &[u8]) -> O
 
 /// What is wrong with the octets, if something is.
 pub(crate) fn fault_of<F: Format>(format: &F, alloc: Global, octets: &[u8]) -> Option<F::Fault> {
-    match found(format, alloc, octets) {
+    match value_in(format, alloc, octets) {
         Err(Refusal::Wrong(fault)) => Some(fault),
         _ => None,
     }
@@ -110,7 +110,7 @@ pub(crate) fn misfit_of<F: Format>(
     alloc: Global,
     value: &F::Value,
 ) -> Option<F::Misfit> {
-    match written(format, alloc, value) {
+    match octets_of_value(format, alloc, value) {
         Err(WriteRefusal::Wrong(misfit)) => Some(misfit),
         _ => None,
     }
@@ -126,7 +126,7 @@ pub(crate) fn is_read<C: Contents>(format: &Tlv<C>, alloc: Global, octets: &[u8]
 
 /// Whether no octets are written for the value.
 pub(crate) fn is_unwritten<F: Format>(format: &F, alloc: Global, value: &F::Value) -> bool {
-    match written(format, alloc, value) {
+    match octets_of_value(format, alloc, value) {
         Ok(_) => false,
         Err(_) => true,
     }

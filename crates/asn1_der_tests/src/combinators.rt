@@ -54,7 +54,7 @@ fn is_flag_set(value: &Option<Chosen>) -> bool {
 }
 
 /// What the octets are.
-fn chosen(alloc: Global, octets: &[u8]) -> Option<Chosen> {
+fn choose(alloc: Global, octets: &[u8]) -> Option<Chosen> {
     value_of(&choosing(), alloc, octets)
 }
 
@@ -67,8 +67,8 @@ fn is_choice_kept(alloc: Global, octets: &[u8]) -> bool {
 fn the_tag_tells_the_alternative(rt: HostRuntime) -> Result<(), Fail> {
     let alloc = rt.alloc();
     let octets = [0x30, 0x03, 0x02, 0x01, 0x05];
-    let is_level = is_level(&chosen(alloc, &octets), 5);
-    let is_flag_set = is_flag_set(&chosen(alloc, &[0x30, 0x03, 0x01, 0x01, 0xFF]));
+    let is_level = is_level(&choose(alloc, &octets), 5);
+    let is_flag_set = is_flag_set(&choose(alloc, &[0x30, 0x03, 0x01, 0x01, 0xFF]));
     assert!(rt; is_level && is_flag_set && is_choice_kept(alloc, &octets));
     Ok(())
 }

@@ -6,7 +6,7 @@ use std::alloc::Global;
 use std::fmt::Display;
 
 /// The buffer behind three ones.
-pub(crate) fn written<F: Format>(
+pub(crate) fn write_behind<F: Format>(
     format: &F,
     alloc: Global,
     value: &F::Value,
@@ -22,7 +22,7 @@ pub(crate) fn written<F: Format>(
 }
 
 /// What is read behind the first `start` bits, and how many bits are left.
-pub(crate) fn found<F: Format>(
+pub(crate) fn read_behind<F: Format>(
     format: &F,
     alloc: Global,
     octets: &[u8],
@@ -53,7 +53,7 @@ pub(crate) fn is_written<F: Format>(
     octets: &[u8],
     bits: usize,
 ) -> bool {
-    match written(format, alloc, value) {
+    match write_behind(format, alloc, value) {
         Ok(buffer) => buffer.len() == bits && buffer.as_bytes() == octets,
         Err(_) => false,
     }
@@ -69,7 +69,7 @@ pub(crate) fn is_misfit<F: Format>(
 where
     F::Misfit: PartialEq,
 {
-    match written(format, alloc, value) {
+    match write_behind(format, alloc, value) {
         Err(WriteRefusal::Wrong(found)) => found == misfit,
         _ => false,
     }
@@ -87,7 +87,7 @@ pub(crate) fn is_found<F: Format>(
 where
     F::Value: PartialEq,
 {
-    match found(format, alloc, octets, start) {
+    match read_behind(format, alloc, octets, start) {
         Ok((read, bits)) => read == *value && bits == left,
         Err(_) => false,
     }
@@ -142,7 +142,7 @@ pub(crate) fn is_refused<F: Format>(
 where
     F::Fault: PartialEq,
 {
-    match found(format, alloc, octets, start) {
+    match read_behind(format, alloc, octets, start) {
         Err(Refusal::Wrong(found)) => found == fault,
         _ => false,
     }
@@ -158,7 +158,7 @@ where
     F::Fault: PartialEq,
 {
     for row in rows {
-        match found(format, alloc, row.0, row.1) {
+        match read_behind(format, alloc, row.0, row.1) {
             Err(Refusal::Wrong(found)) => {
                 if found != row.2 {
                     return false;
@@ -172,7 +172,7 @@ where
 
 /// Whether nothing can be read behind the first `start` bits.
 pub(crate) fn fails<F: Format>(format: &F, alloc: Global, octets: &[u8], start: usize) -> bool {
-    found(format, alloc, octets, start).is_err()
+    read_behind(format, alloc, octets, start).is_err()
 }
 
 /// Whether the words of what is wrong with the value are these.
@@ -185,7 +185,7 @@ pub(crate) fn misfit_says<F: Format>(
 where
     F::Misfit: Display,
 {
-    match written(format, alloc, value) {
+    match write_behind(format, alloc, value) {
         Err(refusal) => says(alloc, &refusal, words),
         Ok(_) => false,
     }
@@ -202,7 +202,7 @@ pub(crate) fn fault_says<F: Format>(
 where
     F::Fault: Display,
 {
-    match found(format, alloc, octets, start) {
+    match read_behind(format, alloc, octets, start) {
         Err(refusal) => says(alloc, &refusal, words),
         Ok(_) => false,
     }

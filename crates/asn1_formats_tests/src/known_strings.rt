@@ -1,6 +1,6 @@
 //! Known-multiplier strings, several codes at a time.
 
-use super::calls::{found, is_found, is_misfit, is_refused, is_written, written};
+use super::calls::{is_found, is_misfit, is_refused, is_written, read_behind, write_behind};
 use asn1_formats::{
     Character, CharacterFault, InSequenceOf, KnownMultiplierString, NotInAlphabet, SequenceOf, Size,
 };
@@ -102,7 +102,7 @@ fn characters(alloc: Global, length: u32) -> Result<Vec<u32>, AllocError> {
 /// Whether a string of the characters has the bits of a list of them, and is read from those.
 fn has_bits_of_list(alloc: Global, item: Character<'static>, text: &Vec<u32>) -> bool {
     let size = Size::new(0, 200);
-    let Ok(bits) = written(&SequenceOf { size, item }, alloc, text) else {
+    let Ok(bits) = write_behind(&SequenceOf { size, item }, alloc, text) else {
         return false;
     };
     let string = KnownMultiplierString::new(size, item);
@@ -117,7 +117,7 @@ fn begins_with(
     octets: &[u8],
     text: &Vec<u32>,
 ) -> bool {
-    match found(format, alloc, octets, 3) {
+    match read_behind(format, alloc, octets, 3) {
         Ok((read, _)) => read == *text,
         Err(_) => false,
     }

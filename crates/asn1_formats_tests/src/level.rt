@@ -83,7 +83,7 @@ mod tests {
 
     /// Whether the level and the flag are found behind three bits, with so many bits left.
     fn level_is_found(alloc: Global, octet: u8, level: i64, flag: bool, left: usize) -> bool {
-        match found(&level_format(), alloc, &[octet], 3) {
+        match read_behind(&level_format(), alloc, &[octet], 3) {
             Ok((read, bits)) => read.level() == level && read.flag() == flag && bits == left,
             Err(_) => false,
         }

@@ -2,7 +2,7 @@
 
 use crate::spelled::text_of;
 use asn1_number::{ConstrainedInteger, TryFromIntegerError};
-use asn1_test_rows::{RowError, parsed, shown, wrong};
+use asn1_test_rows::{RowError, parse_word, show_value, wrong};
 use std::alloc::Global;
 
 /// The numbers from -8 to 360.
@@ -22,33 +22,33 @@ pub fn answer(alloc: Global, name: &str, words: &[&str]) -> Result<String, RowEr
 
 fn of_word(alloc: Global, name: &str, word: &str) -> Result<String, RowError> {
     match name {
-        "try_from_i32" => tried(alloc, Bounded::try_from(parsed::<i32>(alloc, word)?)),
-        "try_from_i64" => tried(alloc, Bounded::try_from(parsed::<i64>(alloc, word)?)),
-        "try_from_i128" => tried(alloc, Bounded::try_from(parsed::<i128>(alloc, word)?)),
-        "try_from_isize" => tried(alloc, Bounded::try_from(parsed::<isize>(alloc, word)?)),
-        "from_5_to_3" => tried(alloc, Empty::try_from(parsed::<i32>(alloc, word)?)),
-        "into_original" => handed_back(alloc, Bounded::try_from(parsed::<i32>(alloc, word)?)),
-        "clone" => copied(alloc, &bounded(alloc, word)?),
+        "try_from_i32" => try_number(alloc, Bounded::try_from(parse_word::<i32>(alloc, word)?)),
+        "try_from_i64" => try_number(alloc, Bounded::try_from(parse_word::<i64>(alloc, word)?)),
+        "try_from_i128" => try_number(alloc, Bounded::try_from(parse_word::<i128>(alloc, word)?)),
+        "try_from_isize" => try_number(alloc, Bounded::try_from(parse_word::<isize>(alloc, word)?)),
+        "from_5_to_3" => try_number(alloc, Empty::try_from(parse_word::<i32>(alloc, word)?)),
+        "into_original" => handed_back(alloc, Bounded::try_from(parse_word::<i32>(alloc, word)?)),
+        "clone" => compare_copy(alloc, &bounded_number(alloc, word)?),
         _ => Err(wrong(alloc, name, "function of ConstrainedInteger")),
     }
 }
 
 /// The number, if it lies within the bounds.
-fn bounded(alloc: Global, word: &str) -> Result<Bounded, RowError> {
-    match Bounded::try_from(parsed::<i32>(alloc, word)?) {
+fn bounded_number(alloc: Global, word: &str) -> Result<Bounded, RowError> {
+    match Bounded::try_from(parse_word::<i32>(alloc, word)?) {
         Ok(number) => Ok(number),
         Err(_) => Err(wrong(alloc, word, "number within the bounds")),
     }
 }
 
 /// The number, or why it is refused.
-fn tried<const START: i64, const END: i64>(
+fn try_number<const START: i64, const END: i64>(
     alloc: Global,
     number: Result<ConstrainedInteger<START, END>, TryFromIntegerError>,
 ) -> Result<String, RowError> {
     match number {
         Ok(number) => text_of(alloc, &number),
-        Err(error) => shown(alloc, error),
+        Err(error) => show_value(alloc, error),
     }
 }
 
@@ -64,12 +64,12 @@ fn handed_back(
 }
 
 /// Whether the copy of a number equals the number.
-fn copied(alloc: Global, number: &Bounded) -> Result<String, RowError> {
-    shown(alloc, number.clone()? == *number)
+fn compare_copy(alloc: Global, number: &Bounded) -> Result<String, RowError> {
+    show_value(alloc, number.clone()? == *number)
 }
 
 /// Whether the first number is below the second.
 fn is_below(alloc: Global, first: &str, second: &str) -> Result<String, RowError> {
-    let first = bounded(alloc, first)?;
-    shown(alloc, first < bounded(alloc, second)?)
+    let first = bounded_number(alloc, first)?;
+    show_value(alloc, first < bounded_number(alloc, second)?)
 }

@@ -12,7 +12,7 @@ use crate::spelled::{arcs, integer};
 use asn1_integer::IntegerType;
 use asn1_number::{Integer, IntegerError};
 use asn1_oid::{ContentsError, ObjectIdentifier, Oid};
-use asn1_test_rows::{RowError, hex_of, octets, optional, outcome, parsed, shown, wrong};
+use asn1_test_rows::{RowError, hex_of, octets, optional, outcome, parse_word, show_value, wrong};
 use std::alloc::{AllocError, Global};
 
 /// The answers of the callers.
@@ -20,7 +20,7 @@ pub fn answer(alloc: Global, name: &str, words: &[&str]) -> Result<String, RowEr
     match words {
         [word] if name == "version" => version_text(alloc, word),
         [word] => of_number(alloc, name, &integer(alloc, word)?),
-        [first, second] if name == "are_one_number" => compared(alloc, first, second),
+        [first, second] if name == "are_one_number" => compare_words(alloc, first, second),
         [spelled, word] => of_words(alloc, name, spelled, word),
         _ => Err(wrong(alloc, name, "caller")),
     }
@@ -30,9 +30,12 @@ fn version_text(alloc: Global, word: &str) -> Result<String, RowError> {
     outcome(alloc, version(alloc, octets(alloc, word)?.as_slice()))
 }
 
-fn compared(alloc: Global, first: &str, second: &str) -> Result<String, RowError> {
-    let first = parsed::<i64>(alloc, first)?;
-    shown(alloc, are_one_number(first, parsed::<i64>(alloc, second)?))
+fn compare_words(alloc: Global, first: &str, second: &str) -> Result<String, RowError> {
+    let first = parse_word::<i64>(alloc, first)?;
+    show_value(
+        alloc,
+        are_one_number(first, parse_word::<i64>(alloc, second)?),
+    )
 }
 
 fn of_words(alloc: Global, name: &str, spelled: &str, word: &str) -> Result<String, RowError> {
@@ -59,7 +62,7 @@ fn of_contents(
     };
     match name {
         "is_this" => outcome(alloc, is_this(alloc, octets.as_slice(), &oid)),
-        "append" => appended(alloc, octets, &oid),
+        "append" => append_contents(alloc, octets, &oid),
         _ => Err(wrong(alloc, name, "caller")),
     }
 }
@@ -119,9 +122,9 @@ fn append(oid: &Oid, octets: &mut Vec<u8>) -> Result<bool, AllocError>
 }
 
 /// The octets with the contents behind them, if there are any.
-fn appended(alloc: Global, mut octets: Vec<u8>, oid: &Oid) -> Result<String, RowError> {
+fn append_contents(alloc: Global, mut octets: Vec<u8>, oid: &Oid) -> Result<String, RowError> {
     if append(oid, &mut octets)? {
         return hex_of(alloc, octets.as_slice());
     }
-    shown(alloc, "none")
+    show_value(alloc, "none")
 }

@@ -5,7 +5,7 @@ use crate::two_octets;
 use asn1_oid::{
     ContentsError, ObjectIdentifier, Oid, OidContents, check_contents, laws_of_contents,
 };
-use asn1_test_rows::{RowError, hex_of, octets, optional, parsed, shown, wrong};
+use asn1_test_rows::{RowError, hex_of, octets, optional, parse_word, show_value, wrong};
 use std::alloc::Global;
 use std::borrow::CowSlice;
 
@@ -23,7 +23,7 @@ pub fn answer(alloc: Global, name: &str, words: &[&str]) -> Result<String, RowEr
 }
 
 fn of_limit(alloc: Global, limit: &str, word: &str) -> Result<String, RowError> {
-    let limit = parsed::<usize>(alloc, limit)?;
+    let limit = parse_word::<usize>(alloc, limit)?;
     room_of_read(alloc, limit, octets(alloc, word)?.as_slice())
 }
 
@@ -34,7 +34,7 @@ fn of_words(
     count: &str,
     spelled: &str,
 ) -> Result<String, RowError> {
-    let count = parsed::<usize>(alloc, count)?;
+    let count = parse_word::<usize>(alloc, count)?;
     let arcs = arcs(alloc, word)?;
     of_arcs(alloc, name, arcs.as_slice(), count, octets(alloc, spelled)?)
 }
@@ -42,7 +42,7 @@ fn of_words(
 /// The answers on octets.
 fn of_octets(alloc: Global, name: &str, octets: &[u8]) -> Result<String, RowError> {
     match name {
-        "check_contents" => checked(alloc, octets),
+        "check_contents" => check_octets(alloc, octets),
         "from_contents" => read(alloc, octets),
         "lists_of_two" => two_octets::agree(alloc, octets),
         _ => Err(wrong(alloc, name, "function of octets")),
@@ -52,7 +52,7 @@ fn of_octets(alloc: Global, name: &str, octets: &[u8]) -> Result<String, RowErro
 /// The answers on a borrowed identifier.
 pub fn of_oid(alloc: Global, name: &str, oid: Oid<'_>) -> Result<String, RowError> {
     match name {
-        "contents" => written(alloc, oid),
+        "contents" => write_contents(alloc, oid),
         "contents_len" => optional(alloc, oid.contents_len()),
         _ => Err(wrong(alloc, name, "function of an identifier")),
     }
@@ -67,19 +67,19 @@ fn of_arcs(
     count: usize,
     octets: Vec<u8>,
 ) -> Result<String, RowError> {
-    let Some(contents) = started(arcs) else {
+    let Some(contents) = start_contents(arcs) else {
         return Err(wrong(alloc, name, "function of such arcs"));
     };
     match name {
-        "size_hint" => hinted(alloc, contents, count),
-        "append_to" => appended(alloc, contents, count, octets),
+        "size_hint" => hint_of(alloc, contents, count),
+        "append_to" => append_contents(alloc, contents, count, octets),
         "has_room_of_at_most" => has_room(alloc, contents, count, octets),
         _ => Err(wrong(alloc, name, "function of arcs and octets")),
     }
 }
 
 /// The iterator over the contents of an identifier; None where it has none.
-fn started(arcs: &[u32]) -> Option<OidContents<'_>> {
+fn start_contents(arcs: &[u32]) -> Option<OidContents<'_>> {
     Oid::new(arcs)?.contents()
 }
 
@@ -95,10 +95,10 @@ pub fn contents_of(alloc: Global, oid: Oid<'_>) -> Result<Option<Vec<u8>>, RowEr
     Ok(Some(octets))
 }
 
-fn written(alloc: Global, oid: Oid<'_>) -> Result<String, RowError> {
+fn write_contents(alloc: Global, oid: Oid<'_>) -> Result<String, RowError> {
     match contents_of(alloc, oid)? {
         Some(octets) => hex_of(alloc, octets.as_slice()),
-        None => shown(alloc, "none"),
+        None => show_value(alloc, "none"),
     }
 }
 
@@ -114,7 +114,7 @@ fn take(alloc: Global, contents: &mut OidContents<'_>, count: usize) -> Result<V
 }
 
 /// The hint when so many octets were taken, and whether there is a next one.
-fn hinted(alloc: Global, mut contents: OidContents<'_>, count: usize) -> Result<String, RowError> {
+fn hint_of(alloc: Global, mut contents: OidContents<'_>, count: usize) -> Result<String, RowError> {
     let taken = take(alloc, &mut contents, count)?.len();
     let (least, most) = contents.size_hint();
     let most = most.unwrap_or(usize::MAX);
@@ -123,7 +123,7 @@ fn hinted(alloc: Global, mut contents: OidContents<'_>, count: usize) -> Result<
 }
 
 /// The octets that were taken first, and the octets with the rest of the contents behind them.
-fn appended(
+fn append_contents(
     alloc: Global,
     mut contents: OidContents<'_>,
     count: usize,
@@ -144,20 +144,20 @@ fn has_room(
     mut octets: Vec<u8>,
 ) -> Result<String, RowError> {
     contents.append_to(&mut octets)?;
-    shown(alloc, octets.capacity() <= limit)
+    show_value(alloc, octets.capacity() <= limit)
 }
 
-fn checked(alloc: Global, octets: &[u8]) -> Result<String, RowError> {
+fn check_octets(alloc: Global, octets: &[u8]) -> Result<String, RowError> {
     match check_contents(&octets) {
-        Ok(()) => shown(alloc, true),
-        Err(error) => shown(alloc, error),
+        Ok(()) => show_value(alloc, true),
+        Err(error) => show_value(alloc, error),
     }
 }
 
 fn read(alloc: Global, octets: &[u8]) -> Result<String, RowError> {
     match ObjectIdentifier::from_contents(alloc, &octets) {
         Ok(identifier) => arcs_text(alloc, identifier.as_ref()),
-        Err(error) => shown(alloc, error),
+        Err(error) => show_value(alloc, error),
     }
 }
 
@@ -165,21 +165,21 @@ fn read(alloc: Global, octets: &[u8]) -> Result<String, RowError> {
 fn room_of_read(alloc: Global, limit: usize, octets: &[u8]) -> Result<String, RowError> {
     match ObjectIdentifier::from_contents(alloc, &octets) {
         Ok(identifier) => room_of(alloc, limit, identifier.into_arcs()),
-        Err(error) => shown(alloc, error),
+        Err(error) => show_value(alloc, error),
     }
 }
 
 fn room_of(alloc: Global, limit: usize, arcs: CowSlice<'static, u32>) -> Result<String, RowError> {
     match arcs {
-        CowSlice::Owned(arcs) => shown(alloc, arcs.capacity() <= limit),
-        CowSlice::Borrowed(_) => shown(alloc, "lent"),
+        CowSlice::Owned(arcs) => show_value(alloc, arcs.capacity() <= limit),
+        CowSlice::Borrowed(_) => show_value(alloc, "lent"),
     }
 }
 
 /// The functions whose contracts are laws, and that do nothing.
 fn laws(alloc: Global) -> Result<String, RowError> {
     laws_of_contents();
-    shown(alloc, true)
+    show_value(alloc, true)
 }
 
 fn error_text(alloc: Global, word: &str) -> Result<String, RowError> {
@@ -189,5 +189,5 @@ fn error_text(alloc: Global, word: &str) -> Result<String, RowError> {
         "Memory" => ContentsError::Memory,
         _ => return Err(wrong(alloc, word, "refusal")),
     };
-    shown(alloc, error)
+    show_value(alloc, error)
 }

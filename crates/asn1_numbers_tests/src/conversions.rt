@@ -2,7 +2,7 @@
 
 use crate::spelled::{integer, text_of};
 use asn1_number::{Integer, TryFromIntegerError};
-use asn1_test_rows::{RowError, hex_of, one, outcome, parsed, shown, wrong};
+use asn1_test_rows::{RowError, hex_of, one, outcome, parse_word, show_value, wrong};
 use std::alloc::Global;
 use std::fmt::Display;
 use std::str::FromStr;
@@ -41,7 +41,7 @@ where
     Integer: From<T>,
 {
     match call {
-        "from" => octets_text(alloc, &Integer::from(parsed::<T>(alloc, word)?)),
+        "from" => octets_text(alloc, &Integer::from(parse_word::<T>(alloc, word)?)),
         _ => given_to(alloc, call, T::try_from(integer(alloc, word)?)),
     }
 }

@@ -3,7 +3,7 @@
 use crate::contents;
 use crate::spelled::{arcs, arcs_text};
 use asn1_oid::{ObjectIdentifier, Oid};
-use asn1_test_rows::{RowError, shown, wrong};
+use asn1_test_rows::{RowError, show_value, wrong};
 use std::alloc::Global;
 use std::borrow::CowSlice;
 use std::collections::HashSet;
@@ -37,11 +37,11 @@ fn of_one(
     identifier: ObjectIdentifier,
 ) -> Result<String, RowError> {
     match name {
-        "fmt" if owner == "Oid" => shown(alloc, identifier.as_oid()),
-        "fmt" => shown(alloc, identifier),
+        "fmt" if owner == "Oid" => show_value(alloc, identifier.as_oid()),
+        "fmt" => show_value(alloc, identifier),
         "to_owned" => to_owned(alloc, identifier.as_oid()),
         "new_unchecked" => taken_out(alloc, identifier),
-        "from_vec_of_reverse" => reversed(alloc, identifier),
+        "from_vec_of_reverse" => reverse_arcs(alloc, identifier),
         _ => contents::of_oid(alloc, name, identifier.as_oid()),
     }
 }
@@ -55,11 +55,11 @@ fn of_two(
     second: &ObjectIdentifier,
 ) -> Result<String, RowError> {
     match name {
-        "eq_arcs" if owner == "Oid" => shown(alloc, first.as_oid().eq_arcs(second.as_ref())),
-        "eq_arcs" => shown(alloc, first.eq_arcs(second.as_ref())),
-        "as_oid" => shown(alloc, Oid::new(first.as_ref()) == Some(second.as_oid())),
-        "lt" if owner == "Oid" => shown(alloc, first.as_oid() < second.as_oid()),
-        "lt" => shown(alloc, first < second),
+        "eq_arcs" if owner == "Oid" => show_value(alloc, first.as_oid().eq_arcs(second.as_ref())),
+        "eq_arcs" => show_value(alloc, first.eq_arcs(second.as_ref())),
+        "as_oid" => show_value(alloc, Oid::new(first.as_ref()) == Some(second.as_oid())),
+        "lt" if owner == "Oid" => show_value(alloc, first.as_oid() < second.as_oid()),
+        "lt" => show_value(alloc, first < second),
         _ => Err(wrong(alloc, name, "function of two identifiers")),
     }
 }
@@ -73,7 +73,7 @@ fn of_lent(alloc: Global, name: &str) -> Result<String, RowError> {
     match name {
         "new" => arcs_text(alloc, lent.as_ref()),
         "from_oid" => arcs_text(alloc, copy.as_ref()),
-        "eq" => shown(alloc, lent == copy),
+        "eq" => show_value(alloc, lent == copy),
         "clone_of_borrowed" => is_copied(alloc, &lent, &copy),
         "clone_of_owned" => is_copied(alloc, &copy, &lent),
         "hash" => is_found(alloc, lent, &copy),
@@ -87,7 +87,7 @@ fn is_copied(
     identifier: &ObjectIdentifier,
     other: &ObjectIdentifier,
 ) -> Result<String, RowError> {
-    shown(alloc, identifier.clone()? == *other)
+    show_value(alloc, identifier.clone()? == *other)
 }
 
 /// Whether a set that has the identifier has the other one.
@@ -98,7 +98,7 @@ fn is_found(
 ) -> Result<String, RowError> {
     let mut seen = HashSet::new(alloc);
     seen.insert(identifier)?;
-    shown(alloc, seen.contains(other))
+    show_value(alloc, seen.contains(other))
 }
 
 /// The identifier of arcs that a word spells.
@@ -112,20 +112,20 @@ fn identifier(alloc: Global, word: &str) -> Result<ObjectIdentifier, RowError> {
 fn new_oid(alloc: Global, arcs: &[u32]) -> Result<String, RowError> {
     match Oid::new(arcs) {
         Some(oid) => arcs_text(alloc, oid.as_ref()),
-        None => shown(alloc, "none"),
+        None => show_value(alloc, "none"),
     }
 }
 
 fn from_vec(alloc: Global, arcs: Vec<u32>) -> Result<String, RowError> {
     match ObjectIdentifier::from_vec(arcs) {
         Some(identifier) => arcs_text(alloc, identifier.as_ref()),
-        None => shown(alloc, "none"),
+        None => show_value(alloc, "none"),
     }
 }
 
 /// The text of the owned identifier.
 fn to_owned(alloc: Global, oid: Oid<'_>) -> Result<String, RowError> {
-    shown(alloc, oid.to_owned(alloc)?)
+    show_value(alloc, oid.to_owned(alloc)?)
 }
 
 /// The arcs that were taken out of an identifier and made one again.
@@ -135,7 +135,7 @@ fn taken_out(alloc: Global, identifier: ObjectIdentifier) -> Result<String, RowE
 }
 
 /// The identifier of the arcs in the other direction.
-fn reversed(alloc: Global, identifier: ObjectIdentifier) -> Result<String, RowError> {
+fn reverse_arcs(alloc: Global, identifier: ObjectIdentifier) -> Result<String, RowError> {
     let mut turned = identifier.into_arcs().into_owned(alloc)?;
     turned.reverse();
     from_vec(alloc, turned)

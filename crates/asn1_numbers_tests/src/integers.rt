@@ -2,7 +2,7 @@
 
 use crate::spelled::{integer, order_text, text_of};
 use asn1_number::{Integer, IntegerError};
-use asn1_test_rows::{RowError, hex_of, octets, optional, shown, wrong};
+use asn1_test_rows::{RowError, hex_of, octets, optional, show_value, wrong};
 use std::alloc::Global;
 use std::hash::{FoldHasher, Hash, Hasher};
 
@@ -53,14 +53,14 @@ fn read(alloc: Global, name: &str, octets: &[u8]) -> Result<String, RowError> {
 pub fn read_text(alloc: Global, read: Result<Integer, IntegerError>) -> Result<String, RowError> {
     match read {
         Ok(number) => text_of(alloc, &number),
-        Err(error) => shown(alloc, error),
+        Err(error) => show_value(alloc, error),
     }
 }
 
 fn of_number(alloc: Global, name: &str, number: &Integer) -> Result<String, RowError> {
     match name {
         "signed_octets" => hex_of(alloc, number.signed_octets().as_ref()),
-        "signed_len" => shown(alloc, number.signed_len()),
+        "signed_len" => show_value(alloc, number.signed_len()),
         "unsigned_octets" if *number >= Integer::zero() => {
             hex_of(alloc, number.unsigned_octets().as_ref())
         }
@@ -78,18 +78,18 @@ fn of_two(
     second: &Integer,
 ) -> Result<String, RowError> {
     match name {
-        "cmp" => shown(alloc, order_text(first.cmp(second))),
-        "eq" => shown(alloc, first == second),
+        "cmp" => show_value(alloc, order_text(first.cmp(second))),
+        "eq" => show_value(alloc, first == second),
         "clone_eq" => is_copied(alloc, first, second),
-        "lt" => shown(alloc, first < second),
-        "have_one_hash" => shown(alloc, hash_of(first) == hash_of(second)),
+        "lt" => show_value(alloc, first < second),
+        "have_one_hash" => show_value(alloc, hash_of(first) == hash_of(second)),
         _ => Err(wrong(alloc, name, "function of two numbers")),
     }
 }
 
 /// Whether the copy of a number equals the other one.
 fn is_copied(alloc: Global, number: &Integer, other: &Integer) -> Result<String, RowError> {
-    shown(alloc, number.clone()? == *other)
+    show_value(alloc, number.clone()? == *other)
 }
 
 fn hash_of(number: &Integer) -> u64 {

@@ -7,7 +7,7 @@ use asn1_number::{
     IntegerBytes, IntegerError, laws_of_shortest_octets, shortest_of, signed_value, unsigned_value,
     without_redundant_sign_octets,
 };
-use asn1_test_rows::{RowError, hex_of, number, octets, parsed, shown, wrong};
+use asn1_test_rows::{RowError, hex_of, number, octets, parse_word, show_value, wrong};
 use std::alloc::Global;
 
 /// The answers of the functions on octets, on an `i128`, or of a refusal with its number of bits.
@@ -19,7 +19,7 @@ pub fn answer(alloc: Global, name: &str, words: &[&str]) -> Result<String, RowEr
             shortest_of(number(alloc, word)?).as_ref(),
         ),
         [word] => of_octets(alloc, name, octets(alloc, word)?.as_slice()),
-        [kind, bits] => error_text(alloc, kind, parsed::<u32>(alloc, bits)?),
+        [kind, bits] => error_text(alloc, kind, parse_word::<u32>(alloc, bits)?),
         _ => Err(wrong(alloc, name, "function on octets")),
     }
 }
@@ -36,10 +36,10 @@ fn of_few(alloc: Global, name: &str, octets: &[u8]) -> Result<String, RowError>
     requires { length octets.now ≤ 16 }
 {
     match name {
-        "signed_value" if !octets.is_empty() => shown(alloc, signed_value(octets)),
-        "unsigned_value" => shown(alloc, unsigned_value(octets)),
+        "signed_value" if !octets.is_empty() => show_value(alloc, signed_value(octets)),
+        "unsigned_value" => show_value(alloc, unsigned_value(octets)),
         "IntegerBytes" => hex_of(alloc, IntegerBytes::from_octets(octets).as_ref()),
-        "IntegerBytes_len" => shown(alloc, IntegerBytes::from_octets(octets).len()),
+        "IntegerBytes_len" => show_value(alloc, IntegerBytes::from_octets(octets).len()),
         _ => Err(wrong(alloc, name, "function on such octets")),
     }
 }
@@ -48,7 +48,7 @@ fn of_few(alloc: Global, name: &str, octets: &[u8]) -> Result<String, RowError>
 fn laws(alloc: Global) -> Result<String, RowError> {
     laws_of_shortest_octets();
     laws_of_wrapping();
-    shown(alloc, true)
+    show_value(alloc, true)
 }
 
 fn error_text(alloc: Global, kind: &str, bits: u32) -> Result<String, RowError> {
@@ -61,5 +61,5 @@ fn error_text(alloc: Global, kind: &str, bits: u32) -> Result<String, RowError> 
         "Memory" => IntegerError::Memory,
         _ => return Err(wrong(alloc, kind, "refusal")),
     };
-    shown(alloc, error)
+    show_value(alloc, error)
 }

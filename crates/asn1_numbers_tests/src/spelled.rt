@@ -1,7 +1,7 @@
 //! Numbers and arcs as words.
 
 use asn1_number::Integer;
-use asn1_test_rows::{RowError, hex_of, octets, parsed, shown, unfolded, wrong};
+use asn1_test_rows::{RowError, hex_of, octets, parse_word, show_value, unfold_word, wrong};
 use std::alloc::Global;
 use std::cmp::Ordering;
 use std::str::FromStr;
@@ -26,14 +26,14 @@ pub fn integer(alloc: Global, word: &str) -> Result<Integer, RowError> {
 fn in_decimal(alloc: Global, word: &str) -> Result<Integer, RowError> {
     match i128::from_str(word) {
         Ok(number) => Ok(Integer::from(number)),
-        Err(_) => Ok(Integer::from_u128(alloc, parsed::<u128>(alloc, word)?)?),
+        Err(_) => Ok(Integer::from_u128(alloc, parse_word::<u128>(alloc, word)?)?),
     }
 }
 
 /// A number in decimal, or past `i128` as `x` and its octets.
 pub fn text_of(alloc: Global, number: &Integer) -> Result<String, RowError> {
     match number.to_i128() {
-        Some(number) => shown(alloc, number),
+        Some(number) => show_value(alloc, number),
         None => octets_text(alloc, number),
     }
 }
@@ -56,13 +56,13 @@ pub fn order_text(order: Ordering) -> &'static str {
 
 /// The arcs that a word spells with full stops between them, as `2.999+.3*4`; `-` for none.
 pub fn arcs(alloc: Global, word: &str) -> Result<Vec<u32>, RowError> {
-    let text = unfolded(alloc, word)?;
+    let text = unfold_word(alloc, word)?;
     let mut arcs = Vec::new(alloc);
     if text.is_empty() {
         return Ok(arcs);
     }
     for arc in text.as_str().split('.') {
-        arcs.push(parsed::<u32>(alloc, arc)?)?;
+        arcs.push(parse_word::<u32>(alloc, arc)?)?;
     }
     Ok(arcs)
 }
@@ -77,7 +77,7 @@ pub fn arcs_text(alloc: Global, arcs: &[u32]) -> Result<String, RowError> {
         if !text.is_empty() {
             text.push('.')?;
         }
-        text.push_str(shown(alloc, *arc)?.as_str())?;
+        text.push_str(show_value(alloc, *arc)?.as_str())?;
     }
     Ok(text)
 }

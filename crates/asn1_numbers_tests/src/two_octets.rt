@@ -2,7 +2,7 @@
 
 use crate::contents::contents_of;
 use asn1_oid::{ContentsError, ObjectIdentifier, Oid, check_contents};
-use asn1_test_rows::{RowError, shown};
+use asn1_test_rows::{RowError, show_value};
 use std::alloc::Global;
 
 /// How many lists agree with the rule: the octets, and each list of them and one more.
@@ -15,7 +15,7 @@ pub fn agree(alloc: Global, octets: &[u8]) -> Result<String, RowError> {
         longer.push(last)?;
         agreeing = agreeing.saturating_add(u32::from(agrees(alloc, longer.as_slice())?));
     }
-    shown(alloc, agreeing)
+    show_value(alloc, agreeing)
 }
 
 /// Whether the octets are written for the arcs that the rule has for them, and read as them; or are

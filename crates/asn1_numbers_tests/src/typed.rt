@@ -5,7 +5,7 @@ ghost use Rattle.asn1_integer.specs.Calls.{IsNonNegativeUnlessNative};
 
 use crate::spelled::{integer, text_of};
 use asn1_integer::{Integer, IntegerError, IntegerType};
-use asn1_test_rows::{RowError, hex_of, number, octets, optional, shown, wrong};
+use asn1_test_rows::{RowError, hex_of, number, octets, optional, show_value, wrong};
 use std::alloc::Global;
 
 /// The answers of a type: a native one by its name, or `Integer` by the name of the trait.
@@ -69,7 +69,7 @@ where
         [word] if name.ends_with("_bytes") => of_octets::<T>(alloc, name, word),
         [word] => of_word::<T>(alloc, name, word),
         [first, second] if name == "wrapping_unsigned_add" => {
-            wrapped::<T, U, S>(alloc, first, second)
+            add_pair::<T, U, S>(alloc, first, second)
         }
         [first, second] => of_two::<T>(alloc, name, first, second),
         _ => Err(wrong(alloc, name, "function of IntegerType")),
@@ -86,16 +86,16 @@ fn of_word<T: IntegerType + Drop>(
     word: &str,
 ) -> Result<String, RowError> {
     match name {
-        "try_from_i128" => found(alloc, T::try_from_i128(number(alloc, word)?)),
-        "from_integer" => found(alloc, T::from_integer(&integer(alloc, word)?)),
+        "try_from_i128" => text_or_none(alloc, T::try_from_i128(number(alloc, word)?)),
+        "from_integer" => text_or_none(alloc, T::from_integer(&integer(alloc, word)?)),
         _ => of_value(alloc, name, value::<T>(alloc, word)?),
     }
 }
 
 fn constant<T: IntegerType>(alloc: Global, name: &str) -> Result<String, RowError> {
     match name {
-        "WIDTH" => shown(alloc, T::WIDTH),
-        "BYTE_WIDTH" => shown(alloc, T::BYTE_WIDTH),
+        "WIDTH" => show_value(alloc, T::WIDTH),
+        "BYTE_WIDTH" => show_value(alloc, T::BYTE_WIDTH),
         "zero" => value_text(alloc, T::zero()),
         _ => Err(wrong(alloc, name, "constant of IntegerType")),
     }
@@ -117,8 +117,8 @@ fn of_value<T: IntegerType + Drop>(
 ) -> Result<String, RowError> {
     match name {
         "to_signed_bytes_be" => hex_of(alloc, value.to_signed_bytes_be().as_ref()),
-        "is_negative" => shown(alloc, value.is_negative()),
-        "is_signed" => shown(alloc, value.is_signed()),
+        "is_negative" => show_value(alloc, value.is_negative()),
+        "is_signed" => show_value(alloc, value.is_signed()),
         "to_i128" => optional(alloc, value.to_i128()),
         "to_integer" => value_text(alloc, value),
         _ => Err(wrong(alloc, name, "function of a value")),
@@ -134,20 +134,20 @@ fn of_two<T: IntegerType + Drop>(
     let first = value::<T>(alloc, first)?;
     let second = value::<T>(alloc, second)?;
     match name {
-        "checked_add" => found(alloc, first.checked_add(&second)),
-        "checked_sub" => found(alloc, first.checked_sub(&second)),
+        "checked_add" => text_or_none(alloc, first.checked_add(&second)),
+        "checked_sub" => text_or_none(alloc, first.checked_sub(&second)),
         _ => Err(wrong(alloc, name, "function of two values")),
     }
 }
 
 /// The sum of a number with one of its unsigned pair; the signed pair is named alone.
-fn wrapped<T, U, S>(alloc: Global, first: &str, second: &str) -> Result<String, RowError>
+fn add_pair<T, U, S>(alloc: Global, first: &str, second: &str) -> Result<String, RowError>
 where
     T: IntegerType<UnsignedPair = U, SignedPair = S> + Drop,
     U: IntegerType + Drop,
 {
     let number = value::<T>(alloc, first)?;
-    found(
+    text_or_none(
         alloc,
         number.wrapping_unsigned_add(value::<U>(alloc, second)?),
     )
@@ -181,7 +181,7 @@ fn value_text<T: IntegerType>(alloc: Global, value: T) -> Result<String, RowErro
 }
 
 /// The value as its text, or `none`.
-fn found<T: IntegerType>(alloc: Global, value: Option<T>) -> Result<String, RowError> {
+fn text_or_none<T: IntegerType>(alloc: Global, value: Option<T>) -> Result<String, RowError> {
     match value {
         Some(value) => value_text(alloc, value),
         None => Ok(String::from_str(alloc, "none")?),
@@ -195,6 +195,6 @@ fn read_text<T: IntegerType>(
 ) -> Result<String, RowError> {
     match value {
         Ok(value) => value_text(alloc, value),
-        Err(error) => shown(alloc, error),
+        Err(error) => show_value(alloc, error),
     }
 }

@@ -5,7 +5,7 @@ use asn1_values::{BitBuffer, BitReader};
 use std::alloc::Global;
 
 /// The buffer behind three ones.
-pub(crate) fn written<F: Format>(
+pub(crate) fn write_behind<F: Format>(
     format: &F,
     alloc: Global,
     value: &F::Value,
@@ -21,7 +21,7 @@ pub(crate) fn written<F: Format>(
 }
 
 /// What is read behind the first `start` bits, and how many bits are left.
-pub(crate) fn found<F: Format>(
+pub(crate) fn read_behind<F: Format>(
     format: &F,
     alloc: Global,
     octets: &[u8],
@@ -52,7 +52,7 @@ pub(crate) fn is_written<F: Format>(
     octets: &[u8],
     bits: usize,
 ) -> bool {
-    match written(format, alloc, value) {
+    match write_behind(format, alloc, value) {
         Ok(buffer) => buffer.len() == bits && buffer.as_bytes() == octets,
         Err(_) => false,
     }
@@ -68,7 +68,7 @@ pub(crate) fn is_misfit<F: Format>(
 where
     F::Misfit: PartialEq,
 {
-    match written(format, alloc, value) {
+    match write_behind(format, alloc, value) {
         Err(WriteRefusal::Wrong(found)) => found == misfit,
         _ => false,
     }
@@ -86,7 +86,7 @@ pub(crate) fn is_found<F: Format>(
 where
     F::Value: PartialEq,
 {
-    match found(format, alloc, octets, start) {
+    match read_behind(format, alloc, octets, start) {
         Ok((read, bits)) => read == *value && bits == left,
         Err(_) => false,
     }
@@ -120,7 +120,7 @@ pub(crate) fn is_refused<F: Format>(
 where
     F::Fault: PartialEq,
 {
-    match found(format, alloc, octets, start) {
+    match read_behind(format, alloc, octets, start) {
         Err(Refusal::Wrong(found)) => found == fault,
         _ => false,
     }
@@ -132,7 +132,7 @@ where
     F::Fault: PartialEq,
 {
     for row in rows {
-        match found(format, alloc, row.0, 3) {
+        match read_behind(format, alloc, row.0, 3) {
             Err(Refusal::Wrong(found)) => {
                 if found != row.1 {
                     return false;

@@ -13,7 +13,7 @@ use std::fmt::Display;
 use std::test::Fail;
 
 /// The value so many times.
-fn repeated<T: Copy>(alloc: Global, value: T, count: usize) -> Result<Vec<T>, AllocError> {
+fn repeat_value<T: Copy>(alloc: Global, value: T, count: usize) -> Result<Vec<T>, AllocError> {
     let mut values = Vec::new(alloc);
     for _ in 0..count {
         values.push(value)?;
@@ -28,7 +28,7 @@ fn octets_but(
     count: usize,
     others: &[(usize, u8)],
 ) -> Result<Vec<u8>, AllocError> {
-    let mut octets = repeated(alloc, octet, count)?;
+    let mut octets = repeat_value(alloc, octet, count)?;
     for other in others {
         if other.0 < octets.len() {
             octets[other.0] = other.1;
@@ -53,7 +53,7 @@ where
     A::Value: Copy + PartialEq,
 {
     let format = UnconstrainedSequenceOf { item };
-    match repeated(alloc, value, count) {
+    match repeat_value(alloc, value, count) {
         Ok(values) => has_form(&format, alloc, &values, octets, bits, left),
         Err(_) => false,
     }
@@ -152,7 +152,7 @@ fn pieces_in_another_order_are_refused(rt: HostRuntime) {
 
 #[test]
 fn an_item_that_does_not_fit_is_named(rt: HostRuntime) -> Result<(), Fail> {
-    let mut values = repeated(rt.alloc(), 1, 16386)?;
+    let mut values = repeat_value(rt.alloc(), 1, 16386)?;
     if values.len() > 16385 {
         values[16385] = 2;
     }
@@ -169,7 +169,7 @@ fn an_item_that_does_not_fit_is_named(rt: HostRuntime) -> Result<(), Fail> {
 
 /// Whether so many octets FF have this form, so many bits in all, with so many bits left.
 fn octets_have_form(alloc: Global, count: usize, form: &[u8], bits: usize, left: usize) -> bool {
-    match repeated(alloc, 0xFF, count) {
+    match repeat_value(alloc, 0xFF, count) {
         Ok(octets) => has_form(
             &UnconstrainedOctetString {},
             alloc,
@@ -223,7 +223,7 @@ fn octets_that_are_missing_are_named(rt: HostRuntime) {
 
 /// Whether eight times so many ones have this form, so many bits in all, with so many bits left.
 fn bits_have_form(alloc: Global, count: usize, form: &[u8], bits: usize, left: usize) -> bool {
-    match repeated(alloc, 0xFF, count) {
+    match repeat_value(alloc, 0xFF, count) {
         Ok(octets) => {
             if octets.len() > 2049 {
                 return false;

@@ -9,7 +9,7 @@ use asn1_bits::Turns;
 use asn1_strings::{
     BmpString, Ia5String, NumericString, PermittedAlphabetError, PrintableString, VisibleString,
 };
-use asn1_test_rows::{RowError, outcome, parsed, shown, wrong};
+use asn1_test_rows::{RowError, outcome, parse_word, show_value, wrong};
 use std::alloc::Global;
 use std::mem::size_of;
 
@@ -17,10 +17,10 @@ use std::mem::size_of;
 /// (`base` for the base set), and a character or code where the call takes one.
 pub fn answer(alloc: Global, name: &str, words: &[&str]) -> Result<String, RowError> {
     match words {
-        [] => shown(alloc, size_of::<CharacterAlphabet<'_>>()),
-        [width, word] => indexed(
+        [] => show_value(alloc, size_of::<CharacterAlphabet<'_>>()),
+        [width, word] => index_of_width(
             alloc,
-            parsed::<u32>(alloc, width)?,
+            parse_word::<u32>(alloc, width)?,
             list(alloc, word)?.as_slice(),
         ),
         [string, variant, "base", others @ ..] => {
@@ -34,11 +34,11 @@ pub fn answer(alloc: Global, name: &str, words: &[&str]) -> Result<String, RowEr
     }
 }
 
-fn indexed(alloc: Global, width: u32, set: &[u32]) -> Result<String, RowError> {
+fn index_of_width(alloc: Global, width: u32, set: &[u32]) -> Result<String, RowError> {
     if width > 31 {
         return Err(wrong(alloc, "the word", "width of at most 31 bits"));
     }
-    shown(alloc, should_be_indexed(width, set))
+    show_value(alloc, should_be_indexed(width, set))
 }
 
 fn of_set(
@@ -65,7 +65,7 @@ fn of_set(
     };
     match others {
         [] => of_alphabet(alloc, name, &alphabet),
-        [word] => of_number(alloc, name, &alphabet, set, parsed::<u32>(alloc, word)?),
+        [word] => of_number(alloc, name, &alphabet, set, parse_word::<u32>(alloc, word)?),
         _ => Err(wrong(alloc, name, "function of an alphabet")),
     }
 }
@@ -76,8 +76,8 @@ fn of_alphabet(
     alphabet: &CharacterAlphabet<'_>,
 ) -> Result<String, RowError> {
     match name {
-        "width" => shown(alloc, alphabet.width()),
-        "repeats" => shown(alloc, alphabet.repeats()),
+        "width" => show_value(alloc, alphabet.width()),
+        "repeats" => show_value(alloc, alphabet.repeats()),
         _ => Err(wrong(alloc, name, "function of an alphabet")),
     }
 }
@@ -92,20 +92,20 @@ fn of_number(
 ) -> Result<String, RowError> {
     match (name, set) {
         ("encode", _) => outcome(alloc, alphabet.encode(number)),
-        ("encode_counted", _) => outcome(alloc, counted(alphabet, number)),
-        ("encode_is_below_2", _) => shown(alloc, matches!(alphabet.encode(number), Ok(0 | 1))),
+        ("encode_counted", _) => outcome(alloc, count_and_list(alphabet, number)),
+        ("encode_is_below_2", _) => show_value(alloc, matches!(alphabet.encode(number), Ok(0 | 1))),
         ("decode", _) => outcome(alloc, alphabet.decode(number)),
         ("codes_are_places_below", Some(set)) => {
-            shown(alloc, has_these_alone(alphabet, set, true, number))
+            show_value(alloc, has_these_alone(alphabet, set, true, number))
         }
         ("codes_are_characters_below", Some(set)) => {
-            shown(alloc, has_these_alone(alphabet, set, false, number))
+            show_value(alloc, has_these_alone(alphabet, set, false, number))
         }
         _ => Err(wrong(alloc, name, "function of an alphabet and a number")),
     }
 }
 
-fn counted(
+fn count_and_list(
     alphabet: &CharacterAlphabet<'_>,
     character: u32,
 ) -> Result<u32, PermittedAlphabetError> {
@@ -123,7 +123,7 @@ fn has_these_alone(
 ) -> bool {
     for character in 0..limit {
         let wanted = wanted_code(set, by_place, character);
-        if alphabet.encode(character) != wanted || counted(alphabet, character) != wanted {
+        if alphabet.encode(character) != wanted || count_and_list(alphabet, character) != wanted {
             return false;
         }
     }

@@ -3,7 +3,7 @@
 use crate::strings::string_text;
 use asn1_bits::{BitStr, BitString};
 use asn1_strings::StaticPermittedAlphabet;
-use asn1_test_rows::{RowError, octets, parsed, wrong};
+use asn1_test_rows::{RowError, octets, parse_word, wrong};
 use std::alloc::Global;
 use std::collections::BTreeMap;
 
@@ -18,7 +18,7 @@ pub fn answer<S: StaticPermittedAlphabet>(
             alloc,
             name,
             octets(alloc, word)?,
-            parsed::<usize>(alloc, len)?,
+            parse_word::<usize>(alloc, len)?,
             others,
         ),
         _ => Err(wrong(alloc, name, "reading of bits")),
@@ -39,7 +39,11 @@ fn of_bits<S: StaticPermittedAlphabet>(
         return Err(wrong(alloc, name, "reading of so many bits"));
     };
     match (name, others) {
-        ("try_from_bits", [width]) => by_value::<S>(alloc, bits, parsed::<usize>(alloc, width)?),
+        ("try_from_bits", [width]) => by_value::<S>(
+            alloc,
+            bits,
+            parse_word::<usize>(alloc, width)?,
+        ),
         ("try_from_no_alphabet", []) => by_places::<S>(alloc, bits),
         ("try_from_permitted_alphabet", pairs) => by_map::<S>(alloc, bits, pairs),
         _ => Err(wrong(alloc, name, "reading of bits")),
@@ -100,7 +104,10 @@ fn map_of(alloc: Global, pairs: &[&str]) -> Result<BTreeMap<u32, u32>, RowError>
         let Some((key, character)) = pair.split_once(':') else {
             return Err(wrong(alloc, pair, "entry"));
         };
-        map.insert(parsed::<u32>(alloc, key)?, parsed::<u32>(alloc, character)?)?;
+        map.insert(
+            parse_word::<u32>(alloc, key)?,
+            parse_word::<u32>(alloc, character)?,
+        )?;
     }
     Ok(map)
 }

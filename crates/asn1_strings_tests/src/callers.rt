@@ -5,14 +5,14 @@ ghost use Rattle.std.specs.Prelude.{◌≡◌, ◌≢◌, [], IfOk, IfSome, OnEr
 
 use asn1_alphabets::CharacterAlphabet;
 use asn1_strings::{Ia5String, NumericString, StaticPermittedAlphabet};
-use asn1_test_rows::{RowError, hex_of, octets, one, optional, parsed, wrong};
+use asn1_test_rows::{RowError, hex_of, octets, one, optional, parse_word, wrong};
 use std::alloc::{AllocError, Global};
 
 /// The answers of the callers.
 pub fn answer(alloc: Global, name: &str, words: &[&str]) -> Result<String, RowError> {
     let word = one(alloc, words)?;
     match name {
-        "read_again" => read_by_places(alloc, parsed::<u32>(alloc, word)?),
+        "read_again" => read_by_places(alloc, parse_word::<u32>(alloc, word)?),
         "copied" => copy_of(alloc, octets(alloc, word)?.as_slice()),
         _ => Err(wrong(alloc, name, "caller")),
     }
@@ -38,7 +38,7 @@ fn read_by_places(alloc: Global, character: u32) -> Result<String, RowError> {
 }
 
 /// A copy, and no memory for an empty string.
-fn copied(string: &Ia5String) -> Result<Ia5String, AllocError>
+fn copy_string(string: &Ia5String) -> Result<Ia5String, AllocError>
     ensures same { IfOk result (λ copy. copy ≡ string.now) }
     ensures memory { OnErr result (string.now ≢ []) }
 {
@@ -47,7 +47,7 @@ fn copied(string: &Ia5String) -> Result<Ia5String, AllocError>
 
 fn copy_of(alloc: Global, octets: &[u8]) -> Result<String, RowError> {
     match Ia5String::try_from_slice(alloc, octets) {
-        Ok(string) => hex_of(alloc, copied(&string)?.as_slice()),
+        Ok(string) => hex_of(alloc, copy_string(&string)?.as_slice()),
         Err(_) => Err(wrong(alloc, "the word", "string")),
     }
 }

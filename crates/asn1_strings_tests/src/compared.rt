@@ -1,22 +1,22 @@
 //! What all strings have beside the calls of the trait, on strings that are made character by
 //! character.
 
-use crate::lists::{counted, list};
+use crate::lists::{count_and_list, list};
 use crate::strings::characters;
 use asn1_strings::{CodeUnit, RestrictedString, StaticPermittedAlphabet, StringKind};
-use asn1_test_rows::{RowError, shown, wrong};
+use asn1_test_rows::{RowError, show_value, wrong};
 use std::alloc::Global;
 use std::collections::HashSet;
 
 /// The answers on one string.
 pub fn of_one<K: StringKind>(alloc: Global, name: &str, word: &str) -> Result<String, RowError> {
-    let string: RestrictedString<K> = spelled(alloc, word)?;
+    let string: RestrictedString<K> = string_of_word(alloc, word)?;
     match name {
         "push_char" => characters(alloc, &string),
         "as_slice" => units(alloc, string.as_slice()),
         "into_vec" => units(alloc, string.into_vec().as_slice()),
-        "clone" => copied(alloc, &string),
-        "reserve_1000" => reserved(alloc, string),
+        "clone" => copy_string(alloc, &string),
+        "reserve_1000" => reserve_room(alloc, string),
         _ => Err(wrong(alloc, name, "function of a string")),
     }
 }
@@ -28,11 +28,11 @@ pub fn of_two<K: StringKind>(
     first: &str,
     second: &str,
 ) -> Result<String, RowError> {
-    let first: RestrictedString<K> = spelled(alloc, first)?;
-    let second: RestrictedString<K> = spelled(alloc, second)?;
+    let first: RestrictedString<K> = string_of_word(alloc, first)?;
+    let second: RestrictedString<K> = string_of_word(alloc, second)?;
     match name {
-        "lt" => shown(alloc, first < second),
-        "eq" => shown(alloc, first == second),
+        "lt" => show_value(alloc, first < second),
+        "eq" => show_value(alloc, first == second),
         "clone_eq" => is_copied(alloc, &first, &second),
         "is_found" => is_found(alloc, first, &second),
         _ => Err(wrong(alloc, name, "function of two strings")),
@@ -40,8 +40,11 @@ pub fn of_two<K: StringKind>(
 }
 
 /// The string of the characters that a word spells.
-fn spelled<K: StringKind>(alloc: Global, word: &str) -> Result<RestrictedString<K>, RowError> {
-    pushed(alloc, list(alloc, word)?.as_slice())
+fn string_of_word<K: StringKind>(
+    alloc: Global,
+    word: &str,
+) -> Result<RestrictedString<K>, RowError> {
+    push_characters(alloc, list(alloc, word)?.as_slice())
 }
 
 /// Whether the copy of the first string equals the second.
@@ -50,11 +53,11 @@ fn is_copied<K: StringKind>(
     first: &RestrictedString<K>,
     second: &RestrictedString<K>,
 ) -> Result<String, RowError> {
-    shown(alloc, first.clone()? == *second)
+    show_value(alloc, first.clone()? == *second)
 }
 
 /// The string of these characters, made one by one; those outside its set are left out.
-fn pushed<S: StaticPermittedAlphabet + Drop>(
+fn push_characters<S: StaticPermittedAlphabet + Drop>(
     alloc: Global,
     numbers: &[u32],
 ) -> Result<S, RowError> {
@@ -74,22 +77,25 @@ fn units<T: CodeUnit>(alloc: Global, units: &[T]) -> Result<String, RowError> {
     for unit in units {
         numbers.push(unit.to_character())?;
     }
-    counted(alloc, units.len(), numbers.as_slice())
+    count_and_list(alloc, units.len(), numbers.as_slice())
 }
 
-fn copied<K: StringKind>(alloc: Global, string: &RestrictedString<K>) -> Result<String, RowError> {
+fn copy_string<K: StringKind>(
+    alloc: Global,
+    string: &RestrictedString<K>,
+) -> Result<String, RowError> {
     characters(alloc, &string.clone()?)
 }
 
 /// Whether there is room for 1,000 characters, and for no more than 2,000.
-fn reserved<K: StringKind>(
+fn reserve_room<K: StringKind>(
     alloc: Global,
     mut string: RestrictedString<K>,
 ) -> Result<String, RowError> {
     string.reserve(1000)?;
     let units = string.into_vec();
     let room = units.capacity();
-    shown(alloc, units.is_empty() && room >= 1000 && room <= 2000)
+    show_value(alloc, units.is_empty() && room >= 1000 && room <= 2000)
 }
 
 /// Whether a set that has the first string has the second.
@@ -100,5 +106,5 @@ fn is_found<K: StringKind>(
 ) -> Result<String, RowError> {
     let mut seen = HashSet::new(alloc);
     seen.insert(first)?;
-    shown(alloc, seen.contains(second))
+    show_value(alloc, seen.contains(second))
 }

@@ -3,7 +3,7 @@
 ghost use Rattle.std.specs.Prelude.{◌≡◌, ◌∷◌, []};
 
 use asn1_characters::{FixedOctetString, OctetString};
-use asn1_test_rows::{RowError, hex_of, octets, shown, two, wrong};
+use asn1_test_rows::{RowError, hex_of, octets, show_value, two, wrong};
 use std::alloc::Global;
 
 /// The answers of octet strings of a fixed length: of the length, and of octets.
@@ -11,7 +11,7 @@ pub fn answer(alloc: Global, name: &str, words: &[&str]) -> Result<String, RowEr
     let (length, word) = two(alloc, words)?;
     let octets = octets(alloc, word)?;
     match length {
-        "2" => overwritten(alloc),
+        "2" => overwrite_octets(alloc),
         "3" => three_of_vector(alloc, octets),
         "4" => of_four(alloc, name, octets),
         "5" => five_of_string(alloc, octets.as_slice()),
@@ -21,21 +21,24 @@ pub fn answer(alloc: Global, name: &str, words: &[&str]) -> Result<String, RowEr
 
 fn of_four(alloc: Global, name: &str, octets: Vec<u8>) -> Result<String, RowError> {
     match name {
-        "try_from_slice" => found(alloc, FixedOctetString::try_from_slice(octets.as_slice())),
+        "try_from_slice" => octets_or_none(
+            alloc,
+            FixedOctetString::try_from_slice(octets.as_slice()),
+        ),
         "try_from_vec" => four_of_vector(alloc, octets),
         "try_from_octet_string" => four_of_string(alloc, octets.as_slice()),
-        "new" => made(alloc, octets.as_slice()),
-        "from" => converted(alloc, octets.as_slice()),
+        "new" => make_string(alloc, octets.as_slice()),
+        "from" => convert_octets(alloc, octets.as_slice()),
         "is_above_default" => above_default(alloc, octets.as_slice()),
         "default" => default_text(alloc),
         _ => Err(wrong(alloc, name, "function of octets")),
     }
 }
 
-fn found(alloc: Global, string: Option<FixedOctetString<4>>) -> Result<String, RowError> {
+fn octets_or_none(alloc: Global, string: Option<FixedOctetString<4>>) -> Result<String, RowError> {
     match string {
         Some(string) => hex_of(alloc, string.as_slice()),
-        None => shown(alloc, "none"),
+        None => show_value(alloc, "none"),
     }
 }
 
@@ -57,7 +60,7 @@ fn three_of_vector(alloc: Global, octets: Vec<u8>) -> Result<String, RowError> {
 
 fn four_of_string(alloc: Global, octets: &[u8]) -> Result<String, RowError> {
     let string = OctetString::from_slice(alloc, octets)?;
-    found(alloc, FixedOctetString::try_from_octet_string(&string))
+    octets_or_none(alloc, FixedOctetString::try_from_octet_string(&string))
 }
 
 /// The octets of a string of five, if there are so many.
@@ -65,7 +68,7 @@ fn five_of_string(alloc: Global, octets: &[u8]) -> Result<String, RowError> {
     let string = OctetString::from_slice(alloc, octets)?;
     match FixedOctetString::<5>::try_from_octet_string(&string) {
         Some(string) => hex_of(alloc, string.as_slice()),
-        None => shown(alloc, "none"),
+        None => show_value(alloc, "none"),
     }
 }
 
@@ -82,14 +85,14 @@ fn four(alloc: Global, octets: &[u8]) -> Result<[u8; 4], RowError> {
     }
 }
 
-fn made(alloc: Global, octets: &[u8]) -> Result<String, RowError> {
+fn make_string(alloc: Global, octets: &[u8]) -> Result<String, RowError> {
     hex_of(
         alloc,
         FixedOctetString::new(four(alloc, octets)?).as_slice(),
     )
 }
 
-fn converted(alloc: Global, octets: &[u8]) -> Result<String, RowError> {
+fn convert_octets(alloc: Global, octets: &[u8]) -> Result<String, RowError> {
     let string: FixedOctetString<4> = FixedOctetString::from(four(alloc, octets)?);
     hex_of(alloc, string.as_slice())
 }
@@ -102,7 +105,7 @@ fn default_text(alloc: Global) -> Result<String, RowError> {
 /// Whether the string of zeros is below the one of these octets.
 fn above_default(alloc: Global, octets: &[u8]) -> Result<String, RowError> {
     let zeros: FixedOctetString<4> = FixedOctetString::default();
-    shown(alloc, zeros < FixedOctetString::new(four(alloc, octets)?))
+    show_value(alloc, zeros < FixedOctetString::new(four(alloc, octets)?))
 }
 
 /// Writes through the array that the string lends; the clause says that the string ends with it.
@@ -113,9 +116,9 @@ fn overwrite(string: &mut FixedOctetString<2>)
 }
 
 /// The octets that were written over others, and whether the string equals the one of them.
-fn overwritten(alloc: Global) -> Result<String, RowError> {
+fn overwrite_octets(alloc: Global) -> Result<String, RowError> {
     let mut string: FixedOctetString<2> = FixedOctetString::new([1, 2]);
     overwrite(&mut string);
     let same = string == FixedOctetString::new([7, 8]) && *string == [7u8, 8];
-    shown(alloc, same)
+    show_value(alloc, same)
 }

@@ -4,7 +4,7 @@ use asn1_strings::{
     AsBytes, BmpString, FromBytes, General, Graphic, Ia5, Iso646, Numeric, PermittedAlphabetError,
     Printable, RestrictedString, StaticPermittedAlphabet, Teletex, Utf8String, Visible,
 };
-use asn1_test_rows::{RowError, hex_of, octets, shown, two, wrong};
+use asn1_test_rows::{RowError, hex_of, octets, show_value, two, wrong};
 use std::alloc::Global;
 
 /// The answers of a call on the string of a name and of octets.
@@ -29,7 +29,7 @@ pub fn answer(alloc: Global, name: &str, words: &[&str]) -> Result<String, RowEr
 fn of_octets<K: FromBytes + AsBytes>(alloc: Global, octets: &[u8]) -> Result<String, RowError> {
     match RestrictedString::<K>::from_bytes(alloc, octets) {
         Ok(string) => hex_of(alloc, string.as_bytes()),
-        Err(error) => shown(alloc, error),
+        Err(error) => show_value(alloc, error),
     }
 }
 
@@ -40,7 +40,7 @@ fn of_bmp(
 ) -> Result<String, RowError> {
     match read {
         Ok(string) => hex_of(alloc, string.to_bytes()?.as_slice()),
-        Err(error) => shown(alloc, error),
+        Err(error) => show_value(alloc, error),
     }
 }
 
@@ -51,14 +51,14 @@ fn of_teletex(
 ) -> Result<String, RowError> {
     match read {
         Ok(string) => hex_of(alloc, string.to_bytes()?.as_slice()),
-        Err(error) => shown(alloc, error),
+        Err(error) => show_value(alloc, error),
     }
 }
 
 fn of_iso646<K: Iso646>(alloc: Global, name: &str, octets: &[u8]) -> Result<String, RowError> {
     match RestrictedString::<K>::from_iso646_bytes(alloc, octets) {
         Ok(string) => of_text(alloc, name, string),
-        Err(error) => shown(alloc, error),
+        Err(error) => show_value(alloc, error),
     }
 }
 
@@ -69,7 +69,7 @@ fn of_text<K: Iso646>(
 ) -> Result<String, RowError> {
     match name {
         "as_iso646_bytes" => hex_of(alloc, string.as_iso646_bytes()),
-        "fmt" => shown(alloc, string),
+        "fmt" => show_value(alloc, string),
         "into_string" => into_string(alloc, string.into_string()),
         "into_octet_string" => into_octets(alloc, string),
         _ => Err(wrong(alloc, name, "function of a text")),
@@ -83,6 +83,6 @@ fn into_string(alloc: Global, text: Utf8String) -> Result<String, RowError> {
 fn into_octets<K: Iso646>(alloc: Global, string: RestrictedString<K>) -> Result<String, RowError> {
     match string.into_octet_string() {
         Ok(octets) => hex_of(alloc, octets.as_ref()),
-        Err(_) => shown(alloc, "the string came back"),
+        Err(_) => show_value(alloc, "the string came back"),
     }
 }

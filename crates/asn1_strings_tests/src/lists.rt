@@ -1,6 +1,6 @@
 //! Lists of characters and texts as words.
 
-use asn1_test_rows::{RowError, parsed, shown, wrong};
+use asn1_test_rows::{RowError, parse_word, show_value, wrong};
 use std::alloc::Global;
 
 /// The most numbers that the list of a word has.
@@ -16,7 +16,7 @@ pub fn list(alloc: Global, word: &str) -> Result<Vec<u32>, RowError> {
     for part in word.split(',') {
         match part.split_once("..") {
             Some((first, end)) => push_range(alloc, &mut numbers, first, end)?,
-            None => numbers.push(parsed::<u32>(alloc, part)?)?,
+            None => numbers.push(parse_word::<u32>(alloc, part)?)?,
         }
     }
     if numbers.len() > MOST {
@@ -34,11 +34,11 @@ fn push_range(
     end: &str,
 ) -> Result<(), RowError> {
     let (end, step) = match end.split_once('/') {
-        Some((end, step)) => (end, parsed::<u32>(alloc, step)?),
+        Some((end, step)) => (end, parse_word::<u32>(alloc, step)?),
         None => (end, 1),
     };
-    let first = parsed::<u32>(alloc, first)?;
-    let end = parsed::<u32>(alloc, end)?;
+    let first = parse_word::<u32>(alloc, first)?;
+    let end = parse_word::<u32>(alloc, end)?;
     let mut next = first;
     for _ in 0..MOST {
         if if first <= end {
@@ -59,11 +59,11 @@ fn push_range(
 }
 
 /// How many numbers there are, and each.
-pub fn counted(alloc: Global, count: usize, numbers: &[u32]) -> Result<String, RowError> {
-    let mut text = shown(alloc, count)?;
+pub fn count_and_list(alloc: Global, count: usize, numbers: &[u32]) -> Result<String, RowError> {
+    let mut text = show_value(alloc, count)?;
     for number in numbers {
         text.push(' ')?;
-        text.push_str(shown(alloc, *number)?.as_str())?;
+        text.push_str(show_value(alloc, *number)?.as_str())?;
     }
     Ok(text)
 }

@@ -1,7 +1,7 @@
 //! Octet strings.
 
 use asn1_characters::OctetString;
-use asn1_test_rows::{RowError, hex_of, octets, shown, wrong};
+use asn1_test_rows::{RowError, hex_of, octets, show_value, wrong};
 use bytes::Bytes;
 use std::alloc::Global;
 use std::collections::HashSet;
@@ -42,7 +42,7 @@ fn of_octets(alloc: Global, name: &str, octets: Vec<u8>) -> Result<String, RowEr
         "from_bytes" => from_bytes(alloc, octets),
         "from_bytes_ref" => from_bytes_ref(alloc, octets),
         "into_bytes" => into_bytes(alloc, of_vector(alloc, octets)?),
-        "clone" => copied(alloc, octets),
+        "clone" => copy_string(alloc, octets),
         _ => Err(wrong(alloc, name, "function of octets")),
     }
 }
@@ -56,17 +56,20 @@ fn from_vec(alloc: Global, octets: Vec<u8>) -> Result<String, RowError> {
 }
 
 fn from_bytes(alloc: Global, octets: Vec<u8>) -> Result<String, RowError> {
-    text_of(alloc, &OctetString::from_bytes(shared(alloc, octets)?))
+    text_of(
+        alloc,
+        &OctetString::from_bytes(share_octets(alloc, octets)?),
+    )
 }
 
 fn from_bytes_ref(alloc: Global, octets: Vec<u8>) -> Result<String, RowError> {
     text_of(
         alloc,
-        &OctetString::from_bytes_ref(&shared(alloc, octets)?)?,
+        &OctetString::from_bytes_ref(&share_octets(alloc, octets)?)?,
     )
 }
 
-fn copied(alloc: Global, octets: Vec<u8>) -> Result<String, RowError> {
+fn copy_string(alloc: Global, octets: Vec<u8>) -> Result<String, RowError> {
     text_of(alloc, &of_vector(alloc, octets)?.clone()?)
 }
 
@@ -78,14 +81,14 @@ fn of_vector(alloc: Global, octets: Vec<u8>) -> Result<OctetString, RowError> {
 }
 
 /// The octets of a string of the vector, shared with it.
-fn shared(alloc: Global, octets: Vec<u8>) -> Result<Bytes, RowError> {
+fn share_octets(alloc: Global, octets: Vec<u8>) -> Result<Bytes, RowError> {
     Ok(of_vector(alloc, octets)?.to_bytes(alloc)?)
 }
 
 fn into_bytes(alloc: Global, string: OctetString) -> Result<String, RowError> {
     match string.into_bytes(alloc) {
         Ok(back) => hex_of(alloc, back.as_slice()),
-        Err(_) => shown(alloc, "the string came back"),
+        Err(_) => show_value(alloc, "the string came back"),
     }
 }
 
@@ -97,9 +100,9 @@ fn of_two(
 ) -> Result<String, RowError> {
     let second = OctetString::from_slice(alloc, octets)?;
     match name {
-        "lt" => shown(alloc, *first < second),
-        "eq" => shown(alloc, *first == second),
-        "eq_bytes" => shown(alloc, first.eq_bytes(octets)),
+        "lt" => show_value(alloc, *first < second),
+        "eq" => show_value(alloc, *first == second),
+        "eq_bytes" => show_value(alloc, first.eq_bytes(octets)),
         "is_found" => is_found(alloc, second, first),
         _ => Err(wrong(alloc, name, "function of two octet strings")),
     }
@@ -109,5 +112,5 @@ fn of_two(
 fn is_found(alloc: Global, first: OctetString, second: &OctetString) -> Result<String, RowError> {
     let mut seen = HashSet::new(alloc);
     seen.insert(first)?;
-    shown(alloc, seen.contains(second))
+    show_value(alloc, seen.contains(second))
 }

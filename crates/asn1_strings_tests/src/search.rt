@@ -6,7 +6,7 @@ ghost use Rattle.std.specs.List.Sorted.{IsNonDecreasing};
 use crate::lists::list;
 use asn1_alphabets::{Entries, find_ascending};
 use asn1_bits::Turns;
-use asn1_test_rows::{RowError, parsed, two, wrong};
+use asn1_test_rows::{RowError, parse_word, two, wrong};
 use std::alloc::Global;
 
 /// Whether the character is found in the list, and whether that took 1 to 8 looks.
@@ -16,7 +16,7 @@ pub fn answer(alloc: Global, name: &str, words: &[&str]) -> Result<String, RowEr
     if !is_ascending(list.as_slice()) {
         return Err(wrong(alloc, name, "search of such a list"));
     }
-    let (found, few) = looked_for(list.as_slice(), parsed::<u32>(alloc, character)?);
+    let (found, few) = looked_for(list.as_slice(), parse_word::<u32>(alloc, character)?);
     Ok(format!(in alloc; "{found} {few}")?)
 }
 

@@ -1,17 +1,17 @@
 //! The table of base sets.
 
 use asn1_strings::StaticPermittedAlphabet;
-use asn1_test_rows::{RowError, shown, wrong};
+use asn1_test_rows::{RowError, show_value, wrong};
 use std::alloc::Global;
 
 /// The constants of a string.
 pub fn constant<S: StaticPermittedAlphabet>(alloc: Global, name: &str) -> Result<String, RowError> {
     match name {
-        "CHARACTER_SET_NAME" => shown(alloc, S::CHARACTER_SET_NAME),
-        "CHARACTER_SET_COUNT" => shown(alloc, S::CHARACTER_SET_COUNT),
-        "CHARACTER_SET_WIDTH" => shown(alloc, S::CHARACTER_SET_WIDTH),
-        "CHARACTER_SET_MAX" => shown(alloc, S::CHARACTER_SET_MAX),
-        "IS_INDEXED" => shown(alloc, S::IS_INDEXED),
+        "CHARACTER_SET_NAME" => show_value(alloc, S::CHARACTER_SET_NAME),
+        "CHARACTER_SET_COUNT" => show_value(alloc, S::CHARACTER_SET_COUNT),
+        "CHARACTER_SET_WIDTH" => show_value(alloc, S::CHARACTER_SET_WIDTH),
+        "CHARACTER_SET_MAX" => show_value(alloc, S::CHARACTER_SET_MAX),
+        "IS_INDEXED" => show_value(alloc, S::IS_INDEXED),
         "CHARACTER_SET_RANGES" => ranges(alloc, S::CHARACTER_SET_RANGES.as_slice()),
         _ => Err(wrong(alloc, name, "constant of a string")),
     }
@@ -30,7 +30,7 @@ fn ranges(alloc: Global, ranges: &[(u32, u32)]) -> Result<String, RowError> {
 }
 
 /// The longest ranges of characters below the limit that the set has, one by one asked.
-pub fn contained<S: StaticPermittedAlphabet>(
+pub fn ranges_of<S: StaticPermittedAlphabet>(
     alloc: Global,
     limit: u32,
 ) -> Result<String, RowError> {

@@ -1,12 +1,12 @@
 //! The eight character strings, through the trait that all have.
 
-use crate::lists::{counted, text_of};
+use crate::lists::{count_and_list, text_of};
 use crate::{bits, compared, sets};
 use asn1_strings::{
     Bmp, General, Graphic, Ia5, Numeric, OctetString, PermittedAlphabetError, Printable,
     RestrictedString, StaticPermittedAlphabet, StringKind, Teletex, Visible,
 };
-use asn1_test_rows::{RowError, octets, parsed, shown, wrong};
+use asn1_test_rows::{RowError, octets, parse_word, show_value, wrong};
 use std::alloc::Global;
 
 /// The answers of a string by its name.
@@ -59,10 +59,10 @@ fn of_number<S: StaticPermittedAlphabet>(
     name: &str,
     word: &str,
 ) -> Result<String, RowError> {
-    let number = parsed::<u32>(alloc, word)?;
+    let number = parse_word::<u32>(alloc, word)?;
     match name {
-        "contains_char_below" => sets::contained::<S>(alloc, number),
-        _ => shown(alloc, S::invalid_restricted_string(number)),
+        "contains_char_below" => sets::ranges_of::<S>(alloc, number),
+        _ => show_value(alloc, S::invalid_restricted_string(number)),
     }
 }
 
@@ -71,7 +71,7 @@ fn of_width<S: StaticPermittedAlphabet>(
     word: &str,
     width: &str,
 ) -> Result<String, RowError> {
-    let width = parsed::<usize>(alloc, width)?;
+    let width = parse_word::<usize>(alloc, width)?;
     with_width::<S>(alloc, octets(alloc, word)?.as_slice(), width)
 }
 
@@ -82,7 +82,7 @@ pub fn string_text<S: StaticPermittedAlphabet>(
 ) -> Result<String, RowError> {
     match read {
         Ok(string) => characters(alloc, &string),
-        Err(error) => shown(alloc, error),
+        Err(error) => show_value(alloc, error),
     }
 }
 
@@ -95,7 +95,7 @@ pub fn characters<S: StaticPermittedAlphabet>(
     for character in string.chars() {
         numbers.push(character)?;
     }
-    counted(alloc, string.len(), numbers.as_slice())
+    count_and_list(alloc, string.len(), numbers.as_slice())
 }
 
 fn read<S: StaticPermittedAlphabet>(

@@ -5,19 +5,19 @@ use asn1_characters::{
     InvalidIA5String, InvalidNumericString, InvalidPrintableString, InvalidRestrictedString,
     InvalidTeletexString, InvalidVisibleString, PermittedAlphabetError,
 };
-use asn1_test_rows::{RowError, parsed, shown, wrong};
+use asn1_test_rows::{RowError, parse_word, show_value, wrong};
 use std::alloc::Global;
 
 /// The texts of a name, or of a refusal with its numbers.
 pub fn answer(alloc: Global, name: &str, words: &[&str]) -> Result<String, RowError> {
     match words {
         [] => of_name(alloc, name),
-        [word] => of_character(alloc, name, parsed::<u32>(alloc, word)?),
-        [length, width] => shown(
+        [word] => of_character(alloc, name, parse_word::<u32>(alloc, word)?),
+        [length, width] => show_value(
             alloc,
             PermittedAlphabetError::InvalidData {
-                length: parsed::<usize>(alloc, length)?,
-                width: parsed::<usize>(alloc, width)?,
+                length: parse_word::<usize>(alloc, length)?,
+                width: parse_word::<usize>(alloc, width)?,
             },
         ),
         _ => Err(wrong(alloc, name, "text")),
@@ -26,15 +26,15 @@ pub fn answer(alloc: Global, name: &str, words: &[&str]) -> Result<String, RowEr
 
 fn of_name(alloc: Global, name: &str) -> Result<String, RowError> {
     match name {
-        "Bmp" => shown(alloc, CharacterSetName::Bmp),
-        "General" => shown(alloc, CharacterSetName::General),
-        "Graphic" => shown(alloc, CharacterSetName::Graphic),
-        "IA5" => shown(alloc, CharacterSetName::IA5),
-        "Numeric" => shown(alloc, CharacterSetName::Numeric),
-        "Printable" => shown(alloc, CharacterSetName::Printable),
-        "Teletex" => shown(alloc, CharacterSetName::Teletex),
-        "Visible" => shown(alloc, CharacterSetName::Visible),
-        "Memory" => shown(alloc, PermittedAlphabetError::Memory),
+        "Bmp" => show_value(alloc, CharacterSetName::Bmp),
+        "General" => show_value(alloc, CharacterSetName::General),
+        "Graphic" => show_value(alloc, CharacterSetName::Graphic),
+        "IA5" => show_value(alloc, CharacterSetName::IA5),
+        "Numeric" => show_value(alloc, CharacterSetName::Numeric),
+        "Printable" => show_value(alloc, CharacterSetName::Printable),
+        "Teletex" => show_value(alloc, CharacterSetName::Teletex),
+        "Visible" => show_value(alloc, CharacterSetName::Visible),
+        "Memory" => show_value(alloc, PermittedAlphabetError::Memory),
         _ => Err(wrong(alloc, name, "name")),
     }
 }
@@ -42,14 +42,14 @@ fn of_name(alloc: Global, name: &str) -> Result<String, RowError> {
 /// The text of a string's own refusal of a character.
 fn of_character(alloc: Global, name: &str, character: u32) -> Result<String, RowError> {
     match name {
-        "InvalidBmpString" => shown(alloc, InvalidBmpString::from(character)),
-        "InvalidGeneralString" => shown(alloc, InvalidGeneralString::from(character)),
-        "InvalidGraphicString" => shown(alloc, InvalidGraphicString::from(character)),
-        "InvalidIA5String" => shown(alloc, InvalidIA5String::from(character)),
-        "InvalidNumericString" => shown(alloc, InvalidNumericString::from(character)),
-        "InvalidPrintableString" => shown(alloc, InvalidPrintableString::from(character)),
-        "InvalidTeletexString" => shown(alloc, InvalidTeletexString::from(character)),
-        "InvalidVisibleString" => shown(alloc, InvalidVisibleString::from(character)),
+        "InvalidBmpString" => show_value(alloc, InvalidBmpString::from(character)),
+        "InvalidGeneralString" => show_value(alloc, InvalidGeneralString::from(character)),
+        "InvalidGraphicString" => show_value(alloc, InvalidGraphicString::from(character)),
+        "InvalidIA5String" => show_value(alloc, InvalidIA5String::from(character)),
+        "InvalidNumericString" => show_value(alloc, InvalidNumericString::from(character)),
+        "InvalidPrintableString" => show_value(alloc, InvalidPrintableString::from(character)),
+        "InvalidTeletexString" => show_value(alloc, InvalidTeletexString::from(character)),
+        "InvalidVisibleString" => show_value(alloc, InvalidVisibleString::from(character)),
         _ => of_refusal(alloc, name, character),
     }
 }
@@ -57,26 +57,26 @@ fn of_character(alloc: Global, name: &str, character: u32) -> Result<String, Row
 /// The text of a refusal with a number.
 fn of_refusal(alloc: Global, name: &str, number: u32) -> Result<String, RowError> {
     match name {
-        "InvalidRestrictedString" => shown(alloc, visible(number)),
-        "IndexNotFound" => shown(
+        "InvalidRestrictedString" => show_value(alloc, visible(number)),
+        "IndexNotFound" => show_value(
             alloc,
             PermittedAlphabetError::IndexNotFound {
                 index: number as usize,
             },
         ),
         "CharacterNotFound" => {
-            shown(
+            show_value(
                 alloc,
                 PermittedAlphabetError::CharacterNotFound { character: number },
             )
         }
-        "Other" => shown(
+        "Other" => show_value(
             alloc,
             PermittedAlphabetError::Other {
                 name: CharacterSetName::IA5,
             },
         ),
-        "OfPrintable" => shown(
+        "OfPrintable" => show_value(
             alloc,
             PermittedAlphabetError::InvalidRestrictedString {
                 source: printable(number),

@@ -14,6 +14,6 @@ mod words;
 
 pub use rows::{Answers, run};
 pub use words::{
-    RowError, bits, bits_of, boolean, hex_of, number, octets, one, optional, outcome, parsed,
-    shown, three, two, unfolded, wrong,
+    RowError, bits, bits_of, boolean, hex_of, number, octets, one, optional, outcome, parse_word,
+    show_value, three, two, unfold_word, wrong,
 };

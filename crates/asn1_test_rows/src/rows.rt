@@ -1,6 +1,6 @@
 //! Rows, from an input to its end.
 
-use crate::words::{RowError, unfolded};
+use crate::words::{RowError, unfold_word};
 use std::alloc::Global;
 use std::io::{BufRead, Write};
 
@@ -73,7 +73,7 @@ fn difference(alloc: Global, answer: &str, wanted: &str) -> Result<Option<String
             spelled.push(' ')?;
         }
         if word.contains('*') {
-            spelled.push_str(unfolded(alloc, word)?.as_str())?;
+            spelled.push_str(unfold_word(alloc, word)?.as_str())?;
         } else {
             spelled.push_str(word)?;
         }

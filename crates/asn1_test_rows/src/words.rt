@@ -29,7 +29,7 @@ pub fn wrong(alloc: Global, word: &str, kind: &str) -> RowError {
 }
 
 /// A word with its repetitions written out: `FF*3+00` is `FFFFFF00`, and `-` is nothing.
-pub fn unfolded(alloc: Global, word: &str) -> Result<String, RowError> {
+pub fn unfold_word(alloc: Global, word: &str) -> Result<String, RowError> {
     let mut text = String::new(alloc);
     if word == "-" {
         return Ok(text);
@@ -52,7 +52,7 @@ fn repeat(alloc: Global, text: &mut String, piece: &str, count: &str) -> Result<
 }
 
 /// The value that a word spells, of a type that is read from text.
-pub fn parsed<T: FromStr>(alloc: Global, word: &str) -> Result<T, RowError>
+pub fn parse_word<T: FromStr>(alloc: Global, word: &str) -> Result<T, RowError>
 where
     T::Err: Drop,
 {
@@ -67,7 +67,7 @@ pub fn number(alloc: Global, word: &str) -> Result<i128, RowError> {
     match word {
         "MIN" => Ok(i128::MIN),
         "MAX" => Ok(i128::MAX),
-        _ => parsed::<i128>(alloc, word),
+        _ => parse_word::<i128>(alloc, word),
     }
 }
 
@@ -77,7 +77,7 @@ pub fn octets(alloc: Global, word: &str) -> Result<Vec<u8>, RowError> {
     if let Some(text) = word.strip_prefix('\'') {
         return Ok(text.as_bytes().to_vec(alloc)?);
     }
-    let digits = unfolded(alloc, word)?;
+    let digits = unfold_word(alloc, word)?;
     match hex::decode(alloc, digits.as_str()) {
         Ok(octets) => Ok(octets),
         Err(_) => Err(wrong(alloc, word, "list of octets")),
@@ -94,7 +94,7 @@ pub fn hex_of(alloc: Global, octets: &[u8]) -> Result<String, RowError> {
 
 /// The bits that a word spells by `0` and `1`, with repetitions as `01*40+1`; `-` for none.
 pub fn bits(alloc: Global, word: &str) -> Result<Vec<bool>, RowError> {
-    let digits = unfolded(alloc, word)?;
+    let digits = unfold_word(alloc, word)?;
     let mut bits = Vec::new(alloc);
     for digit in digits.as_bytes() {
         match digit {
@@ -120,11 +120,11 @@ pub fn bits_of(alloc: Global, bits: &[bool]) -> Result<String, RowError> {
 
 /// The boolean that a word spells: `true` or `false`.
 pub fn boolean(alloc: Global, word: &str) -> Result<bool, RowError> {
-    parsed::<bool>(alloc, word)
+    parse_word::<bool>(alloc, word)
 }
 
 /// A value as its text.
-pub fn shown<T: Display + Drop>(alloc: Global, value: T) -> Result<String, RowError> {
+pub fn show_value<T: Display + Drop>(alloc: Global, value: T) -> Result<String, RowError> {
     Ok(value.to_string(alloc)?)
 }
 
@@ -134,15 +134,15 @@ pub fn outcome<T: Display + Drop, E: Display + Drop>(
     tried: Result<T, E>,
 ) -> Result<String, RowError> {
     match tried {
-        Ok(value) => shown(alloc, value),
-        Err(error) => shown(alloc, error),
+        Ok(value) => show_value(alloc, value),
+        Err(error) => show_value(alloc, error),
     }
 }
 
 /// A value as its text, or `none`.
 pub fn optional<T: Display + Drop>(alloc: Global, value: Option<T>) -> Result<String, RowError> {
     match value {
-        Some(value) => shown(alloc, value),
+        Some(value) => show_value(alloc, value),
         None => Ok(String::from_str(alloc, "none")?),
     }
 }

@@ -11,15 +11,15 @@ use std::alloc::Global;
 pub fn alphabet<'x>(word: &str, store: &'x Store) -> Option<CharacterAlphabet<'x>> {
     let (kind, set) = word.split_once('/')?;
     match kind {
-        "Ia5" => made::<Ia5String>(set, store, false),
-        "Ia5!" => made::<Ia5String>(set, store, true),
-        "Numeric" => made::<NumericString>(set, store, false),
-        "Bmp" => made::<BmpString>(set, store, false),
+        "Ia5" => make_alphabet::<Ia5String>(set, store, false),
+        "Ia5!" => make_alphabet::<Ia5String>(set, store, true),
+        "Numeric" => make_alphabet::<NumericString>(set, store, false),
+        "Bmp" => make_alphabet::<BmpString>(set, store, false),
         _ => None,
     }
 }
 
-fn made<'x, S: StaticPermittedAlphabet>(
+fn make_alphabet<'x, S: StaticPermittedAlphabet>(
     set: &str,
     store: &'x Store,
     aligned: bool,

@@ -53,7 +53,7 @@ pub fn of_two_octets(alloc: Global, text: &mut String) -> Option<()> {
     let (mut single, mut double, mut refused) = (0u128, 0u128, 0u128);
     for first in 0..=255u8 {
         single = single.saturating_add(u128::from(is_right(alloc, &[first])));
-        let (right, other) = behind(alloc, first);
+        let (right, other) = count_behind(alloc, first);
         double = double.saturating_add(right);
         refused = refused.saturating_add(other);
     }
@@ -63,7 +63,7 @@ pub fn of_two_octets(alloc: Global, text: &mut String) -> Option<()> {
 }
 
 /// How many integers of two octets, the first of them this one, are read, and how many refused.
-fn behind(alloc: Global, first: u8) -> (u128, u128) {
+fn count_behind(alloc: Global, first: u8) -> (u128, u128) {
     let (mut right, mut refused) = (0u128, 0u128);
     for second in 0..=255u8 {
         let is_long = (first == 0 && second < 0x80) || (first == 0xFF && second >= 0x80);

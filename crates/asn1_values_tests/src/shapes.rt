@@ -26,11 +26,11 @@ fn shape<'x>(word: &str, store: &'x Store) -> Option<Shape<'x>> {
         return Some(Shape::Character { alphabet });
     }
     let (kind, count) = word.split_at_checked(1)?;
-    counted(kind, size(count)?)
+    shape_of_letter(kind, size(count)?)
 }
 
 /// The shape of a letter and a number.
-fn counted<'x>(kind: &str, count: usize) -> Option<Shape<'x>> {
+fn shape_of_letter<'x>(kind: &str, count: usize) -> Option<Shape<'x>> {
     match kind {
         "n" => Some(Shape::Number { width: count }),
         "o" => Some(Shape::Octets { count }),

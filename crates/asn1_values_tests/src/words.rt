@@ -1,6 +1,6 @@
 //! The words of rows on fields. What cannot be read of a word, or for want of memory, is none.
 
-use asn1_test_rows::{hex_of, octets, shown};
+use asn1_test_rows::{hex_of, octets, show_value};
 use asn1_values::{BitBuffer, BitStr};
 use std::alloc::Global;
 use std::fmt::Display;
@@ -55,7 +55,7 @@ pub fn append(text: &mut String, word: &str) -> Option<()> {
 
 /// Appends the text of a value.
 pub fn push_shown<T: Display + Drop>(alloc: Global, text: &mut String, value: T) -> Option<()> {
-    let word = shown(alloc, value).ok()?;
+    let word = show_value(alloc, value).ok()?;
     append(text, word.as_str())
 }
 

@@ -110,7 +110,6 @@ pub(super) fn examine<'a>(
 }
 
 /// Appends a view of the next bits to the fields, for which there is room.
-#[inline(always)]
 pub(super) fn append<'a>(
     fields: &mut Vec<Field<'a, '_>>,
     reader: &mut BitReader<'a>,

@@ -96,7 +96,6 @@ pub(super) fn examine(
 }
 
 /// Appends the next character to the fields, for which there is room.
-#[inline(always)]
 pub(super) fn append<'a, 's>(
     fields: &mut Vec<Field<'a, 's>>,
     reader: &mut BitReader<'a>,

@@ -79,7 +79,6 @@ fn take_count(reader: &mut BitReader<'_>, field: usize) -> Result<u8, ReadError>
 }
 
 /// Appends the next counted integer to the fields, for which there is room.
-#[inline(always)]
 pub(super) fn append<'a>(
     fields: &mut Vec<Field<'a, '_>>,
     alloc: Global,

@@ -122,7 +122,6 @@ pub(super) fn examine<'a>(
 }
 
 /// Appends the next identifier to the fields, for which there is room.
-#[inline(always)]
 #[tactic(auto, unfolding(crate::specs::Walk::field_at, crate::specs::Walk::cut_at))]
 pub(super) fn append<'a>(
     fields: &mut Vec<Field<'a, '_>>,

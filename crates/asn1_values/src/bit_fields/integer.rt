@@ -119,7 +119,6 @@ pub(super) fn examine<'a>(
 }
 
 /// Appends the next integer to the fields, for which there is room.
-#[inline(always)]
 #[tactic(auto, unfolding(crate::specs::Walk::field_at))]
 pub(super) fn append<'a>(
     fields: &mut Vec<Field<'a, '_>>,

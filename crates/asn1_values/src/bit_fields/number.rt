@@ -120,7 +120,6 @@ pub(super) fn examine(
 }
 
 /// Appends the next number to the fields, for which there is room.
-#[inline(always)]
 pub(super) fn append<'a>(
     fields: &mut Vec<Field<'a, '_>>,
     reader: &mut BitReader<'a>,

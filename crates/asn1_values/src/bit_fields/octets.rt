@@ -77,7 +77,6 @@ pub(super) fn examine<'a>(
 }
 
 /// Appends the next `count` octets to the fields, for which there is room.
-#[inline(always)]
 pub(super) fn append<'a>(
     fields: &mut Vec<Field<'a, '_>>,
     alloc: Global,

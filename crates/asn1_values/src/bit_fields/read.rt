@@ -113,7 +113,6 @@ fn refusal_of(reader: BitReader<'_>, shapes: &[Shape<'_>], met: ReadError) -> Re
 }
 
 /// Reads a field of each shape, and stops at the first that is wrong or that cannot be allocated.
-#[inline(always)]
 fn collect<'a, 's>(
     alloc: Global,
     reader: &mut BitReader<'a>,
