@@ -64,7 +64,7 @@ pub fn level_format() -> LevelFormat {
 
 #[cfg(test)]
 mod tests {
-    use super::super::calls::{found, is_misfit, is_written};
+    use super::super::calls::{is_misfit, is_written, read_behind};
     use super::{Level, level_format};
     use asn1_formats::{InThen, SizeMisfit};
     use std::alloc::Global;

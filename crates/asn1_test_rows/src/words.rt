@@ -45,7 +45,7 @@ pub fn unfold_word(alloc: Global, word: &str) -> Result<String, RowError> {
 
 /// Appends so many times the piece to the text.
 fn repeat(alloc: Global, text: &mut String, piece: &str, count: &str) -> Result<(), RowError> {
-    for _ in 0..parsed::<u32>(alloc, count)? {
+    for _ in 0..parse_word::<u32>(alloc, count)? {
         text.push_str(piece)?;
     }
     Ok(())
