@@ -4,9 +4,10 @@ use crate::names::name_text;
 use crate::octets::value_of;
 use crate::refusal::{Reason, Stop, refuse};
 use crate::times::push_time;
+use asn1_compose::Format;
 use asn1_values::Integer;
 use asn1_x509::{
-    AlgorithmIdentifier, CertificateParts, Extension, MiddleParts, PublicKey, Version,
+    AlgorithmIdentifier, CertificateParts, Extension, MiddleParts, PublicKey, Tell, Version,
     certificate_format,
 };
 use std::alloc::{AllocError, Global};
@@ -15,8 +16,30 @@ use std::fmt::Write;
 /// The lines of the certificate that the octets are, from `version` to `end`; or the first part
 /// that is wrong.
 pub fn lines_of(alloc: Global, octets: &[u8]) -> Result<String, Stop> {
-    let parts = value_of(&certificate_format(), alloc, octets)?;
-    text_of(alloc, &parts)
+    text_by(&certificate_format(), alloc, octets)
+}
+
+/// What is written in lines.
+trait HasLines {
+    /// The lines.
+    fn lines(&self, alloc: Global) -> Result<String, Stop>;
+}
+
+impl HasLines for CertificateParts {
+    fn lines(&self, alloc: Global) -> Result<String, Stop> {
+        text_of(alloc, self)
+    }
+}
+
+/// The lines of what the octets are by a format; or the first part that is wrong. This function is
+/// generic, so that none has a certificate's value, whose whole type its proof would state.
+fn text_by<F: Format>(format: &F, alloc: Global, octets: &[u8]) -> Result<String, Stop>
+where
+    F::Fault: Tell,
+    F::Value: HasLines,
+{
+    let value = value_of(format, alloc, octets)?;
+    value.lines(alloc)
 }
 
 /// The lines of a certificate of these parts.
