@@ -96,7 +96,6 @@ pub(super) fn overwrite_view(target: &mut [u8], position: usize, view: BitStr<'_
 }
 
 /// Goes past `length` bits, and gives them.
-#[inline(always)]
 #[tactic(auto, unfolding(crate::specs::Walk::field_at, crate::specs::Walk::cut_at))]
 pub(super) fn examine<'a>(
     reader: &mut BitReader<'a>,

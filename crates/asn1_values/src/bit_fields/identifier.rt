@@ -99,7 +99,6 @@ fn overwrite_each(target: &mut [u8], position: usize, octets: OidContents<'_>) -
 }
 
 /// Goes past an identifier, and gives its contents, if the octets are contents.
-#[inline(always)]
 #[tactic(auto, unfolding(crate::specs::Walk::field_at, crate::specs::Walk::cut_at))]
 pub(super) fn examine<'a>(
     reader: &mut BitReader<'a>,

@@ -95,7 +95,6 @@ pub(super) fn overwrite_shortest(target: &mut [u8], position: usize, number: &In
 
 /// Goes past an integer, and gives its octets, if they are the shortest of a number: if the first
 /// nine of their bits are not all alike (X.690 8.3.2), or there is one octet.
-#[inline(always)]
 #[tactic(auto, unfolding(crate::specs::Walk::integer_at, crate::specs::Walk::cut_at))]
 pub(super) fn examine<'a>(
     reader: &mut BitReader<'a>,

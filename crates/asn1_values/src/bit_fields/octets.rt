@@ -63,7 +63,6 @@ pub(super) fn overwrite_octets(target: &mut [u8], position: usize, octets: &[u8]
 }
 
 /// Goes past `count` octets, and gives them.
-#[inline(always)]
 #[tactic(auto, unfolding(crate::specs::Walk::field_at, crate::specs::Walk::cut_at))]
 pub(super) fn examine<'a>(
     reader: &mut BitReader<'a>,

@@ -6,7 +6,6 @@ use super::error::ReadError;
 use asn1_bits::BitReader;
 
 /// Takes the next `need` bits, if so many are left.
-#[inline(always)]
 pub(super) fn take_bits<'a>(
     reader: &mut BitReader<'a>,
     need: u128,
@@ -28,7 +27,6 @@ pub(super) fn take_bits<'a>(
 }
 
 /// `take_bits` for a width that the compiler knows to be short, as that of a number or a character.
-#[inline(always)]
 pub(super) fn take_few<'a>(
     reader: &mut BitReader<'a>,
     width: usize,
