@@ -83,6 +83,7 @@ impl<'a> BitReader<'a> {
 
     /// Takes the first `count` bits. If fewer are left, the reader stays, and the error is the
     /// number of bits that are missing.
+    #[inline(always)]
     pub fn split(&mut self, count: usize) -> Result<BitReader<'a>, usize>
         ensures short { IsErr result ↔ ((view_left self.old).len < count) }
         ensures enough { OnOk result (count ≤ (view_left self.old).len) }

@@ -38,6 +38,7 @@ pub(crate) fn read_few(octets: &[u8], first: usize, shift: usize, width: usize) 
 
 /// The path of `read_word` for so many bits that eight octets are there, and that may reach a
 /// ninth.
+#[inline(always)]
 pub(crate) fn read_many(octets: &[u8], first: usize, shift: usize, width: usize) -> u64
     requires shift { shift < 8 }
     requires some { 57 < width }

@@ -24,6 +24,7 @@ impl<'a> BitStr<'a> {
 
     /// Splits as `split_at` does. Where the compiler knows that `at` is below 256, only the call of
     /// `split_near` is compiled.
+    #[inline(always)]
     pub(crate) fn split_either(&self, at: usize) -> (BitStr<'a>, BitStr<'a>)
         requires { at ≤ (view_of self.now).len }
         ensures front { view_of result.0 ≡ part (view_of self.now) 0 at }
@@ -39,6 +40,7 @@ impl<'a> BitStr<'a> {
     }
 
     /// `split_at` for fewer than 256 bits: with so few no sum of places passes `usize`.
+    #[inline(always)]
     fn split_near(&self, at: usize) -> (BitStr<'a>, BitStr<'a>)
         requires near { at < 256 }
         requires within { at ≤ (view_of self.now).len }
