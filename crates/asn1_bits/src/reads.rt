@@ -21,8 +21,8 @@ pub(crate) fn read_word(octets: &[u8], first: usize, shift: usize, width: usize)
     }
 }
 
-/// The path of `read_word` for so few bits that they lie within eight octets, which are loaded where
-/// all of them are there.
+/// The path of `read_word` for so few bits that they lie within eight octets, which are loaded
+/// where all of them are there.
 #[inline(always)]
 pub(crate) fn read_few(octets: &[u8], first: usize, shift: usize, width: usize) -> u64
     requires shift { shift < 8 }

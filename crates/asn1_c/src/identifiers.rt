@@ -51,8 +51,8 @@ pub extern "C" fn asn1_oid_check_arcs(arcs: &[u32]) -> u32
     }
 }
 
-/// Writes the contents of the arcs into the room, of which five octets an arc are always enough. How
-/// many octets they are is told also where the room is too small.
+/// Writes the contents of the arcs into the room, of which five octets an arc are always enough.
+/// How many octets they are is told also where the room is too small.
 #[unsafe(no_mangle)]
 #[tactic(auto, using(asn1_oid::specs::WritingLaws::contents_only))]
 pub extern "C" fn asn1_oid_contents(arcs: &[u32], room: &mut [u8], count: &mut usize) -> u32

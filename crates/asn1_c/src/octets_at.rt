@@ -45,7 +45,8 @@ impl OctetSource for OctetsAt<'_> {
     }
 }
 
-/// Copies so many octets, which lie one after another from bit `first` on, to the front of the room.
+/// Copies so many octets, which lie one after another from bit `first` on, to the front of the
+/// room.
 #[unsafe(no_mangle)]
 pub extern "C" fn asn1_octets_at(octets: &[u8], first: usize, count: usize, room: &mut [u8]) -> u32
     ensures copied { result ≡ 0 → take count room.new ≡ octets_at octets.now first count }

@@ -1,8 +1,8 @@
 //! A message that is composed of formats, read for C: how a codec's author puts a format of his own
 //! behind C.
 //!
-//! `Report ::= SEQUENCE { station INTEGER (0..1023), height INTEGER (0..8191) OPTIONAL, valid BOOLEAN }`
-//! in unaligned PER.
+//! `Report ::= SEQUENCE { station INTEGER (0..1023), height INTEGER (0..8191) OPTIONAL,
+//! valid BOOLEAN }` in unaligned PER.
 
 ghost use Rattle.std.specs.Prelude.{◌≡◌, ◌≢◌, false, ◌↔◌, ◌*◌, ◌^◌, ◌<◌, ◌≤◌, length, drop};
 ghost use Rattle.asn1_bits.specs.Bits.{bits};

@@ -162,7 +162,8 @@ impl<N: Counts, A: Format> SequenceOf<N, A> {
         values.as_slice().is_empty()
     }
 
-    /// Goes past a list, without memory, and says whether it has no items; or what is wrong with it.
+    /// Goes past a list, without memory, and says whether it has no items; or what is wrong with
+    /// it.
     pub fn skip_empty(
         &self,
         reader: &mut BitReader<'_>,

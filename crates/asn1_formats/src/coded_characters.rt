@@ -89,7 +89,8 @@ impl<'s> CodedCharacters<'s> {
     pub(crate) fn width(&self) -> usize
         ensures value { result ≡ (alphabet_of self.now.item.alphabet).width }
         ensures bound { result ≤ 32 }
-        ensures codes { (c k : ℕ) → IsCode (alphabet_of self.now.item.alphabet) c k → k < 2 ^ result }
+        ensures codes { (c k : ℕ) → IsCode (alphabet_of self.now.item.alphabet) c k
+            → k < 2 ^ result }
     {
         self.item.alphabet().width()
     }

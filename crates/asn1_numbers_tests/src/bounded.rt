@@ -11,7 +11,8 @@ type Bounded = ConstrainedInteger<-8, 360>;
 /// The numbers between bounds that leave none.
 type Empty = ConstrainedInteger<5, 3>;
 
-/// The answers of `ConstrainedInteger`; its bounds are -8 and 360, where the name says nothing else.
+/// The answers of `ConstrainedInteger`; its bounds are -8 and 360, where the name says nothing
+/// else.
 pub fn answer(alloc: Global, name: &str, words: &[&str]) -> Result<String, RowError> {
     match words {
         [word] => of_word(alloc, name, word),

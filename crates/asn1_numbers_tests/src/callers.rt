@@ -86,7 +86,8 @@ fn octets_with_length(number: &Integer) -> Option<usize>
 
 /// A version number, from the contents of an INTEGER: one octet holds it, or it is refused by name.
 fn version(alloc: Global, contents: &[u8]) -> Result<u8, IntegerError>
-    ensures { Answers (UnsignedOf 1) (λ n. pos n) result (signed_reading (UnsignedOf 1) contents.now) }
+    ensures { Answers (UnsignedOf 1) (λ n. pos n) result
+        (signed_reading (UnsignedOf 1) contents.now) }
 {
     u8::try_from_signed_bytes(alloc, contents)
 }
@@ -111,7 +112,8 @@ fn is_this(alloc: Global, contents: &[u8], oid: &Oid) -> Result<bool, ContentsEr
 
 /// Appends the contents of the identifier, and says whether it has any.
 fn append(oid: &Oid, octets: &mut Vec<u8>) -> Result<bool, AllocError>
-    ensures { IfOk result (λ some. IsTrue some → (contents : List ℕ) × IsContents (arcs_of oid.now) contents
+    ensures { IfOk result (λ some. IsTrue some
+        → (contents : List ℕ) × IsContents (arcs_of oid.now) contents
         × (octets.new.items ≡ octets.old.items ++ contents)) }
 {
     let Some(contents) = oid.contents() else {

@@ -24,8 +24,8 @@ pub fn answer(alloc: Global, owner: &str, name: &str, words: &[&str]) -> Result<
     }
 }
 
-/// The answers of a string: of no word, of octets, of a number, of octets and a width, of one or two
-/// lists of characters, or of bits.
+/// The answers of a string: of no word, of octets, of a number, of octets and a width, of one or
+/// two lists of characters, or of bits.
 fn of_kind<K: StringKind>(alloc: Global, name: &str, words: &[&str]) -> Result<String, RowError> {
     match words {
         [] => sets::constant::<RestrictedString<K>>(alloc, name),

@@ -27,7 +27,8 @@ fn answers<R: Abort + AllocGlobal>(
     Ok(())
 }
 
-/// Runs on the certificate in hexadecimal with one octet changed, and compares the line that refuses it.
+/// Runs on the certificate in hexadecimal with one octet changed, and compares the line that
+/// refuses it.
 fn refuses<R: Abort + AllocGlobal>(
     rt: &R,
     certificate: &str,

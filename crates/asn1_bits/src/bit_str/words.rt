@@ -79,7 +79,8 @@ impl BitStr<'_> {
     pub(super) fn last_word(&self) -> u64
         requires some { 64 ≤ (view_of self.now).len }
         requires whole { (view_of self.now).len % 64 ≡ 0 }
-        ensures { digits result 64 ≡ take 64 (drop ((view_of self.now).len - 64) (bits_of self.now)) }
+        ensures { digits result 64
+            ≡ take 64 (drop ((view_of self.now).len - 64) (bits_of self.now)) }
     {
         // Whole words later the shift is the same.
         let octet = self.octet + (self.len / 8 - 8);

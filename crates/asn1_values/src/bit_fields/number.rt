@@ -50,8 +50,8 @@ fn fitting_wide(value: u128, width: usize, place: usize) -> Result<u128, WriteEr
     Ok(width as u128)
 }
 
-/// Gathers a number of at most 21 bits, of which three fit a word, or pushes it behind those that are
-/// gathered.
+/// Gathers a number of at most 21 bits, of which three fit a word, or pushes it behind those that
+/// are gathered.
 #[inline(always)]
 pub(super) fn push(
     appender: &mut BitAppender<'_>,
