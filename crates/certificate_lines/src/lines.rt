@@ -31,8 +31,8 @@ impl HasLines for CertificateParts {
     }
 }
 
-/// The lines of what the octets are by a format; or the first part that is wrong. This function is
-/// generic, so that none has a certificate's value, whose whole type its proof would state.
+/// The lines of what the octets are by a format; or the first part that is wrong. It is generic, so
+/// that no proof states the whole type of a certificate's value.
 fn text_by<F: Format>(format: &F, alloc: Global, octets: &[u8]) -> Result<String, Stop>
 where
     F::Fault: Tell,
