@@ -315,7 +315,11 @@ pub fn read_u128(src: BitStr<'_>) -> u128
     ensures digits { digits result (view_of src.entry).len ≡ bits_of src.entry }
     ensures below { result < 2 ^ (view_of src.entry).len }
 {
-    src.first_u128(src.len())
+    let len = src.len();
+    if len > 64 {
+        return src.first_long(len);
+    }
+    src.first_u128(len)
 }
 
 /// The greatest number of `n` bits. `n` is at most 126.

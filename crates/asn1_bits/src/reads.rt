@@ -53,7 +53,8 @@ pub(crate) fn read_many(octets: &[u8], first: usize, shift: usize, width: usize)
 }
 
 /// The number of more than 64 bits, at most 128, from bit `shift` of octet `first` on: read from
-/// seventeen octets at once or, near the end of the octets, from two words.
+/// seventeen octets at once or, near the end of the octets, from two words. The second is cold, and
+/// not inlined.
 #[inline(always)]
 pub(crate) fn read_long(octets: &[u8], first: usize, shift: usize, width: usize) -> u128
     requires shift { shift < 8 }
@@ -63,13 +64,65 @@ pub(crate) fn read_long(octets: &[u8], first: usize, shift: usize, width: usize)
     ensures { result ≡ number (take width (drop (8 * first + shift) (bits octets.now))) }
 {
     if first + 17 <= octets.len() {
-        // The remainder tells the compiler that the shift is below 64.
-        return wide_of_seventeen(octets, first, shift) >> ((128 - width) % 64);
+        return read_seventeen(octets, first, shift, width);
     }
+    read_long_last(octets, first, shift, width)
+}
+
+/// `read_long` for bits that are likely to end where the octets do.
+#[inline(always)]
+pub(crate) fn read_long_near_end(octets: &[u8], first: usize, shift: usize, width: usize) -> u128
+    requires shift { shift < 8 }
+    requires many { 64 < width }
+    requires width { width ≤ 128 }
+    requires within { 8 * first + shift + width ≤ 8 * length octets.now }
+    ensures { result ≡ number (take width (drop (8 * first + shift) (bits octets.now))) }
+{
+    if first + 17 <= octets.len() {
+        return read_seventeen(octets, first, shift, width);
+    }
+    read_two(octets, first, shift, width)
+}
+
+/// The path of `read_long` for seventeen octets, which are loaded at once.
+#[inline(always)]
+fn read_seventeen(octets: &[u8], first: usize, shift: usize, width: usize) -> u128
+    requires shift { shift < 8 }
+    requires many { 64 < width }
+    requires width { width ≤ 128 }
+    requires seventeen { first + 17 ≤ length octets.now }
+    ensures { result ≡ number (take width (drop (8 * first + shift) (bits octets.now))) }
+{
+    // The remainder tells the compiler that the shift is below 64.
+    wide_of_seventeen(octets, first, shift) >> ((128 - width) % 64)
+}
+
+/// The path of `read_long` near the end of the octets: two words.
+#[inline(always)]
+fn read_two(octets: &[u8], first: usize, shift: usize, width: usize) -> u128
+    requires shift { shift < 8 }
+    requires many { 64 < width }
+    requires width { width ≤ 128 }
+    requires within { 8 * first + shift + width ≤ 8 * length octets.now }
+    ensures { result ≡ number (take width (drop (8 * first + shift) (bits octets.now))) }
+{
     let low = shift + (width - 64);
     let high = whole_word(octets, first, shift);
     let rest = whole_word(octets, first + low / 8, low % 8);
     (u128::from(high >> (128 - width)) << 64) | u128::from(rest)
+}
+
+/// `read_two`, cold and not inlined.
+#[cold]
+#[inline(never)]
+fn read_long_last(octets: &[u8], first: usize, shift: usize, width: usize) -> u128
+    requires shift { shift < 8 }
+    requires many { 64 < width }
+    requires width { width ≤ 128 }
+    requires within { 8 * first + shift + width ≤ 8 * length octets.now }
+    ensures { result ≡ number (take width (drop (8 * first + shift) (bits octets.now))) }
+{
+    read_two(octets, first, shift, width)
 }
 
 /// The path of `read_few` for the last octets of a slice, and for no bits. Cold and not inlined.

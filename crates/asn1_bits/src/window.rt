@@ -52,8 +52,9 @@ fn digits_from(high: u64, low: u64, shift: usize) -> u64
     ensures { digits result 64 ≡ take 64 (drop shift (digits high 64 ++ digits low 64)) }
 {
     let both = (u128::from(high) << 64) | u128::from(low);
-    // It is below 8 already. The remainder tells the compiler so.
-    ((both << (shift % 8)) >> 64) as u64
+    // The remainder tells the compiler that the shift is below 64. A processor takes it so by
+    // itself, where it shifts two words together.
+    ((both << (shift % 64)) >> 64) as u64
 }
 
 /// The word of the 64 bits from bit `shift` of the first of nine octets on, with no branch on the

@@ -5,7 +5,7 @@ ghost use Rattle.asn1_bits.specs.Bits.{digits, number};
 ghost use Rattle.asn1_bits.specs.BitStr.{view_of, bits_of};
 
 use super::BitStr;
-use crate::reads::{read_few, read_long, read_many, read_word};
+use crate::reads::{read_few, read_long, read_long_near_end, read_many, read_word};
 use crate::window::whole_word;
 
 impl BitStr<'_> {
@@ -25,6 +25,19 @@ impl BitStr<'_> {
             return u128::from(read_many(self.storage, self.octet, self.shift, width));
         }
         read_long(self.storage, self.octet, self.shift, width)
+    }
+
+    /// `first_u128` for more than 64 bits that are likely to end where the storage does.
+    #[inline(always)]
+    pub(crate) fn first_long(&self, width: usize) -> u128
+        requires many { 64 < width }
+        requires width { width ≤ 128 }
+        requires len { width ≤ (view_of self.now).len }
+        ensures number { result ≡ number (take width (bits_of self.now)) }
+        ensures digits { digits result width ≡ take width (bits_of self.now) }
+        ensures below { result < 2 ^ width }
+    {
+        read_long_near_end(self.storage, self.octet, self.shift, width)
     }
 
     /// `width` bits from bit `at` on, as the lowest digits of a word.
