@@ -125,7 +125,7 @@ impl<'a> BitReader<'a> {
         ensures digits { digits result width ≡ take width (bits_left self.now) }
         ensures below { result < 2 ^ width }
     {
-        let number = self.view.first_u128(width);
+        let number = self.view.first_u128::<false>(width);
         number as u32
     }
 
@@ -139,6 +139,6 @@ impl<'a> BitReader<'a> {
         ensures digits { digits result width ≡ take width (bits_left self.now) }
         ensures below { result < 2 ^ width }
     {
-        self.view.first_u128(width)
+        self.view.first_u128::<false>(width)
     }
 }

@@ -330,7 +330,7 @@ impl Hash for BitStr<'_> {
         }
         let (_, tail) = self.split_at(64 * words);
         if tail.len > 0 {
-            state.write_u64(tail.first_u128(tail.len) as u64);
+            state.write_u64(tail.first_u128::<false>(tail.len) as u64);
         }
     }
 }

@@ -292,7 +292,7 @@ pub fn read_wide(bytes: &[u8], position: usize, width: usize) -> u128
     ensures digits { digits result width ≡ take width (drop position (bits bytes.now)) }
     ensures below { result < 2 ^ width }
 {
-    BitStr::part_of(bytes, position, width).first_u128(width)
+    BitStr::part_of(bytes, position, width).first_u128::<false>(width)
 }
 
 /// The number of the `width` bits from bit `position` on, the first of them its highest digit.
@@ -315,11 +315,7 @@ pub fn read_u128(src: BitStr<'_>) -> u128
     ensures digits { digits result (view_of src.entry).len ≡ bits_of src.entry }
     ensures below { result < 2 ^ (view_of src.entry).len }
 {
-    let len = src.len();
-    if len > 64 {
-        return src.first_long(len);
-    }
-    src.first_u128(len)
+    src.first_u128::<true>(src.len())
 }
 
 /// The greatest number of `n` bits. `n` is at most 126.

@@ -53,10 +53,15 @@ pub(crate) fn read_many(octets: &[u8], first: usize, shift: usize, width: usize)
 }
 
 /// The number of more than 64 bits, at most 128, from bit `shift` of octet `first` on: read from
-/// seventeen octets at once or, near the end of the octets, from two words. The second is cold, and
-/// not inlined.
+/// seventeen octets at once or, near the end of the octets, from two words. Where `NEAR_END` says
+/// that the second is likely, it is inlined.
 #[inline(always)]
-pub(crate) fn read_long(octets: &[u8], first: usize, shift: usize, width: usize) -> u128
+pub(crate) fn read_long<const NEAR_END: bool>(
+    octets: &[u8],
+    first: usize,
+    shift: usize,
+    width: usize,
+) -> u128
     requires shift { shift < 8 }
     requires many { 64 < width }
     requires width { width ≤ 128 }
@@ -65,23 +70,11 @@ pub(crate) fn read_long(octets: &[u8], first: usize, shift: usize, width: usize)
 {
     if first + 17 <= octets.len() {
         return read_seventeen(octets, first, shift, width);
+    }
+    if NEAR_END {
+        return read_two(octets, first, shift, width);
     }
     read_long_last(octets, first, shift, width)
-}
-
-/// `read_long` for bits that are likely to end where the octets do.
-#[inline(always)]
-pub(crate) fn read_long_near_end(octets: &[u8], first: usize, shift: usize, width: usize) -> u128
-    requires shift { shift < 8 }
-    requires many { 64 < width }
-    requires width { width ≤ 128 }
-    requires within { 8 * first + shift + width ≤ 8 * length octets.now }
-    ensures { result ≡ number (take width (drop (8 * first + shift) (bits octets.now))) }
-{
-    if first + 17 <= octets.len() {
-        return read_seventeen(octets, first, shift, width);
-    }
-    read_two(octets, first, shift, width)
 }
 
 /// The path of `read_long` for seventeen octets, which are loaded at once.

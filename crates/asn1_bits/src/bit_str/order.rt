@@ -25,8 +25,8 @@ impl BitStr<'_> {
         if width == 0 {
             return self.len.cmp(&other.len);
         }
-        let one = self.slice(64 * words, width).first_u128(width);
-        let two = other.slice(64 * words, width).first_u128(width);
+        let one = self.slice(64 * words, width).first_u128::<false>(width);
+        let two = other.slice(64 * words, width).first_u128::<false>(width);
         one.cmp(&two).then(self.len.cmp(&other.len))
     }
 }

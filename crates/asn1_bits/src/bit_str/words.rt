@@ -5,13 +5,14 @@ ghost use Rattle.asn1_bits.specs.Bits.{digits, number};
 ghost use Rattle.asn1_bits.specs.BitStr.{view_of, bits_of};
 
 use super::BitStr;
-use crate::reads::{read_few, read_long, read_long_near_end, read_many, read_word};
+use crate::reads::{read_few, read_long, read_many, read_word};
 use crate::window::whole_word;
 
 impl BitStr<'_> {
-    /// The number of the first `width` bits, the first of them its highest digit.
+    /// The number of the first `width` bits, the first of them its highest digit. `NEAR_END` says
+    /// that more than 64 bits are likely to end where the storage does.
     #[inline(always)]
-    pub(crate) fn first_u128(&self, width: usize) -> u128
+    pub(crate) fn first_u128<const NEAR_END: bool>(&self, width: usize) -> u128
         requires width { width ≤ 128 }
         requires len { width ≤ (view_of self.now).len }
         ensures number { result ≡ number (take width (bits_of self.now)) }
@@ -24,20 +25,7 @@ impl BitStr<'_> {
         if width <= 64 {
             return u128::from(read_many(self.storage, self.octet, self.shift, width));
         }
-        read_long(self.storage, self.octet, self.shift, width)
-    }
-
-    /// `first_u128` for more than 64 bits that are likely to end where the storage does.
-    #[inline(always)]
-    pub(crate) fn first_long(&self, width: usize) -> u128
-        requires many { 64 < width }
-        requires width { width ≤ 128 }
-        requires len { width ≤ (view_of self.now).len }
-        ensures number { result ≡ number (take width (bits_of self.now)) }
-        ensures digits { digits result width ≡ take width (bits_of self.now) }
-        ensures below { result < 2 ^ width }
-    {
-        read_long_near_end(self.storage, self.octet, self.shift, width)
+        read_long::<NEAR_END>(self.storage, self.octet, self.shift, width)
     }
 
     /// `width` bits from bit `at` on, as the lowest digits of a word.
