@@ -3,7 +3,7 @@
 use crate::bits::words::{append, push_number, size};
 use crate::bits::{
     bit_appender, bit_buffer, bit_reader, bit_str, bit_string, callers, extended, fixed_bit_string,
-    hashes, kernels, octets, overwritten, places, sweeps, written,
+    hashes, kernels, octets, places, sweeps, written,
 };
 use asn1_test_rows::{RowError, wrong};
 use std::alloc::Global;
@@ -136,11 +136,10 @@ fn answer_of(
 /// The answer of a call that has no type.
 fn answer_alone(alloc: Global, text: &mut String, call: &str, words: &[&str]) -> Option<()> {
     match call {
-        "or_bits" => written::or(alloc, text, words),
-        "write_bitslice" => written::write(alloc, text, words),
+        "or_bits" | "write_bitslice" | "overwrite_bitslice" | "overwrite_number" => {
+            written::answer(alloc, text, call, words)
+        }
         "extend_vec_from_bitslice" => written::extend(alloc, text, words),
-        "overwrite_bitslice" => overwritten::with_view(alloc, text, words),
-        "overwrite_number" => overwritten::with_number(alloc, text, words),
         "or_bits_everywhere" => sweeps::or(alloc, text, words),
         "overwrite_number_everywhere" => sweeps::overwrite(alloc, text, words),
         "extended" => extended::answer(alloc, text, words),

@@ -20,12 +20,15 @@ pub fn answer(alloc: Global, text: &mut String, name: &str, words: &[&str]) -> O
 /// many bits of room are left before the first and after each, then how many bits the buffer has,
 /// and its octets.
 fn fill(alloc: Global, text: &mut String, words: &[&str]) -> Option<()> {
-    let [count, room, pieces @ ..] = words else {
-        return None;
-    };
-    let mut buffer = ones(alloc, size(count)?)?;
-    fill_room(alloc, text, &mut buffer, size(room)?, pieces)?;
-    push_state(alloc, text, &buffer)
+    if let [count, room, pieces @ ..] = words
+        && let Some(count) = size(count)
+        && let Some(room) = size(room)
+        && let Some(mut buffer) = ones(alloc, count)
+        && let Some(()) = fill_room(alloc, text, &mut buffer, room, pieces)
+    {
+        return push_state(alloc, text, &buffer);
+    }
+    None
 }
 
 /// Fills room for so many bits.
@@ -114,36 +117,45 @@ fn push_bytes(appender: &mut BitAppender<'_>, octets: Vec<u8>) -> Option<()> {
 }
 
 fn push_part(appender: &mut BitAppender<'_>, part: &Part) -> Option<()> {
-    let view = part.view()?;
-    if view.len() > appender.room() {
-        return None;
+    if let Some(view) = part.view()
+        && view.len() <= appender.room()
+    {
+        return Some(appender.push_bitslice(view, &mut Turns::new()));
     }
-    Some(appender.push_bitslice(view, &mut Turns::new()))
+    None
 }
 
 /// `VALUE WIDTH`: the octets of three ones and the lowest digits of a number in room for them, and
 /// the number of these digits that is read back.
 fn digits_behind_ones(alloc: Global, text: &mut String, words: &[&str]) -> Option<()> {
-    let [value, width] = words else {
-        return None;
-    };
-    let digits = (wide(value)?, size(width)?);
-    let octets = octets_behind(alloc, digits)?;
-    tell_digits(alloc, text, octets.as_slice(), digits.1)
+    if let [value, width] = words
+        && let Some(value) = wide(value)
+        && let Some(width) = size(width)
+        && let Some(octets) = octets_behind(alloc, (value, width))
+    {
+        return tell_digits(alloc, text, octets.as_slice(), width);
+    }
+    None
 }
 
 /// Appends octets, and the number of so many of their bits.
 fn tell_digits(alloc: Global, text: &mut String, octets: &[u8], width: usize) -> Option<()> {
-    let number = read_back(octets, width)?;
-    push_octets(alloc, text, octets)?;
-    push_number(alloc, text, number)
+    if let Some(number) = read_back(octets, width)
+        && let Some(()) = push_octets(alloc, text, octets)
+    {
+        return push_number(alloc, text, number);
+    }
+    None
 }
 
 /// The octets of three ones and the digits.
 fn octets_behind(alloc: Global, digits: (u128, usize)) -> Option<Vec<u8>> {
-    let mut buffer = ones(alloc, 3)?;
-    push_alone(&mut buffer, digits)?;
-    Some(buffer.into_vec())
+    if let Some(mut buffer) = ones(alloc, 3)
+        && let Some(()) = push_alone(&mut buffer, digits)
+    {
+        return Some(buffer.into_vec());
+    }
+    None
 }
 
 /// Pushes digits into room for them alone.

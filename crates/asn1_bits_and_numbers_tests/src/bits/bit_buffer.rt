@@ -24,67 +24,97 @@ pub fn answer(alloc: Global, text: &mut String, name: &str, words: &[&str]) -> O
 
 /// A buffer in the octets of the first word, before the steps and after each.
 fn from_vec(alloc: Global, text: &mut String, words: &[&str]) -> Option<()> {
-    let (own, steps) = words.split_first()?;
-    let mut buffer = BitBuffer::from_vec(octets_of(alloc, own)?);
+    if let [own, steps @ ..] = words
+        && let Some(own) = octets_of(alloc, own)
+    {
+        return tell_from(alloc, text, BitBuffer::from_vec(own), steps);
+    }
+    None
+}
+
+/// Tells of a buffer before the steps and after each.
+fn tell_from(
+    alloc: Global,
+    text: &mut String,
+    mut buffer: BitBuffer,
+    steps: &[&str],
+) -> Option<()> {
     push_state(alloc, text, &buffer)?;
     tell(alloc, text, &mut buffer, steps)
 }
 
 fn into_vec(alloc: Global, text: &mut String, steps: &[&str]) -> Option<()> {
-    let octets = buffer_of(alloc, steps)?.into_vec();
-    push_octets(alloc, text, octets.as_slice())
+    match buffer_of(alloc, steps) {
+        Some(buffer) => push_octets(alloc, text, buffer.into_vec().as_slice()),
+        None => None,
+    }
 }
 
 fn clone(alloc: Global, text: &mut String, steps: &[&str]) -> Option<()> {
-    let copy = copy_of(&buffer_of(alloc, steps)?)?;
-    push_state(alloc, text, &copy)
-}
-
-fn copy_of(buffer: &BitBuffer) -> Option<BitBuffer> {
-    buffer.clone().ok()
+    if let Some(buffer) = buffer_of(alloc, steps)
+        && let Ok(copy) = buffer.clone()
+    {
+        return push_state(alloc, text, &copy);
+    }
+    None
 }
 
 /// The bits that are lent, and how they compare with the view of the first word.
 fn as_bitstr(alloc: Global, text: &mut String, words: &[&str]) -> Option<()> {
-    let (view, steps) = words.split_first()?;
-    let buffer = buffer_of(alloc, steps)?;
-    tell_bits(alloc, text, buffer.as_bitstr(), view)
+    if let [view, steps @ ..] = words
+        && let Some(buffer) = buffer_of(alloc, steps)
+    {
+        return tell_bits(alloc, text, buffer.as_bitstr(), view);
+    }
+    None
 }
 
 /// Appends the bits of a view, and how they compare with those of another.
 pub fn tell_bits(alloc: Global, text: &mut String, own: BitStr<'_>, other: &str) -> Option<()> {
-    push_bits(text, own)?;
-    let other = part_of(alloc, other)?;
-    push_order(text, &own, &other.view()?)
+    if let Some(()) = push_bits(text, own)
+        && let Some(other) = part_of(alloc, other)
+        && let Some(view) = other.view()
+    {
+        return push_order(text, &own, &view);
+    }
+    None
 }
 
 /// Whether a buffer of one step is equal to one in the octets of the second word, after the other
 /// steps.
 fn eq(alloc: Global, text: &mut String, words: &[&str]) -> Option<()> {
-    let [step, own, steps @ ..] = words else {
-        return None;
-    };
-    let other = buffer_in(alloc, own, steps)?;
-    let one = buffer_of(alloc, &[*step])?;
-    push_truth(text, one == other)
+    if let [step, own, steps @ ..] = words
+        && let Some(other) = buffer_in(alloc, own, steps)
+        && let Some(one) = buffer_of(alloc, &[*step])
+    {
+        return push_truth(text, one == other);
+    }
+    None
 }
 
 /// A buffer in these octets in which each step was taken.
 fn buffer_in(alloc: Global, own: &str, steps: &[&str]) -> Option<BitBuffer> {
-    let mut buffer = BitBuffer::from_vec(octets_of(alloc, own)?);
-    take_all(alloc, &mut buffer, steps)?;
-    Some(buffer)
+    if let Some(own) = octets_of(alloc, own) {
+        let mut buffer = BitBuffer::from_vec(own);
+        if let Some(()) = take_all(alloc, &mut buffer, steps) {
+            return Some(buffer);
+        }
+    }
+    None
 }
 
 /// `ONES VALUE WIDTH`: the octets of so many ones and the lowest digits of a number, and the number
 /// of these digits that is read back.
 fn digits_behind_ones(alloc: Global, text: &mut String, words: &[&str]) -> Option<()> {
-    let [count, value, width] = words else {
-        return None;
-    };
-    let (count, digits) = (size(count)?, (wide(value)?, size(width)?));
-    let buffer = buffer_behind(alloc, count, digits)?;
-    tell_digits(alloc, text, buffer.as_bytes(), count, digits.1)
+    if let [count, value, width] = words
+        && let Some(count) = size(count)
+        && let Some(value) = wide(value)
+        && let Some(width) = size(width)
+        && let Some(buffer) = buffer_behind(alloc, count, (value, width))
+    {
+        return tell_digits(alloc, text, buffer.as_bytes(), count, width);
+    }
+    None
 }
 
 /// Appends octets, and the number of so many of their bits, from one of them on.
@@ -95,40 +125,52 @@ fn tell_digits(
     first: usize,
     width: usize,
 ) -> Option<()> {
-    let number = read_back(octets, first, width)?;
-    push_octets(alloc, text, octets)?;
-    push_number(alloc, text, number)
+    if let Some(number) = read_back(octets, first, width)
+        && let Some(()) = push_octets(alloc, text, octets)
+    {
+        return push_number(alloc, text, number);
+    }
+    None
 }
 
 /// A buffer of so many ones and the digits.
 fn buffer_behind(alloc: Global, count: usize, digits: (u128, usize)) -> Option<BitBuffer> {
-    let mut buffer = ones(alloc, count)?;
-    push_digits(&mut buffer, digits)?;
-    Some(buffer)
+    if let Some(mut buffer) = ones(alloc, count)
+        && let Some(()) = push_digits(&mut buffer, digits)
+    {
+        return Some(buffer);
+    }
+    None
 }
 
 /// The number of so many bits of the octets, from one of them on.
 fn read_back(octets: &[u8], first: usize, width: usize) -> Option<u128> {
-    let view = BitStr::new(octets, first, width)?;
-    if view.len() > 128 {
-        return None;
+    if let Some(view) = BitStr::new(octets, first, width)
+        && view.len() <= 128
+    {
+        return Some(read_u128(view));
     }
-    Some(read_u128(view))
+    None
 }
 
 /// `ONES OCTETS`: the octets of so many ones and the bits of octets.
 fn octets_behind_ones(alloc: Global, text: &mut String, words: &[&str]) -> Option<()> {
-    let [count, src] = words else {
-        return None;
-    };
-    let buffer = octets_behind(alloc, size(count)?, src)?;
-    push_octets(alloc, text, buffer.as_bytes())
+    if let [count, src] = words
+        && let Some(count) = size(count)
+        && let Some(buffer) = octets_behind(alloc, count, src)
+    {
+        return push_octets(alloc, text, buffer.as_bytes());
+    }
+    None
 }
 
 /// A buffer of so many ones and the bits of octets.
 fn octets_behind(alloc: Global, count: usize, src: &str) -> Option<BitBuffer> {
-    let src = octets_of(alloc, src)?;
-    let mut buffer = ones(alloc, count)?;
-    push_bytes(&mut buffer, src)?;
-    Some(buffer)
+    if let Some(src) = octets_of(alloc, src)
+        && let Some(mut buffer) = ones(alloc, count)
+        && let Some(()) = push_bytes(&mut buffer, src)
+    {
+        return Some(buffer);
+    }
+    None
 }

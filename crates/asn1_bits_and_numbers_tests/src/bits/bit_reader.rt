@@ -8,30 +8,30 @@ use std::alloc::Global;
 
 /// The answer of a call.
 pub fn answer(alloc: Global, text: &mut String, name: &str, words: &[&str]) -> Option<()> {
-    let (first, steps) = words.split_first()?;
-    match name {
-        "new" => new(alloc, text, first, steps),
-        "from_octets" => from_octets(alloc, text, first, steps),
+    match (name, words) {
+        ("new", [first, steps @ ..]) => new(alloc, text, first, steps),
+        ("from_octets", [first, steps @ ..]) => from_octets(alloc, text, first, steps),
         _ => None,
     }
 }
 
 fn new(alloc: Global, text: &mut String, view: &str, steps: &[&str]) -> Option<()> {
-    let part = part_of(alloc, view)?;
-    tell(alloc, text, BitReader::new(part.view()?), steps)
+    if let Some(part) = part_of(alloc, view)
+        && let Some(view) = part.view()
+    {
+        return tell(alloc, text, BitReader::new(view), steps);
+    }
+    None
 }
 
 fn from_octets(alloc: Global, text: &mut String, digits: &str, steps: &[&str]) -> Option<()> {
-    let octets = octets_of(alloc, digits)?;
-    if octets.len() > 1000 {
-        return None;
+    if let Some(octets) = octets_of(alloc, digits)
+        && octets.len() <= 1000
+    {
+        let reader = BitReader::from_octets(octets.as_slice());
+        return tell(alloc, text, reader, steps);
     }
-    tell(
-        alloc,
-        text,
-        BitReader::from_octets(octets.as_slice()),
-        steps,
-    )
+    None
 }
 
 /// Appends the answer of the reader to each step.
@@ -73,8 +73,22 @@ fn take_some(
         "first_bits" => first_bits(alloc, text, reader, count),
         "first_u128" => first_u128(alloc, text, reader, count),
         "split" => split(alloc, text, reader, count),
-        "number" => number(alloc, text, &front(reader, count)?),
-        "octets" => octets_left(alloc, text, &front(reader, count)?),
+        _ => take_off(alloc, text, reader, name, count),
+    }
+}
+
+/// Appends the answer on the bits that are taken off.
+fn take_off(
+    alloc: Global,
+    text: &mut String,
+    reader: &mut BitReader<'_>,
+    name: &str,
+    count: usize,
+) -> Option<()> {
+    let front = reader.split(count).ok()?;
+    match name {
+        "number" => number(alloc, text, &front),
+        "octets" => octets_left(alloc, text, &front),
         _ => None,
     }
 }
@@ -84,11 +98,6 @@ fn first_bit(text: &mut String, reader: &BitReader<'_>) -> Option<()> {
         return None;
     }
     push_bit(text, reader.first_bit())
-}
-
-/// The reader of the bits that are taken off.
-fn front<'a>(reader: &mut BitReader<'a>, count: usize) -> Option<BitReader<'a>> {
-    reader.split(count).ok()
 }
 
 fn first_bits(

@@ -25,18 +25,24 @@ fn new(alloc: Global, text: &mut String, words: &[&str]) -> Option<()> {
 }
 
 fn from_octets(alloc: Global, text: &mut String, words: &[&str]) -> Option<()> {
-    let octets = octets_of(alloc, words.first()?)?;
-    if octets.len() > 1000 {
-        return None;
+    if let [octets] = words
+        && let Some(octets) = octets_of(alloc, octets)
+        && octets.len() <= 1000
+    {
+        return push_bits(text, BitStr::from_octets(octets.as_slice()));
     }
-    push_bits(text, BitStr::from_octets(octets.as_slice()))
+    None
 }
 
 /// The answer of a call on the view of the first word.
 fn answer_on_view(alloc: Global, text: &mut String, name: &str, words: &[&str]) -> Option<()> {
-    let (first, rest) = words.split_first()?;
-    let part = part_of(alloc, first)?;
-    answer_on(alloc, text, name, part.view()?, rest)
+    if let [first, rest @ ..] = words
+        && let Some(part) = part_of(alloc, first)
+        && let Some(view) = part.view()
+    {
+        return answer_on(alloc, text, name, view, rest);
+    }
+    None
 }
 
 fn answer_on(
@@ -59,37 +65,50 @@ fn answer_on(
 }
 
 fn get(text: &mut String, view: BitStr<'_>, rest: &[&str]) -> Option<()> {
-    let place = size(rest.first()?)?;
-    if place >= view.len() {
-        return None;
+    if let [place] = rest
+        && let Some(place) = size(place)
+        && place < view.len()
+    {
+        return push_bit(text, view.get(place));
     }
-    push_bit(text, view.get(place))
+    None
 }
 
 /// So many bits of a view, from one of them on.
 fn slice(text: &mut String, view: BitStr<'_>, rest: &[&str]) -> Option<()> {
-    let [from, len] = rest else {
-        return None;
-    };
-    let (from, len) = (size(from)?, size(len)?);
-    if from > view.len() || len > view.len() - from {
-        return None;
+    if let [from, len] = rest
+        && let Some(from) = size(from)
+        && let Some(len) = size(len)
+        && from <= view.len()
+        && len <= view.len() - from
+    {
+        return push_bits(text, view.slice(from, len));
     }
-    push_bits(text, view.slice(from, len))
+    None
 }
 
 /// What lies before a place of a view, and behind it.
 fn split_at(text: &mut String, view: BitStr<'_>, rest: &[&str]) -> Option<()> {
-    let at = size(rest.first()?)?;
-    if at > view.len() {
-        return None;
+    if let [at] = rest
+        && let Some(at) = size(at)
+        && at <= view.len()
+    {
+        return push_parts(text, view.split_at(at));
     }
-    let (front, back) = view.split_at(at);
-    push_bits(text, front)?;
-    push_bits(text, back)
+    None
+}
+
+fn push_parts(text: &mut String, parts: (BitStr<'_>, BitStr<'_>)) -> Option<()> {
+    push_bits(text, parts.0)?;
+    push_bits(text, parts.1)
 }
 
 fn cmp(alloc: Global, text: &mut String, view: BitStr<'_>, rest: &[&str]) -> Option<()> {
-    let other = part_of(alloc, rest.first()?)?;
-    push_order(text, &view, &other.view()?)
+    if let [other] = rest
+        && let Some(part) = part_of(alloc, other)
+        && let Some(other) = part.view()
+    {
+        return push_order(text, &view, &other);
+    }
+    None
 }

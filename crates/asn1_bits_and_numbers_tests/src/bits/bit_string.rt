@@ -92,44 +92,59 @@ fn copy_of(alloc: Global, part: &Part) -> Option<BitString> {
 
 /// Appends the part's bits.
 pub fn extend(bits: &mut BitString, part: &Part) -> Option<()> {
-    let view = part.view()?;
-    if view.len() > MANY || bits.len() > MANY {
-        return None;
+    if let Some(view) = part.view()
+        && view.len() <= MANY
+        && bits.len() <= MANY
+    {
+        return extend_bitstring(bits, view).ok();
     }
-    extend_bitstring(bits, view).ok()
+    None
 }
 
 fn into_vec(alloc: Global, text: &mut String, steps: &[&str]) -> Option<()> {
-    let octets = string_of(alloc, steps)?.into_vec();
-    push_octets(alloc, text, octets.as_slice())
+    match string_of(alloc, steps) {
+        Some(bits) => push_octets(alloc, text, bits.into_vec().as_slice()),
+        None => None,
+    }
 }
 
 /// A copy, and how it compares with its original.
 fn clone(alloc: Global, text: &mut String, bits: &BitString) -> Option<()> {
-    let copy = bits.clone().ok()?;
-    push_state(alloc, text, &copy)?;
-    push_order(text, &copy, bits)
+    if let Ok(copy) = bits.clone()
+        && let Some(()) = push_state(alloc, text, &copy)
+    {
+        return push_order(text, &copy, bits);
+    }
+    None
 }
 
 /// How the strings of two parts compare.
 fn cmp(alloc: Global, text: &mut String, words: &[&str]) -> Option<()> {
-    let [one, other] = words else {
-        return None;
-    };
-    let one = string_at(alloc, one)?;
-    let other = string_at(alloc, other)?;
-    push_order(text, &one, &other)
+    if let [one, other] = words
+        && let Some(one) = string_at(alloc, one)
+        && let Some(other) = string_at(alloc, other)
+    {
+        return push_order(text, &one, &other);
+    }
+    None
 }
 
 /// The string of the part that a word spells.
 fn string_at(alloc: Global, word: &str) -> Option<BitString> {
-    copy_of(alloc, &part_of(alloc, word)?)
+    match part_of(alloc, word) {
+        Some(part) => copy_of(alloc, &part),
+        None => None,
+    }
 }
 
 /// `OCTETS FIRST LEN`: the octets of a copy's bits, and how it compares with the view.
 fn compare_copy(alloc: Global, text: &mut String, words: &[&str]) -> Option<()> {
-    let part = part_of_three(alloc, words)?;
-    let copy = copy_of(alloc, &part)?;
-    push_packed(alloc, text, copy.as_bitstr())?;
-    push_order(text, &copy.as_bitstr(), &part.view()?)
+    if let Some(part) = part_of_three(alloc, words)
+        && let Some(view) = part.view()
+        && let Ok(copy) = to_bitstring(alloc, view)
+        && let Some(()) = push_packed(alloc, text, copy.as_bitstr())
+    {
+        return push_order(text, &copy.as_bitstr(), &view);
+    }
+    None
 }

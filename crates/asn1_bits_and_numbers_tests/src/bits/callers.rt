@@ -30,11 +30,25 @@ pub fn answer(alloc: Global, text: &mut String, name: &str, words: &[&str]) -> O
 
 /// The answer of a call on a view.
 fn answer_on_view(alloc: Global, text: &mut String, name: &str, view: &str) -> Option<()> {
-    let part = part_of(alloc, view)?;
+    if let Some(part) = part_of(alloc, view)
+        && let Some(view) = part.view()
+    {
+        return answer_in(alloc, text, name, &part, view);
+    }
+    None
+}
+
+fn answer_in(
+    alloc: Global,
+    text: &mut String,
+    name: &str,
+    part: &Part,
+    view: BitStr<'_>,
+) -> Option<()> {
     match name {
-        "leaves_room" => room_left(alloc, text, &part),
-        "lends_its_octets" => octets_lent(alloc, text, part.view()?),
-        "reads_two" => two_read(alloc, text, part.view()?),
+        "leaves_room" => room_left(alloc, text, part),
+        "lends_its_octets" => octets_lent(alloc, text, view),
+        "reads_two" => two_read(alloc, text, view),
         _ => None,
     }
 }
@@ -72,9 +86,12 @@ fn leaves_room(buffer: &mut BitBuffer) -> Result<(), AllocError>
 /// A buffer of a part's bits after it.
 fn room_left(alloc: Global, text: &mut String, part: &Part) -> Option<()> {
     let mut buffer = BitBuffer::new(alloc);
-    push_part(&mut buffer, part)?;
-    leave_room(&mut buffer)?;
-    push_state(alloc, text, &buffer)
+    if let Some(()) = push_part(&mut buffer, part)
+        && let Some(()) = leave_room(&mut buffer)
+    {
+        return push_state(alloc, text, &buffer);
+    }
+    None
 }
 
 fn leave_room(buffer: &mut BitBuffer) -> Option<()> {
@@ -95,14 +112,13 @@ fn lends_its_octets(alloc: Global, bits: &BitString) -> Result<Octets<'_>, Alloc
 
 /// The octets of a view's bits.
 fn octets_lent(alloc: Global, text: &mut String, view: BitStr<'_>) -> Option<()> {
-    let copy = to_bitstring(alloc, view).ok()?;
-    if copy.len() % 8 != 0 {
-        return None;
+    if let Ok(copy) = to_bitstring(alloc, view)
+        && copy.len() % 8 == 0
+        && let Ok(octets) = lends_its_octets(alloc, &copy)
+    {
+        return push_octets(alloc, text, octets.as_ref());
     }
-    match lends_its_octets(alloc, &copy) {
-        Ok(octets) => push_octets(alloc, text, octets.as_ref()),
-        Err(_) => None,
-    }
+    None
 }
 
 /// Two numbers, one after another.

@@ -9,7 +9,7 @@ use std::alloc::Global;
 pub fn answer(alloc: Global, text: &mut String, name: &str, words: &[&str]) -> Option<()> {
     match name {
         "set" => set_each(alloc, text, words),
-        "from_bitstr" => from_bitstr(alloc, text, words.first()?),
+        "from_bitstr" => from_bitstr(alloc, text, words),
         "as_bitstr" => as_bitstr(alloc, text, words),
         "cmp" => cmp(alloc, text, words),
         _ => None,
@@ -36,7 +36,12 @@ fn new(octets: Vec<u8>) -> Option<FixedBitString<3>> {
 }
 
 fn of_view(alloc: Global, word: &str) -> Option<FixedBitString<3>> {
-    FixedBitString::<3>::from_bitstr(part_of(alloc, word)?.view()?)
+    if let Some(part) = part_of(alloc, word)
+        && let Some(view) = part.view()
+    {
+        return FixedBitString::<3>::from_bitstr(view);
+    }
+    None
 }
 
 fn of_digits(digits: &str) -> Option<FixedBitString<3>> {
@@ -77,9 +82,18 @@ fn set(bits: &mut FixedBitString<3>, to: (usize, bool)) -> Option<()> {
 }
 
 /// The bits of a view, if they are three.
-fn from_bitstr(alloc: Global, text: &mut String, word: &str) -> Option<()> {
-    let part = part_of(alloc, word)?;
-    match FixedBitString::<3>::from_bitstr(part.view()?) {
+fn from_bitstr(alloc: Global, text: &mut String, words: &[&str]) -> Option<()> {
+    if let [word] = words
+        && let Some(part) = part_of(alloc, word)
+        && let Some(view) = part.view()
+    {
+        return push_string(text, FixedBitString::<3>::from_bitstr(view));
+    }
+    None
+}
+
+fn push_string(text: &mut String, bits: Option<FixedBitString<3>>) -> Option<()> {
+    match bits {
         Some(bits) => push_state(text, &bits),
         None => append(text, "none"),
     }
@@ -87,20 +101,20 @@ fn from_bitstr(alloc: Global, text: &mut String, word: &str) -> Option<()> {
 
 /// The bits that are lent, and how they compare with the view of the second word.
 fn as_bitstr(alloc: Global, text: &mut String, words: &[&str]) -> Option<()> {
-    let [own, view] = words else {
-        return None;
-    };
-    let own = string_of_word(alloc, own)?;
-    tell_bits(alloc, text, own.as_bitstr(), view)
+    if let [own, view] = words
+        && let Some(own) = string_of_word(alloc, own)
+    {
+        return tell_bits(alloc, text, own.as_bitstr(), view);
+    }
+    None
 }
 
 fn cmp(alloc: Global, text: &mut String, words: &[&str]) -> Option<()> {
-    let [one, other] = words else {
-        return None;
-    };
-    push_order(
-        text,
-        &string_of_word(alloc, one)?,
-        &string_of_word(alloc, other)?,
-    )
+    if let [one, other] = words
+        && let Some(one) = string_of_word(alloc, one)
+        && let Some(other) = string_of_word(alloc, other)
+    {
+        return push_order(text, &one, &other);
+    }
+    None
 }

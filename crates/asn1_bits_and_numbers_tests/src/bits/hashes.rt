@@ -7,9 +7,13 @@ use std::hash::{FoldHasher, Hash, Hasher};
 
 /// The answer of a call on the view of the first word.
 pub fn answer(alloc: Global, text: &mut String, name: &str, words: &[&str]) -> Option<()> {
-    let (first, numbers) = words.split_first()?;
-    let part = part_of(alloc, first)?;
-    answer_on(alloc, text, name, part.view()?, numbers)
+    if let [first, numbers @ ..] = words
+        && let Some(part) = part_of(alloc, first)
+        && let Some(view) = part.view()
+    {
+        return answer_on(alloc, text, name, view, numbers);
+    }
+    None
 }
 
 /// Whether the hash of a view is that of its length and of the numbers, or the hash of a copy that
@@ -21,16 +25,18 @@ fn answer_on(
     view: BitStr<'_>,
     numbers: &[&str],
 ) -> Option<()> {
-    let own = hash_of(&view);
+    match other_hash(alloc, name, view, numbers) {
+        Some(other) => push_truth(text, hash_of(&view) == other),
+        None => None,
+    }
+}
+
+/// The hash that is compared with that of a view.
+fn other_hash(alloc: Global, name: &str, view: BitStr<'_>, numbers: &[&str]) -> Option<u64> {
     match name {
-        "BitStr" => push_truth(text, own == plain_hash(view.len(), numbers)?),
-        "BitString" => push_truth(text, own == hash_of(&to_bitstring(alloc, view).ok()?)),
-        "FixedBitString" => {
-            push_truth(
-                text,
-                own == hash_of(&FixedBitString::<12>::from_bitstr(view)?),
-            )
-        }
+        "BitStr" => plain_hash(view.len(), numbers),
+        "BitString" => Some(hash_of(&to_bitstring(alloc, view).ok()?)),
+        "FixedBitString" => Some(hash_of(&FixedBitString::<12>::from_bitstr(view)?)),
         _ => None,
     }
 }

@@ -9,14 +9,28 @@ use std::alloc::Global;
 /// The answer of a call.
 pub fn answer(alloc: Global, text: &mut String, call: &str, words: &[&str]) -> Option<()> {
     match words {
-        [octets, position, width] => {
-            let octets = octets_of(alloc, octets)?;
-            let place = (size(position)?, size(width)?);
-            push_number(alloc, text, read(call, octets.as_slice(), place)?)
-        }
+        [octets, position, width] => answer_three(alloc, text, call, octets, position, width),
         [word] => answer_one(alloc, text, call, word),
         _ => None,
     }
+}
+
+fn answer_three(
+    alloc: Global,
+    text: &mut String,
+    call: &str,
+    octets: &str,
+    position: &str,
+    width: &str,
+) -> Option<()> {
+    if let Some(octets) = octets_of(alloc, octets)
+        && let Some(position) = size(position)
+        && let Some(width) = size(width)
+        && let Some(number) = read(call, octets.as_slice(), (position, width))
+    {
+        return push_number(alloc, text, number);
+    }
+    None
 }
 
 /// The number of so many bits of the octets, from one of them on.
@@ -40,16 +54,25 @@ fn answer_one(alloc: Global, text: &mut String, call: &str, word: &str) -> Optio
 
 /// The octets that a view lies on, if it begins and ends at octets.
 fn lent(alloc: Global, text: &mut String, word: &str) -> Option<()> {
-    let part = part_of(alloc, word)?;
-    match aligned_octets(part.view()?) {
-        Some(octets) => push_octets(alloc, text, octets),
-        None => append(text, "none"),
+    if let Some(part) = part_of(alloc, word)
+        && let Some(view) = part.view()
+    {
+        return match aligned_octets(view) {
+            Some(octets) => push_octets(alloc, text, octets),
+            None => append(text, "none"),
+        };
     }
+    None
 }
 
 fn number(alloc: Global, text: &mut String, word: &str) -> Option<()> {
-    let part = part_of(alloc, word)?;
-    push_number(alloc, text, number_of(part.view()?)?)
+    if let Some(part) = part_of(alloc, word)
+        && let Some(view) = part.view()
+        && let Some(number) = number_of(view)
+    {
+        return push_number(alloc, text, number);
+    }
+    None
 }
 
 fn number_of(view: BitStr<'_>) -> Option<u128> {

@@ -14,7 +14,11 @@ pub fn answer(alloc: Global, text: &mut String, name: &str, words: &[&str]) -> O
 
 /// Whether a copy of the first octets is equal to the second, which are lent.
 fn eq(alloc: Global, text: &mut String, own: &str, lent: &str) -> Option<()> {
-    let lent = octets_of(alloc, lent)?;
-    let own = Octets::Owned(octets_of(alloc, own)?);
-    push_truth(text, own == Octets::Borrowed(lent.as_slice()))
+    if let Some(lent) = octets_of(alloc, lent)
+        && let Some(own) = octets_of(alloc, own)
+    {
+        let own = Octets::Owned(own);
+        return push_truth(text, own == Octets::Borrowed(lent.as_slice()));
+    }
+    None
 }

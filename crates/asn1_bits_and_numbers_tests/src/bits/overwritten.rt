@@ -1,38 +1,38 @@
 //! Calls that write over the bits of octets.
 
 use crate::bits::kernels::are_within;
-use crate::bits::words::{Part, octets_of, part_of, push_octets, size, wide};
+use crate::bits::words::{Part, part_of, size, wide};
 use asn1_bits::{Turns, overwrite_bitslice, overwrite_number};
 use std::alloc::Global;
 
-/// `OCTETS POSITION VIEW`: the octets with the view's bits over theirs.
-pub fn with_view(alloc: Global, text: &mut String, words: &[&str]) -> Option<()> {
-    let [old, position, view] = words else {
-        return None;
-    };
-    let part = part_of(alloc, view)?;
-    let mut own = octets_of(alloc, old)?;
-    put_part(own.as_mut_slice(), size(position)?, &part)?;
-    push_octets(alloc, text, own.as_slice())
+/// `VIEW`: writes the view's bits.
+pub fn put_view(alloc: Global, target: &mut [u8], position: usize, words: &[&str]) -> Option<()> {
+    if let [view] = words
+        && let Some(part) = part_of(alloc, view)
+    {
+        return put_part(target, position, &part);
+    }
+    None
 }
 
 fn put_part(target: &mut [u8], position: usize, part: &Part) -> Option<()> {
-    let view = part.view()?;
-    if !are_within(target, position, view.len()) {
-        return None;
+    if let Some(view) = part.view()
+        && are_within(target, position, view.len())
+    {
+        return Some(overwrite_bitslice(target, position, view, &mut Turns::new()));
     }
-    Some(overwrite_bitslice(target, position, view, &mut Turns::new()))
+    None
 }
 
-/// `OCTETS POSITION VALUE WIDTH`: the octets with the number's lowest digits over their bits.
-pub fn with_number(alloc: Global, text: &mut String, words: &[&str]) -> Option<()> {
-    let [old, position, value, width] = words else {
-        return None;
-    };
-    let digits = (wide(value)?, size(width)?);
-    let mut own = octets_of(alloc, old)?;
-    put_digits(own.as_mut_slice(), size(position)?, digits)?;
-    push_octets(alloc, text, own.as_slice())
+/// `VALUE WIDTH`: writes the number's lowest digits.
+pub fn put_number(target: &mut [u8], position: usize, words: &[&str]) -> Option<()> {
+    if let [value, width] = words
+        && let Some(value) = wide(value)
+        && let Some(width) = size(width)
+    {
+        return put_digits(target, position, (value, width));
+    }
+    None
 }
 
 /// Writes the lowest digits of a number, its value and how many, if there is room for them.

@@ -9,14 +9,15 @@ use std::alloc::Global;
 
 /// `POSITION COUNT`: how many words are placed for so many ones from a bit of the target on.
 pub fn answer(alloc: Global, text: &mut String, words: &[&str]) -> Option<()> {
-    let [position, count] = words else {
-        return None;
-    };
-    let (position, count) = (size(position)?, size(count)?);
-    if position > 8 || count > 640 {
-        return None;
+    if let [position, count] = words
+        && let Some(position) = size(position)
+        && let Some(count) = size(count)
+        && position <= 8
+        && count <= 640
+    {
+        return push_number(alloc, text, u128::from(calls(position, count)));
     }
-    push_number(alloc, text, u128::from(calls(position, count)))
+    None
 }
 
 /// Octets that count how often a word is placed in them.

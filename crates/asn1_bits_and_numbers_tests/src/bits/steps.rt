@@ -93,21 +93,26 @@ pub fn push_bytes(buffer: &mut BitBuffer, octets: Vec<u8>) -> Option<()> {
 
 /// Pushes the bits of a part.
 pub fn push_part(buffer: &mut BitBuffer, part: &Part) -> Option<()> {
-    let view = part.view()?;
-    if view.len() > MANY || buffer.len() > MANY {
-        return None;
+    if let Some(view) = part.view()
+        && view.len() <= MANY
+        && buffer.len() <= MANY
+    {
+        return buffer.extend_from_bitslice(view).ok();
     }
-    buffer.extend_from_bitslice(view).ok()
+    None
 }
 
 /// Pushes a buffer that has one number.
 fn push_buffer(alloc: Global, buffer: &mut BitBuffer, rest: &str) -> Option<()> {
     let mut other = BitBuffer::new(alloc);
-    push_digits(&mut other, digits_of(rest)?)?;
-    if other.len() > MANY || buffer.len() > MANY {
-        return None;
+    if let Some(digits) = digits_of(rest)
+        && let Some(()) = push_digits(&mut other, digits)
+        && other.len() <= MANY
+        && buffer.len() <= MANY
+    {
+        return buffer.extend_from_buffer(&other).ok();
     }
-    buffer.extend_from_buffer(&other).ok()
+    None
 }
 
 fn resize(buffer: &mut BitBuffer, to: (usize, bool)) -> Option<()> {

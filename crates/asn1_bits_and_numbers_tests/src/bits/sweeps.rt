@@ -8,27 +8,31 @@ use std::alloc::Global;
 /// `OCTETS SOURCE POSITIONS COUNTS`: how many positions and counts, of so many of each, leave the
 /// right bits.
 pub fn or(alloc: Global, text: &mut String, words: &[&str]) -> Option<()> {
-    let [old, src, positions, counts] = words else {
-        return None;
-    };
-    let (positions, counts) = (size(positions)?, size(counts)?);
-    let src = octets_of(alloc, src)?;
-    let old = octets_of(alloc, old)?;
-    let right = sweep_ors(alloc, old.as_slice(), src.as_slice(), (positions, counts))?;
-    push_number(alloc, text, right)
+    if let [old, src, positions, counts] = words
+        && let Some(positions) = size(positions)
+        && let Some(counts) = size(counts)
+        && let Some(src) = octets_of(alloc, src)
+        && let Some(old) = octets_of(alloc, old)
+        && let Some(right) = sweep_ors(alloc, old.as_slice(), src.as_slice(), (positions, counts))
+    {
+        return push_number(alloc, text, right);
+    }
+    None
 }
 
 /// `OCTETS VALUE POSITIONS WIDTHS`: how many positions and widths, of so many of each, leave the
 /// right bits.
 pub fn overwrite(alloc: Global, text: &mut String, words: &[&str]) -> Option<()> {
-    let [old, value, positions, widths] = words else {
-        return None;
-    };
-    let (positions, widths) = (size(positions)?, size(widths)?);
-    let value = wide(value)?;
-    let old = octets_of(alloc, old)?;
-    let right = sweep_overwrites(alloc, old.as_slice(), value, (positions, widths))?;
-    push_number(alloc, text, right)
+    if let [old, value, positions, widths] = words
+        && let Some(positions) = size(positions)
+        && let Some(widths) = size(widths)
+        && let Some(value) = wide(value)
+        && let Some(old) = octets_of(alloc, old)
+        && let Some(right) = sweep_overwrites(alloc, old.as_slice(), value, (positions, widths))
+    {
+        return push_number(alloc, text, right);
+    }
+    None
 }
 
 /// How many positions and counts leave the right bits.
@@ -59,9 +63,12 @@ fn is_right_or(
     position: usize,
     count: usize,
 ) -> Option<bool> {
-    let mut target = Vec::from_slice(alloc, old).ok()?;
-    or_into(target.as_mut_slice(), src, position, count)?;
-    Some(is_ored(target.as_slice(), old, src, position, count))
+    if let Ok(mut target) = Vec::from_slice(alloc, old)
+        && let Some(()) = or_into(target.as_mut_slice(), src, position, count)
+    {
+        return Some(is_ored(target.as_slice(), old, src, position, count));
+    }
+    None
 }
 
 /// Whether each bit is that of before, or one of the first bits of the source that stands there.
@@ -118,9 +125,12 @@ fn is_right_number(
     digits: (u128, usize),
     position: usize,
 ) -> Option<bool> {
-    let mut target = Vec::from_slice(alloc, old).ok()?;
-    put_digits(target.as_mut_slice(), position, digits)?;
-    Some(is_overwritten(target.as_slice(), old, digits, position))
+    if let Ok(mut target) = Vec::from_slice(alloc, old)
+        && let Some(()) = put_digits(target.as_mut_slice(), position, digits)
+    {
+        return Some(is_overwritten(target.as_slice(), old, digits, position));
+    }
+    None
 }
 
 /// Whether each bit is that of before, or the digit that stands there.

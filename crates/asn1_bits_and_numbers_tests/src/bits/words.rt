@@ -24,9 +24,12 @@ impl Part {
 
 /// The part that a word spells: `A55A:4:8` has 8 bits from bit 4 of the octets on.
 pub fn part_of(alloc: Global, word: &str) -> Option<Part> {
-    let (octets, place) = word.split_once(':')?;
-    let (first, len) = place.split_once(':')?;
-    part_from(alloc, octets, first, len)
+    if let Some((octets, place)) = word.split_once(':')
+        && let Some((first, len)) = place.split_once(':')
+    {
+        return part_from(alloc, octets, first, len);
+    }
+    None
 }
 
 /// The part that three words spell.
@@ -38,9 +41,13 @@ pub fn part_of_three(alloc: Global, words: &[&str]) -> Option<Part> {
 }
 
 fn part_from(alloc: Global, octets: &str, first: &str, len: &str) -> Option<Part> {
-    let (first, len) = (size(first)?, size(len)?);
-    let octets = octets_of(alloc, octets)?;
-    Some(Part { octets, first, len })
+    if let Some(first) = size(first)
+        && let Some(len) = size(len)
+        && let Some(octets) = octets_of(alloc, octets)
+    {
+        return Some(Part { octets, first, len });
+    }
+    None
 }
 
 /// The octets that a word spells in hexadecimal.
@@ -60,14 +67,23 @@ pub fn wide(word: &str) -> Option<u128> {
 
 /// A number and a size, joined by a colon.
 pub fn digits_of(word: &str) -> Option<(u128, usize)> {
-    let (value, width) = word.split_once(':')?;
-    Some((wide(value)?, size(width)?))
+    if let Some((value, width)) = word.split_once(':')
+        && let Some(value) = wide(value)
+        && let Some(width) = size(width)
+    {
+        return Some((value, width));
+    }
+    None
 }
 
 /// A size and a bit, joined by a colon.
 pub fn bit_of(word: &str) -> Option<(usize, bool)> {
-    let (place, bit) = word.split_once(':')?;
-    Some((size(place)?, bit == "1"))
+    if let Some((place, bit)) = word.split_once(':')
+        && let Some(place) = size(place)
+    {
+        return Some((place, bit == "1"));
+    }
+    None
 }
 
 /// Appends a word to a text of words.
@@ -114,8 +130,10 @@ pub fn push_bits(text: &mut String, view: BitStr<'_>) -> Option<()> {
 
 /// Appends the bits that a view shows in octets, with zeros to the end of the last.
 pub fn push_packed(alloc: Global, text: &mut String, view: BitStr<'_>) -> Option<()> {
-    let octets = pack_bits(alloc, view)?;
-    push_octets(alloc, text, octets.as_slice())
+    match pack_bits(alloc, view) {
+        Some(octets) => push_octets(alloc, text, octets.as_slice()),
+        None => None,
+    }
 }
 
 /// The bits that a view shows in octets, with zeros to the end of the last.

@@ -4,6 +4,7 @@ use crate::numbers::spelled::text_of;
 use asn1_number::{ConstrainedInteger, TryFromIntegerError};
 use asn1_test_rows::{RowError, parse_word, show_value, wrong};
 use std::alloc::Global;
+use std::str::FromStr;
 
 /// The numbers from -8 to 360.
 type Bounded = ConstrainedInteger<-8, 360>;
@@ -23,15 +24,31 @@ pub fn answer(alloc: Global, name: &str, words: &[&str]) -> Result<String, RowEr
 
 fn of_word(alloc: Global, name: &str, word: &str) -> Result<String, RowError> {
     match name {
-        "try_from_i32" => try_number(alloc, Bounded::try_from(parse_word::<i32>(alloc, word)?)),
-        "try_from_i64" => try_number(alloc, Bounded::try_from(parse_word::<i64>(alloc, word)?)),
-        "try_from_i128" => try_number(alloc, Bounded::try_from(parse_word::<i128>(alloc, word)?)),
-        "try_from_isize" => try_number(alloc, Bounded::try_from(parse_word::<isize>(alloc, word)?)),
-        "from_5_to_3" => try_number(alloc, Empty::try_from(parse_word::<i32>(alloc, word)?)),
-        "into_original" => handed_back(alloc, Bounded::try_from(parse_word::<i32>(alloc, word)?)),
-        "clone" => compare_copy(alloc, &bounded_number(alloc, word)?),
+        "try_from_i64" => try_native::<i64>(alloc, word),
+        "try_from_i128" => try_native::<i128>(alloc, word),
+        "try_from_isize" => try_native::<isize>(alloc, word),
+        _ => of_number(alloc, name, parse_word::<i32>(alloc, word)?),
+    }
+}
+
+fn of_number(alloc: Global, name: &str, number: i32) -> Result<String, RowError> {
+    match name {
+        "try_from_i32" => try_number(alloc, Bounded::try_from(number)),
+        "from_5_to_3" => try_number(alloc, Empty::try_from(number)),
+        "into_original" => handed_back(alloc, Bounded::try_from(number)),
+        "clone" => compare_copy(alloc, Bounded::try_from(number)),
         _ => Err(wrong(alloc, name, "function of ConstrainedInteger")),
     }
+}
+
+/// The number of a native type, or why it is refused.
+fn try_native<T>(alloc: Global, word: &str) -> Result<String, RowError>
+where
+    T: FromStr,
+    T::Err: Drop,
+    Bounded: TryFrom<T, Error = TryFromIntegerError>,
+{
+    try_number(alloc, Bounded::try_from(parse_word::<T>(alloc, word)?))
 }
 
 /// The number, if it lies within the bounds.
@@ -65,8 +82,14 @@ fn handed_back(
 }
 
 /// Whether the copy of a number equals the number.
-fn compare_copy(alloc: Global, number: &Bounded) -> Result<String, RowError> {
-    show_value(alloc, number.clone()? == *number)
+fn compare_copy(
+    alloc: Global,
+    number: Result<Bounded, TryFromIntegerError>,
+) -> Result<String, RowError> {
+    match number {
+        Ok(number) => show_value(alloc, number.clone()? == number),
+        Err(error) => show_value(alloc, error),
+    }
 }
 
 /// Whether the first number is below the second.

@@ -17,13 +17,17 @@ use std::alloc::{AllocError, Global};
 
 /// The answers of the callers.
 pub fn answer(alloc: Global, name: &str, words: &[&str]) -> Result<String, RowError> {
-    match words {
-        [word] if name == "version" => version_text(alloc, word),
-        [word] => of_number(alloc, name, &integer(alloc, word)?),
-        [first, second] if name == "are_one_number" => compare_words(alloc, first, second),
-        [spelled, word] => of_words(alloc, name, spelled, word),
+    match (name, words) {
+        ("version", [word]) => version_text(alloc, word),
+        ("are_one_number", [first, second]) => compare_words(alloc, first, second),
+        (_, [word]) => of_word(alloc, name, word),
+        (_, [spelled, word]) => of_words(alloc, name, spelled, word),
         _ => Err(wrong(alloc, name, "caller")),
     }
+}
+
+fn of_word(alloc: Global, name: &str, word: &str) -> Result<String, RowError> {
+    of_number(alloc, name, &integer(alloc, word)?)
 }
 
 fn version_text(alloc: Global, word: &str) -> Result<String, RowError> {

@@ -15,18 +15,34 @@ const LENT: &[u32] = &[1, 2, 840, 10040, 2, 1];
 pub fn answer(alloc: Global, owner: &str, name: &str, words: &[&str]) -> Result<String, RowError> {
     match words {
         [] => of_lent(alloc, name),
-        [word] if name == "new" => new_oid(alloc, arcs(alloc, word)?.as_slice()),
-        [word] if name == "from_vec" => from_vec(alloc, arcs(alloc, word)?),
-        [word] => of_one(alloc, owner, name, identifier(alloc, word)?),
-        [first, second] => of_two(
-            alloc,
-            owner,
-            name,
-            &identifier(alloc, first)?,
-            &identifier(alloc, second)?,
-        ),
+        [word] => of_arcs(alloc, owner, name, arcs(alloc, word)?),
+        [first, second] => of_words(alloc, owner, name, first, second),
         _ => Err(wrong(alloc, name, "function of identifiers")),
     }
+}
+
+/// The answers on arcs, and on the identifier of them.
+fn of_arcs(alloc: Global, owner: &str, name: &str, arcs: Vec<u32>) -> Result<String, RowError> {
+    match name {
+        "new" => new_oid(alloc, arcs.as_slice()),
+        "from_vec" => from_vec(alloc, arcs),
+        _ => match ObjectIdentifier::from_vec(arcs) {
+            Some(identifier) => of_one(alloc, owner, name, identifier),
+            None => Err(wrong(alloc, name, "function of such arcs")),
+        },
+    }
+}
+
+fn of_words(
+    alloc: Global,
+    owner: &str,
+    name: &str,
+    first: &str,
+    second: &str,
+) -> Result<String, RowError> {
+    let first = identifier(alloc, first)?;
+    let second = identifier(alloc, second)?;
+    of_two(alloc, owner, name, &first, &second)
 }
 
 /// The answers on one identifier.
