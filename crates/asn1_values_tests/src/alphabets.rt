@@ -36,9 +36,15 @@ fn make_alphabet<'x, S: StaticPermittedAlphabet>(
 
 /// The width of an alphabet's codes, and whether it repeats a character: `aIa5/97,98`.
 pub fn answer(alloc: Global, text: &mut String, words: &[&str]) -> Option<()> {
-    let stores = stores_of(alloc, words)?;
-    let word = words.first()?.strip_prefix('a')?;
-    tell(alloc, text, alphabet(word, stores.first()?)?)
+    if let Some(stores) = stores_of(alloc, words)
+        && let [word] = words
+        && let [store] = stores.as_slice()
+        && let Some(word) = word.strip_prefix('a')
+        && let Some(alphabet) = alphabet(word, store)
+    {
+        return tell(alloc, text, alphabet);
+    }
+    None
 }
 
 fn tell(alloc: Global, text: &mut String, alphabet: CharacterAlphabet<'_>) -> Option<()> {

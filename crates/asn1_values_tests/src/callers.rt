@@ -1,6 +1,6 @@
 //! Callers that are proved from the contracts of the two calls alone.
 
-ghost use Rattle.std.specs.Prelude.{◌≡◌, ◌++◌, IfSome, IsOk};
+ghost use Rattle.std.specs.Prelude.{◌≡◌, ◌≤◌, ◌++◌, length, IfSome, IsOk};
 ghost use Rattle.asn1_bits.specs.BitReader.{bits_left};
 ghost use Rattle.asn1_values.specs.Fields.{GiveOneSpelling};
 ghost use Rattle.asn1_values.specs.Plain.{plain_shapes};
@@ -27,19 +27,26 @@ fn copies_the_front(
 /// `OCTETS`: how many bits are left behind a number of four bits and an octet, and what is written
 /// again.
 pub fn front(alloc: Global, text: &mut String, words: &[&str]) -> Option<()> {
-    let octets = octets_of(alloc, words.first()?)?;
-    tell_front(alloc, text, octets.as_slice())
+    if let [octets] = words
+        && let Some(octets) = octets_of(alloc, octets)
+        && octets.len() <= 100
+    {
+        return tell_front(alloc, text, octets.as_slice());
+    }
+    None
 }
 
-fn tell_front(alloc: Global, text: &mut String, octets: &[u8]) -> Option<()> {
-    if octets.len() > 100 {
-        return None;
-    }
+fn tell_front(alloc: Global, text: &mut String, octets: &[u8]) -> Option<()>
+    requires { length octets.now ≤ 100 }
+{
     let mut reader = BitReader::from_octets(octets);
     let shapes = [Shape::Number { width: 4 }, Shape::Octets { count: 1 }];
-    let front = copies_the_front(alloc, &mut reader, &shapes)?;
-    push_number(alloc, text, reader.len() as u128)?;
-    push_state(alloc, text, &front)
+    if let Some(front) = copies_the_front(alloc, &mut reader, &shapes)
+        && let Some(()) = push_number(alloc, text, reader.len() as u128)
+    {
+        return push_state(alloc, text, &front);
+    }
+    None
 }
 
 /// No fields, for which no memory can be wanting.
@@ -53,7 +60,11 @@ fn writes_nothing(buffer: &mut BitBuffer) -> Result<(), WriteError>
 
 /// `BITS`: a buffer of the bits after it.
 pub fn nothing(alloc: Global, text: &mut String, words: &[&str]) -> Option<()> {
-    let mut buffer = buffer_of(alloc, words.first()?)?;
-    writes_nothing(&mut buffer).ok()?;
-    push_state(alloc, text, &buffer)
+    if let [bits] = words
+        && let Some(mut buffer) = buffer_of(alloc, bits)
+        && let Ok(()) = writes_nothing(&mut buffer)
+    {
+        return push_state(alloc, text, &buffer);
+    }
+    None
 }

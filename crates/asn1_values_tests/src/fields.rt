@@ -23,7 +23,19 @@ pub fn fields_of<'x>(
 
 /// The field that a word spells.
 fn field<'x>(alloc: Global, word: &str, store: &'x Store) -> Option<Field<'x, 'x>> {
-    let (shape, value) = word.split_once('=')?;
+    match word.split_once('=') {
+        Some((shape, value)) => field_of(alloc, shape, value, store),
+        None => None,
+    }
+}
+
+/// The field of a shape and a value.
+fn field_of<'x>(
+    alloc: Global,
+    shape: &str,
+    value: &str,
+    store: &'x Store,
+) -> Option<Field<'x, 'x>> {
     match shape {
         "o" => Some(Field::Octets(Octets::Borrowed(store.octets.as_slice()))),
         "b" => bits(value, store),
@@ -37,30 +49,53 @@ fn field<'x>(alloc: Global, word: &str, store: &'x Store) -> Option<Field<'x, 'x
 
 /// A number or a character.
 fn other<'x>(shape: &str, value: &str, store: &'x Store) -> Option<Field<'x, 'x>> {
-    if let Some(width) = shape.strip_prefix('n') {
-        let (value, width) = (wide(value)?, size(width)?);
+    match shape.strip_prefix('n') {
+        Some(width) => number(value, width),
+        None => character(shape, value, store),
+    }
+}
+
+fn number<'x>(value: &str, width: &str) -> Option<Field<'x, 'x>> {
+    if let Some(value) = wide(value)
+        && let Some(width) = size(width)
+    {
         return Some(Field::Number { value, width });
     }
-    let character = value.parse::<u32>().ok()?;
-    let alphabet = alphabet(shape.strip_prefix('a')?, store)?;
-    Some(Field::Character {
-        character,
-        alphabet,
-    })
+    None
+}
+
+fn character<'x>(shape: &str, value: &str, store: &'x Store) -> Option<Field<'x, 'x>> {
+    if let Ok(character) = value.parse::<u32>()
+        && let Some(shape) = shape.strip_prefix('a')
+        && let Some(alphabet) = alphabet(shape, store)
+    {
+        return Some(Field::Character {
+            character,
+            alphabet,
+        });
+    }
+    None
 }
 
 /// Bits of the store, as `5A:3:5`.
 fn bits<'x>(value: &str, store: &'x Store) -> Option<Field<'x, 'x>> {
-    let (_, place) = value.split_once(':')?;
-    let (first, len) = place.split_once(':')?;
-    let view = BitStr::new(store.octets.as_slice(), size(first)?, size(len)?)?;
-    Some(Field::Bits(view))
+    if let Some((_, place)) = value.split_once(':')
+        && let Some((first, len)) = place.split_once(':')
+        && let Some(first) = size(first)
+        && let Some(len) = size(len)
+        && let Some(view) = BitStr::new(store.octets.as_slice(), first, len)
+    {
+        return Some(Field::Bits(view));
+    }
+    None
 }
 
 /// The integer of two's complement octets.
 pub fn integer(alloc: Global, value: &str) -> Option<Integer> {
-    let octets = octets_of(alloc, value)?;
-    Integer::from_signed_octets(alloc, octets.as_slice()).ok()
+    match octets_of(alloc, value) {
+        Some(octets) => Integer::from_signed_octets(alloc, octets.as_slice()).ok(),
+        None => None,
+    }
 }
 
 /// The identifier of arcs that full stops join.
@@ -78,6 +113,8 @@ fn arcs(alloc: Global, value: &str) -> Option<Vec<u32>> {
 
 /// The identifier of these contents.
 fn contents(alloc: Global, value: &str) -> Option<ObjectIdentifier> {
-    let octets = octets_of(alloc, value)?;
-    ObjectIdentifier::from_contents(alloc, &octets.as_slice()).ok()
+    match octets_of(alloc, value) {
+        Some(octets) => ObjectIdentifier::from_contents(alloc, &octets.as_slice()).ok(),
+        None => None,
+    }
 }

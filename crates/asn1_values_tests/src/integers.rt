@@ -16,12 +16,13 @@ pub fn sizes(alloc: Global, text: &mut String) -> Option<()> {
 
 /// How the integers of two lists of octets compare.
 pub fn cmp(alloc: Global, text: &mut String, words: &[&str]) -> Option<()> {
-    let [one, other] = words else {
-        return None;
-    };
-    let one = integer(alloc, one)?;
-    let other = integer(alloc, other)?;
-    append(text, order_of(&one, &other))
+    if let [one, other] = words
+        && let Some(one) = integer(alloc, one)
+        && let Some(other) = integer(alloc, other)
+    {
+        return append(text, order_of(&one, &other));
+    }
+    None
 }
 
 fn order_of(one: &Integer, other: &Integer) -> &'static str {
@@ -33,18 +34,23 @@ fn order_of(one: &Integer, other: &Integer) -> &'static str {
 
 /// The octets without redundant sign octets.
 pub fn without(alloc: Global, text: &mut String, words: &[&str]) -> Option<()> {
-    let octets = octets_of(alloc, words.first()?)?;
-    push_octets(
-        alloc,
-        text,
-        without_redundant_sign_octets(octets.as_slice()),
-    )
+    if let [octets] = words
+        && let Some(octets) = octets_of(alloc, octets)
+    {
+        let shortest = without_redundant_sign_octets(octets.as_slice());
+        return push_octets(alloc, text, shortest);
+    }
+    None
 }
 
 /// The shortest octets of the integer of octets.
 pub fn shortest(alloc: Global, text: &mut String, words: &[&str]) -> Option<()> {
-    let number = integer(alloc, words.first()?)?;
-    push_labelled(alloc, text, "", number.signed_octets().as_ref())
+    if let [octets] = words
+        && let Some(number) = integer(alloc, octets)
+    {
+        return push_labelled(alloc, text, "", number.signed_octets().as_ref());
+    }
+    None
 }
 
 /// How many integers of one octet, and of two octets, are read as the number that the octets are in

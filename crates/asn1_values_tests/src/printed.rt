@@ -66,9 +66,16 @@ fn push_character(
 ) -> Option<()> {
     let width = alphabet.width();
     if alphabet.repeats() {
-        return push_word(text, format!(in alloc; "a{width}={character}").ok()?);
+        return push_repeated(alloc, text, width, character);
     }
-    push_coded(alloc, text, width, code_of(alphabet, character)?, character)
+    match code_of(alphabet, character) {
+        Some(code) => push_coded(alloc, text, width, code, character),
+        None => None,
+    }
+}
+
+fn push_repeated(alloc: Global, text: &mut String, width: usize, character: u32) -> Option<()> {
+    push_word(text, format!(in alloc; "a{width}={character}").ok()?)
 }
 
 fn push_coded(

@@ -11,18 +11,23 @@ use std::alloc::Global;
 
 /// `OCTETS FIRST LEN SHAPE ..`: the fields or the refusal, and how many bits are left.
 pub fn read(alloc: Global, text: &mut String, words: &[&str]) -> Option<()> {
-    let [octets, first, len, shapes @ ..] = words else {
-        return None;
-    };
-    let part = part_from(alloc, octets, first, len)?;
-    read_view(alloc, text, part.view()?, shapes)
+    if let [octets, first, len, shapes @ ..] = words
+        && let Some(part) = part_from(alloc, octets, first, len)
+        && let Some(view) = part.view()
+    {
+        return read_view(alloc, text, view, shapes);
+    }
+    None
 }
 
 /// Reads fields of the shapes from the view.
 fn read_view(alloc: Global, text: &mut String, view: BitStr<'_>, words: &[&str]) -> Option<()> {
-    let stores = stores_of(alloc, words)?;
-    let shapes = shapes_of(alloc, words, stores.as_slice())?;
-    tell(alloc, text, view, shapes.as_slice())
+    if let Some(stores) = stores_of(alloc, words)
+        && let Some(shapes) = shapes_of(alloc, words, stores.as_slice())
+    {
+        return tell(alloc, text, view, shapes.as_slice());
+    }
+    None
 }
 
 fn tell(alloc: Global, text: &mut String, view: BitStr<'_>, shapes: &[Shape<'_>]) -> Option<()> {
@@ -58,18 +63,27 @@ fn get<'a, 's>(
 
 /// `BITS FIELD .. ; SHAPE ..`: the fields are written behind the bits, and read from there on.
 pub fn again(alloc: Global, text: &mut String, words: &[&str]) -> Option<()> {
-    let (front, rest) = words.split_first()?;
-    let at = rest.iter().position(|word| *word == ";")?;
-    let mut buffer = buffer_of(alloc, front)?;
-    let first = buffer.len();
-    write_all(alloc, &mut buffer, rest.get(..at)?)?;
-    read_back(alloc, text, &buffer, first, rest.get(at..)?)
+    if let [front, rest @ ..] = words
+        && let Some(at) = rest.iter().position(|word| *word == ";")
+        && let Some(fields) = rest.get(..at)
+        && let Some(shapes) = rest.get(at..)
+        && let Some(mut buffer) = buffer_of(alloc, front)
+    {
+        let first = buffer.len();
+        if let Some(()) = write_all(alloc, &mut buffer, fields) {
+            return read_back(alloc, text, &buffer, first, shapes);
+        }
+    }
+    None
 }
 
 fn write_all(alloc: Global, buffer: &mut BitBuffer, words: &[&str]) -> Option<()> {
-    let stores = stores_of(alloc, words)?;
-    let fields = fields_of(alloc, words, stores.as_slice())?;
-    put(buffer, fields.as_slice()).ok()
+    if let Some(stores) = stores_of(alloc, words)
+        && let Some(fields) = fields_of(alloc, words, stores.as_slice())
+    {
+        return put(buffer, fields.as_slice()).ok();
+    }
+    None
 }
 
 /// Reads the shapes behind the first word from a bit of the buffer on.
@@ -80,12 +94,11 @@ fn read_back(
     first: usize,
     words: &[&str],
 ) -> Option<()> {
-    let (_, shapes) = words.split_first()?;
-    let len = buffer.len().checked_sub(first)?;
-    read_view(
-        alloc,
-        text,
-        BitStr::new(buffer.as_bytes(), first, len)?,
-        shapes,
-    )
+    if let [_, shapes @ ..] = words
+        && let Some(len) = buffer.len().checked_sub(first)
+        && let Some(view) = BitStr::new(buffer.as_bytes(), first, len)
+    {
+        return read_view(alloc, text, view, shapes);
+    }
+    None
 }

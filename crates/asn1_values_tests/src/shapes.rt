@@ -21,12 +21,26 @@ fn shape<'x>(word: &str, store: &'x Store) -> Option<Shape<'x>> {
     if word == "c" {
         return Some(Shape::CountedInteger);
     }
-    if let Some(rest) = word.strip_prefix('a') {
-        let alphabet = alphabet(rest, store)?;
-        return Some(Shape::Character { alphabet });
+    match word.strip_prefix('a') {
+        Some(rest) => character(rest, store),
+        None => counted(word),
     }
-    let (kind, count) = word.split_at_checked(1)?;
-    shape_of_letter(kind, size(count)?)
+}
+
+fn character<'x>(word: &str, store: &'x Store) -> Option<Shape<'x>> {
+    match alphabet(word, store) {
+        Some(alphabet) => Some(Shape::Character { alphabet }),
+        None => None,
+    }
+}
+
+fn counted<'x>(word: &str) -> Option<Shape<'x>> {
+    if let Some((kind, count)) = word.split_at_checked(1)
+        && let Some(count) = size(count)
+    {
+        return shape_of_letter(kind, count);
+    }
+    None
 }
 
 /// The shape of a letter and a number.
@@ -43,9 +57,12 @@ fn shape_of_letter<'x>(kind: &str, count: usize) -> Option<Shape<'x>> {
 
 /// The shapes of fields.
 pub fn answer(alloc: Global, text: &mut String, words: &[&str]) -> Option<()> {
-    let stores = stores_of(alloc, words)?;
-    let fields = fields_of(alloc, words, stores.as_slice())?;
-    tell_each(alloc, text, fields.as_slice())
+    if let Some(stores) = stores_of(alloc, words)
+        && let Some(fields) = fields_of(alloc, words, stores.as_slice())
+    {
+        return tell_each(alloc, text, fields.as_slice());
+    }
+    None
 }
 
 fn tell_each(alloc: Global, text: &mut String, fields: &[Field<'_, '_>]) -> Option<()> {

@@ -21,9 +21,12 @@ pub fn stores_of(alloc: Global, words: &[&str]) -> Option<Vec<Store>> {
 
 /// What a word spells: the octets behind `o=` or `b=`, the set of an alphabet behind `a`.
 fn store_of(alloc: Global, word: &str) -> Option<Store> {
-    let set = set_of(alloc, word)?;
-    let octets = octets_in(alloc, word)?;
-    Some(Store { octets, set })
+    if let Some(set) = set_of(alloc, word)
+        && let Some(octets) = octets_in(alloc, word)
+    {
+        return Some(Store { octets, set });
+    }
+    None
 }
 
 /// The octets of a word for octets or bits; none in another word.

@@ -25,9 +25,13 @@ impl Part {
 
 /// The part that three words spell: octets, the first bit, and how many bits.
 pub fn part_from(alloc: Global, octets: &str, first: &str, len: &str) -> Option<Part> {
-    let (first, len) = (size(first)?, size(len)?);
-    let octets = octets_of(alloc, octets)?;
-    Some(Part { octets, first, len })
+    if let Some(first) = size(first)
+        && let Some(len) = size(len)
+        && let Some(octets) = octets_of(alloc, octets)
+    {
+        return Some(Part { octets, first, len });
+    }
+    None
 }
 
 /// The octets that a word spells in hexadecimal.

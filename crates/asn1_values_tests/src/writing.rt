@@ -25,10 +25,13 @@ fn write_group(
     buffer: &mut BitBuffer,
     words: &[&str],
 ) -> Option<()> {
-    let stores = stores_of(alloc, words)?;
-    let fields = fields_of(alloc, words, stores.as_slice())?;
-    tell(alloc, text, put(buffer, fields.as_slice()))?;
-    push_state(alloc, text, buffer)
+    if let Some(stores) = stores_of(alloc, words)
+        && let Some(fields) = fields_of(alloc, words, stores.as_slice())
+        && let Some(()) = tell(alloc, text, put(buffer, fields.as_slice()))
+    {
+        return push_state(alloc, text, buffer);
+    }
+    None
 }
 
 /// Appends a refusal.
@@ -46,9 +49,13 @@ pub fn put(buffer: &mut BitBuffer, fields: &[Field<'_, '_>]) -> Result<(), Write
 
 /// `FIELD ..`: how many bits the fields have.
 pub fn len(alloc: Global, text: &mut String, words: &[&str]) -> Option<()> {
-    let stores = stores_of(alloc, words)?;
-    let fields = fields_of(alloc, words, stores.as_slice())?;
-    push_number(alloc, text, len_of(alloc, fields.as_slice())?)
+    if let Some(stores) = stores_of(alloc, words)
+        && let Some(fields) = fields_of(alloc, words, stores.as_slice())
+        && let Some(len) = len_of(alloc, fields.as_slice())
+    {
+        return push_number(alloc, text, len);
+    }
+    None
 }
 
 fn len_of(alloc: Global, fields: &[Field<'_, '_>]) -> Option<u128> {
@@ -59,12 +66,15 @@ fn len_of(alloc: Global, fields: &[Field<'_, '_>]) -> Option<u128> {
 
 /// `BITS FIELD ..`, by the call that counts.
 pub fn write_counted(alloc: Global, text: &mut String, words: &[&str]) -> Option<()> {
-    let (front, rest) = words.split_first()?;
-    let mut buffer = buffer_of(alloc, front)?;
-    let stores = stores_of(alloc, rest)?;
-    let fields = fields_of(alloc, rest, stores.as_slice())?;
-    tell(alloc, text, put_counted(&mut buffer, fields.as_slice()))?;
-    push_state(alloc, text, &buffer)
+    if let [front, rest @ ..] = words
+        && let Some(mut buffer) = buffer_of(alloc, front)
+        && let Some(stores) = stores_of(alloc, rest)
+        && let Some(fields) = fields_of(alloc, rest, stores.as_slice())
+        && let Some(()) = tell(alloc, text, put_counted(&mut buffer, fields.as_slice()))
+    {
+        return push_state(alloc, text, &buffer);
+    }
+    None
 }
 
 fn put_counted(buffer: &mut BitBuffer, fields: &[Field<'_, '_>]) -> Result<(), WriteError> {
@@ -73,18 +83,15 @@ fn put_counted(buffer: &mut BitBuffer, fields: &[Field<'_, '_>]) -> Result<(), W
 
 /// `OCTETS POSITION FIELD ..`: the bit behind the fields or the refusal, and the octets.
 pub fn write_at(alloc: Global, text: &mut String, words: &[&str]) -> Option<()> {
-    let [octets, position, rest @ ..] = words else {
-        return None;
-    };
-    let stores = stores_of(alloc, rest)?;
-    let fields = fields_of(alloc, rest, stores.as_slice())?;
-    tell_at(
-        alloc,
-        text,
-        octets_of(alloc, octets)?,
-        size(position)?,
-        fields.as_slice(),
-    )
+    if let [octets, position, rest @ ..] = words
+        && let Some(octets) = octets_of(alloc, octets)
+        && let Some(position) = size(position)
+        && let Some(stores) = stores_of(alloc, rest)
+        && let Some(fields) = fields_of(alloc, rest, stores.as_slice())
+    {
+        return tell_at(alloc, text, octets, position, fields.as_slice());
+    }
+    None
 }
 
 fn tell_at(

@@ -1,0 +1,193 @@
+//! Contents of identifiers (X.690 8.19).
+
+use crate::numbers::spelled::{arcs, arcs_text};
+use crate::numbers::two_octets;
+use asn1_oid::{
+    ContentsError, ObjectIdentifier, Oid, OidContents, check_contents, laws_of_contents,
+};
+use asn1_test_rows::{RowError, hex_of, octets, optional, parse_word, show_value, wrong};
+use std::alloc::Global;
+use std::borrow::CowSlice;
+
+/// The answers of the functions of contents: of octets, of a limit and octets, or of arcs, a number
+/// and octets.
+pub fn answer(alloc: Global, name: &str, words: &[&str]) -> Result<String, RowError> {
+    match words {
+        [] => laws(alloc),
+        [word] if name == "ContentsError" => error_text(alloc, word),
+        [word] => of_octets(alloc, name, octets(alloc, word)?.as_slice()),
+        [limit, word] => of_limit(alloc, limit, word),
+        [word, count, spelled] => of_words(alloc, name, word, count, spelled),
+        _ => Err(wrong(alloc, name, "function of contents")),
+    }
+}
+
+fn of_limit(alloc: Global, limit: &str, word: &str) -> Result<String, RowError> {
+    let limit = parse_word::<usize>(alloc, limit)?;
+    room_of_read(alloc, limit, octets(alloc, word)?.as_slice())
+}
+
+fn of_words(
+    alloc: Global,
+    name: &str,
+    word: &str,
+    count: &str,
+    spelled: &str,
+) -> Result<String, RowError> {
+    let count = parse_word::<usize>(alloc, count)?;
+    let arcs = arcs(alloc, word)?;
+    of_arcs(alloc, name, arcs.as_slice(), count, octets(alloc, spelled)?)
+}
+
+/// The answers on octets.
+fn of_octets(alloc: Global, name: &str, octets: &[u8]) -> Result<String, RowError> {
+    match name {
+        "check_contents" => check_octets(alloc, octets),
+        "from_contents" => read(alloc, octets),
+        "lists_of_two" => two_octets::agree(alloc, octets),
+        _ => Err(wrong(alloc, name, "function of octets")),
+    }
+}
+
+/// The answers on a borrowed identifier.
+pub fn of_oid(alloc: Global, name: &str, oid: Oid<'_>) -> Result<String, RowError> {
+    match name {
+        "contents" => write_contents(alloc, oid),
+        "contents_len" => optional(alloc, oid.contents_len()),
+        _ => Err(wrong(alloc, name, "function of an identifier")),
+    }
+}
+
+/// The answers on the contents of arcs, of which so many octets are taken, and on octets before
+/// them.
+fn of_arcs(
+    alloc: Global,
+    name: &str,
+    arcs: &[u32],
+    count: usize,
+    octets: Vec<u8>,
+) -> Result<String, RowError> {
+    let Some(contents) = start_contents(arcs) else {
+        return Err(wrong(alloc, name, "function of such arcs"));
+    };
+    match name {
+        "size_hint" => hint_of(alloc, contents, count),
+        "append_to" => append_contents(alloc, contents, count, octets),
+        "has_room_of_at_most" => has_room(alloc, contents, count, octets),
+        _ => Err(wrong(alloc, name, "function of arcs and octets")),
+    }
+}
+
+/// The iterator over the contents of an identifier; None where it has none.
+fn start_contents(arcs: &[u32]) -> Option<OidContents<'_>> {
+    Oid::new(arcs)?.contents()
+}
+
+/// The contents of an identifier, octet by octet; None where it has none.
+pub fn contents_of(alloc: Global, oid: Oid<'_>) -> Result<Option<Vec<u8>>, RowError> {
+    let Some(contents) = oid.contents() else {
+        return Ok(None);
+    };
+    let mut octets = Vec::new(alloc);
+    for octet in contents {
+        octets.push(octet)?;
+    }
+    Ok(Some(octets))
+}
+
+fn write_contents(alloc: Global, oid: Oid<'_>) -> Result<String, RowError> {
+    match contents_of(alloc, oid)? {
+        Some(octets) => hex_of(alloc, octets.as_slice()),
+        None => show_value(alloc, "none"),
+    }
+}
+
+/// Takes so many octets from the contents.
+fn take(alloc: Global, contents: &mut OidContents<'_>, count: usize) -> Result<Vec<u8>, RowError> {
+    let mut octets = Vec::new(alloc);
+    for _ in 0..count {
+        if let Some(octet) = contents.next() {
+            octets.push(octet)?;
+        }
+    }
+    Ok(octets)
+}
+
+/// The hint when so many octets were taken, and whether there is a next one.
+fn hint_of(alloc: Global, mut contents: OidContents<'_>, count: usize) -> Result<String, RowError> {
+    let taken = take(alloc, &mut contents, count)?.len();
+    let (least, most) = contents.size_hint();
+    let most = most.unwrap_or(usize::MAX);
+    let more = contents.next().is_some();
+    Ok(format!(in alloc; "{taken} {least} {most} {more}")?)
+}
+
+/// The octets that were taken first, and the octets with the rest of the contents behind them.
+fn append_contents(
+    alloc: Global,
+    mut contents: OidContents<'_>,
+    count: usize,
+    mut octets: Vec<u8>,
+) -> Result<String, RowError> {
+    let mut text = hex_of(alloc, take(alloc, &mut contents, count)?.as_slice())?;
+    contents.append_to(&mut octets)?;
+    text.push(' ')?;
+    text.push_str(hex_of(alloc, octets.as_slice())?.as_str())?;
+    Ok(text)
+}
+
+/// Whether octets with the contents behind them have no more room than the limit.
+fn has_room(
+    alloc: Global,
+    contents: OidContents<'_>,
+    limit: usize,
+    mut octets: Vec<u8>,
+) -> Result<String, RowError> {
+    contents.append_to(&mut octets)?;
+    show_value(alloc, octets.capacity() <= limit)
+}
+
+fn check_octets(alloc: Global, octets: &[u8]) -> Result<String, RowError> {
+    match check_contents(&octets) {
+        Ok(()) => show_value(alloc, true),
+        Err(error) => show_value(alloc, error),
+    }
+}
+
+fn read(alloc: Global, octets: &[u8]) -> Result<String, RowError> {
+    match ObjectIdentifier::from_contents(alloc, &octets) {
+        Ok(identifier) => arcs_text(alloc, identifier.as_ref()),
+        Err(error) => show_value(alloc, error),
+    }
+}
+
+/// Whether the arcs that were read are owned and have no more room than the limit.
+fn room_of_read(alloc: Global, limit: usize, octets: &[u8]) -> Result<String, RowError> {
+    match ObjectIdentifier::from_contents(alloc, &octets) {
+        Ok(identifier) => room_of(alloc, limit, identifier.into_arcs()),
+        Err(error) => show_value(alloc, error),
+    }
+}
+
+fn room_of(alloc: Global, limit: usize, arcs: CowSlice<'static, u32>) -> Result<String, RowError> {
+    match arcs {
+        CowSlice::Owned(arcs) => show_value(alloc, arcs.capacity() <= limit),
+        CowSlice::Borrowed(_) => show_value(alloc, "lent"),
+    }
+}
+
+/// The functions whose contracts are laws, and that do nothing.
+fn laws(alloc: Global) -> Result<String, RowError> {
+    laws_of_contents();
+    show_value(alloc, true)
+}
+
+fn error_text(alloc: Global, word: &str) -> Result<String, RowError> {
+    let error = match word {
+        "Malformed" => ContentsError::Malformed,
+        "ArcTooLarge" => ContentsError::ArcTooLarge,
+        "Memory" => ContentsError::Memory,
+        _ => return Err(wrong(alloc, word, "refusal")),
+    };
+    show_value(alloc, error)
+}

@@ -1,0 +1,158 @@
+//! The functions of `Oid` and `ObjectIdentifier` on arcs.
+
+use crate::numbers::contents;
+use crate::numbers::spelled::{arcs, arcs_text};
+use asn1_oid::{ObjectIdentifier, Oid};
+use asn1_test_rows::{RowError, show_value, wrong};
+use std::alloc::Global;
+use std::borrow::CowSlice;
+use std::collections::HashSet;
+
+/// Arcs that live as long as the program.
+const LENT: &[u32] = &[1, 2, 840, 10040, 2, 1];
+
+/// The answers of identifiers: of lent arcs, of those of a word, or of those of two words.
+pub fn answer(alloc: Global, owner: &str, name: &str, words: &[&str]) -> Result<String, RowError> {
+    match words {
+        [] => of_lent(alloc, name),
+        [word] => of_arcs(alloc, owner, name, arcs(alloc, word)?),
+        [first, second] => of_words(alloc, owner, name, first, second),
+        _ => Err(wrong(alloc, name, "function of identifiers")),
+    }
+}
+
+/// The answers on arcs, and on the identifier of them.
+fn of_arcs(alloc: Global, owner: &str, name: &str, arcs: Vec<u32>) -> Result<String, RowError> {
+    match name {
+        "new" => new_oid(alloc, arcs.as_slice()),
+        "from_vec" => from_vec(alloc, arcs),
+        _ => match ObjectIdentifier::from_vec(arcs) {
+            Some(identifier) => of_one(alloc, owner, name, identifier),
+            None => Err(wrong(alloc, name, "function of such arcs")),
+        },
+    }
+}
+
+fn of_words(
+    alloc: Global,
+    owner: &str,
+    name: &str,
+    first: &str,
+    second: &str,
+) -> Result<String, RowError> {
+    let first = identifier(alloc, first)?;
+    let second = identifier(alloc, second)?;
+    of_two(alloc, owner, name, &first, &second)
+}
+
+/// The answers on one identifier.
+fn of_one(
+    alloc: Global,
+    owner: &str,
+    name: &str,
+    identifier: ObjectIdentifier,
+) -> Result<String, RowError> {
+    match name {
+        "fmt" if owner == "Oid" => show_value(alloc, identifier.as_oid()),
+        "fmt" => show_value(alloc, identifier),
+        "to_owned" => to_owned(alloc, identifier.as_oid()),
+        "new_unchecked" => taken_out(alloc, identifier),
+        "from_vec_of_reverse" => reverse_arcs(alloc, identifier),
+        _ => contents::of_oid(alloc, name, identifier.as_oid()),
+    }
+}
+
+/// The answers on two identifiers, borrowed or owned.
+fn of_two(
+    alloc: Global,
+    owner: &str,
+    name: &str,
+    first: &ObjectIdentifier,
+    second: &ObjectIdentifier,
+) -> Result<String, RowError> {
+    match name {
+        "eq_arcs" if owner == "Oid" => show_value(alloc, first.as_oid().eq_arcs(second.as_ref())),
+        "eq_arcs" => show_value(alloc, first.eq_arcs(second.as_ref())),
+        "as_oid" => show_value(alloc, Oid::new(first.as_ref()) == Some(second.as_oid())),
+        "lt" if owner == "Oid" => show_value(alloc, first.as_oid() < second.as_oid()),
+        "lt" => show_value(alloc, first < second),
+        _ => Err(wrong(alloc, name, "function of two identifiers")),
+    }
+}
+
+/// The answers on arcs that are lent for as long as the program runs, and on their copy.
+fn of_lent(alloc: Global, name: &str) -> Result<String, RowError> {
+    let Some(lent) = ObjectIdentifier::new(CowSlice::Borrowed(LENT)) else {
+        return Err(wrong(alloc, name, "function of valid arcs"));
+    };
+    let copy = ObjectIdentifier::from_oid(alloc, lent.as_oid())?;
+    match name {
+        "new" => arcs_text(alloc, lent.as_ref()),
+        "from_oid" => arcs_text(alloc, copy.as_ref()),
+        "eq" => show_value(alloc, lent == copy),
+        "clone_of_borrowed" => is_copied(alloc, &lent, &copy),
+        "clone_of_owned" => is_copied(alloc, &copy, &lent),
+        "hash" => is_found(alloc, lent, &copy),
+        _ => Err(wrong(alloc, name, "function of lent arcs")),
+    }
+}
+
+/// Whether the copy of an identifier equals the other one.
+fn is_copied(
+    alloc: Global,
+    identifier: &ObjectIdentifier,
+    other: &ObjectIdentifier,
+) -> Result<String, RowError> {
+    show_value(alloc, identifier.clone()? == *other)
+}
+
+/// Whether a set that has the identifier has the other one.
+fn is_found(
+    alloc: Global,
+    identifier: ObjectIdentifier,
+    other: &ObjectIdentifier,
+) -> Result<String, RowError> {
+    let mut seen = HashSet::new(alloc);
+    seen.insert(identifier)?;
+    show_value(alloc, seen.contains(other))
+}
+
+/// The identifier of arcs that a word spells.
+fn identifier(alloc: Global, word: &str) -> Result<ObjectIdentifier, RowError> {
+    match ObjectIdentifier::from_vec(arcs(alloc, word)?) {
+        Some(identifier) => Ok(identifier),
+        None => Err(wrong(alloc, word, "identifier")),
+    }
+}
+
+fn new_oid(alloc: Global, arcs: &[u32]) -> Result<String, RowError> {
+    match Oid::new(arcs) {
+        Some(oid) => arcs_text(alloc, oid.as_ref()),
+        None => show_value(alloc, "none"),
+    }
+}
+
+fn from_vec(alloc: Global, arcs: Vec<u32>) -> Result<String, RowError> {
+    match ObjectIdentifier::from_vec(arcs) {
+        Some(identifier) => arcs_text(alloc, identifier.as_ref()),
+        None => show_value(alloc, "none"),
+    }
+}
+
+/// The text of the owned identifier.
+fn to_owned(alloc: Global, oid: Oid<'_>) -> Result<String, RowError> {
+    show_value(alloc, oid.to_owned(alloc)?)
+}
+
+/// The arcs that were taken out of an identifier and made one again.
+fn taken_out(alloc: Global, identifier: ObjectIdentifier) -> Result<String, RowError> {
+    let again = ObjectIdentifier::new_unchecked(identifier.into_arcs());
+    arcs_text(alloc, Oid::new_unchecked(again.as_ref()).as_ref())
+}
+
+/// The identifier of the arcs in the other direction.
+fn reverse_arcs(alloc: Global, identifier: ObjectIdentifier) -> Result<String, RowError> {
+    let mut turned = identifier.into_arcs().into_owned(alloc)?;
+    turned.reverse();
+    from_vec(alloc, turned)
+}
