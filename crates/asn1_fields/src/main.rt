@@ -2,11 +2,10 @@
 //! of the second, from the bit that the third names on, and writes them again.
 #![tactic(auto)]
 
+mod memory;
 mod parse;
 mod print;
 mod run;
-#[cfg(test)]
-mod tests;
 
 ghost use Rattle.std.specs.Prelude.{◌≡◌, MatchResult};
 

@@ -1,6 +1,6 @@
 use Rattle.std.proofs.Common.{◌≡◌, ◌++◌, List, ℕ, append-nil, sym, ap, subst, ◌∙◌}
 use Rattle.asn1_fields.specs.Program.{Answer, IsAnswer, IsOnly}
-use Rattle.asn1_fields.proofs.tests.memory.answer_of.Goals as goal
+use Rattle.asn1_fields.proofs.memory.answer_of.Goals as goal
 
 pub returns : goal.returns
 returns c =
