@@ -1,5 +1,6 @@
 //! Fields of all kinds.
 
+use crate::bits::{is_three_ones, three_ones};
 use crate::refusal::{met, met_before, settle};
 use asn1_values::{
     BitBuffer, BitReader, BitStr, CharacterAlphabet, Field, Ia5String, Integer, ObjectIdentifier,
@@ -29,6 +30,7 @@ const POWER: [u8; 26] = [
 fn message() -> Result<[Field<'static, 'static>; 8], Fail> {
     let arcs = CowSlice::Borrowed(&[2, 16, 840, 1, 101, 3, 4, 2, 3]);
     let bits = BitStr::new(&[0xE0], 0, 3).ok_or("there")?;
+    let oid = ObjectIdentifier::new(arcs).ok_or("valid")?;
     Ok([
         Field::Number {
             value: 0b10110,
@@ -37,7 +39,7 @@ fn message() -> Result<[Field<'static, 'static>; 8], Fail> {
         Field::Octets(Octets::Borrowed(&OCTETS)),
         Field::Integer(Integer::from(128)),
         Field::CountedInteger(Integer::from(128)),
-        Field::Oid(ObjectIdentifier::new(arcs).ok_or("valid")?),
+        Field::Oid(oid),
         Field::Octets(Octets::Borrowed(&ZEROS)),
         Field::Bits(bits),
         Field::Character {
@@ -57,18 +59,6 @@ fn holds_message(buffer: &BitBuffer) -> bool {
         && octets.get(41..55) == Some(MIDDLE.as_slice())
         && octets.get(55..4151) == Some(ZEROS.as_slice())
         && octets.last() == Some(&0xF0)
-}
-
-/// The three bits 111; None where memory was refused.
-fn three_ones(alloc: Global) -> Option<BitBuffer> {
-    let mut buffer = BitBuffer::new(alloc);
-    buffer.push_bits(0b111, 3).ok()?;
-    Some(buffer)
-}
-
-/// Whether the buffer holds 111 and no other bit.
-fn is_three_ones(buffer: &BitBuffer) -> bool {
-    buffer.len() == 3 && buffer.as_bytes() == [0xE0].as_slice()
 }
 
 /// `write_fields`, without its contract: what goes through it is quick to prove.
@@ -103,7 +93,7 @@ fn answers(
 #[test]
 fn fields_are_written(rt: HostRuntime) -> Result<(), Fail> {
     let fields = message()?;
-    let Some(mut buffer) = three_ones(rt.alloc()) else {
+    let Ok(mut buffer) = three_ones(rt.alloc()) else {
         return met_before(&rt, "write_fields");
     };
     let answer = write(&mut buffer, &fields);
@@ -113,7 +103,7 @@ fn fields_are_written(rt: HostRuntime) -> Result<(), Fail> {
 #[test]
 fn fields_are_written_and_counted(rt: HostRuntime) -> Result<(), Fail> {
     let fields = message()?;
-    let Some(mut buffer) = three_ones(rt.alloc()) else {
+    let Ok(mut buffer) = three_ones(rt.alloc()) else {
         return met_before(&rt, "write_fields_counted");
     };
     let answer = write_fields_counted(&mut buffer, &fields, &mut Turns::new());
@@ -122,7 +112,7 @@ fn fields_are_written_and_counted(rt: HostRuntime) -> Result<(), Fail> {
 
 #[test]
 fn a_field_within_an_octet_asks_for_nothing(rt: HostRuntime) -> Result<(), Fail> {
-    let Some(mut buffer) = three_ones(rt.alloc()) else {
+    let Ok(mut buffer) = three_ones(rt.alloc()) else {
         return met_before(&rt, "write_fields within an octet");
     };
     let five = Field::Number {
@@ -136,7 +126,7 @@ fn a_field_within_an_octet_asks_for_nothing(rt: HostRuntime) -> Result<(), Fail>
 
 #[test]
 fn a_wrong_field_keeps_its_name_in_writing(rt: HostRuntime) -> Result<(), Fail> {
-    let Some(mut buffer) = three_ones(rt.alloc()) else {
+    let Ok(mut buffer) = three_ones(rt.alloc()) else {
         return met_before(&rt, "write_fields of a wrong field");
     };
     let fields = [
@@ -152,16 +142,17 @@ fn a_wrong_field_keeps_its_name_in_writing(rt: HostRuntime) -> Result<(), Fail> 
 /// Six bits, octets off the boundary, and an integer past `i128`, behind 111; None where memory was
 /// refused.
 fn bits_to_read(alloc: Global) -> Option<BitBuffer> {
-    let mut buffer = three_ones(alloc)?;
+    let power = Integer::from_signed_octets(alloc, &POWER).ok()?;
     let fields = [
         Field::Number {
             value: 0b101101,
             width: 6,
         },
         Field::Octets(Octets::Borrowed(&OCTETS)),
-        Field::Integer(Integer::from_signed_octets(alloc, &POWER).ok()?),
+        Field::Integer(power),
         Field::Octets(Octets::Borrowed(&MIDDLE)),
     ];
+    let mut buffer = three_ones(alloc).ok()?;
     write(&mut buffer, &fields).ok()?;
     Some(buffer)
 }

@@ -2,6 +2,7 @@
 
 use crate::refusal::{met_before, settle};
 use asn1_values::{ContentsError, ObjectIdentifier, Oid, check_contents};
+use std::alloc::AllocError;
 use std::borrow::CowSlice;
 use std::test::Fail;
 
@@ -11,23 +12,25 @@ const ARCS: [u32; 9] = [2, 16, 840, 1, 101, 3, 4, 2, 3];
 /// Its contents.
 const CONTENTS: [u8; 9] = [0x60, 0x86, 0x48, 0x01, 0x65, 0x03, 0x04, 0x02, 0x03];
 
+/// Whether an identifier was made, and whether it then has the arcs.
+fn outcome_of(answer: Result<ObjectIdentifier, AllocError>) -> (bool, bool) {
+    match answer {
+        Ok(copy) => (true, copy.eq_arcs(&ARCS)),
+        Err(_) => (false, true),
+    }
+}
+
 #[test]
 fn oid_to_owned(rt: HostRuntime) -> Result<(), Fail> {
     let oid = Oid::new(&ARCS).ok_or("valid")?;
-    let (is_done, is_right) = match oid.to_owned(rt.alloc()) {
-        Ok(copy) => (true, copy.eq_arcs(&ARCS)),
-        Err(_) => (false, true),
-    };
+    let (is_done, is_right) = outcome_of(oid.to_owned(rt.alloc()));
     settle(&rt, "Oid::to_owned", is_done, is_right)
 }
 
 #[test]
 fn object_identifier_from_oid(rt: HostRuntime) -> Result<(), Fail> {
     let oid = Oid::new(&ARCS).ok_or("valid")?;
-    let (is_done, is_right) = match ObjectIdentifier::from_oid(rt.alloc(), oid) {
-        Ok(copy) => (true, copy.eq_arcs(&ARCS)),
-        Err(_) => (false, true),
-    };
+    let (is_done, is_right) = outcome_of(ObjectIdentifier::from_oid(rt.alloc(), oid));
     settle(&rt, "ObjectIdentifier::from_oid", is_done, is_right)
 }
 
@@ -37,10 +40,7 @@ fn object_identifier_clone(rt: HostRuntime) -> Result<(), Fail> {
     let Ok(owned) = oid.to_owned(rt.alloc()) else {
         return met_before(&rt, "ObjectIdentifier::clone");
     };
-    let (is_done, is_right) = match owned.clone() {
-        Ok(copy) => (true, copy.eq_arcs(&ARCS)),
-        Err(_) => (false, true),
-    };
+    let (is_done, is_right) = outcome_of(owned.clone());
     settle(
         &rt,
         "ObjectIdentifier::clone",
