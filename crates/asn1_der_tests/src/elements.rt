@@ -1,8 +1,8 @@
 //! Identifier octets, lengths, and elements inside one another.
 
 use super::calls::{
-    are_refused, element, fault_of, is_kept, is_misfit, is_number, is_read, is_written, octets_of,
-    sequence, universal, value_of,
+    are_refused, element, fault_of, is_misfit, is_number, is_read, is_written, kept_value,
+    octets_of, sequence, universal, value_of,
 };
 use asn1_bits::BitReader;
 use asn1_compose::{InThen, NeverWrong};
@@ -182,9 +182,8 @@ fn is_second_item_wrong(alloc: Global) -> bool {
     let other: &[u8] = &[0x30, 0x05, 0x01, 0x01, 0xFF, 0x05, 0x00];
     let found = universal(5, false);
     let wrong = InTlv::Tag(TagFault::Other { found });
-    let are_flags = are_flags(&value_of(&format, alloc, &octets), &[true, false]);
+    let are_flags = are_flags(&kept_value(&format, alloc, &octets), &[true, false]);
     are_flags
-        && is_kept(&format, alloc, &octets)
         && !is_read(&format, alloc, &[0x30, 0x05, 0x01, 0x01, 0xFF, 0x01, 0x00])
         && are_refused(&format, alloc, &[(other, InItem { index: 1, wrong })])
 }
