@@ -54,8 +54,36 @@ where
     }
 }
 
+/// A value, or that of the octets where none is given, with the octets that are written of it; or
+/// why it is not written or they are not read, in words.
+fn with_octets<F: Format>(
+    format: &Complete<F>,
+    alloc: Global,
+    value: Option<F::Value>,
+    octets: &[u8],
+) -> Result<(F::Value, Vec<u8>), String>
+where
+    F::Misfit: Display,
+    F::Fault: Display,
+{
+    if let Some(value) = value {
+        return match octets_of(format, alloc, &value) {
+            Ok(octets) => Ok((value, octets)),
+            Err(why) => Err(why),
+        };
+    }
+    match value_of(format, alloc, octets) {
+        Ok(value) => match octets_of(format, alloc, &value) {
+            Ok(octets) => Ok((value, octets)),
+            // The octets are read, so there is nothing to say of them.
+            Err(_) => Err(String::new(alloc)),
+        },
+        Err(why) => Err(why),
+    }
+}
+
 /// The format of records, under a name: what holds it does not state the format's type, whose
-/// statement takes a minute in each function.
+/// statement takes a minute in each function that makes a call of the format. So there is one.
 #[derive(Drop)]
 struct Records {
     format: RecordFormat,
@@ -70,58 +98,61 @@ impl Records {
         }
     }
 
-    fn encoded(&self, alloc: Global, record: &PersonnelRecord) -> Result<Vec<u8>, String> {
-        octets_of(&self.format, alloc, record)
-    }
-
-    fn decoded(&self, alloc: Global, octets: &[u8]) -> Result<PersonnelRecord, String> {
-        value_of(&self.format, alloc, octets)
-    }
-}
-
-/// The octets of a record, or why it has none, in words.
-fn encoded(alloc: Global, record: &PersonnelRecord) -> Result<Vec<u8>, String> {
-    match Records::new() {
-        Some(records) => records.encoded(alloc, record),
-        None => Err(String::new(alloc)),
+    fn with_octets(
+        &self,
+        alloc: Global,
+        record: Option<PersonnelRecord>,
+        octets: &[u8],
+    ) -> Result<(PersonnelRecord, Vec<u8>), String> {
+        with_octets(&self.format, alloc, record, octets)
     }
 }
 
-/// The record of octets, or why they are none, in words.
-fn decoded(alloc: Global, octets: &[u8]) -> Result<PersonnelRecord, String> {
+/// A record, or that of the octets where none is given, with the octets that are written of it; or
+/// why there are none, in words.
+fn record_with_octets(
+    alloc: Global,
+    record: Option<PersonnelRecord>,
+    octets: &[u8],
+) -> Result<(PersonnelRecord, Vec<u8>), String> {
     match Records::new() {
-        Some(records) => records.decoded(alloc, octets),
+        Some(records) => records.with_octets(alloc, record, octets),
         None => Err(String::new(alloc)),
     }
 }
 
 /// Whether the record has these octets.
-fn is_written(alloc: Global, record: &PersonnelRecord, octets: &[u8]) -> bool {
-    match encoded(alloc, record) {
-        Ok(found) => found.as_slice() == octets,
+fn is_written(alloc: Global, record: PersonnelRecord, octets: &[u8]) -> bool {
+    match record_with_octets(alloc, Some(record), &[]) {
+        Ok((_, found)) => found.as_slice() == octets,
         Err(_) => false,
     }
 }
 
 /// Whether the record is not written, for this reason.
-fn is_unfit(alloc: Global, record: &PersonnelRecord, reason: &str) -> bool {
-    match encoded(alloc, record) {
+fn is_unfit(alloc: Global, record: PersonnelRecord, reason: &str) -> bool {
+    match record_with_octets(alloc, Some(record), &[]) {
         Ok(_) => false,
         Err(why) => why.as_str() == reason,
     }
 }
 
-/// Whether the octets are the record of the standard, with its children or with none.
-fn is_found(alloc: Global, octets: &[u8], has_children: bool) -> bool {
-    match decoded(alloc, octets) {
-        Ok(record) => is_smith(&record) && are_children(record.children(), has_children),
+/// Whether the octets are the record of the standard, with its children or with none, which is
+/// written as the other octets.
+fn is_found(alloc: Global, octets: &[u8], has_children: bool, again: &[u8]) -> bool {
+    match record_with_octets(alloc, None, octets) {
+        Ok((record, written)) => {
+            is_smith(&record)
+                && are_children(record.children(), has_children)
+                && written.as_slice() == again
+        }
         Err(_) => false,
     }
 }
 
 /// Why the octets are no record, in words; none where they are one.
 fn wrong(alloc: Global, octets: &[u8]) -> String {
-    match decoded(alloc, octets) {
+    match record_with_octets(alloc, None, octets) {
         Ok(_) => String::new(alloc),
         Err(why) => why,
     }
@@ -130,13 +161,13 @@ fn wrong(alloc: Global, octets: &[u8]) -> String {
 #[test]
 fn the_record_of_the_standard_has_its_octets(rt: HostRuntime) -> Result<(), Fail> {
     let record = smith(rt.alloc(), children(rt.alloc())?);
-    assert!(rt; is_written(rt.alloc(), &record, &RECORD));
+    assert!(rt; is_written(rt.alloc(), record, &RECORD));
     Ok(())
 }
 
 #[test]
 fn the_octets_of_the_standard_are_its_record(rt: HostRuntime) {
-    assert!(rt; is_found(rt.alloc(), &RECORD, true));
+    assert!(rt; is_found(rt.alloc(), &RECORD, true, &RECORD));
 }
 
 #[test]
@@ -196,7 +227,7 @@ fn unfit_parts_are_named(rt: HostRuntime) -> Result<(), Fail> {
     children.push(child(rt.alloc(), b"Ann", b"", b"Smith", b"19610717"))?;
     let record = smith(rt.alloc(), children);
     let reason = "children, item 2, name, initial, number of items: below the least";
-    assert!(rt; is_unfit(rt.alloc(), &record, reason));
+    assert!(rt; is_unfit(rt.alloc(), record, reason));
     Ok(())
 }
 
@@ -209,11 +240,11 @@ fn no_children_are_not_written_and_may_be_read(rt: HostRuntime) {
     octets.copy_from_slice(&RECORD[..33]);
     octets[0] = 0x06;
     octets[32] = 0x80;
-    assert!(rt; is_written(rt.alloc(), &record, &octets));
-    assert!(rt; is_found(rt.alloc(), &octets, false));
+    assert!(rt; is_written(rt.alloc(), record, &octets));
+    assert!(rt; is_found(rt.alloc(), &octets, false, &octets));
     // BASIC-PER may write the empty list: the presence bit 1, and a number of items of 0.
     let mut longer = [0; 34];
     longer[..32].copy_from_slice(&RECORD[..32]);
     longer[32] = 0x80;
-    assert!(rt; is_found(rt.alloc(), &longer, false));
+    assert!(rt; is_found(rt.alloc(), &longer, false, &octets));
 }
