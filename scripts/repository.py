@@ -82,13 +82,10 @@ def rattle(verb, crate, of, *flags):
 
 def runs(crate):
     """The rows of the files in the crate's folder `runs`."""
-    rows = []
-    for path in sorted(os.listdir(f"{crate.folder}/runs")):
-        lines = text_of(f"{crate.folder}/runs/{path}").splitlines()
-        for line in (it for it in lines if it and not it.startswith("#")):
-            given, status, said = RUN.fullmatch(line).groups()
-            rows.append((json.loads(given), int(status), json.loads(said)))
-    return rows
+    at = f"{crate.folder}/runs"
+    lines = [line for name in sorted(os.listdir(at)) for line in text_of(f"{at}/{name}").splitlines()]
+    rows = [RUN.fullmatch(it).groups() for it in lines if it and not it.startswith("#")]
+    return [(json.loads(given), int(status), json.loads(said)) for given, status, said in rows]
 
 
 def built(crate):
