@@ -20,6 +20,14 @@ const MIDDLE: [u8; 14] = [
     0x00, 0x80, 0x02, 0x00, 0x80, 0x60, 0x86, 0x48, 0x01, 0x65, 0x03, 0x04, 0x02, 0x03,
 ];
 
+/// The bits 11110110, the forty octets and these.
+const FRONT: [u8; 55] = [
+    0xF6, 0xA5, 0xA5, 0xA5, 0xA5, 0xA5, 0xA5, 0xA5, 0xA5, 0xA5, 0xA5, 0xA5, 0xA5, 0xA5, 0xA5, 0xA5,
+    0xA5, 0xA5, 0xA5, 0xA5, 0xA5, 0xA5, 0xA5, 0xA5, 0xA5, 0xA5, 0xA5, 0xA5, 0xA5, 0xA5, 0xA5, 0xA5,
+    0xA5, 0xA5, 0xA5, 0xA5, 0xA5, 0xA5, 0xA5, 0xA5, 0xA5, 0x00, 0x80, 0x02, 0x00, 0x80, 0x60, 0x86,
+    0x48, 0x01, 0x65, 0x03, 0x04, 0x02, 0x03,
+];
+
 /// The shortest octets of 2 to the power of 199.
 const POWER: [u8; 26] = [
     0x00, 0x80, 0, 0, 0, 0, 0, 0, 0, 0, 0, 0, 0, 0, 0, 0, 0, 0, 0, 0, 0, 0, 0, 0, 0, 0,
@@ -54,9 +62,7 @@ fn holds_message(buffer: &BitBuffer) -> bool {
     let octets = buffer.as_bytes();
     buffer.len() == 33212
         && octets.len() == 4152
-        && octets.first() == Some(&0xF6)
-        && octets.get(1..41) == Some(&[0xA5; 40])
-        && octets.get(41..55) == Some(MIDDLE.as_slice())
+        && octets.starts_with(&FRONT)
         && octets.get(55..4151) == Some(ZEROS.as_slice())
         && octets.last() == Some(&0xF0)
 }
@@ -176,11 +182,9 @@ fn are_those(fields: &[Field<'_, '_>]) -> bool {
         && matches!(oid, Field::Oid(oid) if oid.eq_arcs(&[2, 16, 840, 1, 101, 3, 4, 2, 3]))
 }
 
-#[test]
-fn fields_are_read(rt: HostRuntime) -> Result<(), Fail> {
-    let Some(buffer) = bits_to_read(rt.alloc()) else {
-        return met_before(&rt, "read_fields");
-    };
+/// Whether the fields behind 111 are read, and whether all is then right: they are those, and no bit
+/// is left; or there is want of memory, and all bits are left.
+fn outcome_of(alloc: Global, view: BitStr<'_>) -> (bool, bool) {
     let shapes = [
         Shape::Number { width: 6 },
         Shape::Octets { count: 40 },
@@ -189,20 +193,28 @@ fn fields_are_read(rt: HostRuntime) -> Result<(), Fail> {
         Shape::CountedInteger,
         Shape::Oid { octets: 9 },
     ];
-    // 6 bits and 80 octets, from bit 3 on.
-    let view = BitStr::new(buffer.as_bytes(), 3, 646).ok_or("there")?;
     let mut reader = BitReader::new(view);
-    let (is_done, is_right) = match read(rt.alloc(), &mut reader, &shapes) {
-        Ok(fields) => (true, are_those(fields.as_slice())),
-        Err(error) => (false, error == ReadError::Memory),
+    match read(alloc, &mut reader, &shapes) {
+        Ok(fields) => (true, are_those(fields.as_slice()) && reader.len() == 0),
+        Err(error) => {
+            let left = reader.bits();
+            let is_memory = error == ReadError::Memory;
+            (false, is_memory && left == view && left.shift() == 3)
+        }
+    }
+}
+
+#[test]
+fn fields_are_read(rt: HostRuntime) -> Result<(), Fail> {
+    let Some(buffer) = bits_to_read(rt.alloc()) else {
+        return met_before(&rt, "read_fields");
     };
-    let left = reader.bits();
-    let is_left = if is_done {
-        left.len() == 0
-    } else {
-        left == view && left.shift() == 3
+    // 6 bits and 80 octets, from bit 3 on.
+    let Some(view) = BitStr::new(buffer.as_bytes(), 3, 646) else {
+        return Err("there".into());
     };
-    settle(&rt, "read_fields", is_done, is_right && is_left)
+    let (is_done, is_right) = outcome_of(rt.alloc(), view);
+    settle(&rt, "read_fields", is_done, is_right)
 }
 
 #[test]
