@@ -1,5 +1,7 @@
-"""What the scripts know of this repository: its crates, and the command that checks one of them over its built libraries."""
+"""What the scripts know of this repository: its crates, how one of them is checked over its built libraries, and what was
+built of it."""
 
+import json
 import os
 import re
 import subprocess
@@ -7,6 +9,9 @@ import subprocess
 TOP = os.path.dirname(os.path.dirname(os.path.realpath(__file__)))
 # What a check reads of a crate.
 PARTS = ("src", "specs", "proofs")
+# A row of a crate's folder `runs`: what the program is given, its status, and what it prints.
+TEXT = r'("(?:[^"\\]|\\.)*")'
+RUN = re.compile(rf"{TEXT} = (\d+) {TEXT}")
 
 
 def kit():
@@ -73,6 +78,30 @@ def rattle(verb, crate, of, *flags):
     words += ["--antt-project", f"{root}/rattle/logic/antt-project.json", "--logic-built", f"{root}/logic_built"]
     words += ["--crate-type", "staticlib"] if crate.is_static else []
     return [*words, *flags]
+
+
+def runs(crate):
+    """The rows of the files in the crate's folder `runs`."""
+    at = f"{crate.folder}/runs"
+    lines = [line for name in sorted(os.listdir(at)) for line in text_of(f"{at}/{name}").splitlines()]
+    rows = [RUN.fullmatch(it).groups() for it in lines if it and not it.startswith("#")]
+    return [(json.loads(given), int(status), json.loads(said)) for given, status, said in rows]
+
+
+def built(crate):
+    """The program of a crate as each compiler built it."""
+    made = [f"{crate.folder}/out/{crate.name}{end}" for end in ("", ".by-rattle")]
+    return [it for it in made if os.access(it, os.X_OK)]
+
+
+def preloaded(name, folder):
+    """The C file of this name in scripts/ as a library in this folder, made by the kit's compiler, to be loaded before the
+    C library."""
+    tools, made = f"{kit()}/toolchain/bin", f"{folder}/{name}.so"
+    words = [f"{tools}/clang", "--target=x86_64-unknown-linux-gnu", "-O1", "-Wall", "-Werror", "-fno-builtin", "-fPIC"]
+    words += ["-shared", "-nostdlib", f"-fuse-ld={tools}/ld.lld", "-o", made, f"{TOP}/scripts/{name}.c"]
+    subprocess.run(words, check=True)
+    return made
 
 
 def functions_in(said, crate):

@@ -1,8 +1,6 @@
 //! Codes of characters.
 
-ghost use Rattle.std.specs.Prelude.{◌+◌, ◌*◌, ◌^◌, ◌<◌};
-
-use crate::row::Row;
+use crate::row::{Row, Work};
 use asn1_values::{BmpString, CharacterAlphabet, Ia5String};
 use std::alloc::{AllocError, Global};
 
@@ -36,45 +34,47 @@ impl Codes {
     pub fn new(alloc: Global, kind: Set) -> Result<Codes, AllocError> {
         let mut set = Vec::new(alloc);
         match kind {
-            Set::Ten => append(&mut set, 48, 10, 1)?,
+            Set::Ten => append(&mut set, 48, 58)?,
             Set::Twenty => set.extend_from_slice(&TWENTY)?,
             Set::FiftyFour => {
-                append(&mut set, 45, 2, 1)?;
-                append(&mut set, 65, 26, 1)?;
-                append(&mut set, 97, 26, 1)?;
+                append(&mut set, 45, 47)?;
+                append(&mut set, 65, 91)?;
+                append(&mut set, 97, 123)?;
             }
-            Set::Many => append(&mut set, 1024, 256, 2)?,
+            Set::Many => append_many(&mut set)?,
         }
         Ok(Codes { kind, set })
     }
 }
 
-/// Appends so many characters, each so far from the one before it.
-fn append(set: &mut Vec<u32>, first: u32, count: u32, step: u32) -> Result<(), AllocError>
-    requires { first + count * step < 2 ^ 32 }
-{
-    for i in 0..count {
-        set.push(first + i * step)?;
+/// Appends the characters from the first one to the one before the end.
+fn append(set: &mut Vec<u32>, first: u32, end: u32) -> Result<(), AllocError> {
+    for character in first..end {
+        set.push(character)?;
+    }
+    Ok(())
+}
+
+/// Appends 256 characters, every second one.
+fn append_many(set: &mut Vec<u32>) -> Result<(), AllocError> {
+    for i in 0..256u32 {
+        set.push(1024 + 2 * i)?;
     }
     Ok(())
 }
 
 impl Row for Codes {
-    fn name(&self) -> &'static str {
-        match self.kind {
-            Set::Ten => "a code in an alphabet of 10 characters, and its character",
-            Set::Twenty => "a code in an alphabet of 20 characters, and its character",
-            Set::FiftyFour => "a code in an alphabet of 54 characters, and its character",
-            Set::Many => "a code in an alphabet of 256 characters, and its character",
+    fn work(&self) -> Work {
+        Work {
+            name: match self.kind {
+                Set::Ten => "a code in an alphabet of 10 characters, and its character",
+                Set::Twenty => "a code in an alphabet of 20 characters, and its character",
+                Set::FiftyFour => "a code in an alphabet of 54 characters, and its character",
+                Set::Many => "a code in an alphabet of 256 characters, and its character",
+            },
+            pieces: 1000,
+            octets: 0,
         }
-    }
-
-    fn pieces(&self) -> u64 {
-        1000
-    }
-
-    fn octets(&self) -> u64 {
-        0
     }
 
     fn round(&mut self, _alloc: Global) -> Result<u64, AllocError> {

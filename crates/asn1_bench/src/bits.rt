@@ -1,6 +1,6 @@
 //! Copies of bits, numbers read and numbers appended.
 
-use crate::row::Row;
+use crate::row::{Row, Work};
 use asn1_values::{BitBuffer, BitStr, Turns, read_wide, write_bitslice};
 use std::alloc::{AllocError, Global};
 
@@ -39,20 +39,16 @@ impl Copied {
 }
 
 impl Row for Copied {
-    fn name(&self) -> &'static str {
-        if self.to == 0 {
-            "8192 bits ORed in, on octet boundaries"
-        } else {
-            "8192 bits ORed in, off octet boundaries"
+    fn work(&self) -> Work {
+        Work {
+            name: if self.to == 0 {
+                "8192 bits ORed in, on octet boundaries"
+            } else {
+                "8192 bits ORed in, off octet boundaries"
+            },
+            pieces: 1000,
+            octets: 1_024_000,
         }
-    }
-
-    fn pieces(&self) -> u64 {
-        1000
-    }
-
-    fn octets(&self) -> u64 {
-        1_024_000
     }
 
     fn round(&mut self, _alloc: Global) -> Result<u64, AllocError> {
@@ -84,16 +80,12 @@ impl Numbers {
 }
 
 impl Row for Numbers {
-    fn name(&self) -> &'static str {
-        "a number of 32 bits read"
-    }
-
-    fn pieces(&self) -> u64 {
-        1000
-    }
-
-    fn octets(&self) -> u64 {
-        0
+    fn work(&self) -> Work {
+        Work {
+            name: "a number of 32 bits read",
+            pieces: 1000,
+            octets: 0,
+        }
     }
 
     fn round(&mut self, _alloc: Global) -> Result<u64, AllocError> {
@@ -120,16 +112,12 @@ impl Appended {
 }
 
 impl Row for Appended {
-    fn name(&self) -> &'static str {
-        "a number of 32 bits appended"
-    }
-
-    fn pieces(&self) -> u64 {
-        1000
-    }
-
-    fn octets(&self) -> u64 {
-        0
+    fn work(&self) -> Work {
+        Work {
+            name: "a number of 32 bits appended",
+            pieces: 1000,
+            octets: 0,
+        }
     }
 
     fn round(&mut self, alloc: Global) -> Result<u64, AllocError> {

@@ -1,6 +1,6 @@
 //! Values written and read by formats.
 
-use crate::row::Row;
+use crate::row::{Row, Work};
 use asn1_formats::{
     Character, Format, KnownMultiplierString, Number, SequenceOf, Size, Then, read, write,
 };
@@ -80,16 +80,12 @@ impl<F: Format + Drop> Written<F> {
 }
 
 impl<F: Format + Drop> Row for Written<F> {
-    fn name(&self) -> &'static str {
-        self.name
-    }
-
-    fn pieces(&self) -> u64 {
-        100
-    }
-
-    fn octets(&self) -> u64 {
-        0
+    fn work(&self) -> Work {
+        Work {
+            name: self.name,
+            pieces: 100,
+            octets: 0,
+        }
     }
 
     fn round(&mut self, alloc: Global) -> Result<u64, AllocError> {
@@ -128,16 +124,12 @@ impl<F: Format + Drop> Read<F> {
 }
 
 impl<F: Format + Drop> Row for Read<F> {
-    fn name(&self) -> &'static str {
-        self.name
-    }
-
-    fn pieces(&self) -> u64 {
-        100
-    }
-
-    fn octets(&self) -> u64 {
-        0
+    fn work(&self) -> Work {
+        Work {
+            name: self.name,
+            pieces: 100,
+            octets: 0,
+        }
     }
 
     fn round(&mut self, alloc: Global) -> Result<u64, AllocError> {

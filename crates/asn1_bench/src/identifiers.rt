@@ -1,6 +1,6 @@
 //! Contents of identifiers (X.690 8.19), read and written.
 
-use crate::row::Row;
+use crate::row::{Row, Work};
 use asn1_values::{ObjectIdentifier, Oid};
 use std::alloc::{AllocError, Global};
 
@@ -68,21 +68,17 @@ fn sum_read(alloc: Global, octets: &[u8]) -> u64 {
 }
 
 impl Row for Read {
-    fn name(&self) -> &'static str {
-        match self.size {
-            Size::Seven => "an identifier read from nine octets of contents",
-            Size::Many => "an identifier of 32 arcs read from 73 octets of contents",
-        }
-    }
-
-    fn pieces(&self) -> u64 {
-        1000
-    }
-
-    fn octets(&self) -> u64 {
-        match self.size {
-            Size::Seven => 9000,
-            Size::Many => 73_000,
+    fn work(&self) -> Work {
+        Work {
+            name: match self.size {
+                Size::Seven => "an identifier read from nine octets of contents",
+                Size::Many => "an identifier of 32 arcs read from 73 octets of contents",
+            },
+            pieces: 1000,
+            octets: match self.size {
+                Size::Seven => 9000,
+                Size::Many => 73_000,
+            },
         }
     }
 
@@ -144,22 +140,18 @@ fn append(arcs: &[u32], octets: &mut Vec<u8>) -> Result<(), AllocError> {
 }
 
 impl Row for Written {
-    fn name(&self) -> &'static str {
-        match (self.size, self.way) {
-            (Size::Seven, Way::Octets) => "nine octets of contents written",
-            (Size::Many, Way::Octets) => "73 octets of contents written",
-            (_, Way::Call) => "    the same appended by one call",
-        }
-    }
-
-    fn pieces(&self) -> u64 {
-        1000
-    }
-
-    fn octets(&self) -> u64 {
-        match self.size {
-            Size::Seven => 9000,
-            Size::Many => 73_000,
+    fn work(&self) -> Work {
+        Work {
+            name: match (self.size, self.way) {
+                (Size::Seven, Way::Octets) => "nine octets of contents written",
+                (Size::Many, Way::Octets) => "73 octets of contents written",
+                (_, Way::Call) => "    the same appended by one call",
+            },
+            pieces: 1000,
+            octets: match self.size {
+                Size::Seven => 9000,
+                Size::Many => 73_000,
+            },
         }
     }
 

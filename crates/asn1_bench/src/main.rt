@@ -13,11 +13,12 @@ mod strings;
 
 use crate::alphabets::{Codes, Set};
 use crate::bits::{Appended, Copied, Numbers};
-use crate::fields::{Characters, Integers, Message, Widths};
+use crate::fields::Fields;
 use crate::identifiers::{Read, Size, Way, Written};
 use crate::numbers::Octets;
-use crate::row::{Row, show};
+use crate::row::show;
 use crate::strings::{Bits, Kind, Text};
+use asn1_formats::Format;
 use std::env;
 
 fn main(rt: HostRuntime) -> anyhow::Result<()> {
@@ -25,33 +26,40 @@ fn main(rt: HostRuntime) -> anyhow::Result<()> {
     if let Some(text) = env::args(&rt)?.nth(1) {
         rounds = text.parse::<u32>().unwrap_or(0);
     }
-    let alloc = rt.alloc();
-    show(&rt, &mut Copied::new(alloc, 0, 0)?, rounds)?;
-    show(&rt, &mut Copied::new(alloc, 5, 3)?, rounds)?;
-    show(&rt, &mut Numbers::new(alloc)?, rounds)?;
-    show(&rt, &mut Appended::new(), rounds)?;
-    show(&rt, &mut Octets::new(), rounds)?;
+    show_bits(&rt, rounds)?;
     show_identifiers(&rt, rounds)?;
-    for set in [Set::Ten, Set::Twenty, Set::FiftyFour, Set::Many] {
-        show(&rt, &mut Codes::new(alloc, set)?, rounds)?;
-    }
+    show_alphabets(&rt, rounds)?;
     show_strings(&rt, rounds)?;
-    show(&rt, &mut Widths::new(alloc, 7)?, rounds)?;
-    show(&rt, &mut Widths::new(alloc, 64)?, rounds)?;
-    show(&rt, &mut Integers::new(alloc)?, rounds)?;
-    show(&rt, &mut Characters::new(alloc)?, rounds)?;
-    show(&rt, &mut Message::new(alloc)?, rounds)?;
+    show_fields(&rt, rounds)?;
     show_formats(&rt, rounds)
+}
+
+/// The rows of bits and of whole numbers.
+fn show_bits(rt: &HostRuntime, rounds: u32) -> anyhow::Result<()> {
+    let alloc = rt.alloc();
+    show(rt, Copied::new(alloc, 0, 0), rounds)?;
+    show(rt, Copied::new(alloc, 5, 3), rounds)?;
+    show(rt, Numbers::new(alloc), rounds)?;
+    show(rt, Ok(Appended::new()), rounds)?;
+    show(rt, Ok(Octets::new()), rounds)
 }
 
 /// The rows of identifiers.
 fn show_identifiers(rt: &HostRuntime, rounds: u32) -> anyhow::Result<()> {
     let alloc = rt.alloc();
     for size in [Size::Seven, Size::Many] {
-        show(rt, &mut Read::new(alloc, size)?, rounds)?;
+        show(rt, Read::new(alloc, size), rounds)?;
         for way in [Way::Octets, Way::Call] {
-            show(rt, &mut Written::new(alloc, size, way)?, rounds)?;
+            show(rt, Written::new(alloc, size, way), rounds)?;
         }
+    }
+    Ok(())
+}
+
+/// The rows of alphabets.
+fn show_alphabets(rt: &HostRuntime, rounds: u32) -> anyhow::Result<()> {
+    for set in [Set::Ten, Set::Twenty, Set::FiftyFour, Set::Many] {
+        show(rt, Codes::new(rt.alloc(), set), rounds)?;
     }
     Ok(())
 }
@@ -70,47 +78,62 @@ fn show_strings(rt: &HostRuntime, rounds: u32) -> anyhow::Result<()> {
         Kind::Visible,
     ];
     for kind in kinds {
-        show(rt, &mut Text::new(alloc, kind)?, rounds)?;
+        show(rt, Text::new(alloc, kind), rounds)?;
     }
-    show(rt, &mut Bits::new(alloc, true)?, rounds)?;
-    show(rt, &mut Bits::new(alloc, false)?, rounds)
+    show(rt, Bits::new(alloc, true), rounds)?;
+    show(rt, Bits::new(alloc, false), rounds)
+}
+
+/// The rows of fields.
+fn show_fields(rt: &HostRuntime, rounds: u32) -> anyhow::Result<()> {
+    let alloc = rt.alloc();
+    let name = "a number of 7 bits written and read as a field";
+    show(rt, Fields::numbers(alloc, 7, name), rounds)?;
+    let name = "a number of 64 bits written and read as a field";
+    show(rt, Fields::numbers(alloc, 64, name), rounds)?;
+    show(rt, Fields::integers(alloc), rounds)?;
+    show(rt, Fields::characters(alloc), rounds)?;
+    show(rt, Fields::message(alloc), rounds)
 }
 
 /// The rows of formats.
 fn show_formats(rt: &HostRuntime, rounds: u32) -> anyhow::Result<()> {
-    let alloc = rt.alloc();
     let (four, values) = (formats::numbers(), (5, (4000, (123456, 99))));
-    let mut row = formats::Read::new(alloc, four, &values, "four numbers read by a format")?;
-    show(rt, &mut row, rounds)?;
-    let mut row = formats::Written::new(four, values, "four numbers written by a format");
-    show(rt, &mut row, rounds)?;
-    show_characters(rt, rounds)
-}
-
-/// The rows of a string, and of the same as a list of characters.
-fn show_characters(rt: &HostRuntime, rounds: u32) -> anyhow::Result<()> {
-    let alloc = rt.alloc();
-    let text = formats::letters(alloc)?;
+    let read = "four numbers read by a format";
+    let written = "four numbers written by a format";
+    show_format(rt, four, values, read, written, rounds)?;
+    let read = "64 characters read as a string";
+    let written = "64 characters written as a string";
     if let Some(string) = formats::string() {
-        let name = "64 characters read as a string";
-        show(
-            rt,
-            &mut formats::Read::new(alloc, string, &text, name)?,
-            rounds,
-        )?;
-        let name = "64 characters written as a string";
-        let text = formats::letters(alloc)?;
-        show(rt, &mut formats::Written::new(string, text, name), rounds)?;
+        let letters = formats::letters(rt.alloc())?;
+        show_format(rt, string, letters, read, written, rounds)?;
     }
+    let read = "64 characters read as a list";
+    let written = "64 characters written as a list";
     if let Some(list) = formats::list() {
-        let name = "64 characters read as a list";
-        show(
-            rt,
-            &mut formats::Read::new(alloc, list, &text, name)?,
-            rounds,
-        )?;
-        let name = "64 characters written as a list";
-        show(rt, &mut formats::Written::new(list, text, name), rounds)?;
+        let letters = formats::letters(rt.alloc())?;
+        show_format(rt, list, letters, read, written, rounds)?;
     }
     Ok(())
+}
+
+/// The rows of a value that is read and written by its format.
+fn show_format<F: Format + Copy + Drop>(
+    rt: &HostRuntime,
+    format: F,
+    value: F::Value,
+    read: &'static str,
+    written: &'static str,
+    rounds: u32,
+) -> anyhow::Result<()> {
+    show(
+        rt,
+        formats::Read::new(rt.alloc(), format, &value, read),
+        rounds,
+    )?;
+    show(
+        rt,
+        Ok(formats::Written::new(format, value, written)),
+        rounds,
+    )
 }

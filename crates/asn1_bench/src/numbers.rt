@@ -1,6 +1,6 @@
 //! Whole numbers by their octets.
 
-use crate::row::Row;
+use crate::row::{Row, Work};
 use asn1_values::Integer;
 use std::alloc::{AllocError, Global};
 
@@ -16,16 +16,12 @@ impl Octets {
 }
 
 impl Row for Octets {
-    fn name(&self) -> &'static str {
-        "an integer of eight octets read and written again"
-    }
-
-    fn pieces(&self) -> u64 {
-        1000
-    }
-
-    fn octets(&self) -> u64 {
-        0
+    fn work(&self) -> Work {
+        Work {
+            name: "an integer of eight octets read and written again",
+            pieces: 1000,
+            octets: 0,
+        }
     }
 
     fn round(&mut self, alloc: Global) -> Result<u64, AllocError> {

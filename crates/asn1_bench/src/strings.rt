@@ -1,7 +1,7 @@
 //! Strings from octets and from bits.
 
 use crate::bits::octets_of;
-use crate::row::Row;
+use crate::row::{Row, Work};
 use asn1_values::{
     BitStr, BmpString, GeneralString, GraphicString, Ia5String, NumericString, PrintableString,
     StaticPermittedAlphabet, TeletexString, VisibleString,
@@ -55,27 +55,23 @@ fn read<S: StaticPermittedAlphabet>(alloc: Global, octets: &[u8]) -> u64 {
 }
 
 impl Row for Text {
-    fn name(&self) -> &'static str {
-        match self.kind {
-            Kind::Bmp => "a BmpString from 2048 octets",
-            Kind::General => "a GeneralString from 1024 octets",
-            Kind::Graphic => "a GraphicString from 1024 octets",
-            Kind::Ia5 => "an Ia5String from 1024 octets",
-            Kind::Numeric => "a NumericString from 1024 octets",
-            Kind::Printable => "a PrintableString from 1024 octets",
-            Kind::Teletex => "a TeletexString from 1024 octets",
-            Kind::Visible => "a VisibleString from 1024 octets",
-        }
-    }
-
-    fn pieces(&self) -> u64 {
-        100
-    }
-
-    fn octets(&self) -> u64 {
-        match self.kind {
-            Kind::Bmp => 204_800,
-            _ => 102_400,
+    fn work(&self) -> Work {
+        Work {
+            name: match self.kind {
+                Kind::Bmp => "a BmpString from 2048 octets",
+                Kind::General => "a GeneralString from 1024 octets",
+                Kind::Graphic => "a GraphicString from 1024 octets",
+                Kind::Ia5 => "an Ia5String from 1024 octets",
+                Kind::Numeric => "a NumericString from 1024 octets",
+                Kind::Printable => "a PrintableString from 1024 octets",
+                Kind::Teletex => "a TeletexString from 1024 octets",
+                Kind::Visible => "a VisibleString from 1024 octets",
+            },
+            pieces: 100,
+            octets: match self.kind {
+                Kind::Bmp => 204_800,
+                _ => 102_400,
+            },
         }
     }
 
@@ -127,20 +123,16 @@ fn read_bits<S: StaticPermittedAlphabet>(alloc: Global, bits: BitStr<'_>) -> u64
 }
 
 impl Row for Bits {
-    fn name(&self) -> &'static str {
-        if self.numeric {
-            "a NumericString of 1024 characters from bits, four a character"
-        } else {
-            "an Ia5String of 1024 characters from bits, seven a character"
+    fn work(&self) -> Work {
+        Work {
+            name: if self.numeric {
+                "a NumericString of 1024 characters from bits, four a character"
+            } else {
+                "an Ia5String of 1024 characters from bits, seven a character"
+            },
+            pieces: 100,
+            octets: if self.numeric { 51_200 } else { 89_600 },
         }
-    }
-
-    fn pieces(&self) -> u64 {
-        100
-    }
-
-    fn octets(&self) -> u64 {
-        if self.numeric { 51_200 } else { 89_600 }
     }
 
     fn round(&mut self, alloc: Global) -> Result<u64, AllocError> {

@@ -28,7 +28,8 @@ pub struct BitStr<'a> {
     len: usize,
     ghost below: { shift < 8 },
     /// The view's bits lie in the storage.
-    pub ghost within: { IsWithin (record { storage = storage.now; first = 8 * octet + shift; len = len }) },
+    pub ghost within: { IsWithin
+        (record { storage = storage.now; first = 8 * octet + shift; len = len }) },
     /// The storage is one of octets.
     pub ghost octets: { All (λ o. o < 256) storage.now },
 }

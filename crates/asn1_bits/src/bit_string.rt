@@ -175,8 +175,8 @@ impl PartialOrd for BitString {
 
     ghost partial_cmp = { as_partial_cmp bits_cmp };
 
-    ghost laws = { partial_order_from_agreeing_total bits_cmp (total_by (λ bits. bits)) (agrees_by (λ bits. bits))
-        (ties_by (λ bits. bits)) };
+    ghost laws = { partial_order_from_agreeing_total bits_cmp (total_by (λ bits. bits))
+        (agrees_by (λ bits. bits)) (ties_by (λ bits. bits)) };
 
     fn partial_cmp(&self, other: &Self) -> Option<Ordering> {
         Some(self.cmp(other))

@@ -134,7 +134,8 @@ impl<const N: usize> PartialOrd for FixedBitString<N> {
 
     ghost partial_cmp = { as_partial_cmp (on (fixed_bits N) bits_cmp) };
 
-    ghost laws = { partial_order_from_agreeing_total (on (fixed_bits N) bits_cmp) (total_by (fixed_bits N))
+    ghost laws = { partial_order_from_agreeing_total (on (fixed_bits N) bits_cmp)
+        (total_by (fixed_bits N))
         (agrees_by (fixed_bits N)) (ties_by (fixed_bits N)) };
 
     fn partial_cmp(&self, other: &Self) -> Option<Ordering> {

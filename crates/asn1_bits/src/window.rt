@@ -267,7 +267,8 @@ pub(crate) fn or_shifted_words(
     requires room { first + 8 * count ≤ length dst.old.octets.now }
     requires source { 8 * count + 8 ≤ length src.now }
     ensures bits { bits dst.new.octets.now
-        ≡ ored (bits dst.old.octets.now) (8 * first) (take (64 * count) (drop shift (bits src.now))) }
+        ≡ ored (bits dst.old.octets.now) (8 * first)
+        (take (64 * count) (drop shift (bits src.now))) }
     ensures same_reference { dst.new.octets.ghost_name ≡ dst.old.octets.ghost_name }
     ensures length { length dst.new.octets.now ≡ length dst.old.octets.now }
     ensures each_turn_places { turns.new.count + dst.old.placed.count
@@ -337,7 +338,8 @@ fn or_joined_words(
     requires room { first + 8 * count ≤ length dst.old.octets.now }
     requires source { 8 * count + 8 ≤ length src.now }
     ensures bits { bits dst.new.octets.now
-        ≡ ored (bits dst.old.octets.now) (8 * first) (take (64 * count) (drop shift (bits src.now))) }
+        ≡ ored (bits dst.old.octets.now) (8 * first)
+        (take (64 * count) (drop shift (bits src.now))) }
     ensures same_reference { dst.new.octets.ghost_name ≡ dst.old.octets.ghost_name }
     ensures length { length dst.new.octets.now ≡ length dst.old.octets.now }
     ensures each_turn_places { turns.new.count + dst.old.placed.count

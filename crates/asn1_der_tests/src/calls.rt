@@ -153,6 +153,24 @@ pub(crate) fn is_kept<C: Contents>(format: &Tlv<C>, alloc: Global, octets: &[u8]
     }
 }
 
+/// The value of the octets, if they have one that is written as them.
+pub(crate) fn kept_value<C: Contents>(
+    format: &Tlv<C>,
+    alloc: Global,
+    octets: &[u8],
+) -> Option<C::Value> {
+    match value_of(format, alloc, octets) {
+        Some(value) => {
+            if is_written(format, alloc, &value, octets) {
+                Some(value)
+            } else {
+                None
+            }
+        }
+        None => None,
+    }
+}
+
 /// Whether the octets are this value.
 pub(crate) fn is_found<C: Contents>(
     format: &Tlv<C>,
@@ -211,4 +229,22 @@ where
         }
     }
     true
+}
+
+/// Whether the value is written as the octets and read from them, and the octets of each row are
+/// refused for its fault of the contents.
+pub(crate) fn is_right<C: Contents>(
+    format: &Tlv<C>,
+    alloc: Global,
+    value: &C::Value,
+    octets: &[u8],
+    refused: &[(&[u8], C::Fault)],
+) -> bool
+where
+    C::Value: PartialEq,
+    C::Fault: PartialEq,
+{
+    is_written(format, alloc, value, octets)
+        && is_found(format, alloc, octets, value)
+        && are_refused(format, alloc, refused)
 }

@@ -1,8 +1,8 @@
 //! CHOICE, DEFAULT, explicit tags, names, and values of a program's own.
 
 use super::calls::{
-    are_refused, element, fault_of, is_kept, is_misfit, is_number, is_some_number, is_written,
-    sequence, value_of,
+    are_refused, element, fault_of, is_found, is_misfit, is_number, is_right, is_some_number,
+    kept_value, sequence, value_of,
 };
 use asn1_compose::{InNamed, InThen, Mapped, Named, OfParts, OneOf};
 use asn1_der::{
@@ -53,23 +53,17 @@ fn is_flag_set(value: &Option<Chosen>) -> bool {
     }
 }
 
-/// What the octets are.
+/// What the octets are, if it is written as them.
 fn choose(alloc: Global, octets: &[u8]) -> Option<Chosen> {
-    value_of(&choosing(), alloc, octets)
-}
-
-/// Whether the octets are kept.
-fn is_choice_kept(alloc: Global, octets: &[u8]) -> bool {
-    is_kept(&choosing(), alloc, octets)
+    kept_value(&choosing(), alloc, octets)
 }
 
 #[test]
 fn the_tag_tells_the_alternative(rt: HostRuntime) -> Result<(), Fail> {
     let alloc = rt.alloc();
-    let octets = [0x30, 0x03, 0x02, 0x01, 0x05];
-    let is_level = is_level(&choose(alloc, &octets), 5);
+    let is_level = is_level(&choose(alloc, &[0x30, 0x03, 0x02, 0x01, 0x05]), 5);
     let is_flag_set = is_flag_set(&choose(alloc, &[0x30, 0x03, 0x01, 0x01, 0xFF]));
-    assert!(rt; is_level && is_flag_set && is_choice_kept(alloc, &octets));
+    assert!(rt; is_level && is_flag_set);
     Ok(())
 }
 
@@ -98,14 +92,6 @@ fn alternatives_of_one_tag_are_refused(rt: HostRuntime) -> Result<(), Fail> {
     Ok(())
 }
 
-/// Whether a SEQUENCE was read whose only element is missing.
-fn is_missing(value: &Option<(Option<bool>, ())>) -> bool {
-    match value {
-        Some(parts) => parts.0 == None,
-        None => false,
-    }
-}
-
 /// Whether FALSE is missing where a SEQUENCE { critical BOOLEAN DEFAULT FALSE } has it.
 fn is_default_missing(alloc: Global) -> bool {
     let contents = NotDefault {
@@ -118,15 +104,15 @@ fn is_default_missing(alloc: Global) -> bool {
     });
     let octets: &[u8] = &[0x30, 0x03, 0x01, 0x01, 0x00];
     let fault = InThen::First(InTlv::Contents(InDefault::Default));
-    let is_missing = is_missing(&value_of(&format, alloc, &[0x30, 0x00]));
-    is_missing
-        && is_written(
+    let written = [0x30, 0x03, 0x01, 0x01, 0xFF];
+    is_found(&format, alloc, &[0x30, 0x00], &(None, ()))
+        && is_right(
             &format,
             alloc,
             &(Some(true), ()),
-            &[0x30, 0x03, 0x01, 0x01, 0xFF],
+            &written,
+            &[(octets, fault)],
         )
-        && are_refused(&format, alloc, &[(octets, fault)])
 }
 
 #[test]
@@ -168,8 +154,8 @@ fn is_one_element_explicit(alloc: Global) -> bool {
     };
     let octets: &[u8] = &[0xA2, 0x05, 0x01, 0x01, 0xFF, 0x05, 0x00];
     let fault = InThen::Second(NotEnd { bits: 16 });
-    is_written(&format, alloc, &true, &[0xA2, 0x03, 0x01, 0x01, 0xFF])
-        && are_refused(&format, alloc, &[(octets, fault)])
+    let written = [0xA2, 0x03, 0x01, 0x01, 0xFF];
+    is_right(&format, alloc, &true, &written, &[(octets, fault)])
 }
 
 #[test]
@@ -236,9 +222,8 @@ fn is_named(fault: &Option<FlagFault>, wanted: &str) -> bool {
 /// element of this name.
 fn is_flag_named(alloc: Global, octets: &[u8], others: &[u8], wanted: &str) -> bool {
     let format = flag_format();
-    let is_set = is_set(&value_of(&format, alloc, octets));
-    let is_named = is_named(&fault_of(&format, alloc, others), wanted);
-    is_set && is_named && is_kept(&format, alloc, octets)
+    let is_set = is_set(&kept_value(&format, alloc, octets));
+    is_set && is_named(&fault_of(&format, alloc, others), wanted)
 }
 
 #[test]

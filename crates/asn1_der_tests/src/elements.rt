@@ -1,7 +1,7 @@
 //! Identifier octets, lengths, and elements inside one another.
 
 use super::calls::{
-    are_refused, element, fault_of, is_kept, is_misfit, is_number, is_read, is_written, octets_of,
+    are_refused, element, fault_of, is_found, is_misfit, is_read, is_right, kept_value, octets_of,
     sequence, universal, value_of,
 };
 use asn1_bits::BitReader;
@@ -20,32 +20,17 @@ fn octet_string() -> Tlv<OctetStringContents> {
     element(4, false, OctetStringContents {})
 }
 
-/// The octets of an OCTET STRING of so many zeros.
-fn zeros(alloc: Global, count: usize) -> Option<Vec<u8>> {
-    let mut octets = Vec::new(alloc);
-    for _ in 0..count {
-        if let Err(_) = octets.push(0) {
-            return None;
-        }
-    }
-    octets_of(&octet_string(), alloc, &octets)
-}
-
-/// Whether so many octets are read.
-fn are_octets_read(alloc: Global, octets: &[u8], count: usize) -> bool {
-    match value_of(&octet_string(), alloc, octets) {
-        Some(value) => value.len() == count,
-        None => false,
-    }
-}
-
 /// Whether so many zeros are so many octets with these in front, and are read.
 fn are_zeros_behind(alloc: Global, count: usize, front: &[u8], whole: usize) -> bool {
-    match zeros(alloc, count) {
+    let format = octet_string();
+    let Ok(zeros) = Vec::from_elem(alloc, 0, count) else {
+        return false;
+    };
+    match octets_of(&format, alloc, &zeros) {
         Some(octets) => {
             octets.len() == whole
                 && octets.starts_with(front)
-                && are_octets_read(alloc, octets.as_slice(), count)
+                && is_found(&format, alloc, octets.as_slice(), &zeros)
         }
         None => false,
     }
@@ -110,31 +95,23 @@ fn setting() -> Setting {
 /// What is read by it.
 type Settings = (Option<bool>, (Integer, ()));
 
-/// Whether a setting of this level was read without a flag.
-fn is_level_alone(value: &Option<Settings>, number: i128) -> bool {
-    match value {
-        Some(parts) => parts.0 == None && is_number(&parts.1.0, number),
-        None => false,
-    }
-}
-
-/// Whether the setting with a flag is written with it, and one is read without it.
-fn is_flag_told_by_its_tag(alloc: Global, with: &Settings) -> bool {
+/// Whether the setting with a flag is written with it and read, and the other one is read without
+/// it.
+fn is_flag_told_by_its_tag(alloc: Global, with: &Settings, without: &Settings) -> bool {
     let format = setting();
     let octets = [0x30, 0x06, 0x01, 0x01, 0xFF, 0x02, 0x01, 0x05];
     let other: &[u8] = &[0x30, 0x05, 0x02, 0x01, 0x05, 0x05, 0x00];
     let fault = InThen::Second(InThen::Second(NotEnd { bits: 16 }));
     let level = [0x30, 0x03, 0x02, 0x01, 0x05];
-    let is_alone = is_level_alone(&value_of(&format, alloc, &level), 5);
-    is_alone
-        && is_written(&format, alloc, with, &octets)
-        && are_refused(&format, alloc, &[(other, fault)])
+    is_found(&format, alloc, &level, without)
+        && is_right(&format, alloc, with, &octets, &[(other, fault)])
 }
 
 #[test]
 fn an_optional_element_is_told_by_its_tag(rt: HostRuntime) -> Result<(), Fail> {
     let with = (Some(true), (Integer::from(5), ()));
-    assert!(rt; is_flag_told_by_its_tag(rt.alloc(), &with));
+    let without = (None, (Integer::from(5), ()));
+    assert!(rt; is_flag_told_by_its_tag(rt.alloc(), &with, &without));
     Ok(())
 }
 
@@ -182,9 +159,8 @@ fn is_second_item_wrong(alloc: Global) -> bool {
     let other: &[u8] = &[0x30, 0x05, 0x01, 0x01, 0xFF, 0x05, 0x00];
     let found = universal(5, false);
     let wrong = InTlv::Tag(TagFault::Other { found });
-    let are_flags = are_flags(&value_of(&format, alloc, &octets), &[true, false]);
+    let are_flags = are_flags(&kept_value(&format, alloc, &octets), &[true, false]);
     are_flags
-        && is_kept(&format, alloc, &octets)
         && !is_read(&format, alloc, &[0x30, 0x05, 0x01, 0x01, 0xFF, 0x01, 0x00])
         && are_refused(&format, alloc, &[(other, InItem { index: 1, wrong })])
 }

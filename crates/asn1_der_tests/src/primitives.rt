@@ -1,6 +1,6 @@
 //! Primitive elements.
 
-use super::calls::{are_refused, element, is_found, is_kept, is_some_number, is_written, value_of};
+use super::calls::{are_refused, element, is_found, is_right, is_written, kept_value};
 use asn1_bits::BitString;
 use asn1_der::{
     BitStringContents, BitStringFault, BooleanContents, BooleanFault, IdentifierFault,
@@ -18,9 +18,8 @@ fn is_boolean_00_or_ff(alloc: Global) -> bool {
         (&[0x01, 0x01, 0x01], BooleanFault::Other { octet: 1 }),
         (&[0x01, 0x02, 0xFF, 0xFF], BooleanFault::Octets { count: 2 }),
     ];
-    is_written(&format, alloc, &true, &[0x01, 0x01, 0xFF])
+    is_right(&format, alloc, &true, &[0x01, 0x01, 0xFF], &refused)
         && is_found(&format, alloc, &[0x01, 0x01, 0x00], &false)
-        && are_refused(&format, alloc, &refused)
 }
 
 #[test]
@@ -29,24 +28,15 @@ fn a_boolean_is_00_or_ff(rt: HostRuntime) -> Result<(), Fail> {
     Ok(())
 }
 
-/// `INTEGER`
-fn integer() -> Tlv<IntegerContents> {
-    element(2, false, IntegerContents {})
-}
-
-/// Whether the integer is written so, and read back.
+/// Whether the integer is written so and read back, and octets of which fewer are enough are
+/// refused.
 fn is_integer(alloc: Global, number: i128, octets: &[u8]) -> bool {
-    let is_read = is_some_number(&value_of(&integer(), alloc, octets), number);
-    is_read && is_written(&integer(), alloc, &Integer::from(number), octets)
-}
-
-/// Whether the octets of each row are no integer, since fewer octets are enough.
-fn are_integers_refused(alloc: Global) -> bool {
     let refused: [(&[u8], NotShortest); 2] = [
         (&[0x02, 0x02, 0x00, 0x7F], NotShortest {}),
         (&[0x02, 0x00], NotShortest {}),
     ];
-    are_refused(&integer(), alloc, &refused)
+    let format = element(2, false, IntegerContents {});
+    is_right(&format, alloc, &Integer::from(number), octets, &refused)
 }
 
 #[test]
@@ -62,7 +52,6 @@ fn integers_take_the_fewest_octets(rt: HostRuntime) -> Result<(), Fail> {
     for (number, octets) in rows {
         assert!(rt; is_integer(rt.alloc(), number, octets));
     }
-    assert!(rt; are_integers_refused(rt.alloc()));
     Ok(())
 }
 
@@ -86,8 +75,8 @@ fn is_identifier_its_subidentifiers(alloc: Global) -> bool {
             IdentifierFault::LargeArc,
         ),
     ];
-    let are_arcs = are_arcs(&value_of(&format, alloc, &octets), &[2, 999, 3]);
-    are_arcs && is_kept(&format, alloc, &octets) && are_refused(&format, alloc, &refused)
+    let are_arcs = are_arcs(&kept_value(&format, alloc, &octets), &[2, 999, 3]);
+    are_arcs && are_refused(&format, alloc, &refused)
 }
 
 #[test]
@@ -120,9 +109,8 @@ fn is_bit_string_counting_unused_bits(alloc: Global) -> bool {
         (&[0x03, 0x01, 0x01], BitStringFault::Unused { count: 1 }),
         (&[0x03, 0x00], BitStringFault::Empty),
     ];
-    let are_bits = are_bits(&value_of(&format, alloc, &octets), 44, &raw);
+    let are_bits = are_bits(&kept_value(&format, alloc, &octets), 44, &raw);
     are_bits
-        && is_kept(&format, alloc, &octets)
         && is_no_bit(&format, alloc, &[0x03, 0x01, 0x00])
         && are_refused(&format, alloc, &refused)
 }

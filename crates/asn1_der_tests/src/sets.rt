@@ -1,8 +1,8 @@
 //! SET OF and SET.
 
 use super::calls::{
-    are_refused, element, fault_of, is_kept, is_misfit, is_unwritten, is_written, misfit_of,
-    sequence, universal, value_of,
+    element, fault_of, is_kept, is_misfit, is_right, is_unwritten, misfit_of, sequence, universal,
+    value_of,
 };
 use asn1_der::{
     Any, BooleanContents, Class, End, InItem, InSet, InTagOrder, InTlv, IntegerContents,
@@ -35,18 +35,27 @@ fn integers(alloc: Global, numbers: &[i32]) -> Option<Vec<Integer>> {
     Some(values)
 }
 
-/// Whether the numbers are written as the octets.
-fn are_written(alloc: Global, values: &[i32], octets: &[u8]) -> bool {
+/// Whether the numbers are written as the octets and read from them, and octets in another order
+/// are refused, and an item that is wrong before its order.
+fn are_numbers(alloc: Global, values: &[i32], octets: &[u8]) -> bool {
+    let rows: [(&[u8], InItem<InSet<InTlv<NotShortest>>>); 2] = [
+        (
+            &[0x31, 0x06, 0x02, 0x01, 0xFF, 0x02, 0x01, 0x01],
+            InItem {
+                index: 1,
+                wrong: InSet::Descends,
+            },
+        ),
+        (
+            &[0x31, 0x05, 0x02, 0x01, 0x05, 0x02, 0x00],
+            InItem {
+                index: 1,
+                wrong: InSet::Item(InTlv::Contents(NotShortest {})),
+            },
+        ),
+    ];
     match integers(alloc, values) {
-        Some(values) => is_written(&numbers(), alloc, &values, octets),
-        None => false,
-    }
-}
-
-/// Whether the numbers are written as the octets, and as many are read from these.
-fn are_spelled(alloc: Global, values: &[i32], octets: &[u8]) -> bool {
-    match value_of(&numbers(), alloc, octets) {
-        Some(read) => read.len() == values.len() && are_written(alloc, values, octets),
+        Some(values) => is_right(&numbers(), alloc, &values, octets, &rows),
         None => false,
     }
 }
@@ -65,7 +74,7 @@ fn elements_ascend_by_their_octets(rt: HostRuntime) -> Result<(), Fail> {
         ),
     ];
     for (values, octets) in rows {
-        assert!(rt; are_spelled(rt.alloc(), values, octets));
+        assert!(rt; are_numbers(rt.alloc(), values, octets));
     }
     Ok(())
 }
@@ -79,124 +88,55 @@ fn descend_at(alloc: Global, values: &[i32], index: usize) -> bool {
     }
 }
 
-/// Whether octets in another order are refused, and an item that is wrong before its order.
-fn are_octets_refused(alloc: Global) -> bool {
-    let rows: [(&[u8], InItem<InSet<InTlv<NotShortest>>>); 2] = [
-        (
-            &[0x31, 0x06, 0x02, 0x01, 0xFF, 0x02, 0x01, 0x01],
-            InItem {
-                index: 1,
-                wrong: InSet::Descends,
-            },
-        ),
-        (
-            &[0x31, 0x05, 0x02, 0x01, 0x05, 0x02, 0x00],
-            InItem {
-                index: 1,
-                wrong: InSet::Item(InTlv::Contents(NotShortest {})),
-            },
-        ),
-    ];
-    are_refused(&numbers(), alloc, &rows)
-}
-
 #[test]
 fn another_order_is_refused_by_its_place(rt: HostRuntime) -> Result<(), Fail> {
-    let alloc = rt.alloc();
-    assert!(rt;
-        descend_at(alloc, &[-1, 1], 1)
-            && descend_at(alloc, &[1, 128, 2, 1], 2)
-            && are_octets_refused(alloc)
-    );
+    assert!(rt; descend_at(rt.alloc(), &[-1, 1], 1));
+    assert!(rt; descend_at(rt.alloc(), &[1, 128, 2, 1], 2));
     Ok(())
 }
 
-/// Whether the values are not written with this one behind them.
-fn are_unwritten_with<F: Ordered>(
-    format: &Tlv<SetOf<F>>,
-    alloc: Global,
-    values: Vec<F::Value>,
-    value: F::Value,
-) -> bool {
-    let mut values = values;
-    match values.push(value) {
-        Ok(()) => is_unwritten(format, alloc, &values),
-        Err(_) => false,
-    }
-}
-
-/// Whether the values of the octets are not written with this one behind them.
-fn is_unwritten_behind<F: Ordered>(
+/// Whether the values of the octets are not written with this one behind them, or in the reverse
+/// order where none is given.
+fn is_unwritten_with<F: Ordered>(
     format: &Tlv<SetOf<F>>,
     alloc: Global,
     octets: &[u8],
-    value: F::Value,
+    value: Option<F::Value>,
 ) -> bool {
-    match value_of(format, alloc, octets) {
-        Some(values) => are_unwritten_with(format, alloc, values, value),
-        None => false,
+    let Some(mut values) = value_of(format, alloc, octets) else {
+        return false;
+    };
+    match value {
+        Some(value) => {
+            if values.push(value).is_err() {
+                return false;
+            }
+        }
+        None => values.reverse(),
     }
-}
-
-/// Whether the values are not written in the reverse order.
-fn are_unwritten_in_reverse<F: Ordered>(
-    format: &Tlv<SetOf<F>>,
-    alloc: Global,
-    values: Vec<F::Value>,
-) -> bool {
-    let mut values = values;
-    values.reverse();
     is_unwritten(format, alloc, &values)
 }
 
-/// Whether the values of the octets are not written in the reverse order.
-fn is_unwritten_in_reverse<F: Ordered>(
-    format: &Tlv<SetOf<F>>,
+/// Whether a SET OF these items keeps the octets, and is not written with this value behind, or in
+/// the reverse order where none is given.
+fn does_set_ascend<F: Ordered + Copy>(
+    item: &F,
     alloc: Global,
     octets: &[u8],
+    value: Option<F::Value>,
 ) -> bool {
-    match value_of(format, alloc, octets) {
-        Some(values) => are_unwritten_in_reverse(format, alloc, values),
-        None => false,
-    }
-}
-
-/// Whether a SET OF these items keeps the octets, and is not written in the reverse order.
-fn does_set_ascend<F: Ordered + Copy>(item: &F, alloc: Global, octets: &[u8]) -> bool {
     let format = element(17, true, SetOf { item: *item });
-    is_kept(&format, alloc, octets) && is_unwritten_in_reverse(&format, alloc, octets)
+    is_kept(&format, alloc, octets) && is_unwritten_with(&format, alloc, octets, value)
 }
 
-/// Whether a SET OF SEQUENCE of these elements keeps the octets, and is not written in the reverse
-/// order.
+/// The same of a SET OF SEQUENCE of these elements.
 fn do_elements_ascend<E: OrderedElements + Copy>(
     elements: &E,
     alloc: Global,
     octets: &[u8],
+    value: Option<E::Value>,
 ) -> bool {
-    does_set_ascend(&sequence(*elements), alloc, octets)
-}
-
-/// Whether a SET OF these items keeps the octets, and is not written with this value behind.
-fn does_set_end<F: Ordered + Copy>(
-    item: &F,
-    alloc: Global,
-    octets: &[u8],
-    value: F::Value,
-) -> bool {
-    let format = element(17, true, SetOf { item: *item });
-    is_unwritten_behind(&format, alloc, octets, value) && is_kept(&format, alloc, octets)
-}
-
-/// Whether a SET OF SEQUENCE of these elements keeps the octets, and is not written with this value
-/// behind.
-fn do_elements_end<E: OrderedElements + Copy>(
-    elements: &E,
-    alloc: Global,
-    octets: &[u8],
-    value: E::Value,
-) -> bool {
-    does_set_end(&sequence(*elements), alloc, octets, value)
+    does_set_ascend(&sequence(*elements), alloc, octets, value)
 }
 
 /// Whether the values of a SET OF SEQUENCE { a INTEGER, b BOOLEAN } ascend by b where a is equal.
@@ -213,7 +153,8 @@ fn do_sequences_ascend(alloc: Global) -> bool {
         0x31, 0x10, 0x30, 0x06, 0x02, 0x01, 0x01, 0x01, 0x01, 0xFF, 0x30, 0x06, 0x02, 0x01, 0x02,
         0x01, 0x01, 0x00,
     ];
-    do_elements_end(&elements, alloc, &octets, (Integer::from(1), (false, ())))
+    let value = (Integer::from(1), (false, ()));
+    do_elements_ascend(&elements, alloc, &octets, Some(value))
 }
 
 #[test]
@@ -247,7 +188,7 @@ fn elements_of_any_tag_ascend_by_their_octets(rt: HostRuntime) -> Result<(), Fai
         0x31, 0x0E, 0x02, 0x01, 0x05, 0x05, 0x00, 0x5F, 0x81, 0x80, 0x00, 0x00, 0x5F, 0x82, 0x00,
         0x00,
     ];
-    assert!(rt; does_set_ascend(&Any {}, rt.alloc(), &octets));
+    assert!(rt; does_set_ascend(&Any {}, rt.alloc(), &octets, None));
     Ok(())
 }
 
@@ -262,7 +203,7 @@ fn do_alternatives_ascend(alloc: Global, octets: &[u8]) -> bool {
         first: element(2, false, IntegerContents {}),
         others: element(1, false, BooleanContents {}),
     };
-    do_elements_ascend(&Optional { first, rest }, alloc, octets)
+    do_elements_ascend(&Optional { first, rest }, alloc, octets, None)
 }
 
 #[test]

@@ -1,6 +1,6 @@
 //! Strings.
 
-use super::calls::{are_refused, element, is_found, is_read, is_written, value_of};
+use super::calls::{element, is_read, is_right, value_of};
 use asn1_der::{
     BmpStringContents, BmpStringFault, CharacterStringContents, NotInSet, NotUtf8, Tlv,
     Utf8StringContents,
@@ -19,28 +19,17 @@ fn string<K>(number: u64, kind: K) -> Tlv<CharacterStringContents<K>> {
     element(number, false, CharacterStringContents { kind })
 }
 
-/// Whether the octets are a string of these characters.
+/// Whether a string of these characters is written as the octets and read from them, and the octets
+/// of each row are refused for its fault.
 fn is_text<K: StringKind<T = u8>>(
     format: &Tlv<CharacterStringContents<K>>,
     alloc: Global,
     text: &[u8],
     octets: &[u8],
+    refused: &[(&[u8], NotInSet)],
 ) -> bool {
     match RestrictedString::<K>::try_from_slice(alloc, text) {
-        Ok(value) => is_found(format, alloc, octets, &value),
-        Err(_) => false,
-    }
-}
-
-/// Whether a string of these characters is written as the octets.
-fn is_text_written<K: StringKind<T = u8>>(
-    format: &Tlv<CharacterStringContents<K>>,
-    alloc: Global,
-    text: &[u8],
-    octets: &[u8],
-) -> bool {
-    match RestrictedString::<K>::try_from_slice(alloc, text) {
-        Ok(value) => is_written(format, alloc, &value, octets),
+        Ok(value) => is_right(format, alloc, &value, octets, refused),
         Err(_) => false,
     }
 }
@@ -70,9 +59,7 @@ fn is_printable_string_right(alloc: Global) -> bool {
             character: b'@',
         },
     )];
-    is_text_written(&format, alloc, text, octets)
-        && is_text(&format, alloc, text, octets)
-        && are_refused(&format, alloc, &refused)
+    is_text(&format, alloc, text, octets, &refused)
 }
 
 #[test]
@@ -91,7 +78,7 @@ fn is_ia5_string_right(alloc: Global) -> bool {
             character: 0x80,
         },
     )];
-    is_text(&format, alloc, b"a@b", b"\x16\x03a@b") && are_refused(&format, alloc, &refused)
+    is_text(&format, alloc, b"a@b", b"\x16\x03a@b", &refused)
 }
 
 /// Whether a NumericString is read, and another character refused.
@@ -105,7 +92,7 @@ fn other_sets_have_other_characters(rt: HostRuntime) -> Result<(), Fail> {
     let alloc = rt.alloc();
     // X.690 8.23.11: the VisibleString "Jones".
     assert!(rt;
-        is_text(&string(26, Visible), alloc, b"Jones", b"\x1A\x05Jones")
+        is_text(&string(26, Visible), alloc, b"Jones", b"\x1A\x05Jones", &[])
             && is_ia5_string_right(alloc)
             && is_numeric_string_right(alloc)
             && is_long(&string(20, Teletex), alloc, b"\x14\x01\xE9", 1)
@@ -113,56 +100,32 @@ fn other_sets_have_other_characters(rt: HostRuntime) -> Result<(), Fail> {
     Ok(())
 }
 
-/// Whether the octets are this text.
-fn is_utf8(alloc: Global, octets: &[u8], text: &str) -> bool {
-    match value_of(&element(12, false, Utf8StringContents {}), alloc, octets) {
-        Some(found) => found.as_str() == text,
-        None => false,
-    }
-}
-
-/// Whether the text is written as the octets.
-fn is_utf8_written(alloc: Global, text: &str, octets: &[u8]) -> bool {
-    let format = element(12, false, Utf8StringContents {});
-    match String::from_str(alloc, text) {
-        Ok(value) => is_written(&format, alloc, &value, octets),
-        Err(_) => false,
-    }
-}
-
-/// Whether octets that are no UTF-8 are refused.
-fn is_no_utf8_refused(alloc: Global) -> bool {
+/// Whether the text in UTF-8 is written as the octets and read from them, and other octets are
+/// refused.
+fn is_utf8_right(alloc: Global, text: &str, octets: &[u8]) -> bool {
     // A character that is cut, a surrogate, and an octet that begins none.
     let rows: [(&[u8], NotUtf8); 3] = [
         (b"\x0C\x03a\xE2\x82", NotUtf8 { index: 1 }),
         (b"\x0C\x05ab\xED\xA0\x80", NotUtf8 { index: 2 }),
         (b"\x0C\x05\xC3\xA9\xC3\xA9\xFF", NotUtf8 { index: 4 }),
     ];
-    are_refused(&element(12, false, Utf8StringContents {}), alloc, &rows)
+    let format = element(12, false, Utf8StringContents {});
+    match String::from_str(alloc, text) {
+        Ok(value) => is_right(&format, alloc, &value, octets, &rows),
+        Err(_) => false,
+    }
 }
 
 #[test]
 fn a_text_is_in_utf8(rt: HostRuntime) -> Result<(), Fail> {
     let octets = b"\x0C\x06a\xC3\xA9\xE2\x82\xAC";
-    let text = "a\u{e9}\u{20ac}";
-    assert!(rt; is_utf8_written(rt.alloc(), text, octets) && is_utf8(rt.alloc(), octets, text));
-    assert!(rt; is_no_utf8_refused(rt.alloc()));
+    assert!(rt; is_utf8_right(rt.alloc(), "a\u{e9}\u{20ac}", octets));
     Ok(())
 }
 
-/// Whether a BMPString of these contents is written as the octets, and read from them.
+/// Whether a BMPString of these contents is written as the octets and read from them, and another
+/// character, and half of one, are refused.
 fn is_bmp_text(alloc: Global, contents: &[u8], octets: &[u8]) -> bool {
-    let format = element(30, false, BmpStringContents {});
-    match BmpString::try_from_slice(alloc, contents) {
-        Ok(value) => {
-            is_written(&format, alloc, &value, octets) && is_found(&format, alloc, octets, &value)
-        }
-        Err(_) => false,
-    }
-}
-
-/// Whether another character, and half of one, are refused.
-fn is_no_bmp_text_refused(alloc: Global) -> bool {
     let rows: [(&[u8], BmpStringFault); 2] = [
         (
             b"\x1E\x04\xFF\xFD\xFF\xFE",
@@ -173,7 +136,11 @@ fn is_no_bmp_text_refused(alloc: Global) -> bool {
         ),
         (b"\x1E\x03\x00\x41\x00", BmpStringFault::HalfCharacter),
     ];
-    are_refused(&element(30, false, BmpStringContents {}), alloc, &rows)
+    let format = element(30, false, BmpStringContents {});
+    match BmpString::try_from_slice(alloc, contents) {
+        Ok(value) => is_right(&format, alloc, &value, octets, &rows),
+        Err(_) => false,
+    }
 }
 
 #[test]
@@ -181,6 +148,5 @@ fn a_bmp_string_has_two_octets_for_each_character(rt: HostRuntime) -> Result<(),
     // `openssl asn1parse -genstr FORMAT:UTF8,BMPSTRING:Aé€`
     let octets = b"\x1E\x06\x00\x41\x00\xE9\x20\xAC";
     assert!(rt; is_bmp_text(rt.alloc(), b"\x00\x41\x00\xE9\x20\xAC", octets));
-    assert!(rt; is_no_bmp_text_refused(rt.alloc()));
     Ok(())
 }

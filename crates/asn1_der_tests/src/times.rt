@@ -1,6 +1,6 @@
 //! Times.
 
-use super::calls::{are_refused, element, is_found, is_misfit, is_written};
+use super::calls::{element, is_found, is_misfit, is_right};
 use asn1_der::{
     FractionalTime, FractionalTimeContents, FractionalTimeMisfit, GeneralizedTimeContents, Moment,
     NoTime, TimeFault, Tlv, UtcTime, UtcTimeContents,
@@ -20,32 +20,10 @@ fn utc(year: u8, month: u8, day: u8) -> UtcTime {
     }
 }
 
-/// The format of a UTCTime.
-fn utc_format() -> Tlv<UtcTimeContents> {
-    element(23, false, UtcTimeContents {})
-}
-
-/// Whether the time is written as the octets, and read from them.
-fn is_utc_spelled(alloc: Global, time: UtcTime, octets: &[u8]) -> bool {
-    let format = utc_format();
-    is_written(&format, alloc, &time, octets) && is_found(&format, alloc, octets, &time)
-}
-
-#[test]
-fn a_utc_time_has_two_digits_of_the_year(rt: HostRuntime) -> Result<(), Fail> {
-    // `openssl asn1parse -genstr UTC:130626133828Z`
-    assert!(rt; is_utc_spelled(rt.alloc(), utc(13, 6, 26), b"\x17\x0D130626133828Z"));
-    // RFC 5280 4.1.2.5.1
-    assert!(rt;
-        utc(13, 6, 26).moment().year == 2013
-            && utc(49, 1, 1).moment().year == 2049
-            && utc(50, 1, 1).moment().year == 1950
-    );
-    Ok(())
-}
-
-/// Whether octets that are no UTCTime are refused.
-fn is_no_utc_time_refused(alloc: Global) -> bool {
+/// Whether the time is written as the octets and read from them, no other octets are read, 2012 and
+/// 2000 have a 29 February, and no year 100 is written.
+fn is_utc_time_right(alloc: Global, time: UtcTime, octets: &[u8]) -> bool {
+    let format = element(23, false, UtcTimeContents {});
     let rows: [(&[u8], TimeFault); 6] = [
         (b"\x17\x0B1306261338Z", TimeFault::Octets { count: 11 }),
         (
@@ -66,20 +44,27 @@ fn is_no_utc_time_refused(alloc: Global) -> bool {
         (b"\x17\x0D130626240000Z", TimeFault::NoSuchTime),
         (b"\x17\x0D130026133828Z", TimeFault::NoSuchTime),
     ];
-    are_refused(&utc_format(), alloc, &rows)
-}
-
-/// Whether 2012 and 2000 have a 29 February, and no year 100 is written.
-fn is_utc_time_right(alloc: Global) -> bool {
-    let format = utc_format();
-    is_found(&format, alloc, b"\x17\x0D120229133828Z", &utc(12, 2, 29))
+    is_right(&format, alloc, &time, octets, &rows)
+        && is_found(&format, alloc, b"\x17\x0D120229133828Z", &utc(12, 2, 29))
         && is_found(&format, alloc, b"\x17\x0D000229133828Z", &utc(0, 2, 29))
         && is_misfit(&format, alloc, &utc(100, 1, 1), NoTime {})
 }
 
 #[test]
+fn a_utc_time_has_two_digits_of_the_year(rt: HostRuntime) -> Result<(), Fail> {
+    // RFC 5280 4.1.2.5.1
+    assert!(rt;
+        utc(13, 6, 26).moment().year == 2013
+            && utc(49, 1, 1).moment().year == 2049
+            && utc(50, 1, 1).moment().year == 1950
+    );
+    Ok(())
+}
+
+#[test]
 fn a_wrong_utc_time_is_refused(rt: HostRuntime) -> Result<(), Fail> {
-    assert!(rt; is_no_utc_time_refused(rt.alloc()) && is_utc_time_right(rt.alloc()));
+    // `openssl asn1parse -genstr UTC:130626133828Z`
+    assert!(rt; is_utc_time_right(rt.alloc(), utc(13, 6, 26), b"\x17\x0D130626133828Z"));
     Ok(())
 }
 
@@ -110,10 +95,8 @@ fn is_generalized_time_right(alloc: Global) -> bool {
             TimeFault::Octets { count: 17 },
         ),
     ];
-    is_written(&format, alloc, &value, octets)
-        && is_found(&format, alloc, octets, &value)
+    is_right(&format, alloc, &value, octets, &refused)
         && is_found(&format, alloc, b"\x18\x0F24000229235959Z", &leap)
-        && are_refused(&format, alloc, &refused)
 }
 
 #[test]
@@ -143,13 +126,16 @@ fn fractional(alloc: Global, fraction: &[u8]) -> Option<FractionalTime> {
     }
 }
 
-/// Whether the time with this fraction is written as the octets, and read from them.
-fn is_fraction_spelled(alloc: Global, fraction: &[u8], octets: &[u8]) -> bool {
-    let format = fractional_format();
+/// Whether the time with this fraction is written as the octets and read from them, and the octets
+/// of each row are refused.
+fn is_fraction_right(
+    alloc: Global,
+    fraction: &[u8],
+    octets: &[u8],
+    refused: &[(&[u8], TimeFault)],
+) -> bool {
     match fractional(alloc, fraction) {
-        Some(value) => {
-            is_written(&format, alloc, &value, octets) && is_found(&format, alloc, octets, &value)
-        }
+        Some(value) => is_right(&fractional_format(), alloc, &value, octets, refused),
         None => false,
     }
 }
@@ -163,7 +149,7 @@ fn a_time_may_have_a_fraction(rt: HostRuntime) -> Result<(), Fail> {
         (b"0625", b"\x18\x1419920722132100.0625Z"),
     ];
     for (fraction, octets) in rows {
-        assert!(rt; is_fraction_spelled(rt.alloc(), fraction, octets));
+        assert!(rt; is_fraction_right(rt.alloc(), fraction, octets, &[]));
     }
     Ok(())
 }
@@ -177,8 +163,8 @@ fn is_fraction_misfit(alloc: Global, fraction: &[u8], index: usize) -> bool {
     }
 }
 
-/// Whether octets that are no time with a fraction are refused.
-fn are_fractions_refused(alloc: Global) -> bool {
+#[test]
+fn a_wrong_fraction_is_refused(rt: HostRuntime) -> Result<(), Fail> {
     // The first three are of X.690 11.7.5.
     let rows: [(&[u8], TimeFault); 5] = [
         (b"\x18\x0F19920520240000Z", TimeFault::NoSuchTime),
@@ -205,11 +191,7 @@ fn are_fractions_refused(alloc: Global) -> bool {
             },
         ),
     ];
-    are_refused(&fractional_format(), alloc, &rows)
-}
-
-#[test]
-fn a_wrong_fraction_is_refused(rt: HostRuntime) -> Result<(), Fail> {
-    assert!(rt; are_fractions_refused(rt.alloc()) && is_fraction_misfit(rt.alloc(), b"30", 1));
+    assert!(rt; is_fraction_right(rt.alloc(), b"3", b"\x18\x1119920722132100.3Z", &rows));
+    assert!(rt; is_fraction_misfit(rt.alloc(), b"30", 1));
     Ok(())
 }

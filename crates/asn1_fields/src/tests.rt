@@ -1,6 +1,4 @@
-//! Worked rows on the program.
+//! What no run of the program shows: `scripts/check-program` has the rows of its runs.
 
+mod flush;
 mod memory;
-mod program;
-mod refusals;
-mod texts;

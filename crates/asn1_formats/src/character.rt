@@ -124,7 +124,8 @@ impl<'s> Format for Character<'s> {
 
     ghost spelled_is_read = { λ f. itself (λ c list. IsCharacter (alphabet_of f.alphabet) c list) };
 
-    ghost read_is_spelled = { λ f canonical. itself (λ c list. IsCharacter (alphabet_of f.alphabet) c list) };
+    ghost read_is_spelled = { λ f canonical.
+        itself (λ c list. IsCharacter (alphabet_of f.alphabet) c list) };
 
     ghost reads_one = { λ f. character_reads_one (alphabet_of f.alphabet) };
 

@@ -147,7 +147,8 @@ fn take_characters(
     count: u64,
 ) -> Option<Vec<u32>>
     ensures read { IfSome result
-        (λ cs. Starts (λ ds l. SoMany (IsCharacter (alphabet_of coded.now.item.alphabet)) count ds l)
+        (λ cs. Starts
+        (λ ds l. SoMany (IsCharacter (alphabet_of coded.now.item.alphabet)) count ds l)
         (bits_left reader.old) cs.items (bits_left reader.new)) }
     ensures none { IfNone result (bits_left reader.new ≡ bits_left reader.old) }
 {
@@ -182,14 +183,17 @@ impl<'s, N: Counts> Format for KnownMultiplierString<'s, N> {
     ghost plain = { λ v. v.items };
 
     ghost spells = { λ f cs list.
-        AreCounted (N.counts f.size) (IsCharacter (alphabet_of f.characters.item.alphabet)) cs list };
+        AreCounted (N.counts f.size) (IsCharacter (alphabet_of f.characters.item.alphabet))
+        cs list };
 
     ghost reads = { λ f cs list.
-        AreCounted (N.counts f.size) (IsCharacter (alphabet_of f.characters.item.alphabet)) cs list };
+        AreCounted (N.counts f.size) (IsCharacter (alphabet_of f.characters.item.alphabet))
+        cs list };
 
     ghost is_fault = { λ f list e.
         SequenceOfFault (N.counts f.size) (IsCharacter (alphabet_of f.characters.item.alphabet))
-        (N.is_count_fault f.size) (IsCharacterFault (alphabet_of f.characters.item.alphabet)) list e };
+        (N.is_count_fault f.size) (IsCharacterFault (alphabet_of f.characters.item.alphabet))
+        list e };
 
     ghost is_misfit = { λ f cs e.
         SequenceOfMisfit (N.counts f.size) (IsCharacter (alphabet_of f.characters.item.alphabet))
@@ -274,10 +278,12 @@ impl<'s, N: Counts> Format for KnownMultiplierString<'s, N> {
     }
 
     ghost spelled_is_read = { λ f. itself (λ cs list.
-        AreCounted (N.counts f.size) (IsCharacter (alphabet_of f.characters.item.alphabet)) cs list) };
+        AreCounted (N.counts f.size) (IsCharacter (alphabet_of f.characters.item.alphabet))
+        cs list) };
 
     ghost read_is_spelled = { λ f canonical. itself (λ cs list.
-        AreCounted (N.counts f.size) (IsCharacter (alphabet_of f.characters.item.alphabet)) cs list) };
+        AreCounted (N.counts f.size) (IsCharacter (alphabet_of f.characters.item.alphabet))
+        cs list) };
 
     ghost reads_one = { λ f.
         counted_reads_one (N.counts f.size) (IsCharacter (alphabet_of f.characters.item.alphabet))
@@ -292,10 +298,13 @@ impl<'s, N: Counts> Format for KnownMultiplierString<'s, N> {
         counted_names_fault (N.counts f.size) (IsCharacter (alphabet_of f.characters.item.alphabet))
         (N.is_count_fault f.size) (IsCharacterFault (alphabet_of f.characters.item.alphabet))
         (N.reads_one_count f.size) (character_reads_one (alphabet_of f.characters.item.alphabet))
-        (N.names_count_fault f.size) (character_names_fault (alphabet_of f.characters.item.alphabet)) };
+        (N.names_count_fault f.size)
+        (character_names_fault (alphabet_of f.characters.item.alphabet)) };
 
     ghost names_misfit = { λ f.
-        counted_names_misfit (N.counts f.size) (IsCharacter (alphabet_of f.characters.item.alphabet))
+        counted_names_misfit (N.counts f.size)
+        (IsCharacter (alphabet_of f.characters.item.alphabet))
         (N.is_count_misfit f.size) (IsNoCharacter (alphabet_of f.characters.item.alphabet))
-        (N.names_count_misfit f.size) (character_names_misfit (alphabet_of f.characters.item.alphabet)) };
+        (N.names_count_misfit f.size)
+        (character_names_misfit (alphabet_of f.characters.item.alphabet)) };
 }

@@ -110,6 +110,22 @@ where
         && is_found(format, alloc, octets, 3, value, left)
 }
 
+/// Whether the value has this form behind three ones, and is also found in the other octets behind
+/// their first `start` bits, where so many bits are left.
+pub(crate) fn has_form_and_other<F: Format>(
+    format: &F,
+    alloc: Global,
+    value: &F::Value,
+    (octets, bits, left): Form<'_>,
+    (other, start, rest): (&[u8], usize, usize),
+) -> bool
+where
+    F::Value: PartialEq,
+{
+    has_form(format, alloc, value, octets, bits, left)
+        && is_found(format, alloc, other, start, value, rest)
+}
+
 /// The octets of a form behind three ones, how many bits it has in all, and how many are left where
 /// it is read.
 pub(crate) type Form<'a> = (&'a [u8], usize, usize);
@@ -206,6 +222,21 @@ where
         Err(refusal) => says(alloc, &refusal, words),
         Ok(_) => false,
     }
+}
+
+/// Whether the words of what is wrong with the value are the first ones, and those of what is wrong
+/// with the octets behind their first `start` bits the others.
+pub(crate) fn both_say<F: Format>(
+    format: &F,
+    alloc: Global,
+    (value, words): (&F::Value, &str),
+    (octets, start, others): (&[u8], usize, &str),
+) -> bool
+where
+    F::Misfit: Display,
+    F::Fault: Display,
+{
+    misfit_says(format, alloc, value, words) && fault_says(format, alloc, octets, start, others)
 }
 
 /// Whether the words for this are these.

@@ -1,6 +1,6 @@
 //! DEFAULT {}: octets worked by hand behind three ones.
 
-use super::calls::{Form, fault_says, gives, has_form, is_found};
+use super::calls::{Form, fault_says, gives, has_form_and_other};
 use asn1_formats::{
     And, BasicEmpty, Boolean, CanonicalEmpty, InNamed, InSequenceOf, InThen, Named, Required,
     Sequence, SequenceOf, Size, SizeMisfit,
@@ -77,9 +77,7 @@ fn an_empty_list_is_not_written(rt: HostRuntime) {
 /// with so many bits left.
 fn none_has_form(alloc: Global, form: Form<'_>, other: &[u8], rest: usize) -> bool {
     let none = (Vec::new(alloc), true);
-    let (octets, bits, left) = form;
-    has_form(&basic(), alloc, &none, octets, bits, left)
-        && is_found(&basic(), alloc, other, 3, &none, rest)
+    has_form_and_other(&basic(), alloc, &none, form, (other, 3, rest))
 }
 
 #[test]

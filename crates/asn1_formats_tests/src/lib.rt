@@ -17,8 +17,11 @@ mod descriptions;
 mod empties;
 #[cfg(test)]
 mod known_strings;
+#[cfg(test)]
 mod level;
+#[cfg(test)]
 mod line;
+#[cfg(test)]
 mod message;
 #[cfg(test)]
 mod messages;
@@ -32,9 +35,3 @@ mod parts;
 mod refusals;
 #[cfg(test)]
 mod strings;
-
-pub use level::{Level, LevelFormat, level_format};
-pub use line::{Drawing, Point, drawing_format, point_format, points_format};
-pub use message::{
-    Message, Pair, Values, copy, copy_message, message_format, read_message, write_message,
-};

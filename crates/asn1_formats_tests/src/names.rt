@@ -1,9 +1,8 @@
 //! Errors that say in words where something is wrong.
 
-use super::calls::{fault_says, misfit_says};
+use super::calls::{both_say, misfit_says};
 use asn1_formats::{
-    And, Boolean, Character, Format, Named, Number, Optional, Required, Sequence, SequenceOf, Size,
-    Then,
+    And, Boolean, Character, Named, Number, Optional, Required, Sequence, SequenceOf, Size, Then,
 };
 use asn1_values::{CharacterAlphabet, VisibleString};
 use std::alloc::Global;
@@ -62,18 +61,6 @@ fn family() -> Option<Family> {
     })
 }
 
-/// Whether the value is refused with the first words, and what follows the first `start` bits of
-/// the octets with the others.
-fn family_says(
-    format: &Family,
-    alloc: Global,
-    value: &<Family as Format>::Value,
-    words: &str,
-    (octets, start, others): (&[u8], usize, &str),
-) -> bool {
-    misfit_says(format, alloc, value, words) && fault_says(format, alloc, octets, start, others)
-}
-
 /// Whether a family of this name without children is refused with the first words, and what follows
 /// the first `start` bits of the octets with the others.
 fn name_and_bits_say(
@@ -86,7 +73,7 @@ fn name_and_bits_say(
         return false;
     };
     match name.to_vec(alloc) {
-        Ok(name) => family_says(&format, alloc, &(name, None), words, behind),
+        Ok(name) => both_say(&format, alloc, (&(name, None), words), behind),
         Err(_) => false,
     }
 }

@@ -2,8 +2,8 @@
 
 use asn1_formats::{
     And, Boolean, Character, Format, InOctetString, InSequence, InThen, KnownMultiplierString,
-    OctetString, Optional, Refusal, Required, Sequence, SequenceOf, Size, SizeFault, Then,
-    WriteRefusal, read, write,
+    OctetString, Optional, Refusal, Required, Sequence, SequenceOf, Size, Then, WriteRefusal, read,
+    write,
 };
 use asn1_values::{BitBuffer, BitReader, BitStr, CharacterAlphabet, NumericString};
 use std::alloc::{AllocError, Global};
@@ -174,42 +174,75 @@ fn are_right((text, (octets, flags)): &Values) -> bool {
         && flags.as_slice() == [(true, false), (true, true)].as_slice()
 }
 
-/// What reading the message gives.
-fn read_outcome(alloc: Global, format: &Message, view: BitStr<'_>) -> Outcome {
+/// What reading gave.
+#[derive(Clone, Copy)]
+enum Reading {
+    /// The values of the message, and one bit is left.
+    Message,
+    /// Want of memory, and the reader stays.
+    Memory,
+    /// The three octets are short of so many bits, and the reader stays.
+    Short(u128),
+    /// Anything else.
+    Other,
+}
+
+/// How many bits of the octets are missing, where these are what is wrong.
+fn missing_of(fault: &<Message as Format>::Fault) -> Option<u128> {
+    match fault {
+        InSequence::Component(InThen::Second(InThen::First(InOctetString::Short { missing }))) => {
+            Some(*missing)
+        }
+        _ => None,
+    }
+}
+
+/// What reading the bits gives.
+fn found(alloc: Global, format: &Message, view: BitStr<'_>) -> Reading {
     let mut reader = BitReader::new(view);
     match take(format, alloc, &mut reader) {
-        Ok(values) => right_if(are_right(&values) && reader.len() == 1),
-        Err(Refusal::Memory) => { refused_if(reader.bits() == view && reader.bits().shift() == 3) }
-        Err(_) => Outcome::Wrong,
+        Ok(values) => {
+            if are_right(&values) && reader.len() == 1 {
+                Reading::Message
+            } else {
+                Reading::Other
+            }
+        }
+        Err(refusal) => {
+            if reader.bits() != view || reader.bits().shift() != 3 {
+                return Reading::Other;
+            }
+            match refusal {
+                Refusal::Memory => Reading::Memory,
+                Refusal::Wrong(fault) => match missing_of(&fault) {
+                    Some(missing) => Reading::Short(missing),
+                    None => Reading::Other,
+                },
+            }
+        }
+    }
+}
+
+/// What reading so many bits of the message gives.
+fn found_in(alloc: Global, len: usize) -> Reading {
+    match (format(), BitStr::new(&MESSAGE, 3, len)) {
+        (Some(format), Some(view)) => found(alloc, &format, view),
+        _ => Reading::Other,
     }
 }
 
 #[test]
 fn a_message_is_read(rt: HostRuntime) -> Result<(), Fail> {
-    let outcome = match (format(), BitStr::new(&MESSAGE, 3, 61)) {
-        (Some(format), Some(view)) => read_outcome(rt.alloc(), &format, view),
+    let outcome = match found_in(rt.alloc(), 61) {
+        Reading::Message => Outcome::Right,
+        Reading::Memory => Outcome::Refused,
         _ => Outcome::Wrong,
     };
     answers(&rt, "read", outcome)
 }
 
-/// Whether the bits are refused for the octets that are missing, and the reader stays.
-fn octets_are_short(alloc: Global, format: &Message, view: BitStr<'_>, missing: u128) -> bool {
-    let short = InOctetString::<SizeFault>::Short { missing };
-    let fault = InSequence::Component(InThen::Second(InThen::First(short)));
-    let mut reader = BitReader::new(view);
-    match take(format, alloc, &mut reader) {
-        Err(Refusal::Wrong(found)) => found == fault && reader.bits() == view,
-        _ => false,
-    }
-}
-
 #[test]
 fn a_wrong_part_keeps_its_name(rt: HostRuntime) {
     // Behind 29 bits, 12 of the three octets are there.
-    let named = match (format(), BitStr::new(&MESSAGE, 3, 41)) {
-        (Some(format), Some(view)) => octets_are_short(rt.alloc(), &format, view, 12),
-        _ => false,
-    };
-    assert!(rt; named);
+    assert!(rt; matches!(found_in(rt.alloc(), 41), Reading::Short(12)));
 }

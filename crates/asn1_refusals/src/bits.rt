@@ -14,7 +14,7 @@ use std::test::Fail;
 const OCTETS: [u8; 64] = [0x5A; 64];
 
 /// The three bits 111.
-fn three_ones(alloc: Global) -> Result<BitBuffer, AllocError>
+pub fn three_ones(alloc: Global) -> Result<BitBuffer, AllocError>
     ensures { IfOk result (λ bits. length bits ≡ 3) }
 {
     let mut buffer = BitBuffer::new(alloc);
@@ -37,24 +37,30 @@ fn holds(buffer: &BitBuffer, count: usize, octets: &[u8]) -> bool {
 }
 
 /// Whether the buffer holds 111 and no other bit.
-fn is_three_ones(buffer: &BitBuffer) -> bool {
+pub fn is_three_ones(buffer: &BitBuffer) -> bool {
     holds(buffer, 3, &[0xE0])
 }
 
-/// Whether the buffer holds 111, and the 64 octets 5A behind it: the octets EB and 4B in turn, and
-/// the last three bits.
-fn is_followed_by_octets(buffer: &BitBuffer) -> bool {
-    let octets = buffer.as_bytes();
-    buffer.len() == 515
-        && octets.first() == Some(&0xEB)
-        && octets.get(1..64) == Some(&[0x4B; 63])
-        && octets.get(64..) == Some(&[0x40])
-}
+/// The three bits 111, and the 64 octets 5A behind them.
+const FOLLOWED_BY_OCTETS: [u8; 65] = [
+    0xEB, 0x4B, 0x4B, 0x4B, 0x4B, 0x4B, 0x4B, 0x4B, 0x4B, 0x4B, 0x4B, 0x4B, 0x4B, 0x4B, 0x4B, 0x4B,
+    0x4B, 0x4B, 0x4B, 0x4B, 0x4B, 0x4B, 0x4B, 0x4B, 0x4B, 0x4B, 0x4B, 0x4B, 0x4B, 0x4B, 0x4B, 0x4B,
+    0x4B, 0x4B, 0x4B, 0x4B, 0x4B, 0x4B, 0x4B, 0x4B, 0x4B, 0x4B, 0x4B, 0x4B, 0x4B, 0x4B, 0x4B, 0x4B,
+    0x4B, 0x4B, 0x4B, 0x4B, 0x4B, 0x4B, 0x4B, 0x4B, 0x4B, 0x4B, 0x4B, 0x4B, 0x4B, 0x4B, 0x4B, 0x4B,
+    0x40,
+];
+
+/// The bits 11101011, and 507 zeros behind them.
+const FOLLOWED_BY_ZEROS: [u8; 65] = [
+    0xEB, 0, 0, 0, 0, 0, 0, 0, 0, 0, 0, 0, 0, 0, 0, 0, 0, 0, 0, 0, 0, 0, 0, 0, 0, 0, 0, 0, 0, 0, 0,
+    0, 0, 0, 0, 0, 0, 0, 0, 0, 0, 0, 0, 0, 0, 0, 0, 0, 0, 0, 0, 0, 0, 0, 0, 0, 0, 0, 0, 0, 0, 0, 0,
+    0, 0,
+];
 
 /// Whether the buffer holds 111, and behind it, where the call is done, the 64 octets 5A.
 fn is_extended(buffer: &BitBuffer, is_done: bool) -> bool {
     if is_done {
-        is_followed_by_octets(buffer)
+        holds(buffer, 515, &FOLLOWED_BY_OCTETS)
     } else {
         is_three_ones(buffer)
     }
@@ -67,12 +73,6 @@ fn is_resized(buffer: &BitBuffer, is_done: bool) -> bool {
     } else {
         is_three_ones(buffer)
     }
-}
-
-/// Whether the buffer holds 11101011 and 507 zeros.
-fn is_followed_by_zeros(buffer: &BitBuffer) -> bool {
-    let octets = buffer.as_bytes();
-    buffer.len() == 515 && octets.first() == Some(&0xEB) && octets.get(1..) == Some(&[0; 64])
 }
 
 /// Whether the string holds the 64 octets.
@@ -191,7 +191,7 @@ fn bit_buffer_appender(rt: HostRuntime) -> Result<(), Fail> {
     };
     let is_right = match room {
         // 111, 01011, and zeros for the room that is left.
-        Some(room) => room == 507 && is_followed_by_zeros(&buffer),
+        Some(room) => room == 507 && holds(&buffer, 515, &FOLLOWED_BY_ZEROS),
         None => is_three_ones(&buffer),
     };
     settle(&rt, "BitBuffer::appender", room.is_some(), is_right)
@@ -295,17 +295,23 @@ fn bit_reader_octets_on_boundaries(rt: HostRuntime) -> Result<(), Fail> {
     Ok(())
 }
 
+/// The octets 11 and 22, and behind them the 64 octets from bit 4 on, without the last four bits.
+const EXTENDED: [u8; 65] = [
+    0x11, 0x22, 0xA5, 0xA5, 0xA5, 0xA5, 0xA5, 0xA5, 0xA5, 0xA5, 0xA5, 0xA5, 0xA5, 0xA5, 0xA5, 0xA5,
+    0xA5, 0xA5, 0xA5, 0xA5, 0xA5, 0xA5, 0xA5, 0xA5, 0xA5, 0xA5, 0xA5, 0xA5, 0xA5, 0xA5, 0xA5, 0xA5,
+    0xA5, 0xA5, 0xA5, 0xA5, 0xA5, 0xA5, 0xA5, 0xA5, 0xA5, 0xA5, 0xA5, 0xA5, 0xA5, 0xA5, 0xA5, 0xA5,
+    0xA5, 0xA5, 0xA5, 0xA5, 0xA5, 0xA5, 0xA5, 0xA5, 0xA5, 0xA5, 0xA5, 0xA5, 0xA5, 0xA5, 0xA5, 0xA5,
+    0xA5,
+];
+
 #[test]
 fn vector_from_bits(rt: HostRuntime) -> Result<(), Fail> {
+    let view = BitStr::new(&OCTETS, 4, 504).ok_or("there")?;
     let Ok(mut octets) = Vec::from_slice(rt.alloc(), &[0x11, 0x22]) else {
         return met_before(&rt, "extend_vec_from_bitslice");
     };
-    let view = BitStr::new(&OCTETS, 4, 504).ok_or("there")?;
     let is_done = extend_vec_from_bitslice(&mut octets, view).is_ok();
-    let is_right = if is_done {
-        octets.starts_with(&[0x11, 0x22]) && octets.get(2..) == Some(TURNED.as_slice())
-    } else {
-        octets.as_slice() == [0x11, 0x22].as_slice()
-    };
+    let wanted: &[u8] = if is_done { &EXTENDED } else { &[0x11, 0x22] };
+    let is_right = octets.as_slice() == wanted;
     settle(&rt, "extend_vec_from_bitslice", is_done, is_right)
 }

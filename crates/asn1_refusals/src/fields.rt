@@ -1,5 +1,6 @@
 //! Fields of all kinds.
 
+use crate::bits::{is_three_ones, three_ones};
 use crate::refusal::{met, met_before, settle};
 use asn1_values::{
     BitBuffer, BitReader, BitStr, CharacterAlphabet, Field, Ia5String, Integer, ObjectIdentifier,
@@ -19,6 +20,14 @@ const MIDDLE: [u8; 14] = [
     0x00, 0x80, 0x02, 0x00, 0x80, 0x60, 0x86, 0x48, 0x01, 0x65, 0x03, 0x04, 0x02, 0x03,
 ];
 
+/// The bits 11110110, the forty octets and these.
+const FRONT: [u8; 55] = [
+    0xF6, 0xA5, 0xA5, 0xA5, 0xA5, 0xA5, 0xA5, 0xA5, 0xA5, 0xA5, 0xA5, 0xA5, 0xA5, 0xA5, 0xA5, 0xA5,
+    0xA5, 0xA5, 0xA5, 0xA5, 0xA5, 0xA5, 0xA5, 0xA5, 0xA5, 0xA5, 0xA5, 0xA5, 0xA5, 0xA5, 0xA5, 0xA5,
+    0xA5, 0xA5, 0xA5, 0xA5, 0xA5, 0xA5, 0xA5, 0xA5, 0xA5, 0x00, 0x80, 0x02, 0x00, 0x80, 0x60, 0x86,
+    0x48, 0x01, 0x65, 0x03, 0x04, 0x02, 0x03,
+];
+
 /// The shortest octets of 2 to the power of 199.
 const POWER: [u8; 26] = [
     0x00, 0x80, 0, 0, 0, 0, 0, 0, 0, 0, 0, 0, 0, 0, 0, 0, 0, 0, 0, 0, 0, 0, 0, 0, 0, 0,
@@ -29,6 +38,7 @@ const POWER: [u8; 26] = [
 fn message() -> Result<[Field<'static, 'static>; 8], Fail> {
     let arcs = CowSlice::Borrowed(&[2, 16, 840, 1, 101, 3, 4, 2, 3]);
     let bits = BitStr::new(&[0xE0], 0, 3).ok_or("there")?;
+    let oid = ObjectIdentifier::new(arcs).ok_or("valid")?;
     Ok([
         Field::Number {
             value: 0b10110,
@@ -37,7 +47,7 @@ fn message() -> Result<[Field<'static, 'static>; 8], Fail> {
         Field::Octets(Octets::Borrowed(&OCTETS)),
         Field::Integer(Integer::from(128)),
         Field::CountedInteger(Integer::from(128)),
-        Field::Oid(ObjectIdentifier::new(arcs).ok_or("valid")?),
+        Field::Oid(oid),
         Field::Octets(Octets::Borrowed(&ZEROS)),
         Field::Bits(bits),
         Field::Character {
@@ -52,23 +62,9 @@ fn holds_message(buffer: &BitBuffer) -> bool {
     let octets = buffer.as_bytes();
     buffer.len() == 33212
         && octets.len() == 4152
-        && octets.first() == Some(&0xF6)
-        && octets.get(1..41) == Some(&[0xA5; 40])
-        && octets.get(41..55) == Some(MIDDLE.as_slice())
+        && octets.starts_with(&FRONT)
         && octets.get(55..4151) == Some(ZEROS.as_slice())
         && octets.last() == Some(&0xF0)
-}
-
-/// The three bits 111; None where memory was refused.
-fn three_ones(alloc: Global) -> Option<BitBuffer> {
-    let mut buffer = BitBuffer::new(alloc);
-    buffer.push_bits(0b111, 3).ok()?;
-    Some(buffer)
-}
-
-/// Whether the buffer holds 111 and no other bit.
-fn is_three_ones(buffer: &BitBuffer) -> bool {
-    buffer.len() == 3 && buffer.as_bytes() == [0xE0].as_slice()
 }
 
 /// `write_fields`, without its contract: what goes through it is quick to prove.
@@ -103,7 +99,7 @@ fn answers(
 #[test]
 fn fields_are_written(rt: HostRuntime) -> Result<(), Fail> {
     let fields = message()?;
-    let Some(mut buffer) = three_ones(rt.alloc()) else {
+    let Ok(mut buffer) = three_ones(rt.alloc()) else {
         return met_before(&rt, "write_fields");
     };
     let answer = write(&mut buffer, &fields);
@@ -113,7 +109,7 @@ fn fields_are_written(rt: HostRuntime) -> Result<(), Fail> {
 #[test]
 fn fields_are_written_and_counted(rt: HostRuntime) -> Result<(), Fail> {
     let fields = message()?;
-    let Some(mut buffer) = three_ones(rt.alloc()) else {
+    let Ok(mut buffer) = three_ones(rt.alloc()) else {
         return met_before(&rt, "write_fields_counted");
     };
     let answer = write_fields_counted(&mut buffer, &fields, &mut Turns::new());
@@ -122,7 +118,7 @@ fn fields_are_written_and_counted(rt: HostRuntime) -> Result<(), Fail> {
 
 #[test]
 fn a_field_within_an_octet_asks_for_nothing(rt: HostRuntime) -> Result<(), Fail> {
-    let Some(mut buffer) = three_ones(rt.alloc()) else {
+    let Ok(mut buffer) = three_ones(rt.alloc()) else {
         return met_before(&rt, "write_fields within an octet");
     };
     let five = Field::Number {
@@ -136,7 +132,7 @@ fn a_field_within_an_octet_asks_for_nothing(rt: HostRuntime) -> Result<(), Fail>
 
 #[test]
 fn a_wrong_field_keeps_its_name_in_writing(rt: HostRuntime) -> Result<(), Fail> {
-    let Some(mut buffer) = three_ones(rt.alloc()) else {
+    let Ok(mut buffer) = three_ones(rt.alloc()) else {
         return met_before(&rt, "write_fields of a wrong field");
     };
     let fields = [
@@ -152,16 +148,17 @@ fn a_wrong_field_keeps_its_name_in_writing(rt: HostRuntime) -> Result<(), Fail> 
 /// Six bits, octets off the boundary, and an integer past `i128`, behind 111; None where memory was
 /// refused.
 fn bits_to_read(alloc: Global) -> Option<BitBuffer> {
-    let mut buffer = three_ones(alloc)?;
+    let power = Integer::from_signed_octets(alloc, &POWER).ok()?;
     let fields = [
         Field::Number {
             value: 0b101101,
             width: 6,
         },
         Field::Octets(Octets::Borrowed(&OCTETS)),
-        Field::Integer(Integer::from_signed_octets(alloc, &POWER).ok()?),
+        Field::Integer(power),
         Field::Octets(Octets::Borrowed(&MIDDLE)),
     ];
+    let mut buffer = three_ones(alloc).ok()?;
     write(&mut buffer, &fields).ok()?;
     Some(buffer)
 }
@@ -185,11 +182,9 @@ fn are_those(fields: &[Field<'_, '_>]) -> bool {
         && matches!(oid, Field::Oid(oid) if oid.eq_arcs(&[2, 16, 840, 1, 101, 3, 4, 2, 3]))
 }
 
-#[test]
-fn fields_are_read(rt: HostRuntime) -> Result<(), Fail> {
-    let Some(buffer) = bits_to_read(rt.alloc()) else {
-        return met_before(&rt, "read_fields");
-    };
+/// Whether the fields behind 111 are read, and whether all is then right: they are those, and no bit
+/// is left; or there is want of memory, and all bits are left.
+fn outcome_of(alloc: Global, view: BitStr<'_>) -> (bool, bool) {
     let shapes = [
         Shape::Number { width: 6 },
         Shape::Octets { count: 40 },
@@ -198,20 +193,28 @@ fn fields_are_read(rt: HostRuntime) -> Result<(), Fail> {
         Shape::CountedInteger,
         Shape::Oid { octets: 9 },
     ];
-    // 6 bits and 80 octets, from bit 3 on.
-    let view = BitStr::new(buffer.as_bytes(), 3, 646).ok_or("there")?;
     let mut reader = BitReader::new(view);
-    let (is_done, is_right) = match read(rt.alloc(), &mut reader, &shapes) {
-        Ok(fields) => (true, are_those(fields.as_slice())),
-        Err(error) => (false, error == ReadError::Memory),
+    match read(alloc, &mut reader, &shapes) {
+        Ok(fields) => (true, are_those(fields.as_slice()) && reader.len() == 0),
+        Err(error) => {
+            let left = reader.bits();
+            let is_memory = error == ReadError::Memory;
+            (false, is_memory && left == view && left.shift() == 3)
+        }
+    }
+}
+
+#[test]
+fn fields_are_read(rt: HostRuntime) -> Result<(), Fail> {
+    let Some(buffer) = bits_to_read(rt.alloc()) else {
+        return met_before(&rt, "read_fields");
     };
-    let left = reader.bits();
-    let is_left = if is_done {
-        left.len() == 0
-    } else {
-        left == view && left.shift() == 3
+    // 6 bits and 80 octets, from bit 3 on.
+    let Some(view) = BitStr::new(buffer.as_bytes(), 3, 646) else {
+        return Err("there".into());
     };
-    settle(&rt, "read_fields", is_done, is_right && is_left)
+    let (is_done, is_right) = outcome_of(rt.alloc(), view);
+    settle(&rt, "read_fields", is_done, is_right)
 }
 
 #[test]

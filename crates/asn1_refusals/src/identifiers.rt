@@ -2,6 +2,7 @@
 
 use crate::refusal::{met_before, settle};
 use asn1_values::{ContentsError, ObjectIdentifier, Oid, check_contents};
+use std::alloc::AllocError;
 use std::borrow::CowSlice;
 use std::test::Fail;
 
@@ -11,23 +12,30 @@ const ARCS: [u32; 9] = [2, 16, 840, 1, 101, 3, 4, 2, 3];
 /// Its contents.
 const CONTENTS: [u8; 9] = [0x60, 0x86, 0x48, 0x01, 0x65, 0x03, 0x04, 0x02, 0x03];
 
+/// The same behind a tag and a length.
+const ELEMENT: [u8; 11] = [
+    0x06, 0x09, 0x60, 0x86, 0x48, 0x01, 0x65, 0x03, 0x04, 0x02, 0x03,
+];
+
+/// Whether an identifier was made, and whether it then has the arcs.
+fn outcome_of(answer: Result<ObjectIdentifier, AllocError>) -> (bool, bool) {
+    match answer {
+        Ok(copy) => (true, copy.eq_arcs(&ARCS)),
+        Err(_) => (false, true),
+    }
+}
+
 #[test]
 fn oid_to_owned(rt: HostRuntime) -> Result<(), Fail> {
     let oid = Oid::new(&ARCS).ok_or("valid")?;
-    let (is_done, is_right) = match oid.to_owned(rt.alloc()) {
-        Ok(copy) => (true, copy.eq_arcs(&ARCS)),
-        Err(_) => (false, true),
-    };
+    let (is_done, is_right) = outcome_of(oid.to_owned(rt.alloc()));
     settle(&rt, "Oid::to_owned", is_done, is_right)
 }
 
 #[test]
 fn object_identifier_from_oid(rt: HostRuntime) -> Result<(), Fail> {
     let oid = Oid::new(&ARCS).ok_or("valid")?;
-    let (is_done, is_right) = match ObjectIdentifier::from_oid(rt.alloc(), oid) {
-        Ok(copy) => (true, copy.eq_arcs(&ARCS)),
-        Err(_) => (false, true),
-    };
+    let (is_done, is_right) = outcome_of(ObjectIdentifier::from_oid(rt.alloc(), oid));
     settle(&rt, "ObjectIdentifier::from_oid", is_done, is_right)
 }
 
@@ -37,10 +45,7 @@ fn object_identifier_clone(rt: HostRuntime) -> Result<(), Fail> {
     let Ok(owned) = oid.to_owned(rt.alloc()) else {
         return met_before(&rt, "ObjectIdentifier::clone");
     };
-    let (is_done, is_right) = match owned.clone() {
-        Ok(copy) => (true, copy.eq_arcs(&ARCS)),
-        Err(_) => (false, true),
-    };
+    let (is_done, is_right) = outcome_of(owned.clone());
     settle(
         &rt,
         "ObjectIdentifier::clone",
@@ -67,8 +72,8 @@ fn oid_contents_append_to(rt: HostRuntime) -> Result<(), Fail> {
         return met_before(&rt, "OidContents::append_to");
     };
     let is_done = contents.append_to(&mut octets).is_ok();
-    let appended: &[u8] = if is_done { &CONTENTS } else { &[] };
-    let is_right = octets.starts_with(&[0x06, 0x09]) && octets.iter().skip(2).eq(appended.iter());
+    let wanted: &[u8] = if is_done { &ELEMENT } else { &[0x06, 0x09] };
+    let is_right = octets.as_slice() == wanted;
     settle(&rt, "OidContents::append_to", is_done, is_right)
 }
 

@@ -15,10 +15,15 @@ fn is_power(number: &Integer) -> bool {
     number.signed_octets().as_ref() == POWER.as_slice()
 }
 
+/// The shortest octets of 2 to the power of 128, less 1.
+const LARGEST: [u8; 17] = [
+    0x00, 0xFF, 0xFF, 0xFF, 0xFF, 0xFF, 0xFF, 0xFF, 0xFF, 0xFF, 0xFF, 0xFF, 0xFF, 0xFF, 0xFF, 0xFF,
+    0xFF,
+];
+
 /// Whether the number is 2 to the power of 128, less 1.
 fn is_largest(number: &Integer) -> bool {
-    let octets = number.signed_octets();
-    octets.as_ref().first() == Some(&0) && octets.as_ref().get(1..) == Some(&[0xFF; 16])
+    number.signed_octets().as_ref() == LARGEST.as_slice()
 }
 
 /// A call answered with 2 to the power of 199, or with want of memory; another answer fails the
@@ -26,10 +31,10 @@ fn is_largest(number: &Integer) -> bool {
 fn gives_power(
     rt: &HostRuntime,
     call: &str,
-    answer: &Result<Integer, IntegerError>,
+    answer: Result<Integer, IntegerError>,
 ) -> Result<(), Fail> {
     match answer {
-        Ok(number) if is_power(number) => Ok(()),
+        Ok(number) if is_power(&number) => Ok(()),
         Err(IntegerError::Memory) => met(rt, call),
         _ => Err("another answer".into()),
     }
@@ -38,31 +43,31 @@ fn gives_power(
 #[test]
 fn integer_from_signed_octets(rt: HostRuntime) -> Result<(), Fail> {
     let read = Integer::from_signed_octets(rt.alloc(), &POWER);
-    gives_power(&rt, "Integer::from_signed_octets", &read)
+    gives_power(&rt, "Integer::from_signed_octets", read)
 }
 
 #[test]
 fn integer_from_unsigned_octets(rt: HostRuntime) -> Result<(), Fail> {
     let read = Integer::from_unsigned_octets(rt.alloc(), &POWER[1..]);
-    gives_power(&rt, "Integer::from_unsigned_octets", &read)
+    gives_power(&rt, "Integer::from_unsigned_octets", read)
 }
 
 #[test]
 fn integer_try_from_bytes(rt: HostRuntime) -> Result<(), Fail> {
     let read = <Integer as IntegerType>::try_from_bytes(rt.alloc(), &POWER);
-    gives_power(&rt, "Integer::try_from_bytes", &read)
+    gives_power(&rt, "Integer::try_from_bytes", read)
 }
 
 #[test]
 fn integer_try_from_signed_bytes(rt: HostRuntime) -> Result<(), Fail> {
     let read = <Integer as IntegerType>::try_from_signed_bytes(rt.alloc(), &POWER);
-    gives_power(&rt, "Integer::try_from_signed_bytes", &read)
+    gives_power(&rt, "Integer::try_from_signed_bytes", read)
 }
 
 #[test]
 fn integer_try_from_unsigned_bytes(rt: HostRuntime) -> Result<(), Fail> {
     let read = <Integer as IntegerType>::try_from_unsigned_bytes(rt.alloc(), &POWER[1..]);
-    gives_power(&rt, "Integer::try_from_unsigned_bytes", &read)
+    gives_power(&rt, "Integer::try_from_unsigned_bytes", read)
 }
 
 #[test]

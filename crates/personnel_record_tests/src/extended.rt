@@ -27,45 +27,50 @@ const RECORD: [u8; 65] = [
     0x80,
 ];
 
-fn name(alloc: Global, given: &[u8], initial: &[u8], family: &[u8]) -> Result<Name, AllocError> {
-    let family = text(alloc, family)?;
-    Ok(((text(alloc, given)?, (text(alloc, initial)?, family)), ()))
+fn name(alloc: Global, given: &[u8], initial: &[u8], family: &[u8]) -> Name {
+    let rest = (text(alloc, initial), text(alloc, family));
+    ((text(alloc, given), rest), ())
 }
 
 /// The children of the record: Susan's sex is female, the second of the three (X.691 A.3.2).
 fn children(alloc: Global) -> Result<Vec<Child>, AllocError> {
-    let ralph = name(alloc, b"Ralph", b"T", b"Smith")?;
-    let susan = name(alloc, b"Susan", b"B", b"Jones")?;
+    let ralph = name(alloc, b"Ralph", b"T", b"Smith");
+    let ralph = (ralph, text(alloc, b"19571111"));
+    let susan = name(alloc, b"Susan", b"B", b"Jones");
+    let susan = (susan, text(alloc, b"19590717"));
     let mut children = Vec::new(alloc);
-    children.push(((ralph, text(alloc, b"19571111")?), (None, ())))?;
-    children.push(((susan, text(alloc, b"19590717")?), (Some(1), ())))?;
+    children.push((ralph, (None, ())))?;
+    children.push((susan, (Some(1), ())))?;
     Ok(children)
 }
 
-/// The record (X.691 A.3.2).
-fn record(alloc: Global) -> Result<Record, AllocError> {
-    let spouse = name(alloc, b"Mary", b"T", b"Smith")?;
-    let last = (spouse, Some(children(alloc)?));
-    let date = text(alloc, b"19710917")?;
-    let title = text(alloc, b"Director")?;
-    let first = name(alloc, b"John", b"P", b"Smith")?;
-    Ok(((first, (Integer::from(51), (title, (date, last)))), ()))
+/// The record (X.691 A.3.2), with these children.
+fn record(alloc: Global, children: Vec<Child>) -> Record {
+    let spouse = name(alloc, b"Mary", b"T", b"Smith");
+    let last = (text(alloc, b"19710917"), (spouse, Some(children)));
+    let first = name(alloc, b"John", b"P", b"Smith");
+    let later = (Integer::from(51), (text(alloc, b"Director"), last));
+    ((first, later), ())
 }
 
-/// So many ones, at most eight.
-fn ones(alloc: Global, start: usize) -> Result<BitBuffer, AllocError> {
+/// So many ones, at most eight; `None` where there is no memory.
+fn ones(alloc: Global, start: usize) -> Option<BitBuffer> {
     let mut buffer = BitBuffer::new(alloc);
-    push_number(&mut buffer, 0xFF, start.min(8))?;
-    Ok(buffer)
+    match push_number(&mut buffer, 0xFF, start.min(8)) {
+        Ok(()) => Some(buffer),
+        Err(_) => None,
+    }
 }
 
-/// The record's bits behind so many ones.
-fn shifted(alloc: Global, start: usize) -> Result<Vec<u8>, AllocError> {
+/// The record's bits behind so many ones; `None` where there is no memory.
+fn shifted(alloc: Global, start: usize) -> Option<Vec<u8>> {
     let mut buffer = ones(alloc, start)?;
     for octet in RECORD {
-        push_number(&mut buffer, u64::from(octet), 8)?;
+        if push_number(&mut buffer, u64::from(octet), 8).is_err() {
+            return None;
+        }
     }
-    Ok(buffer.into_vec())
+    Some(buffer.into_vec())
 }
 
 /// What is read from a bit on; `None` where it is refused.
@@ -86,18 +91,15 @@ fn written<F: Format>(
     value: Option<F::Value>,
     octets: &[u8],
     start: usize,
-) -> Result<Option<Vec<u8>>, AllocError> {
-    let found = match value {
-        Some(value) => Some(value),
-        None => value_of(format, alloc, octets, start),
-    };
-    let Some(value) = found else {
-        return Ok(None);
+) -> Option<Vec<u8>> {
+    let value = match value {
+        Some(value) => value,
+        None => value_of(format, alloc, octets, start)?,
     };
     let mut buffer = ones(alloc, start)?;
     match write(format, &mut buffer, &value) {
-        Ok(()) => Ok(Some(buffer.into_vec())),
-        Err(_) => Ok(None),
+        Ok(()) => Some(buffer.into_vec()),
+        Err(_) => None,
     }
 }
 
@@ -109,10 +111,11 @@ struct Records {
 }
 
 impl Records {
-    fn new() -> Result<Records, Fail> {
+    /// The format; `None` where a character is there twice.
+    fn new() -> Option<Records> {
         match extensible_record_format() {
-            Some(format) => Ok(Records { format }),
-            None => Err("no character is there twice".into()),
+            Some(format) => Some(Records { format }),
+            None => None,
         }
     }
 
@@ -124,83 +127,101 @@ impl Records {
         record: Option<Record>,
         octets: &[u8],
         start: usize,
-    ) -> Result<Option<Vec<u8>>, AllocError> {
+    ) -> Option<Vec<u8>> {
         written(&self.format, alloc, record, octets, start)
     }
 
-    /// A record that is read from a bit on, written again behind so many ones; `None` where it is
-    /// refused.
-    fn again(
-        &self,
-        alloc: Global,
-        octets: &[u8],
-        start: usize,
-    ) -> Result<Option<Vec<u8>>, AllocError> {
-        self.written(alloc, None, octets, start)
+    /// Whether the octets are a record from a bit on that is written behind so many ones as these.
+    fn gives(&self, alloc: Global, octets: &[u8], start: usize, wanted: &[u8]) -> bool {
+        match self.written(alloc, None, octets, start) {
+            Some(again) => again.as_slice() == wanted,
+            None => false,
+        }
     }
-}
 
-/// The octets with a bit turned.
-fn turned(alloc: Global, octets: &[u8], bit: usize) -> Result<Vec<u8>, AllocError> {
-    let mut other = Vec::from_slice(alloc, octets)?;
-    if let Some(place) = other.get_mut(bit / 8) {
-        *place ^= 1 << (7 - bit % 8);
+    /// Whether the record is written as these octets.
+    fn writes(&self, alloc: Global, record: Record, wanted: &[u8]) -> bool {
+        match self.written(alloc, Some(record), &[], 0) {
+            Some(octets) => octets.as_slice() == wanted,
+            None => false,
+        }
     }
-    Ok(other)
+
+    /// Whether the octets are no record from a bit on.
+    fn refuses(&self, alloc: Global, octets: &[u8], start: usize) -> bool {
+        self.written(alloc, None, octets, start).is_none()
+    }
 }
 
 #[test]
 fn the_record_with_markers_has_its_octets(rt: HostRuntime) -> Result<(), Fail> {
-    let record = record(rt.alloc())?;
-    let octets = Records::new()?.written(rt.alloc(), Some(record), &[], 0)?;
-    assert!(rt; octets.ok_or("the record is right")?.as_slice() == RECORD.as_slice());
+    let records = Records::new().ok_or("no character is there twice")?;
+    let record = record(rt.alloc(), children(rt.alloc())?);
+    assert!(rt; records.writes(rt.alloc(), record, &RECORD));
     Ok(())
 }
 
 #[test]
 fn its_octets_are_a_record_with_markers(rt: HostRuntime) -> Result<(), Fail> {
-    let copy = Records::new()?.again(rt.alloc(), &RECORD, 0)?;
-    assert!(rt; copy.ok_or("read and written")?.as_slice() == RECORD.as_slice());
+    let records = Records::new().ok_or("no character is there twice")?;
+    assert!(rt; records.gives(rt.alloc(), &RECORD, 0, &RECORD));
     Ok(())
+}
+
+/// Turns a bit of the octets.
+fn turn(octets: &mut [u8], bit: usize) {
+    if let Some(place) = octets.get_mut(bit / 8) {
+        *place ^= 1 << (7 - bit % 8);
+    }
+}
+
+/// Whether the octets, behind so many ones, are the record, and refused or another record with each
+/// of its bits turned.
+fn is_each_bit_told(records: &Records, alloc: Global, octets: &[u8], start: usize) -> bool {
+    let Ok(mut other) = Vec::from_slice(alloc, octets) else {
+        return false;
+    };
+    for bit in 0..8 * RECORD.len() {
+        turn(&mut other, start.saturating_add(bit));
+        if records.gives(alloc, &other, start, octets) {
+            return false;
+        }
+        turn(&mut other, start.saturating_add(bit));
+    }
+    records.gives(alloc, &other, start, octets)
 }
 
 #[test]
 fn a_bit_turned_is_refused_or_another_record(rt: HostRuntime) -> Result<(), Fail> {
-    let records = Records::new()?;
+    let records = Records::new().ok_or("no character is there twice")?;
     for start in 0..8usize {
-        let octets = shifted(rt.alloc(), start)?;
-        assert!(rt; records.again(rt.alloc(), &octets, start)?.ok_or("read")? == octets);
-        for bit in start..start + 8 * RECORD.len() {
-            let other = turned(rt.alloc(), &octets, bit)?;
-            if let Some(again) = records.again(rt.alloc(), &other, start)? {
-                assert_ne!(rt; again, octets);
-            }
-        }
+        let octets = shifted(rt.alloc(), start).ok_or("memory")?;
+        assert!(rt; is_each_bit_told(&records, rt.alloc(), &octets, start));
     }
     Ok(())
 }
 
-/// The first octets, so many.
-fn front(octets: &[u8], count: usize) -> &[u8] {
-    if count < octets.len() {
-        &octets[..count]
-    } else {
-        octets
+/// Whether each front of the record's octets, behind so many ones, is refused.
+fn is_each_front_refused(records: &Records, alloc: Global, octets: &[u8], start: usize) -> bool {
+    for length in 1..RECORD.len() {
+        match octets.get(..length) {
+            Some(front) => {
+                if !records.refuses(alloc, front, start) {
+                    return false;
+                }
+            }
+            None => return false,
+        }
     }
+    true
 }
 
 #[test]
 fn a_cut_record_is_refused(rt: HostRuntime) -> Result<(), Fail> {
-    let records = Records::new()?;
+    let records = Records::new().ok_or("no character is there twice")?;
     for start in 0..8usize {
-        let octets = shifted(rt.alloc(), start)?;
-        for length in 1..RECORD.len() {
-            assert!(rt;
-                records
-                    .again(rt.alloc(), front(&octets, length), start)?
-                    .is_none()
-            );
-        }
+        let octets = shifted(rt.alloc(), start).ok_or("memory")?;
+        assert!(rt; is_each_front_refused(&records, rt.alloc(), &octets, start));
     }
     Ok(())
 }

@@ -1,11 +1,9 @@
 //! The record of X.691 A.2, and octets that differ from it.
 
-use crate::values::{children, is_name, is_smith, is_text, name, smith, text};
+use crate::values::{are_children, child, children, is_smith, smith};
 use asn1_formats::Format;
 use asn1_per::Complete;
-use personnel_record::{
-    ChildInformation, PersonnelRecord, RecordFormat, decode, encode, record_format,
-};
+use personnel_record::{PersonnelRecord, RecordFormat, decode, encode, record_format};
 use std::alloc::Global;
 use std::fmt::Display;
 use std::test::Fail;
@@ -18,18 +16,26 @@ const RECORD: [u8; 61] = [
     0x98, 0x5C, 0xE5, 0x21, 0x88, 0x5D, 0x54, 0xC1, 0x70, 0xCA, 0xC8, 0x38, 0xB8,
 ];
 
+/// What is said of it; nothing where there is no memory for it.
+fn words<T: Display>(alloc: Global, value: &T) -> String {
+    match format!(in alloc; "{value}") {
+        Ok(words) => words,
+        Err(_) => String::new(alloc),
+    }
+}
+
 /// `encode` without its contract: the octets of a value, or why it has none, in words.
 fn octets_of<F: Format>(
     format: &Complete<F>,
     alloc: Global,
     value: &F::Value,
-) -> Result<Result<Vec<u8>, String>, Fail>
+) -> Result<Vec<u8>, String>
 where
     F::Misfit: Display,
 {
     match encode(format, alloc, value) {
-        Ok(octets) => Ok(Ok(octets)),
-        Err(refusal) => Ok(Err(format!(in alloc; "{refusal}")?)),
+        Ok(octets) => Ok(octets),
+        Err(refusal) => Err(words(alloc, &refusal)),
     }
 }
 
@@ -38,114 +44,134 @@ fn value_of<F: Format>(
     format: &Complete<F>,
     alloc: Global,
     octets: &[u8],
-) -> Result<Result<F::Value, String>, Fail>
+) -> Result<F::Value, String>
 where
     F::Fault: Display,
 {
     match decode(format, alloc, octets) {
-        Ok(value) => Ok(Ok(value)),
-        Err(refusal) => Ok(Err(format!(in alloc; "{refusal}")?)),
+        Ok(value) => Ok(value),
+        Err(refusal) => Err(words(alloc, &refusal)),
+    }
+}
+
+/// A value, or that of the octets where none is given, with the octets that are written of it; or
+/// why it is not written or they are not read, in words.
+fn with_octets<F: Format>(
+    format: &Complete<F>,
+    alloc: Global,
+    value: Option<F::Value>,
+    octets: &[u8],
+) -> Result<(F::Value, Vec<u8>), String>
+where
+    F::Misfit: Display,
+    F::Fault: Display,
+{
+    if let Some(value) = value {
+        return match octets_of(format, alloc, &value) {
+            Ok(octets) => Ok((value, octets)),
+            Err(why) => Err(why),
+        };
+    }
+    match value_of(format, alloc, octets) {
+        Ok(value) => match octets_of(format, alloc, &value) {
+            Ok(octets) => Ok((value, octets)),
+            // The octets are read, so there is nothing to say of them.
+            Err(_) => Err(String::new(alloc)),
+        },
+        Err(why) => Err(why),
     }
 }
 
 /// The format of records, under a name: what holds it does not state the format's type, whose
-/// statement takes a minute in each function.
+/// statement takes a minute in each function that makes a call of the format. So there is one.
 #[derive(Drop)]
 struct Records {
     format: RecordFormat,
 }
 
 impl Records {
-    fn new() -> Result<Records, Fail> {
+    /// The format; None where a character is there twice.
+    fn new() -> Option<Records> {
         match record_format() {
-            Some(format) => Ok(Records { format }),
-            None => Err("no character is there twice".into()),
+            Some(format) => Some(Records { format }),
+            None => None,
         }
     }
 
-    fn encoded(
+    fn with_octets(
         &self,
         alloc: Global,
-        record: &PersonnelRecord,
-    ) -> Result<Result<Vec<u8>, String>, Fail> {
-        octets_of(&self.format, alloc, record)
-    }
-
-    fn decoded(
-        &self,
-        alloc: Global,
+        record: Option<PersonnelRecord>,
         octets: &[u8],
-    ) -> Result<Result<PersonnelRecord, String>, Fail> {
-        value_of(&self.format, alloc, octets)
+    ) -> Result<(PersonnelRecord, Vec<u8>), String> {
+        with_octets(&self.format, alloc, record, octets)
     }
 }
 
-/// The octets of a record, or why it has none, in words.
-fn encoded(alloc: Global, record: &PersonnelRecord) -> Result<Result<Vec<u8>, String>, Fail> {
-    Records::new()?.encoded(alloc, record)
-}
-
-/// The record of octets, or why they are none, in words.
-fn decoded(alloc: Global, octets: &[u8]) -> Result<Result<PersonnelRecord, String>, Fail> {
-    Records::new()?.decoded(alloc, octets)
-}
-
-/// The octets of a record that has some.
-fn written(alloc: Global, record: &PersonnelRecord) -> Result<Vec<u8>, Fail> {
-    match encoded(alloc, record)? {
-        Ok(octets) => Ok(octets),
-        Err(_) => Err("the record is right".into()),
+/// A record, or that of the octets where none is given, with the octets that are written of it; or
+/// why there are none, in words.
+fn record_with_octets(
+    alloc: Global,
+    record: Option<PersonnelRecord>,
+    octets: &[u8],
+) -> Result<(PersonnelRecord, Vec<u8>), String> {
+    match Records::new() {
+        Some(records) => records.with_octets(alloc, record, octets),
+        None => Err(String::new(alloc)),
     }
 }
 
-/// The record of octets that are one.
-fn found(alloc: Global, octets: &[u8]) -> Result<PersonnelRecord, Fail> {
-    match decoded(alloc, octets)? {
-        Ok(record) => Ok(record),
-        Err(_) => Err("the octets are right".into()),
+/// Whether the record has these octets.
+fn is_written(alloc: Global, record: PersonnelRecord, octets: &[u8]) -> bool {
+    match record_with_octets(alloc, Some(record), &[]) {
+        Ok((_, found)) => found.as_slice() == octets,
+        Err(_) => false,
     }
 }
 
-/// Why the octets are no record, in words.
-fn wrong(alloc: Global, octets: &[u8]) -> Result<String, Fail> {
-    match decoded(alloc, octets)? {
-        Ok(_) => Err("read".into()),
-        Err(why) => Ok(why),
+/// Whether the record is not written, for this reason.
+fn is_unfit(alloc: Global, record: PersonnelRecord, reason: &str) -> bool {
+    match record_with_octets(alloc, Some(record), &[]) {
+        Ok(_) => false,
+        Err(why) => why.as_str() == reason,
     }
 }
 
-/// Why the record is not written, in words.
-fn unfit(alloc: Global, record: PersonnelRecord) -> Result<String, Fail> {
-    match encoded(alloc, &record)? {
-        Ok(_) => Err("written".into()),
-        Err(why) => Ok(why),
+/// Whether the octets are the record of the standard, with its children or with none, which is
+/// written as the other octets.
+fn is_found(alloc: Global, octets: &[u8], has_children: bool, again: &[u8]) -> bool {
+    match record_with_octets(alloc, None, octets) {
+        Ok((record, written)) => {
+            is_smith(&record)
+                && are_children(record.children(), has_children)
+                && written.as_slice() == again
+        }
+        Err(_) => false,
+    }
+}
+
+/// Why the octets are no record, in words; none where they are one.
+fn wrong(alloc: Global, octets: &[u8]) -> String {
+    match record_with_octets(alloc, None, octets) {
+        Ok(_) => String::new(alloc),
+        Err(why) => why,
     }
 }
 
 #[test]
 fn the_record_of_the_standard_has_its_octets(rt: HostRuntime) -> Result<(), Fail> {
-    let record = smith(rt.alloc(), children(rt.alloc())?)?;
-    let octets = written(rt.alloc(), &record)?;
-    assert!(rt; octets.as_slice() == RECORD.as_slice());
+    let record = smith(rt.alloc(), children(rt.alloc())?);
+    assert!(rt; is_written(rt.alloc(), record, &RECORD));
     Ok(())
 }
 
 #[test]
-fn the_octets_of_the_standard_are_its_record(rt: HostRuntime) -> Result<(), Fail> {
-    let record = found(rt.alloc(), &RECORD)?;
-    assert!(rt; is_smith(&record));
-    let [ralph, susan] = record.children().as_slice() else {
-        return Err("two children".into());
-    };
-    assert!(rt; is_name(ralph.name(), b"Ralph", b"T", b"Smith"));
-    assert!(rt; is_text(ralph.date_of_birth(), b"19571111"));
-    assert!(rt; is_name(susan.name(), b"Susan", b"B", b"Jones"));
-    assert!(rt; is_text(susan.date_of_birth(), b"19590717"));
-    Ok(())
+fn the_octets_of_the_standard_are_its_record(rt: HostRuntime) {
+    assert!(rt; is_found(rt.alloc(), &RECORD, true, &RECORD));
 }
 
 #[test]
-fn what_is_cut_is_refused_by_the_part_that_is_short(rt: HostRuntime) -> Result<(), Fail> {
+fn what_is_cut_is_refused_by_the_part_that_is_short(rt: HostRuntime) {
     // So many octets, and what is said of the first part that they do not hold whole.
     let ends = [
         (0, "presence bits are missing"),
@@ -160,16 +186,15 @@ fn what_is_cut_is_refused_by_the_part_that_is_short(rt: HostRuntime) -> Result<(
         (33, "children, number of items: 1 bits are missing"),
     ];
     for (length, said) in ends {
-        assert!(rt; wrong(rt.alloc(), &RECORD[..length])?.as_str() == said);
+        assert!(rt; wrong(rt.alloc(), &RECORD[..length]).as_str() == said);
     }
     for length in 0..RECORD.len() {
-        wrong(rt.alloc(), &RECORD[..length])?;
+        assert!(rt; wrong(rt.alloc(), &RECORD[..length]).len() != 0);
     }
-    Ok(())
 }
 
 #[test]
-fn other_octets_are_refused_by_the_part_that_is_wrong(rt: HostRuntime) -> Result<(), Fail> {
+fn other_octets_are_refused_by_the_part_that_is_wrong(rt: HostRuntime) {
     let changes = [
         // The code 58 in a name, whose characters have codes up to 53.
         (
@@ -189,46 +214,37 @@ fn other_octets_are_refused_by_the_part_that_is_wrong(rt: HostRuntime) -> Result
         if let Some(place) = octets.get_mut(index) {
             *place = octet;
         }
-        assert!(rt; wrong(rt.alloc(), &octets)?.as_str() == said);
+        assert!(rt; wrong(rt.alloc(), &octets).as_str() == said);
     }
     let mut longer = [0; 62];
     longer[..61].copy_from_slice(&RECORD);
-    assert!(rt; wrong(rt.alloc(), &longer)?.as_str() == "8 bits stand behind the message");
-    Ok(())
+    assert!(rt; wrong(rt.alloc(), &longer).as_str() == "8 bits stand behind the message");
 }
 
 #[test]
 fn unfit_parts_are_named(rt: HostRuntime) -> Result<(), Fail> {
     let mut children = children(rt.alloc())?;
-    let ann = name(rt.alloc(), b"Ann", b"", b"Smith")?;
-    children.push(ChildInformation::new(ann, text(rt.alloc(), b"19610717")?))?;
-    let record = smith(rt.alloc(), children)?;
-    assert!(rt;
-        unfit(rt.alloc(), record)?.as_str()
-            == "children, item 2, name, initial, number of items: below the least"
-    );
+    children.push(child(rt.alloc(), b"Ann", b"", b"Smith", b"19610717"))?;
+    let record = smith(rt.alloc(), children);
+    let reason = "children, item 2, name, initial, number of items: below the least";
+    assert!(rt; is_unfit(rt.alloc(), record, reason));
     Ok(())
 }
 
 #[test]
-fn no_children_are_not_written_and_may_be_read(rt: HostRuntime) -> Result<(), Fail> {
-    let record = smith(rt.alloc(), Vec::new(rt.alloc()))?;
-    let octets = written(rt.alloc(), &record)?;
+fn no_children_are_not_written_and_may_be_read(rt: HostRuntime) {
+    let record = smith(rt.alloc(), Vec::new(rt.alloc()));
     // The presence bit 0, and the octets of the standard up to the spouse, of which seven bits are
     // in octet 33.
-    assert!(rt; octets.len() == 33);
-    assert!(rt; octets[0] == 0x06);
-    assert!(rt; octets[1..32] == RECORD[1..32]);
-    assert!(rt; octets[32] == 0x80);
-    let read = found(rt.alloc(), &octets)?;
-    assert!(rt; is_smith(&read));
-    assert!(rt; read.children().len() == 0);
+    let mut octets = [0; 33];
+    octets.copy_from_slice(&RECORD[..33]);
+    octets[0] = 0x06;
+    octets[32] = 0x80;
+    assert!(rt; is_written(rt.alloc(), record, &octets));
+    assert!(rt; is_found(rt.alloc(), &octets, false, &octets));
     // BASIC-PER may write the empty list: the presence bit 1, and a number of items of 0.
     let mut longer = [0; 34];
     longer[..32].copy_from_slice(&RECORD[..32]);
     longer[32] = 0x80;
-    let read = found(rt.alloc(), &longer)?;
-    assert!(rt; is_smith(&read));
-    assert!(rt; read.children().len() == 0);
-    Ok(())
+    assert!(rt; is_found(rt.alloc(), &longer, false, &octets));
 }

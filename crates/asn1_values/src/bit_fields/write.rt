@@ -78,7 +78,8 @@ pub fn write_fields_counted(
     ensures turns_at_least { (list : List Bool) → AreSpelledBy (plain_fields fields.now) list
         → OnOk result (turns.old.count + div_ceil (length list) 64 ≤ turns.new.count) }
     ensures turns_at_most { (list : List Bool) → AreSpelledBy (plain_fields fields.now) list
-        → OnOk result (turns.new.count ≤ turns.old.count + length list / 64 + 8 * length fields.now) }
+        → OnOk result
+        (turns.new.count ≤ turns.old.count + length list / 64 + 8 * length fields.now) }
     ensures turns_unchanged { OnErr result (turns.new.count ≡ turns.old.count) }
 {
     match append_all(buffer, fields, turns) {
