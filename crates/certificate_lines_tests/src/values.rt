@@ -18,7 +18,7 @@ fn value(alloc: Global, number: u64, octets: &[u8]) -> Result<AnyValue, AllocErr
 }
 
 /// What is printed of the value, or what is wrong with it.
-fn printed(alloc: Global, value: &AnyValue) -> Result<(String, Option<Reason>), AllocError> {
+fn text_of(alloc: Global, value: &AnyValue) -> Result<(String, Option<Reason>), AllocError> {
     let mut text = String::new(alloc);
     let wrong = push_value(alloc, &mut text, value)?;
     Ok((text, wrong))
@@ -39,7 +39,7 @@ fn values_are_printed_in_utf8(rt: HostRuntime) -> Result<(), Fail> {
         (2, b"\x05", "#020105"),
     ];
     for (number, octets, expected) in rows {
-        let (text, wrong) = printed(rt.alloc(), &value(rt.alloc(), number, octets)?)?;
+        let (text, wrong) = text_of(rt.alloc(), &value(rt.alloc(), number, octets)?)?;
         assert!(rt; text.as_str() == expected);
         assert!(rt; wrong == None);
     }
@@ -57,12 +57,12 @@ fn wrong_strings_are_refused(rt: HostRuntime) -> Result<(), Fail> {
         (30, b"\x00"),
     ];
     for (number, octets) in rows {
-        let (_, wrong) = printed(rt.alloc(), &value(rt.alloc(), number, octets)?)?;
+        let (_, wrong) = text_of(rt.alloc(), &value(rt.alloc(), number, octets)?)?;
         assert!(rt; wrong == Some(Reason::Characters));
     }
     let mut parts = value(rt.alloc(), 12, b"\x0C\x01a")?;
     parts.tag.constructed = true;
-    let (_, wrong) = printed(rt.alloc(), &parts)?;
+    let (_, wrong) = text_of(rt.alloc(), &parts)?;
     assert!(rt; wrong == Some(Reason::Constructed));
     Ok(())
 }

@@ -63,7 +63,7 @@ fn ones(alloc: Global, start: usize) -> Option<BitBuffer> {
 }
 
 /// The record's bits behind so many ones; `None` where there is no memory.
-fn shifted(alloc: Global, start: usize) -> Option<Vec<u8>> {
+fn record_behind(alloc: Global, start: usize) -> Option<Vec<u8>> {
     let mut buffer = ones(alloc, start)?;
     for octet in RECORD {
         if push_number(&mut buffer, u64::from(octet), 8).is_err() {
@@ -85,7 +85,7 @@ fn value_of<F: Format>(format: &F, alloc: Global, octets: &[u8], start: usize) -
 
 /// A value, or what is read from a bit on where none is given, written behind so many ones; `None`
 /// where it is refused.
-fn written<F: Format>(
+fn octets_behind<F: Format>(
     format: &F,
     alloc: Global,
     value: Option<F::Value>,
@@ -121,19 +121,19 @@ impl Records {
 
     /// A record, or one that is read from a bit on where none is given, written behind so many
     /// ones; `None` where it is refused.
-    fn written(
+    fn octets_behind(
         &self,
         alloc: Global,
         record: Option<Record>,
         octets: &[u8],
         start: usize,
     ) -> Option<Vec<u8>> {
-        written(&self.format, alloc, record, octets, start)
+        octets_behind(&self.format, alloc, record, octets, start)
     }
 
     /// Whether the octets are a record from a bit on that is written behind so many ones as these.
     fn gives(&self, alloc: Global, octets: &[u8], start: usize, wanted: &[u8]) -> bool {
-        match self.written(alloc, None, octets, start) {
+        match self.octets_behind(alloc, None, octets, start) {
             Some(again) => again.as_slice() == wanted,
             None => false,
         }
@@ -141,7 +141,7 @@ impl Records {
 
     /// Whether the record is written as these octets.
     fn writes(&self, alloc: Global, record: Record, wanted: &[u8]) -> bool {
-        match self.written(alloc, Some(record), &[], 0) {
+        match self.octets_behind(alloc, Some(record), &[], 0) {
             Some(octets) => octets.as_slice() == wanted,
             None => false,
         }
@@ -149,7 +149,7 @@ impl Records {
 
     /// Whether the octets are no record from a bit on.
     fn refuses(&self, alloc: Global, octets: &[u8], start: usize) -> bool {
-        self.written(alloc, None, octets, start).is_none()
+        self.octets_behind(alloc, None, octets, start).is_none()
     }
 }
 
@@ -195,7 +195,7 @@ fn is_each_bit_told(records: &Records, alloc: Global, octets: &[u8], start: usiz
 fn a_bit_turned_is_refused_or_another_record(rt: HostRuntime) -> Result<(), Fail> {
     let records = Records::new().ok_or("no character is there twice")?;
     for start in 0..8usize {
-        let octets = shifted(rt.alloc(), start).ok_or("memory")?;
+        let octets = record_behind(rt.alloc(), start).ok_or("memory")?;
         assert!(rt; is_each_bit_told(&records, rt.alloc(), &octets, start));
     }
     Ok(())
@@ -220,7 +220,7 @@ fn is_each_front_refused(records: &Records, alloc: Global, octets: &[u8], start:
 fn a_cut_record_is_refused(rt: HostRuntime) -> Result<(), Fail> {
     let records = Records::new().ok_or("no character is there twice")?;
     for start in 0..8usize {
-        let octets = shifted(rt.alloc(), start).ok_or("memory")?;
+        let octets = record_behind(rt.alloc(), start).ok_or("memory")?;
         assert!(rt; is_each_front_refused(&records, rt.alloc(), &octets, start));
     }
     Ok(())

@@ -151,7 +151,7 @@ fn is_found(alloc: Global, octets: &[u8], has_children: bool, again: &[u8]) -> b
 }
 
 /// Why the octets are no record, in words; none where they are one.
-fn wrong(alloc: Global, octets: &[u8]) -> String {
+fn reason(alloc: Global, octets: &[u8]) -> String {
     match record_with_octets(alloc, None, octets) {
         Ok(_) => String::new(alloc),
         Err(why) => why,
@@ -186,10 +186,10 @@ fn what_is_cut_is_refused_by_the_part_that_is_short(rt: HostRuntime) {
         (33, "children, number of items: 1 bits are missing"),
     ];
     for (length, said) in ends {
-        assert!(rt; wrong(rt.alloc(), &RECORD[..length]).as_str() == said);
+        assert!(rt; reason(rt.alloc(), &RECORD[..length]).as_str() == said);
     }
     for length in 0..RECORD.len() {
-        assert!(rt; wrong(rt.alloc(), &RECORD[..length]).len() != 0);
+        assert!(rt; reason(rt.alloc(), &RECORD[..length]).len() != 0);
     }
 }
 
@@ -214,11 +214,11 @@ fn other_octets_are_refused_by_the_part_that_is_wrong(rt: HostRuntime) {
         if let Some(place) = octets.get_mut(index) {
             *place = octet;
         }
-        assert!(rt; wrong(rt.alloc(), &octets).as_str() == said);
+        assert!(rt; reason(rt.alloc(), &octets).as_str() == said);
     }
     let mut longer = [0; 62];
     longer[..61].copy_from_slice(&RECORD);
-    assert!(rt; wrong(rt.alloc(), &longer).as_str() == "8 bits stand behind the message");
+    assert!(rt; reason(rt.alloc(), &longer).as_str() == "8 bits stand behind the message");
 }
 
 #[test]
