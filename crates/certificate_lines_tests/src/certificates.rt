@@ -1,6 +1,7 @@
 //! Certificates that OpenSSL 3.0 made, in hexadecimal.
 
-/// `openssl req -x509 -newkey ed25519 -nodes -subj '/C=FR/O=A\+B, \\ Inc/CN=a=b' -days 1 -set_serial 0x8123 -outform DER`
+/// `openssl req -x509 -newkey ed25519 -nodes -subj '/C=FR/O=A\+B, \\ Inc/CN=a=b' -days 1
+/// -set_serial 0x8123 -outform DER`
 pub(crate) const ED25519: &str =
     "3082016430820116a0030201020203008123300506032b65703030310b30090603550406130246523113301106035504\
     0a0c0a412b422c205c20496e63310c300a06035504030c03613d62301e170d3236313132353133343535365a170d3236\
@@ -25,8 +26,8 @@ pub(crate) const RSA: &str =
     bebb79e49f87d7da4ef1346b72d235bf5c286fdf85b6c610d8990edec9ca60771c5a7e6e0681d4ecea678132293c2571\
     331b98138da285";
 
-/// `openssl req -x509 -newkey ec -pkeyopt ec_paramgen_curve:P-256 -nodes -multivalue-rdn -subj '/CN=c+OU=d/O=é' -utf8 -days 1
-/// -set_serial 2 -outform DER`
+/// `openssl req -x509 -newkey ec -pkeyopt ec_paramgen_curve:P-256 -nodes -multivalue-rdn
+/// -subj '/CN=c+OU=d/O=é' -utf8 -days 1 -set_serial 2 -outform DER`
 pub(crate) const EC: &str =
     "308201873082012ea003020102020102300a06082a8648ce3d04030230233114300806035504030c0163300806035504\
     0b0c0164310b3009060355040a0c02c3a9301e170d3236313132353133343535365a170d323631313236313334353536\
