@@ -198,7 +198,7 @@ fn missing_of(fault: &<Message as Format>::Fault) -> Option<u128> {
 }
 
 /// What reading the bits gives.
-fn found(alloc: Global, format: &Message, view: BitStr<'_>) -> Reading {
+fn reading_of(alloc: Global, format: &Message, view: BitStr<'_>) -> Reading {
     let mut reader = BitReader::new(view);
     match take(format, alloc, &mut reader) {
         Ok(values) => {
@@ -226,7 +226,7 @@ fn found(alloc: Global, format: &Message, view: BitStr<'_>) -> Reading {
 /// What reading so many bits of the message gives.
 fn found_in(alloc: Global, len: usize) -> Reading {
     match (format(), BitStr::new(&MESSAGE, 3, len)) {
-        (Some(format), Some(view)) => found(alloc, &format, view),
+        (Some(format), Some(view)) => reading_of(alloc, &format, view),
         _ => Reading::Other,
     }
 }
