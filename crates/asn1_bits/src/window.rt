@@ -52,8 +52,8 @@ fn digits_from(high: u64, low: u64, shift: usize) -> u64
     ensures { digits result 64 ≡ take 64 (drop shift (digits high 64 ++ digits low 64)) }
 {
     let both = (u128::from(high) << 64) | u128::from(low);
-    // The remainder tells the compiler that the shift is below 64. A processor takes it so by
-    // itself, where it shifts two words together.
+    // The remainder tells the compiler that the shift is below 64. It costs no instruction: a
+    // processor that shifts two words together takes it by itself.
     ((both << (shift % 64)) >> 64) as u64
 }
 

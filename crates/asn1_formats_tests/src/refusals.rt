@@ -224,7 +224,7 @@ fn reading_of(alloc: Global, format: &Message, view: BitStr<'_>) -> Reading {
 }
 
 /// What reading so many bits of the message gives.
-fn found_in(alloc: Global, len: usize) -> Reading {
+fn reading_of_front(alloc: Global, len: usize) -> Reading {
     match (format(), BitStr::new(&MESSAGE, 3, len)) {
         (Some(format), Some(view)) => reading_of(alloc, &format, view),
         _ => Reading::Other,
@@ -233,7 +233,7 @@ fn found_in(alloc: Global, len: usize) -> Reading {
 
 #[test]
 fn a_message_is_read(rt: HostRuntime) -> Result<(), Fail> {
-    let outcome = match found_in(rt.alloc(), 61) {
+    let outcome = match reading_of_front(rt.alloc(), 61) {
         Reading::Message => Outcome::Right,
         Reading::Memory => Outcome::Refused,
         _ => Outcome::Wrong,
@@ -244,5 +244,5 @@ fn a_message_is_read(rt: HostRuntime) -> Result<(), Fail> {
 #[test]
 fn a_wrong_part_keeps_its_name(rt: HostRuntime) {
     // Behind 29 bits, 12 of the three octets are there.
-    assert!(rt; matches!(found_in(rt.alloc(), 41), Reading::Short(12)));
+    assert!(rt; matches!(reading_of_front(rt.alloc(), 41), Reading::Short(12)));
 }
