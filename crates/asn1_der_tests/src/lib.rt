@@ -1,8 +1,10 @@
-//! Tests of DER by composition.
+//! Tests of DER by composition, and of the lines of a certificate.
 #![tactic(auto)]
 
 #[cfg(test)]
 mod calls;
+#[cfg(test)]
+mod certificate;
 #[cfg(test)]
 mod combinators;
 #[cfg(test)]

@@ -3,6 +3,7 @@
 use asn1_formats::{Format, Refusal, WriteRefusal, read, write};
 use asn1_values::{BitBuffer, BitReader};
 use std::alloc::Global;
+use std::fmt::Display;
 
 /// The buffer behind three ones.
 pub(crate) fn write_behind<F: Format>(
@@ -109,6 +110,43 @@ where
         && is_found(format, alloc, octets, 3, value, left)
 }
 
+/// Whether the value has this form behind three ones, and is also found in the other octets behind
+/// their first `start` bits, where so many bits are left.
+pub(crate) fn has_form_and_other<F: Format>(
+    format: &F,
+    alloc: Global,
+    value: &F::Value,
+    (octets, bits, left): Form<'_>,
+    (other, start, rest): (&[u8], usize, usize),
+) -> bool
+where
+    F::Value: PartialEq,
+{
+    has_form(format, alloc, value, octets, bits, left)
+        && is_found(format, alloc, other, start, value, rest)
+}
+
+/// The octets of a form behind three ones, how many bits it has in all, and how many are left where
+/// it is read.
+pub(crate) type Form<'a> = (&'a [u8], usize, usize);
+
+/// Whether the value has this form, or is refused for this misfit.
+pub(crate) fn gives<F: Format>(
+    format: &F,
+    alloc: Global,
+    value: &F::Value,
+    expected: Result<Form<'_>, F::Misfit>,
+) -> bool
+where
+    F::Value: PartialEq,
+    F::Misfit: PartialEq,
+{
+    match expected {
+        Ok((octets, bits, left)) => has_form(format, alloc, value, octets, bits, left),
+        Err(misfit) => is_misfit(format, alloc, value, misfit),
+    }
+}
+
 /// Whether what follows the first `start` bits is refused for this fault.
 pub(crate) fn is_refused<F: Format>(
     format: &F,
@@ -126,8 +164,34 @@ where
     }
 }
 
-/// Whether each of the octets is refused for the fault beside it, behind the first three bits.
-pub(crate) fn are_refused<F: Format>(format: &F, alloc: Global, rows: &[(&[u8], F::Fault)]) -> bool
+/// Whether each of the octets, behind its first bits, is refused for the fault beside it.
+pub(crate) fn are_refused<F: Format>(
+    format: &F,
+    alloc: Global,
+    rows: &[(&[u8], usize, F::Fault)],
+) -> bool
+where
+    F::Fault: PartialEq,
+{
+    for row in rows {
+        match read_behind(format, alloc, row.0, row.1) {
+            Err(Refusal::Wrong(found)) => {
+                if found != row.2 {
+                    return false;
+                }
+            }
+            _ => return false,
+        }
+    }
+    true
+}
+
+/// Whether each of the octets, behind its first three bits, is refused for the fault beside it.
+pub(crate) fn are_refused_behind_three<F: Format>(
+    format: &F,
+    alloc: Global,
+    rows: &[(&[u8], F::Fault)],
+) -> bool
 where
     F::Fault: PartialEq,
 {
@@ -142,4 +206,65 @@ where
         }
     }
     true
+}
+
+/// Whether nothing can be read behind the first `start` bits.
+pub(crate) fn fails<F: Format>(format: &F, alloc: Global, octets: &[u8], start: usize) -> bool {
+    read_behind(format, alloc, octets, start).is_err()
+}
+
+/// Whether the words of what is wrong with the value are these.
+pub(crate) fn misfit_says<F: Format>(
+    format: &F,
+    alloc: Global,
+    value: &F::Value,
+    words: &str,
+) -> bool
+where
+    F::Misfit: Display,
+{
+    match write_behind(format, alloc, value) {
+        Err(refusal) => says(alloc, &refusal, words),
+        Ok(_) => false,
+    }
+}
+
+/// Whether the words of what is wrong behind the first `start` bits are these.
+pub(crate) fn fault_says<F: Format>(
+    format: &F,
+    alloc: Global,
+    octets: &[u8],
+    start: usize,
+    words: &str,
+) -> bool
+where
+    F::Fault: Display,
+{
+    match read_behind(format, alloc, octets, start) {
+        Err(refusal) => says(alloc, &refusal, words),
+        Ok(_) => false,
+    }
+}
+
+/// Whether the words of what is wrong with the value are the first ones, and those of what is wrong
+/// with the octets behind their first `start` bits the others.
+pub(crate) fn both_say<F: Format>(
+    format: &F,
+    alloc: Global,
+    (value, words): (&F::Value, &str),
+    (octets, start, others): (&[u8], usize, &str),
+) -> bool
+where
+    F::Misfit: Display,
+    F::Fault: Display,
+{
+    misfit_says(format, alloc, value, words) && fault_says(format, alloc, octets, start, others)
+}
+
+/// Whether the words for this are these.
+pub(crate) fn says<T: Display>(alloc: Global, value: &T, words: &str) -> bool {
+    match format!(in alloc; "{value}") {
+        Ok(text) => text.as_str() == words,
+        Err(_) => false,
+    }
 }

@@ -1,29 +1,12 @@
-//! Tests of the parts of a PER message that stand behind a length determinant.
+//! Tests of PER: of `asn1_formats`, of `asn1_per`, and of the records that `personnel_record`
+//! composes.
 #![tactic(auto)]
 
 #[cfg(test)]
-mod additions;
-#[cfg(test)]
-mod bit_strings;
-#[cfg(test)]
 mod calls;
 #[cfg(test)]
-mod encodings;
+mod formats;
 #[cfg(test)]
-mod extended;
+mod per;
 #[cfg(test)]
-mod extensible_numbers;
-#[cfg(test)]
-mod extensible_sizes;
-#[cfg(test)]
-mod fragments;
-#[cfg(test)]
-mod integers;
-#[cfg(test)]
-mod lengths;
-#[cfg(test)]
-mod lists;
-#[cfg(test)]
-mod messages;
-#[cfg(test)]
-mod naturals;
+mod record;

@@ -1,28 +1,35 @@
-//! Rows on fields: a row of the input is a call of `asn1_values` and its answer, and the program
-//! says which rows do not agree.
+//! Tests of octet strings, character strings and alphabets, and of bit fields: a program that answers
+//! the rows of its stored input.
+//!
+//! A row's call is named by a type and a function of `asn1_characters` or `asn1_strings`, as
+//! `NumericString::try_from_slice 20 = 1 32`, or by a function of `asn1_values`, as `read_fields`.
 #![tactic(auto)]
 
-mod alphabets;
-mod answers;
-mod callers;
-mod fields;
-mod integers;
-mod printed;
-mod reading;
-mod shapes;
-mod stores;
-mod texts;
-mod words;
-mod writing;
+mod bit_fields;
+mod strings;
 
-use crate::answers::OnFields;
-use asn1_test_rows::{RowError, run};
+use asn1_test_rows::{Answers, RowError, run};
+use std::alloc::Global;
 use std::io::BufReader;
 use std::process::ExitCode;
+
+/// The calls of the crates.
+struct Calls;
+
+impl Answers for Calls {
+    fn answer(&self, alloc: Global, call: &str, words: &[&str]) -> Result<String, RowError> {
+        match call.split_once("::") {
+            Some((owner, name)) if owner != "Integer" => {
+                strings::answer(alloc, owner, name, words)
+            }
+            _ => bit_fields::answer(alloc, call, words),
+        }
+    }
+}
 
 /// Runs on standard input and output.
 fn main(rt: HostRuntime) -> Result<ExitCode, RowError> {
     let mut input = BufReader::new(rt.alloc(), rt.stdin())?;
-    let status = run(rt.alloc(), &OnFields {}, &mut input, &mut rt.stdout())?;
+    let status = run(rt.alloc(), &Calls, &mut input, &mut rt.stdout())?;
     Ok(ExitCode::from(status))
 }
