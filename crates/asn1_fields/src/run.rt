@@ -2,8 +2,8 @@
 
 ghost use Rattle.std.specs.Prelude.{◌≡◌, ◌≢◌, ◌≤◌, ℕ, List, ◌++◌, IfOk, OnOk, IfErr};
 ghost use Rattle.std.specs.Io.KnownBytes.{Appends, Consumes, IsAtEnd};
-ghost use Rattle.field_lines.specs.Answers as lines;
-ghost use Rattle.field_lines.specs.Answers.{IsAnswer, IsOnly};
+ghost use Rattle.field_lines.specs.Answer as lines;
+ghost use Rattle.field_lines.specs.Answer.{IsAnswer, IsOnly};
 
 use field_lines::answer_to;
 use octet_streams::{StreamError, read_to_end, write_all};

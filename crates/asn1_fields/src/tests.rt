@@ -1,7 +1,7 @@
 //! A caller of `run` over memory, whose octets are known.
 
 ghost use Rattle.std.specs.Prelude.{IfOk};
-ghost use Rattle.field_lines.specs.Answers.{IsAnswer, IsOnly};
+ghost use Rattle.field_lines.specs.Answer.{IsAnswer, IsOnly};
 
 use crate::run::run;
 use octet_streams::StreamError;

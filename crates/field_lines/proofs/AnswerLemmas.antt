@@ -10,7 +10,7 @@ use Rattle.hex.specs.Hex.{decode_of}
 use Rattle.field_lines.specs.declared.answer.Answer as made
 use Rattle.field_lines.specs.Input.{Lines, AreLines, AreWords}
 use Rattle.field_lines.specs.Output.{line}
-use Rattle.field_lines.specs.Answers.{Answer, IsPrinted, IsBitsAnswer, IsStart, IsStartAnswer, IsOctetsAnswer, IsShapesAnswer, IsAnswer, IsOnly, OrElse, answer_in}
+use Rattle.field_lines.specs.Answer.{Answer, IsPrinted, IsBitsAnswer, IsStart, IsStartAnswer, IsOctetsAnswer, IsShapesAnswer, IsAnswer, IsOnly, OrElse, answer_in}
 use Rattle.field_lines.proofs.OneLemmas.{one_input, one_words, one_decoded, one_start, only_next, only_none}
 
 -- the same text, spelled otherwise

@@ -8,7 +8,7 @@ use Rattle.asn1_values.specs.Fields.{Shape, OfNumber, OfOctets, OfBits, OfIntege
 use Rattle.asn1_values.specs.Words.{Alphabet, Numeric, base_set, code_is_one, effective, same_octets}
 use Rattle.hex.specs.Hex.{decode_of}
 use Rattle.field_lines.specs.Input.{Lines, AreLines, AreWords, IsLastLine, IsWord}
-use Rattle.field_lines.specs.Answers.{Answer, Hold, IsStart, OrElse}
+use Rattle.field_lines.specs.Answer.{Answer, Hold, IsStart, OrElse}
 use Rattle.field_lines.proofs.NumberLemmas.{one_number}
 
 -- ---- the lines

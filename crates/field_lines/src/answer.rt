@@ -5,7 +5,7 @@ ghost use Rattle.asn1_values.specs.Fields.{HaveOneSpelling, GiveOneSpelling};
 ghost use Rattle.asn1_values.specs.Plain.{plain_fields, plain_shapes};
 ghost use Rattle.asn1_values.specs.Words.{bits, bits_of};
 ghost use Rattle.field_lines.specs.Output.{line, error_text};
-ghost use Rattle.field_lines.specs.Answers.{IsAnswer, IsBitsAnswer, IsOnly, IsPrinted, IsStart, answer_in};
+ghost use Rattle.field_lines.specs.Answer.{IsAnswer, IsBitsAnswer, IsOnly, IsPrinted, IsStart, answer_in};
 
 use crate::parse::{Lines, number, octets, shapes};
 use crate::print::{print_fields, print_refusal};

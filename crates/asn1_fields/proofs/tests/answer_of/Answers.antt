@@ -1,5 +1,5 @@
 use Rattle.std.proofs.Common.{◌≡◌, ◌++◌, List, ℕ, append-nil, sym, ap, subst, ◌∙◌}
-use Rattle.field_lines.specs.Answers.{Answer, IsAnswer, IsOnly}
+use Rattle.field_lines.specs.Answer.{Answer, IsAnswer, IsOnly}
 use Rattle.asn1_fields.proofs.tests.answer_of.Goals as goal
 
 pub returns : goal.returns

@@ -2,7 +2,7 @@ use Rattle.std.proofs.Common.{◌≡◌, ◌++◌, ℕ, List, Bool, sym, ap, sub
 use Rattle.asn1_values.specs.Plain.{plain_fields}
 use Rattle.asn1_values.specs.Words.{padded}
 use Rattle.field_lines.specs.Output.{printed}
-use Rattle.field_lines.specs.Answers.{Hold}
+use Rattle.field_lines.specs.Answer.{Hold}
 use Rattle.field_lines.proofs.OneLemmas.{one_holding}
 use Rattle.field_lines.proofs.answer.answer_of_fields.Goals as goal
 

@@ -1,7 +1,7 @@
 use Rattle.std.proofs.Common.{Bool, List, codes, subst}
 use Rattle.asn1_values.specs.Plain.{plain_shapes}
 use Rattle.asn1_values.specs.Words.{bits_of}
-use Rattle.field_lines.specs.Answers.{IsAnswer, IsBitsAnswer, IsOnly}
+use Rattle.field_lines.specs.Answer.{IsAnswer, IsBitsAnswer, IsOnly}
 use Rattle.field_lines.proofs.AnswerLemmas.{refused_by, goes_on, bad_input, bad_shapes, bad_octets, bad_start, on_bits}
 use Rattle.field_lines.proofs.OneLemmas.{words_in_one_code}
 use Rattle.field_lines.proofs.answer.answer_to.Goals as goal

@@ -1,7 +1,7 @@
 use Rattle.std.proofs.Common.{◌≡◌, Bool, List, ap, subst}
 use Rattle.asn1_values.specs.Plain.{plain_fields, plain_shapes}
 use Rattle.asn1_values.specs.Words.{list_of, bits_of, bits_left}
-use Rattle.field_lines.specs.Answers.{IsBitsAnswer, IsOnly, IsPrinted}
+use Rattle.field_lines.specs.Answer.{IsBitsAnswer, IsOnly, IsPrinted}
 use Rattle.field_lines.proofs.AnswerLemmas.{goes_on, fields_only}
 use Rattle.field_lines.proofs.answer.fields_of.Goals as goal
 
