@@ -43,7 +43,7 @@ fn is_flushed(fails: bool) -> bool {
 }
 
 #[test]
-fn the_answer_is_flushed(rt: HostRuntime) -> Result<(), Fail> {
+fn the_output_is_flushed(rt: HostRuntime) -> Result<(), Fail> {
     assert!(rt; is_flushed(false));
     assert!(rt; is_flushed(true));
     Ok(())
