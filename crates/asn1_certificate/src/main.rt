@@ -3,7 +3,8 @@
 
 ghost use Rattle.std.specs.Prelude.{◌≡◌, MatchResult};
 
-use certificate_lines::{RunError, run};
+use certificate_lines::run;
+use octet_streams::StreamError;
 use std::process::ExitCode;
 
 /// Runs on standard input and output.
@@ -13,7 +14,7 @@ fn main(rt: HostRuntime) -> ExitCode {
 }
 
 /// The status that the program ends with: the one that `run` answered, or 1 for an error.
-fn status_of(answered: Result<u8, RunError>) -> u8
+fn status_of(answered: Result<u8, StreamError>) -> u8
     ensures { MatchResult answered (λ status. result ≡ status) (λ _. result ≡ 1) }
 {
     match answered {

@@ -2,15 +2,14 @@
 //! of the second, from the bit that the third names on, and writes them again.
 #![tactic(auto)]
 
-mod parse;
-mod print;
 mod run;
 #[cfg(test)]
 mod tests;
 
 ghost use Rattle.std.specs.Prelude.{◌≡◌, MatchResult};
 
-use crate::run::{RunError, run};
+use crate::run::run;
+use octet_streams::StreamError;
 use std::process::ExitCode;
 
 /// Runs on standard input and output.
@@ -20,7 +19,7 @@ fn main(rt: HostRuntime) -> ExitCode {
 }
 
 /// The status that the program ends with: the one that `run` answered, or 1 for an error.
-fn status_of(answered: Result<u8, RunError>) -> u8
+fn status_of(answered: Result<u8, StreamError>) -> u8
     ensures { MatchResult answered (λ status. result ≡ status) (λ _. result ≡ 1) }
 {
     match answered {

@@ -15,5 +15,5 @@ mod times;
 
 pub use lines::lines_of;
 pub use names::push_value;
-pub use program::{RunError, run};
+pub use program::run;
 pub use refusal::{Reason, Stop};

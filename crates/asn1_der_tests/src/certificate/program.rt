@@ -1,13 +1,14 @@
 //! Rows on the program, over memory. What is expected is written by hand from `openssl asn1parse`.
 
 use crate::certificate::certificates::{EC, ED25519, RSA};
-use certificate_lines::{RunError, run};
+use certificate_lines::run;
+use octet_streams::StreamError;
 use std::alloc::Global;
 use std::process::Abort;
 use std::test::Fail;
 
 /// The status and the whole output for these octets.
-fn answer_of(alloc: Global, octets: &[u8]) -> Result<(u8, Vec<u8>), RunError> {
+fn answer_of(alloc: Global, octets: &[u8]) -> Result<(u8, Vec<u8>), StreamError> {
     let mut written = Vec::new(alloc);
     let mut input = octets;
     let status = run(alloc, &mut input, &mut written)?;
@@ -170,7 +171,7 @@ fn octets_behind_the_certificate_are_refused(rt: HostRuntime) -> Result<(), Fail
 }
 
 /// Whether the octets have lines and status 0, or one line that refuses them and status 1.
-fn has_an_answer(alloc: Global, octets: &[u8]) -> Result<bool, RunError> {
+fn has_an_answer(alloc: Global, octets: &[u8]) -> Result<bool, StreamError> {
     let (status, written) = answer_of(alloc, octets)?;
     let text = written.as_slice();
     if status == 0 {

@@ -1,4 +1,0 @@
-pub mod Input
-pub mod Output
-pub mod Program
-pub mod Run

@@ -1,0 +1,125 @@
+//! The answer to an input.
+
+ghost use Rattle.std.specs.Prelude.{◌≡◌, ◌≤◌, ℕ, ◌++◌, drop, IfOk, MatchOption, codes};
+ghost use Rattle.asn1_values.specs.Fields.{HaveOneSpelling, GiveOneSpelling};
+ghost use Rattle.asn1_values.specs.Plain.{plain_fields, plain_shapes};
+ghost use Rattle.asn1_values.specs.Words.{bits, bits_of};
+ghost use Rattle.field_lines.specs.Output.{line, error_text};
+ghost use Rattle.field_lines.specs.Answer.{IsAnswer, IsBitsAnswer, IsOnly, IsPrinted, IsStart, answer_in};
+
+use crate::parse::{Lines, number, octets, shapes};
+use crate::print::{print_fields, print_refusal};
+use asn1_values::{
+    BitBuffer, BitReader, BitStr, Field, ReadError, Shape, read_fields, write_fields,
+};
+use std::alloc::{AllocError, Global};
+
+/// The lines that answer an input, and a status.
+#[derive(Debug, PartialEq, Eq, Drop)]
+pub struct Answer {
+    /// The lines, each with its LF.
+    pub text: String,
+    /// 0 where fields were read, 1 where the input is refused.
+    pub status: u8,
+}
+
+/// Answers three lines: the shapes of fields, octets in hexadecimal, and the bit at which the first
+/// field begins. The first line that is wrong decides. An error is want of memory.
+pub fn answer_to(alloc: Global, text: &[u8]) -> Result<Answer, AllocError>
+    // It is an answer to the text, which has no other.
+    ensures answer { IfOk result (λ answer. IsOnly (IsAnswer text.now) (answer_in answer)) }
+    ensures status { IfOk result (λ answer. answer.status ≤ 1) }
+{
+    let Some(lines) = Lines::of(text) else {
+        return refusal(alloc, "bad input");
+    };
+    let Some(shapes) = shapes(alloc, lines.shapes)? else {
+        return refusal(alloc, "bad shapes");
+    };
+    let Some(octets) = octets(alloc, lines.octets)? else {
+        return refusal(alloc, "bad octets");
+    };
+    let Some(view) = view_from(octets.as_slice(), lines.start)? else {
+        return refusal(alloc, "bad start");
+    };
+    fields_of(alloc, view, shapes.as_slice())
+}
+
+/// The one line that refuses an input.
+fn refusal(alloc: Global, text: &str) -> Result<Answer, AllocError>
+    ensures { IfOk result
+        (λ answer. answer_in answer ≡ record { text = line text.now; status = 1 }) }
+{
+    Ok(Answer {
+        text: format!(in alloc; "{text}\n")?,
+        status: 1,
+    })
+}
+
+/// The bits of the octets from the first bit on that the line names; None for another line. Octets
+/// whose bits are more than `usize::MAX` are want of memory.
+fn view_from<'a>(octets: &'a [u8], line: &[u8]) -> Result<Option<BitStr<'a>>, AllocError>
+    ensures { IfOk result (λ found. MatchOption found
+        ((first : ℕ) → ¬ (IsStart line.now octets.now first))
+        (λ view. (first : ℕ) × IsStart line.now octets.now first
+        × (bits_of view ≡ drop first (bits octets.now)))) }
+{
+    let Some(len) = octets.len().checked_mul(8) else {
+        return Err(AllocError);
+    };
+    let Some(first) = number(line) else {
+        return Ok(None);
+    };
+    if first > len {
+        return Ok(None);
+    }
+    let (_, view) = BitStr::from_octets(octets).split_at(first);
+    Ok(Some(view))
+}
+
+/// The fields of the shapes, what is left, and the fields written again; or the line that names the
+/// first wrong field.
+fn fields_of(alloc: Global, view: BitStr<'_>, shapes: &[Shape<'_>]) -> Result<Answer, AllocError>
+    requires { GiveOneSpelling (plain_shapes shapes.now) }
+    ensures { IfOk result (λ answer.
+        IsOnly (IsBitsAnswer (bits_of view.entry) (plain_shapes shapes.now)) (answer_in answer)) }
+{
+    let mut reader = BitReader::new(view);
+    match read_fields(alloc, &mut reader, shapes) {
+        Ok(fields) => answer_of_fields(alloc, fields.as_slice(), reader.len()),
+        Err(ReadError::Memory) => Err(AllocError),
+        Err(error) => answer_of_refusal(alloc, error),
+    }
+}
+
+/// The answer of fields that were found.
+fn answer_of_fields(
+    alloc: Global,
+    fields: &[Field<'_, '_>],
+    left: usize,
+) -> Result<Answer, AllocError>
+    requires { HaveOneSpelling (plain_fields fields.now) }
+    ensures { IfOk result
+        (λ answer. IsOnly (IsPrinted (plain_fields fields.now) left) (answer_in answer)) }
+{
+    let mut again = BitBuffer::new(alloc);
+    // The fields that were read are no longer than their input, so only memory can be wanting.
+    let Ok(()) = write_fields(&mut again, fields) else {
+        return Err(AllocError);
+    };
+    Ok(Answer {
+        text: print_fields(alloc, fields, left, again.as_bytes())?,
+        status: 0,
+    })
+}
+
+/// The answer of an input that does not begin with fields of the shapes.
+fn answer_of_refusal(alloc: Global, error: ReadError) -> Result<Answer, AllocError>
+    ensures { IfOk result (λ answer. answer_in answer
+        ≡ record { text = line (codes "refused: " ++ error_text error); status = 1 }) }
+{
+    Ok(Answer {
+        text: print_refusal(alloc, error)?,
+        status: 1,
+    })
+}
