@@ -67,7 +67,8 @@ def below(of, name):
 
 
 def rattle(verb, crate, of, *flags):
-    """The kit's command `rattle check` or `rattle build` for a crate, over the built libraries below it."""
+    """The kit's command `rattle check` or `rattle build` for a crate, over the built libraries below it. A library for C is
+    checked as any other, which does not link what it reaches."""
     root = kit()
     words = [f"{root}/bin/rattle", verb, "--crate-name", crate.name]
     words += ["src/main.rt" if crate.is_program else "src/lib.rt"]
@@ -76,7 +77,7 @@ def rattle(verb, crate, of, *flags):
     for folder in [f"{root}/rlibs", *[os.path.dirname(of[it].rlib) for it in below(of, crate.name)]]:
         words += ["-L", f"dependency={folder}"]
     words += ["--antt-project", f"{root}/rattle/logic/antt-project.json", "--logic-built", f"{root}/logic_built"]
-    words += ["--crate-type", "staticlib"] if crate.is_static else []
+    words += ["--crate-type", "staticlib"] if crate.is_static and verb == "build" else []
     return [*words, *flags]
 
 
