@@ -16,3 +16,6 @@ returns-in-Ok-check-clause-checked g c =
 pub returns-in-Ok-check-2-clause-checked : goal.returns-in-Ok-check-2-clause-checked
 returns-in-Ok-check-2-clause-checked g c =
     let q = c.in-Ok-check-2.ensures.checked in ((None, q.0), (q.1, c.if-begins_with.ensures.no refl))
+
+pub returns-in-Err-clause-checked : goal.returns-in-Err-clause-checked
+returns-in-Err-clause-checked g c = tt

@@ -22,3 +22,6 @@ returns-in-Ok-copy-clause-read g c =
     canonical_absent (g.A.Format.reads f.part) v (bits_left c.args.presence.now) (bits_left c.args.reader.now)
     (g.A.Format.plain c.in-Ok-copy.value) more
     (c.in-Some-false.ensures.bit ∙ ap (λ (b : Bool). b ∷ bits_left c.next_bit.new.reader) c.in-Some-false.field-0-test) c.in-Ok-copy.ensures.copied
+
+pub returns-then-are_equal-clause-read : goal.returns-then-are_equal-clause-read
+returns-then-are_equal-clause-read g c = tt

@@ -27,3 +27,6 @@ returns-in-Some-false-clause-skipped g c =
       canonical_absent (λ ys l. AreCounted (g.N.Counts.counts f.part.size) (g.A.Format.reads f.part.item) ys l) v (bits_left c.args.presence.now) (bits_left c.args.reader.now) v more
           (c.in-Some-false.ensures.bit ∙ ap (λ (b : Bool). b ∷ bits_left c.next_bit.new.reader) c.in-Some-false.field-0-test) refl,
     )
+
+pub returns-in-Ok-true-clause-skipped : goal.returns-in-Ok-true-clause-skipped
+returns-in-Ok-true-clause-skipped g c = tt

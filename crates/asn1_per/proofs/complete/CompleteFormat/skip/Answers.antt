@@ -12,3 +12,6 @@ returns-in-Ok-eq0-clause-skipped g c =
           c.len-before.ensures.list c.len-2.ensures.list c.padding_of.ensures.padding (omega arith) p.1
           c.in-Ok-eq0.ensures.read,
     )
+
+pub returns-in-Ok-next_number-clause-skipped : goal.returns-in-Ok-next_number-clause-skipped
+returns-in-Ok-next_number-clause-skipped g c = tt

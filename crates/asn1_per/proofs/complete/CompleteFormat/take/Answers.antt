@@ -9,3 +9,6 @@ returns-in-Ok-eq0-clause-read g c =
     (bits_left c.next.new.reader) (g.F.Format.plain c.in-Ok.value) c.len-before.result c.len-2.result c.padding_of.result
     c.in-Ok-eq0.field-0 c.len-before.ensures.list c.len-2.ensures.list c.padding_of.ensures.padding (omega arith)
     c.in-Ok.ensures.read c.in-Ok-eq0.ensures.read
+
+pub returns-in-Ok-next_number-clause-read : goal.returns-in-Ok-next_number-clause-read
+returns-in-Ok-next_number-clause-read g c = tt
