@@ -68,7 +68,7 @@ def below(of, name):
 
 def rattle(verb, crate, of, *flags):
     """The kit's command `rattle check` or `rattle build` for a crate, over the built libraries below it. A library for C is
-    checked as any other, which does not link what it reaches."""
+    checked as an ordinary library, since only a build links what it reaches."""
     root = kit()
     words = [f"{root}/bin/rattle", verb, "--crate-name", crate.name]
     words += ["src/main.rt" if crate.is_program else "src/lib.rt"]
