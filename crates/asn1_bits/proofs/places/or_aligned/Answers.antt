@@ -1,4 +1,5 @@
-use Rattle.std.proofs.Common.{◌≡◌, ℕ, ◌+◌, ◌-◌, ◌*◌, ◌/◌, Bool, List, length, take, drop, sym, ap, ◌∙◌, arith}
+use Rattle.std.proofs.Common.{arith, ◌≡◌, ℕ, ◌+◌, ◌-◌, ◌*◌, ◌/◌, Bool, List, length, take, drop, sym, ap, ◌∙◌}
+use Rattle.std.proofs.lemmas.Grind.{common_steps}
 use Rattle.std.proofs.lemmas.List.{length-drop, take_all}
 use Rattle.asn1_bits.specs.Bits.{bits, ored}
 use Rattle.asn1_bits.specs.BitStr.{bits_of}
@@ -50,3 +51,6 @@ returns-clause-bits c =
     (omega arith) (omega (arith, length-bits c.args.src.now)) (omega arith)
     (omega (arith, length-bits c.args.src.now, length-bits c.args.target.octets.now, c.requires.room))
     ∙ ap (ored old (8 * c.args.first)) (take_all len src (omega arith))
+
+pub returns-clause-turns : goal.returns-clause-turns
+returns-clause-turns c = grind (arith, common_steps)

@@ -1,4 +1,4 @@
-use Rattle.std.proofs.Common.{◌≡◌, ℕ, ◌+◌, ◌-◌, ◌*◌, ◌/◌, Bool, List, length, take, drop, refl, sym, ap, ◌∙◌, arith}
+use Rattle.std.proofs.Common.{rules, ◌≡◌, ℕ, ◌+◌, ◌-◌, ◌*◌, ◌/◌, Bool, List, length, take, drop, refl, sym, ap, ◌∙◌, arith}
 use Rattle.std.proofs.Math.Seq.{take-add}
 use Rattle.std.proofs.lemmas.List.{length-take, length-drop, take_all}
 use Rattle.asn1_bits.specs.Bits.{ored}
@@ -88,3 +88,6 @@ returns-clause-list g c =
     ∙ ored-append old place (place + at) front back (omega (arith, length-take at src, n))
     (omega (arith, length-take (len - at) (drop at src), length-drop at src, n, c.requires.within))
     ∙ ap (ored old place) (sym (take-add at (len - at) src) ∙ take_all (at + (len - at)) src (omega (arith, n)))
+
+pub place_word-requires-clause-short : goal.place_word-requires-clause-short
+place_word-requires-clause-short g c = search rules

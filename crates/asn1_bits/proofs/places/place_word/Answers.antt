@@ -1,4 +1,4 @@
-use Rattle.std.proofs.Common.{◌≡◌, [], ◌∙◌, sym, ap, arith}
+use Rattle.std.proofs.Common.{rules, ◌≡◌, [], ◌∙◌, sym, ap, arith}
 use Rattle.std.proofs.lemmas.List.{nil_from_length}
 use Rattle.asn1_bits.specs.Bits.{ored}
 use Rattle.asn1_bits.specs.BitStr.{bits_of}
@@ -11,3 +11,6 @@ returns-else-len-gt0-clause-list g c =
     let none : bits_of c.args.src ≡ [] =
     nil_from_length (bits_of c.args.src) (omega (arith, c.if-len-gt0.false, c.len-len.ensures.list)) in
     sym (ap (ored old c.args.position) none ∙ ored-none old c.args.position)
+
+pub returns-then-len-gt0-clause-each_turn_places : goal.returns-then-len-gt0-clause-each_turn_places
+returns-then-len-gt0-clause-each_turn_places g c = search rules

@@ -1,4 +1,4 @@
-use Rattle.std.proofs.Common.{Bool, ◌∷◌, Some, ap, ◌∙◌}
+use Rattle.std.proofs.Common.{rules, Bool, ◌∷◌, Some, ap, ◌∙◌}
 use Rattle.asn1_bits.specs.BitReader.{bits_left}
 use Rattle.asn1_per.specs.AdditionLaws.{one_passed}
 use Rattle.asn1_per.proofs.addition.skip_part.Goals as goal
@@ -12,3 +12,6 @@ returns-in-Ok-clause-skipped g c =
           (c.in-Some-true.ensures.bit ∙ ap (λ (b : Bool). b ∷ bits_left c.next_bit.new.reader) c.in-Some-true.field-0-test)
           p.1,
     )
+
+pub returns-in-Some-false-clause-skipped : goal.returns-in-Some-false-clause-skipped
+returns-in-Some-false-clause-skipped g c = search rules

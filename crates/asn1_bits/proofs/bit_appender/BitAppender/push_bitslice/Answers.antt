@@ -1,4 +1,4 @@
-use Rattle.std.proofs.Common.{sym, arith}
+use Rattle.std.proofs.Common.{rules, sym, arith}
 use Rattle.asn1_bits.specs.BitStr.{bits_of}
 use Rattle.asn1_bits.proofs.RoomLemmas.{Filled, room-step}
 use Rattle.asn1_bits.proofs.bit_appender.BitAppender.push_bitslice.Goals as goal
@@ -30,3 +30,6 @@ returns-clause-room c =
     let z = c.args.self.now.zeros in
     let f = step c in
     omega (arith, f.len, z.within, c.len.ensures.len)
+
+pub returns-clause-at_least : goal.returns-clause-at_least
+returns-clause-at_least c = search rules

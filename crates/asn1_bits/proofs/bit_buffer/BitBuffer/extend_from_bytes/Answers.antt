@@ -1,4 +1,4 @@
-use Rattle.std.proofs.Common.{◌≡◌, ℕ, ◌+◌, ◌*◌, Bool, List, ◌++◌, length, sym, ap, ◌∙◌, arith}
+use Rattle.std.proofs.Common.{rules, ◌≡◌, ℕ, ◌+◌, ◌*◌, Bool, List, ◌++◌, length, sym, ap, ◌∙◌, arith}
 use Rattle.std.proofs.lemmas.Result.{err_from_is_err_and}
 use Rattle.asn1_bits.specs.Bits.{bits}
 use Rattle.asn1_bits.specs.BitBuffer.{bits_shown, IsFilled}
@@ -56,3 +56,6 @@ returns-then-self-eq0-clause-len c =
     sym (length-bits_shown c.self.inside.bytes.items c.self.inside.len c.self.invariant)
     ∙ ap (λ (l : List Bool). length l) c.self.view_is in
     ap (λ (k : ℕ). k + 8 * length c.args.src.now) n)
+
+pub returns-clause-ok : goal.returns-clause-ok
+returns-clause-ok c = search rules

@@ -1,4 +1,4 @@
-use Rattle.std.proofs.Common.{◌^◌, ◌≤◌, arith}
+use Rattle.std.proofs.Common.{rules, ◌^◌, ◌≤◌, arith}
 use Rattle.std.proofs.Math.Nat.{pow-le-pow_right}
 use Rattle.asn1_bits.proofs.bit_reader.BitReader.first_bits.Goals as goal
 
@@ -7,3 +7,6 @@ overflow_cast-result c =
     let top : 2 ^ c.args.width ≤ 2 ^ 32 =
     pow-le-pow_right {n = 2} (omega arith) {i = c.args.width} {j = 32} (omega arith) in
     omega (arith, c.first_u128-number.ensures.below, top)
+
+pub returns-clause-number : goal.returns-clause-number
+returns-clause-number c = search rules

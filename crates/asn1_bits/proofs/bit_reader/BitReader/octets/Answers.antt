@@ -1,4 +1,4 @@
-use Rattle.std.proofs.Common.{List, Bool, ◌++◌, ap, ◌∙◌}
+use Rattle.std.proofs.Common.{rules, List, Bool, ◌++◌, ap, ◌∙◌}
 use Rattle.asn1_bits.specs.BitReader.{bits_left}
 use Rattle.asn1_bits.specs.ViewLaws.{bits-none}
 use Rattle.asn1_bits.proofs.bit_reader.BitReader.octets.Goals as goal
@@ -8,3 +8,6 @@ returns-clause-bits c =
     c.in_ok-push_octets_to.ensures.ok
     ∙ ap (λ (l : List Bool). l ++ bits_left c.args.self.now)
     (bits-none c.new-octets.result.items c.new-octets.ensures.items)
+
+pub returns-in_err-push_octets_to-clause-free_aligned : goal.returns-in_err-push_octets_to-clause-free_aligned
+returns-in_err-push_octets_to-clause-free_aligned c = search rules

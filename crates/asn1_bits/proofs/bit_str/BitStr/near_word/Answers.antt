@@ -1,4 +1,4 @@
-use Rattle.std.proofs.Common.{ℕ, ap, ◌∙◌}
+use Rattle.std.proofs.Common.{rules, ℕ, ap, ◌∙◌}
 use Rattle.asn1_bits.specs.Bits.{digits}
 use Rattle.asn1_bits.specs.BitStr.{view_of, bits_of}
 use Rattle.asn1_bits.specs.View.{list_of}
@@ -19,3 +19,6 @@ returns c =
     let b = c.args.self.now in
     ap (λ (n : ℕ). digits n b.len) c.read_few.ensures
     ∙ digits_of-number (bits_of b) b.len (length-list_of (view_of b) b.within)
+
+pub returns-then-self : goal.returns-then-self
+returns-then-self c = search rules

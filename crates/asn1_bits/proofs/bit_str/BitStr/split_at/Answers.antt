@@ -1,4 +1,4 @@
-use Rattle.std.proofs.Common.{◌-◌, drop, ◌∙◌, arith}
+use Rattle.std.proofs.Common.{rules, ◌-◌, drop, ◌∙◌, arith}
 use Rattle.std.proofs.lemmas.List.{take_all, length-drop}
 use Rattle.asn1_bits.specs.BitStr.{view_of, bits_of}
 use Rattle.asn1_bits.specs.ViewLaws.{length-list_of}
@@ -11,3 +11,6 @@ returns-clause-back_list c =
     let list = bits_of b in
     c.slice-2.ensures.list
     ∙ take_all (b.len - at) (drop at list) (omega (arith, length-drop at list, length-list_of (view_of b) b.within))
+
+pub returns-clause-back : goal.returns-clause-back
+returns-clause-back c = search rules

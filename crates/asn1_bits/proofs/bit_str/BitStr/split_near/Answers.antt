@@ -1,4 +1,4 @@
-use Rattle.std.proofs.Common.{◌≡◌, ℕ, ◌+◌, ◌-◌, ◌*◌, ◌/◌, ◌%◌, drop, ap, ◌∙◌, arith}
+use Rattle.std.proofs.Common.{rules, ◌≡◌, ℕ, ◌+◌, ◌-◌, ◌*◌, ◌/◌, ◌%◌, drop, ap, ◌∙◌, arith}
 use Rattle.std.proofs.lemmas.List.{take_all, length-drop}
 use Rattle.asn1_bits.specs.BitStr.{view_of, bits_of}
 use Rattle.asn1_bits.specs.View.{list_of}
@@ -23,3 +23,6 @@ returns-clause-back_list c =
     ap (λ (n : ℕ). list_of (record { storage = b.storage.now; first = n; len = left })) first
     ∙ list_of-part (view_of b) at left (omega (arith, c.requires.within))
     ∙ take_all left (drop at list) (omega (arith, length-drop at list, length-list_of (view_of b) b.within))
+
+pub returns-clause-back : goal.returns-clause-back
+returns-clause-back c = search rules

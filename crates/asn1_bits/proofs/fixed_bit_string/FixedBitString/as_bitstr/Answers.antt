@@ -13,3 +13,6 @@ returns-clause-storage g c =
     ap (λ (v : View). bits v.storage) c.part_of.ensures.view
     ∙ zeros_behind g.row.N (bits octets) c.args.self.now.zeros
     ∙ ap (λ (n : ℕ). take g.row.N (bits octets) ++ replicate n false) rest
+
+pub returns-clause-list : goal.returns-clause-list
+returns-clause-list g c = search rules

@@ -1,4 +1,4 @@
-use Rattle.std.proofs.Common.{List, Bool, subst}
+use Rattle.std.proofs.Common.{rules, List, Bool, subst}
 use Rattle.asn1_bits.specs.BitReader.{bits_left}
 use Rattle.asn1_compose.specs.Spelling.{Starts}
 use Rattle.asn1_formats.specs.Sequences.{Behind}
@@ -19,3 +19,6 @@ returns-in-Ok-skip-clause-skipped g c =
           (g.C.Components.count f.components) list) start p.0 rest)
           c.in-Ok.ensures.rest p.1),
     )
+
+pub skip-requires : goal.skip-requires
+skip-requires g c = search rules

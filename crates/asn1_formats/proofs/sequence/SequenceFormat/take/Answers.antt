@@ -1,4 +1,4 @@
-use Rattle.std.proofs.Common.{List, Bool, subst}
+use Rattle.std.proofs.Common.{rules, List, Bool, subst}
 use Rattle.asn1_bits.specs.BitReader.{bits_left}
 use Rattle.asn1_compose.specs.Spelling.{Starts}
 use Rattle.asn1_formats.specs.Sequences.{Behind}
@@ -17,3 +17,6 @@ returns-in-Ok-take-clause-read g c =
     (λ (start : List Bool). Starts (Behind (g.C.Components.reads f.components) (g.C.Components.count f.components)
     list) start x rest)
     c.in-Ok.ensures.rest c.in-Ok-take.ensures.read)
+
+pub take-requires : goal.take-requires
+take-requires g c = search rules

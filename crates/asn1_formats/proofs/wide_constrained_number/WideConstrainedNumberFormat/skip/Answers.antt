@@ -1,4 +1,4 @@
-use Rattle.std.proofs.Common.{pos}
+use Rattle.std.proofs.Common.{rules, pos}
 use Rattle.std.specs.Prelude.{◌+ℤ◌}
 use Rattle.asn1_bits.specs.BitReader.{bits_left}
 use Rattle.asn1_formats.specs.WholeNumberLaws.{constrained_starts}
@@ -12,3 +12,6 @@ returns-in-Ok-clause-skipped c =
       constrained_starts f.least f.most f.reach f.whole (bits_left c.args.reader.now) d
           (bits_left c.next_distance.new.reader) c.in-Ok.ensures.read,
     )
+
+pub returns-in-Ok-clause-fault : goal.returns-in-Ok-clause-fault
+returns-in-Ok-clause-fault c = search rules

@@ -1,4 +1,4 @@
-use Rattle.std.proofs.Common.{Bool, ◌∷◌, ap, ◌∙◌}
+use Rattle.std.proofs.Common.{rules, Bool, ◌∷◌, ap, ◌∙◌}
 use Rattle.asn1_bits.specs.BitReader.{bits_left}
 use Rattle.asn1_per.specs.Additions.{IsRootAlone, IsExtended, ReadsAdditions}
 use Rattle.asn1_per.specs.ExtensionLaws.{root_starts, extension_starts}
@@ -25,3 +25,6 @@ returns-in-Ok-take-clause-read g c =
     (g.A.Format.plain c.in-Ok-take.root, g.D.Additions.plain c.without_additions.result) (bits_left c.take.new.reader)
     (c.in-Some-false.ensures.bit ∙ ap (λ (b : Bool). b ∷ behind) c.in-Some-false.field-0-test)
     (record { front = s.front; spelled = (c.without_additions.ensures, s.spelled); parts = s.parts })
+
+pub returns-in-Ok-take-clause-refused : goal.returns-in-Ok-take-clause-refused
+returns-in-Ok-take-clause-refused g c = search rules

@@ -1,0 +1,5 @@
+use Rattle.std.proofs.Common.{rules}
+use Rattle.asn1_formats.proofs.bit.next_bit.Goals as goal
+
+pub returns-in-Ok-clause-bit : goal.returns-in-Ok-clause-bit
+returns-in-Ok-clause-bit c = search rules

@@ -1,0 +1,5 @@
+use Rattle.std.proofs.Common.{rules}
+use Rattle.asn1_formats.proofs.character.Character.new.Goals as goal
+
+pub returns-then-repeats-clause-none : goal.returns-then-repeats-clause-none
+returns-then-repeats-clause-none c = search rules

@@ -1,0 +1,5 @@
+use Rattle.std.proofs.Common.{rules}
+use Rattle.asn1_formats.proofs.constrained_number.ConstrainedNumber.distance_of.Goals as goal
+
+pub returns-then-value-self-2-clause-misfit : goal.returns-then-value-self-2-clause-misfit
+returns-then-value-self-2-clause-misfit c = search rules
