@@ -17,3 +17,10 @@ overwrite_digits-requires c =
           (reached (Character a c.args.character) (digits k a.width) a.width (8 * length c.args.target.now)
           c.args.position (k, c.in-Ok.ensures.0, refl) (length-digits k a.width) c.requires.within);
     }
+
+pub returns : goal.returns
+returns c =
+    let a = alphabet_of c.args.alphabet.now in
+    let k = c.in-Ok.code in
+    let over = rw (c.from.ensures, c.width.ensures.value) at c.overwrite_digits.ensures in
+    (digits k a.width, (k, c.in-Ok.ensures.0, refl), over)

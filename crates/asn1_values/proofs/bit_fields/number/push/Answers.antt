@@ -46,3 +46,14 @@ returns-else-width-le21 c =
     (list_pushed (digits n w) w c.push.new.appender c.push_number.new.self c.push.new.turns.count
     c.push_number.new.turns.count (length-digits n w) pushed.lender pushed.written pushed.room pushed.at_least
     pushed.at_most))
+
+pub returns-then-width-le21 : goal.returns-then-width-le21
+returns-then-width-le21 c =
+    let n = c.args.value in
+    let w = c.args.width in
+    let fits = c.requires.some in
+    record {
+      list = digits n w;
+      spelled = (fits.1.0, fits.1.1, refl);
+      taken = c.add.ensures;
+    }

@@ -82,3 +82,6 @@ returns-in-Err-clause-named c = λ e ne is.
     ap (λ (x : ReadError). Err x)
     (one_read_refusal (bits_left c.args.reader.now) (plain_shapes c.args.shapes.now) c.refusal_of.result e ne
     c.refusal_of.ensures is)
+
+pub returns-in-Err-clause-unchanged : goal.returns-in-Err-clause-unchanged
+returns-in-Err-clause-unchanged c = refl

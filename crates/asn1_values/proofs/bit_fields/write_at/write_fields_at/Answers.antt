@@ -1,4 +1,4 @@
-use Rattle.std.proofs.Common.{◌≡◌, ◌+◌, ◌*◌, length, Err, ap, sym, ◌∙◌, arith, inl, inr}
+use Rattle.std.proofs.Common.{◌≡◌, ◌+◌, ◌*◌, length, Err, ap, refl, sym, ◌∙◌, arith, inl, inr}
 use Rattle.std.proofs.lemmas.Result.{err_from_is_err_and}
 use Rattle.asn1_bits.specs.Bits.{bits, overwritten}
 use Rattle.asn1_values.specs.Plain.{plain_fields}
@@ -7,6 +7,7 @@ use Rattle.asn1_values.proofs.OneRefusal.{one_write_at_refusal, only_past}
 use Rattle.asn1_values.specs.SpellingLaws.{all_one}
 use Rattle.asn1_values.proofs.SpellingLemmas.{names_none}
 use Rattle.asn1_values.proofs.bit_fields.write_at.write_fields_at.Goals as goal
+use Rattle.asn1_values.proofs.bit_fields.write_at.write_fields_at.Goals.{then-end-via-then-end, then-end-via-else-end+then-end-octets}
 
 pub returns-in_err-end-clause-too_long : goal.returns-in_err-end-clause-too_long
 returns-in_err-end-clause-too_long c =
@@ -49,3 +50,44 @@ returns-clause-named c = λ e is.
     let end : c.args.position + length past.0 ≡ ends.end = ends.each past.0 past.1 in
     let capped = ends.capped in
     elim past.2 [ inl lt ↦ absurd (omega arith) | inr le ↦ absurd (omega arith) ]
+
+pub returns-clause-written : goal.returns-clause-written
+returns-clause-written c =
+    let p = c.overwrite_all.ensures in
+    (p.0, p.1, p.2.written, p.2.end)
+
+pub overwrite_all-requires : goal.overwrite_all-requires
+overwrite_all-requires c =
+    let ends = c.in_ok-end.ensures.ok in
+    let capped = ends.capped in
+    record {
+      list = ends.list;
+      spelled = ends.joined;
+      within = λ others s. (omega (arith, ends.each others s), omega (arith, ends.each others s));
+    }
+
+pub returns-then-end-clause-accepted : goal.returns-then-end-clause-accepted
+returns-then-end-clause-accepted c = λ list s le lt.
+    let ends = c.in_ok-end.ensures.ok in
+    let capped = ends.capped in
+    let end = ends.each list s in
+    elim c.then-end.branch [
+      | then-end-via-then-end w ↦ absurd (omega (arith, w.if-end.true))
+      | then-end-via-else-end+then-end-octets w ↦ absurd (omega (arith, w.if-end-octets.true))
+    ]
+
+pub returns-then-end-clause-refused : goal.returns-then-end-clause-refused
+returns-then-end-clause-refused c =
+    let ends = c.in_ok-end.ensures.ok in
+    let capped = ends.capped in
+    let end = ends.each ends.list ends.joined in (
+      ends.list,
+      ends.joined,
+      elim c.then-end.branch [
+        | then-end-via-then-end w ↦ inr (omega (arith, w.if-end.true))
+        | then-end-via-else-end+then-end-octets w ↦ inl (omega (arith, w.if-end-octets.true))
+      ],
+    )
+
+pub returns-then-end-clause-unchanged : goal.returns-then-end-clause-unchanged
+returns-then-end-clause-unchanged c = refl
