@@ -10,3 +10,11 @@ returns-else-bits-gt0-clause-only g c = λ y p.
     let list = bits c.args.octets.now in
     (c.in-Ok.ensures.only y []
     (subst (λ (l : List Bool). Starts P l y []) (sym c.from_octets-reader.ensures.list) (starts_all P list y p))).0
+
+pub returns-in-Err-Wrong-clause-refused : goal.returns-in-Err-Wrong-clause-refused
+returns-in-Err-Wrong-clause-refused g c =
+    rw c.in-Err-Wrong.wrong-is
+    (rw c.from_octets-reader.ensures.list at (rw c.in-Err-Wrong.field-0-is at c.in-Err-Wrong.ensures.refused))
+
+pub returns-then-bits-gt0-clause-only : goal.returns-then-bits-gt0-clause-only
+returns-then-bits-gt0-clause-only g c = λ y p. tt

@@ -51,3 +51,10 @@ loop-number-preserved c =
           n c.in-Ok-next_number.octet c.loop-number.invariant.0 some (omega arith) c.in-Ok-next_number.ensures.read,
       omega arith,
     )
+
+pub returns-in-Err-next_number-clause-fault : goal.returns-in-Err-next_number-clause-fault
+returns-in-Err-next_number-clause-fault c =
+    (c.loop-number.number, bits_left c.loop-number.reader, c.loop-number.invariant.0, omega arith, c.in-Err-next_number.ensures.short)
+
+pub returns-clause-fault : goal.returns-clause-fault
+returns-clause-fault c = (c.loop-number.number, bits_left c.loop-number.reader, c.loop-number.invariant.0, omega arith)

@@ -48,3 +48,34 @@ returns-in-First-right-2 g c =
           (λ e. other_tag A P (g.met.A.Element.are_tagged f.first) x u t b a p k h q.1 (sym e))
           c.compare_tags-in-First-right-2.ensures.order;
     }
+
+pub returns-in-First-right : goal.returns-in-First-right
+returns-in-First-right g c =
+    let f = c.args.self.now in
+    let A = g.A.Element.accepts f.first in
+    let P = g.A.Element.spells f.first in
+    let Q = g.B.Element.spells f.others in
+    let plain = plain_choice g.A.Element.plain g.B.Element.plain in
+    let v = plain c.args.left.now in
+    let w = plain c.args.right.now in
+    record {
+      order = λ a b s t.
+          c.compare.ensures.order a b (spelled_first A P Q v (g.A.Element.plain c.in-First.one) a (ap plain c.in-First.is) s)
+          (spelled_first A P Q w (g.A.Element.plain c.in-First-right.two) b (ap plain c.in-First-right.is) t);
+    }
+
+pub returns-in-Other-right-2 : goal.returns-in-Other-right-2
+returns-in-Other-right-2 g c =
+    let f = c.args.self.now in
+    let A = g.A.Element.accepts f.first in
+    let P = g.A.Element.spells f.first in
+    let Q = g.B.Element.spells f.others in
+    let plain = plain_choice g.A.Element.plain g.B.Element.plain in
+    let v = plain c.args.left.now in
+    let w = plain c.args.right.now in
+    record {
+      order = λ a b s t.
+          c.compare-in-Other-right-2.ensures.order a b
+          (spelled_other A P Q v (g.B.Element.plain c.in-Other.one) a (ap plain c.in-Other.is) s).0
+          (spelled_other A P Q w (g.B.Element.plain c.in-Other-right-2.two) b (ap plain c.in-Other-right-2.is) t).0;
+    }

@@ -1,6 +1,6 @@
 use Rattle.std.proofs.Common.{ap}
 use Rattle.asn1_compose.specs.Combined.{plain_option}
-use Rattle.asn1_der.specs.OptionalLaws.{optional_there}
+use Rattle.asn1_der.specs.OptionalLaws.{optional_there, optional_missing}
 use Rattle.asn1_der.specs.SetTagLaws.{component_more, component_parts}
 use Rattle.asn1_der.proofs.set_elements.OptionalSetElements.do_tags_ascend.Goals as goal
 
@@ -49,3 +49,21 @@ returns-else-not-is_behind-clause-no g c =
     (component_parts P Q (g.met.F.SetElement.are_one f.first)
     (g.F.Element.plain c.in-Some.first) (g.R.Elements.plain c.args.value.now.1) c.tag_of-tag.result c.tag_of-tag.ensures
     c.args.before list (there list s) o).1
+
+pub returns-in-None-clause-yes : goal.returns-in-None-clause-yes
+returns-in-None-clause-yes g c =
+    let f = c.args.self.now in
+    let missing =
+    optional_missing (g.F.Element.accepts f.first) (g.F.Element.spells f.first) (g.R.Elements.spells f.rest)
+    (g.met.F.Element.are_tagged f.first) (plain_option g.F.Element.plain c.args.value.now.0)
+    (g.R.Elements.plain c.args.value.now.1) (ap (plain_option g.F.Element.plain) c.in-None.is) in
+    λ t list s. c.do_tags_ascend-in-None.ensures.yes t list (missing list s).0
+
+pub returns-in-None-clause-no : goal.returns-in-None-clause-no
+returns-in-None-clause-no g c =
+    let f = c.args.self.now in
+    let missing =
+    optional_missing (g.F.Element.accepts f.first) (g.F.Element.spells f.first) (g.R.Elements.spells f.rest)
+    (g.met.F.Element.are_tagged f.first) (plain_option g.F.Element.plain c.args.value.now.0)
+    (g.R.Elements.plain c.args.value.now.1) (ap (plain_option g.F.Element.plain) c.in-None.is) in
+    λ t list s o. c.do_tags_ascend-in-None.ensures.no t list (missing list s).0 o
