@@ -1,3 +1,4 @@
+use Rattle.std.proofs.Common.{rules}
 use Rattle.asn1_bits.specs.BitReader.{bits_left}
 use Rattle.asn1_der.specs.TaggedLaws.{not_accepted, no_tag}
 use Rattle.asn1_der.proofs.front.begins_with.Goals as goal
@@ -10,3 +11,6 @@ returns-in-Ok-clause-no g c = λ f.
 pub returns-in-Err-clause-no : goal.returns-in-Err-clause-no
 returns-in-Err-clause-no g c = λ f.
     no_tag (g.F.Element.accepts c.args.format.now) (bits_left c.args.contents.now) c.in-Err.field-0 c.in-Err.ensures.fault
+
+pub returns-in-Ok-clause-yes : goal.returns-in-Ok-clause-yes
+returns-in-Ok-clause-yes g c = search rules

@@ -1,3 +1,4 @@
+use Rattle.std.proofs.Common.{rules}
 use Rattle.asn1_der.specs.ItemLaws.{measured_step, misfit_at}
 use Rattle.asn1_der.proofs.items.measure_items.Goals as goal
 
@@ -13,3 +14,6 @@ loop-index-preserved g c =
     measured_step (g.F.Element.spells c.args.item.now) (g.F.Element.is_misfit c.args.item.now) g.F.Element.plain
     c.args.values.now c.loop-index.index c.index-values-index.result c.loop-index-test.true c.index-values-index.is
     c.loop-index.total c.in-Ok.len c.sum_of-total.result c.loop-index.invariant c.in-Ok.ensures.measured c.sum_of-total.ensures
+
+pub loop-index-init : goal.loop-index-init
+loop-index-init g c = search rules

@@ -25,3 +25,6 @@ loop-octet-preserved c =
     more_value c.args.octets.now c.loop-octet.octet-index _ c.from.result _
     (octets_from_places c.args.octets.now (λ i. omega (arith, c.type_inv.octets i))) l c.requires.few
     c.loop-octet.invariant c.from.ensures e
+
+pub overflow_add-value : goal.overflow_add-value
+overflow_add-value c = search rules

@@ -52,3 +52,6 @@ returns c =
     ap (λ (z : ℤ). to_z w128 (of_z w128 (z +ℤ to_z w128 (of_z w128 b)))) product
     ∙ ap (λ (z : ℤ). to_z w128 (of_z w128 (a *ℤ k +ℤ z))) (to_z-of_z g)
     ∙ to_z-of_z t ∙ total
+
+pub overflow_add-result : goal.overflow_add-result
+overflow_add-result c = search rules

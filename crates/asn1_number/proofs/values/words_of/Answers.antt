@@ -41,3 +41,6 @@ returns-in-Err-clause-octets c =
     ap (drop c.spare_of_eight-spare.result) (two_words c.cast_unsigned-bits.result)
     ∙ end_of_word 16 c.spare_of_eight-spare.result c.cast_unsigned-bits.result c.args.number count
     (bits ∙ residue_128 c.args.number)
+
+pub returns-in-Ok-clause-count : goal.returns-in-Ok-clause-count
+returns-in-Ok-clause-count c = search rules

@@ -1,4 +1,4 @@
-use Rattle.std.proofs.Common.{◌≡◌, ◌*◌, ◌/◌, length, arith}
+use Rattle.std.proofs.Common.{rules, ◌≡◌, ◌*◌, ◌/◌, length, arith}
 use Rattle.asn1_bits.specs.BitReader.{bits_left}
 use Rattle.asn1_compose.specs.OctetStringLaws.{of_bits}
 use Rattle.asn1_der.specs.AnyLaws.{any_starts}
@@ -15,3 +15,6 @@ returns-in-Ok-clause-skipped c =
       any_starts (bits_left c.args.reader.now) (bits_left c.next_element.new.reader) list c.in-Ok.element.tag o.0
           c.in-Ok.ensures.read o.2,
     )
+
+pub returns-in-Err-clause-skipped : goal.returns-in-Err-clause-skipped
+returns-in-Err-clause-skipped c = search rules

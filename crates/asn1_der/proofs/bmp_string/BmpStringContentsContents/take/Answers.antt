@@ -1,4 +1,4 @@
-use Rattle.std.proofs.Common.{◌≡◌, ◌/◌, ℕ, true, arith}
+use Rattle.std.proofs.Common.{rules, ◌≡◌, ◌/◌, ℕ, true, arith}
 use Rattle.std.proofs.lemmas.List.Elements.{All-map}
 use Rattle.asn1_bits.specs.BitReader.{view_left, bits_left}
 use Rattle.asn1_characters.specs.Sets.{base_set, has_character}
@@ -14,3 +14,6 @@ from_units-requires c =
     let e = c.in_default.ensures in
     All-map (λ (k : ℕ). has_character (base_set Bmp) k ≡ true) (λ (x : ℕ). x) units
     (of_bmp list units n c.in-Ok.ensures.below c.in-Ok.ensures.characters (omega (arith, e.size, e.whole)) e.of_set)
+
+pub returns-in-Err-clause-refused : goal.returns-in-Err-clause-refused
+returns-in-Err-clause-refused c = search rules

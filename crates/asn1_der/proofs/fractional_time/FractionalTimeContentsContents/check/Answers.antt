@@ -1,4 +1,4 @@
-use Rattle.std.proofs.Common.{◌/◌}
+use Rattle.std.proofs.Common.{rules, ◌/◌}
 use Rattle.asn1_bits.specs.BitStr.{view_of, bits_of}
 use Rattle.asn1_der.specs.Times.{fraction_in}
 use Rattle.asn1_der.specs.ViewOctets.{octets_in, octets_in_below}
@@ -27,3 +27,6 @@ returns-in-Err-clause-fault c =
       are = (octets_in_below n (bits_of b), c.source_of-source.ensures);
       wrong = c.in-Err.ensures.fault;
     }
+
+pub returns-in-Err-clause-checked : goal.returns-in-Err-clause-checked
+returns-in-Err-clause-checked c = search rules

@@ -1,4 +1,4 @@
-use Rattle.std.proofs.Common.{Err, ap, ◌/◌}
+use Rattle.std.proofs.Common.{rules, Err, ap, ◌/◌}
 use Rattle.asn1_bits.specs.BitStr.{view_of, bits_of}
 use Rattle.asn1_bits.specs.BitReader.{bits_left}
 use Rattle.asn1_oid.specs.declared.contents.ContentsError.{ContentsError}
@@ -13,3 +13,6 @@ returns-in-Err-Malformed-clause-fault c =
     malformed (bits_left c.args.contents) (octets_in n (bits_of b)) (octets_in_below n (bits_of b))
     c.source_of-source.ensures
     (c.in-Err-Malformed.ensures.malformed.0 (ap (λ (e : ContentsError). Err e) c.in-Err-Malformed.field-0-is))
+
+pub returns-in-Err-ArcTooLarge-clause-fault : goal.returns-in-Err-ArcTooLarge-clause-fault
+returns-in-Err-ArcTooLarge-clause-fault c = search rules

@@ -1,3 +1,4 @@
+use Rattle.std.proofs.Common.{rules}
 use Rattle.asn1_bits.specs.BitReader.{bits_left}
 use Rattle.asn1_der.proofs.tlv.TlvFormat.skip.Goals as goal
 
@@ -16,3 +17,6 @@ returns-in-Ok-check-clause-skipped g c =
 pub returns-in-Err-clause-fault : goal.returns-in-Err-clause-fault
 returns-in-Err-clause-fault g c =
     (bits_left c.in-Ok.contents, bits_left c.next_tagged.new.reader, c.in-Ok.ensures.read, c.in-Err.ensures.fault)
+
+pub check-requires : goal.check-requires
+check-requires g c = search rules

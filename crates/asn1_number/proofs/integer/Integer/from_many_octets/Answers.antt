@@ -1,4 +1,4 @@
-use Rattle.std.proofs.Common.{arith, ◌≡◌, refl}
+use Rattle.std.proofs.Common.{rules, arith, ◌≡◌, refl}
 use Rattle.asn1_number.specs.Octets.{signed}
 use Rattle.asn1_number.specs.OctetLaws.{nine_bits_from_shortest}
 use Rattle.asn1_number.specs.ReadingLaws.{past_sixteen}
@@ -11,3 +11,6 @@ returns-in_default-clause-memory c =
       refl,
       λ r. past_sixteen c.shortest_part-kept.result.now s.octets (nine_bits_from_shortest _ _ s) (omega arith) (rw e r),
     )
+
+pub invariant_of-result : goal.invariant_of-result
+invariant_of-result c = search rules

@@ -1,4 +1,4 @@
-use Rattle.std.proofs.Common.{sym, ap, subst, ◌∙◌}
+use Rattle.std.proofs.Common.{rules, sym, ap, subst, ◌∙◌}
 use Rattle.asn1_number.specs.Octets.{IsShortest}
 use Rattle.asn1_number.specs.Order.{octets_cmp}
 use Rattle.asn1_number.specs.Forms.{number_in, IsOneForm}
@@ -19,3 +19,6 @@ returns-in-Shortest-Shortest c =
     ∙ (ap (λ o. octets_cmp o c.as_slice-in-Shortest-Shortest.result.now) c.as_slice.ensures.value
     ∙ (ap (octets_cmp c.in-Shortest-Shortest.octets.items) c.as_slice-in-Shortest-Shortest.ensures.value
     ∙ shortest_order c.args.self.now c.args.other.now _ _ a b))
+
+pub returns-in-Inline-Inline : goal.returns-in-Inline-Inline
+returns-in-Inline-Inline c = search rules

@@ -1,6 +1,6 @@
 use Rattle.std.proofs.Common.{arith, ◌≡◌, ◌+◌, pos, length, drop, sym, ap, subst, ◌∙◌}
-use Rattle.std.proofs.lemmas.List.{drop-drop}
 use Rattle.std.proofs.lemmas.Grind.{common_steps}
+use Rattle.std.proofs.lemmas.List.{drop-drop}
 use Rattle.std.specs.List.{flat_map}
 use Rattle.asn1_number.specs.Octets.{IsShortest, IsShortestUnsigned}
 use Rattle.asn1_number.specs.Storage.{octets_in, IsEndOfKept}
@@ -45,3 +45,6 @@ returns-in-Borrowed c = λ n s.
     grind (arith, common_steps) in
     subst (IsShortestUnsigned n) (sym e)
     (c.zeros_for_sign-skipped.ensures.shortest n (subst (IsShortest (pos n)) (sym c.as_ref.ensures) s))
+
+pub invariant_of-t-12 : goal.invariant_of-t-12
+invariant_of-t-12 c = grind (arith, common_steps)
