@@ -1,4 +1,4 @@
-use Rattle.std.proofs.Common.{◌≡◌, ◌<◌, ℕ, Bool, true, false, refl, arith}
+use Rattle.std.proofs.Common.{rules, ◌≡◌, ◌<◌, ℕ, Bool, true, false, refl, arith}
 use Rattle.std.specs.Prelude.{◌≢◌}
 use Rattle.std.proofs.lemmas.Bool.Decides.{nat_tests}
 use Rattle.asn1_characters.specs.Sets.{base_set, has_character}
@@ -22,3 +22,6 @@ returns-in-Bmp c = rw (c.in-Bmp.is, has_in_base Bmp c.args.character) (grind (ar
 pub returns-else-character-le255 : goal.returns-else-character-le255
 returns-else-character-le255 c =
     rw (past_octets c.args.name c.args.character c.in_default.not-Bmp (omega arith)) (grind (arith, nat_tests))
+
+pub returns-then-character-le255 : goal.returns-then-character-le255
+returns-then-character-le255 c = search rules

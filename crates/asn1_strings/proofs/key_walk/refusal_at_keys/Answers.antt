@@ -1,4 +1,4 @@
-use Rattle.std.proofs.Common.{◌≡◌, ℕ, Option, map, get_or, Some, None, sym, ◌∙◌, arith}
+use Rattle.std.proofs.Common.{rules, ◌≡◌, ℕ, Option, map, get_or, Some, None, sym, ◌∙◌, arith}
 use Rattle.asn1_bits.specs.BitStr.{bits_of}
 use Rattle.asn1_bits.specs.Bits.{number}
 use Rattle.asn1_strings.specs.Pieces.{pieces}
@@ -29,3 +29,6 @@ returns g c =
     let keys = map number (pieces c.args.keys.width (bits_of c.args.keys.bits)) in
     keyed_wanting g.S.HasCharacterSet.CHARACTER_SET_NAME (g.M.Keys.key_map c.args.map.now).get keys c.requires
     (λ k h. c.loop-i.invariant k (omega arith))
+
+pub loop-i-preserved : goal.loop-i-preserved
+loop-i-preserved g c = search rules

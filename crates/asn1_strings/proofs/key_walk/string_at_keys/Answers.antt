@@ -1,4 +1,4 @@
-use Rattle.std.proofs.Common.{ℕ, Option, map, ◌∙◌}
+use Rattle.std.proofs.Common.{rules, ℕ, Option, map, ◌∙◌}
 use Rattle.std.proofs.lemmas.List.{length-map}
 use Rattle.asn1_bits.specs.BitStr.{bits_of}
 use Rattle.asn1_bits.specs.Bits.{number}
@@ -22,3 +22,6 @@ returns-in-Some g c =
     rw c.from_units.ensures
     (keyed_read g.S.HasCharacterSet.CHARACTER_SET_NAME get numbers (map value c.in-Some.units.items)
     (length-map c.in-Some.units.items value ∙ c.in-Some.ensures.some.0) c.in-Some.ensures.some.1)
+
+pub returns-in-None : goal.returns-in-None
+returns-in-None g c = search rules

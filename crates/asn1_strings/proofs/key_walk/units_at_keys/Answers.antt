@@ -1,4 +1,4 @@
-use Rattle.std.proofs.Common.{◌≡◌, ◌+◌, ◌*◌, ◌/◌, ◌%◌, length, map, ◌∙◌, arith}
+use Rattle.std.proofs.Common.{rules, ◌≡◌, ◌+◌, ◌*◌, ◌/◌, ◌%◌, length, map, ◌∙◌, arith}
 use Rattle.std.specs.Prelude.{vec_len}
 use Rattle.std.proofs.lemmas.Nat.{div-add-mod'}
 use Rattle.asn1_bits.specs.BitStr.{bits_of}
@@ -60,3 +60,9 @@ returns-then-right-clause-some g c =
       omega (arith, long, c.push_next-right-2.ensures.len, c.push_next-right-2.new.units.ok.0),
       λ k h. read k (omega (arith, h, long)),
     )
+
+pub returns-in_default-clause-none : goal.returns-in_default-clause-none
+returns-in_default-clause-none g c = search rules
+
+pub loop-init : goal.loop-init
+loop-init g c = search rules

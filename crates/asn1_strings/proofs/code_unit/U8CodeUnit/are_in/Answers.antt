@@ -1,4 +1,5 @@
-use Rattle.std.proofs.Common.{refl, ap, ◌∙◌, arith}
+use Rattle.std.proofs.Common.{arith, refl, ap, ◌∙◌}
+use Rattle.std.proofs.lemmas.Grind.{common_steps}
 use Rattle.std.specs.List.{list_all}
 use Rattle.std.proofs.lemmas.List.{take_all}
 use Rattle.asn1_characters.specs.Sets.{base_set, has_character}
@@ -23,3 +24,6 @@ pub returns-in-Visible : goal.returns-in-Visible
 returns-in-Visible c =
     let octets = c.args.octets.now in
     rw (c.in-Visible.is, ones octets) (both c.lie_between-in-Visible.ensures (between_in Visible 32 126 octets refl))
+
+pub loop-octet-preserved : goal.loop-octet-preserved
+loop-octet-preserved c = grind (arith, common_steps)

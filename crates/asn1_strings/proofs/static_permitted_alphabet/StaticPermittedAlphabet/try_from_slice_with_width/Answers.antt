@@ -1,4 +1,4 @@
-use Rattle.std.proofs.Common.{◌≡◌, ◌∙◌}
+use Rattle.std.proofs.Common.{rules, ◌≡◌, ◌∙◌}
 use Rattle.asn1_strings.proofs.OctetLemmas.{string_of_whole}
 use Rattle.asn1_strings.proofs.static_permitted_alphabet.StaticPermittedAlphabet.try_from_slice_with_width.Goals as goal
 
@@ -14,3 +14,6 @@ returns-then-are_in g c =
           c.if-width-eq0.false c.if-input-width-ne0.false right,
       width,
     ) c.copied_octets.ensures
+
+pub returns : goal.returns
+returns g c = search rules

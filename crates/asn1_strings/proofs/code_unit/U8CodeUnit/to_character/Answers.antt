@@ -1,0 +1,5 @@
+use Rattle.std.proofs.Common.{rules}
+use Rattle.asn1_strings.proofs.code_unit.U8CodeUnit.to_character.Goals as goal
+
+pub returns : goal.returns
+returns c = search rules
