@@ -1,4 +1,4 @@
-use Rattle.std.proofs.Common.{arith}
+use Rattle.std.proofs.Common.{rules, arith}
 use Rattle.std.proofs.lemmas.Bool.Decides.{nat_tests}
 use Rattle.asn1_alphabets.proofs.RunLemmas.{run_from_places, run_entry, told_true}
 use Rattle.asn1_alphabets.proofs.permitted_set.is_run.Goals as goal
@@ -11,3 +11,9 @@ returns c = (
       let gap = c.loop-character.invariant.gap none in
       gap.2 (run_entry c.args.set.now gap.0 run (let lt = gap.1 in omega arith))),
 )
+
+pub loop-character-preserved : goal.loop-character-preserved
+loop-character-preserved c = search rules
+
+pub returns-then-first-set : goal.returns-then-first-set
+returns-then-first-set c = search rules

@@ -1,4 +1,4 @@
-use Rattle.std.proofs.Common.{◌≡◌, [], sym, ap, ◌∙◌, arith}
+use Rattle.std.proofs.Common.{rules, ◌≡◌, [], sym, ap, ◌∙◌, arith}
 use Rattle.std.proofs.lemmas.List.{nil_from_length}
 use Rattle.asn1_bits.specs.Bits.{bits, ored}
 use Rattle.asn1_bits.specs.BitStr.{bits_of}
@@ -11,3 +11,9 @@ returns-then-len-eq0-clause-bits c =
     let none : bits_of c.args.src.now ≡ [] =
     nil_from_length (bits_of c.args.src.now) (omega (arith, c.if-len-eq0.true, c.len.ensures.list)) in
     sym (ap (ored old c.args.position) none ∙ ored-none old c.args.position)
+
+pub returns-clause-bits : goal.returns-clause-bits
+returns-clause-bits c = search rules
+
+pub returns-clause-turns : goal.returns-clause-turns
+returns-clause-turns c = search rules

@@ -14,3 +14,6 @@ returns-else-len-gt0-clause-list g c =
 
 pub returns-then-len-gt0-clause-each_turn_places : goal.returns-then-len-gt0-clause-each_turn_places
 returns-then-len-gt0-clause-each_turn_places g c = search rules
+
+pub returns-then-len-gt0-clause-turns : goal.returns-then-len-gt0-clause-turns
+returns-then-len-gt0-clause-turns g c = search rules

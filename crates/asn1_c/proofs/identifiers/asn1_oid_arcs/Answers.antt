@@ -1,4 +1,4 @@
-use Rattle.std.proofs.Common.{◌∙◌, length, refl, ap, arith}
+use Rattle.std.proofs.Common.{rules, ◌∙◌, length, refl, ap, arith}
 use Rattle.std.proofs.lemmas.List.{length-take}
 use Rattle.asn1_oid.specs.ReadingLaws.{contents_read, arcs_from_reading, one_list_of_arcs}
 use Rattle.asn1_oid.specs.WritingLaws.{contents_octets}
@@ -41,3 +41,6 @@ returns-in-Some-clause-most c = λ either.
       c.in-Some.ensures.within,
       c.count_arcs-needed.ensures.most,
     )
+
+pub returns-then-needed-room-clause-room : goal.returns-then-needed-room-clause-room
+returns-then-needed-room-clause-room c = search rules

@@ -1,4 +1,4 @@
-use Rattle.std.proofs.Common.{◌∙◌, ap, ℕ, ◌+◌}
+use Rattle.std.proofs.Common.{rules, ◌∙◌, ap, ℕ, ◌+◌}
 use Rattle.asn1_c.proofs.WritingLemmas.{as_many, all_length, none_named, not_past}
 use Rattle.asn1_c.proofs.writing.asn1_write_fields.Goals as goal
 
@@ -33,3 +33,6 @@ returns-in-Err-clause-room c = λ here. (
   λ x. absurd (none_named c.args.source.now c.args.alphabets.now c.args.shapes.now c.args.fields.now c.in-Err.found x.0
       c.in-Err.ensures.refused x.1),
 )
+
+pub returns-else-after-target-clause-written : goal.returns-else-after-target-clause-written
+returns-else-after-target-clause-written c = search rules

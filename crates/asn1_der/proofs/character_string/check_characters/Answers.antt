@@ -1,4 +1,4 @@
-use Rattle.std.proofs.Common.{◌/◌, refl, arith}
+use Rattle.std.proofs.Common.{rules, ◌/◌, refl, arith}
 use Rattle.asn1_bits.specs.BitStr.{view_of, bits_of}
 use Rattle.asn1_der.specs.ViewOctets.{octets_in, octets_in_below}
 use Rattle.asn1_der.specs.StringLaws.{of_set}
@@ -21,3 +21,9 @@ returns-clause-ok c =
         );
       },
     )
+
+pub returns-then-not-has_octet-clause-fault : goal.returns-then-not-has_octet-clause-fault
+returns-then-not-has_octet-clause-fault c = search rules
+
+pub loop-index-preserved : goal.loop-index-preserved
+loop-index-preserved c = search rules

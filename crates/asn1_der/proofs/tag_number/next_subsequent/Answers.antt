@@ -1,4 +1,4 @@
-use Rattle.std.proofs.Common.{◌^◌, ◌<◌, arith}
+use Rattle.std.proofs.Common.{rules, ◌^◌, ◌<◌, arith}
 use Rattle.asn1_bits.specs.BitReader.{bits_left}
 use Rattle.asn1_der.specs.TagNumberSteps.{none_begun, ends_at_once, begins, goes_on, ends, octet_taken}
 use Rattle.asn1_der.proofs.tag_number.next_subsequent.Goals as goal
@@ -58,3 +58,6 @@ returns-in-Err-next_number-clause-fault c =
 
 pub returns-clause-fault : goal.returns-clause-fault
 returns-clause-fault c = (c.loop-number.number, bits_left c.loop-number.reader, c.loop-number.invariant.0, omega arith)
+
+pub returns-then-first-lt128-clause-high : goal.returns-then-first-lt128-clause-high
+returns-then-first-lt128-clause-high c = search rules

@@ -1,4 +1,4 @@
-use Rattle.std.proofs.Common.{◌≡◌, ◌-◌, ◌^◌, ℕ, ℤ, pos, negsuc, ◌-ℤ◌, arith, ◌∙◌, to_z-of_z}
+use Rattle.std.proofs.Common.{rules, ◌≡◌, ◌-◌, ◌^◌, ℕ, ℤ, pos, negsuc, ◌-ℤ◌, arith, ◌∙◌, to_z-of_z}
 use Rattle.std.specs.Int.{w128}
 use mir.Val.{SFits, of_z, to_z}
 use Rattle.std.proofs.lemmas.Int.{to_z_pos, ints}
@@ -37,3 +37,6 @@ returns-else-word-half-clause-high c = λ le.
       to_z_pos w128 k
           (omega (arith, fits)),
     ) (kept ∙ is)
+
+pub overflow_sub-result-else-word-half-3 : goal.overflow_sub-result-else-word-half-3
+overflow_sub-result-else-word-half-3 c = search rules

@@ -7,11 +7,17 @@ use Rattle.asn1_number.specs.Shortest.{shortest_octets}
 use Rattle.asn1_number.proofs.SpellingLemmas.{two_words, end_of_word, length_past_word, residue_64, residue_128}
 use Rattle.asn1_number.proofs.values.words_of.Goals as goal
 
+pub returns-in-Ok-clause-count : goal.returns-in-Ok-clause-count
+returns-in-Ok-clause-count c =
+    let fits : SFits w64 c.in-Ok.short = search rules in
+    let same = to_z-of_z fits ∙ (c.in-Ok.ensures.1 ∙ to_z-of_z c.ranges.number) in
+    omega (arith, c.spare_of_eight.ensures, ap (λ n. length (shortest_octets n)) same)
+
 pub returns-in-Ok-clause-octets : goal.returns-in-Ok-clause-octets
 returns-in-Ok-clause-octets c =
-    let same : c.in-Ok.short ≡ c.args.number = search rules in
     let bits : c.cast_unsigned.result ≡ of_z w64 c.args.number = search rules in
-    let count : c.spare_of_eight.result + length (shortest_octets c.args.number) ≡ 8 = search rules in
+    let whole = returns-in-Ok-clause-count c in
+    let count : c.spare_of_eight.result + length (shortest_octets c.args.number) ≡ 8 = omega arith in
     drop-append-add (to_be_bytes w64 0) (to_be_bytes w64 c.cast_unsigned.result) c.spare_of_eight.result
     ∙ end_of_word 8 c.spare_of_eight.result c.cast_unsigned.result c.args.number count (bits ∙ residue_64 c.args.number)
 
@@ -41,6 +47,3 @@ returns-in-Err-clause-octets c =
     ap (drop c.spare_of_eight-spare.result) (two_words c.cast_unsigned-bits.result)
     ∙ end_of_word 16 c.spare_of_eight-spare.result c.cast_unsigned-bits.result c.args.number count
     (bits ∙ residue_128 c.args.number)
-
-pub returns-in-Ok-clause-count : goal.returns-in-Ok-clause-count
-returns-in-Ok-clause-count c = search rules

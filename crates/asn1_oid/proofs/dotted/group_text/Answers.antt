@@ -1,4 +1,5 @@
 use Rattle.std.proofs.Common.{arith, ◌≡◌, ◌+◌, ◌-◌, length, drop, take, sym, ap, subst, ◌∙◌}
+use Rattle.std.proofs.lemmas.Grind.{common_steps}
 use Rattle.std.proofs.Math.Seq.{take_all}
 use Rattle.std.proofs.lemmas.List.{drop-drop, length-drop}
 use Rattle.std.proofs.lemmas.Str.{IsAscii-drop, IsUtf8-from_ascii}
@@ -22,3 +23,6 @@ unreachable-requires c =
     (subst IsUtf8 (sym text)
     (IsUtf8-from_ascii (drop skipped (with_stops arcs))
     (IsAscii-drop (with_stops arcs) skipped (stops_are_ascii arcs (λ i. omega (arith, c.type_inv.arcs i))))))
+
+pub returns : goal.returns
+returns c = grind (arith, common_steps)

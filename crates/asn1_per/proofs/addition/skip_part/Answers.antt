@@ -15,3 +15,6 @@ returns-in-Ok-clause-skipped g c =
 
 pub returns-in-Some-false-clause-skipped : goal.returns-in-Some-false-clause-skipped
 returns-in-Some-false-clause-skipped g c = search rules
+
+pub returns-in-Some-false-clause-fault : goal.returns-in-Some-false-clause-fault
+returns-in-Some-false-clause-fault g c = search rules

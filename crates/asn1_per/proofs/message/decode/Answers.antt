@@ -1,4 +1,4 @@
-use Rattle.std.proofs.Common.{◌≡◌, [], length, ap, arith, sym, subst}
+use Rattle.std.proofs.Common.{rules, ◌≡◌, [], length, ap, arith, sym, subst}
 use Rattle.asn1_bits.specs.Bits.{bits}
 use Rattle.asn1_bits.specs.BitReader.{bits_left}
 use Rattle.asn1_per.specs.Encodings.{IsComplete}
@@ -28,3 +28,6 @@ returns-in-Err-Memory-clause-accepted g c = λ y p few.
     (g.met.F.Format.names_fault f) (bits_left c.from_octets-reader.result) y
     (subst (λ l. IsComplete (g.F.Format.reads f) y l) (sym c.from_octets-reader.ensures.list) p)
     c.without_memory.result c.without_memory.ensures
+
+pub returns-then-len-gt0-clause-refused : goal.returns-then-len-gt0-clause-refused
+returns-then-len-gt0-clause-refused g c = search rules

@@ -11,3 +11,6 @@ returns-clause-read c =
 
 pub returns-in-Err-next_number-clause-fault : goal.returns-in-Err-next_number-clause-fault
 returns-in-Err-next_number-clause-fault c = search rules
+
+pub returns-then-octets-octets_of-clause-fault : goal.returns-then-octets-octets_of-clause-fault
+returns-then-octets-octets_of-clause-fault c = search rules

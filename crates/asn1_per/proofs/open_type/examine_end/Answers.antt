@@ -10,3 +10,9 @@ returns-in-Ok-eq0-clause-zero c =
 
 pub next-requires : goal.next-requires
 next-requires c = search rules
+
+pub returns-in-Ok-eq0-clause-octets : goal.returns-in-Ok-eq0-clause-octets
+returns-in-Ok-eq0-clause-octets c = search rules
+
+pub returns-in_default-clause-fault : goal.returns-in_default-clause-fault
+returns-in_default-clause-fault c = search rules

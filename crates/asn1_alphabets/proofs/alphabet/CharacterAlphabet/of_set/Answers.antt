@@ -1,4 +1,4 @@
-use Rattle.std.proofs.Common.{refl}
+use Rattle.std.proofs.Common.{rules, refl}
 use Rattle.asn1_alphabets.specs.EffectiveSets.{name_of, permitted_of}
 use Rattle.asn1_alphabets.proofs.AlphabetLemmas.{few_places, is_some_if, none_if}
 use Rattle.asn1_alphabets.proofs.alphabet.CharacterAlphabet.of_set.Goals as goal
@@ -31,3 +31,6 @@ invariant_of-result c =
         wordless = rw (is, ← c.largest-largest.ensures) c.words.ensures.wordless;
       });
     }
+
+pub returns : goal.returns
+returns c = search rules

@@ -1,4 +1,4 @@
-use Rattle.std.proofs.Common.{lit≤}
+use Rattle.std.proofs.Common.{rules, lit≤}
 use Rattle.asn1_characters.specs.Sets.{base_set}
 use Rattle.asn1_characters.specs.TableLaws.{largest-base_set, largest_small}
 use Rattle.asn1_characters.specs.declared.character_set.CharacterSetName.TheVariants.{Bmp}
@@ -13,3 +13,6 @@ returns-in_default-clause-worded c =
 pub returns-in-Bmp-clause-wordless : goal.returns-in-Bmp-clause-wordless
 returns-in-Bmp-clause-wordless c = λ none run.
     rw (c.requires, c.in-Base.is, c.in-Bmp.is, largest-base_set Bmp) (lit≤ tt)
+
+pub returns-in-Permitted-2-clause-wordless : goal.returns-in-Permitted-2-clause-wordless
+returns-in-Permitted-2-clause-wordless c = search rules

@@ -7,3 +7,6 @@ invariant_of-result c = grind (arith, elements)
 
 pub returns-then-len-eq0-clause-free : goal.returns-then-len-eq0-clause-free
 returns-then-len-eq0-clause-free c = search rules
+
+pub returns-clause-list : goal.returns-clause-list
+returns-clause-list c = grind (arith, elements)

@@ -59,3 +59,6 @@ returns-then-self-eq0-clause-len c =
 
 pub returns-clause-ok : goal.returns-clause-ok
 returns-clause-ok c = search rules
+
+pub returns-clause-len : goal.returns-clause-len
+returns-clause-len c = search rules

@@ -6,3 +6,6 @@ invariant_of-self c = search rules
 
 pub returns-then-additional-eq0-clause-free : goal.returns-then-additional-eq0-clause-free
 returns-then-additional-eq0-clause-free c = search rules
+
+pub returns-clause-same : goal.returns-clause-same
+returns-clause-same c = search rules

@@ -11,3 +11,6 @@ returns-clause-bits c =
 
 pub returns-in_err-push_octets_to-clause-free_aligned : goal.returns-in_err-push_octets_to-clause-free_aligned
 returns-in_err-push_octets_to-clause-free_aligned c = search rules
+
+pub returns-clause-borrowed : goal.returns-clause-borrowed
+returns-clause-borrowed c = search rules

@@ -16,3 +16,6 @@ returns-clause-storage g c =
 
 pub returns-clause-list : goal.returns-clause-list
 returns-clause-list g c = search rules
+
+pub returns-clause-len : goal.returns-clause-len
+returns-clause-len g c = search rules

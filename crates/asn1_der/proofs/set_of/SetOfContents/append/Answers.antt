@@ -1,4 +1,4 @@
-use Rattle.std.proofs.Common.{map}
+use Rattle.std.proofs.Common.{rules, map}
 use Rattle.asn1_der.specs.ItemLaws.{items_name_misfit}
 use Rattle.asn1_der.proofs.set_of.SetOfContents.append.Goals as goal
 
@@ -10,3 +10,6 @@ unreachable-requires g c =
     (items_name_misfit (g.F.Element.spells f) (g.F.Element.is_misfit f) (g.met.F.Element.names_misfit f)).wrong
     (map g.F.Element.plain c.as_slice-values.result.now) c.in-Err-Wrong.field-0-0 w
     (record { list = m.list; spelled = m.spelled.0 })
+
+pub returns-clause-written : goal.returns-clause-written
+returns-clause-written g c = search rules

@@ -1,3 +1,4 @@
+use Rattle.std.proofs.Common.{rules}
 use Rattle.asn1_bits.specs.BitReader.{bits_left}
 use Rattle.asn1_der.proofs.tlv.TlvFormat.take.Goals as goal
 
@@ -22,3 +23,6 @@ returns-in-Err-Wrong-clause-refused g c =
       c.in-Ok.ensures.read,
       rw c.in-Err-Wrong.field-0-is at c.in-Err-Wrong.ensures.refused,
     )
+
+pub take-requires : goal.take-requires
+take-requires g c = search rules

@@ -22,3 +22,6 @@ returns-in-Ok-skip-clause-skipped g c =
 
 pub skip-requires : goal.skip-requires
 skip-requires g c = search rules
+
+pub returns-in-Err-skip-clause-fault : goal.returns-in-Err-skip-clause-fault
+returns-in-Err-skip-clause-fault g c = search rules

@@ -20,3 +20,6 @@ returns-in-Ok-take-clause-read g c =
 
 pub take-requires : goal.take-requires
 take-requires g c = search rules
+
+pub returns-in-Err-Wrong-clause-refused : goal.returns-in-Err-Wrong-clause-refused
+returns-in-Err-Wrong-clause-refused g c = search rules

@@ -1,4 +1,4 @@
-use Rattle.std.proofs.Common.{sym, subst}
+use Rattle.std.proofs.Common.{rules, sym, subst}
 use Rattle.asn1_number.specs.Octets.{IsShortest}
 use Rattle.asn1_integer.proofs.WrapLemmas.{read_from_shortest, none_from_shortest}
 use Rattle.asn1_integer.proofs.native.AnyIntegerType.from_integer.Goals as goal
@@ -15,3 +15,6 @@ returns-in-Err g c =
     none_from_shortest _ _ _ _ c.args.number.now c.as_ref.result.now c.in-Err.field-0 c.IS_SIGNED.ensures
     c.BYTE_WIDTH.ensures g.met.N.Native.sized
     (subst (IsShortest c.args.number.now) (sym c.as_ref.ensures) c.signed_octets-octets.ensures) c.in-Err.ensures
+
+pub returns-in-Some : goal.returns-in-Some
+returns-in-Some g c = search rules

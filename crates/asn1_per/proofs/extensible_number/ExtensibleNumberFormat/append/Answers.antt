@@ -4,3 +4,6 @@ use Rattle.asn1_per.proofs.extensible_number.ExtensibleNumberFormat.append.Goals
 
 pub returns-in-Ok-append-clause-written : goal.returns-in-Ok-append-clause-written
 returns-in-Ok-append-clause-written c = grind (arith, common_steps)
+
+pub returns-in-Ok-append-2-clause-written : goal.returns-in-Ok-append-2-clause-written
+returns-in-Ok-append-2-clause-written c = grind (arith, common_steps)

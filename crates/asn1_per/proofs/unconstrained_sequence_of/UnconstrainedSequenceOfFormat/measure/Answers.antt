@@ -3,3 +3,6 @@ use Rattle.asn1_per.proofs.unconstrained_sequence_of.UnconstrainedSequenceOfForm
 
 pub returns-clause-measured : goal.returns-clause-measured
 returns-clause-measured c = search rules
+
+pub returns-clause-misfit : goal.returns-clause-misfit
+returns-clause-misfit c = search rules

@@ -1,0 +1,5 @@
+use Rattle.std.proofs.Common.{rules}
+use Rattle.asn1_integer.proofs.integer.IntegerIntegerType.from_integer.Goals as goal
+
+pub returns : goal.returns
+returns c = search rules
