@@ -1,80 +1,14 @@
 -- Lists of bits are ordered as the numbers of their words, and then by their lengths.
-use Rattle.std.proofs.Common.{◌≡◌, ◌≢◌, ℕ, ◌+◌, ◌*◌, ◌^◌, ◌<◌, ◌≤◌, min, Bool, true, false, List, [], ◌∷◌, ◌++◌, length, take, drop, refl, sym, ap, ◌∙◌, arith, Ordering}
+use Rattle.std.proofs.Common.{◌≡◌, ◌≢◌, ℕ, ◌+◌, ◌<◌, ◌≤◌, min, Bool, List, [], ◌∷◌, ◌++◌, length, take, drop, refl, sym, ap, ◌∙◌, arith, Ordering}
 use Rattle.std.specs.declared.cmp.Ordering.TheVariants.{Less, Equal, Greater}
 use Rattle.std.specs.Prelude.{◌==◌}
 use Rattle.std.specs.Ordering.{MatchOrdering, bool_cmp, nat_cmp, ordering_then, ordering_index, is_eq}
-use Rattle.std.specs.Cmp.{nat_cmp_is, ranks}
+use Rattle.std.specs.Cmp.{ranks}
 use Rattle.std.specs.Cmp.Lexicographic.{slice_cmp}
 use Rattle.std.proofs.lemmas.List.{length-drop, length-take-le, take-append-drop}
 use Rattle.std.proofs.lemmas.Bool.{le-ltb, lt-ltb, eq-eqb, ne_eqb}
 use Rattle.asn1_bits.specs.Bits.{number}
-use Rattle.asn1_bits.specs.NumberLaws.{number-cons, number-lt}
-
--- two numbers are ordered as others are
-ordered : (o : Ordering) (m n p q : ℕ) → (m < n → p < q) → (m ≡ n → p ≡ q) → (n < m → q < p)
-    → MatchOrdering o (m < n) (m ≡ n) (n < m) → MatchOrdering o (p < q) (p ≡ q) (q < p)
-ordered Less m n p q f g h t = f t
-ordered Equal m n p q f g h t = g t
-ordered Greater m n p q f g h t = h t
-
--- the first of two lists of one length is below, equal or above as its number is
-ranks_of : (us vs : List Bool) → length us ≡ length vs
-    → MatchOrdering (slice_cmp bool_cmp us vs) (number us < number vs) (number us ≡ number vs) (number vs < number us)
-ranks_of [] [] h = refl
-ranks_of [] (v ∷ vs) h = absurd (omega arith)
-ranks_of (u ∷ us) [] h = absurd (omega arith)
-ranks_of (true ∷ us) (true ∷ vs) h =
-    let n : length us ≡ length vs = omega arith in
-    let a : number (true ∷ us) ≡ 1 * 2 ^ length vs + number us = rw (number-cons true us, n) refl in
-    let b : number (true ∷ vs) ≡ 1 * 2 ^ length vs + number vs = number-cons true vs in
-    ordered (slice_cmp bool_cmp us vs) (number us) (number vs) (number (true ∷ us)) (number (true ∷ vs))
-    (λ t. omega (arith, t, a, b)) (λ t. omega (arith, t, a, b)) (λ t. omega (arith, t, a, b)) (ranks_of us vs n)
-ranks_of (false ∷ us) (false ∷ vs) h =
-    let n : length us ≡ length vs = omega arith in
-    let a : number (false ∷ us) ≡ 0 * 2 ^ length vs + number us = rw (number-cons false us, n) refl in
-    let b : number (false ∷ vs) ≡ 0 * 2 ^ length vs + number vs = number-cons false vs in
-    ordered (slice_cmp bool_cmp us vs) (number us) (number vs) (number (false ∷ us)) (number (false ∷ vs))
-    (λ t. omega (arith, t, a, b)) (λ t. omega (arith, t, a, b)) (λ t. omega (arith, t, a, b)) (ranks_of us vs n)
-ranks_of (false ∷ us) (true ∷ vs) h =
-    let n : length us ≡ length vs = omega arith in
-    let a : number (false ∷ us) ≡ 0 * 2 ^ length vs + number us = rw (number-cons false us, n) refl in
-    let b : number (true ∷ vs) ≡ 1 * 2 ^ length vs + number vs = number-cons true vs in
-    let c : number us < 2 ^ length vs = rw (sym n) (number-lt us) in
-    omega (arith, a, b, c)
-ranks_of (true ∷ us) (false ∷ vs) h =
-    let n : length us ≡ length vs = omega arith in
-    let a : number (true ∷ us) ≡ 1 * 2 ^ length vs + number us = rw (number-cons true us, n) refl in
-    let b : number (false ∷ vs) ≡ 0 * 2 ^ length vs + number vs = number-cons false vs in
-    let c : number vs < 2 ^ length vs = number-lt vs in
-    omega (arith, a, b, c)
-
--- lists of one length are ordered as their numbers
-pub by-number : (us vs : List Bool) → length us ≡ length vs → slice_cmp bool_cmp us vs ≡ nat_cmp (number us) (number vs)
-by-number us vs h = nat_cmp_is (number us) (number vs) (slice_cmp bool_cmp us vs) (ranks_of us vs h)
-
--- the first of two orders decides, unless it is equality
-pub then-again : (o p q : Ordering) → ordering_then (ordering_then o p) q ≡ ordering_then o (ordering_then p q)
-then-again Less p q = refl
-then-again Equal p q = refl
-then-again Greater p q = refl
-
--- fronts of one length decide first
-pub by-fronts : (us vs xs ys : List Bool) → length us ≡ length vs
-    → slice_cmp bool_cmp (us ++ xs) (vs ++ ys) ≡ ordering_then (slice_cmp bool_cmp us vs) (slice_cmp bool_cmp xs ys)
-by-fronts [] [] xs ys h = refl
-by-fronts [] (v ∷ vs) xs ys h = absurd (omega arith)
-by-fronts (u ∷ us) [] xs ys h = absurd (omega arith)
-by-fronts (u ∷ us) (v ∷ vs) xs ys h =
-    ap (λ (o : Ordering). ordering_then (bool_cmp u v) o) (by-fronts us vs xs ys (omega arith))
-    ∙ sym (then-again (bool_cmp u v) (slice_cmp bool_cmp us vs) (slice_cmp bool_cmp xs ys))
-
-same_bit : (b : Bool) (o : Ordering) → ordering_then (bool_cmp b b) o ≡ o
-same_bit true o = refl
-same_bit false o = refl
-
-same_front : (zs us vs : List Bool) → slice_cmp bool_cmp (zs ++ us) (zs ++ vs) ≡ slice_cmp bool_cmp us vs
-same_front [] us vs = refl
-same_front (z ∷ zs) us vs = same_bit z (slice_cmp bool_cmp (zs ++ us) (zs ++ vs)) ∙ same_front zs us vs
+use Rattle.asn1_bits.specs.OrderLaws.{by_number, by_fronts, same_front}
 
 -- what stands behind fronts that are the same decides
 behind : (xs ys : List Bool) (n : ℕ) → take n xs ≡ take n ys
@@ -94,9 +28,9 @@ by-first xs ys n h k =
     let b : length (take n ys) ≡ n = length-take-le n ys k in
     ap (λ (l : List Bool). slice_cmp bool_cmp l ys) (sym (take-append-drop n xs))
     ∙ ap (λ (l : List Bool). slice_cmp bool_cmp (take n xs ++ drop n xs) l) (sym (take-append-drop n ys))
-    ∙ by-fronts (take n xs) (take n ys) (drop n xs) (drop n ys) (a ∙ sym b)
+    ∙ by_fronts (take n xs) (take n ys) (drop n xs) (drop n ys) (a ∙ sym b)
     ∙ ap (λ (o : Ordering). ordering_then o (slice_cmp bool_cmp (drop n xs) (drop n ys)))
-    (by-number (take n xs) (take n ys) (a ∙ sym b))
+    (by_number (take n xs) (take n ys) (a ∙ sym b))
 
 -- two numbers that differ decide
 decides : (m n : ℕ) (o p : Ordering) → m ≢ n → MatchOrdering o (m < n) (m ≡ n) (n < m) → ordering_then o p ≡ o

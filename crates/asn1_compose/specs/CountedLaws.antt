@@ -7,23 +7,30 @@ use Rattle.asn1_compose.specs.Spelling.{Starts, Fits, IsWritten, Measures, IsSum
 use Rattle.asn1_compose.specs.Combined.{AreCounted, SoMany, ItemMisfit}
 use Rattle.asn1_compose.specs.ListLaws.{written_snoc, measured_snoc, count_starts}
 
+-- ---- the item at i of a list: with those in front of it, and among all
+
+module _ {X Y : Type 0} (f : X → Y) (xs : List X) (i : ℕ) (x : X) (within : i < length xs) (is : x ≡ get_or xs i x) where
+  pub one_item_more : map f (take (i + 1) xs) ≡ map f (take i xs) ++ f x ∷ []
+  one_item_more = map_more f xs i x within ∙ ap (λ (v : X). map f (take i xs) ++ f v ∷ []) (sym is)
+
+  pub parted_at : map f xs ≡ map f (take i xs) ++ f x ∷ map f (drop (suc i) xs)
+  parted_at =
+      ap (map f)
+      (sym (take-append-drop i xs)
+      ∙ ap (λ (l : List X). take i xs ++ l) (drop-cons xs i x within ∙ ap (λ (v : X). v ∷ drop (suc i) xs) (sym is)))
+      ∙ map-append f (take i xs) (x ∷ drop (suc i) xs)
+
+-- ---- a loop that has come to this item
+
 module _ {X Y F : Type 0} (P : Y → List Bool → Type 0) (W : Y → F → Type 0) (f : X → Y) (xs : List X) (i : ℕ) (x : X)
     (within : i < length xs) (is : x ≡ get_or xs i x) where
-  more : map f (take (i + 1) xs) ≡ map f (take i xs) ++ f x ∷ []
-  more = map_more f xs i x within ∙ ap (λ (v : X). map f (take i xs) ++ f v ∷ []) (sym is)
-
   pub written_step : (old mid new : List Bool) → IsWritten (λ ys l. AreJoined P ys l) (map f (take i xs)) old mid
       → IsWritten P (f x) mid new → IsWritten (λ ys l. AreJoined P ys l) (map f (take (i + 1) xs)) old new
-  written_step old mid new p q = rw more (written_snoc P (map f (take i xs)) (f x) old mid new p q)
+  written_step old mid new p q = rw (one_item_more f xs i x within is) (written_snoc P (map f (take i xs)) (f x) old mid new p q)
 
   pub measured_step : (a b c : Option ℕ) → Measures (λ ys l. AreJoined P ys l) (map f (take i xs)) a → Measures P (f x) b
       → IsSumOf a b c → Measures (λ ys l. AreJoined P ys l) (map f (take (i + 1) xs)) c
-  measured_step a b c p q sum = rw more (measured_snoc P (map f (take i xs)) (f x) a b c p q sum)
-
-  cut : xs ≡ take i xs ++ x ∷ drop (suc i) xs
-  cut =
-      sym (take-append-drop i xs)
-      ∙ ap (λ (l : List X). take i xs ++ l) (drop-cons xs i x within ∙ ap (λ (v : X). v ∷ drop (suc i) xs) (sym is))
+  measured_step a b c p q sum = rw (one_item_more f xs i x within is) (measured_snoc P (map f (take i xs)) (f x) a b c p q sum)
 
   pub misfit_at : (e : F) → Fits (λ ys l. AreJoined P ys l) (map f (take i xs)) → W (f x) e
       → ItemMisfit P W (map f xs) i e
@@ -31,7 +38,7 @@ module _ {X Y F : Type 0} (P : Y → List Bool → Type 0) (W : Y → F → Type
     before = map f (take i xs);
     item = f x;
     behind = map f (drop (suc i) xs);
-    parts = ap (map f) cut ∙ map-append f (take i xs) (x ∷ drop (suc i) xs);
+    parts = parted_at f xs i x within is;
     place = length-map (take i xs) f ∙ length-take-le i xs (omega arith);
     fits = p;
     wrong = w;

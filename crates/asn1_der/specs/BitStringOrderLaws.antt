@@ -6,8 +6,9 @@ use Rattle.std.proofs.lemmas.List.{length-append, append-nil}
 use Rattle.asn1_bits.specs.Bits.{digits}
 use Rattle.asn1_bits.specs.DigitLaws.{length-digits}
 use Rattle.asn1_bits.specs.BitLists.{bits_cmp}
+use Rattle.asn1_bits.specs.OrderLaws.{same_front, by_fronts}
 use Rattle.asn1_der.specs.BitStrings.{IsBitString}
-use Rattle.asn1_der.specs.OrderLaws.{same_front, by_fronts, number_below, number_above}
+use Rattle.asn1_der.specs.OrderLaws.{number_below, number_above}
 
 then_level : (o : Ordering) → ordering_then o Equal ≡ o
 then_level Less = refl

@@ -1,13 +1,12 @@
 -- Laws of contents that are elements of one format.
-use Rattle.std.proofs.Common.{◌≡◌, ℕ, suc, ◌+◌, ◌*◌, ◌<◌, ◌⊎◌, inl, inr, List, [], ◌∷◌, ◌++◌, Bool, length, map, take, drop, get_or, Option, refl, sym, ◌∙◌, ap, subst, arith, append_assoc}
-use Rattle.std.proofs.lemmas.List.{length-append, append-nil, map_more, map-append, length-map, length-take-le, take-append-drop}
-use Rattle.std.proofs.Math.Seq.{drop-cons}
+use Rattle.std.proofs.Common.{◌≡◌, ℕ, ◌+◌, ◌*◌, ◌<◌, ◌⊎◌, inl, inr, List, [], ◌∷◌, ◌++◌, Bool, length, refl, sym, ◌∙◌, ap, subst, arith, append_assoc}
+use Rattle.std.proofs.lemmas.List.{length-append, append-nil}
 use Rattle.asn1_compose.specs.declared.never_wrong.NeverWrong.{NeverWrong}
 use Rattle.asn1_compose.specs.declared.sequence_of.InSequenceOf.{InSequenceOf}
 use Rattle.asn1_compose.specs.declared.sequence_of.InSequenceOf.TheVariants.{Size, Item}
-use Rattle.asn1_compose.specs.Spelling.{Starts, CanRead, Fits, Measures, IsSumOf, IsWritten, ReadsOne, SpellsOne, NamesFault, NamesMisfit}
-use Rattle.asn1_compose.specs.Combined.{AreCounted, SoMany, ItemMisfit, SequenceOfMisfit}
-use Rattle.asn1_compose.specs.ListLaws.{written_snoc, measured_snoc, counted_spells_one, counted_names_misfit}
+use Rattle.asn1_compose.specs.Spelling.{Starts, CanRead, ReadsOne, SpellsOne, NamesFault, NamesMisfit}
+use Rattle.asn1_compose.specs.Combined.{AreCounted, SoMany, SequenceOfMisfit}
+use Rattle.asn1_compose.specs.ListLaws.{counted_spells_one, counted_names_misfit}
 use Rattle.asn1_der.specs.declared.tag.Tag.{Tag}
 use Rattle.asn1_der.specs.declared.items.InItem.{InItem}
 use Rattle.asn1_der.specs.Contents.{FillsOne, NamesWrong, IsWhole, AreWhole}
@@ -185,35 +184,3 @@ module _ {X : Type 0} (P : X → List Bool → Type 0) where
 
       pub items_name_fault : NamesWrong (λ xs l. AreItems P xs l) (λ list e. ItemFaultIs P W list e)
       items_name_fault = record { wrong = wrong; one = one_fault }
-
--- ---- steps of the loops over items
-
-module _ {X Y F : Type 0} (P : Y → List Bool → Type 0) (W : Y → F → Type 0) (f : X → Y) (xs : List X) (i : ℕ) (x : X)
-    (within : i < length xs) (is : x ≡ get_or xs i x) where
-  more : map f (take (i + 1) xs) ≡ map f (take i xs) ++ f x ∷ []
-  more = map_more f xs i x within ∙ ap (λ (v : X). map f (take i xs) ++ f v ∷ []) (sym is)
-
-  pub written_step : (old mid new : List Bool) → IsWritten (λ ys l. AreItems P ys l) (map f (take i xs)) old mid
-      → IsWritten P (f x) mid new → IsWritten (λ ys l. AreItems P ys l) (map f (take (i + 1) xs)) old new
-  written_step old mid new p q = rw more (written_snoc P (map f (take i xs)) (f x) old mid new p q)
-
-  pub measured_step : (a b c : Option ℕ) → Measures (λ ys l. AreItems P ys l) (map f (take i xs)) a → Measures P (f x) b
-      → IsSumOf a b c → Measures (λ ys l. AreItems P ys l) (map f (take (i + 1) xs)) c
-  measured_step a b c p q sum = rw more (measured_snoc P (map f (take i xs)) (f x) a b c p q sum)
-
-  cut : xs ≡ take i xs ++ x ∷ drop (suc i) xs
-  cut =
-      sym (take-append-drop i xs)
-      ∙ ap (λ (l : List X). take i xs ++ l) (drop-cons xs i x within ∙ ap (λ (v : X). v ∷ drop (suc i) xs) (sym is))
-
-  pub misfit_at : (e : F) → Fits (λ ys l. AreItems P ys l) (map f (take i xs)) → W (f x) e
-      → ItemMisfit P W (map f xs) i e
-  misfit_at e p w = record {
-    before = map f (take i xs);
-    item = f x;
-    behind = map f (drop (suc i) xs);
-    parts = ap (map f) cut ∙ map-append f (take i xs) (x ∷ drop (suc i) xs);
-    place = length-map (take i xs) f ∙ length-take-le i xs (omega arith);
-    fits = p;
-    wrong = w;
-  }

@@ -1,13 +1,13 @@
--- Laws of the order of spellings: the first bit in which two differ decides it.
+-- Laws of the order of spellings.
 use Rattle.std.proofs.Common.{◌≡◌, ℕ, ◌+◌, ◌-◌, ◌*◌, ◌^◌, ◌<◌, ◌≤◌, ◌⊎◌, inl, inr, Bool, true, false, List, [], ◌∷◌, ◌++◌, length, refl, sym, ◌∙◌, ap, subst, arith, append_assoc, Ordering, Some}
 use Rattle.std.specs.declared.cmp.Ordering.TheVariants.{Less, Equal, Greater}
-use Rattle.std.specs.Ordering.{MatchOrdering, bool_cmp, nat_cmp, ordering_then, ordering_reverse}
-use Rattle.std.specs.Cmp.{nat_cmp_is}
+use Rattle.std.specs.Ordering.{bool_cmp, nat_cmp, ordering_then, ordering_reverse}
 use Rattle.std.proofs.lemmas.Bool.{lt-ltb}
 use Rattle.asn1_bits.specs.Bits.{bits, digits, number}
 use Rattle.asn1_bits.specs.DigitLaws.{length-digits, length-bits}
-use Rattle.asn1_bits.specs.NumberLaws.{number-cons, number-lt, number_of-digits}
+use Rattle.asn1_bits.specs.NumberLaws.{number_of-digits}
 use Rattle.asn1_bits.specs.BitLists.{bits_cmp, total_by}
+use Rattle.asn1_bits.specs.OrderLaws.{by_number, by_fronts, same_front}
 use Rattle.asn1_number.specs.ReadingLaws.{cases_le}
 use Rattle.asn1_compose.specs.Spelling.{Measures, SpellsOne}
 use Rattle.asn1_compose.specs.Numbers.{IsNumber}
@@ -18,68 +18,6 @@ use Rattle.asn1_der.specs.Lengths.{IsDefinite, IsLong}
 use Rattle.asn1_der.specs.LengthLaws.{fewer, definite_spells_one}
 use Rattle.asn1_der.specs.Primitives.{octet_of_bool, IsBoolean}
 use Rattle.asn1_der.specs.Elements.{IsElement, IsTlv}
-
--- two numbers are ordered as others are
-ordered : (o : Ordering) (m n p q : ℕ) → (m < n → p < q) → (m ≡ n → p ≡ q) → (n < m → q < p)
-    → MatchOrdering o (m < n) (m ≡ n) (n < m) → MatchOrdering o (p < q) (p ≡ q) (q < p)
-ordered Less m n p q f g h t = f t
-ordered Equal m n p q f g h t = g t
-ordered Greater m n p q f g h t = h t
-
--- the first of two lists of one length is below, equal or above as its number is
-ranked : (a b : List Bool) → length a ≡ length b
-    → MatchOrdering (bits_cmp a b) (number a < number b) (number a ≡ number b) (number b < number a)
-ranked [] [] h = refl
-ranked [] (y ∷ b) h = absurd (omega arith)
-ranked (x ∷ a) [] h = absurd (omega arith)
-ranked (true ∷ a) (true ∷ b) h =
-    let n : length a ≡ length b = omega arith in
-    let p : number (true ∷ a) ≡ 1 * 2 ^ length b + number a = rw (number-cons true a, n) refl in
-    let q : number (true ∷ b) ≡ 1 * 2 ^ length b + number b = number-cons true b in
-    ordered (bits_cmp a b) (number a) (number b) (number (true ∷ a)) (number (true ∷ b)) (λ t. omega (arith, t, p, q))
-    (λ t. omega (arith, t, p, q)) (λ t. omega (arith, t, p, q)) (ranked a b n)
-ranked (false ∷ a) (false ∷ b) h =
-    let n : length a ≡ length b = omega arith in
-    let p : number (false ∷ a) ≡ 0 * 2 ^ length b + number a = rw (number-cons false a, n) refl in
-    let q : number (false ∷ b) ≡ 0 * 2 ^ length b + number b = number-cons false b in
-    ordered (bits_cmp a b) (number a) (number b) (number (false ∷ a)) (number (false ∷ b)) (λ t. omega (arith, t, p, q))
-    (λ t. omega (arith, t, p, q)) (λ t. omega (arith, t, p, q)) (ranked a b n)
-ranked (false ∷ a) (true ∷ b) h =
-    let n : length a ≡ length b = omega arith in
-    let p : number (false ∷ a) ≡ 0 * 2 ^ length b + number a = rw (number-cons false a, n) refl in
-    let q : number (true ∷ b) ≡ 1 * 2 ^ length b + number b = number-cons true b in
-    let r : number a < 2 ^ length b = rw (sym n) (number-lt a) in
-    omega (arith, p, q, r)
-ranked (true ∷ a) (false ∷ b) h =
-    let n : length a ≡ length b = omega arith in
-    let p : number (true ∷ a) ≡ 1 * 2 ^ length b + number a = rw (number-cons true a, n) refl in
-    let q : number (false ∷ b) ≡ 0 * 2 ^ length b + number b = number-cons false b in
-    let r : number b < 2 ^ length b = number-lt b in
-    omega (arith, p, q, r)
-
-then_again : (o p q : Ordering) → ordering_then (ordering_then o p) q ≡ ordering_then o (ordering_then p q)
-then_again Less p q = refl
-then_again Equal p q = refl
-then_again Greater p q = refl
-
--- fronts of one length decide first
-pub by_fronts : (a b c d : List Bool) → length a ≡ length b
-    → bits_cmp (a ++ c) (b ++ d) ≡ ordering_then (bits_cmp a b) (bits_cmp c d)
-by_fronts [] [] c d h = refl
-by_fronts [] (y ∷ b) c d h = absurd (omega arith)
-by_fronts (x ∷ a) [] c d h = absurd (omega arith)
-by_fronts (x ∷ a) (y ∷ b) c d h =
-    ap (λ (o : Ordering). ordering_then (bool_cmp x y) o) (by_fronts a b c d (omega arith))
-    ∙ sym (then_again (bool_cmp x y) (bits_cmp a b) (bits_cmp c d))
-
-same_bit : (b : Bool) (o : Ordering) → ordering_then (bool_cmp b b) o ≡ o
-same_bit true o = refl
-same_bit false o = refl
-
--- what stands behind fronts that are the same decides
-pub same_front : (a c d : List Bool) → bits_cmp (a ++ c) (a ++ d) ≡ bits_cmp c d
-same_front [] c d = refl
-same_front (x ∷ a) c d = same_bit x (bits_cmp (a ++ c) (a ++ d)) ∙ same_front a c d
 
 turned : (a b : List Bool) → bits_cmp b a ≡ Less → bits_cmp a b ≡ Greater
 turned a b e = (total_by (λ (l : List Bool). l)).antisymm a b ∙ ap ordering_reverse e
@@ -95,7 +33,7 @@ number_below width m n a b c d p q lt =
     let below : nat_cmp (number a) (number b) ≡ Less = rw (lt-ltb (number a) (number b) (omega (arith, na, nb, lt))) refl in
     by_fronts a b c d (la ∙ sym lb)
     ∙ ap (λ (o : Ordering). ordering_then o (bits_cmp c d))
-    (nat_cmp_is (number a) (number b) (bits_cmp a b) (ranked a b (la ∙ sym lb)) ∙ below)
+    (by_number a b (la ∙ sym lb) ∙ below)
 
 pub number_above : (width m n : ℕ) (a b c d : List Bool) → IsNumber width m a → IsNumber width n b → n < m
     → bits_cmp (a ++ c) (b ++ d) ≡ Greater

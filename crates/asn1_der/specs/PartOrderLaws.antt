@@ -4,9 +4,9 @@ use Rattle.std.specs.declared.cmp.Ordering.TheVariants.{Less, Equal, Greater}
 use Rattle.std.specs.Ordering.{ordering_reverse}
 use Rattle.std.proofs.lemmas.List.{length-append, append-nil}
 use Rattle.asn1_bits.specs.BitLists.{bits_cmp, total_by}
+use Rattle.asn1_bits.specs.OrderLaws.{same_front}
 use Rattle.asn1_compose.specs.Spelling.{ReadsOne}
 use Rattle.asn1_compose.specs.Combined.{Both}
-use Rattle.asn1_der.specs.OrderLaws.{same_front}
 
 -- the second is the first and nothing more, if it begins with it
 abbrev IsNotMore : List Bool → List Bool → Type 0

@@ -1,16 +1,15 @@
 -- Steps of the loops over the elements of a SET OF.
 use Rattle.std.proofs.Common.{◌≡◌, ◌≢◌, ℕ, suc, ◌+◌, ◌-◌, ◌<◌, List, [], ◌∷◌, ◌++◌, Bool, length, map, take, drop, get_or, Option, Some, refl, sym, ◌∙◌, ap, subst, arith, append_assoc}
-use Rattle.std.proofs.lemmas.List.{map_more, map-append, append-nil, nil_from_length, length-map, length-take-le, take-append-drop}
-use Rattle.std.proofs.Math.Seq.{drop-cons}
+use Rattle.std.proofs.lemmas.List.{append-nil, nil_from_length, length-map, length-take-le}
 use Rattle.std.specs.declared.cmp.Ordering.TheVariants.{Less}
 use Rattle.asn1_bits.specs.BitLists.{bits_cmp}
 use Rattle.asn1_compose.specs.Spelling.{Starts, Fits, Measures, IsSumOf, SpellsOne}
 use Rattle.asn1_compose.specs.Combined.{SoMany}
+use Rattle.asn1_compose.specs.CountedLaws.{one_item_more, parted_at, measured_step}
 use Rattle.asn1_compose.specs.ListLaws.{many_snoc}
 use Rattle.asn1_der.specs.declared.set_of.InSet.{InSet}
 use Rattle.asn1_der.specs.declared.set_of.InSet.TheVariants as part
 use Rattle.asn1_der.specs.Items.{AreItems}
-use Rattle.asn1_der.specs.ItemLaws.{measured_step}
 use Rattle.asn1_der.specs.Sets.{Ascend, IsSet, SetFaultIs, NextMisfit, SetMisfitIs, IsBelow, SpellsLast}
 use Rattle.asn1_der.specs.SetLaws.{front_spells, one_more, none_more, ascend_snoc, last_follows, item_fits}
 
@@ -59,9 +58,6 @@ module _ {X E : Type 0} (P : X → List Bool → Type 0) (W : List Bool → E �
 -- ---- values: the first i of xs have a spelling, and x is the next
 
 module _ {X Y F : Type 0} (P : Y → List Bool → Type 0) (W : Y → F → Type 0) (f : X → Y) (xs : List X) where
-  taken : (i : ℕ) (x : X) → i < length xs → x ≡ get_or xs i x → map f (take (i + 1) xs) ≡ map f (take i xs) ++ f x ∷ []
-  taken i x within is = map_more f xs i x within ∙ ap (λ (v : X). map f (take i xs) ++ f v ∷ []) (sym is)
-
   pub one_ascends : (n : ℕ) → n ≡ 0 → Ascend P (map f (take (n + 1) xs))
   one_ascends n none = rw none (alone xs)
     where
@@ -73,10 +69,10 @@ module _ {X Y F : Type 0} (P : Y → List Bool → Type 0) (W : Y → F → Type
   module _ (n i : ℕ) (w x : X) (step : n ≡ i + 1) (within : n < length xs) (was : w ≡ get_or xs i w)
       (is : x ≡ get_or xs n x) where
     front : map f (take n xs) ≡ map f (take i xs) ++ f w ∷ []
-    front = ap (λ (k : ℕ). map f (take k xs)) step ∙ taken i w (omega arith) was
+    front = ap (λ (k : ℕ). map f (take k xs)) step ∙ one_item_more f xs i w (omega arith) was
 
     whole : map f (take (n + 1) xs) ≡ (map f (take i xs) ++ f w ∷ []) ++ f x ∷ []
-    whole = taken n x within is ∙ ap (λ (ys : List Y). ys ++ f x ∷ []) front
+    whole = one_item_more f xs n x within is ∙ ap (λ (ys : List Y). ys ++ f x ∷ []) front
 
     pub next_ascends : ((a b : List Bool) → P (f x) a → P (f w) b → bits_cmp a b ≢ Less) → Ascend P (map f (take n xs))
         → Ascend P (map f (take (n + 1) xs))
@@ -109,18 +105,13 @@ module _ {X Y F : Type 0} (P : Y → List Bool → Type 0) (W : Y → F → Type
         let m = items_measured a b c p q sum in
         record { list = m.list; spelled = (m.spelled, asc); size = m.size }
 
-    cut : xs ≡ take i xs ++ x ∷ drop (suc i) xs
-    cut =
-        sym (take-append-drop i xs)
-        ∙ ap (λ (l : List X). take i xs ++ l) (drop-cons xs i x within ∙ ap (λ (v : X). v ∷ drop (suc i) xs) (sym is))
-
     pub set_misfit_at : (e : InSet F) → Fits (λ ys l. IsSet P ys l) (map f (take i xs)) → NextMisfit P W (map f (take i xs)) (f x) e
         → SetMisfitIs P W (map f xs) (record { index = i; wrong = e })
     set_misfit_at e p w = record {
       before = map f (take i xs);
       item = f x;
       behind = map f (drop (suc i) xs);
-      parts = ap (map f) cut ∙ map-append f (take i xs) (x ∷ drop (suc i) xs);
+      parts = parted_at f xs i x within is;
       place = length-map (take i xs) f ∙ length-take-le i xs (omega arith);
       fits = p;
       wrong = w;
@@ -135,5 +126,5 @@ module _ {X Y F : Type 0} (P : Y → List Bool → Type 0) (W : Y → F → Type
         set_misfit_at part.Descends (record { list = p.list; spelled = p.spelled }) (
           record { list = q.list; spelled = q.spelled },
           λ asc. not (record { list = m.list; spelled = m.spelled })
-              (subst (λ (ys : List Y). Ascend P ys) (sym (taken i x within is)) asc),
+              (subst (λ (ys : List Y). Ascend P ys) (sym (one_item_more f xs i x within is)) asc),
         )

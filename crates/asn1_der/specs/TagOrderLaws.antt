@@ -8,6 +8,7 @@ use Rattle.std.proofs.lemmas.Bool.{le-ltb, lt-ltb, ne_eqb}
 use Rattle.asn1_bits.specs.Bits.{bits, digits}
 use Rattle.asn1_bits.specs.DigitLaws.{length-bits}
 use Rattle.asn1_bits.specs.BitLists.{bits_cmp}
+use Rattle.asn1_bits.specs.OrderLaws.{same_front}
 use Rattle.asn1_oid.specs.Writing.{last_octets, HasDigits}
 use Rattle.asn1_compose.specs.Numbers.{IsNumber}
 use Rattle.asn1_compose.specs.Combined.{Both}
@@ -20,7 +21,7 @@ use Rattle.asn1_der.specs.TagNumberLaws.{subsequent_spells_one}
 use Rattle.asn1_der.specs.TagNumberSteps.{subsequent_is}
 use Rattle.asn1_der.specs.Lengths.{IsCounted}
 use Rattle.asn1_der.specs.Elements.{IsTlv, IsAny}
-use Rattle.asn1_der.specs.OrderLaws.{same_front, number_below, number_above, shorter_first, longer_last, by_contents, octets_order, front_below, front_above, none_level}
+use Rattle.asn1_der.specs.OrderLaws.{number_below, number_above, shorter_first, longer_last, by_contents, octets_order, front_below, front_above, none_level}
 use Rattle.asn1_der.specs.PartOrderLaws.{first_below, first_above, equal_lists}
 
 -- ---- numbers behind the leading octet

@@ -1,3 +1,2 @@
-pub mod ItemSteps
 pub mod FragmentSteps
 pub mod PartSteps

@@ -1,14 +1,34 @@
 -- Steps of the loops that go through a list piece by piece.
-use Rattle.std.proofs.Common.{◌≡◌, ℕ, ◌+◌, ◌-◌, ◌^◌, ◌<◌, ◌≤◌, ◌⊎◌, ⊎_elim, List, ◌++◌, Bool, length, map, take, drop, sym, ◌∙◌, ap, subst, arith, take-add, take-append-drop, length-take-le, length-drop, Option}
+use Rattle.std.proofs.Common.{◌≡◌, ℕ, ◌+◌, ◌-◌, ◌^◌, ◌<◌, ◌≤◌, ◌⊎◌, ⊎_elim, List, ◌∷◌, ◌++◌, Bool, length, map, take, drop, sym, ◌∙◌, ap, subst, append_assoc, arith, take-add, take-append-drop, length-take-le, length-drop, Option}
 use Rattle.std.specs.Prelude.{IsTrue, nat_eq}
 use Rattle.std.proofs.lemmas.Bool.{eq-eqb}
-use Rattle.std.proofs.lemmas.List.{map-append, map-id, length-map, take_all}
-use Rattle.asn1_compose.specs.Spelling.{IsWritten, Measures, IsSumOf}
+use Rattle.std.proofs.lemmas.List.{length-append, map-append, map-id, length-map, take_all}
+use Rattle.asn1_bits.specs.Joined.{AreJoined}
+use Rattle.asn1_compose.specs.Spelling.{Fits, IsWritten, Measures, IsSumOf}
 use Rattle.asn1_compose.specs.Combined.{AreCounted, ItemMisfit}
 use Rattle.asn1_per.specs.Fragments.{IsPieceCount, AreFragments, AreFragmented}
-use Rattle.asn1_per.specs.FragmentLaws.{fragments_fit}
-use Rattle.asn1_per.proofs.ItemSteps.{misfit_behind}
+use Rattle.asn1_per.specs.FragmentLaws.{fragments_fit, joined_append}
 use Rattle.asn1_per.proofs.FragmentSteps.{WrittenSoFar, MeasuredSoFar, written_more, written_last, measured_more, measured_last}
+
+module _ {X F : Type 0} (P : X → List Bool → Type 0) (W : X → F → Type 0) where
+  -- behind items that have a spelling
+  pub misfit_behind : (xs ys rest whole : List X) (start i : ℕ) (e : F) → Fits (λ zs l. AreJoined P zs l) xs
+      → length xs ≡ start → whole ≡ (xs ++ ys) ++ rest → ItemMisfit P W ys i e → ItemMisfit P W whole (start + i) e
+  misfit_behind xs ys rest whole start i e fits sized parts m = record {
+    before = xs ++ m.before;
+    item = m.item;
+    behind = m.behind ++ rest;
+    parts = parts ∙ ap (λ (zs : List X). (xs ++ zs) ++ rest) m.parts
+        ∙ ap (λ (zs : List X). zs ++ rest) (sym (append_assoc xs m.before (m.item ∷ m.behind)))
+        ∙ append_assoc (xs ++ m.before) (m.item ∷ m.behind) rest;
+    place = let p : length m.before ≡ i = m.place in
+        length-append xs m.before ∙ omega arith;
+    fits = record {
+      list = fits.list ++ m.fits.list;
+      spelled = joined_append P xs m.before fits.list m.fits.list fits.spelled m.fits.spelled;
+    };
+    wrong = m.wrong;
+  }
 
 module _ {X Y : Type 0} (P : Y → List Bool → Type 0) (f : X → Y) (xs : List X) (start count : ℕ)
     (within : start + count ≤ length xs) where

@@ -10,6 +10,7 @@ ghost use Rattle.asn1_per.specs.Fragments.{AreFragmented, FragmentsFault};
 use crate::piece::{FRAGMENT, PieceFault, WHOLE, piece_len};
 use crate::pieces::{append_piece, measure_piece, skip_piece, take_piece};
 use asn1_bits::{BitBuffer, BitReader};
+use asn1_compose::AtItem;
 use asn1_formats::{Format, Refusal, sum_of};
 use std::alloc::Global;
 
@@ -52,7 +53,7 @@ pub(crate) fn append_fragments<A: Format>(
         let piece = &values[start..start + count];
         match append_piece(item, buffer, piece) {
             Ok(()) => {}
-            Err(Refusal::Wrong(WrongItem { index, wrong })) => {
+            Err(Refusal::Wrong(AtItem { index, wrong })) => {
                 return Err(Refusal::Wrong(WrongItem {
                     index: start + index,
                     wrong,
@@ -84,7 +85,7 @@ pub(crate) fn measure_fragments<A: Format>(
         let piece = &values[start..start + count];
         match measure_piece(item, piece) {
             Ok(len) => total = sum_of(total, len),
-            Err(WrongItem { index, wrong }) => {
+            Err(AtItem { index, wrong }) => {
                 return Err(WrongItem {
                     index: start + index,
                     wrong,

@@ -2,48 +2,24 @@
 
 ghost use Rattle.std.specs.Prelude.{◌≡◌, ℕ, ◌+◌, ◌^◌, ◌<◌, ◌≤◌, ⊤, List, ◌++◌, Bool, IsTrue, length, map, OnOk, OnErr, IfOk, IfErr};
 ghost use Rattle.asn1_bits.specs.BitReader.{bits_left};
-ghost use Rattle.asn1_bits.specs.Joined.{AreJoined};
 ghost use Rattle.asn1_compose.specs.Spelling.{Starts, Measures, IsWritten, Extends};
 ghost use Rattle.asn1_compose.specs.Refusals.{IsRefusal};
 ghost use Rattle.asn1_compose.specs.Combined.{After, AreCounted, SoMany, ItemMisfit};
 ghost use Rattle.asn1_per.specs.Fragments.{IsPieceLen, IsPieceCount, PieceWrong};
 
-use crate::fragments::{InFragments, WrongItem};
+use crate::fragments::InFragments;
 use crate::piece::{next_piece_len, piece_width, push_piece_len};
 use asn1_bits::{BitBuffer, BitReader};
+use asn1_compose::{AtItem, append_items, measure_items, skip_items};
 use asn1_formats::{Format, Refusal, sum_of};
 use std::alloc::Global;
-
-/// Appends the values' spellings, one after another.
-fn append_items<A: Format>(
-    item: &A,
-    buffer: &mut BitBuffer,
-    values: &[A::Value],
-) -> Result<(), Refusal<WrongItem<A::Misfit>>>
-    ensures written { OnOk result
-        (IsWritten (λ ys l. AreJoined (A.spells item.now) ys l) (map A.plain values.now)
-        buffer.old buffer.new) }
-    ensures refused { IfErr result
-        (IsRefusal (λ e. ItemMisfit (A.spells item.now) (A.is_misfit item.now)
-        (map A.plain values.now) e.index e.wrong) ⊤) }
-    ensures kept { OnErr result (Extends buffer.old buffer.new) }
-{
-    for (index, value) in values.iter().enumerate() {
-        match item.append(buffer, value) {
-            Ok(()) => {}
-            Err(Refusal::Wrong(wrong)) => return Err(Refusal::Wrong(WrongItem { index, wrong })),
-            Err(Refusal::Memory) => return Err(Refusal::Memory),
-        }
-    }
-    Ok(())
-}
 
 /// Appends a piece: the number of the values, and their spellings.
 pub(crate) fn append_piece<A: Format>(
     item: &A,
     buffer: &mut BitBuffer,
     values: &[A::Value],
-) -> Result<(), Refusal<WrongItem<A::Misfit>>>
+) -> Result<(), Refusal<AtItem<A::Misfit>>>
     requires { IsPieceLen (length values.now) }
     ensures written { (more : Bool) → (2 ^ 14 ≤ length values.now → IsTrue more)
         → OnOk result (IsWritten
@@ -64,31 +40,11 @@ pub(crate) fn append_piece<A: Format>(
     }
 }
 
-/// How many bits spell the values one after another.
-fn measure_items<A: Format>(
-    item: &A,
-    values: &[A::Value],
-) -> Result<Option<usize>, WrongItem<A::Misfit>>
-    ensures measured { IfOk result
-        (Measures (λ ys l. AreJoined (A.spells item.now) ys l) (map A.plain values.now)) }
-    ensures misfit { IfErr result (λ e. ItemMisfit (A.spells item.now) (A.is_misfit item.now)
-        (map A.plain values.now) e.index e.wrong) }
-{
-    let mut total = Some(0);
-    for (index, value) in values.iter().enumerate() {
-        match item.measure(value) {
-            Ok(len) => total = sum_of(total, len),
-            Err(wrong) => return Err(WrongItem { index, wrong }),
-        }
-    }
-    Ok(total)
-}
-
 /// How many bits a piece has.
 pub(crate) fn measure_piece<A: Format>(
     item: &A,
     values: &[A::Value],
-) -> Result<Option<usize>, WrongItem<A::Misfit>>
+) -> Result<Option<usize>, AtItem<A::Misfit>>
     requires { IsPieceLen (length values.now) }
     ensures measured { (more : Bool) → (2 ^ 14 ≤ length values.now → IsTrue more)
         → IfOk result (Measures
@@ -112,7 +68,7 @@ fn take_items<A: Format>(
     reader: &mut BitReader<'_>,
     count: usize,
     values: &mut Vec<A::Value>,
-) -> Result<(), Refusal<WrongItem<A::Fault>>>
+) -> Result<(), Refusal<AtItem<A::Fault>>>
     ensures read { OnOk result ((xs : List A.Plain)
         × (map A.plain values.new.items ≡ map A.plain values.old.items ++ xs)
         × Starts (λ ys l. SoMany (A.reads item.now) count ys l) (bits_left reader.old) xs
@@ -129,7 +85,7 @@ fn take_items<A: Format>(
                     return Err(Refusal::Memory);
                 }
             }
-            Err(Refusal::Wrong(wrong)) => return Err(Refusal::Wrong(WrongItem { index, wrong })),
+            Err(Refusal::Wrong(wrong)) => return Err(Refusal::Wrong(AtItem { index, wrong })),
             Err(Refusal::Memory) => return Err(Refusal::Memory),
         }
     }
@@ -165,35 +121,12 @@ pub(crate) fn take_piece<A: Format>(
     };
     match take_items(item, alloc, reader, count, values) {
         Ok(()) => Ok(count),
-        Err(Refusal::Wrong(WrongItem { index, wrong })) => Err(Refusal::Wrong(InFragments::Item {
+        Err(Refusal::Wrong(AtItem { index, wrong })) => Err(Refusal::Wrong(InFragments::Item {
             index: before + index as u128,
             wrong,
         })),
         Err(Refusal::Memory) => Err(Refusal::Memory),
     }
-}
-
-/// Goes past so many values.
-fn skip_items<A: Format>(
-    item: &A,
-    reader: &mut BitReader<'_>,
-    count: usize,
-) -> Result<(), WrongItem<A::Fault>>
-    ensures skipped { OnOk result
-        ((xs : List A.Plain) × Starts (λ ys l. SoMany (A.reads item.now) count ys l)
-        (bits_left reader.old) xs (bits_left reader.new)) }
-    ensures fault { IfErr result (λ e. (e.index < count) × After
-        (λ ys l. SoMany (A.reads item.now) e.index ys l)
-        (λ ys rest. A.is_fault item.now rest e.wrong)
-        (bits_left reader.old)) }
-{
-    for index in 0..count {
-        match item.skip(reader) {
-            Ok(()) => {}
-            Err(wrong) => return Err(WrongItem { index, wrong }),
-        }
-    }
-    Ok(())
 }
 
 /// Goes past a piece behind so many items, without memory, and says how many it has.
@@ -221,7 +154,7 @@ pub(crate) fn skip_piece<A: Format>(
     };
     match skip_items(item, reader, count) {
         Ok(()) => Ok(count),
-        Err(WrongItem { index, wrong }) => Err(InFragments::Item {
+        Err(AtItem { index, wrong }) => Err(InFragments::Item {
             index: before + index as u128,
             wrong,
         }),

@@ -5,7 +5,7 @@ use Rattle.asn1_bits.specs.declared.bit_appender.BitAppender.{BitAppender}
 use Rattle.asn1_bits.specs.declared.bit_reader.BitReader.{BitReader}
 use Rattle.asn1_bits.specs.BitReader.{view_left, bits_left}
 use Rattle.asn1_bits.specs.View.{part}
-use Rattle.asn1_bits.specs.Bits.{overwritten, octets_for, number, digits}
+use Rattle.asn1_bits.specs.Bits.{overwritten, octets_for, digits}
 use Rattle.asn1_bits.specs.Turns.{turns_for}
 use Rattle.asn1_bits.specs.BitAppender.{bits_written, room, lender_of}
 use Rattle.asn1_values.specs.declared.bit_fields.error.ReadError.{ReadError}

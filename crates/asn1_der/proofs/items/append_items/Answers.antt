@@ -1,4 +1,4 @@
-use Rattle.asn1_der.specs.ItemLaws.{written_step, misfit_at}
+use Rattle.asn1_compose.specs.CountedLaws.{written_step, misfit_at}
 use Rattle.asn1_der.proofs.items.append_items.Goals as goal
 
 pub returns-in-Err-Wrong-clause-refused : goal.returns-in-Err-Wrong-clause-refused

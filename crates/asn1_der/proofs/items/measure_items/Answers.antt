@@ -1,5 +1,5 @@
 use Rattle.std.proofs.Common.{rules}
-use Rattle.asn1_der.specs.ItemLaws.{measured_step, misfit_at}
+use Rattle.asn1_compose.specs.CountedLaws.{measured_step, misfit_at}
 use Rattle.asn1_der.proofs.items.measure_items.Goals as goal
 
 pub returns-in-Err-clause-misfit : goal.returns-in-Err-clause-misfit
