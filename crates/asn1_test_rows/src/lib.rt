@@ -9,9 +9,12 @@
 //! contract, and the program compares. No program but those of tests should use this crate.
 #![tactic(auto)]
 
+mod ranges;
 mod rows;
 mod words;
+pub mod words_or_none;
 
+pub use ranges::answer_each;
 pub use rows::{Answers, run};
 pub use words::{
     RowError, bits, bits_of, boolean, hex_of, number, octets, one, optional, outcome, parse_word,

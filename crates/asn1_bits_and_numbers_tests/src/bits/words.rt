@@ -1,7 +1,7 @@
 //! The words of rows on bits. What cannot be read of a word, or for want of memory, is none.
 
 use asn1_bits::BitStr;
-use asn1_test_rows::{hex_of, octets, show_value};
+pub use asn1_test_rows::words_or_none::{append, octets_of, push_number, push_octets, size, wide};
 use std::alloc::Global;
 
 /// More bits than any row has.
@@ -50,21 +50,6 @@ fn part_from(alloc: Global, octets: &str, first: &str, len: &str) -> Option<Part
     None
 }
 
-/// The octets that a word spells in hexadecimal.
-pub fn octets_of(alloc: Global, word: &str) -> Option<Vec<u8>> {
-    octets(alloc, word).ok()
-}
-
-/// The number that a word spells in decimal.
-pub fn size(word: &str) -> Option<usize> {
-    word.parse::<usize>().ok()
-}
-
-/// The wide number that a word spells in decimal.
-pub fn wide(word: &str) -> Option<u128> {
-    word.parse::<u128>().ok()
-}
-
 /// A number and a size, joined by a colon.
 pub fn digits_of(word: &str) -> Option<(u128, usize)> {
     if let Some((value, width)) = word.split_once(':')
@@ -86,20 +71,6 @@ pub fn bit_of(word: &str) -> Option<(usize, bool)> {
     None
 }
 
-/// Appends a word to a text of words.
-pub fn append(text: &mut String, word: &str) -> Option<()> {
-    if !text.is_empty() {
-        text.push(' ').ok()?;
-    }
-    text.push_str(word).ok()
-}
-
-/// Appends a number.
-pub fn push_number(alloc: Global, text: &mut String, number: u128) -> Option<()> {
-    let digits = show_value(alloc, number).ok()?;
-    append(text, digits.as_str())
-}
-
 /// Appends `true` or `false`.
 pub fn push_truth(text: &mut String, truth: bool) -> Option<()> {
     append(text, if truth { "true" } else { "false" })
@@ -108,12 +79,6 @@ pub fn push_truth(text: &mut String, truth: bool) -> Option<()> {
 /// Appends a bit as a word.
 pub fn push_bit(text: &mut String, bit: bool) -> Option<()> {
     append(text, if bit { "1" } else { "0" })
-}
-
-/// Appends octets in hexadecimal, `-` for none.
-pub fn push_octets(alloc: Global, text: &mut String, octets: &[u8]) -> Option<()> {
-    let digits = hex_of(alloc, octets).ok()?;
-    append(text, digits.as_str())
 }
 
 /// Appends the bits that a view shows as `0` and `1`, `-` for none.

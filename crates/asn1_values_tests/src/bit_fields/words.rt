@@ -1,9 +1,11 @@
 //! The words of rows on fields. What cannot be read of a word, or for want of memory, is none.
 
-use asn1_test_rows::{hex_of, octets, show_value};
+use asn1_test_rows::hex_of;
+pub use asn1_test_rows::words_or_none::{
+    append, octets_of, push_number, push_octets, push_shown, size, wide,
+};
 use asn1_values::{BitBuffer, BitStr};
 use std::alloc::Global;
-use std::fmt::Display;
 
 /// More bits than any row has.
 pub const MANY: usize = 200_000;
@@ -32,45 +34,6 @@ pub fn part_from(alloc: Global, octets: &str, first: &str, len: &str) -> Option<
         return Some(Part { octets, first, len });
     }
     None
-}
-
-/// The octets that a word spells in hexadecimal.
-pub fn octets_of(alloc: Global, word: &str) -> Option<Vec<u8>> {
-    octets(alloc, word).ok()
-}
-
-/// The number that a word spells in decimal.
-pub fn size(word: &str) -> Option<usize> {
-    word.parse::<usize>().ok()
-}
-
-/// The wide number that a word spells in decimal.
-pub fn wide(word: &str) -> Option<u128> {
-    word.parse::<u128>().ok()
-}
-
-/// Appends a word to a text of words.
-pub fn append(text: &mut String, word: &str) -> Option<()> {
-    if !text.is_empty() {
-        text.push(' ').ok()?;
-    }
-    text.push_str(word).ok()
-}
-
-/// Appends the text of a value.
-pub fn push_shown<T: Display + Drop>(alloc: Global, text: &mut String, value: T) -> Option<()> {
-    let word = show_value(alloc, value).ok()?;
-    append(text, word.as_str())
-}
-
-/// Appends a number.
-pub fn push_number(alloc: Global, text: &mut String, number: u128) -> Option<()> {
-    push_shown(alloc, text, number)
-}
-
-/// Appends octets in hexadecimal, `-` for none.
-pub fn push_octets(alloc: Global, text: &mut String, octets: &[u8]) -> Option<()> {
-    push_labelled(alloc, text, "", octets)
 }
 
 /// Appends a label and octets in hexadecimal.

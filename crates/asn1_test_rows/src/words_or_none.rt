@@ -1,0 +1,46 @@
+//! Words of rows, read and written without a reason: what cannot be read of a word, or for want of
+//! memory, is none.
+
+use crate::words::{hex_of, octets, show_value};
+use std::alloc::Global;
+use std::fmt::Display;
+
+/// The octets that a word spells in hexadecimal.
+pub fn octets_of(alloc: Global, word: &str) -> Option<Vec<u8>> {
+    octets(alloc, word).ok()
+}
+
+/// The number that a word spells in decimal.
+pub fn size(word: &str) -> Option<usize> {
+    word.parse::<usize>().ok()
+}
+
+/// The wide number that a word spells in decimal.
+pub fn wide(word: &str) -> Option<u128> {
+    word.parse::<u128>().ok()
+}
+
+/// Appends a word to a text of words.
+pub fn append(text: &mut String, word: &str) -> Option<()> {
+    if !text.is_empty() {
+        text.push(' ').ok()?;
+    }
+    text.push_str(word).ok()
+}
+
+/// Appends the text of a value.
+pub fn push_shown<T: Display + Drop>(alloc: Global, text: &mut String, value: T) -> Option<()> {
+    let word = show_value(alloc, value).ok()?;
+    append(text, word.as_str())
+}
+
+/// Appends a number.
+pub fn push_number(alloc: Global, text: &mut String, number: u128) -> Option<()> {
+    push_shown(alloc, text, number)
+}
+
+/// Appends octets in hexadecimal, `-` for none.
+pub fn push_octets(alloc: Global, text: &mut String, octets: &[u8]) -> Option<()> {
+    let digits = hex_of(alloc, octets).ok()?;
+    append(text, digits.as_str())
+}
