@@ -3,6 +3,7 @@ use Rattle.std.proofs.Common.{◌≡◌, ℕ, ◌+◌, ◌*◌, ◌^◌, ◌<◌
 use Rattle.std.specs.declared.cmp.Ordering.TheVariants.{Less, Equal, Greater}
 use Rattle.std.specs.Ordering.{MatchOrdering, bool_cmp, nat_cmp, ordering_then}
 use Rattle.std.specs.Cmp.{nat_cmp_is}
+use Rattle.std.specs.Cmp.Derive.{then_next}
 use Rattle.asn1_bits.specs.Bits.{number}
 use Rattle.asn1_bits.specs.BitLists.{bits_cmp}
 use Rattle.asn1_bits.specs.NumberLaws.{number-cons, number-lt}
@@ -49,11 +50,6 @@ ranks_of (true ∷ us) (false ∷ vs) h =
 pub by_number : (us vs : List Bool) → length us ≡ length vs → bits_cmp us vs ≡ nat_cmp (number us) (number vs)
 by_number us vs h = nat_cmp_is (number us) (number vs) (bits_cmp us vs) (ranks_of us vs h)
 
-then_again : (o p q : Ordering) → ordering_then (ordering_then o p) q ≡ ordering_then o (ordering_then p q)
-then_again Less p q = refl
-then_again Equal p q = refl
-then_again Greater p q = refl
-
 -- fronts of one length decide first
 pub by_fronts : (us vs xs ys : List Bool) → length us ≡ length vs
     → bits_cmp (us ++ xs) (vs ++ ys) ≡ ordering_then (bits_cmp us vs) (bits_cmp xs ys)
@@ -62,7 +58,7 @@ by_fronts [] (v ∷ vs) xs ys h = absurd (omega arith)
 by_fronts (u ∷ us) [] xs ys h = absurd (omega arith)
 by_fronts (u ∷ us) (v ∷ vs) xs ys h =
     ap (λ (o : Ordering). ordering_then (bool_cmp u v) o) (by_fronts us vs xs ys (omega arith))
-    ∙ sym (then_again (bool_cmp u v) (bits_cmp us vs) (bits_cmp xs ys))
+    ∙ then_next (bool_cmp u v) (bits_cmp us vs) (bits_cmp xs ys) refl refl
 
 same_bit : (b : Bool) (o : Ordering) → ordering_then (bool_cmp b b) o ≡ o
 same_bit true o = refl

@@ -7,12 +7,14 @@ use Rattle.asn1_compose.specs.Spelling.{Starts, Fits, IsWritten, Measures, IsSum
 use Rattle.asn1_compose.specs.Combined.{AreCounted, SoMany, ItemMisfit}
 use Rattle.asn1_compose.specs.ListLaws.{written_snoc, measured_snoc, count_starts}
 
--- ---- the item at i of a list: with those in front of it, and among all
+-- ---- x is the item at i of xs
 
 module _ {X Y : Type 0} (f : X → Y) (xs : List X) (i : ℕ) (x : X) (within : i < length xs) (is : x ≡ get_or xs i x) where
+  -- the first i + 1 items are the first i and x
   pub one_item_more : map f (take (i + 1) xs) ≡ map f (take i xs) ++ f x ∷ []
   one_item_more = map_more f xs i x within ∙ ap (λ (v : X). map f (take i xs) ++ f v ∷ []) (sym is)
 
+  -- all items are the first i, x, and those behind it
   pub parted_at : map f xs ≡ map f (take i xs) ++ f x ∷ map f (drop (suc i) xs)
   parted_at =
       ap (map f)
@@ -20,7 +22,7 @@ module _ {X Y : Type 0} (f : X → Y) (xs : List X) (i : ℕ) (x : X) (within : 
       ∙ ap (λ (l : List X). take i xs ++ l) (drop-cons xs i x within ∙ ap (λ (v : X). v ∷ drop (suc i) xs) (sym is)))
       ∙ map-append f (take i xs) (x ∷ drop (suc i) xs)
 
--- ---- a loop that has come to this item
+-- ---- steps of a loop that has come to x
 
 module _ {X Y F : Type 0} (P : Y → List Bool → Type 0) (W : Y → F → Type 0) (f : X → Y) (xs : List X) (i : ℕ) (x : X)
     (within : i < length xs) (is : x ≡ get_or xs i x) where

@@ -11,7 +11,7 @@ use Rattle.asn1_per.specs.FragmentLaws.{fragments_fit, joined_append}
 use Rattle.asn1_per.proofs.FragmentSteps.{WrittenSoFar, MeasuredSoFar, written_more, written_last, measured_more, measured_last}
 
 module _ {X F : Type 0} (P : X → List Bool → Type 0) (W : X → F → Type 0) where
-  -- behind items that have a spelling
+  -- an item that is wrong among ys is wrong in the whole list, where xs, which stand before, have a spelling
   pub misfit_behind : (xs ys rest whole : List X) (start i : ℕ) (e : F) → Fits (λ zs l. AreJoined P zs l) xs
       → length xs ≡ start → whole ≡ (xs ++ ys) ++ rest → ItemMisfit P W ys i e → ItemMisfit P W whole (start + i) e
   misfit_behind xs ys rest whole start i e fits sized parts m = record {

@@ -26,8 +26,8 @@ pub fn answer_each<A: Answers>(
     Ok(text)
 }
 
-/// The first of the words that is a range, by its place, with the first number and the one behind
-/// the last.
+/// The place of the first word that is a range, with the range's first number and the one behind its
+/// last.
 fn range_in(words: &[&str]) -> Option<(usize, usize, usize)> {
     for (place, word) in words.iter().enumerate() {
         if let Some((first, end)) = word.split_once("..")

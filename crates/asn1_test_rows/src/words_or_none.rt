@@ -1,5 +1,5 @@
-//! Words of rows, read and written without a reason: what cannot be read of a word, or for want of
-//! memory, is none.
+//! Words of rows, for calls that need no reason: `None` says that a word cannot be read, or that
+//! there is no memory.
 
 use crate::words::{hex_of, octets, show_value};
 use std::alloc::Global;
