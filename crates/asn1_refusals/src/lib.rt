@@ -21,4 +21,6 @@ mod refusal;
 #[cfg(test)]
 mod reserved;
 #[cfg(test)]
+mod streams;
+#[cfg(test)]
 mod strings;

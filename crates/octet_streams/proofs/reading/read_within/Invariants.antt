@@ -1,5 +1,5 @@
 use Rattle.std.specs.Io.KnownBytes.{Consumes}
-use Rattle.octet_streams.proofs.reading.read_to_end.Given as goal
+use Rattle.octet_streams.proofs.reading.read_within.Given as goal
 
 -- the text is what the input gave so far
 abbrev pub invariant-loop : goal.invariant-loop
