@@ -4,7 +4,9 @@ built of it."""
 import json
 import os
 import re
+import shutil
 import subprocess
+import sys
 
 TOP = os.path.dirname(os.path.dirname(os.path.realpath(__file__)))
 # What a check reads of a crate.
@@ -12,6 +14,12 @@ PARTS = ("src", "specs", "proofs")
 # A row of a crate's folder `runs`: what the program is given, its status, and what it prints.
 TEXT = r'("(?:[^"\\]|\\.)*")'
 RUN = re.compile(rf"{TEXT} = (\d+) {TEXT}")
+
+
+def need(command, package):
+    """Ends the script where the command is missing, and names the Debian package that has it."""
+    if not shutil.which(command):
+        sys.exit(f"{command} is missing: apt-get install {package}")
 
 
 def kit():
