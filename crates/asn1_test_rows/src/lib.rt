@@ -5,6 +5,8 @@
 //! signed_octets -129 = FF7F
 //! ```
 //!
+//! A word with a count in braces is meant so many times, in a call and in an answer: `n1=1{70000}`.
+//!
 //! A row costs no proof: each call that the rows name is proved once, in a function without a
 //! contract, and the program compares. No program but those of tests should use this crate.
 #![tactic(auto)]

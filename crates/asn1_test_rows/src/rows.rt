@@ -1,6 +1,6 @@
 //! Rows, from an input to its end.
 
-use crate::words::{RowError, unfold_word};
+use crate::words::{RowError, parse_word, unfold_word};
 use std::alloc::Global;
 use std::io::{BufRead, Write};
 
@@ -58,17 +58,40 @@ fn objection<A: Answers>(
 
 /// The answer of a call with its words.
 fn answer_of<A: Answers>(alloc: Global, answers: &A, call: &str) -> Result<String, RowError> {
-    let words: Vec<&str> = call.split_ascii_whitespace().collect(alloc)?;
+    let words = words_of(alloc, call)?;
     match words.as_slice().split_first() {
         Some((name, words)) => answers.answer(alloc, name, words),
         None => Err(RowError::Word(String::from_str(alloc, "no call")?)),
     }
 }
 
+/// Returns the words of a call, a word with a count in braces so many times.
+fn words_of<'a>(alloc: Global, call: &'a str) -> Result<Vec<&'a str>, RowError> {
+    let mut words = Vec::new(alloc);
+    for word in call.split_ascii_whitespace() {
+        let (word, count) = counted(alloc, word)?;
+        for _ in 0..count {
+            words.push(word)?;
+        }
+    }
+    Ok(words)
+}
+
+/// Returns a word and how often it is meant: `n1=1{70000}` is `n1=1`, 70,000 times.
+fn counted<'a>(alloc: Global, word: &'a str) -> Result<(&'a str, u32), RowError> {
+    if let Some(text) = word.strip_suffix('}')
+        && let Some((word, count)) = text.split_once('{')
+    {
+        return Ok((word, parse_word::<u32>(alloc, count)?));
+    }
+    Ok((word, 1))
+}
+
 /// What is wrong with an answer, if another one is wanted.
 fn difference(alloc: Global, answer: &str, wanted: &str) -> Result<Option<String>, RowError> {
     let mut spelled = String::new(alloc);
-    for word in wanted.split_ascii_whitespace() {
+    let words = words_of(alloc, wanted)?;
+    for word in words.as_slice() {
         if !spelled.is_empty() {
             spelled.push(' ')?;
         }
