@@ -1,0 +1,7 @@
+-- Laws of the definitions: no contract cites one.
+pub mod EncodingLaws
+pub mod ContentsLaws
+pub mod PositionLaws
+pub mod WritingLaws
+pub mod TypeLaws
+pub mod ComponentLaws

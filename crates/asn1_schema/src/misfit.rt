@@ -1,0 +1,16 @@
+//! Why the parts of a value have no encoding.
+
+/// Why the parts of a value have no encoding.
+#[derive(Clone, Copy, Debug, PartialEq, Eq)]
+pub enum MisfitKind {
+    /// The parts end before the value does.
+    NoPart,
+    /// The part is of another sort than the type asks for.
+    OtherPart,
+    /// The part's value is no value of the type, or has no encoding.
+    NoEncoding,
+    /// The tables have no such node or member.
+    NoNode,
+    /// The value is nested deeper than the caller allows.
+    TooDeep,
+}
