@@ -2,6 +2,8 @@
 //! of the second, from the bit that the third names on, and writes them again.
 #![tactic(auto)]
 
+#[cfg(test)]
+mod refusals;
 mod run;
 #[cfg(test)]
 mod tests;
