@@ -1,6 +1,6 @@
 -- Encodings: which bits are an encoding of which value, and which fault is the first where bits begin with no encoding.
 -- An encoding is built of smaller ones by the combinators of this file. They belong to no standard.
-use Rattle.std.specs.Prelude.{◌≡◌, ℕ, zero, suc, ◌+◌, ◌-◌, ◌^◌, ◌<◌, ◌≤◌, ◌⊎◌, Bool, List, [], ◌∷◌, ◌++◌, take, length}
+use Rattle.std.specs.Prelude.{◌≡◌, ℕ, zero, suc, ◌+◌, ◌-◌, ◌^◌, ◌<◌, ◌≤◌, ◌⊎◌, Bool, List, [], ◌++◌, take, length}
 use Rattle.asn1_bits.specs.Bits.{digits}
 
 -- a fault: at which node of the schema, with how many bits left, and of which kind

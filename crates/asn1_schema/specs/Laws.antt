@@ -4,4 +4,7 @@ pub mod ContentsLaws
 pub mod PositionLaws
 pub mod WritingLaws
 pub mod TypeLaws
+pub mod HeaderLaws
 pub mod ComponentLaws
+pub mod FieldLaws
+pub mod ExampleLaws

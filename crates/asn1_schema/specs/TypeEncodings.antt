@@ -1,10 +1,10 @@
 -- Encodings of types, both ways: which bits encode which parts, the first fault of bits, and the first misfit of parts.
 -- Positions: at `at`, so many bits of the message precede the encoding. An encoding that does not align ignores it.
-use Rattle.std.specs.Prelude.{◌≡◌, ◌≢◌, ℕ, zero, suc, ◌+◌, ◌⊎◌, ⊤, Bool, true, false, List, [], ◌∷◌, ◌++◌, length}
+use Rattle.std.specs.Prelude.{◌≡◌, ℕ, zero, suc, ◌+◌, ◌⊎◌, ⊤, Bool, true, false, List, [], ◌∷◌, ◌++◌, length}
 use Rattle.asn1_schema.specs.declared.misfit.MisfitKind.{MisfitKind}
 use Rattle.asn1_schema.specs.declared.misfit.MisfitKind.TheVariants.{NoPart, OtherPart, NoEncoding}
 use Rattle.asn1_schema.specs.Pieces.{Piece, Absent, Parts}
-use Rattle.asn1_schema.specs.Encodings.{Fault, Encoding, Contents, CanEncode, InTurn, constant, invalid, with_bits, except, within, in_turn}
+use Rattle.asn1_schema.specs.Encodings.{Fault, Encoding, Contents, CanEncode, constant, invalid, with_bits, except, within, in_turn}
 
 -- a misfit: at which node of the schema, with how many parts left, and of which kind
 abbrev pub Misfit : Type 0

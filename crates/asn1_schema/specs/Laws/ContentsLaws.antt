@@ -1,9 +1,9 @@
 -- Laws of contents: each combinator keeps `AreSound`.
-use Rattle.std.proofs.Common.{◌≡◌, ℕ, zero, suc, ◌+◌, ◌-◌, ◌*◌, ◌<◌, ◌≤◌, inl, inr, List, [], ◌∷◌, ◌++◌, Bool, length, take, drop, refl, sym, ◌∙◌, ap, subst, arith, append_assoc}
+use Rattle.std.proofs.Common.{◌≡◌, ℕ, zero, suc, ◌+◌, ◌-◌, ◌<◌, ◌≤◌, inl, inr, List, [], ◌++◌, Bool, length, take, drop, sym, ◌∙◌, ap, subst, arith}
 use Rattle.std.specs.Prelude.{◌⊎◌}
 use Rattle.std.proofs.lemmas.List.{length-append, length-take-le, append-nil}
 use Rattle.std.proofs.Math.Seq.{take-append_seam, drop-append_seam}
-use Rattle.asn1_schema.specs.Encodings.{Fault, Encoding, Contents, Starts, CanDecode, Then, IsAt, InSequence, DecodesOne, FillsOne, NamesUnfit, constant, with_bits, of_size, within, with_more_after, invalid_contents, any_bits, only, then_contents, if_next, by_size, mapped, items, repeated}
+use Rattle.asn1_schema.specs.Encodings.{Fault, Encoding, Contents, Starts, CanDecode, Then, IsAt, InSequence, FillsOne, NamesUnfit, constant, with_bits, of_size, with_more_after, invalid_contents, only, then_contents, if_next, by_size, mapped, items, repeated}
 use Rattle.asn1_schema.specs.Laws.EncodingLaws.{IsSound, at_inside, fewer, can, moved, constant_sound, with_bits_sound}
 
 -- What all contents are proved to keep: a list is one value at most; its first fault is one, excludes a value, and lies within

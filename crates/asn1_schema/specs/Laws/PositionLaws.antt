@@ -1,8 +1,7 @@
 -- Laws of encodings that depend on their position, and of those that a header encloses.
-use Rattle.std.proofs.Common.{◌≡◌, ℕ, ◌+◌, ◌≤◌, ◌-◌, inl, inr, Bool, List, ◌++◌, length, refl, sym, ◌∙◌, ap, subst, arith}
-use Rattle.std.specs.Prelude.{◌⊎◌}
+use Rattle.std.proofs.Common.{◌≡◌, ℕ, ◌+◌, ◌≤◌, inl, inr, Bool, List, length, refl, sym, ◌∙◌, ap, subst, arith}
 use Rattle.std.proofs.lemmas.List.{length-append}
-use Rattle.asn1_schema.specs.Encodings.{Fault, Encoding, Contents, Starts, CanDecode, Then, then, cases, with_bits, within, with_more_after, anywhere, InTurn, in_turn, in_case}
+use Rattle.asn1_schema.specs.Encodings.{Fault, Encoding, Contents, Starts, CanDecode, then, with_bits, within, with_more_after, in_turn, in_case}
 use Rattle.asn1_schema.specs.Laws.EncodingLaws.{IsSound, can, moved, then_sound, cases_sound, with_bits_sound}
 use Rattle.asn1_schema.specs.Laws.ContentsLaws.{AreSound}
 

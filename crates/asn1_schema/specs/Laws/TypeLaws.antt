@@ -1,14 +1,14 @@
 -- Laws of types: each combinator keeps `IsGood`.
-use Rattle.std.proofs.Common.{◌≡◌, ◌≢◌, ℕ, zero, suc, ◌+◌, inl, inr, List, [], ◌∷◌, ◌++◌, Bool, true, false, length, refl, sym, ◌∙◌, ap, subst, arith, append_assoc}
+use Rattle.std.proofs.Common.{◌≡◌, ℕ, zero, suc, ◌+◌, inl, inr, List, [], ◌∷◌, ◌++◌, Bool, length, refl, sym, ◌∙◌, ap, subst, append_assoc}
 use Rattle.std.specs.Prelude.{◌⊎◌, ⊤}
 use Rattle.asn1_schema.specs.declared.misfit.MisfitKind.{MisfitKind}
 use Rattle.asn1_schema.specs.declared.misfit.MisfitKind.TheVariants.{NoEncoding, OtherPart, NoPart}
 use Rattle.asn1_schema.specs.Pieces.{Piece, Absent, Parts}
-use Rattle.asn1_schema.specs.Encodings.{Encoding, InTurn, CanEncode, EncodesOne, constant, with_bits, except, in_turn}
-use Rattle.asn1_schema.specs.TypeEncodings.{Misfit, IsAtPart, TypeEncoding, AfterHeader, AfterParts, FirstPart, PairMisfit, nothing, invalid_type, both, several, PartMisfit, part, leaf, put, except_type, both_by_bits, several_by_bits, EncodesUniquely, NamesEachMisfit}
-use Rattle.asn1_schema.specs.Laws.EncodingLaws.{IsSound, constant_sound, invalid_sound, with_bits_sound, except_sound}
+use Rattle.asn1_schema.specs.Encodings.{Encoding, CanEncode, EncodesOne, constant, with_bits}
+use Rattle.asn1_schema.specs.TypeEncodings.{Misfit, IsAtPart, TypeEncoding, AfterParts, PairMisfit, nothing, invalid_type, both, several, part, leaf, put, except_type, both_by_bits, several_by_bits}
+use Rattle.asn1_schema.specs.Laws.EncodingLaws.{constant_sound, invalid_sound, with_bits_sound, except_sound}
 use Rattle.asn1_schema.specs.Laws.PositionLaws.{IsSoundEverywhere, in_turn_sound}
-use Rattle.asn1_schema.specs.Laws.WritingLaws.{EncodesUniquelyBy, NamesEachMisfitBy, AfterPartsBy, IsGood, IsGoodAfter, IsPresent, ArePresent, same_head, same_tail, not_empty, made, moved_parts, Pair, pair_encodes, pair_names, by_none, names_none, from_none, names_from_none}
+use Rattle.asn1_schema.specs.Laws.WritingLaws.{IsGood, ArePresent, same_head, same_tail, not_empty, made, moved_parts, pair_encodes, pair_names, by_none, names_none, from_none, names_from_none}
 
 -- good at every position
 abbrev pub IsGoodEverywhere : {K : Type 0} → (ℕ → TypeEncoding K) → Type 0
@@ -18,10 +18,11 @@ pub nothing_good : {K : Type 0} (at : ℕ) → IsGood (nothing {K = K} at)
 nothing_good at = record {
   decodes = constant_sound [];
   encodes = record {
-    one = λ tape xs ys rest other a b p q s t.
-        (p.0 ∙ sym q.0,
-        sym (s ∙ ap (λ (zs : Parts). zs ++ rest) p.0) ∙ t ∙ ap (λ (zs : Parts). zs ++ other) q.0,
-        p.1 ∙ sym q.1);
+    one = λ tape xs ys rest other a b p q s t. (
+      p.0 ∙ sym q.0,
+      sym (s ∙ ap (λ (zs : Parts). zs ++ rest) p.0) ∙ t ∙ ap (λ (zs : Parts). zs ++ other) q.0,
+      p.1 ∙ sym q.1,
+    );
     excludes = λ tape e m xs rest a p s. m;
     one_misfit = λ tape e g m n. absurd m;
   };
@@ -100,10 +101,11 @@ module _ {K X : Type 0} (A : ℕ → Encoding K X) (is : X → Piece) (B : X →
       let f : p.front ≡ q.front = (one at).one q.value p.front q.front (subst (λ (y : X). (A at).encodes y p.front) x p.first) q.first in
       let m = second p.value q.value p.front q.front p.after p.rest x f p.second in
       let g = (b q.value (at + length q.front)).encodes.one (p.after ++ rest) p.after q.after rest other p.rest q.rest m q.second refl
-      (same_tail (is p.value) (is q.value) (p.after ++ rest) (q.after ++ other) e) in
-      (p.is ∙ ap (λ (y : X). is y ∷ p.after) x ∙ ap (λ (zs : Parts). is q.value ∷ zs) g.0 ∙ sym q.is,
-      g.1,
-      p.parts ∙ ap (λ (m : List Bool). m ++ p.rest) f ∙ ap (λ (m : List Bool). q.front ++ m) g.2 ∙ sym q.parts)
+      (same_tail (is p.value) (is q.value) (p.after ++ rest) (q.after ++ other) e) in (
+        p.is ∙ ap (λ (y : X). is y ∷ p.after) x ∙ ap (λ (zs : Parts). is q.value ∷ zs) g.0 ∙ sym q.is,
+        g.1,
+        p.parts ∙ ap (λ (m : List Bool). m ++ p.rest) f ∙ ap (λ (m : List Bool). q.front ++ m) g.2 ∙ sym q.parts,
+      )
 
   value_excludes : (x : X) (tape ps : Parts) (e : Misfit) → V x tape ps e → (xs rest : Parts) (l : List Bool) → (r : H xs l)
       → r.value ≡ x → ps ≡ r.after ++ rest → ⊥
@@ -118,7 +120,7 @@ module _ {K X : Type 0} (A : ℕ → Encoding K X) (is : X → Piece) (B : X →
   part_excludes [] e m xs rest l r s = not_empty (is r.value) (r.after ++ rest) (front [] xs rest l r s)
   part_excludes (p ∷ ps) e (inr m) xs rest l r s =
       m.0 r.value (same_head p (is r.value) ps (r.after ++ rest) (front (p ∷ ps) xs rest l r s))
-  part_excludes (p ∷ ps) e (inl (x , h , m)) xs rest l r s =
+  part_excludes (p ∷ ps) e (inl (x, h, m)) xs rest l r s =
       let f = front (p ∷ ps) xs rest l r s in
       value_excludes x (p ∷ ps) ps e m xs rest l r
       (alike r.value x (sym (same_head p (is r.value) ps (r.after ++ rest) f) ∙ h))
@@ -147,24 +149,34 @@ module _ {K X : Type 0} (A : ℕ → Encoding K X) (is : X → Piece) (B : X →
   part_covers [] sound able = sound (record { node = node; left = 0; kind = NoPart }) refl
   part_covers (p ∷ ps) sound able =
       sound (record { node = node; left = length (p ∷ ps); kind = OtherPart })
-      (inr ((λ x h.
-          sound (record { node = node; left = length (p ∷ ps); kind = NoEncoding })
-          (inl (x, h, inl ((λ can.
-              (b x (at + length can.list)).names.covers ps
-              (λ e m. sound e (inl (x, h, inr (can.list, can.encoded, m))))
-              (λ t. able
-              (made H (p ∷ ps) (is x ∷ t.parts) t.rest (can.list ++ t.list)
-              (record {
-                value = x;
-                after = t.parts;
-                front = can.list;
-                rest = t.list;
-                first = can.encoded;
-                second = t.encodes;
-                is = refl;
-                parts = refl;
-              })
-              (ap (λ (i : Piece). i ∷ ps) h ∙ ap (λ (ys : Parts). is x ∷ ys) t.are)))), refl)))), refl))
+      (inr (
+        (λ x h.
+            sound (record { node = node; left = length (p ∷ ps); kind = NoEncoding })
+            (inl (
+              x,
+              h,
+              inl (
+                (λ can.
+                    (b x (at + length can.list)).names.covers ps
+                    (λ e m. sound e (inl (x, h, inr (can.list, can.encoded, m))))
+                    (λ t. able
+                    (made H (p ∷ ps) (is x ∷ t.parts) t.rest (can.list ++ t.list)
+                    (record {
+                      value = x;
+                      after = t.parts;
+                      front = can.list;
+                      rest = t.list;
+                      first = can.encoded;
+                      second = t.encodes;
+                      is = refl;
+                      parts = refl;
+                    })
+                    (ap (λ (i : Piece). i ∷ ps) h ∙ ap (λ (ys : Parts). is x ∷ ys) t.are)))),
+                refl,
+              ),
+            ))),
+        refl,
+      ))
 
   pub part_good : IsGood (part A is B node at)
   part_good = record {
@@ -232,10 +244,10 @@ module _ {K : Type 0} (C : List Bool → Type 0) (fault : K) (kind : MisfitKind)
       covers = λ tape sound able.
           a.names.covers tape (λ e m. sound e (inl m))
           (λ t.
-              let not : C t.list → ⊥ = λ c.
-                  sound (record { node = node; left = length tape; kind = kind })
-                  (inr (record { parts = t.parts; list = t.list; rest = t.rest; encodes = t.encodes; are = t.are; holds = c }, refl)) in
-              able (made E tape t.parts t.rest t.list (t.encodes, not) t.are));
+          let not : C t.list → ⊥ = λ c.
+          sound (record { node = node; left = length tape; kind = kind })
+          (inr (record { parts = t.parts; list = t.list; rest = t.rest; encodes = t.encodes; are = t.are; holds = c }, refl)) in
+          able (made E tape t.parts t.rest t.list (t.encodes, not) t.are));
     };
   }
 
@@ -270,10 +282,11 @@ module _ {K : Type 0} (A : ℕ → TypeEncoding K) (B : List Bool → ℕ → Ty
       let m : (B q.front (at + length q.front)).encoding.encodes p.after p.rest =
       subst (λ (i : List Bool). (B i (at + length i)).encoding.encodes p.after p.rest) e.2 (told xs k p) in
       let f = (b q.front (at + length q.front)).encodes.one (p.after ++ rest) p.after q.after rest other p.rest q.rest m (told ys l q) refl
-      e.1 in
-      (p.is ∙ ap (λ (zs : Parts). zs ++ p.after) e.0 ∙ ap (λ (zs : Parts). q.value.0 ++ zs) f.0 ∙ sym q.is,
-      f.1,
-      p.parts ∙ ap (λ (i : List Bool). i ++ p.rest) e.2 ∙ ap (λ (i : List Bool). q.front ++ i) f.2 ∙ sym q.parts)
+      e.1 in (
+        p.is ∙ ap (λ (zs : Parts). zs ++ p.after) e.0 ∙ ap (λ (zs : Parts). q.value.0 ++ zs) f.0 ∙ sym q.is,
+        f.1,
+        p.parts ∙ ap (λ (i : List Bool). i ++ p.rest) e.2 ∙ ap (λ (i : List Bool). q.front ++ i) f.2 ∙ sym q.parts,
+      )
 
   by_bits_excludes : (tape : Parts) (e : Misfit) → TW tape e → (xs rest : Parts) (l : List Bool) → T xs l → tape ≡ xs ++ rest → ⊥
   by_bits_excludes tape e (inl m) xs rest l r s =

@@ -1,9 +1,9 @@
 -- Laws of parts and their bits: what every combinator of types keeps.
-use Rattle.std.proofs.Common.{◌≡◌, ◌≢◌, ℕ, zero, suc, ◌+◌, inl, inr, List, [], ◌∷◌, ◌++◌, Bool, length, refl, sym, ◌∙◌, ap, subst, arith, append_assoc}
-use Rattle.std.specs.Prelude.{◌⊎◌, ⊤}
+use Rattle.std.proofs.Common.{◌≡◌, ℕ, suc, ◌+◌, inl, inr, List, [], ◌∷◌, ◌++◌, Bool, length, refl, sym, ◌∙◌, ap, subst, arith, append_assoc}
+use Rattle.std.specs.Prelude.{⊤}
 use Rattle.asn1_schema.specs.Pieces.{Piece, Absent, Parts}
-use Rattle.asn1_schema.specs.Encodings.{Encoding, InTurn}
-use Rattle.asn1_schema.specs.TypeEncodings.{Misfit, IsAtPart, TypeEncoding, AfterHeader, AfterParts, PairMisfit, EncodesUniquely, NamesEachMisfit}
+use Rattle.asn1_schema.specs.Encodings.{InTurn}
+use Rattle.asn1_schema.specs.TypeEncodings.{Misfit, TypeEncoding, AfterHeader, AfterParts, PairMisfit, EncodesUniquely, NamesEachMisfit}
 use Rattle.asn1_schema.specs.Laws.EncodingLaws.{IsSound}
 
 -- as `EncodesUniquely`, where P says a value too, which the parts tell
@@ -105,11 +105,12 @@ module _ {K X : Type 0} (A : TypeEncoding K) (Q : ℕ → X → Parts → List B
       (ahead x tape xs rest k p s) (ahead y tape ys other l r t) in
       let m : Q (at + length r.front) x p.after p.rest =
       subst (λ (i : List Bool). Q (at + length i) x p.after p.rest) e.2 p.second in
-      let f = (q (at + length r.front)).one x y (p.after ++ rest) p.after r.after rest other p.rest r.rest m r.second refl e.1 in
-      (f.0,
-      p.is ∙ ap (λ (zs : Parts). zs ++ p.after) e.0 ∙ ap (λ (zs : Parts). r.value ++ zs) f.1 ∙ sym r.is,
-      f.2,
-      p.parts ∙ ap (λ (i : List Bool). i ++ p.rest) e.2 ∙ ap (λ (i : List Bool). r.front ++ i) f.3 ∙ sym r.parts)
+      let f = (q (at + length r.front)).one x y (p.after ++ rest) p.after r.after rest other p.rest r.rest m r.second refl e.1 in (
+        f.0,
+        p.is ∙ ap (λ (zs : Parts). zs ++ p.after) e.0 ∙ ap (λ (zs : Parts). r.value ++ zs) f.1 ∙ sym r.is,
+        f.2,
+        p.parts ∙ ap (λ (i : List Bool). i ++ p.rest) e.2 ∙ ap (λ (i : List Bool). r.front ++ i) f.3 ∙ sym r.parts,
+      )
 
   pair_excludes : (tape : Parts) (e : Misfit) → S tape e → (x : X) (xs rest : Parts) (l : List Bool) → Pair x xs l → tape ≡ xs ++ rest
       → ⊥
