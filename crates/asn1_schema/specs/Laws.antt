@@ -6,5 +6,7 @@ pub mod WritingLaws
 pub mod TypeLaws
 pub mod HeaderLaws
 pub mod ComponentLaws
+pub mod ByStructure
+pub mod OneEncodingLaws
 pub mod FieldLaws
 pub mod ExampleLaws

@@ -1,0 +1,111 @@
+-- The fields of the packed encoding rules (X.691), both variants: `aligned` is true in the ALIGNED and false in the UNALIGNED
+-- variant. At `at`, so many bits of the message precede the field.
+use Rattle.std.specs.Prelude.{◌≡◌, ◌≢◌, ℕ, ◌+◌, ◌-◌, ◌*◌, ◌/◌, ◌%◌, ◌^◌, ◌<◌, ◌≤◌, ◌⊎◌, ⊤, Bool, true, false, List}
+use Rattle.asn1_characters.specs.Widths.{ceil_log2}
+use Rattle.asn1_schema.specs.Encodings.{Encoding, constant, invalid, then, cases, number, anywhere, in_turn, in_case}
+use Rattle.asn1_schema.specs.Fields.{raw_bits}
+use Rattle.asn1_x691.specs.declared.fault.FaultKind.{FaultKind}
+use Rattle.asn1_x691.specs.declared.fault.FaultKind.TheVariants.{Short, AboveMost, NotMinimal, Fragment, NotZero}
+
+-- ---- bit-fields, and octet-aligned bit-fields
+
+-- so many bits, all zero
+abbrev pub zeros : ℕ → ℕ → Encoding FaultKind ⊤
+zeros count node = then (number count Short node) (λ n u. u) (λ n. cases (n ≡ 0) (constant tt) (0 < n) (invalid NotZero node))
+
+-- how many bits are missing to whole octets
+abbrev pub to_octet : ℕ → ℕ
+to_octet at = (8 - at % 8) % 8
+
+-- a field that begins at an octet in the ALIGNED variant: zeros up to the octet precede it (11.2.6, 11.5.7, 11.9.3.3)
+abbrev pub on_octet : {X : Type 0} → Bool → ℕ → Encoding FaultKind X → ℕ → Encoding FaultKind X
+on_octet false node A at = A
+on_octet true node A at = then (zeros (to_octet at) node) (λ u x. x) (λ u. A)
+
+-- ---- whole numbers, each by its distance from the least
+
+-- the least width in which the numbers from 0 to `most` have encodings of their own (11.5.7.1)
+unfoldable pub width_to : ℕ → ℕ
+width_to most = ceil_log2 (most + 1)
+
+-- a number that does not exceed the greatest
+abbrev pub up_to : ℕ → ℕ → ℕ → Encoding FaultKind ℕ
+up_to most node d = cases (d ≤ most) (constant d) (most < d) (invalid AboveMost node)
+
+-- a number from 0 to the greatest, in so many bits (11.3)
+abbrev pub in_bits : ℕ → ℕ → ℕ → Encoding FaultKind ℕ
+in_bits width most node = then (number width Short node) (λ d n. n) (λ d. up_to most node d)
+
+-- how many octets so many bits need, one at least
+abbrev pub octets_needed : ℕ → ℕ
+octets_needed len = (len - 1) / 8 + 1
+
+-- a number in so many octets, and no fewer (11.3.6)
+abbrev pub minimal_octets : ℕ → ℕ → Encoding FaultKind ℕ
+minimal_octets octets node = then (number (8 * octets) Short node) (λ d n. n) (λ d.
+    cases ((octets ≤ 1) ⊎ (2 ^ (8 * (octets - 1)) ≤ d)) (constant d) ((1 < octets) × (d < 2 ^ (8 * (octets - 1)))) (invalid NotMinimal node))
+
+abbrev pub minimal_up_to : ℕ → ℕ → ℕ → Encoding FaultKind ℕ
+minimal_up_to octets most node = then (minimal_octets octets node) (λ d n. n) (λ d. up_to most node d)
+
+-- a number of octets, one at least, by its distance from 1
+abbrev pub octet_count : ℕ → ℕ → Encoding FaultKind ℕ
+octet_count most node = then (in_bits (width_to (most - 1)) (most - 1) node) (λ d n. n) (λ d. constant (d + 1))
+
+-- the number of its octets, then the number in them (11.5.7.4, 13.2.6 a)
+abbrev pub indefinite : ℕ → ℕ → ℕ → Encoding FaultKind ℕ
+indefinite range node = in_turn (anywhere (octet_count (octets_needed (width_to range)) node)) (λ octets n. n) (λ octets.
+    on_octet true node (minimal_up_to octets range node))
+
+-- a constrained whole number from 0 to the range, which is the distance of the greatest from the least (11.5)
+abbrev pub constrained : Bool → ℕ → ℕ → ℕ → Encoding FaultKind ℕ
+-- the least width (11.5.6)
+constrained false range node = anywhere (in_bits (width_to range) range node)
+constrained true range node =
+    -- up to 255 numbers: the same (11.5.7.1)
+    in_case (range < 255) (anywhere (in_bits (width_to range) range node)) (255 ≤ range)
+    -- 256 numbers: one octet (11.5.7.2)
+    (in_case (range ≡ 255) (on_octet true node (in_bits 8 range node)) (range ≢ 255)
+    -- up to 65,536 numbers: two octets (11.5.7.3)
+    (in_case (range < 65536) (on_octet true node (in_bits 16 range node)) (65536 ≤ range)
+    -- more: in the fewest octets, after their number (11.5.7.4)
+    (indefinite range node)))
+
+-- ---- lengths without an upper bound, below 16,384 (11.9.3.5 to 11.9.3.7)
+
+-- a length of fourteen bits, which seven do not hold
+abbrev pub long_enough : ℕ → ℕ → Encoding FaultKind ℕ
+long_enough node n = cases (128 ≤ n) (constant n) (n < 128) (invalid NotMinimal node)
+
+-- after a first octet: the octet itself below 128; fourteen bits after the bits 1 and 0; a fragment after 1 and 1
+abbrev pub length_after : ℕ → ℕ → Encoding FaultKind ℕ
+length_after node first =
+    cases (first < 128) (constant first) (128 ≤ first)
+    (cases (first < 192) (then (number 8 Short node) (λ second n. n) (λ second. long_enough node (256 * (first - 128) + second)))
+    (192 ≤ first) (invalid Fragment node))
+
+abbrev pub length_octets : ℕ → Encoding FaultKind ℕ
+length_octets node = then (number 8 Short node) (λ first n. n) (λ first. length_after node first)
+
+abbrev pub length_of : Bool → ℕ → ℕ → Encoding FaultKind ℕ
+length_of aligned node = on_octet aligned node (length_octets node)
+
+-- a length from 1 to 64, by its distance from 1 in six bits after a bit 0; a greater one after a bit 1 (11.9.3.4)
+abbrev pub distance_from_one : ℕ → Encoding FaultKind ℕ
+distance_from_one node = then (number 6 Short node) (λ d n. n) (λ d. constant (d + 1))
+
+abbrev pub above_64 : ℕ → ℕ → Encoding FaultKind ℕ
+above_64 node n = cases (64 < n) (constant n) (n ≤ 64) (invalid NotMinimal node)
+
+abbrev pub large_length : Bool → ℕ → ℕ → Encoding FaultKind ℕ
+large_length aligned node = in_turn (length_of aligned node) (λ n m. m) (λ n. anywhere (above_64 node n))
+
+abbrev pub small_length : Bool → ℕ → ℕ → Encoding FaultKind ℕ
+small_length aligned node = in_turn (anywhere (number 1 Short node)) (λ bit n. n) (λ bit.
+    in_case (bit ≡ 0) (anywhere (distance_from_one node)) (0 < bit) (large_length aligned node))
+
+-- ---- octets
+
+-- octets after their number (17.8)
+abbrev pub octets : Bool → ℕ → ℕ → Encoding FaultKind (List Bool)
+octets aligned node = in_turn (length_of aligned node) (λ n bits. bits) (λ n. on_octet aligned node (raw_bits (8 * n) Short node))

@@ -1,0 +1,3 @@
+-- Laws of the definitions: no contract cites one.
+pub mod FieldLaws
+pub mod OneEncodingLaws

@@ -1,0 +1,18 @@
+//! Why bits are no encoding.
+
+/// Why bits are no encoding of a value.
+#[derive(Clone, Copy, Debug, PartialEq, Eq)]
+pub enum FaultKind {
+    /// Bits are missing.
+    Short,
+    /// A number, a length or an index exceeds the greatest that is permitted.
+    AboveMost,
+    /// A number or a length has more octets than it needs.
+    NotMinimal,
+    /// A length is in fragments (X.691 11.9.3.8).
+    Fragment,
+    /// A padding bit is not zero.
+    NotZero,
+    /// Octets follow a complete encoding.
+    ExtraOctets,
+}

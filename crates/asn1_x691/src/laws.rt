@@ -1,0 +1,43 @@
+//! What holds of the fields that values are encoded by.
+
+ghost use Rattle.std.specs.Prelude.{ℕ, Bool};
+ghost use Rattle.asn1_schema.specs.Encodings.{DecodesOne, EncodesOne, NamesFault};
+ghost use Rattle.asn1_x691.specs.Fields.{constrained, length_of, small_length, octets};
+
+/// States what holds of a constrained whole number (X.691 11.5), in both variants, at each position
+/// of a message; it does nothing.
+pub fn laws_of_constrained()
+    // Bits begin with one number at most, which ends at one place.
+    ensures decodes_one { (aligned : Bool) (range node at : ℕ)
+        → DecodesOne (constrained aligned range node at).encodes }
+    // Otherwise their first fault is one.
+    ensures fault { (aligned : Bool) (range node at : ℕ)
+        → NamesFault (constrained aligned range node at).encodes (constrained aligned range node at).fault }
+    // A number has one encoding.
+    ensures encodes_one { (aligned : Bool) (range node at : ℕ)
+        → EncodesOne (constrained aligned range node at).encodes }
+{}
+
+/// States the same of a length without bounds below 16,384 (X.691 11.9.3.6, 11.9.3.7).
+pub fn laws_of_length()
+    ensures decodes_one { (aligned : Bool) (node at : ℕ) → DecodesOne (length_of aligned node at).encodes }
+    ensures fault { (aligned : Bool) (node at : ℕ)
+        → NamesFault (length_of aligned node at).encodes (length_of aligned node at).fault }
+    ensures encodes_one { (aligned : Bool) (node at : ℕ) → EncodesOne (length_of aligned node at).encodes }
+{}
+
+/// States the same of a normally small length (X.691 11.9.3.4).
+pub fn laws_of_small_length()
+    ensures decodes_one { (aligned : Bool) (node at : ℕ) → DecodesOne (small_length aligned node at).encodes }
+    ensures fault { (aligned : Bool) (node at : ℕ)
+        → NamesFault (small_length aligned node at).encodes (small_length aligned node at).fault }
+    ensures encodes_one { (aligned : Bool) (node at : ℕ) → EncodesOne (small_length aligned node at).encodes }
+{}
+
+/// States the same of octets after their length (X.691 17.8).
+pub fn laws_of_octets()
+    ensures decodes_one { (aligned : Bool) (node at : ℕ) → DecodesOne (octets aligned node at).encodes }
+    ensures fault { (aligned : Bool) (node at : ℕ)
+        → NamesFault (octets aligned node at).encodes (octets aligned node at).fault }
+    ensures encodes_one { (aligned : Bool) (node at : ℕ) → EncodesOne (octets aligned node at).encodes }
+{}

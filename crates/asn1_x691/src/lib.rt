@@ -1,0 +1,11 @@
+//! The packed encoding rules of X.691, canonical, in both variants.
+//!
+//! `specs/Fields` has the fields that values are encoded by: numbers, lengths, strings of octets.
+//! A parameter tells the ALIGNED variant from the UNALIGNED one.
+#![tactic(auto)]
+
+mod fault;
+mod laws;
+
+pub use fault::FaultKind;
+pub use laws::{laws_of_constrained, laws_of_length, laws_of_octets, laws_of_small_length};
