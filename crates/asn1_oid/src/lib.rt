@@ -11,6 +11,7 @@ mod laws;
 mod object_identifier;
 mod oid;
 mod oid_contents;
+mod parse;
 mod pushes;
 
 pub use contents::{ContentsError, OctetSource, check_contents};
@@ -18,3 +19,4 @@ pub use laws::laws_of_contents;
 pub use object_identifier::ObjectIdentifier;
 pub use oid::Oid;
 pub use oid_contents::OidContents;
+pub use parse::{DottedTextError, parse_arcs};
