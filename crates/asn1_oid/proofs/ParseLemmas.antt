@@ -11,7 +11,7 @@ use Rattle.std.proofs.lemmas.Fmt.{decimal_is_IsNumeral, decimal_injective, decim
 use Rattle.std.proofs.Math.ListN.{set}
 use Rattle.std.proofs.Math.Seq.{take-append_seam, drop-append-add, set-append_seam}
 use Rattle.std.proofs.lemmas.Grind.{flat_map-append}
-use Rattle.std.proofs.lemmas.List.{drop-set, length-set, length-append, length-drop, take_more, take-append-drop, drop-drop, drop_more, set_past, map-append}
+use Rattle.std.proofs.lemmas.List.{drop-set, length-set, length-append, length-drop, take_more, take-append-drop, drop-drop, drop_more, drop_all, set_past, map-append}
 use Rattle.std.proofs.lemmas.Str.Parse.{digit_from_value}
 use Rattle.std.proofs.lemmas.List.Splits.{join_with_byte-slice_split, slice_split_at, slice_split_none}
 use Rattle.std.proofs.lemmas.List.Elements.{All-nil, All-cons, All-append, All-head, All-tail}
@@ -148,3 +148,13 @@ pub part_few : (part here : ℕ) (behind : Option (Bor (List ℕ))) → IfSome b
     → IfNone behind (part ≡ here) → part + octets_left behind ≤ here
 part_few part here (Some b) some none = omega arith
 part_few part here None some none = omega arith
+
+-- room of as many places as there are arcs holds these
+pub filled : (arcs room old items : List ℕ) (k len : ℕ) → k ≡ length arcs → length old ≡ k → len ≡ k
+    → (k ≤ length old → room ≡ arcs ++ drop k old)
+    → take len (room ++ drop (length room) items) ≡ arcs
+filled arcs room old items k len is size all w =
+    let none : drop k old ≡ [] = drop_all k old (omega (arith, size)) in
+    let same : room ≡ arcs = w (omega (arith, size)) ∙ ap (λ t. arcs ++ t) none ∙ append-nil arcs in
+    ap (λ n. take n (room ++ drop (length room) items)) (all ∙ is ∙ ap length (sym same))
+    ∙ take-append_seam room (drop (length room) items) ∙ same

@@ -8,6 +8,7 @@
 mod contents;
 mod dotted;
 mod laws;
+mod lists;
 mod object_identifier;
 mod oid;
 mod oid_contents;
