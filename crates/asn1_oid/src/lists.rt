@@ -14,7 +14,7 @@ impl AsSlice<u32> for Oid<'_> {
     ghost items = { λ oid. arcs_of oid };
 
     fn as_slice(&self) -> &[u32] {
-        self.as_ref()
+        Oid::as_ref(self)
     }
 }
 
@@ -22,7 +22,7 @@ impl AsSlice<u32> for ObjectIdentifier {
     ghost items = { λ oid. oid };
 
     fn as_slice(&self) -> &[u32] {
-        self.as_ref()
+        ObjectIdentifier::as_ref(self)
     }
 }
 
@@ -50,6 +50,6 @@ impl<'a> IntoIterator for &'a ObjectIdentifier {
 
     /// An iterator over the arcs.
     fn into_iter(self) -> Iter<'a, u32> {
-        self.as_ref().iter()
+        self.as_oid().as_ref().iter()
     }
 }
