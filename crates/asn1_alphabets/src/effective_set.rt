@@ -141,7 +141,7 @@ pub(crate) struct Listing<'s> {
     pub(crate) set: &'s [u32],
 }
 
-/// Whether there are words, and the words, or those of no character.
+/// Splits the option: whether there are words, and these, otherwise the words of no character.
 pub(crate) fn parts_of_words(words: Option<CharacterWords>) -> (bool, CharacterWords)
     ensures { some_if result.0 result.1 ≡ words }
 {

@@ -3,7 +3,7 @@ use Rattle.std.specs.List.{range_with_len}
 use Rattle.asn1_characters.specs.Sets.{has_character}
 use Rattle.asn1_alphabets.specs.AlphabetInMemory.{some_if, set_of}
 use Rattle.asn1_alphabets.proofs.AlphabetLemmas.{has_by_words, found_is}
-use Rattle.asn1_alphabets.proofs.alphabet.CharacterAlphabet.contains.Goals as goal
+use Rattle.asn1_alphabets.proofs.alphabet.CharacterAlphabet.contains_counted.Goals as goal
 
 pub returns-then-self-clause-value : goal.returns-then-self-clause-value
 returns-then-self-clause-value c =
