@@ -81,15 +81,15 @@ impl<'a, T: CodeUnit> Clone for Chars<'a, T> {
     }
 }
 
-impl<'a, K: StringKind> IntoIterator for &'a RestrictedString<K> {
+impl<'a, K: StringKind<T = u8>> IntoIterator for &'a RestrictedString<K> {
     type Item = u32;
 
-    type IntoIter = Chars<'a, K::T>;
+    type IntoIter = Chars<'a, u8>;
 
     ghost into_iter_gives = { λ s characters. characters ≡ s.now };
 
     /// An iterator over the characters.
-    fn into_iter(self) -> Chars<'a, K::T> {
+    fn into_iter(self) -> Chars<'a, u8> {
         StaticPermittedAlphabet::chars(self)
     }
 }

@@ -17,7 +17,8 @@ pub trait FromBytes: StringKind<T = u8> {}
 /// A kind whose strings have `as_bytes`.
 pub trait AsBytes: StringKind<T = u8> {}
 
-/// A kind whose characters are below 128, so that its strings have `as_str`.
+/// A kind whose characters are below 128, so that its strings are texts: they have `as_str`,
+/// `into_string` and `Display`.
 pub trait AsText: StringKind<T = u8> {
     ghost is_ascii: { (c : ℕ) → has_character (base_set Self.NAME) c ≡ true → c < 128 };
 }
@@ -58,6 +59,13 @@ impl<K: AsText> RestrictedString<K> {
     {
         str::from_utf8(self.as_slice()).unwrap()
     }
+
+    /// The characters as a text, without a copy. It allocates nothing.
+    pub fn into_string(self) -> String
+        ensures { string_bytes result ≡ self }
+    {
+        String::from_utf8(self.into_vec()).unwrap()
+    }
 }
 
 impl<K: Iso646> RestrictedString<K> {
@@ -75,13 +83,6 @@ impl<K: Iso646> RestrictedString<K> {
         self.as_slice()
     }
 
-    /// The characters as a text, without a copy. It allocates nothing.
-    pub fn into_string(self) -> String
-        ensures { string_bytes result ≡ self }
-    {
-        String::from_utf8(self.into_vec()).unwrap()
-    }
-
     /// The characters as octets, without a copy. If memory for their reference count is refused,
     /// which the empty string does not need, the string comes back.
     pub fn into_octet_string(self) -> Result<OctetString, Self>
@@ -96,7 +97,7 @@ impl<K: Iso646> RestrictedString<K> {
     }
 }
 
-impl<K: Iso646> fmt::Display for RestrictedString<K> {
+impl<K: AsText> fmt::Display for RestrictedString<K> {
     ghost output = { λ s. Some s };
 
     fn fmt<W: fmt::Write>(&self, f: &mut fmt::Formatter<W>) -> fmt::Result {
