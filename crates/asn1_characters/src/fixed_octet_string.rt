@@ -57,7 +57,8 @@ impl<const N: usize> FixedOctetString<N> {
     pub fn into_array(self) -> [u8; N]
         ensures { result ≡ self.entry.octets }
     {
-        self.octets
+        let FixedOctetString { octets } = self;
+        octets
     }
 }
 

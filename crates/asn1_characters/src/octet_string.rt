@@ -124,7 +124,7 @@ impl OctetString {
     pub fn is_empty(&self) -> bool
         ensures { IsTrue result ↔ (self.now ≡ []) }
     {
-        self.bytes.is_empty()
+        self.as_ref().is_empty()
     }
 
     /// Whether the octets are these.
