@@ -280,7 +280,7 @@ impl<'s> CharacterAlphabet<'s> {
         }
     }
 
-    /// Whether the set has the character: by its ends where it leaves no gap, by its words where it
+    /// Whether the set has the character: by its ends where it is contiguous, by its words where it
     /// has any.
     #[inline(always)]
     fn contains_counted(&self, character: u32, probes: &mut Turns) -> bool
@@ -313,7 +313,7 @@ impl<'s> CharacterAlphabet<'s> {
         }
     }
 
-    /// A place of the character, in a set that is written by places and leaves a gap.
+    /// A place of the character, in a set that is written by places and not contiguous.
     #[inline(always)]
     fn place_of(&self, character: u32, probes: &mut Turns) -> Option<u32>
         requires { self.now.indexed ≡ true }
@@ -332,7 +332,7 @@ impl<'s> CharacterAlphabet<'s> {
         }
     }
 
-    /// The character at a place: in a set without a gap it is that far from the first.
+    /// The character at a place: in a contiguous set it is that far from the first.
     #[inline(always)]
     fn character_at(&self, place: u32) -> Option<u32>
         ensures { result ≡ slice_get (alphabet_of self.now).characters place }

@@ -78,18 +78,16 @@ fn of_refusal(alloc: Global, name: &str, number: u32) -> Result<String, RowError
         ),
         "OfPrintable" => show_value(
             alloc,
-            PermittedAlphabetError::InvalidRestrictedString {
-                source: printable(number),
-            },
+            PermittedAlphabetError::from(printable(number)),
         ),
         _ => Err(wrong(alloc, name, "refusal")),
     }
 }
 
 fn visible(character: u32) -> InvalidRestrictedString {
-    InvalidRestrictedString::InvalidVisibleString(InvalidVisibleString::from(character))
+    InvalidRestrictedString::from(InvalidVisibleString::from(character))
 }
 
 fn printable(character: u32) -> InvalidRestrictedString {
-    InvalidRestrictedString::InvalidPrintableString(InvalidPrintableString::from(character))
+    InvalidRestrictedString::from(InvalidPrintableString::from(character))
 }
