@@ -24,9 +24,9 @@ pub use asn1_oid::{
     check_contents, laws_of_contents, parse_arcs,
 };
 pub use asn1_strings::{
-    AsBytes, AsText, Bmp, BmpString, CharacterRanges, CharacterSetName, Chars, CodeUnit, FixedOctetString,
-    FromBytes, General, GeneralString, Graphic, GraphicString, HasCharacterSet, Ia5, Ia5String,
-    InvalidBmpString, InvalidGeneralString, InvalidGraphicString, InvalidIA5String,
+    AsBytes, AsText, Bmp, BmpString, CharacterRanges, CharacterSetName, Chars, CodeUnit,
+    FixedOctetString, FromBytes, General, GeneralString, Graphic, GraphicString, HasCharacterSet,
+    Ia5, Ia5String, InvalidBmpString, InvalidGeneralString, InvalidGraphicString, InvalidIA5String,
     InvalidNumericString, InvalidPrintableString, InvalidRestrictedString, InvalidTeletexString,
     InvalidVisibleString, Iso646, Numeric, NumericString, OctetString, PermittedAlphabetError,
     Printable, PrintableString, RestrictedString, StaticPermittedAlphabet, StringKind, Teletex,

@@ -1,8 +1,9 @@
 //! The calls that some strings alone have: their octets, and what becomes of them.
 
 use asn1_strings::{
-    AsBytes, AsText, BmpString, FromBytes, General, Graphic, Ia5, Iso646, Numeric, PermittedAlphabetError,
-    Printable, RestrictedString, StaticPermittedAlphabet, Teletex, Utf8String, Visible,
+    AsBytes, AsText, BmpString, FromBytes, General, Graphic, Ia5, Iso646, Numeric,
+    PermittedAlphabetError, Printable, RestrictedString, StaticPermittedAlphabet, Teletex,
+    Utf8String, Visible,
 };
 use asn1_test_rows::{RowError, hex_of, octets, show_value, two, wrong};
 use std::alloc::Global;

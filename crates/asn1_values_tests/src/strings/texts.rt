@@ -76,10 +76,7 @@ fn of_refusal(alloc: Global, name: &str, number: u32) -> Result<String, RowError
                 name: CharacterSetName::IA5,
             },
         ),
-        "OfPrintable" => show_value(
-            alloc,
-            PermittedAlphabetError::from(printable(number)),
-        ),
+        "OfPrintable" => show_value(alloc, PermittedAlphabetError::from(printable(number))),
         _ => Err(wrong(alloc, name, "refusal")),
     }
 }
