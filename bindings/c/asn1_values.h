@@ -211,7 +211,8 @@ asn1_code asn1_integer_to_u128(const uint8_t *octets, size_t octet_count, asn1_w
  * ends it. 5 * octet_count / 2 + 2 octets are always enough. A length that is enough is told also where the answer is
  * ASN1_ROOM: that of the text, at most 40, where the number has 128 bits, with a sign or without; and else 5 * n / 2 +
  * 2, of n octets behind those that only repeat the sign. ASN1_EMPTY for no octets; ASN1_TOO_MANY where 5 * octet_count
- * / 2 + 2 passes SIZE_MAX. */
+ * / 2 + 2 passes SIZE_MAX. The time grows as the square of the length: the digits are gone over once for each seven
+ * octets. So bound the length of what others send. */
 asn1_code asn1_integer_text(const uint8_t *octets, size_t octet_count, uint8_t *room, size_t room_count,
                             size_t *count);
 
@@ -219,7 +220,8 @@ asn1_code asn1_integer_text(const uint8_t *octets, size_t octet_count, uint8_t *
  * asn1_integer_text writes it, to the front of the room, and leaves the octets behind them. text_count / 2 + 1 octets
  * are always enough. A count that is enough is told also where the answer is ASN1_ROOM: that of the octets, at most
  * 17, where the number has 128 bits, with a sign or without; and else text_count / 2 + 1. ASN1_DECIMAL for any other
- * text: so for a plus sign, a zero in front of other digits, and -0. */
+ * text: so for a plus sign, a zero in front of other digits, and -0. The time grows as the square of the length: the
+ * octets are gone over once for each sixteen digits. So bound the length of what others send. */
 asn1_code asn1_integer_from_text(const uint8_t *text, size_t text_count, uint8_t *room, size_t room_count,
                                  size_t *count);
 

@@ -12,8 +12,8 @@
 
 enum { CALLS = 20000, ROUNDS = 400 };
 
-static uint8_t octets[1024];
-static uint8_t room[2600];
+static uint8_t octets[4096];
+static uint8_t room[10242];
 static volatile uint64_t sink;
 
 static inline uint64_t nothing(size_t i)
@@ -24,7 +24,7 @@ static inline uint64_t nothing(size_t i)
 static inline uint64_t number(size_t i)
 {
     uint64_t value = 0;
-    asn1_read_u64(octets, sizeof octets, i & 4095, 13, &value);
+    asn1_read_u64(octets, 1024, i & 4095, 13, &value);
     return value;
 }
 
@@ -32,7 +32,7 @@ static inline uint64_t number(size_t i)
 static inline uint64_t number_in_c(size_t i)
 {
     const size_t first = i & 4095;
-    if (first + 13 > 8 * sizeof octets)
+    if (first + 13 > 8 * 1024)
         return 0;
     const uint8_t *at = octets + first / 8;
     const uint32_t three = (uint32_t)at[0] << 16 | (uint32_t)at[1] << 8 | at[2];
@@ -66,6 +66,7 @@ static uint64_t text_of(size_t length)
 static inline uint64_t text_8(size_t i) { return text_of(8 + (i & 0)); }
 static inline uint64_t text_20(size_t i) { return text_of(20 + (i & 0)); }
 static inline uint64_t text_256(size_t i) { return text_of(256 + (i & 0)); }
+static inline uint64_t text_4096(size_t i) { return text_of(4096 + (i & 0)); }
 
 static inline uint64_t element(size_t i)
 {
@@ -160,6 +161,7 @@ LOOP(integer_in_c)
 LOOP(text_8)
 LOOP(text_20)
 LOOP(text_256)
+LOOP(text_4096)
 LOOP(element)
 LOOP(moment)
 
@@ -195,7 +197,8 @@ int main(void)
         {"the same in C", integer_in_c_loop, CALLS},
         {"decimal text of 8 octets, asn1_integer_text", text_8_loop, CALLS},
         {"decimal text of 20 octets", text_20_loop, 200},
-        {"decimal text of 256 octets", text_256_loop, 2},
+        {"decimal text of 256 octets", text_256_loop, 20},
+        {"decimal text of 4,096 octets: sixteen times as many", text_4096_loop, 1},
         {"an element of four octets, asn1_der_next", element_loop, CALLS},
         {"a UTCTime, asn1_der_utc_time", moment_loop, CALLS},
         {"a number of 13 bits at bit 3, asn1_read_fields", field_read_0_loop, CALLS},

@@ -39,11 +39,11 @@ pub struct CharacterAlphabet<'s> {
     kept: bool,
     // Whether the permitted set is ascending: no character is below the one before it.
     ascending: bool,
-    // Whether the effective set leaves no gap.
+    // Whether the effective set is contiguous: each character is one more than the one before it.
     run: bool,
     // Whether the words are those of the effective set. Then its characters are below 256.
     worded: bool,
-    // The effective set, where it is a permitted set or leaves no gap. Else it is empty.
+    // The effective set, where it is a permitted set or contiguous. Else it is empty.
     set: &'s [u32],
     words: CharacterWords,
     ghost known: { IsKnown name kept set width indexed ascending run (some_if worded words) },
@@ -116,6 +116,30 @@ impl<'s> CharacterAlphabet<'s> {
         ensures codes { (c k : ℕ) → IsCode (alphabet_of self.now) c k → k < 2 ^ result }
     {
         self.width as usize
+    }
+
+    /// Whether a character is written by its place in the set, otherwise by its value.
+    pub fn is_indexed(&self) -> bool
+        ensures { result ≡ (alphabet_of self.now).indexed }
+    {
+        self.indexed
+    }
+
+    /// How many characters the effective set has.
+    pub fn len(&self) -> usize
+        ensures { result ≡ length (alphabet_of self.now).characters }
+    {
+        match self.permitted() {
+            Some(set) => set.len(),
+            None => self.name.count() as usize,
+        }
+    }
+
+    /// Whether the effective set has the character.
+    pub fn contains(&self, character: u32) -> bool
+        ensures { result ≡ has_character (alphabet_of self.now).characters character }
+    {
+        self.contains_counted(character, &mut Turns::new())
     }
 
     /// A code of the character. Where it has none, it is `CharacterNotFound` in a permitted set,
@@ -233,7 +257,7 @@ impl<'s> CharacterAlphabet<'s> {
         if self.indexed {
             return self.place_of(character, probes);
         }
-        if self.contains(character, probes) {
+        if self.contains_counted(character, probes) {
             Some(character)
         } else {
             None
@@ -249,17 +273,17 @@ impl<'s> CharacterAlphabet<'s> {
         if self.indexed {
             return self.character_at(code);
         }
-        if self.contains(code, &mut Turns::new()) {
+        if self.contains_counted(code, &mut Turns::new()) {
             Some(code)
         } else {
             None
         }
     }
 
-    /// Whether the set has the character: by its ends where it leaves no gap, by its words where it
+    /// Whether the set has the character: by its ends where it is contiguous, by its words where it
     /// has any.
     #[inline(always)]
-    fn contains(&self, character: u32, probes: &mut Turns) -> bool
+    fn contains_counted(&self, character: u32, probes: &mut Turns) -> bool
         ensures value { result ≡ has_character (alphabet_of self.now).characters character }
         ensures counts { probes.old.count ≤ probes.new.count }
         ensures cost { let set = (alphabet_of self.now).characters in
@@ -289,7 +313,7 @@ impl<'s> CharacterAlphabet<'s> {
         }
     }
 
-    /// A place of the character, in a set that is written by places and leaves a gap.
+    /// A place of the character, in a set that is written by places and not contiguous.
     #[inline(always)]
     fn place_of(&self, character: u32, probes: &mut Turns) -> Option<u32>
         requires { self.now.indexed ≡ true }
@@ -308,7 +332,7 @@ impl<'s> CharacterAlphabet<'s> {
         }
     }
 
-    /// The character at a place: in a set without a gap it is that far from the first.
+    /// The character at a place: in a contiguous set it is that far from the first.
     #[inline(always)]
     fn character_at(&self, place: u32) -> Option<u32>
         ensures { result ≡ slice_get (alphabet_of self.now).characters place }

@@ -59,7 +59,7 @@ impl<'s> EffectiveSet<'s> {
         }
     }
 
-    /// Its largest character. `run` tells whether it is known to leave no gap.
+    /// Its largest character. `run` tells whether it is known to be contiguous.
     pub(crate) fn largest(self, run: bool) -> u32
         requires { run ≡ true → IsRun (characters_of self) }
         ensures { result ≡ largest (characters_of self.entry) }
@@ -84,7 +84,7 @@ impl<'s> EffectiveSet<'s> {
         }
     }
 
-    /// Its words, where its characters are below 256. A permitted set without a gap needs none.
+    /// Its words, where its characters are below 256. A contiguous permitted set needs none.
     pub(crate) fn words(self, run: bool, most: u32) -> Option<CharacterWords>
         requires { most ≡ largest (characters_of self) }
         ensures worded { ForSome result (HasWords (characters_of self.entry)) }
@@ -133,7 +133,7 @@ impl<'s> EffectiveSet<'s> {
 }
 
 // How the effective set lies in memory: whether it is a permitted set, and whether it is known to
-// leave no gap. In both cases `set` lists it.
+// be contiguous. In both cases `set` lists it.
 #[derive(Clone, Copy)]
 pub(crate) struct Listing<'s> {
     pub(crate) kept: bool,
@@ -141,7 +141,7 @@ pub(crate) struct Listing<'s> {
     pub(crate) set: &'s [u32],
 }
 
-/// Whether there are words, and the words, or those of no character.
+/// Splits the option: whether there are words, and these, otherwise the words of no character.
 pub(crate) fn parts_of_words(words: Option<CharacterWords>) -> (bool, CharacterWords)
     ensures { some_if result.0 result.1 ≡ words }
 {

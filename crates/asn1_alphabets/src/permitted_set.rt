@@ -15,7 +15,7 @@ pub(crate) fn largest_of(set: &[u32]) -> u32
     most
 }
 
-/// The largest character of a list without a gap: its last.
+/// The largest character of a contiguous list: its last.
 pub(crate) fn largest_of_run(set: &[u32]) -> u32
     requires { IsRun set.now }
     ensures { result ≡ largest set.now }
@@ -68,7 +68,7 @@ pub(crate) fn is_ascending(set: &[u32]) -> bool
     true
 }
 
-/// Whether some characters follow one another without a gap, below 2^32. No early exit, so that the
+/// Whether some characters are contiguous, and below 2^32. No early exit, so that the
 /// loop vectorises.
 pub(crate) fn is_run(set: &[u32]) -> bool
     ensures { IsTrue result ↔ IsRun set.now }

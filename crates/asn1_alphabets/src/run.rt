@@ -1,4 +1,4 @@
-//! Lists of characters without a gap.
+//! Contiguous lists of characters: each is one more than the one before it.
 ghost use Rattle.std.specs.Prelude.{◌≡◌, ◌+◌, ◌<◌, ◌^◌, false, slice_get, Some, MatchOption};
 ghost use Rattle.std.specs.List.{range_with_len};
 ghost use Rattle.asn1_characters.specs.Sets.{has_character};
@@ -6,7 +6,7 @@ ghost use Rattle.asn1_alphabets.specs.AlphabetInMemory.{IsRun};
 
 use asn1_bits::Turns;
 
-/// A list of characters without a gap, by its first and how many it has.
+/// A contiguous list of characters, by its first and how many it has.
 #[derive(Clone, Copy)]
 pub(crate) struct Run {
     first: u32,
@@ -16,7 +16,7 @@ pub(crate) struct Run {
 }
 
 impl Run {
-    /// A list that leaves no gap. Its first character and its length are read.
+    /// A contiguous list. Its first character and its length are read.
     #[inline(always)]
     pub(crate) fn of(set: &[u32]) -> Run
         requires { IsRun set.now }

@@ -5,6 +5,7 @@ ghost use Rattle.asn1_characters.specs.Sets.{has_character};
 ghost use Rattle.asn1_characters.specs.Widths.{ceil_log2};
 
 use asn1_bits::Turns;
+use std::fmt;
 
 /// A list of numbers, of which one look at an entry is a probe.
 pub trait Entries {
@@ -47,6 +48,12 @@ impl<'a> Looks<'a> {
             entries,
             taken: Turns::new(),
         }
+    }
+}
+
+impl fmt::Debug for Looks<'_> {
+    fn fmt<W: fmt::Write>(&self, f: &mut fmt::Formatter<W>) -> fmt::Result {
+        fmt::Debug::fmt(&self.entries, f)
     }
 }
 

@@ -1,14 +1,11 @@
 //! The dotted text of object identifiers: the decimals of the arcs, joined by full stops.
 
-ghost use Rattle.std.specs.Prelude.{◌≡◌, ◌≢◌, ◌↔◌, ◌⊎◌, ◌<◌, ◌≤◌, ◌+◌, ◌*◌, ◌==◌, ◌^◌, ℕ, List, [], ◌∷◌, ◌++◌, IfSome, IfNone, IsTrue, length, take, drop, decimal, slice_set};
-ghost use Rattle.std.specs.List.{slice_split};
-ghost use Rattle.std.specs.Option.{option_map_or};
+ghost use Rattle.std.specs.Prelude.{◌≡◌, ◌≢◌, ◌↔◌, ◌⊎◌, ◌<◌, ◌≤◌, ◌+◌, ◌*◌, ◌^◌, ℕ, List, ◌∷◌, ◌++◌, IsTrue, length, take, drop, decimal};
 ghost use Rattle.asn1_oid.specs.Arcs.{IsValidArcs, dotted, full_stop};
-ghost use Rattle.asn1_c.specs.Text.{IsDottedText};
+ghost use Rattle.asn1_oid.specs.DottedText.{IsDottedText};
 
 use crate::codes::{ARCS, DONE, ROOM, TEXT, TOO_MANY};
-use asn1_values::Oid;
-use std::str;
+use asn1_values::{Oid, parse_arcs};
 
 /// What stands between arcs.
 const FULL_STOP: u8 = b'.';
@@ -148,46 +145,17 @@ pub extern "C" fn asn1_oid_from_text(text: &[u8], room: &mut [u32], count: &mut 
     ensures unchanged { result ≢ 0 → room.new ≡ room.old }
     ensures kept { result ≡ 16 → count.new ≡ count.old }
 {
-    let Some(found) = read_arcs(text, &mut []) else {
+    let Some(found) = parse_arcs(text, &mut []) else {
         return TEXT;
     };
     *count = found;
     if found > room.len() {
         return ROOM;
     }
-    match read_arcs(text, room) {
+    match parse_arcs(text, room) {
         Some(_) => DONE,
         None => unreachable!(),
     }
-}
-
-/// How many arcs a dotted text has. They are written to the front of the room, where it holds them
-/// all.
-fn read_arcs(text: &[u8], room: &mut [u32]) -> Option<usize>
-    ensures some { IfSome result (λ k. (arcs : List ℕ) × IsDottedText arcs text.now
-        × (k ≡ length arcs)
-        × (k ≤ length room.old → room.new ≡ arcs ++ drop k room.old)) }
-    ensures most { IfSome result (λ k. 2 * k ≤ length text.now + 1) }
-    ensures none { IfNone result ((arcs : List ℕ) → ¬ (IsDottedText arcs text.now)) }
-    ensures same_length { length room.new ≡ length room.old }
-{
-    let mut front = [0; 2];
-    let mut count = 0;
-    let mut left = Some(text);
-    while let Some(here) = left {
-        let (part, behind) = first_part(here);
-        let Some(number) = number_of(part) else {
-            return None;
-        };
-        store(&mut front, count, number);
-        store(room, count, number);
-        count += 1;
-        left = behind;
-    }
-    if !are_valid(&front[..count.min(2)]) {
-        return None;
-    }
-    Some(count)
 }
 
 /// Whether the arcs are those of an identifier.
@@ -195,47 +163,4 @@ fn are_valid(arcs: &[u32]) -> bool
     ensures { IsTrue result ↔ IsValidArcs arcs.now }
 {
     Oid::new(arcs).is_some()
-}
-
-/// Stores a number at a place, if there is such a place.
-fn store(room: &mut [u32], at: usize, number: u32)
-    ensures { room.new ≡ slice_set room.old at number }
-{
-    if at < room.len() {
-        room[at] = number;
-    }
-}
-
-/// The octets before the first full stop, and those behind it, if there is one.
-fn first_part(text: &[u8]) -> (&[u8], Option<&[u8]>)
-    ensures parts { slice_split (λ b. b == full_stop) text.now ≡ result.0.now
-        ∷ option_map_or (λ behind. slice_split (λ b. b == full_stop) behind.now) result.1 [] }
-    ensures shorter { IfSome result.1
-        (λ behind. length result.0.now + 1 + length behind.now ≡ length text.now) }
-    ensures all { IfNone result.1 (length result.0.now ≡ length text.now) }
-{
-    for (i, octet) in text.iter().enumerate() {
-        if *octet == FULL_STOP {
-            return (&text[..i], Some(&text[i + 1..]));
-        }
-    }
-    (text, None)
-}
-
-/// The number of which the octets are the decimal.
-fn number_of(part: &[u8]) -> Option<u32>
-    ensures some { IfSome result (λ n. (decimal n ≡ part.now) × (n < 2 ^ 32)) }
-    ensures none { IfNone result ((n : ℕ) → n < 2 ^ 32 → decimal n ≢ part.now) }
-{
-    let Ok(text) = str::from_utf8(part) else {
-        return None;
-    };
-    let Ok(number) = text.parse::<u32>() else {
-        return None;
-    };
-    if Decimal::of(number).digits() == part {
-        Some(number)
-    } else {
-        None
-    }
 }

@@ -1,8 +1,10 @@
 //! Octet strings of one length.
-ghost use Rattle.std.specs.Prelude.{◌≡◌, ◌≢◌, ◌↔◌, length, replicate, IsSome, IsErr, IfSome, IfOk, IfErr};
+ghost use Rattle.std.specs.Prelude.{◌≡◌, ◌≢◌, ◌↔◌, length, replicate, IsSome, IsErr, IfSome, IfOk, IfErr, MatchResult};
 ghost use Rattle.std.specs.Borrow.{sem, Lends, Array, u8 as octet};
 
 use crate::octet_string::OctetString;
+use std::array::TryFromSliceError;
+use std::convert::AsSlice;
 use std::ops::{Deref, DerefMut};
 
 /// An OCTET STRING of N octets (X.680 23), in place.
@@ -49,6 +51,39 @@ impl<const N: usize> FixedOctetString<N> {
         ensures value { IfSome result (λ s. s.octets ≡ octets.now) }
     {
         FixedOctetString::try_from_slice(octets.as_ref())
+    }
+
+    /// Returns the array of the octets.
+    pub fn into_array(self) -> [u8; N]
+        ensures { result ≡ self.entry.octets }
+    {
+        let FixedOctetString { octets } = self;
+        octets
+    }
+}
+
+impl<const N: usize> TryFrom<&[u8]> for FixedOctetString<N> {
+    type Error = TryFromSliceError;
+
+    ghost try_from_gives = { λ octets r. MatchResult r
+        (λ s. s.octets ≡ octets.now) (λ _. length octets.now ≢ N) };
+
+    /// Returns the string of these octets.
+    ///
+    /// # Errors
+    ///
+    /// Returns an error if they are not N.
+    fn try_from(octets: &[u8]) -> Result<FixedOctetString<N>, TryFromSliceError> {
+        let octets = <[u8; N]>::try_from(octets)?;
+        Ok(FixedOctetString { octets })
+    }
+}
+
+impl<const N: usize> AsSlice<u8> for FixedOctetString<N> {
+    ghost items = { λ s. s.octets };
+
+    fn as_slice(&self) -> &[u8] {
+        &self.octets
     }
 }
 

@@ -11,6 +11,7 @@ mod character_set;
 mod character_table;
 mod character_words;
 mod error;
+mod error_conversions;
 mod fixed_octet_string;
 mod has_character_set;
 mod octet_string;

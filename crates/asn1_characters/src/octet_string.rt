@@ -1,8 +1,9 @@
 //! Octet strings.
-ghost use Rattle.std.specs.Prelude.{◌≡◌, ◌≢◌, ◌↔◌, ℕ, List, [], IsTrue, IsOkAnd, OnErr, IfOk, IfErr};
+ghost use Rattle.std.specs.Prelude.{◌≡◌, ◌≢◌, ◌↔◌, ℕ, List, [], length, IsTrue, IsOkAnd, OnErr, IfOk, IfErr};
 
 use bytes::Bytes;
 use std::alloc::{AllocError, Global};
+use std::convert::AsSlice;
 use std::marker::Model;
 
 /// An OCTET STRING (X.680 23): a list of octets, which its clones share.
@@ -112,6 +113,20 @@ impl OctetString {
         self.bytes.as_slice()
     }
 
+    /// How many octets there are.
+    pub fn len(&self) -> usize
+        ensures { result ≡ length self.now }
+    {
+        self.bytes.len()
+    }
+
+    /// Whether there are no octets.
+    pub fn is_empty(&self) -> bool
+        ensures { IsTrue result ↔ (self.now ≡ []) }
+    {
+        self.as_ref().is_empty()
+    }
+
     /// Whether the octets are these.
     pub fn eq_bytes(&self, octets: &[u8]) -> bool
         ensures { IsTrue result ↔ (self.now ≡ octets.now) }
@@ -135,5 +150,13 @@ impl Default for OctetString {
         OctetString {
             bytes: Bytes::new(),
         }
+    }
+}
+
+impl AsSlice<u8> for OctetString {
+    ghost items = { λ s. s };
+
+    fn as_slice(&self) -> &[u8] {
+        self.as_ref()
     }
 }

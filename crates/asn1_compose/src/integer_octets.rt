@@ -1,6 +1,6 @@
 //! The octets of an integer, for formats of INTEGER in crates above.
 
-ghost use Rattle.std.specs.Prelude.{◌≡◌, ◌%◌, IsTrue, IsFalse};
+ghost use Rattle.std.specs.Prelude.{◌≡◌, ◌<◌, ◌%◌, IsTrue, IsFalse};
 ghost use Rattle.asn1_bits.specs.BitReader.{view_left, bits_left};
 ghost use Rattle.asn1_integer.specs.IntegerOctets.{IsNoInteger};
 ghost use Rattle.asn1_integer.specs.IntegerOctets.{HoldsInteger};
@@ -13,6 +13,7 @@ pub fn are_shortest_octets(octets: &BitReader<'_>) -> bool
     requires { (view_left octets.now).len % 8 ≡ 0 }
     ensures yes { IsTrue result → HoldsInteger (bits_left octets.now) }
     ensures no { IsFalse result → IsNoInteger (bits_left octets.now) }
+    ensures some { IsTrue result → 0 < (view_left octets.now).len }
 {
     let len = octets.len();
     if len == 0 {

@@ -57,14 +57,11 @@ impl IntegerType for Integer {
     }
 
     fn wrapping_unsigned_add(self, other: Integer) -> Option<Integer> {
-        IntegerType::checked_add(&self, &other)
+        self.checked_add(&other)
     }
 
     fn is_negative(&self) -> bool {
-        match Integer::to_i128(self) {
-            Some(number) => number < 0,
-            None => *self < Integer::zero(),
-        }
+        Integer::is_negative(self)
     }
 
     fn is_signed(&self) -> bool {
@@ -76,13 +73,11 @@ impl IntegerType for Integer {
     }
 
     fn checked_add(&self, other: &Integer) -> Option<Integer> {
-        let sum = self.to_i128()?.checked_add(other.to_i128()?)?;
-        Some(Integer::from(sum))
+        Integer::checked_add(self, other)
     }
 
     fn checked_sub(&self, other: &Integer) -> Option<Integer> {
-        let difference = self.to_i128()?.checked_sub(other.to_i128()?)?;
-        Some(Integer::from(difference))
+        Integer::checked_sub(self, other)
     }
 
     fn to_i128(&self) -> Option<i128> {

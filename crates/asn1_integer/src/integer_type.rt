@@ -25,7 +25,7 @@ pub trait IntegerType {
     /// The unsigned type of the same width.
     type UnsignedPair;
 
-    /// The signed type that holds each of the type's numbers, `i128` at most.
+    /// The signed type of twice the width, `i128` at most; a signed type's own.
     type SignedPair;
 
     ghost WIDTH: { ℕ };
@@ -70,8 +70,8 @@ pub trait IntegerType {
         ensures shortest { IsShortest (value self.now) result }
         ensures in_range { IsInRange kind (value self.now) };
 
-    /// The shortest octets of the number modulo 2 to the type's bits, of an `Integer` of the
-    /// number itself.
+    /// The shortest octets without a sign of the number modulo 2 to the power `WIDTH`. An `Integer`
+    /// has those of the number itself, which must not be negative.
     fn to_unsigned_bytes_be(&self) -> IntegerBytes<'_>
         requires { IsNonNegativeUnlessNative kind (value self.now) }
         ensures { SpellsUnsigned kind (value self.now) result };

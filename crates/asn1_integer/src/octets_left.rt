@@ -1,6 +1,6 @@
 //! The integer of the octets that a reader has left, at any bit.
 
-ghost use Rattle.std.specs.Prelude.{◌-◌, ◌≡◌, ℕ, List, ◌%◌, ◌^◌, ◌<◌, ◌≤◌, IfOk, pos, ◌-ℤ◌, All};
+ghost use Rattle.std.specs.Prelude.{◌-◌, ◌≡◌, ℕ, List, ◌%◌, ◌^◌, ◌<◌, ◌≤◌, IfOk, OnErr, pos, ◌-ℤ◌, All};
 ghost use Rattle.asn1_bits.specs.BitReader.{view_left, bits_left};
 ghost use Rattle.asn1_bits.specs.Bits.{bits};
 ghost use Rattle.asn1_number.specs.Octets.{signed};
@@ -9,23 +9,30 @@ use asn1_bits::BitReader;
 use asn1_number::Integer;
 use std::alloc::{AllocError, Global};
 
-/// The two's complement value of the octets that the reader has left (X.690 8.3.3), one at least.
-/// Up to sixteen are read as a word, and take no memory; without an octet it is refused.
+/// Returns the two's complement value of the octets that the reader has left (X.690 8.3.3), at any
+/// bit of its storage. There must be at least one octet. The reader stays where it is. Up to
+/// sixteen octets are read as a word, and allocate nothing.
+///
+/// # Errors
+///
+/// Returns `AllocError` if memory fails, which only more than sixteen octets need.
 #[inline(always)]
 pub fn integer_of(alloc: Global, reader: &BitReader<'_>) -> Result<Integer, AllocError>
+    requires some { 0 < (view_left reader.now).len }
     requires whole { (view_left reader.now).len % 8 ≡ 0 }
-    ensures { IfOk result (λ n. (octets : List ℕ) → bits octets ≡ bits_left reader.now
+    ensures value { IfOk result (λ n. (octets : List ℕ) → bits octets ≡ bits_left reader.now
         → All (λ octet. octet < 256) octets → n ≡ signed octets) }
+    ensures memory { OnErr result (128 < (view_left reader.now).len) }
 {
     let width = reader.len();
-    if width > 0 && width <= 128 {
+    if width <= 128 {
         return Ok(integer_of_word(reader.first_u128(width), width));
     }
     copied_integer_of(alloc, reader)
 }
 
-/// Copies the reader before the call of `integer_of` that is not inlined, so that the original
-/// stays in registers.
+/// Passes a copy of the reader to the path that is not inlined, so that the caller's reader need
+/// not lie in memory.
 #[inline(always)]
 fn copied_integer_of(alloc: Global, reader: &BitReader<'_>) -> Result<Integer, AllocError>
     requires whole { (view_left reader.now).len % 8 ≡ 0 }

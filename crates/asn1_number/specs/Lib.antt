@@ -5,6 +5,7 @@ pub mod Shortest
 pub mod Readings
 pub mod Conversions
 pub mod Constrained
+pub mod Sums
 pub mod Laws
 -- How values lie in memory; no public contract cites these.
 pub mod Forms

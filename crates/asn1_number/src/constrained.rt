@@ -37,6 +37,12 @@ impl KeptInline {
             None => unreachable!(),
         }
     }
+
+    fn into_number(self) -> Integer
+        ensures { result ≡ self.number }
+    {
+        self.number
+    }
 }
 
 impl<const START: i64, const END: i64> ConstrainedInteger<START, END> {
@@ -49,6 +55,14 @@ impl<const START: i64, const END: i64> ConstrainedInteger<START, END> {
     {
         let kept = self.kept.clone();
         Ok(ConstrainedInteger { kept })
+    }
+
+    /// Returns the number, which lies from `START` to `END`.
+    pub fn into_inner(self) -> Integer
+        ensures { result ≡ constrained_number self.entry }
+    {
+        let ConstrainedInteger { kept } = self;
+        kept.into_number()
     }
 }
 

@@ -1,4 +1,5 @@
 //! Why octets are refused as an integer.
+use std::alloc::AllocError;
 use thiserror::Error;
 
 /// Why octets were not read as an integer. Both numbers are the bits of the type that was asked
@@ -8,8 +9,8 @@ pub enum IntegerError {
     /// There are no octets; X.690 8.3.1 asks for at least one.
     #[error("empty input")]
     UnexpectedEmptyInput,
-    /// There are more octets than the type has, without the one first zero octet that an unsigned
-    /// type's two's complement may need.
+    /// There are more octets than fit the type. An unsigned type that reads two's complement allows
+    /// one leading zero octet more.
     #[error("more than {max_integer_bits} bits")]
     Overflow { max_integer_bits: u32 },
     /// The value is negative, and the type has no sign; or the octets were read without a sign, and
@@ -19,4 +20,15 @@ pub enum IntegerError {
     /// There is no memory for a number outside `i128`.
     #[error("out of memory")]
     Memory,
+}
+
+impl From<AllocError> for IntegerError {
+    ghost use Rattle.std.specs.Prelude.{◌≡◌};
+    ghost use Rattle.asn1_number.specs.declared.error.IntegerError.TheVariants.{Memory};
+
+    ghost from_gives = { λ _ e. e ≡ Memory };
+
+    fn from(_error: AllocError) -> IntegerError {
+        IntegerError::Memory
+    }
 }

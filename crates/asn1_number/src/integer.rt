@@ -256,7 +256,7 @@ impl Integer {
         self.signed_octets().without_sign()
     }
 
-    /// Two words in the order of these, so that no more is done for `<` or `==` than `u64` does.
+    /// Maps both numbers to a `u64` each: comparing the two compares the numbers.
     fn order_keys(&self, other: &Integer) -> (u64, u64)
         ensures { nat_cmp result.0 result.1 ≡ int_cmp self.now other.now }
     {
@@ -309,7 +309,7 @@ impl Integer {
     }
 
     /// The number, exactly where it lies within `u128`.
-    pub(crate) fn to_u128(&self) -> Option<u128>
+    pub fn to_u128(&self) -> Option<u128>
         ensures { MatchOption result (¬ (IsInRange kind_u128 self.now))
             (λ n. (pos n ≡ self.now) × IsInRange kind_u128 self.now) }
     {

@@ -1,9 +1,13 @@
 //! Octets of an integer, where they are made or where they lie.
-ghost use Rattle.std.specs.Prelude.{◌≡◌, ℕ, pos, ◌≤◌, ◌++◌, length, drop};
+ghost use Rattle.std.specs.Prelude.{◌≡◌, ◌↔◌, ℕ, pos, ◌≤◌, [], ◌++◌, length, drop, IsTrue, nat_eq, ⊤};
+ghost use Rattle.std.specs.Cmp.{partial_equiv_from_equiv};
+ghost use Rattle.std.specs.Cmp.Lexicographic.{pointwise, nat_list_eq_equiv};
 ghost use Rattle.std.specs.Int.{to_be_bytes, w64};
 ghost use Rattle.asn1_number.specs.Octets.{IsShortest, IsShortestUnsigned};
 
 use crate::sign_octets::zeros_for_sign;
+use std::alloc::AllocError;
+use std::convert::AsSlice;
 use std::marker::Model;
 
 /// The octets of an integer, most significant first: up to seventeen of them inline, or borrowed
@@ -13,10 +17,10 @@ pub struct IntegerBytes<'a> {
     storage: Storage<'a>,
 }
 
-#[derive(Debug, Drop)]
+#[derive(Clone, Copy, Debug)]
 enum Storage<'a> {
-    /// The `count` octets of two words from `start` on, all that follow. A count is kept, so that
-    /// `len` reads it where a borrowed slice has its length.
+    /// `words[start..]`, big-endian. `start + count` is 16; `count` is stored so that each variant
+    /// has its length at one offset.
     Words {
         start: usize,
         count: usize,
@@ -104,6 +108,13 @@ impl<'a> IntegerBytes<'a> {
         self.as_ref().len()
     }
 
+    /// Whether there are no octets. The octets of a number are never none.
+    pub fn is_empty(&self) -> bool
+        ensures { IsTrue result ↔ (self.now ≡ []) }
+    {
+        self.as_ref().is_empty()
+    }
+
     /// The shortest octets without a sign, where these are the shortest two's complement octets of
     /// a number that is not negative.
     pub fn without_sign(self) -> IntegerBytes<'a>
@@ -130,5 +141,40 @@ impl<'a> IntegerBytes<'a> {
             },
             Storage::Borrowed(octets) => IntegerBytes::borrowed(&octets[skipped..]),
         }
+    }
+}
+
+impl AsSlice<u8> for IntegerBytes<'_> {
+    ghost items = { λ octets. octets };
+
+    fn as_slice(&self) -> &[u8] {
+        self.as_ref()
+    }
+}
+
+impl PartialEq for IntegerBytes<'_> {
+    ghost eq = { pointwise nat_eq };
+
+    ghost laws = { partial_equiv_from_equiv nat_list_eq_equiv };
+
+    fn eq(&self, other: &Self) -> bool {
+        self.as_ref() == other.as_ref()
+    }
+}
+
+impl Eq for IntegerBytes<'_> {
+    ghost laws = { nat_list_eq_equiv };
+}
+
+impl Clone for IntegerBytes<'_> {
+    ghost is_clone = { λ x y. y ≡ x };
+
+    ghost is_infallible = { λ _. ⊤ };
+
+    /// The same octets. It allocates nothing.
+    fn clone(&self) -> Result<Self, AllocError> {
+        Ok(IntegerBytes {
+            storage: self.storage,
+        })
     }
 }

@@ -14,6 +14,7 @@ mod integer_bytes;
 mod laws;
 mod order;
 mod sign_octets;
+mod sums;
 mod try_from_integer;
 mod values;
 

@@ -10,8 +10,8 @@ use std::cmp::Ordering;
 /// The bit of a word that is its sign.
 const SIGN: u64 = 1 << 63;
 
-/// Two words in the order of two numbers of sixteen octets: the first eight, which hold the sign,
-/// where these differ, and else the last eight.
+/// Maps two numbers of sixteen octets to a word each: comparing the words compares the numbers. They
+/// are the first eight octets, which hold the sign, if these differ, otherwise the last eight.
 pub(crate) fn sixteen_keys(a: &[u8], b: &[u8]) -> (u64, u64)
     requires { (length a.now ≡ 16) × (length b.now ≡ 16) }
     ensures { nat_cmp result.0 result.1 ≡ int_cmp (signed a.now) (signed b.now) }

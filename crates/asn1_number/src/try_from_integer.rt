@@ -36,6 +36,13 @@ impl TryFromIntegerError {
         TryFromIntegerError { original }
     }
 
+    /// The number that was refused, borrowed.
+    pub fn original(&self) -> &Integer
+        ensures { result.now ≡ self.now }
+    {
+        &self.original
+    }
+
     /// The number that was refused.
     pub fn into_original(self) -> Integer
         ensures { result ≡ self }

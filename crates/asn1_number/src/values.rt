@@ -95,8 +95,8 @@ pub(crate) fn start_of(number: i128) -> usize
     }
 }
 
-/// Where the shortest octets begin in the sixteen of the number that these octets spell. Mostly
-/// they are the shortest.
+/// Returns where the shortest octets begin in the sixteen octets of the number that these octets
+/// encode. It tests first whether they are the shortest, as they mostly are.
 pub(crate) fn start_among(octets: &[u8]) -> usize
     requires some { 0 < length octets.now }
     requires few { length octets.now ≤ 16 }

@@ -1,4 +1,5 @@
 pub mod DottedLemmas
+pub mod ParseLemmas
 pub mod PushLemmas
 pub mod ReadingLemmas
 pub mod StepLemmas

@@ -1,6 +1,7 @@
 -- what contracts speak of
 pub mod Arcs
 pub mod Contents
+pub mod DottedText
 pub mod Oid
 -- how the steps of the code are stated
 pub mod Reading
@@ -8,3 +9,4 @@ pub mod Writing
 -- laws, with their proofs, for the crates above
 pub mod ReadingLaws
 pub mod WritingLaws
+pub mod DottedLaws

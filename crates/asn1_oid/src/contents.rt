@@ -44,8 +44,8 @@ fn are_octets(octets: &[u8])
 /// Why octets are not the contents of an identifier, or could not be read as such.
 #[derive(Clone, Copy, Debug, Drop, Error, PartialEq, Eq, PartialOrd, Ord, Hash)]
 pub enum ContentsError {
-    /// They are the contents of no arcs of any size: the list is empty, a subidentifier begins with
-    /// 80 (hexadecimal), or the last one does not end.
+    /// They are no contents, however large arcs may be: the list is empty, a subidentifier begins
+    /// with 80 (hexadecimal), or the last one does not end.
     #[error("no contents of an object identifier")]
     Malformed,
     /// They are the contents of arcs, one of which passes `u32`.

@@ -8,9 +8,11 @@
 mod contents;
 mod dotted;
 mod laws;
+mod lists;
 mod object_identifier;
 mod oid;
 mod oid_contents;
+mod parse;
 mod pushes;
 
 pub use contents::{ContentsError, OctetSource, check_contents};
@@ -18,3 +20,4 @@ pub use laws::laws_of_contents;
 pub use object_identifier::ObjectIdentifier;
 pub use oid::Oid;
 pub use oid_contents::OidContents;
+pub use parse::{DottedTextError, parse_arcs};

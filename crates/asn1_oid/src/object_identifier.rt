@@ -9,10 +9,12 @@ ghost use Rattle.std.specs.Hash.{same_Alike};
 ghost use Rattle.std.specs.Ordering.{nat_cmp};
 ghost use Rattle.asn1_oid.specs.Arcs.{IsValidArcs, dotted};
 ghost use Rattle.asn1_oid.specs.Contents.{IsContents, FitU32};
+ghost use Rattle.asn1_oid.specs.DottedText.{IsDottedText};
 ghost use Rattle.asn1_oid.specs.Oid.{arcs_of};
 
 use crate::contents::{ContentsError, OctetSource, arcs_in, examine};
 use crate::oid::{Oid, is_valid};
+use crate::parse::{DottedTextError, parse_arcs};
 use std::alloc::{AllocError, Global};
 use std::borrow::CowSlice;
 use std::cmp::Ordering;
@@ -104,6 +106,36 @@ impl ObjectIdentifier {
         Ok(ObjectIdentifier {
             arcs: CowSlice::Owned(arcs),
         })
+    }
+
+    /// Reads an identifier from its dotted text: the decimals of its arcs, joined by full stops. No
+    /// arc has a sign or a leading zero.
+    ///
+    /// # Errors
+    ///
+    /// Returns `Malformed` if the text is not that of an identifier whose arcs all fit `u32`;
+    /// otherwise `Memory` if memory fails.
+    pub fn parse(alloc: Global, text: &str) -> Result<ObjectIdentifier, DottedTextError>
+        ensures value { IfOk result (λ oid. IsDottedText oid text.now) }
+        // It is the text of no other arcs.
+        ensures only { IfOk result (λ oid. (arcs : List ℕ) → IsDottedText arcs text.now → oid ≡ arcs) }
+        ensures accepted { (arcs : List ℕ) → IsDottedText arcs text.now
+            → IsOkUnless result DottedTextError.Memory }
+        ensures malformed { (result ≡ Err DottedTextError.Malformed)
+            ↔ ((arcs : List ℕ) → ¬ (IsDottedText arcs text.now)) }
+        ensures memory { result ≡ Err DottedTextError.Memory
+            → (arcs : List ℕ) × IsDottedText arcs text.now }
+    {
+        let Some(count) = parse_arcs(text.as_bytes(), &mut []) else {
+            return Err(DottedTextError::Malformed);
+        };
+        let mut arcs = vec![in alloc; 0; count]?;
+        match parse_arcs(text.as_bytes(), arcs.as_mut_slice()) {
+            Some(_) => Ok(ObjectIdentifier {
+                arcs: CowSlice::Owned(arcs),
+            }),
+            None => unreachable!(),
+        }
     }
 
     /// The identifier, borrowed.

@@ -122,6 +122,23 @@ impl<'a> OidContents<'a> {
     }
 }
 
+impl<'a> Clone for OidContents<'a> {
+    ghost use Rattle.std.specs.Prelude.{⊤};
+
+    ghost is_clone = { λ x y. y ≡ x };
+
+    ghost is_infallible = { λ _. ⊤ };
+
+    /// An iterator over the same octets. It allocates nothing.
+    fn clone(&self) -> Result<OidContents<'a>, AllocError> {
+        Ok(OidContents {
+            octets: self.octets,
+            left: self.left,
+            arcs: self.arcs,
+        })
+    }
+}
+
 impl<'a> Iterator for OidContents<'a> {
     ghost use Rattle.std.specs.Prelude.{IfSome};
     ghost use Rattle.std.specs.Iterator.{UpTo};

@@ -35,6 +35,7 @@ pub(crate) fn next_contents<'a>(
     reader: &mut BitReader<'a>,
 ) -> Result<BitReader<'a>, UnconstrainedFault>
     ensures whole { IfOk result (λ front. (view_left front).len % 8 ≡ 0) }
+    ensures some { IfOk result (λ front. 0 < (view_left front).len) }
     ensures holds { IfOk result (λ front. HoldsInteger (bits_left front)) }
     ensures read { IfOk result (λ front. (h : HoldsInteger (bits_left front))
         → Starts (λ n list. IsUnconstrained n list) (bits_left reader.old) h.1

@@ -1,7 +1,7 @@
 //! Object identifiers.
 
 use crate::refusal::{met_before, settle};
-use asn1_values::{ContentsError, ObjectIdentifier, Oid, check_contents};
+use asn1_values::{ContentsError, DottedTextError, ObjectIdentifier, Oid, check_contents};
 use std::alloc::AllocError;
 use std::borrow::CowSlice;
 use std::test::Fail;
@@ -16,6 +16,9 @@ const CONTENTS: [u8; 9] = [0x60, 0x86, 0x48, 0x01, 0x65, 0x03, 0x04, 0x02, 0x03]
 const ELEMENT: [u8; 11] = [
     0x06, 0x09, 0x60, 0x86, 0x48, 0x01, 0x65, 0x03, 0x04, 0x02, 0x03,
 ];
+
+/// Its dotted text.
+const TEXT: &str = "2.16.840.1.101.3.4.2.3";
 
 /// Whether an identifier was made, and whether it then has the arcs.
 fn outcome_of(answer: Result<ObjectIdentifier, AllocError>) -> (bool, bool) {
@@ -65,6 +68,15 @@ fn object_identifier_from_contents(rt: HostRuntime) -> Result<(), Fail> {
 }
 
 #[test]
+fn object_identifier_parse(rt: HostRuntime) -> Result<(), Fail> {
+    let (is_done, is_right) = match ObjectIdentifier::parse(rt.alloc(), TEXT) {
+        Ok(oid) => (true, oid.eq_arcs(&ARCS)),
+        Err(error) => (false, error == DottedTextError::Memory),
+    };
+    settle(&rt, "ObjectIdentifier::parse", is_done, is_right)
+}
+
+#[test]
 fn oid_contents_append_to(rt: HostRuntime) -> Result<(), Fail> {
     let oid = Oid::new(&ARCS).ok_or("valid")?;
     let contents = oid.contents().ok_or("two arcs")?;
@@ -78,13 +90,15 @@ fn oid_contents_append_to(rt: HostRuntime) -> Result<(), Fail> {
 }
 
 #[test]
-fn wrong_contents_keep_their_names(rt: HostRuntime) -> Result<(), Fail> {
+fn wrong_contents_and_texts_keep_their_names(rt: HostRuntime) -> Result<(), Fail> {
     let malformed: &[u8] = &[0x2A, 0x80, 0x01];
     let refused = ObjectIdentifier::from_contents(rt.alloc(), &malformed).err();
     assert!(rt; refused == Some(ContentsError::Malformed));
     let large: &[u8] = &[0x2A, 0x90, 0x80, 0x80, 0x80, 0x00];
     let refused = ObjectIdentifier::from_contents(rt.alloc(), &large).err();
     assert!(rt; refused == Some(ContentsError::ArcTooLarge));
+    let refused = ObjectIdentifier::parse(rt.alloc(), "1.2.").err();
+    assert!(rt; refused == Some(DottedTextError::Malformed));
     Ok(())
 }
 

@@ -6,7 +6,9 @@ ghost use Rattle.asn1_strings.specs.Strings.{character_octets, string_of_octets}
 ghost use Rattle.asn1_characters.specs.SetLaws.{below_limit};
 ghost use Rattle.asn1_characters.specs.declared.character_set.CharacterSetName.TheVariants.{Bmp as name};
 
+use crate::chars::Chars;
 use crate::restricted_string::RestrictedString;
+use crate::static_permitted_alphabet::StaticPermittedAlphabet;
 use crate::string_kind::StringKind;
 use asn1_characters::CharacterSetName;
 use std::alloc::AllocError;
@@ -56,5 +58,18 @@ fn put_octets(octets: &mut [u8], units: &[u16])
         let [high, low] = unit.to_be_bytes();
         octets[2 * i] = high;
         octets[2 * i + 1] = low;
+    }
+}
+
+impl<'a> IntoIterator for &'a RestrictedString<Bmp> {
+    type Item = u32;
+
+    type IntoIter = Chars<'a, u16>;
+
+    ghost into_iter_gives = { λ s characters. characters ≡ s.now };
+
+    /// An iterator over the characters.
+    fn into_iter(self) -> Chars<'a, u16> {
+        StaticPermittedAlphabet::chars(self)
     }
 }

@@ -94,7 +94,8 @@ fn push_next<'a, S: StaticPermittedAlphabet, M: Keys>(
     right
 }
 
-/// The character that was found, where a string may hold it; else a space, and that it is not.
+/// Returns the character and true if it was found and the set has it, otherwise a space and false,
+/// so that the loop goes on without a branch.
 #[inline(always)]
 fn examined<S: StaticPermittedAlphabet>(found: Option<u32>) -> (u32, bool)
     ensures held { has_character (base_set S.CHARACTER_SET_NAME) result.0 ≡ true }

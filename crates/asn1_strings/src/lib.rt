@@ -39,7 +39,7 @@ pub use general_string::{General, GeneralString};
 pub use graphic_string::{Graphic, GraphicString};
 pub use ia5_string::{Ia5, Ia5String};
 pub use numeric_string::{Numeric, NumericString};
-pub use octet_kinds::{AsBytes, FromBytes, Iso646};
+pub use octet_kinds::{AsBytes, AsText, FromBytes, Iso646};
 pub use printable_string::{Printable, PrintableString};
 pub use restricted_string::RestrictedString;
 pub use static_permitted_alphabet::StaticPermittedAlphabet;

@@ -8,6 +8,7 @@ use crate::static_permitted_alphabet::StaticPermittedAlphabet;
 use crate::string_kind::StringKind;
 use asn1_characters::{OctetString, PermittedAlphabetError};
 use std::alloc::Global;
+use std::convert::AsSlice;
 use std::fmt;
 
 /// A kind whose strings have `from_bytes`.
@@ -16,10 +17,14 @@ pub trait FromBytes: StringKind<T = u8> {}
 /// A kind whose strings have `as_bytes`.
 pub trait AsBytes: StringKind<T = u8> {}
 
-/// A kind whose characters are below 128, those of ISO 646.
-pub trait Iso646: StringKind<T = u8> {
+/// A kind whose characters are below 128, so that its strings are texts: they have `as_str`,
+/// `into_string` and `Display`.
+pub trait AsText: StringKind<T = u8> {
     ghost is_ascii: { (c : ℕ) → has_character (base_set Self.NAME) c ≡ true → c < 128 };
 }
+
+/// A kind whose strings have the calls that are named for ISO 646.
+pub trait Iso646: AsText {}
 
 impl<K: FromBytes> RestrictedString<K> {
     /// The string of these characters, one octet each; refused as by `try_from_slice`.
@@ -39,6 +44,30 @@ impl<K: AsBytes> RestrictedString<K> {
     }
 }
 
+impl<K: StringKind<T = u8>> AsSlice<u8> for RestrictedString<K> {
+    ghost items = { λ s. s };
+
+    fn as_slice(&self) -> &[u8] {
+        RestrictedString::as_slice(self)
+    }
+}
+
+impl<K: AsText> RestrictedString<K> {
+    /// The characters as a text. It reads each, to see that it is ASCII.
+    pub fn as_str(&self) -> &str
+        ensures { result.now ≡ self.now }
+    {
+        str::from_utf8(self.as_slice()).unwrap()
+    }
+
+    /// The characters as a text, without a copy. It allocates nothing.
+    pub fn into_string(self) -> String
+        ensures { string_bytes result ≡ self }
+    {
+        String::from_utf8(self.into_vec()).unwrap()
+    }
+}
+
 impl<K: Iso646> RestrictedString<K> {
     /// The string of these characters, one octet each; refused as by `try_from_slice`.
     pub fn from_iso646_bytes(alloc: Global, bytes: &[u8]) -> Result<Self, PermittedAlphabetError>
@@ -52,20 +81,6 @@ impl<K: Iso646> RestrictedString<K> {
         ensures { result.now ≡ self.now }
     {
         self.as_slice()
-    }
-
-    /// The characters as a text.
-    fn as_text(&self) -> &str
-        ensures { result.now ≡ self.now }
-    {
-        str::from_utf8(self.as_slice()).unwrap()
-    }
-
-    /// The characters as a text, without a copy. It allocates nothing.
-    pub fn into_string(self) -> String
-        ensures { string_bytes result ≡ self }
-    {
-        String::from_utf8(self.into_vec()).unwrap()
     }
 
     /// The characters as octets, without a copy. If memory for their reference count is refused,
@@ -82,10 +97,10 @@ impl<K: Iso646> RestrictedString<K> {
     }
 }
 
-impl<K: Iso646> fmt::Display for RestrictedString<K> {
+impl<K: AsText> fmt::Display for RestrictedString<K> {
     ghost output = { λ s. Some s };
 
     fn fmt<W: fmt::Write>(&self, f: &mut fmt::Formatter<W>) -> fmt::Result {
-        f.write_str(self.as_text())
+        f.write_str(self.as_str())
     }
 }

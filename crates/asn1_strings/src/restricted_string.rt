@@ -1,5 +1,5 @@
 //! The one type behind the eight strings.
-ghost use Rattle.std.specs.Prelude.{◌≡◌, ◌≢◌, ℕ, true, nat_eq, List, [], map, All, Some, IfOk, OnErr, refl};
+ghost use Rattle.std.specs.Prelude.{◌≡◌, ◌≢◌, ◌↔◌, ℕ, true, nat_eq, List, [], map, All, Some, IsTrue, IfOk, OnErr, refl};
 ghost use Rattle.std.specs.Ordering.{nat_cmp};
 ghost use Rattle.std.specs.Hash as fed;
 ghost use Rattle.std.specs.Cmp.Lexicographic.{pointwise, slice_cmp, nat_list_eq_equiv, nat_list_cmp_total, texts_ties, texts_po};
@@ -121,6 +121,13 @@ impl<K: StringKind> RestrictedString<K> {
         ensures in_set { All (λ c. has_character (base_set K.NAME) c ≡ true) self.now }
     {
         self.units.as_slice()
+    }
+
+    /// Whether there are no characters.
+    pub fn is_empty(&self) -> bool
+        ensures { IsTrue result ↔ (self.now ≡ []) }
+    {
+        self.units.is_empty()
     }
 
     /// The units, one for each character, without a copy.

@@ -23,10 +23,13 @@ use std::collections::BTreeMap;
 
 /// A restricted character string (X.680 41): a list of characters, each in the string's base set.
 ///
-/// The calls that read a string examine the whole input, whatever memory there is. They refuse it
-/// by `Other`, `InvalidData` or the first wrong character, in this order, and by `Memory` only what
-/// would else be a string that is not empty. Those that read bits ask for room for all characters
-/// before they look at the first.
+/// The calls that read a string examine the whole input, whatever memory there is. Those that read
+/// bits ask for room for all characters before they look at the first.
+///
+/// # Errors
+///
+/// A call that reads returns `Other`, otherwise `InvalidData`, otherwise the first wrong character.
+/// It returns `Memory` only if the input is that of a string that is not empty.
 pub trait StaticPermittedAlphabet: HasCharacterSet + Sized + Drop {
     ghost use Rattle.asn1_characters.specs.declared.character_set.CharacterRanges.{CharacterRanges};
 

@@ -1,5 +1,5 @@
 -- The laws of integers as fields.
-use Rattle.std.proofs.Common.{◌≡◌, ℕ, ◌+◌, ◌*◌, ◌/◌, ◌^◌, ◌<◌, ◌≤◌, ℤ, Bool, true, false, cond, eqb, ltb, List, [], ◌∷◌, ◌++◌, length, take, drop, Result, Ok, Err, refl, sym, ap, subst, ◌∙◌, append_assoc, arith, inl, inr}
+use Rattle.std.proofs.Common.{◌≡◌, ℕ, zero, suc, ◌+◌, ◌*◌, ◌/◌, ◌^◌, ◌<◌, ◌≤◌, ℤ, Bool, true, false, cond, eqb, ltb, List, [], ◌∷◌, ◌++◌, length, take, drop, Result, Ok, Err, refl, sym, ap, subst, ◌∙◌, append_assoc, arith, inl, inr}
 use Rattle.std.specs.Prelude.{◌||◌, ◌&&◌, nat_lt, is_ok, All}
 use Rattle.std.proofs.lemmas.List.{length-append, take_at, drop_at}
 use Rattle.std.proofs.lemmas.Bool.{false≢true, eqb-true, eqb-false, ne_eqb, lt-ltb, cases_eq}
@@ -203,6 +203,12 @@ integer_exact count = record { taken = taken; again = again; reason = reason }
         ]
 
 -- ---- what is read of them
+
+-- what is read is of at least one octet
+pub some_octets : (count : ℕ) (list : List Bool) → is_ok (integer_at count list) ≡ true → 0 < count
+unfolding integer_at
+some_octets zero list ok = absurd cc
+some_octets (suc count) list ok = omega arith
 
 -- where an integer can be read, it is the value of the octets whose bits they are
 pub read_integer : (count : ℕ) (list left : List Bool) (n : ℤ) → is_ok (integer_at count list) ≡ true

@@ -20,13 +20,13 @@ pub use asn1_integer::{
     without_redundant_sign_octets,
 };
 pub use asn1_oid::{
-    ContentsError, ObjectIdentifier, OctetSource, Oid, OidContents, check_contents,
-    laws_of_contents,
+    ContentsError, DottedTextError, ObjectIdentifier, OctetSource, Oid, OidContents,
+    check_contents, laws_of_contents, parse_arcs,
 };
 pub use asn1_strings::{
-    AsBytes, Bmp, BmpString, CharacterRanges, CharacterSetName, Chars, CodeUnit, FixedOctetString,
-    FromBytes, General, GeneralString, Graphic, GraphicString, HasCharacterSet, Ia5, Ia5String,
-    InvalidBmpString, InvalidGeneralString, InvalidGraphicString, InvalidIA5String,
+    AsBytes, AsText, Bmp, BmpString, CharacterRanges, CharacterSetName, Chars, CodeUnit,
+    FixedOctetString, FromBytes, General, GeneralString, Graphic, GraphicString, HasCharacterSet,
+    Ia5, Ia5String, InvalidBmpString, InvalidGeneralString, InvalidGraphicString, InvalidIA5String,
     InvalidNumericString, InvalidPrintableString, InvalidRestrictedString, InvalidTeletexString,
     InvalidVisibleString, Iso646, Numeric, NumericString, OctetString, PermittedAlphabetError,
     Printable, PrintableString, RestrictedString, StaticPermittedAlphabet, StringKind, Teletex,

@@ -14,7 +14,8 @@ pub const fn decimal_room(octets: usize) -> usize {
 }
 
 /// The decimal text of the number that two's complement octets spell, at the front of the room: [`decimal_room`] says how
-/// much is always enough. The octets need not be the shortest.
+/// much is always enough. The octets need not be the shortest. The time grows as the square of their number past 128 bits:
+/// bound the length of what others send.
 ///
 /// # Errors
 ///
@@ -43,7 +44,7 @@ pub fn write_decimal<'a>(octets: &[u8], room: &'a mut [u8]) -> Result<&'a str, I
     }
 }
 
-/// The decimal text of the number that two's complement octets spell.
+/// The decimal text of the number that two's complement octets spell. The time grows as that of [`write_decimal`].
 ///
 /// # Errors
 ///
@@ -61,7 +62,8 @@ pub fn decimal(octets: &[u8]) -> Result<alloc::string::String, IntegerError> {
 }
 
 /// The shortest two's complement octets of the number of a decimal text, as [`write_decimal`] writes it, at the front of
-/// the room: half as many octets as the text has, and one more, are always enough.
+/// the room: half as many octets as the text has, and one more, are always enough. The time grows as the square of the
+/// text's length past 128 bits: bound the length of what others send.
 ///
 /// # Errors
 ///

@@ -36,6 +36,8 @@ fn of_number(alloc: Global, name: &str, number: i32) -> Result<String, RowError>
         "try_from_i32" => try_number(alloc, Bounded::try_from(number)),
         "from_5_to_3" => try_number(alloc, Empty::try_from(number)),
         "into_original" => handed_back(alloc, Bounded::try_from(number)),
+        "original" => lent_back(alloc, Bounded::try_from(number)),
+        "into_inner" => taken_out(alloc, Bounded::try_from(number)),
         "clone" => compare_copy(alloc, Bounded::try_from(number)),
         _ => Err(wrong(alloc, name, "function of ConstrainedInteger")),
     }
@@ -78,6 +80,28 @@ fn handed_back(
     match number {
         Ok(_) => Err(wrong(alloc, "the number", "number past the bounds")),
         Err(error) => text_of(alloc, &error.into_original()),
+    }
+}
+
+/// The number that a refusal lends.
+fn lent_back(
+    alloc: Global,
+    number: Result<Bounded, TryFromIntegerError>,
+) -> Result<String, RowError> {
+    match number {
+        Ok(_) => Err(wrong(alloc, "the number", "number past the bounds")),
+        Err(error) => text_of(alloc, error.original()),
+    }
+}
+
+/// The number out of the type with its bounds.
+fn taken_out(
+    alloc: Global,
+    number: Result<Bounded, TryFromIntegerError>,
+) -> Result<String, RowError> {
+    match number {
+        Ok(number) => text_of(alloc, &number.into_inner()),
+        Err(error) => show_value(alloc, error),
     }
 }
 

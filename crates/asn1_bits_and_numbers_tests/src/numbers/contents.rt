@@ -54,8 +54,20 @@ pub fn of_oid(alloc: Global, name: &str, oid: Oid<'_>) -> Result<String, RowErro
     match name {
         "contents" => write_contents(alloc, oid),
         "contents_len" => optional(alloc, oid.contents_len()),
+        "contents_clone" => clone_contents(alloc, oid),
         _ => Err(wrong(alloc, name, "function of an identifier")),
     }
+}
+
+/// The octets of a copy of the contents, of which the first octet was taken.
+fn clone_contents(alloc: Global, oid: Oid<'_>) -> Result<String, RowError> {
+    let Some(mut contents) = oid.contents() else {
+        return show_value(alloc, "none");
+    };
+    let _first = contents.next();
+    let copy = contents.clone()?;
+    let _second = contents.next();
+    hex_of(alloc, copy.collect::<Vec<u8>>(alloc)?.as_slice())
 }
 
 /// The answers on the contents of arcs, of which so many octets are taken, and on octets before

@@ -2,11 +2,12 @@
 
 use crate::numbers::contents;
 use crate::numbers::spelled::{arcs, arcs_text};
-use asn1_oid::{ObjectIdentifier, Oid};
-use asn1_test_rows::{RowError, show_value, wrong};
+use asn1_oid::{ObjectIdentifier, Oid, parse_arcs};
+use asn1_test_rows::{RowError, optional, outcome, show_value, wrong};
 use std::alloc::Global;
 use std::borrow::CowSlice;
 use std::collections::HashSet;
+use std::convert::AsSlice;
 
 /// Arcs that live as long as the program.
 const LENT: &[u32] = &[1, 2, 840, 10040, 2, 1];
@@ -15,10 +16,42 @@ const LENT: &[u32] = &[1, 2, 840, 10040, 2, 1];
 pub fn answer(alloc: Global, owner: &str, name: &str, words: &[&str]) -> Result<String, RowError> {
     match words {
         [] => of_lent(alloc, name),
+        [word] if name.starts_with("parse") => of_text(alloc, name, word),
         [word] => of_arcs(alloc, owner, name, arcs(alloc, word)?),
         [first, second] => of_words(alloc, owner, name, first, second),
         _ => Err(wrong(alloc, name, "function of identifiers")),
     }
+}
+
+/// The answers on a dotted text; `''` is the empty one.
+fn of_text(alloc: Global, name: &str, word: &str) -> Result<String, RowError> {
+    let text = if word == "''" { "" } else { word };
+    let mut room = [0; 3];
+    match name {
+        "parse_arcs" => optional(alloc, parse_arcs(text.as_bytes(), &mut room)),
+        _ => outcome(alloc, ObjectIdentifier::parse(alloc, text)),
+    }
+}
+
+/// The arcs, each of which a loop gave.
+fn arcs_by_loop(alloc: Global, identifier: &ObjectIdentifier) -> Result<String, RowError> {
+    let mut owned = Vec::new(alloc);
+    for arc in identifier {
+        owned.push(*arc)?;
+    }
+    let mut lent = Vec::new(alloc);
+    for arc in &identifier.as_oid() {
+        lent.push(*arc)?;
+    }
+    if owned != lent || !has_arcs(identifier, &identifier.as_oid(), owned.as_slice()) {
+        return show_value(alloc, "two lists");
+    }
+    arcs_text(alloc, owned.as_slice())
+}
+
+/// Whether both lend these arcs in generic code.
+fn has_arcs<S: AsSlice<u32>, T: AsSlice<u32>>(first: &S, second: &T, arcs: &[u32]) -> bool {
+    first.as_slice() == arcs && second.as_slice() == arcs
 }
 
 /// The answers on arcs, and on the identifier of them.
@@ -56,6 +89,7 @@ fn of_one(
         "fmt" if owner == "Oid" => show_value(alloc, identifier.as_oid()),
         "fmt" => show_value(alloc, identifier),
         "to_owned" => to_owned(alloc, identifier.as_oid()),
+        "into_iter" => arcs_by_loop(alloc, &identifier),
         "new_unchecked" => taken_out(alloc, identifier),
         "from_vec_of_reverse" => reverse_arcs(alloc, identifier),
         _ => contents::of_oid(alloc, name, identifier.as_oid()),

@@ -4,6 +4,7 @@ use crate::numbers::spelled::{integer, order_text, text_of};
 use asn1_number::{Integer, IntegerError};
 use asn1_test_rows::{RowError, hex_of, octets, optional, show_value, wrong};
 use std::alloc::Global;
+use std::convert::AsSlice;
 use std::hash::{FoldHasher, Hash, Hasher};
 
 /// The answers of `Integer`: of no word, of octets, of a number, or of two.
@@ -67,6 +68,9 @@ fn of_number(alloc: Global, name: &str, number: &Integer) -> Result<String, RowE
         "to_i128" => optional(alloc, number.to_i128()),
         "to_i64" => optional(alloc, number.to_i64()),
         "to_u64" => optional(alloc, number.to_u64()),
+        "to_u128" => optional(alloc, number.to_u128()),
+        "is_negative" => show_value(alloc, number.is_negative()),
+        "lent" => lent_octets(alloc, &number.signed_octets().clone()?),
         _ => Err(wrong(alloc, name, "function of such a number")),
     }
 }
@@ -83,8 +87,33 @@ fn of_two(
         "clone_eq" => is_copied(alloc, first, second),
         "lt" => show_value(alloc, first < second),
         "have_one_hash" => show_value(alloc, hash_of(first) == hash_of(second)),
-        _ => Err(wrong(alloc, name, "function of two numbers")),
+        "octets_eq" => show_value(alloc, first.signed_octets() == second.signed_octets()),
+        _ => made_of_two(alloc, name, first, second),
     }
+}
+
+/// The number that two numbers make within `i128`.
+fn made_of_two(
+    alloc: Global,
+    name: &str,
+    first: &Integer,
+    second: &Integer,
+) -> Result<String, RowError> {
+    let made = match name {
+        "checked_add" => first.checked_add(second),
+        "checked_sub" => first.checked_sub(second),
+        "checked_mul" => first.checked_mul(second),
+        _ => return Err(wrong(alloc, name, "function of two numbers")),
+    };
+    match made {
+        Some(number) => text_of(alloc, &number),
+        None => show_value(alloc, "none"),
+    }
+}
+
+/// The octets that a value lends in generic code.
+fn lent_octets<T: AsSlice<u8>>(alloc: Global, lender: &T) -> Result<String, RowError> {
+    hex_of(alloc, lender.as_slice())
 }
 
 /// Whether the copy of a number equals the other one.

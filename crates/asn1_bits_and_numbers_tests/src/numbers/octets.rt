@@ -39,6 +39,7 @@ fn of_few(alloc: Global, name: &str, octets: &[u8]) -> Result<String, RowError>
         "signed_value" if !octets.is_empty() => show_value(alloc, signed_value(octets)),
         "unsigned_value" => show_value(alloc, unsigned_value(octets)),
         "IntegerBytes" => hex_of(alloc, IntegerBytes::from_octets(octets).as_ref()),
+        "IntegerBytes_is_empty" => show_value(alloc, IntegerBytes::from_octets(octets).is_empty()),
         "IntegerBytes_len" => show_value(alloc, IntegerBytes::from_octets(octets).len()),
         _ => Err(wrong(alloc, name, "function on such octets")),
     }

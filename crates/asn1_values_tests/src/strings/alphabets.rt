@@ -78,6 +78,8 @@ fn of_alphabet(
     match name {
         "width" => show_value(alloc, alphabet.width()),
         "repeats" => show_value(alloc, alphabet.repeats()),
+        "is_indexed" => show_value(alloc, alphabet.is_indexed()),
+        "len" => show_value(alloc, alphabet.len()),
         _ => Err(wrong(alloc, name, "function of an alphabet")),
     }
 }
@@ -95,6 +97,7 @@ fn of_number(
         ("encode_counted", _) => outcome(alloc, count_and_list(alphabet, number)),
         ("encode_is_below_2", _) => show_value(alloc, matches!(alphabet.encode(number), Ok(0 | 1))),
         ("decode", _) => outcome(alloc, alphabet.decode(number)),
+        ("contains", _) => show_value(alloc, alphabet.contains(number)),
         ("codes_are_places_below", Some(set)) => {
             show_value(alloc, has_these_alone(alphabet, set, true, number))
         }

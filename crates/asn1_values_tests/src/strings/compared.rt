@@ -17,6 +17,8 @@ pub fn of_one<K: StringKind>(alloc: Global, name: &str, word: &str) -> Result<St
         "into_vec" => units(alloc, string.into_vec().as_slice()),
         "clone" => copy_string(alloc, &string),
         "reserve_1000" => reserve_room(alloc, string),
+        "is_empty" => show_value(alloc, string.is_empty()),
+        "chars_rev" => from_the_back(alloc, &string),
         _ => Err(wrong(alloc, name, "function of a string")),
     }
 }
@@ -78,6 +80,18 @@ fn units<T: CodeUnit>(alloc: Global, units: &[T]) -> Result<String, RowError> {
         numbers.push(unit.to_character())?;
     }
     count_and_list(alloc, units.len(), numbers.as_slice())
+}
+
+/// How many characters a copy of the iterator has left, and each from the back.
+fn from_the_back<K: StringKind>(
+    alloc: Global,
+    string: &RestrictedString<K>,
+) -> Result<String, RowError> {
+    let chars = string.chars();
+    let count = chars.len();
+    let copy = chars.clone()?;
+    let numbers = copy.rev().collect::<Vec<u32>>(alloc)?;
+    count_and_list(alloc, count, numbers.as_slice())
 }
 
 fn copy_string<K: StringKind>(

@@ -2,6 +2,7 @@
 
 ghost use Rattle.std.specs.Prelude.{◌≡◌, ◌∷◌, []};
 
+use crate::strings::octet_strings::lent_octets;
 use asn1_characters::{FixedOctetString, OctetString};
 use asn1_test_rows::{RowError, hex_of, octets, show_value, two, wrong};
 use std::alloc::Global;
@@ -31,6 +32,7 @@ fn of_four(alloc: Global, name: &str, octets: Vec<u8>) -> Result<String, RowErro
         "from" => convert_octets(alloc, octets.as_slice()),
         "is_above_default" => above_default(alloc, octets.as_slice()),
         "default" => default_text(alloc),
+        "try_from" => convert_slice(alloc, octets.as_slice()),
         _ => Err(wrong(alloc, name, "function of octets")),
     }
 }
@@ -95,6 +97,16 @@ fn make_string(alloc: Global, octets: &[u8]) -> Result<String, RowError> {
 fn convert_octets(alloc: Global, octets: &[u8]) -> Result<String, RowError> {
     let string: FixedOctetString<4> = FixedOctetString::from(four(alloc, octets)?);
     hex_of(alloc, string.as_slice())
+}
+
+/// The octets of the string, lent and as an array.
+fn convert_slice(alloc: Global, octets: &[u8]) -> Result<String, RowError> {
+    let Ok(string) = FixedOctetString::<4>::try_from(octets) else {
+        return show_value(alloc, "another length");
+    };
+    let lent = lent_octets(alloc, &string)?;
+    let taken = hex_of(alloc, &string.into_array())?;
+    Ok(format!(in alloc; "{lent} {taken}")?)
 }
 
 fn default_text(alloc: Global) -> Result<String, RowError> {

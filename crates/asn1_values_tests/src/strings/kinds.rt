@@ -1,8 +1,9 @@
 //! The calls that some strings alone have: their octets, and what becomes of them.
 
 use asn1_strings::{
-    AsBytes, BmpString, FromBytes, General, Graphic, Ia5, Iso646, Numeric, PermittedAlphabetError,
-    Printable, RestrictedString, StaticPermittedAlphabet, Teletex, Utf8String, Visible,
+    AsBytes, AsText, BmpString, FromBytes, General, Graphic, Ia5, Iso646, Numeric,
+    PermittedAlphabetError, Printable, RestrictedString, StaticPermittedAlphabet, Teletex,
+    Utf8String, Visible,
 };
 use asn1_test_rows::{RowError, hex_of, octets, show_value, two, wrong};
 use std::alloc::Global;
@@ -16,6 +17,8 @@ pub fn answer(alloc: Global, name: &str, words: &[&str]) -> Result<String, RowEr
         "BmpString" => of_bmp(alloc, BmpString::try_from_slice(alloc, octets)),
         "GeneralString" => of_octets::<General>(alloc, octets),
         "GraphicString" => of_octets::<Graphic>(alloc, octets),
+        "NumericString" if name.contains("str") => of_read_text::<Numeric>(alloc, name, octets),
+        "PrintableString" if name.contains("str") => of_read_text::<Printable>(alloc, name, octets),
         "NumericString" => of_octets::<Numeric>(alloc, octets),
         "PrintableString" => of_octets::<Printable>(alloc, octets),
         "TeletexString" => of_teletex(alloc, RestrictedString::from_bytes(alloc, octets)),
@@ -70,8 +73,27 @@ fn of_text<K: Iso646>(
     match name {
         "as_iso646_bytes" => hex_of(alloc, string.as_iso646_bytes()),
         "fmt" => show_value(alloc, string),
-        "into_string" => into_string(alloc, string.into_string()),
         "into_octet_string" => into_octets(alloc, string),
+        _ => of_ascii(alloc, name, string),
+    }
+}
+
+/// The answers of a string of ASCII that is read from octets.
+fn of_read_text<K: AsText>(alloc: Global, name: &str, octets: &[u8]) -> Result<String, RowError> {
+    match RestrictedString::<K>::try_from_slice(alloc, octets) {
+        Ok(string) => of_ascii(alloc, name, string),
+        Err(error) => show_value(alloc, error),
+    }
+}
+
+fn of_ascii<K: AsText>(
+    alloc: Global,
+    name: &str,
+    string: RestrictedString<K>,
+) -> Result<String, RowError> {
+    match name {
+        "as_str" => show_value(alloc, string.as_str()),
+        "into_string" => into_string(alloc, string.into_string()),
         _ => Err(wrong(alloc, name, "function of a text")),
     }
 }

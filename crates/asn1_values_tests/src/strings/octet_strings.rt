@@ -5,6 +5,7 @@ use asn1_test_rows::{RowError, hex_of, octets, show_value, wrong};
 use bytes::Bytes;
 use std::alloc::Global;
 use std::collections::HashSet;
+use std::convert::AsSlice;
 
 /// The answers of octet strings: of none, of octets, or of two lists of octets.
 pub fn answer(alloc: Global, name: &str, words: &[&str]) -> Result<String, RowError> {
@@ -43,8 +44,23 @@ fn of_octets(alloc: Global, name: &str, octets: Vec<u8>) -> Result<String, RowEr
         "from_bytes_ref" => from_bytes_ref(alloc, octets),
         "into_bytes" => into_bytes(alloc, of_vector(alloc, octets)?),
         "clone" => copy_string(alloc, octets),
+        _ => of_string(alloc, name, &of_vector(alloc, octets)?),
+    }
+}
+
+/// The answers on a string.
+fn of_string(alloc: Global, name: &str, string: &OctetString) -> Result<String, RowError> {
+    match name {
+        "len" => show_value(alloc, string.len()),
+        "is_empty" => show_value(alloc, string.is_empty()),
+        "as_slice" => lent_octets(alloc, string),
         _ => Err(wrong(alloc, name, "function of octets")),
     }
+}
+
+/// The octets that a value lends in generic code.
+pub fn lent_octets<T: AsSlice<u8>>(alloc: Global, lender: &T) -> Result<String, RowError> {
+    hex_of(alloc, lender.as_slice())
 }
 
 fn from_slice(alloc: Global, octets: &[u8]) -> Result<String, RowError> {

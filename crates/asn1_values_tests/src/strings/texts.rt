@@ -76,20 +76,15 @@ fn of_refusal(alloc: Global, name: &str, number: u32) -> Result<String, RowError
                 name: CharacterSetName::IA5,
             },
         ),
-        "OfPrintable" => show_value(
-            alloc,
-            PermittedAlphabetError::InvalidRestrictedString {
-                source: printable(number),
-            },
-        ),
+        "OfPrintable" => show_value(alloc, PermittedAlphabetError::from(printable(number))),
         _ => Err(wrong(alloc, name, "refusal")),
     }
 }
 
 fn visible(character: u32) -> InvalidRestrictedString {
-    InvalidRestrictedString::InvalidVisibleString(InvalidVisibleString::from(character))
+    InvalidRestrictedString::from(InvalidVisibleString::from(character))
 }
 
 fn printable(character: u32) -> InvalidRestrictedString {
-    InvalidRestrictedString::InvalidPrintableString(InvalidPrintableString::from(character))
+    InvalidRestrictedString::from(InvalidPrintableString::from(character))
 }

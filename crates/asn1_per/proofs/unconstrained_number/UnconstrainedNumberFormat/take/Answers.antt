@@ -9,7 +9,7 @@ pub returns-in-Ok-integer_of-clause-read : goal.returns-in-Ok-integer_of-clause-
 returns-in-Ok-integer_of-clause-read c =
     let h = c.in-Ok.ensures.holds in
     let same : c.in-Ok-integer_of.number ≡ h.1 =
-    c.in-Ok-integer_of.ensures h.0 (sym h.3) (all_octets h.0 h.2.octets) ∙ h.2.value in
+    c.in-Ok-integer_of.ensures.value h.0 (sym h.3) (all_octets h.0 h.2.octets) ∙ h.2.value in
     subst (λ (n : ℤ). Starts (λ m l. IsUnconstrained m l) (bits_left c.args.reader.now) n
     (bits_left c.next_contents.new.reader))
     (sym same) (c.in-Ok.ensures.read h)

@@ -7,7 +7,7 @@ use Rattle.asn1_strings.proofs.restricted_string.RestrictedString.into_string.Go
 pub unwrap-requires : goal.unwrap-requires
 unwrap-requires g c =
     c.from_utf8.ensures.succeeds (set_text (base_set g.K.StringKind.NAME) c.args.self c.into_vec.result.items
-    g.met.K.Iso646.is_ascii c.into_vec.ensures.in_set c.into_vec.ensures.list)
+    g.met.K.AsText.is_ascii c.into_vec.ensures.in_set c.into_vec.ensures.list)
 
 pub returns : goal.returns
 returns g c = grind (arith, common_steps)

@@ -1,12 +1,22 @@
-use Rattle.std.proofs.Common.{sym, drop, ◌∙◌}
+use Rattle.std.proofs.Common.{sym, drop, ◌∙◌, arith}
 use Rattle.asn1_bits.specs.BitReader.{bits_left}
 use Rattle.asn1_values.specs.declared.bit_fields.field.Field.TheVariants as fields
 use Rattle.asn1_values.specs.Fields as plain
 use Rattle.asn1_values.specs.Walk.{field_at}
+use Rattle.asn1_values.specs.Wrong.{first_octet}
 use Rattle.asn1_values.proofs.CountedIntegerKind.{counted_there, read_counted, length-read_counted}
-use Rattle.asn1_values.proofs.IntegerKind.{read_integer}
+use Rattle.asn1_values.proofs.IntegerKind.{read_integer, some_octets}
 use Rattle.asn1_values.proofs.WalkLemmas.{is_there}
 use Rattle.asn1_values.proofs.bit_fields.counted_integer.append.Goals as goal
+
+pub integer_of-requires-clause-some : goal.integer_of-requires-clause-some
+integer_of-requires-clause-some c =
+    let old = bits_left c.args.reader.now in
+    let cut = c.in_ok-front.ensures.taken in
+    let ok =
+    is_there c.args.field (field_at plain.OfCountedInteger old) (bits_left c.examine.new.reader)
+    c.in_ok-front.ensures.examined.ok in
+    omega (arith, cut.len, cut.counted, some_octets (first_octet old) (drop 8 old) (counted_there old ok).2)
 
 pub returns : goal.returns
 returns c =
@@ -18,7 +28,7 @@ returns c =
     let there = counted_there old ok in
     let inner =
     read_integer cut.octets (drop 8 old) new number (rw cut.counted there.2) cut.rest
-    (λ octets is are. c.in_ok-number.ensures octets (is ∙ sym cut.list) are) in
+    (λ octets is are. c.in_ok-number.ensures.value octets (is ∙ sym cut.list) are) in
     record {
       read = record {
         field = fields.CountedInteger number;

@@ -1,10 +1,23 @@
-use Rattle.std.proofs.Common.{sym, ◌∙◌}
+use Rattle.std.proofs.Common.{sym, ap, ◌∙◌, arith}
 use Rattle.asn1_bits.specs.BitReader.{bits_left}
+use Rattle.asn1_bits.specs.View.{View}
 use Rattle.asn1_values.specs.declared.bit_fields.field.Field.TheVariants as fields
 use Rattle.asn1_values.specs.Walk.{field_at, integer_at}
-use Rattle.asn1_values.proofs.IntegerKind.{read_integer, length-read_integer}
+use Rattle.asn1_values.proofs.IntegerKind.{read_integer, length-read_integer, some_octets}
 use Rattle.asn1_values.proofs.WalkLemmas.{is_there}
 use Rattle.asn1_values.proofs.bit_fields.integer.append.Goals as goal
+
+pub integer_of-requires-clause-some : goal.integer_of-requires-clause-some
+integer_of-requires-clause-some c =
+    let old = bits_left c.args.reader.now in
+    let ok =
+    is_there c.args.field (integer_at c.args.octets old) (bits_left c.examine.new.reader)
+    c.in_ok-front.ensures.examined.ok in
+    omega (
+      arith,
+      ap (λ (v : View). v.len) c.in_ok-front.ensures.taken.view,
+      some_octets c.args.octets old ok,
+    )
 
 pub returns : goal.returns
 unfolding field_at
@@ -17,7 +30,7 @@ returns c =
     let read =
     read_integer count old new number
     (is_there c.args.field (integer_at count old) new c.in_ok-front.ensures.examined.ok) cut.rest
-    (λ octets is are. c.in_ok-number.ensures octets (is ∙ sym cut.list) are) in
+    (λ octets is are. c.in_ok-number.ensures.value octets (is ∙ sym cut.list) are) in
     record {
       read = record {
         field = fields.Integer number;
