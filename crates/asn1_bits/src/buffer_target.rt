@@ -43,7 +43,7 @@ impl<'a> BufferTarget<'a> {
     }
 
     /// Writes a number of `width` binary digits over the zeros from bit `position` on: one turn for
-    /// each 64 of them.
+    /// each word that is stored.
     #[inline(always)]
     pub(crate) fn put_number(
         &mut self,
@@ -61,7 +61,8 @@ impl<'a> BufferTarget<'a> {
         ensures same_reference { self.new.buffer.ghost_name ≡ self.old.buffer.ghost_name }
         ensures each_turn_places { turns.new.count + self.old.placed.count
             ≡ turns.old.count + self.new.placed.count }
-        ensures turns { turns.new.count ≡ turns.old.count + div_ceil width 64 }
+        ensures at_least { turns.old.count + div_ceil width 64 ≤ turns.new.count }
+        ensures at_most { turns.new.count ≤ turns.old.count + turns_for width }
     {
         let mut taken = Turns::new();
         self.buffer.put_number(position, number, width, &mut taken);
