@@ -62,8 +62,8 @@ impl<'a> BitAppender<'a> {
         self.target.len() - self.position
     }
 
-    /// Pushes the lowest `width` binary digits of `value`, most significant first. `width` is at
-    /// most 32 and at most the room.
+    /// Pushes the lowest `width` binary digits of `value`, most significant first, as one word that
+    /// takes no turn. `width` is at most 32 and at most the room.
     pub fn push(&mut self, value: u32, width: usize)
         requires width { width ≤ 32 }
         requires room { width ≤ room self.old }
