@@ -8,6 +8,7 @@ ghost use Rattle.asn1_bits.specs.Turns.{turns_for};
 
 use crate::bit_buffer::BitBuffer;
 use crate::bit_str::BitStr;
+use crate::buffer_target::BufferTarget;
 use crate::turns::Turns;
 use crate::window::{lowest, lowest_wide};
 use std::alloc::AllocError;
@@ -16,16 +17,16 @@ use std::alloc::AllocError;
 /// then what was pushed, in order, then zeros for the room that is left.
 #[derive(Drop)]
 pub struct BitAppender<'a> {
-    buffer: &'a mut BitBuffer,
+    target: BufferTarget<'a>,
     position: usize,
     /// All bits from the position on are zeros.
-    pub ghost zeros: { IsZeroFrom position buffer.now },
+    pub ghost zeros: { IsZeroFrom position target.buffer.now },
 }
 
 impl BitBuffer {
     ghost use Rattle.std.specs.Borrow.{sem, RestsIfErr};
     ghost use Rattle.asn1_bits.specs.contracts.bit_buffer.BitBuffer.{the_row};
-    ghost use Rattle.asn1_bits.specs.BitAppender.{bits_written, room, lender_of, EndsInZeros};
+    ghost use Rattle.asn1_bits.specs.BitAppender.{bits_written, room, lender_of, words_placed, EndsInZeros};
 
     /// Appends `additional` zero bits, by one growth, for the appender to fill. Where memory is
     /// wanting, the bits stay. The new length fits `usize`.
@@ -38,30 +39,31 @@ impl BitBuffer {
         ensures written { IfOk result (λ a. bits_written a ≡ self.old) }
         ensures room { IfOk result (λ a. room a ≡ additional) }
         ensures held { IfOk result EndsInZeros }
+        ensures none_placed { IfOk result (λ a. words_placed a ≡ 0) }
         // Where no octet is added, no memory is asked for.
         ensures free { AddsNoOctet (length self.old) additional → IsOk result }
     {
         let position = self.len();
         self.grow(additional)?;
         Ok(BitAppender {
-            buffer: self,
+            target: BufferTarget::new(self),
             position,
         })
     }
 }
 
 impl<'a> BitAppender<'a> {
-    ghost use Rattle.asn1_bits.specs.BitAppender.{bits_written, room, lender_of, EndsInZeros};
+    ghost use Rattle.asn1_bits.specs.BitAppender.{bits_written, room, lender_of, words_placed, EndsInZeros};
 
     /// The number of bits that may still be pushed.
     pub fn room(&self) -> usize
         ensures { result ≡ room self.now }
     {
-        self.buffer.len() - self.position
+        self.target.len() - self.position
     }
 
-    /// Pushes the lowest `width` binary digits of `value`, most significant first. `width` is at
-    /// most 32 and at most the room.
+    /// Pushes the lowest `width` binary digits of `value`, most significant first, as one word that
+    /// takes no turn. `width` is at most 32 and at most the room.
     pub fn push(&mut self, value: u32, width: usize)
         requires width { width ≤ 32 }
         requires room { width ≤ room self.old }
@@ -69,14 +71,15 @@ impl<'a> BitAppender<'a> {
         ensures written { bits_written self.new ≡ bits_written self.old ++ digits value width }
         ensures room { room self.new + width ≡ room self.old }
         ensures held { EndsInZeros self.new }
+        ensures placed { words_placed self.new ≡ words_placed self.old + 1 }
     {
         let position = self.position;
-        // A length fits `usize`.
-        let _len = self.buffer.len();
+        // For the proof: `len()` ensures that the length is below 2^64.
+        let _len = self.target.len();
         // As in `push_number`.
         self.position += width;
         let number = lowest(u64::from(value), width);
-        self.buffer.put_few(position, number, width);
+        self.target.put_few(position, number, width);
     }
 
     /// Pushes the lowest `width` binary digits of `value`, most significant first, and ticks once
@@ -89,6 +92,8 @@ impl<'a> BitAppender<'a> {
         ensures written { bits_written self.new ≡ bits_written self.old ++ digits value width }
         ensures room { room self.new + width ≡ room self.old }
         ensures held { EndsInZeros self.new }
+        ensures each_turn_places { turns.new.count + words_placed self.old
+            ≡ turns.old.count + words_placed self.new }
         ensures at_least { turns.old.count + div_ceil width 64 ≤ turns.new.count }
         ensures at_most { turns.new.count ≤ turns.old.count + turns_for width }
     {
@@ -106,16 +111,18 @@ impl<'a> BitAppender<'a> {
         ensures written { bits_written self.new ≡ bits_written self.old ++ digits number width }
         ensures room { room self.new + width ≡ room self.old }
         ensures held { EndsInZeros self.new }
+        ensures each_turn_places { turns.new.count + words_placed self.old
+            ≡ turns.old.count + words_placed self.new }
         ensures at_least { turns.old.count + div_ceil width 64 ≤ turns.new.count }
         ensures at_most { turns.new.count ≤ turns.old.count + turns_for width }
     {
         let position = self.position;
-        // A length fits `usize`.
-        let _len = self.buffer.len();
+        // For the proof: `len()` ensures that the length is below 2^64.
+        let _len = self.target.len();
         // Move the position first. The invariant `zeros` then covers only bits that this write
         // leaves zero.
         self.position += width;
-        self.buffer.put_number(position, number, width, turns);
+        self.target.put_number(position, number, width, turns);
     }
 
     /// Pushes the bits of the octets, and ticks once for each 64 of them. They fit the room.
@@ -125,11 +132,14 @@ impl<'a> BitAppender<'a> {
         ensures written { bits_written self.new ≡ bits_written self.old ++ bits octets.now }
         ensures room { room self.new + 8 * length octets.now ≡ room self.old }
         ensures held { EndsInZeros self.new }
+        ensures each_turn_places { turns.new.count + words_placed self.old
+            ≡ turns.old.count + words_placed self.new }
         ensures at_least { turns.old.count + div_ceil (8 * length octets.now) 64 ≤ turns.new.count }
         ensures at_most { turns.new.count ≤ turns.old.count + turns_for (8 * length octets.now) }
     {
-        // A length fits `usize`, and so do the bits of octets that fit the room.
-        let _len = self.buffer.len();
+        // For the proof: `len()` ensures that the length, and so the number of bits of octets that
+        // fit the room, is below 2^64.
+        let _len = self.target.len();
         self.push_bitslice(BitStr::from_octets(octets), turns);
     }
 
@@ -140,14 +150,16 @@ impl<'a> BitAppender<'a> {
         ensures written { bits_written self.new ≡ bits_written self.old ++ bits_of src.entry }
         ensures room { room self.new + (view_of src.entry).len ≡ room self.old }
         ensures held { EndsInZeros self.new }
+        ensures each_turn_places { turns.new.count + words_placed self.old
+            ≡ turns.old.count + words_placed self.new }
         ensures at_least { turns.old.count + div_ceil (view_of src.entry).len 64 ≤ turns.new.count }
         ensures at_most { turns.new.count ≤ turns.old.count + turns_for (view_of src.entry).len }
     {
         let position = self.position;
-        // A length fits `usize`.
-        let _len = self.buffer.len();
+        // For the proof: `len()` ensures that the length is below 2^64.
+        let _len = self.target.len();
         // As in `push_number`.
         self.position += src.len();
-        self.buffer.write_at(position, src, turns);
+        self.target.write_at(position, src, turns);
     }
 }

@@ -1,4 +1,9 @@
 //! The kernels: bits of octets read and written at any place.
+//!
+//! `or_far`, `or_long`, `copy_octets`, and in other modules `or_aligned` and `or_many_words`, are not
+//! inlined, so that their callers inline only the path for short views. They take the target by value
+//! and return it: through a reference, each word would load the place of the octets again. The view is
+//! lent, so that a call in tail position is a jump.
 
 ghost use Rattle.std.specs.Prelude.{◌≡◌, ◌+◌, ◌-◌, ◌*◌, ◌/◌, ◌%◌, ◌^◌, ◌++◌, pos, ◌<◌, ◌≤◌, ◌↔◌, length, take, drop, vec_len, OnOk, OnErr, IsOk, IsSome, IfSome, All};
 ghost use Rattle.std.specs.Int.{div_ceil};
@@ -94,9 +99,7 @@ fn or_last<'a>(
     own
 }
 
-/// The path of `or_view` for no bits, and for more than a word. Not inlined, so that callers inline
-/// only the path for short views. The target is passed and given back by value, so its place stays
-/// in registers; the view is lent, so that the call of `or_long` is a jump.
+/// The path of `or_view` for no bits, and for more than a word.
 #[inline(never)]
 fn or_far<'a>(
     target: Target<'a>,
@@ -126,8 +129,7 @@ fn or_far<'a>(
     or_long(target, position, src, turns)
 }
 
-/// The path of `or_far` for bits that are not copied octet by octet. Not inlined, since it needs
-/// more registers.
+/// The path of `or_far` for bits that are not copied octet by octet. It needs more registers.
 #[inline(never)]
 fn or_long<'a>(
     target: Target<'a>,
@@ -240,8 +242,7 @@ fn put_view(dst: &mut Target<'_>, position: usize, src: BitStr<'_>, turns: &mut 
 }
 
 /// Copies octets over the zeros from octet `first` on, and ticks once for each eight of them and
-/// once for the rest. Not inlined, so that callers inline only the path for short views. The target
-/// is passed and given back by value, so its place stays in registers.
+/// once for the rest.
 #[inline(never)]
 fn copy_octets<'a>(target: Target<'a>, first: usize, src: &[u8], turns: &mut Turns) -> Target<'a>
     requires room { first + length src.now ≤ length target.octets.now }

@@ -10,6 +10,7 @@ mod bit_buffer;
 mod bit_reader;
 mod bit_str;
 mod bit_string;
+mod buffer_target;
 mod fixed_bit_string;
 mod kernels;
 mod octets;

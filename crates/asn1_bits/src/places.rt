@@ -102,8 +102,7 @@ pub(crate) fn place_word<D: Places>(
 }
 
 /// ORs octets into the target from octet `first` on: a turn for each eight of them, and one for the
-/// rest. Not inlined, since its caller needs more registers for bits off the octet boundary. The
-/// target is passed and given back by value, so its place stays in registers.
+/// rest. Not inlined, since its caller needs more registers for bits off the octet boundary.
 #[inline(never)]
 pub(crate) fn or_aligned<'a>(
     target: Target<'a>,

@@ -283,8 +283,7 @@ pub(crate) fn or_shifted_words(
 }
 
 /// The path of `or_shifted_words` for many words, which are joined in vectors of two. Not inlined
-/// and cold, so that the path for few words keeps its registers. The target is passed and given
-/// back by value, so its place stays in registers.
+/// and cold, so that the path for few words keeps its registers.
 #[cold]
 #[inline(never)]
 fn or_many_words<'a>(
@@ -353,8 +352,8 @@ fn or_joined_words(
 }
 
 /// How many of a word's 64 digits are left behind the first `shift`.
-// Not inlined: a compiler that sees two shifts of 64 digits together takes them for one of 128. A
-// processor has that for one word, which is best for few words, but not for vectors of them.
+// Not inlined, to hide the difference from LLVM. It would make one shift of 128 bits (`shld`) of the
+// two shifts of a word, and such shifts do not vectorize.
 #[inline(never)]
 fn left_of_word(shift: usize) -> usize
     requires { shift < 64 }

@@ -8,7 +8,7 @@ use Rattle.std.proofs.Math.Nat.{pow-le-pow_right}
 use Rattle.asn1_bits.specs.Bits.{digits, bits}
 use Rattle.asn1_bits.specs.Turns.{turns_for}
 use Rattle.asn1_bits.specs.declared.bit_appender.BitAppender.{BitAppender}
-use Rattle.asn1_bits.specs.BitAppender.{bits_written, room, lender_of}
+use Rattle.asn1_bits.specs.BitAppender.{bits_written, room, lender_of, words_placed}
 use Rattle.asn1_bits.specs.DigitLaws.{length-digits}
 use Rattle.asn1_bits.specs.NumberLaws.{digits-append, digits-low}
 use Rattle.asn1_values.specs.Fields.{Field, IsSpelledBy, AreSpelledBy, Number, Octets, Bits, Integer, Character, CountedInteger, Identifier}
@@ -72,6 +72,7 @@ pub record PushesFront (old new : BitAppender) (word width word_new width_new tu
   pub written : bits_written new ≡ bits_written old ++ front
   pub left : room new + length front ≡ room old
   pub parts : front ++ digits word_new width_new ≡ digits word width
+  pub each_turn_places : turns_new + words_placed old ≡ turns_old + words_placed new
   pub at_least : turns_old + div_ceil (length front) 64 ≤ turns_new
   pub at_most : turns_new + turns_for width_new ≤ turns_old + turns_for width
 
@@ -83,6 +84,7 @@ front_none old word width turns = record {
   written = sym (append-nil (bits_written old));
   left = omega arith;
   parts = refl;
+  each_turn_places = refl;
   at_least = omega arith;
   at_most = omega arith;
 }
@@ -103,6 +105,7 @@ front_all old new word width none zero_width turns_old turns_new p =
       left = d.left;
       parts = subst (λ (k : ℕ). digits word width ++ digits none k ≡ digits word width) (sym z)
           (append-nil (digits word width));
+      each_turn_places = d.each_turn_places;
       at_least = d.at_least;
       at_most = let a = d.at_most in omega arith;
     }
@@ -119,6 +122,7 @@ gathered_more old now word width mid_word mid_width number more turns_old turns_
   parts = ap (λ (l : List Bool). p.front ++ l) (digits_behind mid_word mid_width number more lt)
       ∙ sym (append_assoc p.front (digits mid_word mid_width) (digits number more))
       ∙ ap (λ (l : List Bool). l ++ digits number more) p.parts;
+  each_turn_places = p.each_turn_places;
   at_least = p.at_least;
   at_most = let a = p.at_most in let n = length-digits number more in omega arith;
 }
@@ -133,6 +137,7 @@ no_digits old word width zero_width turns w z = record {
     written = sym (append-nil (bits_written old))
         ∙ ap (λ (k : ℕ). bits_written old ++ digits word k) (sym w);
     left = rw w (omega arith);
+    each_turn_places = refl;
     at_least = rw w (omega arith);
     at_most = rw w (omega arith);
   };
@@ -162,6 +167,7 @@ field_behind field old now new word width none zero_width turns_old turns_now tu
             (λ (k : ℕ). (digits word width ++ one.list) ++ digits none k ≡ digits word width ++ one.list)
             (sym p.none)
             (append-nil (digits word width ++ one.list));
+        each_turn_places = let a = d.each_turn_places in let b = one.each_turn_places in omega arith;
         at_least = let a = d.at_least in let b = one.at_least in omega arith;
         at_most = let a = d.at_most in let b = one.at_most in let z = p.none in omega arith;
       };
@@ -186,6 +192,7 @@ pub record Gathering (fields : List Field) (old now : BitAppender) (word width t
   pub spelled : AreSpelledBy fields (front ++ digits word width)
   pub written : bits_written now ≡ bits_written old ++ front
   pub left : room now + length front ≡ room old
+  pub each_turn_places : turns_now + words_placed old ≡ turns_old + words_placed now
   pub at_least : turns_old + div_ceil (length front) 64 ≤ turns_now
   pub at_most : turns_now + turns_for width ≤ turns_old + (length front + width) / 64 + 8 * length fields
 
@@ -197,6 +204,7 @@ gathering_none old word width turns z = record {
   spelled = ap (λ (k : ℕ). digits word k) z;
   written = sym (append-nil (bits_written old));
   left = omega arith;
+  each_turn_places = refl;
   at_least = omega arith;
   at_most = omega arith;
 }
@@ -231,6 +239,7 @@ gathering_more before field old now new word width word_new width_new turns_old 
       written = t.written ∙ ap (λ (l : List Bool). l ++ t.front) g.written
           ∙ append_assoc (bits_written old) g.front t.front;
       left = let a = g.left in let b = t.left in omega arith;
+      each_turn_places = let a = g.each_turn_places in let b = t.each_turn_places in omega arith;
       at_least = let a = g.at_least in let b = t.at_least in omega arith;
       at_most =
           let a = g.at_most in

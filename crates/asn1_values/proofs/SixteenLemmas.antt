@@ -7,7 +7,7 @@ use Rattle.std.proofs.Math.Nat.{pow-le-pow_right}
 use Rattle.asn1_bits.specs.Bits.{digits, bits}
 use Rattle.asn1_bits.specs.Turns.{turns_for}
 use Rattle.asn1_bits.specs.declared.bit_appender.BitAppender.{BitAppender}
-use Rattle.asn1_bits.specs.BitAppender.{bits_written, room, lender_of}
+use Rattle.asn1_bits.specs.BitAppender.{bits_written, room, lender_of, words_placed}
 use Rattle.asn1_bits.specs.DigitLaws.{bits-push, length-bits}
 use Rattle.asn1_bits.specs.NumberLaws.{digits-append, digits-low}
 use Rattle.asn1_values.specs.Steps.{PushesList}
@@ -26,6 +26,7 @@ pub record Pushing (old now : BitAppender) (all rest : List ℕ) (word width cou
   pub words : ℕ
   pub so_far : 8 * length front ≡ 128 * words + width
   pub turns : count_now ≡ count_old + 2 * words
+  pub each_turn_places : count_now + words_placed old ≡ count_old + words_placed now
 
 pub pushing_none : (old : BitAppender) (all : List ℕ) (count : ℕ) → Pushing old old all all 0 0 count count
 unfolding digits bits
@@ -42,16 +43,18 @@ pushing_none old all count = record {
   words = 0;
   so_far = refl;
   turns = omega arith;
+  each_turn_places = refl;
 }
 
 -- the word is full, and is pushed
 pub word_pushed : (old now new : BitAppender) (all rest : List ℕ) (word count_old count_now count_new : ℕ)
     → Pushing old now all rest word 128 count_old count_now
     → lender_of new ≡ lender_of now → bits_written new ≡ bits_written now ++ digits word 128 → room new + 128 ≡ room now
+    → count_new + words_placed now ≡ count_now + words_placed new
     → count_now + div_ceil 128 64 ≤ count_new → count_new ≤ count_now + turns_for 128
     → Pushing old new all rest 0 0 count_old count_new
 unfolding digits
-word_pushed old now new all rest word count_old count_now count_new p lender written left low high = record {
+word_pushed old now new all rest word count_old count_now count_new p lender written left each low high = record {
   lender = lender ∙ p.lender;
   front = p.front;
   parts = p.parts;
@@ -64,6 +67,7 @@ word_pushed old now new all rest word count_old count_now count_new p lender wri
   words = p.words + 1;
   so_far = let s = p.so_far in omega arith;
   turns = let t = p.turns in omega arith;
+  each_turn_places = let e = p.each_turn_places in omega arith;
 }
 
 -- one octet more is taken
@@ -99,6 +103,7 @@ octet_taken old now all rest more word width octet count_old count_now p le lt i
       words = p.words;
       so_far = let s = p.so_far in omega arith;
       turns = p.turns;
+      each_turn_places = p.each_turn_places;
     }
 
 -- a word is full, or has room for an octet
@@ -126,9 +131,10 @@ module _ (old now new : BitAppender) (all rest : List ℕ) (word width count_old
 
   pub all_pushed : lender_of new ≡ lender_of now → bits_written new ≡ bits_written now ++ digits word width
       → room new + width ≡ room now
+      → count_new + words_placed now ≡ count_now + words_placed new
       → count_now + div_ceil width 64 ≤ count_new → count_new ≤ count_now + turns_for width
       → PushesList (bits all) old new count_old count_new
-  all_pushed lender written left low high =
+  all_pushed lender written left each low high =
       let l = p.left in
       let t = p.turns in
       let s = p.so_far in
@@ -138,6 +144,7 @@ module _ (old now new : BitAppender) (all rest : List ℕ) (word width count_old
         lender = lender ∙ p.lender;
         written = written ∙ p.written ∙ ap (λ (l : List ℕ). bits_written old ++ bits l) (sym whole_front);
         left = omega arith;
+        each_turn_places = let e = p.each_turn_places in omega arith;
         at_least = omega arith;
         at_most = omega arith;
       }

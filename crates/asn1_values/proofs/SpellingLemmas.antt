@@ -16,7 +16,7 @@ use Rattle.std.proofs.Math.Seq.{take-append_seam}
 use Rattle.std.proofs.lemmas.Option.{same_Some, slice_get_read, slice_get-map}
 use Rattle.asn1_bits.specs.Bits.{digits, bits}
 use Rattle.asn1_bits.specs.declared.bit_appender.BitAppender.{BitAppender}
-use Rattle.asn1_bits.specs.BitAppender.{bits_written, room, lender_of}
+use Rattle.asn1_bits.specs.BitAppender.{bits_written, room, lender_of, words_placed}
 use Rattle.asn1_bits.specs.DigitLaws.{length-digits, length-bits}
 use Rattle.asn1_values.specs.declared.bit_fields.error.WriteError.{WriteError}
 use Rattle.asn1_values.specs.declared.bit_fields.error.WriteError.TheVariants as errors
@@ -206,12 +206,14 @@ space_of field list n space s len enough = let r = enough.each list s in omega a
 -- a list of n bits was pushed, in turns for so many
 pub list_pushed : (list : List Bool) (n : ℕ) (old new : BitAppender) (turns_old turns_new : ℕ) → length list ≡ n
     → lender_of new ≡ lender_of old → bits_written new ≡ bits_written old ++ list → room new + n ≡ room old
+    → turns_new + words_placed old ≡ turns_old + words_placed new
     → turns_old + div_ceil n 64 ≤ turns_new → turns_new ≤ turns_old + turns_for n
     → PushesList list old new turns_old turns_new
-list_pushed list n old new turns_old turns_new len lender written left low high = record {
+list_pushed list n old new turns_old turns_new len lender written left each low high = record {
   lender = lender;
   written = written;
   left = rw len left;
+  each_turn_places = each;
   at_least = rw len low;
   at_most = rw len high;
 }
@@ -226,6 +228,7 @@ one_pushed field list old new turns_old turns_new spelled p = record {
   lender = p.lender;
   written = p.written;
   left = p.left;
+  each_turn_places = p.each_turn_places;
   at_least = p.at_least;
   at_most = let a = p.at_most in omega arith;
 }
@@ -261,6 +264,7 @@ counted_pushed n octets old now new turns_old turns_now turns_new shortest le on
       written = two.written ∙ ap (λ (l : List Bool). l ++ bits octets) one.written
           ∙ append_assoc (bits_written old) (digits (length octets) 8) (bits octets);
       left = let a = one.left in let b = two.left in omega arith;
+      each_turn_places = let a = one.each_turn_places in let b = two.each_turn_places in omega arith;
       at_least = let a = one.at_least in let b = two.at_least in omega arith;
       at_most = let a = one.at_most in let b = two.at_most in omega arith;
     }

@@ -7,7 +7,7 @@ use Rattle.asn1_bits.specs.BitReader.{view_left, bits_left}
 use Rattle.asn1_bits.specs.View.{part}
 use Rattle.asn1_bits.specs.Bits.{overwritten, octets_for, digits}
 use Rattle.asn1_bits.specs.Turns.{turns_for}
-use Rattle.asn1_bits.specs.BitAppender.{bits_written, room, lender_of}
+use Rattle.asn1_bits.specs.BitAppender.{bits_written, room, lender_of, words_placed}
 use Rattle.asn1_values.specs.declared.bit_fields.error.ReadError.{ReadError}
 use Rattle.asn1_values.specs.declared.bit_fields.error.ReadError.TheVariants as reading
 use Rattle.asn1_values.specs.declared.bit_fields.error.WriteError.{WriteError}
@@ -231,11 +231,12 @@ pub record PushesAll (fields : List Field) (old new : BitAppender) : Type 0 wher
   pub written : bits_written new ≡ bits_written old ++ list
   pub left : room new + length list ≡ room old
 
--- the list was pushed, in turns for its bits, and the storage is the same
+-- the list was pushed, in turns for its bits, each of which placed a word, and the storage is the same
 pub record PushesList (list : List Bool) (old new : BitAppender) (turns_old turns_new : ℕ) : Type 0 where
   pub lender : lender_of new ≡ lender_of old
   pub written : bits_written new ≡ bits_written old ++ list
   pub left : room new + length list ≡ room old
+  pub each_turn_places : turns_new + words_placed old ≡ turns_old + words_placed new
   pub at_least : turns_old + div_ceil (length list) 64 ≤ turns_new
   pub at_most : turns_new ≤ turns_old + turns_for (length list)
 
@@ -246,6 +247,7 @@ pub record PushesOne (field : Field) (old new : BitAppender) (turns_old turns_ne
   pub lender : lender_of new ≡ lender_of old
   pub written : bits_written new ≡ bits_written old ++ list
   pub left : room new + length list ≡ room old
+  pub each_turn_places : turns_new + words_placed old ≡ turns_old + words_placed new
   pub at_least : turns_old + div_ceil (length list) 64 ≤ turns_new
   pub at_most : turns_new ≤ turns_old + length list / 64 + 8
 
@@ -254,8 +256,7 @@ pub record PushesGathered (old new : BitAppender) (word width width_new turns_ol
   pub pushed : PushesList (digits word width) old new turns_old turns_new
   pub none : width_new ≡ 0
 
--- the list was taken behind the digits of a word: a front of both was pushed, in its turns, and the
--- digits of the new word are the rest
+-- the list was appended to the gathered word; what no longer fitted was pushed, in its turns
 pub record Gathers (list : List Bool) (old new : BitAppender) (word width word_new width_new turns_old turns_new : ℕ)
     : Type 0 where
   pub lender : lender_of new ≡ lender_of old
@@ -263,6 +264,7 @@ pub record Gathers (list : List Bool) (old new : BitAppender) (word width word_n
   pub written : bits_written new ≡ bits_written old ++ front
   pub left : room new + length front ≡ room old
   pub parts : front ++ digits word_new width_new ≡ digits word width ++ list
+  pub each_turn_places : turns_new + words_placed old ≡ turns_old + words_placed new
   pub at_least : turns_old + div_ceil (length front) 64 ≤ turns_new
   pub at_most : turns_new + turns_for width_new ≤ turns_old + turns_for width + length list / 64 + 8
 
@@ -315,6 +317,7 @@ pub record PushesAllIfFit (fields : List Field) (old new : BitAppender) (turns_o
   pub kept : (list : List Bool) × (bits_written new ≡ bits_written old ++ list)
   pub pushed : OnSome result (PushesAll fields old new)
   pub counted : OnSome result (TakeTurns fields turns_old turns_new)
+  pub each_turn_places : OnSome result (turns_new + words_placed old ≡ turns_old + words_placed new)
   pub lacking : IfNone result ((list : List Bool) → AreSpelledBy fields list → ⊥)
 
 -- ---- writing over what is there

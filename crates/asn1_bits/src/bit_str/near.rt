@@ -22,8 +22,8 @@ impl<'a> BitStr<'a> {
         }
     }
 
-    /// Splits as `split_at` does. Where the compiler knows that `at` is below 256, only the call of
-    /// `split_near` is compiled.
+    /// Splits as `split_at` does. For a constant `at` below 256 the branch is decided at compile
+    /// time, and one addition takes the place of three.
     #[inline(always)]
     pub(crate) fn split_either(&self, at: usize) -> (BitStr<'a>, BitStr<'a>)
         requires { at ≤ (view_of self.now).len }

@@ -9,8 +9,8 @@ use crate::reads::{read_few, read_long, read_many, read_word};
 use crate::window::whole_word;
 
 impl BitStr<'_> {
-    /// The number of the first `width` bits, the first of them its highest digit. `NEAR_END` says
-    /// that more than 64 bits are likely to end where the storage does.
+    /// The number of the first `width` bits, the first of them its highest digit. `NEAR_END` inlines
+    /// the path for more than 64 bits near the end of the storage.
     #[inline(always)]
     pub(crate) fn first_u128<const NEAR_END: bool>(&self, width: usize) -> u128
         requires width { width ≤ 128 }

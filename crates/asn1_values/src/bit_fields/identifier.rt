@@ -18,8 +18,7 @@ use asn1_bits::{BitAppender, BitReader, Turns};
 use asn1_oid::{ContentsError, ObjectIdentifier, OidContents, check_contents};
 use std::alloc::{AllocError, Global};
 
-/// How many bits the contents have, if the identifier has two arcs. A function of its own, so that
-/// the result's stack slot is initialised only for identifiers.
+/// How many bits the contents have, if the identifier has two arcs.
 #[inline(always)]
 pub(super) fn fitting_len(oid: &ObjectIdentifier, place: usize) -> Result<u128, WriteError>
     ensures { Measures place (plain.Identifier oid.now) result }
@@ -27,13 +26,15 @@ pub(super) fn fitting_len(oid: &ObjectIdentifier, place: usize) -> Result<u128, 
     fitting_contents(oid, place)
 }
 
-/// `fitting_len`, not inlined.
+/// The work of `fitting_len`. Not inlined, so that the result's stack slot is initialised only for
+/// identifiers.
 #[inline(never)]
 fn fitting_contents(oid: &ObjectIdentifier, place: usize) -> Result<u128, WriteError>
     ensures { Measures place (plain.Identifier oid.now) result }
 {
     let arcs = oid.as_ref();
-    // The number of arcs fits `usize`, and so their octets are not too many.
+    // For the proof: `len()` ensures that the number of arcs is below 2^64, so that of their octets
+    // fits `u128`.
     let _len = arcs.len();
     match oid.as_oid().contents_len() {
         Some(octets) => Ok(8 * octets),

@@ -39,7 +39,8 @@ pub(super) fn push(
         gathered.old.word gathered.old.width gathered.new.word gathered.new.width turns.old.count
         turns.new.count }
 {
-    // The octets fit the room, and so does the number of their bits.
+    // For the proof: `room()` ensures that the room, and so the number of bits of octets that fit it,
+    // is below 2^64.
     let _room = appender.room();
     let bits = BitStr::from_octets(octets.as_ref());
     bits::push(appender, gathered, &bits, turns);

@@ -23,8 +23,8 @@ use std::alloc::Global;
 
 /// Reads a field of each shape from the front of the reader, which moves past them. If one is
 /// refused, the reader stays. It first asks for room for all fields; copied octets, long integers
-/// and identifiers allocate their own. Want of memory is the last refusal: if memory fails, the
-/// rest is examined without memory.
+/// and identifiers allocate their own. `Memory` is the last refusal: if an allocation fails, all
+/// fields are examined again, without memory.
 pub fn read_fields<'a, 's>(
     alloc: Global,
     reader: &mut BitReader<'a>,

@@ -7,18 +7,18 @@ pub overflow_add-self : goal.overflow_add-self
 overflow_add-self c = let z = c.args.self.now.zeros in omega (arith, z.within, c.len.ensures.len)
 
 -- what is known of the buffer after the view was written
-step : (c : goal.After-self-1) → Filled c.args.self.now.buffer.now c.write_at.new.self (bits_of c.args.src)
+step : (c : goal.After-self-1) → Filled c.args.self.now.target.buffer.now c.write_at.new.self.buffer.now (bits_of c.args.src)
     c.args.self.now.position c.len.result
 step c =
     let a = c.args.self.now in
-    room-step a.buffer.now c.write_at.new.self (bits_of c.args.src) a.position c.len.result a.zeros
+    room-step a.target.buffer.now c.write_at.new.self.buffer.now (bits_of c.args.src) a.position c.len.result a.zeros
     c.write_at.ensures.list (sym c.len.ensures.list) (omega (arith, a.zeros.within, c.len.ensures.len))
 
 pub invariant_of-self : goal.invariant_of-self
 invariant_of-self c =
     let a = c.args.self.now in
     let f =
-    room-step a.buffer.now c.write_at.new.self (bits_of c.args.src) a.position c.len.result a.zeros
+    room-step a.target.buffer.now c.write_at.new.self.buffer.now (bits_of c.args.src) a.position c.len.result a.zeros
     c.write_at.ensures.list (sym c.len.ensures.list) (omega (arith, a.zeros.within, c.len.ensures.len)) in
     record { zeros = f.rest }
 

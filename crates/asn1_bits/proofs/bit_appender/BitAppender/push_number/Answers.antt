@@ -8,11 +8,11 @@ pub overflow_add-self : goal.overflow_add-self
 overflow_add-self c = let z = c.args.self.now.zeros in omega (arith, z.within, c.len-len.ensures)
 
 -- what is known of the buffer after the digits were written
-step : (c : goal.After-self-1) → Filled c.args.self.now.buffer.now c.put_number.new.self
+step : (c : goal.After-self-1) → Filled c.args.self.now.target.buffer.now c.put_number.new.self.buffer.now
     (digits c.args.number c.args.width) c.args.self.now.position c.args.width
 step c =
     let a = c.args.self.now in
-    room-step a.buffer.now c.put_number.new.self (digits c.args.number c.args.width) a.position c.args.width a.zeros
+    room-step a.target.buffer.now c.put_number.new.self.buffer.now (digits c.args.number c.args.width) a.position c.args.width a.zeros
     c.put_number.ensures.list (length-digits c.args.number c.args.width)
     (omega (arith, a.zeros.within, c.len-len.ensures))
 
@@ -20,7 +20,7 @@ pub invariant_of-self : goal.invariant_of-self
 invariant_of-self c =
     let a = c.args.self.now in
     let f =
-    room-step a.buffer.now c.put_number.new.self (digits c.args.number c.args.width) a.position c.args.width a.zeros
+    room-step a.target.buffer.now c.put_number.new.self.buffer.now (digits c.args.number c.args.width) a.position c.args.width a.zeros
     c.put_number.ensures.list (length-digits c.args.number c.args.width)
     (omega (arith, a.zeros.within, c.len-len.ensures)) in
     record { zeros = f.rest }

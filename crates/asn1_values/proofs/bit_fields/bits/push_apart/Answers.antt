@@ -21,4 +21,4 @@ returns-else-len-le128 c =
     c.push_bitslice.new.turns.count refl
     (list_pushed (bits_of b) (view_of b).len c.args.appender.now c.push_bitslice.new.self c.args.turns.now.count
     c.push_bitslice.new.turns.count n pushed.lender pushed.written pushed.room
-    pushed.at_least pushed.at_most)
+    pushed.each_turn_places pushed.at_least pushed.at_most)

@@ -23,5 +23,6 @@ returns c =
     c.push_number.new.turns.count refl
     (list_pushed (bits_of b) (view_of b).len c.args.appender.now c.push_number.new.self c.args.turns.now.count
     c.push_number.new.turns.count n pushed.lender
-    (rw (len, c.read_u128.ensures.digits) at pushed.written) (rw len at pushed.room) (rw len at pushed.at_least)
+    (rw (len, c.read_u128.ensures.digits) at pushed.written) (rw len at pushed.room) pushed.each_turn_places
+    (rw len at pushed.at_least)
     (rw len at pushed.at_most))

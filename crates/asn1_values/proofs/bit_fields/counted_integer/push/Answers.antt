@@ -28,5 +28,5 @@ returns c =
     c.push_wide.new.turns.count c.push_shortest.new.turns.count one.1 p.0
     (list_pushed (digits (length one.0) 8) 8 c.args.appender.now c.push_wide.new.self c.args.turns.now.count
     c.push_wide.new.turns.count (length-digits (length one.0) 8) first.lender (rw len at first.written) first.room
-    first.at_least first.at_most)
+    first.each_turn_places first.at_least first.at_most)
     (c.push_shortest.ensures one.0 one.1)

@@ -9,4 +9,4 @@ returns c =
     let p = c.push_number.ensures in
     list_pushed (digits d.word d.width) d.width c.args.appender.now c.push_number.new.self c.args.turns.now.count
     c.push_number.new.turns.count (length-digits d.word d.width) p.lender (rw c.from.ensures at p.written) p.room
-    p.at_least p.at_most
+    p.each_turn_places p.at_least p.at_most

@@ -42,6 +42,7 @@ loop-octet-preserved c =
                 c.loop-octet.turns.count w.push_wide.new.turns.count full
                 w.push_wide.ensures.lender (rw w.if-width-eq128.true at w.push_wide.ensures.written)
                 (rw w.if-width-eq128.true at w.push_wide.ensures.room)
+                w.push_wide.ensures.each_turn_places
                 (rw w.if-width-eq128.true at w.push_wide.ensures.at_least)
                 (rw w.if-width-eq128.true at w.push_wide.ensures.at_most),
             omega arith,
@@ -62,4 +63,4 @@ returns c =
     rw c.into_iter-octet-iterator.ensures.into_iter_gives at
     (all_pushed c.args.appender.now l.appender new.self c.into_iter-octet-iterator.result l.octet-iterator l.word l.width
     c.args.turns.now.count l.turns.count new.turns.count l.invariant c.in-None.ensures.steps.0 p.lender p.written p.room
-    p.at_least p.at_most)
+    p.each_turn_places p.at_least p.at_most)

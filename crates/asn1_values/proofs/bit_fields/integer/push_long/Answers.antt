@@ -14,4 +14,4 @@ returns c = λ octets s.
     list_pushed (bits octets) (8 * length octets) c.args.appender.now c.push_octets.new.self c.args.turns.now.count
     c.push_octets.new.turns.count (length-bits octets) p.lender
     (p.written ∙ ap (λ (l : List Bool). bits_written c.args.appender.now ++ l) (ap bits same)) (rw same at p.room)
-    (rw same at p.at_least) (rw same at p.at_most)
+    p.each_turn_places (rw same at p.at_least) (rw same at p.at_most)

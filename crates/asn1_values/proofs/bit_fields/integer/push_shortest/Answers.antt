@@ -40,5 +40,5 @@ returns-in-Some c = λ octets s.
     let len = c.signed_len.ensures octets s in
     let p = c.push_wide.ensures in
     list_pushed (bits octets) (8 * length octets) c.args.appender.now c.push_wide.new.self c.args.turns.now.count
-    c.push_wide.new.turns.count (length-bits octets) p.lender written (rw len at p.room) (rw len at p.at_least)
+    c.push_wide.new.turns.count (length-bits octets) p.lender written (rw len at p.room) p.each_turn_places (rw len at p.at_least)
     (rw len at p.at_most)

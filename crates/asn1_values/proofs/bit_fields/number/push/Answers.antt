@@ -44,7 +44,7 @@ returns-else-width-le21 c =
     (one_pushed (Number n w) (digits n w) c.push.new.appender c.push_number.new.self c.push.new.turns.count
     c.push_number.new.turns.count (fits.1.0, fits.1.1, refl)
     (list_pushed (digits n w) w c.push.new.appender c.push_number.new.self c.push.new.turns.count
-    c.push_number.new.turns.count (length-digits n w) pushed.lender pushed.written pushed.room pushed.at_least
+    c.push_number.new.turns.count (length-digits n w) pushed.lender pushed.written pushed.room pushed.each_turn_places pushed.at_least
     pushed.at_most))
 
 pub returns-then-width-le21 : goal.returns-then-width-le21

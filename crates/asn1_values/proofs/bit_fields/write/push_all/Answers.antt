@@ -47,6 +47,7 @@ returns-in_err-push c =
       kept = (w.front, none.kept ∙ w.written);
       pushed = tt;
       counted = tt;
+      each_turn_places = tt;
       lacking = λ list s.
           none.lacking
           (field_fits (plain_fields fs) (plain_fields (take i fs)) (plain_fields (drop (i + 1) fs)) (plain_field x)
@@ -88,5 +89,6 @@ returns c =
       counted =
           gathered_turns fs old now.appender new.appender word width new.self.width count now.turns.count new.turns.count
           all last;
+      each_turn_places = omega (arith, all.each_turn_places, last.pushed.each_turn_places);
       lacking = tt;
     }

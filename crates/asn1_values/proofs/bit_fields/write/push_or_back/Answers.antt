@@ -6,7 +6,7 @@ use Rattle.asn1_values.proofs.bit_fields.write.push_or_back.Goals as goal
 pub returns-in-None : goal.returns-in-None
 returns-in-None c =
     let k = c.push_all.ensures.kept in
-    let cut : take (length c.args.buffer.now) c.push_all.new.appender.buffer.now ≡ c.args.buffer.now =
+    let cut : take (length c.args.buffer.now) c.push_all.new.appender.target.buffer.now ≡ c.args.buffer.now =
     cut_back _ c.args.buffer.now k.0 _ (k.1 ∙ ap (λ (l : List Bool). l ++ k.0) c.in-Ok.ensures.written) in
     record {
       written = tt;
