@@ -1,3 +1,5 @@
 -- Laws of the definitions: no contract cites one.
 pub mod FieldLaws
 pub mod OneEncodingLaws
+pub mod OpenTypeLaws
+pub mod ExampleLaws

@@ -1,3 +1,5 @@
 -- The fields of X.691.
 pub mod Fields
+pub mod OpenTypes
+pub mod Example
 pub mod Laws

@@ -1,7 +1,9 @@
 //! What holds of the fields that values are encoded by.
 
-ghost use Rattle.std.specs.Prelude.{ℕ, Bool};
+ghost use Rattle.std.specs.Prelude.{ℕ, Bool, false, [], ◌∷◌};
 ghost use Rattle.asn1_schema.specs.Encodings.{DecodesOne, EncodesOne, NamesFault};
+ghost use Rattle.asn1_schema.specs.TypeEncodings.{EncodesUniquely, NamesEachMisfit};
+ghost use Rattle.asn1_x691.specs.Example.{integer, opened, opened_five};
 ghost use Rattle.asn1_x691.specs.Fields.{constrained, length_of, small_length, octets};
 
 /// States what holds of a constrained whole number (X.691 11.5), in both variants, at each position
@@ -40,4 +42,22 @@ pub fn laws_of_octets()
     ensures fault { (aligned : Bool) (node at : ℕ)
         → NamesFault (octets aligned node at).encodes (octets aligned node at).fault }
     ensures encodes_one { (aligned : Bool) (node at : ℕ) → EncodesOne (octets aligned node at).encodes }
+{}
+
+/// States what holds of an open type (X.691 11.2) that holds an INTEGER (0..255), in both variants,
+/// at each position of a message.
+pub fn laws_of_an_open_type()
+    // Bits begin with one value at most, which ends at one place; otherwise their first fault is
+    // one.
+    ensures decodes_one { (aligned : Bool) (at : ℕ) → DecodesOne (opened aligned at).encoding.encodes }
+    ensures fault { (aligned : Bool) (at : ℕ)
+        → NamesFault (opened aligned at).encoding.encodes (opened aligned at).encoding.fault }
+    // Parts begin with one value at most, which has one encoding; otherwise their first misfit is
+    // one, and there is one.
+    ensures encodes { (aligned : Bool) (at : ℕ)
+        → EncodesUniquely (opened aligned at).encoding.encodes (opened aligned at).misfit }
+    ensures misfit { (aligned : Bool) (at : ℕ)
+        → NamesEachMisfit (opened aligned at).encoding.encodes (opened aligned at).misfit }
+    // There is a value: an octet, 05, is an open type of 5.
+    ensures is { (opened false 0).encoding.encodes (integer 5 ∷ []) opened_five }
 {}

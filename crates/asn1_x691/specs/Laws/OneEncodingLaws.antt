@@ -27,7 +27,7 @@ on_octet_one true node A a at =
     (λ x y u v i j k l p q r s e. (refl, e))
 
 -- the field after the zeros
-inner : {X : Type 0} (aligned : Bool) (node at : ℕ) (A : Encoding FaultKind X) (x : X) (k : List Bool)
+pub inner : {X : Type 0} (aligned : Bool) (node at : ℕ) (A : Encoding FaultKind X) (x : X) (k : List Bool)
     → (on_octet aligned node A at).encodes x k → (l : List Bool) × A.encodes x l
 inner false node at A x k p = (k, p)
 inner true node at A x k p = (p.rest, subst (λ (y : _). A.encodes y p.rest) (sym p.is) p.second)
