@@ -1,6 +1,6 @@
 -- The fields of the packed encoding rules (X.691), both variants: `aligned` is true in the ALIGNED and false in the UNALIGNED
 -- variant. At `at`, so many bits of the message precede the field.
-use Rattle.std.specs.Prelude.{◌≡◌, ◌≢◌, ℕ, ◌+◌, ◌-◌, ◌*◌, ◌/◌, ◌%◌, ◌^◌, ◌<◌, ◌≤◌, ◌⊎◌, ⊤, Bool, true, false, List}
+use Rattle.std.specs.Prelude.{◌≡◌, ◌≢◌, ℕ, ℤ, pos, negsuc, ◌+◌, ◌-◌, ◌*◌, ◌/◌, ◌%◌, ◌^◌, ◌<◌, ◌≤◌, ◌⊎◌, ⊤, Bool, true, false, List}
 use Rattle.asn1_characters.specs.Widths.{ceil_log2}
 use Rattle.asn1_schema.specs.Encodings.{Encoding, constant, invalid, then, cases, number, anywhere, in_turn, in_case}
 use Rattle.asn1_schema.specs.Fields.{raw_bits}
@@ -103,6 +103,46 @@ large_length aligned node = in_turn (length_of aligned node) (λ n m. m) (λ n. 
 abbrev pub small_length : Bool → ℕ → ℕ → Encoding FaultKind ℕ
 small_length aligned node = in_turn (anywhere (number 1 Short node)) (λ bit n. n) (λ bit.
     in_case (bit ≡ 0) (anywhere (distance_from_one node)) (0 < bit) (large_length aligned node))
+
+-- ---- whole numbers without an upper bound
+
+-- a number from 0 on, in the fewest octets after their number (11.7)
+abbrev pub semi_constrained : Bool → ℕ → ℕ → Encoding FaultKind ℕ
+semi_constrained aligned node = in_turn (length_of aligned node) (λ count d. d) (λ count.
+    in_case (0 < count) (on_octet aligned node (minimal_octets count node)) (count ≡ 0) (anywhere (invalid NotMinimal node)))
+
+-- a number below 64 in six bits after a bit 0; a greater one after a bit 1 (11.6)
+abbrev pub at_least_64 : ℕ → ℕ → Encoding FaultKind ℕ
+at_least_64 node n = cases (64 ≤ n) (constant n) (n < 64) (invalid NotMinimal node)
+
+abbrev pub large_number : Bool → ℕ → ℕ → Encoding FaultKind ℕ
+large_number aligned node = in_turn (semi_constrained aligned node) (λ n m. m) (λ n. anywhere (at_least_64 node n))
+
+abbrev pub small_number : Bool → ℕ → ℕ → Encoding FaultKind ℕ
+small_number aligned node = in_turn (anywhere (number 1 Short node)) (λ bit n. n) (λ bit.
+    in_case (bit ≡ 0) (anywhere (number 6 Short node)) (0 < bit) (large_number aligned node))
+
+-- a value in so many octets of two's complement, and no fewer: u is the number, or its distance below -1 (11.8, X.690 8.3.2)
+abbrev pub with_sign : ℕ → ℕ → ℕ → ℤ → Encoding FaultKind ℤ
+with_sign count node u z =
+    cases ((count ≤ 1) ⊎ (2 ^ (8 * count - 9) ≤ u)) (constant z) ((1 < count) × (u < 2 ^ (8 * count - 9))) (invalid NotMinimal node)
+
+-- how far the digits are below those of -1
+abbrev pub below_minus_one : ℕ → ℕ → ℕ
+below_minus_one count d = 2 ^ (8 * count) - 1 - d
+
+abbrev pub signed_of : ℕ → ℕ → ℕ → Encoding FaultKind ℤ
+signed_of count node d =
+    cases (d < 2 ^ (8 * count - 1)) (with_sign count node d (pos d)) (2 ^ (8 * count - 1) ≤ d)
+    (with_sign count node (below_minus_one count d) (negsuc (below_minus_one count d)))
+
+abbrev pub signed_octets : ℕ → ℕ → Encoding FaultKind ℤ
+signed_octets count node = then (number (8 * count) Short node) (λ d z. z) (λ d. signed_of count node d)
+
+-- a whole number, in the fewest octets after their number (11.8)
+abbrev pub unconstrained : Bool → ℕ → ℕ → Encoding FaultKind ℤ
+unconstrained aligned node = in_turn (length_of aligned node) (λ count z. z) (λ count.
+    in_case (0 < count) (on_octet aligned node (signed_octets count node)) (count ≡ 0) (anywhere (invalid NotMinimal node)))
 
 -- ---- octets
 

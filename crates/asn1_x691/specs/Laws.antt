@@ -1,5 +1,6 @@
 -- Laws of the definitions: no contract cites one.
 pub mod FieldLaws
 pub mod OneEncodingLaws
+pub mod NumberLaws
 pub mod OpenTypeLaws
 pub mod ExampleLaws

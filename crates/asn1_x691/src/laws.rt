@@ -4,7 +4,7 @@ ghost use Rattle.std.specs.Prelude.{ℕ, Bool, false, [], ◌∷◌};
 ghost use Rattle.asn1_schema.specs.Encodings.{DecodesOne, EncodesOne, NamesFault};
 ghost use Rattle.asn1_schema.specs.TypeEncodings.{EncodesUniquely, NamesEachMisfit};
 ghost use Rattle.asn1_x691.specs.Example.{integer, opened, opened_five};
-ghost use Rattle.asn1_x691.specs.Fields.{constrained, length_of, small_length, octets};
+ghost use Rattle.asn1_x691.specs.Fields.{constrained, length_of, small_length, semi_constrained, small_number, unconstrained, octets};
 
 /// States what holds of a constrained whole number (X.691 11.5), in both variants, at each position
 /// of a message; it does nothing.
@@ -34,6 +34,30 @@ pub fn laws_of_small_length()
     ensures fault { (aligned : Bool) (node at : ℕ)
         → NamesFault (small_length aligned node at).encodes (small_length aligned node at).fault }
     ensures encodes_one { (aligned : Bool) (node at : ℕ) → EncodesOne (small_length aligned node at).encodes }
+{}
+
+/// States the same of a whole number from 0 on, in the fewest octets after their number (X.691 11.7).
+pub fn laws_of_semi_constrained()
+    ensures decodes_one { (aligned : Bool) (node at : ℕ) → DecodesOne (semi_constrained aligned node at).encodes }
+    ensures fault { (aligned : Bool) (node at : ℕ)
+        → NamesFault (semi_constrained aligned node at).encodes (semi_constrained aligned node at).fault }
+    ensures encodes_one { (aligned : Bool) (node at : ℕ) → EncodesOne (semi_constrained aligned node at).encodes }
+{}
+
+/// States the same of a normally small number (X.691 11.6).
+pub fn laws_of_small_number()
+    ensures decodes_one { (aligned : Bool) (node at : ℕ) → DecodesOne (small_number aligned node at).encodes }
+    ensures fault { (aligned : Bool) (node at : ℕ)
+        → NamesFault (small_number aligned node at).encodes (small_number aligned node at).fault }
+    ensures encodes_one { (aligned : Bool) (node at : ℕ) → EncodesOne (small_number aligned node at).encodes }
+{}
+
+/// States the same of a whole number of any sign, in the fewest octets after their number (X.691 11.8).
+pub fn laws_of_unconstrained()
+    ensures decodes_one { (aligned : Bool) (node at : ℕ) → DecodesOne (unconstrained aligned node at).encodes }
+    ensures fault { (aligned : Bool) (node at : ℕ)
+        → NamesFault (unconstrained aligned node at).encodes (unconstrained aligned node at).fault }
+    ensures encodes_one { (aligned : Bool) (node at : ℕ) → EncodesOne (unconstrained aligned node at).encodes }
 {}
 
 /// States the same of octets after their length (X.691 17.8).

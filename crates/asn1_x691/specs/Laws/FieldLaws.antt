@@ -1,14 +1,14 @@
 -- Laws of fields: bits begin with one value at most, and otherwise have one first fault.
-use Rattle.std.proofs.Common.{ℕ, ◌+◌, ◌-◌, ◌*◌, ◌^◌, ◌<◌, ◌≤◌, inl, inr, Bool, true, false, arith}
+use Rattle.std.proofs.Common.{◌≡◌, ℕ, ℤ, ◌+◌, ◌-◌, ◌*◌, ◌^◌, ◌<◌, ◌≤◌, inl, inr, Bool, true, false, arith}
 use Rattle.std.specs.Prelude.{◌⊎◌}
 use Rattle.asn1_schema.specs.Encodings.{Encoding}
-use Rattle.asn1_schema.specs.Laws.EncodingLaws.{IsSound}
+use Rattle.asn1_schema.specs.Laws.EncodingLaws.{IsSound, invalid_sound, number_sound}
 use Rattle.asn1_schema.specs.Laws.PositionLaws.{IsSoundEverywhere}
 use Rattle.asn1_schema.specs.Laws.ByStructure.{then_of, cases_of, constant_of, invalid_of, number_of, in_turn_of, in_case_of}
 use Rattle.asn1_schema.specs.Laws.FieldLaws.{raw_bits_sound}
 use Rattle.asn1_x691.specs.declared.fault.FaultKind.{FaultKind}
-use Rattle.asn1_x691.specs.declared.fault.FaultKind.TheVariants.{Short}
-use Rattle.asn1_x691.specs.Fields.{zeros, to_octet, on_octet, up_to, in_bits, minimal_octets, minimal_up_to, octet_count, indefinite, constrained, long_enough, length_after, length_octets, length_of, distance_from_one, above_64, large_length, small_length, octets}
+use Rattle.asn1_x691.specs.declared.fault.FaultKind.TheVariants.{Short, NotMinimal}
+use Rattle.asn1_x691.specs.Fields.{zeros, to_octet, on_octet, up_to, in_bits, minimal_octets, minimal_up_to, octet_count, indefinite, constrained, long_enough, length_after, length_octets, length_of, distance_from_one, above_64, large_length, small_length, semi_constrained, at_least_64, large_number, small_number, with_sign, below_minus_one, signed_of, signed_octets, unconstrained, octets}
 
 pub zeros_sound : (count node : ℕ) → IsSound (zeros count node)
 zeros_sound count node = then_of number_of (λ n. cases_of (λ a b. omega (arith, a, b)) constant_of invalid_of)
@@ -76,6 +76,41 @@ pub small_length_sound : (aligned : Bool) (node : ℕ) → IsSoundEverywhere (sm
 small_length_sound aligned node =
     in_turn_of (λ at. number_of)
     (λ bit. in_case_of (λ a b. omega (arith, a, b)) (λ at. distance_from_one_sound node) (large_length_sound aligned node))
+
+-- ---- whole numbers without an upper bound
+
+some_or_none : (count : ℕ) → 0 < count → count ≡ 0 → ⊥
+some_or_none count p q = omega (arith, p, q)
+
+pub semi_constrained_sound : (aligned : Bool) (node : ℕ) → IsSoundEverywhere (semi_constrained aligned node)
+semi_constrained_sound aligned node =
+    in_turn_of (length_sound aligned node)
+    (λ count. in_case_of (some_or_none count) (on_octet_sound aligned node _ (minimal_octets_sound count node)) (λ at. invalid_sound NotMinimal node))
+
+at_least_64_sound : (node n : ℕ) → IsSound (at_least_64 node n)
+at_least_64_sound node n = cases_of (λ a b. omega (arith, a, b)) constant_of invalid_of
+
+large_number_sound : (aligned : Bool) (node : ℕ) → IsSoundEverywhere (large_number aligned node)
+large_number_sound aligned node = in_turn_of (semi_constrained_sound aligned node) (λ n at. at_least_64_sound node n)
+
+pub small_number_sound : (aligned : Bool) (node : ℕ) → IsSoundEverywhere (small_number aligned node)
+small_number_sound aligned node =
+    in_turn_of (λ at. number_of) (λ bit. in_case_of (λ a b. omega (arith, a, b)) (λ at. number_sound 6 Short node) (large_number_sound aligned node))
+
+with_sign_sound : (count node u : ℕ) (z : ℤ) → IsSound (with_sign count node u z)
+with_sign_sound count node u z = cases_of (few_or_many count u (2 ^ (8 * count - 9))) constant_of invalid_of
+
+signed_of_sound : (count node d : ℕ) → IsSound (signed_of count node d)
+signed_of_sound count node d =
+    cases_of (λ a b. omega (arith, a, b)) (with_sign_sound count node d _) (with_sign_sound count node (below_minus_one count d) _)
+
+pub signed_octets_sound : (count node : ℕ) → IsSound (signed_octets count node)
+signed_octets_sound count node = then_of number_of (λ d. signed_of_sound count node d)
+
+pub unconstrained_sound : (aligned : Bool) (node : ℕ) → IsSoundEverywhere (unconstrained aligned node)
+unconstrained_sound aligned node =
+    in_turn_of (length_sound aligned node)
+    (λ count. in_case_of (some_or_none count) (on_octet_sound aligned node _ (signed_octets_sound count node)) (λ at. invalid_sound NotMinimal node))
 
 pub octets_sound : (aligned : Bool) (node : ℕ) → IsSoundEverywhere (octets aligned node)
 octets_sound aligned node =

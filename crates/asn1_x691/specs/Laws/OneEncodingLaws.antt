@@ -41,7 +41,7 @@ in_bits_one width most node =
     (λ x y u v i j k l p q r s e.
     (sym (only_constant _ _ x u AboveMost node k r).1 ∙ e ∙ (only_constant _ _ y v AboveMost node l s).1, e))
 
-minimal_octets_one : (count node : ℕ) → EncodesOne (minimal_octets count node).encodes
+pub minimal_octets_one : (count node : ℕ) → EncodesOne (minimal_octets count node).encodes
 minimal_octets_one count node =
     then_encodes_one (number (8 * count) Short node) (λ d n. n)
     (λ d. cases ((count ≤ 1) ⊎ (2 ^ (8 * (count - 1)) ≤ d)) (constant d) ((1 < count) × (d < 2 ^ (8 * (count - 1)))) (invalid NotMinimal node))
@@ -74,16 +74,16 @@ not_fewer m n d low high some lt below mono (inr p) =
     let step = mono many in
     omega (arith, below, step, p)
 
-same_count : (m n : ℕ) → (m < n → ⊥) → (n < m → ⊥) → m ≡ n
+pub same_count : (m n : ℕ) → (m < n → ⊥) → (n < m → ⊥) → m ≡ n
 same_count zero zero p q = refl
 same_count zero (suc n) p q = absurd (p (omega arith))
 same_count (suc m) zero p q = absurd (q (omega arith))
 same_count (suc m) (suc n) p q = ap suc (same_count m n (λ r. p (omega (arith, r))) (λ r. q (omega (arith, r))))
 
 -- so many octets hold the number, and no fewer do
-record IsMinimal (count d : ℕ) : Type 0 where
-  below : d < 2 ^ (8 * count)
-  fewest : (count ≤ 1) ⊎ (2 ^ (8 * (count - 1)) ≤ d)
+pub record IsMinimal (count d : ℕ) : Type 0 where
+  pub below : d < 2 ^ (8 * count)
+  pub fewest : (count ≤ 1) ⊎ (2 ^ (8 * (count - 1)) ≤ d)
 
 minimal : (count most node u : ℕ) (k : List Bool) → (minimal_up_to count most node).encodes u k → IsMinimal count u
 minimal count most node u k p =
@@ -92,7 +92,7 @@ minimal count most node u k p =
     let same : p.first.value ≡ u = sym (p.is ∙ g.1 ∙ p.first.is ∙ h.1) in
     subst (λ (d : ℕ). IsMinimal count d) same (record { below = p.first.first.0; fewest = h.0 })
 
-same_octets : (m n u v : ℕ) → 0 < m → 0 < n → IsMinimal m u → IsMinimal n v → u ≡ v → m ≡ n
+pub same_octets : (m n u v : ℕ) → 0 < m → 0 < n → IsMinimal m u → IsMinimal n v → u ≡ v → m ≡ n
 same_octets m n u v some more p q e =
     let r : IsMinimal m v = subst (λ (d : ℕ). IsMinimal m d) e p in
     same_count m n

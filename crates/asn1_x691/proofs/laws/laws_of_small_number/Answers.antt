@@ -1,0 +1,12 @@
+use Rattle.asn1_x691.specs.Laws.FieldLaws.{small_number_sound}
+use Rattle.asn1_x691.specs.Laws.NumberLaws.{small_number_one}
+use Rattle.asn1_x691.proofs.laws.laws_of_small_number.Goals as goal
+
+pub returns-clause-decodes_one : goal.returns-clause-decodes_one
+returns-clause-decodes_one c aligned node at = (small_number_sound aligned node at).one
+
+pub returns-clause-fault : goal.returns-clause-fault
+returns-clause-fault c aligned node at = (small_number_sound aligned node at).names
+
+pub returns-clause-encodes_one : goal.returns-clause-encodes_one
+returns-clause-encodes_one c aligned node at = small_number_one aligned node at
