@@ -2,5 +2,6 @@
 pub mod FieldLaws
 pub mod OneEncodingLaws
 pub mod NumberLaws
+pub mod FragmentLaws
 pub mod OpenTypeLaws
 pub mod ExampleLaws

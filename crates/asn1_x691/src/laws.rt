@@ -3,6 +3,7 @@
 ghost use Rattle.std.specs.Prelude.{ℕ, Bool, false, [], ◌∷◌};
 ghost use Rattle.asn1_schema.specs.Encodings.{DecodesOne, EncodesOne, NamesFault};
 ghost use Rattle.asn1_schema.specs.TypeEncodings.{EncodesUniquely, NamesEachMisfit};
+ghost use Rattle.asn1_x691.specs.Fragments.{string};
 ghost use Rattle.asn1_x691.specs.Example.{integer, opened, opened_five};
 ghost use Rattle.asn1_x691.specs.Fields.{constrained, length_of, small_length, semi_constrained, small_number, unconstrained, octets};
 
@@ -66,6 +67,17 @@ pub fn laws_of_octets()
     ensures fault { (aligned : Bool) (node at : ℕ)
         → NamesFault (octets aligned node at).encodes (octets aligned node at).fault }
     ensures encodes_one { (aligned : Bool) (node at : ℕ) → EncodesOne (octets aligned node at).encodes }
+{}
+
+/// States the same of units of so many bits after their number, which is in fragments from 16,384
+/// units on (X.691 11.9.3.5 to 11.9.3.8): BIT STRING and OCTET STRING without an upper bound.
+pub fn laws_of_string()
+    ensures decodes_one { (aligned : Bool) (unit node at : ℕ)
+        → DecodesOne (string aligned unit node at).encodes }
+    ensures fault { (aligned : Bool) (unit node at : ℕ)
+        → NamesFault (string aligned unit node at).encodes (string aligned unit node at).fault }
+    ensures encodes_one { (aligned : Bool) (unit node at : ℕ)
+        → EncodesOne (string aligned unit node at).encodes }
 {}
 
 /// States what holds of an open type (X.691 11.2) that holds an INTEGER (0..255), in both variants,

@@ -49,7 +49,7 @@ constrained_sound true range node at =
     (in_case_of (λ a b. b a) (on_octet_sound true node _ (in_bits_sound 8 range node))
     (in_case_of (λ a b. omega (arith, a, b)) (on_octet_sound true node _ (in_bits_sound 16 range node)) (indefinite_sound range node))) at
 
-long_enough_sound : (node n : ℕ) → IsSound (long_enough node n)
+pub long_enough_sound : (node n : ℕ) → IsSound (long_enough node n)
 long_enough_sound node n = cases_of (λ a b. omega (arith, a, b)) constant_of invalid_of
 
 length_after_sound : (node first : ℕ) → IsSound (length_after node first)

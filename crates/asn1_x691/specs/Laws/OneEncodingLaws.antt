@@ -134,14 +134,14 @@ constrained_one true range node at =
 -- ---- lengths
 
 -- a length tells its first octet
-record IsLong (first n : ℕ) : Type 0 where
-  second : ℕ
-  octet : second < 256
-  is : n ≡ 256 * (first - 128) + second
-  long : 128 ≤ n
-  two : 128 ≤ first
+pub record IsLong (first n : ℕ) : Type 0 where
+  pub second : ℕ
+  pub octet : second < 256
+  pub is : n ≡ 256 * (first - 128) + second
+  pub long : 128 ≤ n
+  pub two : 128 ≤ first
 
-long_of : (node first n second : ℕ) (k : List Bool) → 128 ≤ first → second < 256
+pub long_of : (node first n second : ℕ) (k : List Bool) → 128 ≤ first → second < 256
     → (long_enough node (256 * (first - 128) + second)).encodes n k → IsLong first n
 long_of node first n second k two octet p =
     let g = only_constant _ _ (256 * (first - 128) + second) n NotMinimal node k p in
@@ -161,10 +161,10 @@ same_first x y u v (inl p) (inr q) e = absurd (omega (arith, p.0, p.1, q.long, e
 same_first x y u v (inr p) (inl q) e = absurd (omega (arith, q.0, q.1, p.long, e))
 same_first x y u v (inr p) (inr q) e = omega (arith, p.is, p.octet, p.two, q.is, q.octet, q.two, e)
 
-abbrev Two : ℕ → ℕ → Encoding FaultKind ℕ
+abbrev pub Two : ℕ → ℕ → Encoding FaultKind ℕ
 Two node first = then (number 8 Short node) (λ second n. n) (λ second. long_enough node (256 * (first - 128) + second))
 
-two_octets_one : (node first : ℕ) → EncodesOne (Two node first).encodes
+pub two_octets_one : (node first : ℕ) → EncodesOne (Two node first).encodes
 two_octets_one node first =
     then_encodes_one (number 8 Short node) (λ second n. n) (λ second. long_enough node (256 * (first - 128) + second))
     (number_encodes_one 8 Short node) (λ second. constant_if_encodes_one _ _ (256 * (first - 128) + second) NotMinimal node)
