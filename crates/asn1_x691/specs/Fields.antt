@@ -1,9 +1,8 @@
 -- The fields of the packed encoding rules (X.691), both variants: `aligned` is true in the ALIGNED and false in the UNALIGNED
 -- variant. At `at`, so many bits of the message precede the field.
-use Rattle.std.specs.Prelude.{◌≡◌, ◌≢◌, ℕ, ℤ, pos, negsuc, ◌+◌, ◌-◌, ◌*◌, ◌/◌, ◌%◌, ◌^◌, ◌<◌, ◌≤◌, ◌⊎◌, ⊤, Bool, true, false, List}
+use Rattle.std.specs.Prelude.{◌≡◌, ◌≢◌, ℕ, ℤ, pos, negsuc, ◌+◌, ◌-◌, ◌*◌, ◌/◌, ◌%◌, ◌^◌, ◌<◌, ◌≤◌, ◌⊎◌, ⊤, Bool, true, false}
 use Rattle.asn1_characters.specs.Widths.{ceil_log2}
 use Rattle.asn1_schema.specs.Encodings.{Encoding, constant, invalid, then, cases, number, anywhere, in_turn, in_case}
-use Rattle.asn1_schema.specs.Fields.{raw_bits}
 use Rattle.asn1_x691.specs.declared.fault.FaultKind.{FaultKind}
 use Rattle.asn1_x691.specs.declared.fault.FaultKind.TheVariants.{Short, AboveMost, NotMinimal, Fragment, NotZero}
 
@@ -143,9 +142,3 @@ signed_octets count node = then (number (8 * count) Short node) (λ d z. z) (λ 
 abbrev pub unconstrained : Bool → ℕ → ℕ → Encoding FaultKind ℤ
 unconstrained aligned node = in_turn (length_of aligned node) (λ count z. z) (λ count.
     in_case (0 < count) (on_octet aligned node (signed_octets count node)) (count ≡ 0) (anywhere (invalid NotMinimal node)))
-
--- ---- octets
-
--- octets after their number (17.8)
-abbrev pub octets : Bool → ℕ → ℕ → Encoding FaultKind (List Bool)
-octets aligned node = in_turn (length_of aligned node) (λ n bits. bits) (λ n. on_octet aligned node (raw_bits (8 * n) Short node))

@@ -56,3 +56,7 @@ bits_of_units unit node n = anywhere (raw_bits (unit * n) Short node)
 
 abbrev pub string : Bool → ℕ → ℕ → ℕ → Encoding FaultKind (ℕ × List Bool)
 string aligned unit node = all_units (bits_of_units unit node) (λ a b. a ++ b) aligned node most_fragments
+
+-- octets after their number (17.8)
+abbrev pub octets : Bool → ℕ → ℕ → Encoding FaultKind (List Bool)
+octets aligned node = in_turn (string aligned 8 node) (λ v u. v.1) (λ v. anywhere (constant (tt {0})))

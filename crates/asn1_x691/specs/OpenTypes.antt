@@ -6,7 +6,8 @@ use Rattle.asn1_schema.specs.Pieces.{Parts}
 use Rattle.asn1_schema.specs.TypeEncodings.{TypeEncoding, enclosed}
 use Rattle.asn1_x691.specs.declared.fault.FaultKind.{FaultKind}
 use Rattle.asn1_x691.specs.declared.fault.FaultKind.TheVariants.{NotZero, ExtraOctets}
-use Rattle.asn1_x691.specs.Fields.{to_octet, octets}
+use Rattle.asn1_x691.specs.Fields.{to_octet}
+use Rattle.asn1_x691.specs.Fragments.{octets}
 
 -- how many zeros follow so many bits: to whole octets, of which there is one at least (11.1.3)
 abbrev pub padding_of : ℕ → ℕ

@@ -9,7 +9,8 @@ pub enum FaultKind {
     AboveMost,
     /// A number or a length has more octets than it needs.
     NotMinimal,
-    /// A length is in fragments (X.691 11.9.3.8).
+    /// A length is in fragments where it may not be, or a fragment has none of the four sizes of
+    /// X.691 11.9.3.8.
     Fragment,
     /// A padding bit is not zero.
     NotZero,

@@ -3,9 +3,9 @@
 ghost use Rattle.std.specs.Prelude.{ℕ, Bool, false, [], ◌∷◌};
 ghost use Rattle.asn1_schema.specs.Encodings.{DecodesOne, EncodesOne, NamesFault};
 ghost use Rattle.asn1_schema.specs.TypeEncodings.{EncodesUniquely, NamesEachMisfit};
-ghost use Rattle.asn1_x691.specs.Fragments.{string};
+ghost use Rattle.asn1_x691.specs.Fragments.{string, octets};
 ghost use Rattle.asn1_x691.specs.Example.{integer, opened, opened_five};
-ghost use Rattle.asn1_x691.specs.Fields.{constrained, length_of, small_length, semi_constrained, small_number, unconstrained, octets};
+ghost use Rattle.asn1_x691.specs.Fields.{constrained, length_of, small_length, semi_constrained, small_number, unconstrained};
 
 /// States what holds of a constrained whole number (X.691 11.5), in both variants, at each position
 /// of a message; it does nothing.

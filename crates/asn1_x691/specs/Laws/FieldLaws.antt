@@ -5,10 +5,9 @@ use Rattle.asn1_schema.specs.Encodings.{Encoding}
 use Rattle.asn1_schema.specs.Laws.EncodingLaws.{IsSound, invalid_sound, number_sound}
 use Rattle.asn1_schema.specs.Laws.PositionLaws.{IsSoundEverywhere}
 use Rattle.asn1_schema.specs.Laws.ByStructure.{then_of, cases_of, constant_of, invalid_of, number_of, in_turn_of, in_case_of}
-use Rattle.asn1_schema.specs.Laws.FieldLaws.{raw_bits_sound}
 use Rattle.asn1_x691.specs.declared.fault.FaultKind.{FaultKind}
 use Rattle.asn1_x691.specs.declared.fault.FaultKind.TheVariants.{Short, NotMinimal}
-use Rattle.asn1_x691.specs.Fields.{zeros, to_octet, on_octet, up_to, in_bits, minimal_octets, minimal_up_to, octet_count, indefinite, constrained, long_enough, length_after, length_octets, length_of, distance_from_one, above_64, large_length, small_length, semi_constrained, at_least_64, large_number, small_number, with_sign, below_minus_one, signed_of, signed_octets, unconstrained, octets}
+use Rattle.asn1_x691.specs.Fields.{zeros, to_octet, on_octet, up_to, in_bits, minimal_octets, minimal_up_to, octet_count, indefinite, constrained, long_enough, length_after, length_octets, length_of, distance_from_one, above_64, large_length, small_length, semi_constrained, at_least_64, large_number, small_number, with_sign, below_minus_one, signed_of, signed_octets, unconstrained}
 
 pub zeros_sound : (count node : ℕ) → IsSound (zeros count node)
 zeros_sound count node = then_of number_of (λ n. cases_of (λ a b. omega (arith, a, b)) constant_of invalid_of)
@@ -111,7 +110,3 @@ pub unconstrained_sound : (aligned : Bool) (node : ℕ) → IsSoundEverywhere (u
 unconstrained_sound aligned node =
     in_turn_of (length_sound aligned node)
     (λ count. in_case_of (some_or_none count) (on_octet_sound aligned node _ (signed_octets_sound count node)) (λ at. invalid_sound NotMinimal node))
-
-pub octets_sound : (aligned : Bool) (node : ℕ) → IsSoundEverywhere (octets aligned node)
-octets_sound aligned node =
-    in_turn_of (length_sound aligned node) (λ n. on_octet_sound aligned node _ (raw_bits_sound (8 * n) Short node))

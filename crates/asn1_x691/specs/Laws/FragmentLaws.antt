@@ -1,6 +1,8 @@
 -- Laws of units after their number.
 use Rattle.std.proofs.Common.{◌≡◌, ℕ, zero, suc, ◌+◌, ◌-◌, ◌*◌, ◌<◌, ◌≤◌, inl, inr, Bool, List, ◌++◌, length, refl, sym, ◌∙◌, ap, subst, arith}
 use Rattle.std.specs.Prelude.{◌⊎◌}
+use Rattle.std.proofs.lemmas.List.{length-append}
+use Rattle.std.proofs.Math.Nat.{mul-add}
 use Rattle.asn1_schema.specs.Encodings.{Encoding, EncodesOne, constant, invalid, number, anywhere, in_case}
 use Rattle.asn1_schema.specs.Laws.EncodingLaws.{IsSound, constant_sound, invalid_sound, same_fronts}
 use Rattle.asn1_schema.specs.Laws.PositionLaws.{IsSoundEverywhere}
@@ -9,7 +11,7 @@ use Rattle.asn1_schema.specs.Laws.FieldLaws.{number_encodes_one, raw_bits_sound,
 use Rattle.asn1_schema.specs.Laws.OneEncodingLaws.{then_encodes_one, in_turn_encodes_one, only_constant, constant_if_encodes_one, in_case_encodes_one}
 use Rattle.asn1_x691.specs.declared.fault.FaultKind.{FaultKind}
 use Rattle.asn1_x691.specs.declared.fault.FaultKind.TheVariants.{Short, AboveMost, NotMinimal, Fragment}
-use Rattle.asn1_x691.specs.Fragments.{fragment, units_after, units_octets, units_next, most_fragments, units, units_then, last_units, all_units, bits_of_units, string}
+use Rattle.asn1_x691.specs.Fragments.{fragment, units_after, units_octets, units_next, most_fragments, units, units_then, last_units, all_units, bits_of_units, string, octets}
 use Rattle.asn1_x691.specs.Laws.FieldLaws.{on_octet_sound, long_enough_sound}
 use Rattle.asn1_x691.specs.Laws.OneEncodingLaws.{on_octet_one, inner, IsLong, long_of, Two, two_octets_one}
 
@@ -265,3 +267,102 @@ string_one aligned unit node =
     all_units_one (bits_of_units unit node) (λ a b. a ++ b) aligned node (λ n at. raw_bits_sound (unit * n) Short node)
     (λ n at. raw_bits_encode_one (unit * n) Short node)
     (λ n at to y z a b k l p q e. joined_apart (unit * n) y z a b k l p.0 p.1 q.0 q.1 e) most_fragments
+
+-- ---- octets
+
+-- so many units have so many bits, which are no more than the whole
+record IsHeld (unit : ℕ) (v : ℕ × List Bool) (list : List Bool) : Type 0 where
+  size : length v.1 ≡ unit * v.0
+  within : length v.1 ≤ length list
+
+module _ (aligned : Bool) (unit node : ℕ) where
+  abbrev J : List Bool → List Bool → List Bool
+  J a b = a ++ b
+
+  abbrev B : ℕ → ℕ → Encoding FaultKind (List Bool)
+  B n = bits_of_units unit node n
+
+  longer : (list front rest : List Bool) → list ≡ front ++ rest → (length front ≤ length list) × (length rest ≤ length list)
+  longer list front rest p =
+      let all : length list ≡ length front + length rest = ap length p ∙ length-append front rest in
+      (omega (arith, all), omega (arith, all))
+
+  -- what is held of the rest is held of all
+  held_in : (v : ℕ × List Bool) (w : ℕ × List Bool) (list front rest : List Bool) → v ≡ w → list ≡ front ++ rest → IsHeld unit w rest
+      → IsHeld unit v list
+  held_in v w list front rest e p h =
+      let few = (longer list front rest p).1 in
+      subst (λ (x : ℕ × List Bool). IsHeld unit x list) (sym e) (record { size = h.size; within = omega (arith, few, h.within) })
+
+  units_held : (n at : ℕ) (v : ℕ × List Bool) (list : List Bool) → (units B J aligned node n at).encodes v list → IsHeld unit v list
+  units_held n at v list p =
+      let few = (longer list p.front p.rest p.parts).0 in
+      let same : length p.value ≡ length p.front = ap length p.first.1 in
+      subst (λ (x : ℕ × List Bool). IsHeld unit x list) (sym p.is)
+      (record { size = same ∙ p.first.0; within = omega (arith, few, same) })
+
+  then_held : (n at : ℕ) (R : ℕ → Encoding FaultKind (ℕ × List Bool))
+      → ((to : ℕ) (w : ℕ × List Bool) (l : List Bool) → (R to).encodes w l → IsHeld unit w l) → (v : ℕ × List Bool) (list : List Bool)
+      → (units_then B J aligned node n R at).encodes v list → IsHeld unit v list
+  then_held n at R r v list p =
+      let h = r (at + length p.front) p.after p.rest p.second in
+      let same : length p.value ≡ length p.front = ap length p.first.1 in
+      let all : length list ≡ length p.front + length p.rest = ap length p.parts ∙ length-append p.front p.rest in
+      let both : length (p.value ++ p.after.1) ≡ length p.value + length p.after.1 = length-append p.value p.after.1 in
+      let more : unit * (n + p.after.0) ≡ unit * n + unit * p.after.0 = mul-add unit n p.after.0 in
+      let first : length p.front ≡ unit * n = p.first.0 in
+      let rest : length p.after.1 ≡ unit * p.after.0 = h.size in
+      subst (λ (x : ℕ × List Bool). IsHeld unit x list) (sym p.is)
+      (record { size = omega (arith, same, both, more, first, rest); within = omega (arith, same, all, both, h.within) })
+
+  last_held : (at : ℕ) (v : ℕ × List Bool) (list : List Bool) → (last_units B J aligned node at).encodes v list → IsHeld unit v list
+  last_held at v list p = held_in v p.after list p.front p.rest p.is p.parts (each p.value (at + length p.front) p.after p.rest p.second)
+    where
+      each : (n to : ℕ) (w : ℕ × List Bool) (l : List Bool)
+          → (in_case (n < 16384) (units B J aligned node n) (16384 ≤ n) (anywhere (invalid NotMinimal node)) to).encodes w l
+          → IsHeld unit w l
+      each n to w l (inl q) = units_held n to w l q.1
+      each n to w l (inr q) = absurd q.1
+
+  next_held : (more n to : ℕ) → ((at : ℕ) (v : ℕ × List Bool) (list : List Bool) → (all_units B J aligned node more at).encodes v list
+      → IsHeld unit v list) → (w : ℕ × List Bool) (l : List Bool)
+      → (in_case (n < 16384) (units B J aligned node n) (16384 ≤ n)
+      (in_case (n < 65536) (units_then B J aligned node n (last_units B J aligned node)) (65536 ≤ n)
+      (units_then B J aligned node n (all_units B J aligned node more))) to).encodes w l → IsHeld unit w l
+  next_held more n to go w l (inl q) = units_held n to w l q.1
+  next_held more n to go w l (inr (low, inl q)) = then_held n to (last_units B J aligned node) last_held w l q.1
+  next_held more n to go w l (inr (low, inr q)) = then_held n to (all_units B J aligned node more) go w l q.1
+
+  all_held : (most at : ℕ) (v : ℕ × List Bool) (list : List Bool) → (all_units B J aligned node most at).encodes v list
+      → IsHeld unit v list
+  all_held zero at v list p = absurd p
+  all_held (suc more) at v list p =
+      held_in v p.after list p.front p.rest p.is p.parts
+      (next_held more p.value (at + length p.front) (all_held more) p.after p.rest p.second)
+
+pub octets_sound : (aligned : Bool) (node : ℕ) → IsSoundEverywhere (octets aligned node)
+octets_sound aligned node = in_turn_of (string_sound aligned 8 node) (λ v at. constant_sound (tt {0}))
+
+same_counted : (u v : ℕ × List Bool) → length u.1 ≡ 8 * u.0 → length v.1 ≡ 8 * v.0 → u.1 ≡ v.1 → u ≡ v
+same_counted u v p q e =
+    let same : length u.1 ≡ length v.1 = ap length e in
+    let count : u.0 ≡ v.0 = omega (arith, p, q, same) in
+    ap (λ (c : ℕ). (c, u.1)) count ∙ ap (λ (b : List Bool). (v.0, b)) e
+
+pub octets_one : (aligned : Bool) (node at : ℕ) → EncodesOne (octets aligned node at).encodes
+octets_one aligned node =
+    in_turn_encodes_one (string aligned 8 node) (λ v u. v.1) (λ v. anywhere (constant (tt {0}))) (string_one aligned 8 node)
+    (λ v at. record { one = λ u k l p q. p.1 ∙ sym q.1 })
+    (λ x y u v at m n i j k l p q r s e. (
+      same_counted x y (all_held aligned 8 node most_fragments at x i p).size (all_held aligned 8 node most_fragments at y j q).size e,
+      refl,
+    ))
+
+-- octets are no longer than they with their number
+pub octets_fewer : (aligned : Bool) (node at : ℕ) (contents list : List Bool) → (octets aligned node at).encodes contents list
+    → length contents ≤ length list
+octets_fewer aligned node at contents list p =
+    let few = (longer aligned 8 node list p.front p.rest p.parts).0 in
+    let h = all_held aligned 8 node most_fragments at p.value p.front p.first in
+    let same : length contents ≡ length p.value.1 = ap length p.is in
+    omega (arith, few, h.within, same)

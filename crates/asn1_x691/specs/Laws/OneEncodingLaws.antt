@@ -1,14 +1,13 @@
 -- Laws of fields: a value has one encoding at a position.
-use Rattle.std.proofs.Common.{◌≡◌, ◌≢◌, ℕ, zero, suc, ◌+◌, ◌-◌, ◌*◌, ◌^◌, ◌<◌, ◌≤◌, inl, inr, List, Bool, true, false, length, refl, sym, ◌∙◌, ap, subst, arith}
+use Rattle.std.proofs.Common.{◌≡◌, ◌≢◌, ℕ, zero, suc, ◌+◌, ◌-◌, ◌*◌, ◌^◌, ◌<◌, ◌≤◌, inl, inr, List, Bool, true, false, refl, sym, ◌∙◌, ap, subst, arith}
 use Rattle.std.specs.Prelude.{◌⊎◌}
 use Rattle.std.proofs.Math.Pow.{pow_mono}
 use Rattle.asn1_schema.specs.Encodings.{Encoding, EncodesOne, constant, invalid, then, cases, number, anywhere, in_case}
-use Rattle.asn1_schema.specs.Fields.{raw_bits}
-use Rattle.asn1_schema.specs.Laws.FieldLaws.{number_encodes_one, raw_bits_encode_one}
+use Rattle.asn1_schema.specs.Laws.FieldLaws.{number_encodes_one}
 use Rattle.asn1_schema.specs.Laws.OneEncodingLaws.{then_encodes_one, in_turn_encodes_one, only_constant, constant_if_encodes_one, in_case_encodes_one}
 use Rattle.asn1_x691.specs.declared.fault.FaultKind.{FaultKind}
 use Rattle.asn1_x691.specs.declared.fault.FaultKind.TheVariants.{Short, AboveMost, NotMinimal, Fragment, NotZero}
-use Rattle.asn1_x691.specs.Fields.{zeros, to_octet, on_octet, width_to, up_to, in_bits, octets_needed, minimal_octets, minimal_up_to, octet_count, indefinite, constrained, long_enough, length_after, length_octets, length_of, distance_from_one, above_64, large_length, small_length, octets}
+use Rattle.asn1_x691.specs.Fields.{zeros, to_octet, on_octet, width_to, up_to, in_bits, octets_needed, minimal_octets, minimal_up_to, octet_count, indefinite, constrained, long_enough, length_after, length_octets, length_of, distance_from_one, above_64, large_length, small_length}
 
 -- ---- bit-fields
 
@@ -239,20 +238,3 @@ small_length_one aligned node =
     (λ a b. omega (arith, a, b)) (λ at. distance_from_one_one node) (large_length_one aligned node))
     (λ x y u v at m n i j k l p q r s e.
     (same_bit x y u v p.0 q.0 (small_or_large aligned node x m u k r) (small_or_large aligned node y n v l s) e, e))
-
--- ---- octets
-
-same_octet_count : (x y : ℕ) (u v a b : List Bool) → length a ≡ 8 * x → u ≡ a → length b ≡ 8 * y → v ≡ b → u ≡ v → x ≡ y
-same_octet_count x y u v a b p q r s e =
-    let same : length a ≡ length b = ap length (sym q ∙ e ∙ s) in
-    omega (arith, p, r, same)
-
-pub octets_one : (aligned : Bool) (node at : ℕ) → EncodesOne (octets aligned node at).encodes
-octets_one aligned node =
-    in_turn_encodes_one (length_of aligned node) (λ n bits. bits) (λ n. on_octet aligned node (raw_bits (8 * n) Short node))
-    (length_one aligned node)
-    (λ n. on_octet_one aligned node (raw_bits (8 * n) Short node) (raw_bits_encode_one (8 * n) Short node))
-    (λ x y u v at m n i j k l p q r s e.
-    let a = inner aligned node m (raw_bits (8 * x) Short node) u k r in
-    let b = inner aligned node n (raw_bits (8 * y) Short node) v l s in
-    (same_octet_count x y u v a.0 b.0 a.1.0 a.1.1 b.1.0 b.1.1 e, e))

@@ -1,12 +1,11 @@
 -- Laws of complete encodings and open types.
-use Rattle.std.proofs.Common.{◌≡◌, ℕ, ◌+◌, ◌*◌, ◌≤◌, inl, inr, Bool, true, false, List, ◌++◌, length, refl, sym, ◌∙◌, ap, arith}
+use Rattle.std.proofs.Common.{◌≡◌, ℕ, ◌+◌, ◌≤◌, inl, inr, Bool, List, ◌++◌, length, refl, sym, ◌∙◌, ap, arith}
 use Rattle.std.specs.Prelude.{⊤}
 use Rattle.std.proofs.lemmas.List.{length-append}
 use Rattle.asn1_bits.specs.Bits.{digits}
 use Rattle.asn1_bits.specs.DigitLaws.{length-digits}
 use Rattle.asn1_schema.specs.Pieces.{Parts}
 use Rattle.asn1_schema.specs.Encodings.{Fault, EncodesOne, constant, with_bits, anywhere}
-use Rattle.asn1_schema.specs.Fields.{raw_bits}
 use Rattle.asn1_schema.specs.TypeEncodings.{TypeEncoding, EncodesUniquely, NamesEachMisfit}
 use Rattle.asn1_schema.specs.Laws.EncodingLaws.{at_inside, constant_sound, with_bits_sound}
 use Rattle.asn1_schema.specs.Laws.ContentsLaws.{AreSound, then_contents_are_sound}
@@ -17,11 +16,10 @@ use Rattle.asn1_schema.specs.Laws.WritingLaws.{made}
 use Rattle.asn1_schema.specs.Laws.TypeLaws.{IsGoodEverywhere}
 use Rattle.asn1_schema.specs.Laws.HeaderLaws.{enclosed_good}
 use Rattle.asn1_x691.specs.declared.fault.FaultKind.{FaultKind}
-use Rattle.asn1_x691.specs.declared.fault.FaultKind.TheVariants.{Short, ExtraOctets, NotZero}
-use Rattle.asn1_x691.specs.Fields.{on_octet, octets}
+use Rattle.asn1_x691.specs.declared.fault.FaultKind.TheVariants.{ExtraOctets, NotZero}
+use Rattle.asn1_x691.specs.Fragments.{octets}
 use Rattle.asn1_x691.specs.OpenTypes.{padding_of, padding, complete, enclosing, open_type}
-use Rattle.asn1_x691.specs.Laws.FieldLaws.{octets_sound}
-use Rattle.asn1_x691.specs.Laws.OneEncodingLaws.{octets_one}
+use Rattle.asn1_x691.specs.Laws.FragmentLaws.{octets_sound, octets_one, octets_fewer}
 
 -- ---- the zeros after a value
 
@@ -120,26 +118,6 @@ enclosing_one aligned node =
     in_turn_encodes_one (octets aligned node) (λ contents u. (u, contents)) (λ contents. anywhere (constant tt)) (octets_one aligned node)
     (λ contents at. record { one = λ u k l p q. p.1 ∙ sym q.1 })
     (λ x y u v at m n i j k l p q r s e. (second_of (u, x) (v, y) e, refl))
-
--- bits after zeros are no longer than both
-raw_fewer : (aligned : Bool) (count node at : ℕ) (x list : List Bool)
-    → (on_octet aligned node (raw_bits count Short node) at).encodes x list → length x ≤ length list
-raw_fewer false count node at x list p =
-    let same : length x ≡ length list = ap length p.1 in
-    omega (arith, same)
-raw_fewer true count node at x list p =
-    let all : length list ≡ length p.front + length p.rest = ap length p.parts ∙ length-append p.front p.rest in
-    let same : length x ≡ length p.rest = ap length (p.is ∙ p.second.1) in
-    omega (arith, all, same)
-
--- the contents are no longer than what encloses them
-octets_fewer : (aligned : Bool) (node at : ℕ) (contents list : List Bool) → (octets aligned node at).encodes contents list
-    → length contents ≤ length list
-octets_fewer aligned node at contents list p =
-    let all : length list ≡ length p.front + length p.rest = ap length p.parts ∙ length-append p.front p.rest in
-    let few = raw_fewer aligned (8 * p.value) node (at + length p.front) p.after p.rest p.second in
-    let same : length contents ≡ length p.after = ap length p.is in
-    omega (arith, all, few, same)
 
 pub open_type_good : (aligned : Bool) (node : ℕ) (A : ℕ → TypeEncoding FaultKind) → IsGoodEverywhere A
     → IsGoodEverywhere (open_type aligned node A)

@@ -2,7 +2,8 @@ use Rattle.std.proofs.Common.{inl, Bool, true, false, List, [], ◌∷◌, refl,
 use Rattle.asn1_bits.specs.Bits.{digits}
 use Rattle.asn1_characters.specs.Widths.{ceil_log2, least_from}
 use Rattle.asn1_schema.specs.Encodings.{IsNumber}
-use Rattle.asn1_x691.specs.Fields.{width_to, octets}
+use Rattle.asn1_x691.specs.Fields.{width_to}
+use Rattle.asn1_x691.specs.Fragments.{most_fragments, octets, string}
 use Rattle.asn1_x691.specs.Example.{integer, octet_integer, opened_five}
 use Rattle.asn1_x691.specs.Laws.ExampleLaws.{opened_good}
 use Rattle.asn1_x691.proofs.laws.laws_of_an_open_type.Goals as goal
@@ -55,10 +56,11 @@ number_five = record {
   parts = refl;
 }
 
-one_octet : (octets false 0 0).encodes five opened_five
-one_octet = record {
+one_unit : (string false 8 0 0).encodes (1, five) opened_five
+unfolding most_fragments
+one_unit = record {
   value = 1;
-  after = five;
+  after = (1, five);
   front = one;
   rest = five;
   first = record {
@@ -71,6 +73,30 @@ one_octet = record {
     is = refl;
     parts = refl;
   };
+  second = inl (
+    lit< tt,
+    record {
+      value = five;
+      after = tt;
+      front = five;
+      rest = [];
+      first = (refl, refl);
+      second = (refl, refl);
+      is = refl;
+      parts = refl;
+    },
+  );
+  is = refl;
+  parts = refl;
+}
+
+one_octet : (octets false 0 0).encodes five opened_five
+one_octet = record {
+  value = (1, five);
+  after = tt;
+  front = opened_five;
+  rest = [];
+  first = one_unit;
   second = (refl, refl);
   is = refl;
   parts = refl;

@@ -1,5 +1,4 @@
-use Rattle.asn1_x691.specs.Laws.FieldLaws.{octets_sound}
-use Rattle.asn1_x691.specs.Laws.OneEncodingLaws.{octets_one}
+use Rattle.asn1_x691.specs.Laws.FragmentLaws.{octets_sound, octets_one}
 use Rattle.asn1_x691.proofs.laws.laws_of_octets.Goals as goal
 
 pub returns-clause-decodes_one : goal.returns-clause-decodes_one
