@@ -7,6 +7,8 @@
 
 mod laws;
 mod misfit;
+mod tables;
 
 pub use laws::laws_of_an_example;
 pub use misfit::MisfitKind;
+pub use tables::{Length, Member, Node, Rows, Tables};

@@ -1,6 +1,9 @@
--- An example: an open type that holds an INTEGER (0..255).
+-- Examples: an open type that holds an INTEGER (0..255), and a SEQUENCE by its tables.
 use Rattle.std.specs.Prelude.{ℕ, pos, Bool, true, false, List, [], ◌∷◌}
-use Rattle.asn1_schema.specs.Pieces.{Piece, Integer}
+use Rattle.asn1_schema.specs.declared.tables.Member.{Member}
+use Rattle.asn1_schema.specs.declared.tables.Node.{Node}
+use Rattle.asn1_schema.specs.declared.tables.Node.TheVariants as type
+use Rattle.asn1_schema.specs.Pieces.{Piece, Parts, Absent, Sequence, Truth, Integer}
 use Rattle.asn1_schema.specs.TypeEncodings.{TypeEncoding, leaf}
 use Rattle.asn1_x691.specs.declared.fault.FaultKind.{FaultKind}
 use Rattle.asn1_x691.specs.Fields.{constrained}
@@ -19,3 +22,19 @@ opened aligned = open_type aligned 0 (octet_integer aligned)
 abbrev pub opened_five : List Bool
 opened_five = false ∷ false ∷ false ∷ false ∷ false ∷ false ∷ false ∷ true
     ∷ false ∷ false ∷ false ∷ false ∷ false ∷ true ∷ false ∷ true ∷ []
+
+-- ---- SEQUENCE { a INTEGER (0..7) OPTIONAL, b BOOLEAN }
+
+abbrev pub example_nodes : List Node
+example_nodes =
+    type.Sequence (record { from = 0; count = 2 }) ∷ type.IntegerBetween (pos 0) 7 ∷ type.Boolean ∷ []
+
+abbrev pub example_members : List Member
+example_members = record { node = 1; is_optional = true } ∷ record { node = 2; is_optional = false } ∷ []
+
+-- without `a`, and `b` is true: a presence bit 0, and a bit 1
+abbrev pub example_parts : Parts
+example_parts = Sequence 2 false ∷ Absent ∷ Truth true ∷ []
+
+abbrev pub example_bits : List Bool
+example_bits = false ∷ true ∷ []

@@ -3,5 +3,7 @@ pub mod FieldLaws
 pub mod OneEncodingLaws
 pub mod NumberLaws
 pub mod FragmentLaws
+pub mod StringLaws
 pub mod OpenTypeLaws
+pub mod TypeLaws
 pub mod ExampleLaws

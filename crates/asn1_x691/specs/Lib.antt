@@ -1,6 +1,8 @@
 -- The fields of X.691.
 pub mod Fields
 pub mod Fragments
+pub mod Strings
 pub mod OpenTypes
+pub mod Types
 pub mod Example
 pub mod Laws

@@ -7,6 +7,8 @@ pub enum FaultKind {
     Short,
     /// A number, a length or an index exceeds the greatest that is permitted.
     AboveMost,
+    /// A length is below the least that is permitted.
+    BelowLeast,
     /// A number or a length has more octets than it needs.
     NotMinimal,
     /// A length is in fragments where it may not be, or a fragment has none of the four sizes of
@@ -16,4 +18,8 @@ pub enum FaultKind {
     NotZero,
     /// Octets follow a complete encoding.
     ExtraOctets,
+    /// The tables have no such node or member.
+    NoNode,
+    /// A value is nested deeper than the caller allows.
+    TooDeep,
 }

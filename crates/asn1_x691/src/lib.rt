@@ -12,5 +12,5 @@ pub use fault::FaultKind;
 pub use laws::{
     laws_of_an_open_type, laws_of_constrained, laws_of_length, laws_of_octets,
     laws_of_semi_constrained, laws_of_small_length, laws_of_small_number, laws_of_string,
-    laws_of_unconstrained,
+    laws_of_types, laws_of_unconstrained,
 };

@@ -271,9 +271,9 @@ string_one aligned unit node =
 -- ---- octets
 
 -- so many units have so many bits, which are no more than the whole
-record IsHeld (unit : ℕ) (v : ℕ × List Bool) (list : List Bool) : Type 0 where
-  size : length v.1 ≡ unit * v.0
-  within : length v.1 ≤ length list
+pub record IsHeld (unit : ℕ) (v : ℕ × List Bool) (list : List Bool) : Type 0 where
+  pub size : length v.1 ≡ unit * v.0
+  pub within : length v.1 ≤ length list
 
 module _ (aligned : Bool) (unit node : ℕ) where
   abbrev J : List Bool → List Bool → List Bool
@@ -333,7 +333,7 @@ module _ (aligned : Bool) (unit node : ℕ) where
   next_held more n to go w l (inr (low, inl q)) = then_held n to (last_units B J aligned node) last_held w l q.1
   next_held more n to go w l (inr (low, inr q)) = then_held n to (all_units B J aligned node more) go w l q.1
 
-  all_held : (most at : ℕ) (v : ℕ × List Bool) (list : List Bool) → (all_units B J aligned node most at).encodes v list
+  pub all_held : (most at : ℕ) (v : ℕ × List Bool) (list : List Bool) → (all_units B J aligned node most at).encodes v list
       → IsHeld unit v list
   all_held zero at v list p = absurd p
   all_held (suc more) at v list p =

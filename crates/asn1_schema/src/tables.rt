@@ -1,0 +1,105 @@
+//! A schema: the types of modules as tables. A type names others by their index in the tables.
+
+/// Rows of a table: so many from an index on.
+#[derive(Clone, Copy, Debug, PartialEq, Eq)]
+pub struct Rows {
+    /// The index of the first.
+    pub from: usize,
+    /// How many there are.
+    pub count: usize,
+}
+
+/// How many units a string may have, or items a list: its effective size constraint (X.680 51.5).
+#[derive(Clone, Copy, Debug, PartialEq, Eq)]
+pub enum Length {
+    /// SIZE (least..MAX), also where there is no SIZE.
+    AtLeast {
+        /// The least length.
+        least: usize,
+    },
+    /// SIZE (least..least + range), up to 65,535.
+    Between {
+        /// The least length.
+        least: usize,
+        /// How far the greatest length is from the least.
+        range: usize,
+    },
+}
+
+/// A type.
+#[derive(Clone, Copy, Debug)]
+pub enum Node {
+    /// NULL.
+    Null,
+    /// BOOLEAN.
+    Boolean,
+    /// INTEGER (least..least + range).
+    IntegerBetween {
+        /// The least value.
+        least: i128,
+        /// How far the greatest value is from the least.
+        range: u128,
+    },
+    /// INTEGER (least..MAX).
+    IntegerAtLeast {
+        /// The least value.
+        least: i128,
+    },
+    /// INTEGER without a lower bound.
+    Integer,
+    /// ENUMERATED without an extension marker: its values by their order, from 0 to this one.
+    Enumerated {
+        /// The index of the last value.
+        last: usize,
+    },
+    /// BIT STRING, in bits.
+    BitString {
+        /// How many bits it may have.
+        length: Length,
+    },
+    /// OCTET STRING, in octets.
+    OctetString {
+        /// How many octets it may have.
+        length: Length,
+    },
+    /// SEQUENCE.
+    Sequence {
+        /// The components of its root, in the table of members.
+        root: Rows,
+    },
+    /// SEQUENCE OF.
+    SequenceOf {
+        /// How many items it may have.
+        length: Length,
+        /// The type of the items.
+        item: usize,
+    },
+    /// CHOICE without an extension marker.
+    Choice {
+        /// The alternatives, in the table of members, in the canonical order of their tags.
+        alternatives: Rows,
+    },
+    /// An open type that holds a value of this type.
+    Open {
+        /// The type.
+        inner: usize,
+    },
+}
+
+/// A component of a SEQUENCE, or an alternative of a CHOICE.
+#[derive(Clone, Copy, Debug)]
+pub struct Member {
+    /// Its type.
+    pub node: usize,
+    /// Whether it may be absent.
+    pub is_optional: bool,
+}
+
+/// The tables of a schema.
+#[derive(Clone, Copy, Debug)]
+pub struct Tables<'s> {
+    /// The types.
+    pub nodes: &'s [Node],
+    /// Components and alternatives.
+    pub members: &'s [Member],
+}

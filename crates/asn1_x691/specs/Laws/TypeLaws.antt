@@ -1,0 +1,236 @@
+-- Laws of types: at every node of every schema, at every position, in both variants.
+use Rattle.std.proofs.Common.{◌≡◌, ℕ, ℤ, pos, ◌+ℤ◌, zero, suc, ◌+◌, ◌-◌, ◌*◌, ◌<◌, ◌≤◌, nat_lt, Bool, true, false, List, length, refl, sym, ◌∙◌, arith, Option, Some, None}
+use Rattle.std.specs.Prelude.{slice_get}
+use Rattle.std.proofs.lemmas.Int.{ints}
+use Rattle.asn1_schema.specs.declared.tables.Length.{Length}
+use Rattle.asn1_schema.specs.declared.tables.Length.TheVariants.{AtLeast, Between}
+use Rattle.asn1_schema.specs.declared.tables.Member.{Member}
+use Rattle.asn1_schema.specs.declared.tables.Rows.{Rows}
+use Rattle.asn1_schema.specs.declared.tables.Node.{Node}
+use Rattle.asn1_schema.specs.declared.tables.Node.TheVariants as type
+use Rattle.asn1_schema.specs.declared.misfit.MisfitKind.TheVariants as misfit
+use Rattle.asn1_schema.specs.Pieces.{Piece, Absent, Null, Truth, Integer, Enumerated, Bits, Octets, Sequence, Count, Chosen, Parts}
+use Rattle.asn1_schema.specs.Encodings.{Encoding, EncodesOne, constant, invalid, cases, anywhere}
+use Rattle.asn1_schema.specs.Fields.{raw_bits}
+use Rattle.asn1_schema.specs.TypeEncodings.{TypeEncoding, AfterHeader, nothing, several, leaf, part, header}
+use Rattle.asn1_schema.specs.Laws.EncodingLaws.{invalid_sound}
+use Rattle.asn1_schema.specs.Laws.PositionLaws.{IsSoundEverywhere}
+use Rattle.asn1_schema.specs.Laws.ByStructure.{cases_of, constant_of, in_turn_of}
+use Rattle.asn1_schema.specs.Laws.FieldLaws.{raw_bits_sound, raw_bits_encode_one, raw_bits_size}
+use Rattle.asn1_schema.specs.Laws.OneEncodingLaws.{in_turn_encodes_one, only_constant, constant_if_encodes_one}
+use Rattle.asn1_schema.specs.Laws.WritingLaws.{IsPresent, ArePresent}
+use Rattle.asn1_schema.specs.Laws.TypeLaws.{IsGoodEverywhere, nothing_good, invalid_type_good, several_good, part_good, part_present, leaf_good, put_good, put_present}
+use Rattle.asn1_schema.specs.Laws.HeaderLaws.{IsGoodAfterEverywhere, header_good}
+use Rattle.asn1_schema.specs.Laws.ComponentLaws.{end_of_components_good, mandatory_good, optional_good}
+use Rattle.asn1_x691.specs.declared.fault.FaultKind.{FaultKind}
+use Rattle.asn1_x691.specs.declared.fault.FaultKind.TheVariants.{Short, BelowLeast, NoNode, TooDeep}
+use Rattle.asn1_x691.specs.Fields.{constrained, length_of, semi_constrained, unconstrained}
+use Rattle.asn1_x691.specs.Strings.{bit, string_of}
+use Rattle.asn1_x691.specs.OpenTypes.{complete, open_type}
+use Rattle.asn1_x691.specs.Types.{no_node, from_least, optional_count, count_from, length_from, component_by, no_component, component, components, sequence, sequence_of, alternative, alternative_if, choice, type_of, type_at}
+use Rattle.asn1_x691.specs.Laws.FieldLaws.{constrained_sound, length_sound, semi_constrained_sound, unconstrained_sound}
+use Rattle.asn1_x691.specs.Laws.OneEncodingLaws.{constrained_one, length_one}
+use Rattle.asn1_x691.specs.Laws.NumberLaws.{semi_constrained_one, unconstrained_one}
+use Rattle.asn1_x691.specs.Laws.StringLaws.{bit_sound, bit_one, string_of_sound, string_of_one}
+use Rattle.asn1_x691.specs.Laws.OpenTypeLaws.{open_type_good}
+
+-- a type that is good at every position, and whose first part never says that a component is absent
+pub record IsType (A : ℕ → TypeEncoding FaultKind) : Type 1 where
+  pub good : IsGoodEverywhere A
+  pub present : (at : ℕ) → ArePresent (A at)
+
+no_node_type : (node : ℕ) → IsType (no_node node)
+no_node_type node = record {
+  good = invalid_type_good NoNode misfit.NoNode node;
+  present = λ at. record { each = λ xs l p. absurd p };
+}
+
+leaf_type : {X : Type 0} (A : ℕ → Encoding FaultKind X) (is : X → Piece) (node : ℕ) → IsSoundEverywhere A
+    → ((at : ℕ) → EncodesOne (A at).encodes) → ((x y : X) → is x ≡ is y → x ≡ y) → ((x : X) → is x ≡ Absent → ⊥)
+    → IsType (leaf A is node)
+leaf_type A is node a one alike not = record {
+  good = leaf_good A is node a one alike;
+  present = λ at. part_present A is (λ x. nothing) node a one alike (λ x. nothing_good) at not;
+}
+
+part_type : {X : Type 0} (A : ℕ → Encoding FaultKind X) (is : X → Piece) (B : X → ℕ → TypeEncoding FaultKind) (node : ℕ)
+    → IsSoundEverywhere A → ((at : ℕ) → EncodesOne (A at).encodes) → ((x y : X) → is x ≡ is y → x ≡ y)
+    → ((x : X) → is x ≡ Absent → ⊥) → ((x : X) → IsGoodEverywhere (B x)) → IsType (part A is B node)
+part_type A is B node a one alike not b = record {
+  good = λ at. part_good A is B node a one alike b at;
+  present = λ at. part_present A is B node a one alike b at not;
+}
+
+-- ---- pieces
+
+truth_alike : (x y : Bool) → Truth x ≡ Truth y → x ≡ y
+truth_alike x y e = cc
+
+integer_alike : (x y : ℤ) → Integer x ≡ Integer y → x ≡ y
+integer_alike x y e = cc
+
+same_distance : (least : ℤ) (d e : ℕ) → (least +ℤ pos d) ≡ (least +ℤ pos e) → d ≡ e
+same_distance least d e p = omega (arith, ints)
+
+from_least_alike : (least : ℤ) (x y : ℕ) → from_least least x ≡ from_least least y → x ≡ y
+from_least_alike least x y e = same_distance least x y (integer_alike (least +ℤ pos x) (least +ℤ pos y) e)
+
+enumerated_alike : (x y : ℕ) → Enumerated x ≡ Enumerated y → x ≡ y
+enumerated_alike x y e = cc
+
+bits_alike : (x y : List Bool) → Bits x ≡ Bits y → x ≡ y
+bits_alike x y e = cc
+
+octets_alike : (x y : List Bool) → Octets x ≡ Octets y → x ≡ y
+octets_alike x y e = cc
+
+count_alike : (x y : ℕ) → Count x ≡ Count y → x ≡ y
+count_alike x y e = cc
+
+count_from_alike : (least x y : ℕ) → count_from least x ≡ count_from least y → x ≡ y
+count_from_alike least x y e = let p = count_alike (least + x) (least + y) e in omega (arith, p)
+
+chosen_alike : (x y : ℕ) → Chosen x ≡ Chosen y → x ≡ y
+chosen_alike x y e = cc
+
+one_apart : (m n : ℕ) → 1 * m ≡ 1 * n → m ≡ n
+one_apart m n e = omega (arith, e)
+
+eight_apart : (m n : ℕ) → 8 * m ≡ 8 * n → m ≡ n
+eight_apart m n e = omega (arith, e)
+
+-- ---- lengths
+
+length_from_sound : (aligned : Bool) (least node : ℕ) → IsSoundEverywhere (length_from aligned least node)
+length_from_sound aligned least node =
+    in_turn_of (length_sound aligned node)
+    (λ n at. cases_of (λ a b. omega (arith, a, b)) constant_of (invalid_sound BelowLeast node))
+
+length_from_one : (aligned : Bool) (least node at : ℕ) → EncodesOne (length_from aligned least node at).encodes
+length_from_one aligned least node =
+    in_turn_encodes_one (length_of aligned node) (λ n m. m)
+    (λ n. anywhere (cases (least ≤ n) (constant n) (n < least) (invalid BelowLeast node))) (length_one aligned node)
+    (λ n at. constant_if_encodes_one (least ≤ n) (n < least) n BelowLeast node)
+    (λ x y u v at m n i j k l p q r s e.
+    (sym (only_constant _ _ x u BelowLeast node k r).1 ∙ e ∙ (only_constant _ _ y v BelowLeast node l s).1, e))
+
+-- ---- open types
+
+open_type_type : (aligned : Bool) (node : ℕ) (A : ℕ → TypeEncoding FaultKind) → IsType A → IsType (open_type aligned node A)
+open_type_type aligned node A a = record {
+  good = open_type_good aligned node A a.good;
+  present = λ at. record { each = λ xs l p. held xs p.0.1 p.2 };
+}
+  where
+    held : (xs : Parts) (l : List Bool) → (complete node A).fills xs l → IsPresent xs
+    held xs l p =
+        let q = (a.present 0).each p.value.0 p.front p.first.0 in
+        record { first = q.first; others = q.others; are = p.is ∙ q.are; present = q.present }
+
+-- ---- all types
+
+module _ (aligned : Bool) (E : ℕ → ℕ → TypeEncoding FaultKind) (e : (n : ℕ) → IsType (E n)) (members : List Member) (node : ℕ) where
+  component_by_good : (o : Bool) (inner : ℕ) (F : ℕ → AfterHeader FaultKind (List Bool)) → IsGoodAfterEverywhere F
+      → IsGoodAfterEverywhere (component_by aligned E members node o inner F)
+  component_by_good false inner F f = λ at. mandatory_good (E inner) F (e inner).good f at
+  component_by_good true inner F f = λ at. optional_good (E inner) F (e inner).good f at NoNode node ((e inner).present at)
+
+  no_component_good : IsGoodAfterEverywhere (no_component aligned E members node)
+  no_component_good at = record {
+    decodes = λ bits. invalid_sound NoNode node;
+    encodes = record {
+      one = λ x y tape xs ys rest other a b p q s t. absurd p;
+      excludes = λ tape g m x xs rest a p s. p;
+      one_misfit = λ tape g h m n. m ∙ sym n;
+    };
+    names = record { covers = λ tape sound able. sound (record { node = node; left = length tape; kind = misfit.NoNode }) refl };
+  }
+
+  component_good : (m : Option Member) (F : ℕ → AfterHeader FaultKind (List Bool)) → IsGoodAfterEverywhere F
+      → IsGoodAfterEverywhere (component aligned E members node m F)
+  component_good None F f = no_component_good
+  component_good (Some m) F f = component_by_good m.is_optional m.node F f
+
+  components_good : (count from : ℕ) → IsGoodAfterEverywhere (components aligned E members node count from)
+  components_good zero from = end_of_components_good NoNode node
+  components_good (suc count) from =
+      component_good (slice_get members from) (components aligned E members node count (from + 1)) (components_good count (from + 1))
+
+  sequence_type : (root : Rows) → IsType (sequence aligned E members node root)
+  sequence_type root =
+      let width = optional_count members root.count root.from in
+      let H : ℕ → TypeEncoding FaultKind =
+      header (raw_bits width Short node) width (components aligned E members node root.count root.from) node in
+      let h : IsGoodEverywhere H = λ at.
+      header_good (raw_bits width Short node) width (components aligned E members node root.count root.from) node
+      (raw_bits_sound width Short node) (raw_bits_encode_one width Short node) (raw_bits_size width Short node)
+      (components_good root.count root.from) at in
+      record {
+        good = put_good (Sequence root.count false) H node h;
+        present = put_present (Sequence root.count false) H node h (λ p. cc);
+      }
+
+  sequence_of_type : (length : Length) (item : ℕ) → IsType (sequence_of aligned E members node length item)
+  sequence_of_type (AtLeast least) item =
+      part_type (length_from aligned least node) Count (λ n. several (E item) n) node (length_from_sound aligned least node)
+      (length_from_one aligned least node) count_alike (λ x p. cc) (λ n. several_good (E item) (e item).good n)
+  sequence_of_type (Between least range) item =
+      part_type (constrained aligned range node) (count_from least) (λ d. several (E item) (least + d)) node
+      (constrained_sound aligned range node) (constrained_one aligned range node) (count_from_alike least) (λ x p. cc)
+      (λ d. several_good (E item) (e item).good (least + d))
+
+  alternative_good : (m : Option Member) → IsGoodEverywhere (alternative aligned E members node m)
+  alternative_good None = (no_node_type node).good
+  alternative_good (Some m) = (e m.node).good
+
+  alternative_if_good : (b : Bool) (m : Option Member) → IsGoodEverywhere (alternative_if aligned E members node b m)
+  alternative_if_good false m = (no_node_type node).good
+  alternative_if_good true m = alternative_good m
+
+  choice_type : (rows : Rows) → IsType (choice aligned E members node rows)
+  choice_type rows =
+      part_type (constrained aligned (rows.count - 1) node) Chosen
+      (λ i. alternative_if aligned E members node (nat_lt i rows.count) (slice_get members (rows.from + i))) node
+      (constrained_sound aligned (rows.count - 1) node) (constrained_one aligned (rows.count - 1) node) chosen_alike (λ x p. cc)
+      (λ i. alternative_if_good (nat_lt i rows.count) (slice_get members (rows.from + i)))
+
+  type_of_type : (kind : Option Node) → IsType (type_of aligned E members node kind)
+  type_of_type None = no_node_type node
+  type_of_type (Some type.Null) = record {
+    good = put_good Null nothing node nothing_good;
+    present = put_present Null nothing node nothing_good (λ p. cc);
+  }
+  type_of_type (Some type.Boolean) =
+      leaf_type (anywhere (bit node)) Truth node (λ at. bit_sound node) (λ at. bit_one node) truth_alike (λ x p. cc)
+  type_of_type (Some (type.IntegerBetween least range)) =
+      leaf_type (constrained aligned range node) (from_least least) node (constrained_sound aligned range node)
+      (constrained_one aligned range node) (from_least_alike least) (λ x p. cc)
+  type_of_type (Some (type.IntegerAtLeast least)) =
+      leaf_type (semi_constrained aligned node) (from_least least) node (semi_constrained_sound aligned node)
+      (semi_constrained_one aligned node) (from_least_alike least) (λ x p. cc)
+  type_of_type (Some type.Integer) =
+      leaf_type (unconstrained aligned node) Integer node (unconstrained_sound aligned node) (unconstrained_one aligned node)
+      integer_alike (λ x p. cc)
+  type_of_type (Some (type.Enumerated last)) =
+      leaf_type (constrained aligned last node) Enumerated node (constrained_sound aligned last node) (constrained_one aligned last node)
+      enumerated_alike (λ x p. cc)
+  type_of_type (Some (type.BitString length)) =
+      leaf_type (string_of aligned 1 length node) Bits node (string_of_sound aligned 1 node one_apart length)
+      (string_of_one aligned 1 node one_apart length) bits_alike (λ x p. cc)
+  type_of_type (Some (type.OctetString length)) =
+      leaf_type (string_of aligned 8 length node) Octets node (string_of_sound aligned 8 node eight_apart length)
+      (string_of_one aligned 8 node eight_apart length) octets_alike (λ x p. cc)
+  type_of_type (Some (type.Sequence root)) = sequence_type root
+  type_of_type (Some (type.SequenceOf length item)) = sequence_of_type length item
+  type_of_type (Some (type.Choice alternatives)) = choice_type alternatives
+  type_of_type (Some (type.Open inner)) = open_type_type aligned node (E inner) (e inner)
+
+pub type_at_type : (aligned : Bool) (nodes : List Node) (members : List Member) (depth node : ℕ)
+    → IsType (type_at aligned nodes members depth node)
+type_at_type aligned nodes members zero node = record {
+  good = invalid_type_good TooDeep misfit.TooDeep node;
+  present = λ at. record { each = λ xs l p. absurd p };
+}
+type_at_type aligned nodes members (suc depth) node =
+    type_of_type aligned (type_at aligned nodes members depth) (λ n. type_at_type aligned nodes members depth n) members node
+    (slice_get nodes node)

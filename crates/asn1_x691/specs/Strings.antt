@@ -1,0 +1,49 @@
+-- Strings and numbers as types have them (X.691 12, 16, 17).
+use Rattle.std.specs.Prelude.{◌≡◌, ℕ, ◌+◌, ◌*◌, ◌<◌, ◌≤◌, ◌⊎◌, Bool, false, List, [], ◌∷◌}
+use Rattle.asn1_schema.specs.declared.tables.Length.{Length}
+use Rattle.asn1_schema.specs.declared.tables.Length.TheVariants.{AtLeast, Between}
+use Rattle.asn1_schema.specs.Encodings.{Encoding, constant, invalid, then, cases, anywhere, in_turn, in_case}
+use Rattle.asn1_schema.specs.Fields.{raw_bits}
+use Rattle.asn1_x691.specs.declared.fault.FaultKind.{FaultKind}
+use Rattle.asn1_x691.specs.declared.fault.FaultKind.TheVariants.{Short, BelowLeast}
+use Rattle.asn1_x691.specs.Fields.{on_octet, constrained}
+use Rattle.asn1_x691.specs.Fragments.{string}
+
+abbrev pub first_of : List Bool → Bool
+first_of [] = false
+first_of (b ∷ bits) = b
+
+-- one bit, 1 for true (12.2)
+abbrev pub bit : ℕ → Encoding FaultKind Bool
+bit node = then (raw_bits 1 Short node) (λ bits b. b) (λ bits. constant (first_of bits))
+
+-- so many units begin where they are: none, and those of a fixed size of up to 16 bits (16.9, 17.6)
+abbrev pub IsInline : ℕ → ℕ → ℕ → ℕ → Type 0
+IsInline unit least range n = (n ≡ 0) ⊎ ((range ≡ 0) × (unit * least ≤ 16))
+
+-- all others begin at an octet in the ALIGNED variant (16.10, 16.11, 17.7, 17.8)
+abbrev pub IsOnOctet : ℕ → ℕ → ℕ → ℕ → Type 0
+IsOnOctet unit least range n = (0 < n) × ((0 < range) ⊎ (16 < unit * least))
+
+-- so many units
+abbrev pub units_of : Bool → ℕ → ℕ → ℕ → ℕ → ℕ → ℕ → Encoding FaultKind (List Bool)
+units_of aligned unit least range node n =
+    in_case (IsInline unit least range n) (anywhere (raw_bits (unit * n) Short node)) (IsOnOctet unit least range n)
+    (on_octet aligned node (raw_bits (unit * n) Short node))
+
+-- the number of the units, where it is not fixed, and the units
+abbrev pub sized_string : Bool → ℕ → ℕ → ℕ → ℕ → ℕ → Encoding FaultKind (List Bool)
+sized_string aligned unit least range node =
+    in_turn (constrained aligned range node) (λ d bits. bits) (λ d. units_of aligned unit least range node (least + d))
+
+-- units after their number, of which there are at least so many
+abbrev pub at_least : ℕ → ℕ → ℕ × List Bool → ℕ → Encoding FaultKind (List Bool)
+at_least least node v = anywhere (cases (least ≤ v.0) (constant v.1) (v.0 < least) (invalid BelowLeast node))
+
+abbrev pub long_string : Bool → ℕ → ℕ → ℕ → ℕ → Encoding FaultKind (List Bool)
+long_string aligned unit least node = in_turn (string aligned unit node) (λ v bits. bits) (λ v. at_least least node v)
+
+-- a string of units of so many bits, by its size constraint
+abbrev pub string_of : Bool → ℕ → Length → ℕ → ℕ → Encoding FaultKind (List Bool)
+string_of aligned unit (AtLeast least) node = long_string aligned unit least node
+string_of aligned unit (Between least range) node = sized_string aligned unit least range node

@@ -1,0 +1,124 @@
+-- Canonical PER (X.691), both variants: which bits encode which parts of a value of a type in the tables, the first fault of other
+-- bits, and the first misfit of other parts. `E` says the same of the types that a type names.
+use Rattle.std.specs.Prelude.{ℕ, ℤ, pos, ◌+ℤ◌, zero, suc, ◌+◌, ◌-◌, ◌<◌, ◌≤◌, nat_lt, Bool, true, false, List, length, Option, Some, None, slice_get}
+use Rattle.asn1_schema.specs.declared.tables.Length.{Length}
+use Rattle.asn1_schema.specs.declared.tables.Length.TheVariants.{AtLeast, Between}
+use Rattle.asn1_schema.specs.declared.tables.Member.{Member}
+use Rattle.asn1_schema.specs.declared.tables.Rows.{Rows}
+use Rattle.asn1_schema.specs.declared.tables.Node.{Node}
+use Rattle.asn1_schema.specs.declared.tables.Node.TheVariants as type
+use Rattle.asn1_schema.specs.declared.misfit.MisfitKind.TheVariants as misfit
+use Rattle.asn1_schema.specs.Pieces.{Piece, Null, Truth, Integer, Enumerated, Bits, Octets, Sequence, Count, Chosen}
+use Rattle.asn1_schema.specs.Encodings.{Encoding, constant, invalid, cases, anywhere, in_turn}
+use Rattle.asn1_schema.specs.Fields.{raw_bits}
+use Rattle.asn1_schema.specs.TypeEncodings.{TypeEncoding, AfterHeader, nothing, invalid_type, several, part, leaf, put, header, end_of_components, mandatory, optional}
+use Rattle.asn1_x691.specs.declared.fault.FaultKind.{FaultKind}
+use Rattle.asn1_x691.specs.declared.fault.FaultKind.TheVariants.{Short, BelowLeast, NoNode, TooDeep}
+use Rattle.asn1_x691.specs.Fields.{constrained, length_of, semi_constrained, unconstrained}
+use Rattle.asn1_x691.specs.Strings.{bit, string_of}
+use Rattle.asn1_x691.specs.OpenTypes.{open_type}
+
+-- a type that the tables have not
+abbrev pub no_node : ℕ → ℕ → TypeEncoding FaultKind
+no_node node = invalid_type NoNode misfit.NoNode node
+
+-- INTEGER: the value is so far above the least
+abbrev pub from_least : ℤ → ℕ → Piece
+from_least least d = Integer (least +ℤ pos d)
+
+-- how many of the components from an index on are OPTIONAL
+abbrev pub is_optional : Option Member → ℕ
+is_optional None = 0
+is_optional (Some m) = elim m.is_optional [ true ↦ 1 | false ↦ 0 ]
+
+abbrev pub optional_count : List Member → ℕ → ℕ → ℕ
+optional_count members zero at = 0
+optional_count members (suc count) at = is_optional (slice_get members at) + optional_count members count (at + 1)
+
+-- the number of the items of a SEQUENCE OF: the length is this far above the least
+abbrev pub count_from : ℕ → ℕ → Piece
+count_from least d = Count (least + d)
+
+-- a length that is not below the least
+abbrev pub length_from : Bool → ℕ → ℕ → ℕ → Encoding FaultKind ℕ
+length_from aligned least node = in_turn (length_of aligned node) (λ n m. m) (λ n.
+    anywhere (cases (least ≤ n) (constant n) (n < least) (invalid BelowLeast node)))
+
+module _ (aligned : Bool) (E : ℕ → ℕ → TypeEncoding FaultKind) (members : List Member) (node : ℕ) where
+  -- ---- SEQUENCE (19)
+
+  -- a component, and others
+  abbrev pub component_by : Bool → ℕ → (ℕ → AfterHeader FaultKind (List Bool)) → ℕ → AfterHeader FaultKind (List Bool)
+  component_by false inner F = mandatory (E inner) F
+  component_by true inner F = optional NoNode node (E inner) F
+
+  abbrev pub no_component : ℕ → AfterHeader FaultKind (List Bool)
+  no_component at = record { after = λ bits. invalid NoNode node; misfit = λ tape e. (no_node node at).misfit tape e }
+
+  abbrev pub component : Option Member → (ℕ → AfterHeader FaultKind (List Bool)) → ℕ → AfterHeader FaultKind (List Bool)
+  component None F = no_component
+  component (Some m) F = component_by m.is_optional m.node F
+
+  -- so many components, which are members from an index on
+  abbrev pub components : ℕ → ℕ → ℕ → AfterHeader FaultKind (List Bool)
+  components zero from = end_of_components NoNode node
+  components (suc count) from = component (slice_get members from) (components count (from + 1))
+
+  -- a bit for each OPTIONAL component, 1 where it is present, and the components (19.2 to 19.4)
+  abbrev pub sequence : Rows → ℕ → TypeEncoding FaultKind
+  sequence root = put (Sequence root.count false)
+      (header (raw_bits (optional_count members root.count root.from) Short node) (optional_count members root.count root.from)
+      (components root.count root.from) node) node
+
+  -- ---- SEQUENCE OF (20), CHOICE (23)
+
+  -- the number of the items, and the items
+  abbrev pub sequence_of : Length → ℕ → ℕ → TypeEncoding FaultKind
+  sequence_of (AtLeast least) item = part (length_from aligned least node) Count (λ n. several (E item) n) node
+  sequence_of (Between least range) item =
+      part (constrained aligned range node) (count_from least) (λ d. several (E item) (least + d)) node
+
+  abbrev pub alternative : Option Member → ℕ → TypeEncoding FaultKind
+  alternative None = no_node node
+  alternative (Some m) = E m.node
+
+  abbrev pub alternative_if : Bool → Option Member → ℕ → TypeEncoding FaultKind
+  alternative_if false m = no_node node
+  alternative_if true m = alternative m
+
+  -- the index of the alternative, and the alternative (23.6)
+  abbrev pub choice : Rows → ℕ → TypeEncoding FaultKind
+  choice rows = part (constrained aligned (rows.count - 1) node) Chosen
+      (λ i. alternative_if (nat_lt i rows.count) (slice_get members (rows.from + i))) node
+
+  -- ---- all types
+
+  abbrev pub type_of : Option Node → ℕ → TypeEncoding FaultKind
+  type_of None = no_node node
+  -- no bits (18)
+  type_of (Some type.Null) = put Null nothing node
+  -- one bit (12)
+  type_of (Some type.Boolean) = leaf (anywhere (bit node)) Truth node
+  -- the distance from the least value (13.2.2)
+  type_of (Some (type.IntegerBetween least range)) = leaf (constrained aligned range node) (from_least least) node
+  -- the same in the fewest octets, after their number (13.2.3)
+  type_of (Some (type.IntegerAtLeast least)) = leaf (semi_constrained aligned node) (from_least least) node
+  -- the value in the fewest octets, after their number (13.2.4)
+  type_of (Some type.Integer) = leaf (unconstrained aligned node) Integer node
+  -- the index of the value (14.2)
+  type_of (Some (type.Enumerated last)) = leaf (constrained aligned last node) Enumerated node
+  -- the number of the bits where it is not fixed, and the bits (16)
+  type_of (Some (type.BitString length)) = leaf (string_of aligned 1 length node) Bits node
+  -- the same of octets (17)
+  type_of (Some (type.OctetString length)) = leaf (string_of aligned 8 length node) Octets node
+  type_of (Some (type.Sequence root)) = sequence root
+  type_of (Some (type.SequenceOf length item)) = sequence_of length item
+  type_of (Some (type.Choice alternatives)) = choice alternatives
+  -- octets that are a complete encoding, after their number (11.2)
+  type_of (Some (type.Open inner)) = open_type aligned node (E inner)
+
+-- the type at a node, whose values are nested less deep than the depth
+abbrev pub type_at : Bool → List Node → List Member → ℕ → ℕ → ℕ → TypeEncoding FaultKind
+type_at aligned nodes members zero node = invalid_type TooDeep misfit.TooDeep node
+type_at aligned nodes members (suc depth) node =
+    type_of aligned (type_at aligned nodes members depth) members node (slice_get nodes node)
