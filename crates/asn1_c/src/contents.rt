@@ -1,7 +1,7 @@
 //! The contents of primitive elements of DER (X.690 8.2, 8.6, 11.7, 11.8) that hold no memory:
 //! truth values, strings of bits, times.
 
-ghost use Rattle.std.specs.Prelude.{◌≡◌, ◌≢◌, ◌↔◌, ◌*◌, ◌%◌, ◌^◌, ◌<◌, ◌≤◌, length, take, drop};
+ghost use Rattle.std.specs.Prelude.{◌≡◌, ◌≢◌, ◌↔◌, ◌+◌, ◌*◌, ◌%◌, ◌^◌, ◌<◌, ◌≤◌, length, take, drop};
 ghost use Rattle.asn1_bits.specs.Bits.{bits};
 ghost use Rattle.asn1_bits.specs.BitReader.{view_left, bits_left};
 ghost use Rattle.asn1_der.specs.BitStrings.{IsBitString};
@@ -98,6 +98,7 @@ fn code_of_bit_string(fault: BitStringFault) -> u32
 pub extern "C" fn asn1_der_bit_string(octets: &[u8], count: &mut usize) -> u32
     ensures read { result ≡ 0
         → IsBitString (take count.new (drop 8 (bits octets.now))) (bits octets.now) }
+    ensures within { result ≡ 0 → 8 + count.new ≤ 8 * length octets.now }
     ensures fault { result ≢ 0 → result ≢ 23 → IsBitStringFault octets.now result }
     ensures too_many { result ≡ 23 ↔ (2 ^ 64 ≤ 8 * length octets.now) }
     ensures unchanged { result ≢ 0 → count.new ≡ count.old }

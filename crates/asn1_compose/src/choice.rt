@@ -45,7 +45,7 @@ impl<A: Alternatives> Choice<A> {
                 if count == 0 {
                     return Err(alternatives);
                 }
-                let index = Size::new(0, count as u64 - 1);
+                let index = Size::distances(count as u64 - 1);
                 Ok(Choice {
                     alternatives,
                     index,

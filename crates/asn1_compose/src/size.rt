@@ -50,14 +50,30 @@ pub struct Size {
 }
 
 impl Size {
-    /// The numbers from `least` to `most`, both included.
+    /// The numbers from `least` to `most`, both included. `most` is below 65,536: a size constraint
+    /// with a greater one is encoded as if it had none (X.691 11.9.4.2).
     pub fn new(least: u64, most: u64) -> Size
-        requires { least ≤ most }
+        requires ordered { least ≤ most }
+        requires limited { most < 65536 }
         ensures least { result.least ≡ least }
         ensures most { result.most ≡ most }
     {
         let width = width_to_hold(most - least);
         Size { least, most, width }
+    }
+
+    /// The distances from 0 to `most`, of a whole number or an index from the least one. They have
+    /// no limit (X.691 11.5.6).
+    pub fn distances(most: u64) -> Size
+        ensures least { result.least ≡ 0 }
+        ensures most { result.most ≡ most }
+    {
+        let width = width_to_hold(most);
+        Size {
+            least: 0,
+            most,
+            width,
+        }
     }
 
     /// The least number.

@@ -25,7 +25,7 @@ impl ConstrainedNumber {
         ensures most { result.most ≡ most }
     {
         let reach = (most as i128 - least as i128) as u64;
-        let distance = Size::new(0, reach);
+        let distance = Size::distances(reach);
         ConstrainedNumber {
             least,
             most,

@@ -1,4 +1,4 @@
-use Rattle.std.proofs.Common.{List, Bool, subst, rules}
+use Rattle.std.proofs.Common.{List, Bool, subst, rules, arith}
 use Rattle.asn1_der.specs.BitStrings.{IsBitString}
 use Rattle.asn1_c.proofs.ContentLemmas.{tells}
 use Rattle.asn1_c.proofs.contents.asn1_der_bit_string.Goals as goal
@@ -27,3 +27,10 @@ returns-in-Ok-clause-read c = λ _.
     let x = c.in-Ok.ensures.checked in
     (tells c.args.octets.now x.0 (λ i. (c.type_inv.octets i).fits)
     (subst (λ (l : List Bool). IsBitString x.0 l) c.reader_of.ensures.list x.1)).is
+
+pub returns-in-Ok-clause-within : goal.returns-in-Ok-clause-within
+returns-in-Ok-clause-within c = λ _.
+    let x = c.in-Ok.ensures.checked in
+    let some = (tells c.args.octets.now x.0 (λ i. (c.type_inv.octets i).fits)
+    (subst (λ (l : List Bool). IsBitString x.0 l) c.reader_of.ensures.list x.1)).some in
+    omega arith
