@@ -4,7 +4,7 @@ use Rattle.std.specs.Prelude.{◌≡◌, ℕ, zero, suc, ◌+◌, ◌⊎◌, ⊤
 use Rattle.asn1_schema.specs.declared.misfit.MisfitKind.{MisfitKind}
 use Rattle.asn1_schema.specs.declared.misfit.MisfitKind.TheVariants.{NoPart, OtherPart, NoEncoding}
 use Rattle.asn1_schema.specs.Pieces.{Piece, Absent, Parts}
-use Rattle.asn1_schema.specs.Encodings.{Fault, Encoding, Contents, CanEncode, constant, invalid, with_bits, except, within, in_turn}
+use Rattle.asn1_schema.specs.Encodings.{Fault, Encoding, Contents, CanEncode, constant, invalid, cases, with_bits, except, within, in_turn}
 
 -- a misfit: at which node of the schema, with how many parts left, and of which kind
 abbrev pub Misfit : Type 0
@@ -159,6 +159,26 @@ optional fault node A F at = record {
   after = by_first_bit fault node A F at;
   misfit = λ tape e. ((others : Parts) × (tape ≡ Absent ∷ others) × (F at).misfit others e)
       ⊎ (¬ (IsAbsent tape) × PairMisfit (A at) (λ n. (F n).misfit) at tape e);
+}
+
+-- ---- only what passes a test
+
+-- the parts tell a value that fails the test
+pub record AreFailing {X : Type 0} (test : X → Bool) (P : X → Parts → List Bool → Type 0) (tape : Parts) : Type 0 where
+  pub value : X
+  pub parts : Parts
+  pub list : List Bool
+  pub rest : Parts
+  pub encodes : P value parts list
+  pub are : tape ≡ parts ++ rest
+  pub fails : test value ≡ false
+
+-- what follows a header whose value passes the test
+abbrev pub only_where : {K X : Type 0} → (X → Bool) → K → MisfitKind → ℕ → (ℕ → AfterHeader K X) → ℕ → AfterHeader K X
+only_where test fault misfit node B at = record {
+  after = λ x. cases (test x ≡ true) ((B at).after x) (test x ≡ false) (invalid fault node);
+  misfit = λ tape e. (B at).misfit tape e
+      ⊎ (AreFailing test (λ x xs l. ((B at).after x).encodes xs l) tape × IsAtPart misfit node tape e);
 }
 
 -- ---- a root and its extension, told by a bit and by whether P holds of the first part

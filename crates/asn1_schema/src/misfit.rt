@@ -9,6 +9,8 @@ pub enum MisfitKind {
     OtherPart,
     /// The part's value is no value of the type, or has no encoding.
     NoEncoding,
+    /// No addition is present, although the first part of the SEQUENCE says that additions follow.
+    NoAddition,
     /// The tables have no such node or member.
     NoNode,
     /// The value is nested deeper than the caller allows.

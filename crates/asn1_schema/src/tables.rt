@@ -66,6 +66,11 @@ pub enum Node {
     Sequence {
         /// The components of its root, in the table of members.
         root: Rows,
+        /// Whether it has an extension marker.
+        is_extensible: bool,
+        /// The additions that are known, in the table of members, in the order of the text. An
+        /// addition group is one addition, a SEQUENCE.
+        additions: Rows,
     },
     /// SEQUENCE OF.
     SequenceOf {

@@ -1,6 +1,6 @@
 -- Canonical PER (X.691), both variants: which bits encode which parts of a value of a type in the tables, the first fault of other
 -- bits, and the first misfit of other parts. `E` says the same of the types that a type names.
-use Rattle.std.specs.Prelude.{ℕ, ℤ, pos, ◌+ℤ◌, zero, suc, ◌+◌, ◌-◌, ◌<◌, ◌≤◌, nat_lt, Bool, true, false, List, length, Option, Some, None, slice_get}
+use Rattle.std.specs.Prelude.{ℕ, ℤ, pos, ◌+ℤ◌, zero, suc, ◌+◌, ◌-◌, ◌<◌, ◌≤◌, nat_lt, Bool, true, false, List, length, Option, Some, None, slice_get, ◌≡◌, ◌||◌, [], ◌∷◌}
 use Rattle.asn1_schema.specs.declared.tables.Length.{Length}
 use Rattle.asn1_schema.specs.declared.tables.Length.TheVariants.{AtLeast, Between}
 use Rattle.asn1_schema.specs.declared.tables.Member.{Member}
@@ -8,13 +8,14 @@ use Rattle.asn1_schema.specs.declared.tables.Rows.{Rows}
 use Rattle.asn1_schema.specs.declared.tables.Node.{Node}
 use Rattle.asn1_schema.specs.declared.tables.Node.TheVariants as type
 use Rattle.asn1_schema.specs.declared.misfit.MisfitKind.TheVariants as misfit
-use Rattle.asn1_schema.specs.Pieces.{Piece, Null, Truth, Integer, Enumerated, Bits, Octets, Sequence, Count, Chosen}
+use Rattle.asn1_schema.specs.Pieces.{Piece, Null, Truth, Integer, Enumerated, Bits, Octets, Sequence, Count, Chosen, Additions, Unknown}
 use Rattle.asn1_schema.specs.Encodings.{Encoding, constant, invalid, cases, anywhere, in_turn}
 use Rattle.asn1_schema.specs.Fields.{raw_bits}
-use Rattle.asn1_schema.specs.TypeEncodings.{TypeEncoding, AfterHeader, nothing, invalid_type, several, part, leaf, put, header, end_of_components, mandatory, optional}
+use Rattle.asn1_schema.specs.TypeEncodings.{TypeEncoding, AfterHeader, nothing, invalid_type, several, part, leaf, put, header, end_of_components, mandatory, optional, both, either_by_bit, only_where}
 use Rattle.asn1_x691.specs.declared.fault.FaultKind.{FaultKind}
-use Rattle.asn1_x691.specs.declared.fault.FaultKind.TheVariants.{Short, BelowLeast, NoNode, TooDeep}
-use Rattle.asn1_x691.specs.Fields.{constrained, length_of, semi_constrained, unconstrained}
+use Rattle.asn1_x691.specs.declared.fault.FaultKind.TheVariants.{Short, BelowLeast, NoNode, TooDeep, NoAddition}
+use Rattle.asn1_x691.specs.Fields.{constrained, length_of, semi_constrained, unconstrained, small_length}
+use Rattle.asn1_x691.specs.Fragments.{octets}
 use Rattle.asn1_x691.specs.Strings.{bit, string_of}
 use Rattle.asn1_x691.specs.OpenTypes.{open_type}
 
@@ -44,6 +45,10 @@ abbrev pub length_from : Bool → ℕ → ℕ → ℕ → Encoding FaultKind ℕ
 length_from aligned least node = in_turn (length_of aligned node) (λ n m. m) (λ n.
     anywhere (cases (least ≤ n) (constant n) (n < least) (invalid BelowLeast node)))
 
+abbrev pub any_true : List Bool → Bool
+any_true [] = false
+any_true (b ∷ bits) = b || any_true bits
+
 module _ (aligned : Bool) (E : ℕ → ℕ → TypeEncoding FaultKind) (members : List Member) (node : ℕ) where
   -- ---- SEQUENCE (19)
 
@@ -65,10 +70,50 @@ module _ (aligned : Bool) (E : ℕ → ℕ → TypeEncoding FaultKind) (members 
   components (suc count) from = component (slice_get members from) (components count (from + 1))
 
   -- a bit for each OPTIONAL component, 1 where it is present, and the components (19.2 to 19.4)
+  abbrev pub root_of : Rows → ℕ → TypeEncoding FaultKind
+  root_of root = header (raw_bits (optional_count members root.count root.from) Short node)
+      (optional_count members root.count root.from) (components root.count root.from) node
+
   abbrev pub sequence : Rows → ℕ → TypeEncoding FaultKind
-  sequence root = put (Sequence root.count false)
-      (header (raw_bits (optional_count members root.count root.from) Short node) (optional_count members root.count root.from)
-      (components root.count root.from) node) node
+  sequence root = put (Sequence root.count false) (root_of root) node
+
+  -- an addition: an open type, whatever it holds where the schema does not know it (19.9)
+  abbrev pub known_addition : Option Member → ℕ → TypeEncoding FaultKind
+  known_addition None = no_node node
+  known_addition (Some m) = open_type aligned node (E m.node)
+
+  abbrev pub addition : ℕ → ℕ → ℕ → TypeEncoding FaultKind
+  addition zero from = leaf (octets aligned node) Unknown node
+  addition (suc known) from = known_addition (slice_get members from)
+
+  -- so many additions, of which the known ones are members from an index on; a bit tells of each whether it is present
+  abbrev pub additions_by_bits : ℕ → ℕ → ℕ → ℕ → AfterHeader FaultKind (List Bool)
+  additions_by_bits zero known from = end_of_components NoNode node
+  additions_by_bits (suc count) known from =
+      optional NoNode node (addition known from) (additions_by_bits count (known - 1) (from + 1))
+
+  -- one addition at least is present (19.1)
+  abbrev pub some_additions : ℕ → Rows → ℕ → AfterHeader FaultKind (List Bool)
+  some_additions count known = only_where any_true NoAddition misfit.NoAddition node (additions_by_bits count known.count known.from)
+
+  -- the number of the additions, a presence bit for each, and those that are present (19.7 to 19.9)
+  abbrev pub extension : Rows → ℕ → TypeEncoding FaultKind
+  extension known = part (small_length aligned node) Additions
+      (λ count. header (raw_bits count Short node) count (some_additions count known) node) node
+
+  -- whether the part of a SEQUENCE says that additions follow the root
+  abbrev pub IsExtended : Rows → Piece → Type 0
+  IsExtended root p = p ≡ Sequence root.count true
+
+  -- the root alone after an extension bit 0; the root and additions after a bit 1 (19.1)
+  abbrev pub extensible_sequence : Rows → Rows → ℕ → TypeEncoding FaultKind
+  extensible_sequence root known = header (bit node) 1
+      (either_by_bit (IsExtended root) node (sequence root)
+      (put (Sequence root.count true) (both (root_of root) (extension known)) node)) node
+
+  abbrev pub sequence_by : Bool → Rows → Rows → ℕ → TypeEncoding FaultKind
+  sequence_by false root known = sequence root
+  sequence_by true root known = extensible_sequence root known
 
   -- ---- SEQUENCE OF (20), CHOICE (23)
 
@@ -111,7 +156,7 @@ module _ (aligned : Bool) (E : ℕ → ℕ → TypeEncoding FaultKind) (members 
   type_of (Some (type.BitString length)) = leaf (string_of aligned 1 length node) Bits node
   -- the same of octets (17)
   type_of (Some (type.OctetString length)) = leaf (string_of aligned 8 length node) Octets node
-  type_of (Some (type.Sequence root)) = sequence root
+  type_of (Some (type.Sequence root is_extensible known)) = sequence_by is_extensible root known
   type_of (Some (type.SequenceOf length item)) = sequence_of length item
   type_of (Some (type.Choice alternatives)) = choice alternatives
   -- octets that are a complete encoding, after their number (11.2)

@@ -18,6 +18,8 @@ pub enum FaultKind {
     NotZero,
     /// Octets follow a complete encoding.
     ExtraOctets,
+    /// The extension bit of a SEQUENCE is 1, and no addition is present.
+    NoAddition,
     /// The tables have no such node or member.
     NoNode,
     /// A value is nested deeper than the caller allows.

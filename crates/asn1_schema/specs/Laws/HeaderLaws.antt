@@ -1,11 +1,12 @@
 -- Laws of types after a header that is in no part: of so many bits, an extension bit, the length of an open type.
 use Rattle.std.proofs.Common.{◌≡◌, ℕ, ◌+◌, ◌≤◌, inl, inr, List, [], ◌∷◌, ◌++◌, Bool, true, false, length, refl, sym, ◌∙◌, ap, subst}
 use Rattle.std.specs.Prelude.{⊤}
+use Rattle.asn1_schema.specs.declared.misfit.MisfitKind.{MisfitKind}
 use Rattle.asn1_schema.specs.declared.misfit.MisfitKind.TheVariants.{NoEncoding, NoPart}
 use Rattle.asn1_schema.specs.Pieces.{Piece, Parts}
-use Rattle.asn1_schema.specs.Encodings.{Encoding, Contents, EncodesOne}
-use Rattle.asn1_schema.specs.TypeEncodings.{Misfit, TypeEncoding, AfterHeader, AfterParts, header, by_bit, either_by_bit, NotEnclosed, enclosed, EncodesUniquely, NamesEachMisfit}
-use Rattle.asn1_schema.specs.Laws.EncodingLaws.{IsSound}
+use Rattle.asn1_schema.specs.Encodings.{Contents, EncodesOne, Encoding, invalid}
+use Rattle.asn1_schema.specs.TypeEncodings.{Misfit, TypeEncoding, AfterHeader, AfterParts, header, by_bit, either_by_bit, NotEnclosed, enclosed, EncodesUniquely, NamesEachMisfit, only_where}
+use Rattle.asn1_schema.specs.Laws.EncodingLaws.{IsSound, cases_sound, invalid_sound}
 use Rattle.asn1_schema.specs.Laws.ContentsLaws.{AreSound}
 use Rattle.asn1_schema.specs.Laws.PositionLaws.{in_turn_sound, within_sound}
 use Rattle.asn1_schema.specs.Laws.WritingLaws.{AfterPartsBy, IsGood, IsGoodAfter, same_head, not_empty, made, moved_parts}
@@ -94,6 +95,87 @@ module _ {K X : Type 0} (H : Encoding K X) (width : ℕ) (B : ℕ → AfterHeade
     decodes = in_turn_sound (λ n. H) (λ x ts. ts) (λ x n. (B n).after x) at h (λ x n. (b n).decodes x);
     encodes = record { one = header_one; excludes = header_excludes; one_misfit = header_one_misfit };
     names = record { covers = header_covers };
+  }
+
+-- ---- only what passes a test
+
+true_or_false : (b : Bool) → b ≡ true → b ≡ false → ⊥
+true_or_false b p q = let e : true ≡ false = sym p ∙ q in cc
+
+is_either : (b : Bool) → (b ≡ true → ⊥) → (b ≡ false → ⊥) → ⊥
+is_either true p q = p refl
+is_either false p q = q refl
+
+module _ {K X : Type 0} (test : X → Bool) (fault : K) (kind : MisfitKind) (node : ℕ) (B : ℕ → AfterHeader K X) (at : ℕ)
+    (b : IsGoodAfter (B at)) where
+  abbrev All : X → Parts → List Bool → Type 0
+  All x xs l = ((B at).after x).encodes xs l
+
+  abbrev Passing : X → Parts → List Bool → Type 0
+  Passing x xs l = ((only_where test fault kind node B at).after x).encodes xs l
+
+  abbrev TestMisfit : Parts → Misfit → Type 0
+  TestMisfit tape e = (only_where test fault kind node B at).misfit tape e
+
+  passed : (x : X) (xs : Parts) (l : List Bool) → Passing x xs l → (test x ≡ true) × All x xs l
+  passed x xs l (inl p) = p
+  passed x xs l (inr p) = absurd p.1
+
+  test_excludes : (tape : Parts) (e : Misfit) → TestMisfit tape e → (x : X) (xs rest : Parts) (l : List Bool) → Passing x xs l
+      → tape ≡ xs ++ rest → ⊥
+  test_excludes tape e (inl m) x xs rest l p s = b.encodes.excludes tape e m x xs rest l (passed x xs l p).1 s
+  test_excludes tape e (inr m) x xs rest l p s =
+      let u = m.0 in
+      let q = passed x xs l p in
+      let same = b.encodes.one u.value x tape u.parts xs u.rest rest u.list l u.encodes q.1 u.are s in
+      true_or_false (test x) q.0 (sym (ap test same.0) ∙ u.fails)
+
+  test_one_misfit : (tape : Parts) (e g : Misfit) → TestMisfit tape e → TestMisfit tape g → e ≡ g
+  test_one_misfit tape e g (inl m) (inl n) = b.encodes.one_misfit tape e g m n
+  test_one_misfit tape e g (inl m) (inr n) =
+      absurd (b.encodes.excludes tape e m n.0.value n.0.parts n.0.rest n.0.list n.0.encodes n.0.are)
+  test_one_misfit tape e g (inr m) (inl n) =
+      absurd (b.encodes.excludes tape g n m.0.value m.0.parts m.0.rest m.0.list m.0.encodes m.0.are)
+  test_one_misfit tape e g (inr m) (inr n) = m.1 ∙ sym n.1
+
+  pub only_where_good : IsGoodAfter (only_where test fault kind node B at)
+  only_where_good = record {
+    decodes = λ x.
+        cases_sound (test x ≡ true) ((B at).after x) (test x ≡ false) (invalid fault node) (true_or_false (test x)) (b.decodes x)
+        (invalid_sound fault node);
+    encodes = record {
+      one = λ x y tape xs ys rest other k l p q s t.
+          b.encodes.one x y tape xs ys rest other k l (passed x xs k p).1 (passed y ys l q).1 s t;
+      excludes = test_excludes;
+      one_misfit = test_one_misfit;
+    };
+    names = record {
+      covers = λ tape sound able.
+          b.names.covers tape (λ e m. sound e (inl m))
+          (λ t. is_either (test t.value)
+          (λ p. able
+          (record {
+            value = t.value;
+            parts = t.parts;
+            list = t.list;
+            rest = t.rest;
+            encodes = inl (p, t.encodes);
+            are = t.are;
+          }))
+          (λ p. sound (record { node = node; left = length tape; kind = kind })
+          (inr (
+            record {
+              value = t.value;
+              parts = t.parts;
+              list = t.list;
+              rest = t.rest;
+              encodes = t.encodes;
+              are = t.are;
+              fails = p;
+            },
+            refl,
+          ))));
+    };
   }
 
 -- ---- a root and its extension

@@ -9,29 +9,31 @@ use Rattle.asn1_schema.specs.declared.tables.Rows.{Rows}
 use Rattle.asn1_schema.specs.declared.tables.Node.{Node}
 use Rattle.asn1_schema.specs.declared.tables.Node.TheVariants as type
 use Rattle.asn1_schema.specs.declared.misfit.MisfitKind.TheVariants as misfit
-use Rattle.asn1_schema.specs.Pieces.{Piece, Absent, Null, Truth, Integer, Enumerated, Bits, Octets, Sequence, Count, Chosen, Parts}
+use Rattle.asn1_schema.specs.Pieces.{Piece, Absent, Null, Truth, Integer, Enumerated, Bits, Octets, Sequence, Count, Chosen, Parts, Additions, Unknown}
 use Rattle.asn1_schema.specs.Encodings.{Encoding, EncodesOne, constant, invalid, cases, anywhere}
 use Rattle.asn1_schema.specs.Fields.{raw_bits}
-use Rattle.asn1_schema.specs.TypeEncodings.{TypeEncoding, AfterHeader, nothing, several, leaf, part, header}
+use Rattle.asn1_schema.specs.TypeEncodings.{TypeEncoding, AfterHeader, nothing, several, leaf, part, header, both, either_by_bit, put}
 use Rattle.asn1_schema.specs.Laws.EncodingLaws.{invalid_sound}
 use Rattle.asn1_schema.specs.Laws.PositionLaws.{IsSoundEverywhere}
 use Rattle.asn1_schema.specs.Laws.ByStructure.{cases_of, constant_of, in_turn_of}
 use Rattle.asn1_schema.specs.Laws.FieldLaws.{raw_bits_sound, raw_bits_encode_one, raw_bits_size}
 use Rattle.asn1_schema.specs.Laws.OneEncodingLaws.{in_turn_encodes_one, only_constant, constant_if_encodes_one}
 use Rattle.asn1_schema.specs.Laws.WritingLaws.{IsPresent, ArePresent}
-use Rattle.asn1_schema.specs.Laws.TypeLaws.{IsGoodEverywhere, nothing_good, invalid_type_good, several_good, part_good, part_present, leaf_good, put_good, put_present}
-use Rattle.asn1_schema.specs.Laws.HeaderLaws.{IsGoodAfterEverywhere, header_good}
+use Rattle.asn1_schema.specs.Laws.TypeLaws.{IsGoodEverywhere, nothing_good, invalid_type_good, several_good, part_good, part_present, leaf_good, put_good, put_present, both_good}
+use Rattle.asn1_schema.specs.Laws.HeaderLaws.{IsGoodAfterEverywhere, header_good, only_where_good, either_by_bit_good}
 use Rattle.asn1_schema.specs.Laws.ComponentLaws.{end_of_components_good, mandatory_good, optional_good}
 use Rattle.asn1_x691.specs.declared.fault.FaultKind.{FaultKind}
-use Rattle.asn1_x691.specs.declared.fault.FaultKind.TheVariants.{Short, BelowLeast, NoNode, TooDeep}
-use Rattle.asn1_x691.specs.Fields.{constrained, length_of, semi_constrained, unconstrained}
+use Rattle.asn1_x691.specs.declared.fault.FaultKind.TheVariants.{Short, BelowLeast, NoNode, TooDeep, NoAddition}
+use Rattle.asn1_x691.specs.Fields.{constrained, length_of, semi_constrained, unconstrained, small_length}
 use Rattle.asn1_x691.specs.Strings.{bit, string_of}
 use Rattle.asn1_x691.specs.OpenTypes.{complete, open_type}
-use Rattle.asn1_x691.specs.Types.{no_node, from_least, optional_count, count_from, length_from, component_by, no_component, component, components, sequence, sequence_of, alternative, alternative_if, choice, type_of, type_at}
-use Rattle.asn1_x691.specs.Laws.FieldLaws.{constrained_sound, length_sound, semi_constrained_sound, unconstrained_sound}
-use Rattle.asn1_x691.specs.Laws.OneEncodingLaws.{constrained_one, length_one}
+use Rattle.asn1_x691.specs.Types.{no_node, from_least, optional_count, count_from, length_from, component_by, no_component, component, components, sequence, sequence_of, alternative, alternative_if, choice, type_of, type_at, any_true, root_of, known_addition, addition, additions_by_bits, some_additions, extension, IsExtended, extensible_sequence, sequence_by}
+use Rattle.asn1_x691.specs.Laws.FieldLaws.{constrained_sound, length_sound, semi_constrained_sound, unconstrained_sound, small_length_sound}
+use Rattle.asn1_x691.specs.Laws.OneEncodingLaws.{constrained_one, length_one, small_length_one}
 use Rattle.asn1_x691.specs.Laws.NumberLaws.{semi_constrained_one, unconstrained_one}
-use Rattle.asn1_x691.specs.Laws.StringLaws.{bit_sound, bit_one, string_of_sound, string_of_one}
+use Rattle.asn1_x691.specs.Laws.StringLaws.{bit_sound, bit_one, string_of_sound, string_of_one, bit_size}
+use Rattle.asn1_x691.specs.Fragments.{octets}
+use Rattle.asn1_x691.specs.Laws.FragmentLaws.{octets_sound, octets_one}
 use Rattle.asn1_x691.specs.Laws.OpenTypeLaws.{open_type_good}
 
 -- a type that is good at every position, and whose first part never says that a component is absent
@@ -92,6 +94,12 @@ count_from_alike least x y e = let p = count_alike (least + x) (least + y) e in 
 
 chosen_alike : (x y : ℕ) → Chosen x ≡ Chosen y → x ≡ y
 chosen_alike x y e = cc
+
+unknown_alike : (x y : List Bool) → Unknown x ≡ Unknown y → x ≡ y
+unknown_alike x y e = cc
+
+additions_alike : (x y : ℕ) → Additions x ≡ Additions y → x ≡ y
+additions_alike x y e = cc
 
 one_apart : (m n : ℕ) → 1 * m ≡ 1 * n → m ≡ n
 one_apart m n e = omega (arith, e)
@@ -156,19 +164,88 @@ module _ (aligned : Bool) (E : ℕ → ℕ → TypeEncoding FaultKind) (e : (n :
   components_good (suc count) from =
       component_good (slice_get members from) (components aligned E members node count (from + 1)) (components_good count (from + 1))
 
-  sequence_type : (root : Rows) → IsType (sequence aligned E members node root)
-  sequence_type root =
+  root_good : (root : Rows) → IsGoodEverywhere (root_of aligned E members node root)
+  root_good root at =
       let width = optional_count members root.count root.from in
-      let H : ℕ → TypeEncoding FaultKind =
-      header (raw_bits width Short node) width (components aligned E members node root.count root.from) node in
-      let h : IsGoodEverywhere H = λ at.
       header_good (raw_bits width Short node) width (components aligned E members node root.count root.from) node
       (raw_bits_sound width Short node) (raw_bits_encode_one width Short node) (raw_bits_size width Short node)
-      (components_good root.count root.from) at in
-      record {
-        good = put_good (Sequence root.count false) H node h;
-        present = put_present (Sequence root.count false) H node h (λ p. cc);
-      }
+      (components_good root.count root.from) at
+
+  sequence_type : (root : Rows) → IsType (sequence aligned E members node root)
+  sequence_type root = record {
+    good = put_good (Sequence root.count false) (root_of aligned E members node root) node (root_good root);
+    present = put_present (Sequence root.count false) (root_of aligned E members node root) node (root_good root) (λ p. cc);
+  }
+
+  known_addition_type : (m : Option Member) → IsType (known_addition aligned E members node m)
+  known_addition_type None = no_node_type node
+  known_addition_type (Some m) = open_type_type aligned node (E m.node) (e m.node)
+
+  addition_type : (known from : ℕ) → IsType (addition aligned E members node known from)
+  addition_type zero from =
+      leaf_type (octets aligned node) Unknown node (octets_sound aligned node) (octets_one aligned node) unknown_alike (λ x p. cc)
+  addition_type (suc known) from = known_addition_type (slice_get members from)
+
+  additions_good : (count known from : ℕ) → IsGoodAfterEverywhere (additions_by_bits aligned E members node count known from)
+  additions_good zero known from = end_of_components_good NoNode node
+  additions_good (suc count) known from = λ at.
+      optional_good (addition aligned E members node known from)
+      (additions_by_bits aligned E members node count (known - 1) (from + 1)) (addition_type known from).good
+      (additions_good count (known - 1) (from + 1)) at NoNode node ((addition_type known from).present at)
+
+  some_additions_good : (count : ℕ) (known : Rows) → IsGoodAfterEverywhere (some_additions aligned E members node count known)
+  some_additions_good count known at =
+      only_where_good any_true NoAddition misfit.NoAddition node
+      (additions_by_bits aligned E members node count known.count known.from) at (additions_good count known.count known.from at)
+
+  extension_good : (known : Rows) → IsGoodEverywhere (extension aligned E members node known)
+  extension_good known at =
+      part_good (small_length aligned node) Additions
+      (λ count. header (raw_bits count Short node) count (some_additions aligned E members node count known) node) node
+      (small_length_sound aligned node) (small_length_one aligned node) additions_alike
+      (λ count to. header_good (raw_bits count Short node) count (some_additions aligned E members node count known) node
+      (raw_bits_sound count Short node) (raw_bits_encode_one count Short node) (raw_bits_size count Short node)
+      (some_additions_good count known) to) at
+
+  module _ (root known : Rows) where
+    -- the root and additions
+    abbrev Rest : ℕ → TypeEncoding FaultKind
+    Rest = both (root_of aligned E members node root) (extension aligned E members node known)
+
+    abbrev Extended : ℕ → TypeEncoding FaultKind
+    Extended = put (Sequence root.count true) Rest node
+
+    rest_good : IsGoodEverywhere Rest
+    rest_good = both_good (root_of aligned E members node root) (extension aligned E members node known) (root_good root)
+        (extension_good known)
+
+    either_good : IsGoodAfterEverywhere
+        (either_by_bit (IsExtended aligned E members node root) node (sequence aligned E members node root) Extended)
+    either_good at =
+        either_by_bit_good (IsExtended aligned E members node root) node (sequence aligned E members node root) Extended at
+        ((sequence_type root).good at) (put_good (Sequence root.count true) Rest node rest_good at)
+        (record { each = λ xs l p. (Sequence root.count false, p.after, p.is, λ q. cc) })
+        (record { each = λ xs l p. (Sequence root.count true, p.after, p.is, refl) })
+
+    extensible_type : IsType (extensible_sequence aligned E members node root known)
+    extensible_type = record {
+      good = λ at. header_good (bit node) 1
+          (either_by_bit (IsExtended aligned E members node root) node (sequence aligned E members node root) Extended) node
+          (bit_sound node) (bit_one node) (bit_size node) either_good at;
+      present = λ at. record { each = λ xs l p. begun (at + length p.front) p.value xs p.after p.rest p.is p.second };
+    }
+      where
+        begun : (to : ℕ) (b : Bool) (xs ys : Parts) (l : List Bool) → xs ≡ ys
+            → ((either_by_bit (IsExtended aligned E members node root) node (sequence aligned E members node root) Extended to).after b).encodes ys l
+            → IsPresent xs
+        begun to false xs ys l s p =
+            record { first = Sequence root.count false; others = p.after; are = s ∙ p.is; present = λ q. cc }
+        begun to true xs ys l s p =
+            record { first = Sequence root.count true; others = p.after; are = s ∙ p.is; present = λ q. cc }
+
+  sequence_by_type : (b : Bool) (root known : Rows) → IsType (sequence_by aligned E members node b root known)
+  sequence_by_type false root known = sequence_type root
+  sequence_by_type true root known = extensible_type root known
 
   sequence_of_type : (length : Length) (item : ℕ) → IsType (sequence_of aligned E members node length item)
   sequence_of_type (AtLeast least) item =
@@ -220,7 +297,7 @@ module _ (aligned : Bool) (E : ℕ → ℕ → TypeEncoding FaultKind) (e : (n :
   type_of_type (Some (type.OctetString length)) =
       leaf_type (string_of aligned 8 length node) Octets node (string_of_sound aligned 8 node eight_apart length)
       (string_of_one aligned 8 node eight_apart length) octets_alike (λ x p. cc)
-  type_of_type (Some (type.Sequence root)) = sequence_type root
+  type_of_type (Some (type.Sequence root is_extensible known)) = sequence_by_type is_extensible root known
   type_of_type (Some (type.SequenceOf length item)) = sequence_of_type length item
   type_of_type (Some (type.Choice alternatives)) = choice_type alternatives
   type_of_type (Some (type.Open inner)) = open_type_type aligned node (E inner) (e inner)
