@@ -47,10 +47,14 @@ pub enum Node {
     },
     /// INTEGER without a lower bound.
     Integer,
-    /// ENUMERATED without an extension marker: its values by their order, from 0 to this one.
+    /// ENUMERATED: the values of its root by their order, and then those of its additions.
     Enumerated {
-        /// The index of the last value.
+        /// The index of the last value of the root.
         last: usize,
+        /// Whether it has an extension marker.
+        is_extensible: bool,
+        /// How many additions are known.
+        additions: usize,
     },
     /// BIT STRING, in bits.
     BitString {
@@ -79,10 +83,15 @@ pub enum Node {
         /// The type of the items.
         item: usize,
     },
-    /// CHOICE without an extension marker.
+    /// CHOICE.
     Choice {
-        /// The alternatives, in the table of members, in the canonical order of their tags.
+        /// The alternatives of its root, in the table of members, in the canonical order of their
+        /// tags.
         alternatives: Rows,
+        /// Whether it has an extension marker.
+        is_extensible: bool,
+        /// The additions that are known, in the table of members, in the order of the text.
+        additions: Rows,
     },
     /// An open type that holds a value of this type.
     Open {

@@ -5,5 +5,6 @@ pub mod NumberLaws
 pub mod FragmentLaws
 pub mod StringLaws
 pub mod OpenTypeLaws
+pub mod PieceLaws
 pub mod TypeLaws
 pub mod ExampleLaws

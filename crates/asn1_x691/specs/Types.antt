@@ -1,6 +1,6 @@
 -- Canonical PER (X.691), both variants: which bits encode which parts of a value of a type in the tables, the first fault of other
 -- bits, and the first misfit of other parts. `E` says the same of the types that a type names.
-use Rattle.std.specs.Prelude.{ℕ, ℤ, pos, ◌+ℤ◌, zero, suc, ◌+◌, ◌-◌, ◌<◌, ◌≤◌, nat_lt, Bool, true, false, List, length, Option, Some, None, slice_get, ◌≡◌, ◌||◌, [], ◌∷◌}
+use Rattle.std.specs.Prelude.{ℕ, ℤ, pos, ◌+ℤ◌, zero, suc, ◌+◌, ◌-◌, ◌<◌, ◌≤◌, nat_lt, Bool, true, false, List, length, Option, Some, None, slice_get, ◌≡◌, ◌||◌, [], ◌∷◌, ⊤}
 use Rattle.asn1_schema.specs.declared.tables.Length.{Length}
 use Rattle.asn1_schema.specs.declared.tables.Length.TheVariants.{AtLeast, Between}
 use Rattle.asn1_schema.specs.declared.tables.Member.{Member}
@@ -8,13 +8,13 @@ use Rattle.asn1_schema.specs.declared.tables.Rows.{Rows}
 use Rattle.asn1_schema.specs.declared.tables.Node.{Node}
 use Rattle.asn1_schema.specs.declared.tables.Node.TheVariants as type
 use Rattle.asn1_schema.specs.declared.misfit.MisfitKind.TheVariants as misfit
-use Rattle.asn1_schema.specs.Pieces.{Piece, Null, Truth, Integer, Enumerated, Bits, Octets, Sequence, Count, Chosen, Additions, Unknown}
+use Rattle.asn1_schema.specs.Pieces.{Piece, Null, Truth, Integer, Enumerated, Bits, Octets, Sequence, Count, Chosen, Additions, Unknown, UnknownEnumerated, UnknownChosen}
 use Rattle.asn1_schema.specs.Encodings.{Encoding, constant, invalid, cases, anywhere, in_turn}
 use Rattle.asn1_schema.specs.Fields.{raw_bits}
 use Rattle.asn1_schema.specs.TypeEncodings.{TypeEncoding, AfterHeader, nothing, invalid_type, several, part, leaf, put, header, end_of_components, mandatory, optional, both, either_by_bit, only_where}
 use Rattle.asn1_x691.specs.declared.fault.FaultKind.{FaultKind}
 use Rattle.asn1_x691.specs.declared.fault.FaultKind.TheVariants.{Short, BelowLeast, NoNode, TooDeep, NoAddition}
-use Rattle.asn1_x691.specs.Fields.{constrained, length_of, semi_constrained, unconstrained, small_length}
+use Rattle.asn1_x691.specs.Fields.{constrained, length_of, semi_constrained, unconstrained, small_length, small_number}
 use Rattle.asn1_x691.specs.Fragments.{octets}
 use Rattle.asn1_x691.specs.Strings.{bit, string_of}
 use Rattle.asn1_x691.specs.OpenTypes.{open_type}
@@ -26,6 +26,33 @@ no_node node = invalid_type NoNode misfit.NoNode node
 -- INTEGER: the value is so far above the least
 abbrev pub from_least : ℤ → ℕ → Piece
 from_least least d = Integer (least +ℤ pos d)
+
+-- an addition of an ENUMERATED, by its index among the additions: the value of that index after the root, where it is known
+abbrev pub added_value : ℕ → Bool → ℕ → Piece
+added_value last false i = UnknownEnumerated i
+added_value last true i = Enumerated (last + 1 + i)
+
+abbrev pub value_of_addition : ℕ → ℕ → ℕ → Piece
+value_of_addition last known i = added_value last (nat_lt i known) i
+
+-- the piece of an addition, and of none of the root
+abbrev pub IsAddedValue : ℕ → Piece → Type 0
+IsAddedValue last (Enumerated i) = last < i
+IsAddedValue last (UnknownEnumerated i) = ⊤
+IsAddedValue last p = ⊥
+
+-- the same of the alternatives of a CHOICE
+abbrev pub added_alternative : ℕ → Bool → ℕ → Piece
+added_alternative last false i = UnknownChosen i
+added_alternative last true i = Chosen (last + 1 + i)
+
+abbrev pub alternative_of_addition : ℕ → ℕ → ℕ → Piece
+alternative_of_addition last known i = added_alternative last (nat_lt i known) i
+
+abbrev pub IsAddedAlternative : ℕ → Piece → Type 0
+IsAddedAlternative last (Chosen i) = last < i
+IsAddedAlternative last (UnknownChosen i) = ⊤
+IsAddedAlternative last p = ⊥
 
 -- how many of the components from an index on are OPTIONAL
 abbrev pub is_optional : Option Member → ℕ
@@ -136,6 +163,34 @@ module _ (aligned : Bool) (E : ℕ → ℕ → TypeEncoding FaultKind) (members 
   choice rows = part (constrained aligned (rows.count - 1) node) Chosen
       (λ i. alternative_if (nat_lt i rows.count) (slice_get members (rows.from + i))) node
 
+  -- an addition is an open type, whatever it holds where the schema does not know it (23.8)
+  abbrev pub added : Rows → Bool → ℕ → ℕ → TypeEncoding FaultKind
+  added known false i = leaf (octets aligned node) Unknown node
+  added known true i = known_addition (slice_get members (known.from + i))
+
+  -- a bit 0 and the root, or a bit 1, the index of an addition, and the addition (23.5 to 23.8)
+  abbrev pub choice_extension : Rows → Rows → ℕ → TypeEncoding FaultKind
+  choice_extension rows known = part (small_number aligned node) (alternative_of_addition (rows.count - 1) known.count)
+      (λ i. added known (nat_lt i known.count) i) node
+
+  abbrev pub choice_by : Bool → Rows → Rows → ℕ → TypeEncoding FaultKind
+  choice_by false rows known = choice rows
+  choice_by true rows known = header (bit node) 1
+      (either_by_bit (IsAddedAlternative (rows.count - 1)) node (choice rows) (choice_extension rows known)) node
+
+  -- ---- ENUMERATED (14)
+
+  -- the index of the value (14.2)
+  abbrev pub enumerated : ℕ → ℕ → TypeEncoding FaultKind
+  enumerated last = leaf (constrained aligned last node) Enumerated node
+
+  -- a bit 0 and the index in the root, or a bit 1 and the index among the additions (14.3)
+  abbrev pub enumerated_by : Bool → ℕ → ℕ → ℕ → TypeEncoding FaultKind
+  enumerated_by false last known = enumerated last
+  enumerated_by true last known = header (bit node) 1
+      (either_by_bit (IsAddedValue last) node (enumerated last)
+      (leaf (small_number aligned node) (value_of_addition last known) node)) node
+
   -- ---- all types
 
   abbrev pub type_of : Option Node → ℕ → TypeEncoding FaultKind
@@ -150,15 +205,14 @@ module _ (aligned : Bool) (E : ℕ → ℕ → TypeEncoding FaultKind) (members 
   type_of (Some (type.IntegerAtLeast least)) = leaf (semi_constrained aligned node) (from_least least) node
   -- the value in the fewest octets, after their number (13.2.4)
   type_of (Some type.Integer) = leaf (unconstrained aligned node) Integer node
-  -- the index of the value (14.2)
-  type_of (Some (type.Enumerated last)) = leaf (constrained aligned last node) Enumerated node
+  type_of (Some (type.Enumerated last is_extensible known)) = enumerated_by is_extensible last known
   -- the number of the bits where it is not fixed, and the bits (16)
   type_of (Some (type.BitString length)) = leaf (string_of aligned 1 length node) Bits node
   -- the same of octets (17)
   type_of (Some (type.OctetString length)) = leaf (string_of aligned 8 length node) Octets node
   type_of (Some (type.Sequence root is_extensible known)) = sequence_by is_extensible root known
   type_of (Some (type.SequenceOf length item)) = sequence_of length item
-  type_of (Some (type.Choice alternatives)) = choice alternatives
+  type_of (Some (type.Choice alternatives is_extensible known)) = choice_by is_extensible alternatives known
   -- octets that are a complete encoding, after their number (11.2)
   type_of (Some (type.Open inner)) = open_type aligned node (E inner)
 

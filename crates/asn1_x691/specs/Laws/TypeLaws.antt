@@ -1,7 +1,6 @@
 -- Laws of types: at every node of every schema, at every position, in both variants.
-use Rattle.std.proofs.Common.{◌≡◌, ℕ, ℤ, pos, ◌+ℤ◌, zero, suc, ◌+◌, ◌-◌, ◌*◌, ◌<◌, ◌≤◌, nat_lt, Bool, true, false, List, length, refl, sym, ◌∙◌, arith, Option, Some, None}
+use Rattle.std.proofs.Common.{◌≡◌, ℕ, zero, suc, ◌+◌, ◌-◌, nat_lt, Bool, true, false, List, length, refl, sym, ◌∙◌, arith, Option, Some, None}
 use Rattle.std.specs.Prelude.{slice_get}
-use Rattle.std.proofs.lemmas.Int.{ints}
 use Rattle.asn1_schema.specs.declared.tables.Length.{Length}
 use Rattle.asn1_schema.specs.declared.tables.Length.TheVariants.{AtLeast, Between}
 use Rattle.asn1_schema.specs.declared.tables.Member.{Member}
@@ -10,31 +9,30 @@ use Rattle.asn1_schema.specs.declared.tables.Node.{Node}
 use Rattle.asn1_schema.specs.declared.tables.Node.TheVariants as type
 use Rattle.asn1_schema.specs.declared.misfit.MisfitKind.TheVariants as misfit
 use Rattle.asn1_schema.specs.Pieces.{Piece, Absent, Null, Truth, Integer, Enumerated, Bits, Octets, Sequence, Count, Chosen, Parts, Additions, Unknown}
-use Rattle.asn1_schema.specs.Encodings.{Encoding, EncodesOne, constant, invalid, cases, anywhere}
+use Rattle.asn1_schema.specs.Encodings.{Encoding, EncodesOne, anywhere}
 use Rattle.asn1_schema.specs.Fields.{raw_bits}
 use Rattle.asn1_schema.specs.TypeEncodings.{TypeEncoding, AfterHeader, nothing, several, leaf, part, header, both, either_by_bit, put}
 use Rattle.asn1_schema.specs.Laws.EncodingLaws.{invalid_sound}
 use Rattle.asn1_schema.specs.Laws.PositionLaws.{IsSoundEverywhere}
-use Rattle.asn1_schema.specs.Laws.ByStructure.{cases_of, constant_of, in_turn_of}
 use Rattle.asn1_schema.specs.Laws.FieldLaws.{raw_bits_sound, raw_bits_encode_one, raw_bits_size}
-use Rattle.asn1_schema.specs.Laws.OneEncodingLaws.{in_turn_encodes_one, only_constant, constant_if_encodes_one}
 use Rattle.asn1_schema.specs.Laws.WritingLaws.{IsPresent, ArePresent}
 use Rattle.asn1_schema.specs.Laws.TypeLaws.{IsGoodEverywhere, nothing_good, invalid_type_good, several_good, part_good, part_present, leaf_good, put_good, put_present, both_good}
-use Rattle.asn1_schema.specs.Laws.HeaderLaws.{IsGoodAfterEverywhere, header_good, only_where_good, either_by_bit_good}
+use Rattle.asn1_schema.specs.Laws.HeaderLaws.{IsGoodAfterEverywhere, header_good, only_where_good, either_by_bit_good, BeginsWith}
 use Rattle.asn1_schema.specs.Laws.ComponentLaws.{end_of_components_good, mandatory_good, optional_good}
 use Rattle.asn1_x691.specs.declared.fault.FaultKind.{FaultKind}
-use Rattle.asn1_x691.specs.declared.fault.FaultKind.TheVariants.{Short, BelowLeast, NoNode, TooDeep, NoAddition}
-use Rattle.asn1_x691.specs.Fields.{constrained, length_of, semi_constrained, unconstrained, small_length}
+use Rattle.asn1_x691.specs.declared.fault.FaultKind.TheVariants.{Short, NoNode, TooDeep, NoAddition}
+use Rattle.asn1_x691.specs.Fields.{constrained, semi_constrained, unconstrained, small_length, small_number}
 use Rattle.asn1_x691.specs.Strings.{bit, string_of}
 use Rattle.asn1_x691.specs.OpenTypes.{complete, open_type}
-use Rattle.asn1_x691.specs.Types.{no_node, from_least, optional_count, count_from, length_from, component_by, no_component, component, components, sequence, sequence_of, alternative, alternative_if, choice, type_of, type_at, any_true, root_of, known_addition, addition, additions_by_bits, some_additions, extension, IsExtended, extensible_sequence, sequence_by}
-use Rattle.asn1_x691.specs.Laws.FieldLaws.{constrained_sound, length_sound, semi_constrained_sound, unconstrained_sound, small_length_sound}
-use Rattle.asn1_x691.specs.Laws.OneEncodingLaws.{constrained_one, length_one, small_length_one}
-use Rattle.asn1_x691.specs.Laws.NumberLaws.{semi_constrained_one, unconstrained_one}
+use Rattle.asn1_x691.specs.Types.{no_node, from_least, optional_count, count_from, length_from, component_by, no_component, component, components, sequence, sequence_of, alternative, alternative_if, choice, type_of, type_at, any_true, root_of, known_addition, addition, additions_by_bits, some_additions, extension, IsExtended, extensible_sequence, sequence_by, value_of_addition, IsAddedValue, alternative_of_addition, IsAddedAlternative, added, choice_extension, choice_by, enumerated, enumerated_by}
+use Rattle.asn1_x691.specs.Laws.FieldLaws.{constrained_sound, semi_constrained_sound, unconstrained_sound, small_length_sound, small_number_sound}
+use Rattle.asn1_x691.specs.Laws.OneEncodingLaws.{constrained_one, small_length_one, inner}
+use Rattle.asn1_x691.specs.Laws.NumberLaws.{semi_constrained_one, unconstrained_one, small_number_one}
 use Rattle.asn1_x691.specs.Laws.StringLaws.{bit_sound, bit_one, string_of_sound, string_of_one, bit_size}
 use Rattle.asn1_x691.specs.Fragments.{octets}
 use Rattle.asn1_x691.specs.Laws.FragmentLaws.{octets_sound, octets_one}
 use Rattle.asn1_x691.specs.Laws.OpenTypeLaws.{open_type_good}
+use Rattle.asn1_x691.specs.Laws.PieceLaws.{truth_alike, integer_alike, from_least_alike, enumerated_alike, bits_alike, octets_alike, count_alike, count_from_alike, chosen_alike, unknown_alike, additions_alike, added_value_alike, added_alternative_alike, added_value_present, added_alternative_present, is_added_value, is_added_alternative, constrained_within, one_apart, eight_apart, length_from_sound, length_from_one}
 
 -- a type that is good at every position, and whose first part never says that a component is absent
 pub record IsType (A : ℕ → TypeEncoding FaultKind) : Type 1 where
@@ -62,65 +60,6 @@ part_type A is B node a one alike not b = record {
   good = λ at. part_good A is B node a one alike b at;
   present = λ at. part_present A is B node a one alike b at not;
 }
-
--- ---- pieces
-
-truth_alike : (x y : Bool) → Truth x ≡ Truth y → x ≡ y
-truth_alike x y e = cc
-
-integer_alike : (x y : ℤ) → Integer x ≡ Integer y → x ≡ y
-integer_alike x y e = cc
-
-same_distance : (least : ℤ) (d e : ℕ) → (least +ℤ pos d) ≡ (least +ℤ pos e) → d ≡ e
-same_distance least d e p = omega (arith, ints)
-
-from_least_alike : (least : ℤ) (x y : ℕ) → from_least least x ≡ from_least least y → x ≡ y
-from_least_alike least x y e = same_distance least x y (integer_alike (least +ℤ pos x) (least +ℤ pos y) e)
-
-enumerated_alike : (x y : ℕ) → Enumerated x ≡ Enumerated y → x ≡ y
-enumerated_alike x y e = cc
-
-bits_alike : (x y : List Bool) → Bits x ≡ Bits y → x ≡ y
-bits_alike x y e = cc
-
-octets_alike : (x y : List Bool) → Octets x ≡ Octets y → x ≡ y
-octets_alike x y e = cc
-
-count_alike : (x y : ℕ) → Count x ≡ Count y → x ≡ y
-count_alike x y e = cc
-
-count_from_alike : (least x y : ℕ) → count_from least x ≡ count_from least y → x ≡ y
-count_from_alike least x y e = let p = count_alike (least + x) (least + y) e in omega (arith, p)
-
-chosen_alike : (x y : ℕ) → Chosen x ≡ Chosen y → x ≡ y
-chosen_alike x y e = cc
-
-unknown_alike : (x y : List Bool) → Unknown x ≡ Unknown y → x ≡ y
-unknown_alike x y e = cc
-
-additions_alike : (x y : ℕ) → Additions x ≡ Additions y → x ≡ y
-additions_alike x y e = cc
-
-one_apart : (m n : ℕ) → 1 * m ≡ 1 * n → m ≡ n
-one_apart m n e = omega (arith, e)
-
-eight_apart : (m n : ℕ) → 8 * m ≡ 8 * n → m ≡ n
-eight_apart m n e = omega (arith, e)
-
--- ---- lengths
-
-length_from_sound : (aligned : Bool) (least node : ℕ) → IsSoundEverywhere (length_from aligned least node)
-length_from_sound aligned least node =
-    in_turn_of (length_sound aligned node)
-    (λ n at. cases_of (λ a b. omega (arith, a, b)) constant_of (invalid_sound BelowLeast node))
-
-length_from_one : (aligned : Bool) (least node at : ℕ) → EncodesOne (length_from aligned least node at).encodes
-length_from_one aligned least node =
-    in_turn_encodes_one (length_of aligned node) (λ n m. m)
-    (λ n. anywhere (cases (least ≤ n) (constant n) (n < least) (invalid BelowLeast node))) (length_one aligned node)
-    (λ n at. constant_if_encodes_one (least ≤ n) (n < least) n BelowLeast node)
-    (λ x y u v at m n i j k l p q r s e.
-    (sym (only_constant _ _ x u BelowLeast node k r).1 ∙ e ∙ (only_constant _ _ y v BelowLeast node l s).1, e))
 
 -- ---- open types
 
@@ -271,6 +210,84 @@ module _ (aligned : Bool) (E : ℕ → ℕ → TypeEncoding FaultKind) (e : (n :
       (constrained_sound aligned (rows.count - 1) node) (constrained_one aligned (rows.count - 1) node) chosen_alike (λ x p. cc)
       (λ i. alternative_if_good (nat_lt i rows.count) (slice_get members (rows.from + i)))
 
+  added_good : (known : Rows) (b : Bool) (i : ℕ) → IsGoodEverywhere (added aligned E members node known b i)
+  added_good known false i = (addition_type zero i).good
+  added_good known true i = (known_addition_type (slice_get members (known.from + i))).good
+
+  choice_extension_type : (rows known : Rows) → IsType (choice_extension aligned E members node rows known)
+  choice_extension_type rows known =
+      part_type (small_number aligned node) (alternative_of_addition (rows.count - 1) known.count)
+      (λ i. added aligned E members node known (nat_lt i known.count) i) node (small_number_sound aligned node)
+      (small_number_one aligned node) (λ x y. added_alternative_alike (rows.count - 1) (nat_lt x known.count) (nat_lt y known.count) x y)
+      (λ x. added_alternative_present (rows.count - 1) (nat_lt x known.count) x)
+      (λ i. added_good known (nat_lt i known.count) i)
+
+  -- a bit, and a type after it
+  by_bit_type : (P : Piece → Type 0) (A B : ℕ → TypeEncoding FaultKind) → IsType A → IsType B
+      → ((at : ℕ) → BeginsWith (λ p. ¬ (P p)) (A at)) → ((at : ℕ) → BeginsWith P (B at))
+      → IsType (header (bit node) 1 (either_by_bit P node A B) node)
+  by_bit_type P A B a b root extension = record {
+    good = λ at. header_good (bit node) 1 (either_by_bit P node A B) node (bit_sound node) (bit_one node) (bit_size node)
+        (λ n. either_by_bit_good P node A B n (a.good n) (b.good n) (root n) (extension n)) at;
+    present = λ at. record { each = λ xs l p. begun (at + length p.front) p.value xs p.after p.rest p.is p.second };
+  }
+    where
+      moved_to : (xs ys : Parts) → xs ≡ ys → IsPresent ys → IsPresent xs
+      moved_to xs ys s q = record { first = q.first; others = q.others; are = s ∙ q.are; present = q.present }
+
+      begun : (to : ℕ) (c : Bool) (xs ys : Parts) (l : List Bool) → xs ≡ ys → ((either_by_bit P node A B to).after c).encodes ys l
+          → IsPresent xs
+      begun to false xs ys l s p = moved_to xs ys s ((a.present to).each ys l p)
+      begun to true xs ys l s p = moved_to xs ys s ((b.present to).each ys l p)
+
+  choice_by_type : (b : Bool) (rows known : Rows) → IsType (choice_by aligned E members node b rows known)
+  choice_by_type false rows known = choice_type rows
+  choice_by_type true rows known =
+      by_bit_type (IsAddedAlternative (rows.count - 1)) (choice aligned E members node rows)
+      (choice_extension aligned E members node rows known) (choice_type rows) (choice_extension_type rows known)
+      (λ at. record {
+        each = λ xs l p. (
+          Chosen p.value,
+          p.after,
+          p.is,
+          λ q. let few = constrained_within aligned (rows.count - 1) node at p.value p.front p.first in omega (arith, few, q),
+        );
+      })
+      (λ at. record {
+        each = λ xs l p. (
+          alternative_of_addition (rows.count - 1) known.count p.value,
+          p.after,
+          p.is,
+          is_added_alternative (rows.count - 1) (nat_lt p.value known.count) p.value,
+        );
+      })
+
+  enumerated_type : (last : ℕ) → IsType (enumerated aligned E members node last)
+  enumerated_type last =
+      leaf_type (constrained aligned last node) Enumerated node (constrained_sound aligned last node) (constrained_one aligned last node)
+      enumerated_alike (λ x p. cc)
+
+  enumerated_by_type : (b : Bool) (last known : ℕ) → IsType (enumerated_by aligned E members node b last known)
+  enumerated_by_type false last known = enumerated_type last
+  enumerated_by_type true last known =
+      by_bit_type (IsAddedValue last) (enumerated aligned E members node last)
+      (leaf (small_number aligned node) (value_of_addition last known) node) (enumerated_type last)
+      (leaf_type (small_number aligned node) (value_of_addition last known) node (small_number_sound aligned node)
+      (small_number_one aligned node) (λ x y. added_value_alike last (nat_lt x known) (nat_lt y known) x y)
+      (λ x. added_value_present last (nat_lt x known) x))
+      (λ at. record {
+        each = λ xs l p. (
+          Enumerated p.value,
+          p.after,
+          p.is,
+          λ q. let few = constrained_within aligned last node at p.value p.front p.first in omega (arith, few, q),
+        );
+      })
+      (λ at. record {
+        each = λ xs l p.
+            (value_of_addition last known p.value, p.after, p.is, is_added_value last (nat_lt p.value known) p.value);
+      })
+
   type_of_type : (kind : Option Node) → IsType (type_of aligned E members node kind)
   type_of_type None = no_node_type node
   type_of_type (Some type.Null) = record {
@@ -288,9 +305,7 @@ module _ (aligned : Bool) (E : ℕ → ℕ → TypeEncoding FaultKind) (e : (n :
   type_of_type (Some type.Integer) =
       leaf_type (unconstrained aligned node) Integer node (unconstrained_sound aligned node) (unconstrained_one aligned node)
       integer_alike (λ x p. cc)
-  type_of_type (Some (type.Enumerated last)) =
-      leaf_type (constrained aligned last node) Enumerated node (constrained_sound aligned last node) (constrained_one aligned last node)
-      enumerated_alike (λ x p. cc)
+  type_of_type (Some (type.Enumerated last is_extensible known)) = enumerated_by_type is_extensible last known
   type_of_type (Some (type.BitString length)) =
       leaf_type (string_of aligned 1 length node) Bits node (string_of_sound aligned 1 node one_apart length)
       (string_of_one aligned 1 node one_apart length) bits_alike (λ x p. cc)
@@ -299,7 +314,7 @@ module _ (aligned : Bool) (E : ℕ → ℕ → TypeEncoding FaultKind) (e : (n :
       (string_of_one aligned 8 node eight_apart length) octets_alike (λ x p. cc)
   type_of_type (Some (type.Sequence root is_extensible known)) = sequence_by_type is_extensible root known
   type_of_type (Some (type.SequenceOf length item)) = sequence_of_type length item
-  type_of_type (Some (type.Choice alternatives)) = choice_type alternatives
+  type_of_type (Some (type.Choice alternatives is_extensible known)) = choice_by_type is_extensible alternatives known
   type_of_type (Some (type.Open inner)) = open_type_type aligned node (E inner) (e inner)
 
 pub type_at_type : (aligned : Bool) (nodes : List Node) (members : List Member) (depth node : ℕ)
