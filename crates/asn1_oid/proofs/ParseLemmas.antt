@@ -1,24 +1,18 @@
 -- The arcs of a dotted text, part by part.
-use Rattle.std.proofs.Common.{◌≡◌, ◌≢◌, ℕ, ◌+◌, ◌-◌, ◌*◌, ◌/◌, ◌%◌, ◌^◌, ◌<◌, ◌≤◌, false, eqb, min, Option, Some, None, List, [], ◌∷◌, ◌++◌, length, map, get_or, take, drop, refl, sym, ap, subst, ◌∙◌, arith, append-nil, append_assoc}
+use Rattle.std.proofs.Common.{◌≡◌, ◌≢◌, ℕ, ◌+◌, ◌*◌, ◌^◌, ◌<◌, ◌≤◌, eqb, min, Option, Some, None, List, [], ◌∷◌, ◌++◌, length, map, get_or, take, drop, sym, ap, subst, ◌∙◌, arith, append-nil, append_assoc}
 use Rattle.std.specs.Prelude.{All, IfSome, IfNone}
 use Rattle.std.specs.Borrow.{Bor}
 use Rattle.std.specs.Option.{option_map_or}
-use Rattle.std.specs.List.{flat_map, join_with_byte, slice_split}
+use Rattle.std.specs.List.{slice_split}
 use Rattle.std.specs.Fmt.{decimal}
-use Rattle.std.specs.Str.Parse.{AllDigits}
-use Rattle.std.proofs.lemmas.Bool.{ne_eqb}
-use Rattle.std.proofs.lemmas.Fmt.{decimal_is_IsNumeral, decimal_injective, decimal_digit, decimal_step, decimal_nonempty, length-decimal-le}
+use Rattle.std.proofs.lemmas.Fmt.{decimal_nonempty}
 use Rattle.std.proofs.Math.ListN.{set}
-use Rattle.std.proofs.Math.Seq.{take-append_seam, drop-append-add, set-append_seam}
-use Rattle.std.proofs.lemmas.Grind.{flat_map-append}
-use Rattle.std.proofs.lemmas.List.{drop-set, length-set, length-append, length-drop, take_more, take-append-drop, drop-drop, drop_more, drop_all, set_past, map-append}
-use Rattle.std.proofs.lemmas.Str.Parse.{digit_from_value}
-use Rattle.std.proofs.lemmas.List.Splits.{join_with_byte-slice_split, slice_split_at, slice_split_none}
+use Rattle.std.proofs.Math.Seq.{take-append_seam, set-append_seam}
+use Rattle.std.proofs.lemmas.List.{length-set, length-append, drop_more, drop_all, set_past, map-append}
 use Rattle.std.proofs.lemmas.List.Elements.{All-nil, All-cons, All-append, All-head, All-tail}
-use Rattle.asn1_oid.specs.Arcs.{full_stop, dotted}
 use Rattle.asn1_oid.specs.Arcs.{IsValidArcs}
 use Rattle.asn1_oid.specs.DottedText.{IsDottedText}
-use Rattle.asn1_oid.specs.DottedLaws.{dotted_of_split, parts_are, same_arcs, one_text}
+use Rattle.asn1_oid.specs.DottedLaws.{dotted_of_split, parts_are, same_arcs}
 
 -- the parts of what is left, and how many octets it may have
 abbrev pub parts_left : Option (Bor (List ℕ)) → List (List ℕ)

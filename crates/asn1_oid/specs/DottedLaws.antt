@@ -1,22 +1,15 @@
 -- A text is the dotted text of one list of arcs.
-use Rattle.std.proofs.Common.{◌≡◌, ◌≢◌, ℕ, ◌+◌, ◌-◌, ◌*◌, ◌/◌, ◌%◌, ◌^◌, ◌<◌, ◌≤◌, false, eqb, min, Option, Some, None, List, [], ◌∷◌, ◌++◌, length, map, get_or, take, drop, refl, sym, ap, subst, ◌∙◌, arith, append-nil, append_assoc}
-use Rattle.std.specs.Prelude.{All, IfSome, IfNone}
-use Rattle.std.specs.Borrow.{Bor}
-use Rattle.std.specs.Option.{option_map_or}
-use Rattle.std.specs.List.{flat_map, join_with_byte, slice_split}
+use Rattle.std.proofs.Common.{◌≡◌, ℕ, ◌^◌, ◌<◌, false, eqb, List, [], ◌∷◌, map, refl, sym, ap, ◌∙◌, arith}
+use Rattle.std.specs.Prelude.{All}
+use Rattle.std.specs.List.{join_with_byte, slice_split}
 use Rattle.std.specs.Fmt.{decimal}
 use Rattle.std.specs.Str.Parse.{AllDigits}
 use Rattle.std.proofs.lemmas.Bool.{ne_eqb}
-use Rattle.std.proofs.lemmas.Fmt.{decimal_is_IsNumeral, decimal_injective, decimal_digit, decimal_step, decimal_nonempty, length-decimal-le}
-use Rattle.std.proofs.Math.ListN.{set}
-use Rattle.std.proofs.Math.Seq.{take-append_seam, drop-append-add, set-append_seam}
-use Rattle.std.proofs.lemmas.Grind.{flat_map-append}
-use Rattle.std.proofs.lemmas.List.{drop-set, length-set, length-append, length-drop, take_more, take-append-drop, drop-drop, drop_more, set_past, map-append}
+use Rattle.std.proofs.lemmas.Fmt.{decimal_is_IsNumeral, decimal_injective}
 use Rattle.std.proofs.lemmas.Str.Parse.{digit_from_value}
 use Rattle.std.proofs.lemmas.List.Splits.{join_with_byte-slice_split, slice_split_at, slice_split_none}
-use Rattle.std.proofs.lemmas.List.Elements.{All-nil, All-cons, All-append, All-head, All-tail}
-use Rattle.asn1_oid.specs.Arcs.{full_stop, dotted}
-use Rattle.asn1_oid.specs.Arcs.{IsValidArcs}
+use Rattle.std.proofs.lemmas.List.Elements.{All-nil, All-cons, All-head, All-tail}
+use Rattle.asn1_oid.specs.Arcs.{dotted}
 use Rattle.asn1_oid.specs.DottedText.{IsDottedText}
 
 no_stop_in_digits : (ds : List ℕ) → AllDigits 10 ds → All (λ b. eqb b 46 ≡ false) ds

@@ -1,4 +1,4 @@
-use Rattle.std.proofs.Common.{◌∙◌, ◌≡◌, ◌<◌, ◌^◌, ap, sym, subst, arith, rules, tests}
+use Rattle.std.proofs.Common.{◌∙◌, ◌≡◌, ap, sym, subst, arith, rules, tests}
 use Rattle.std.specs.Fmt.{decimal}
 use Rattle.std.specs.Str.{IsUtf8}
 use Rattle.std.proofs.lemmas.Fmt.{IsAscii-decimal, parse-decimal}
