@@ -39,11 +39,15 @@ pub enum Node {
         least: i128,
         /// How far the greatest value is from the least.
         range: u128,
+        /// Whether it has an extension marker.
+        is_extensible: bool,
     },
     /// INTEGER (least..MAX).
     IntegerAtLeast {
         /// The least value.
         least: i128,
+        /// Whether it has an extension marker.
+        is_extensible: bool,
     },
     /// INTEGER without a lower bound.
     Integer,

@@ -27,7 +27,7 @@ opened_five = false ∷ false ∷ false ∷ false ∷ false ∷ false ∷ false 
 
 abbrev pub example_nodes : List Node
 example_nodes =
-    type.Sequence (record { from = 0; count = 2 }) false (record { from = 0; count = 0 }) ∷ type.IntegerBetween (pos 0) 7 ∷ type.Boolean ∷ []
+    type.Sequence (record { from = 0; count = 2 }) false (record { from = 0; count = 0 }) ∷ type.IntegerBetween (pos 0) 7 false ∷ type.Boolean ∷ []
 
 abbrev pub example_members : List Member
 example_members = record { node = 1; is_optional = true } ∷ record { node = 2; is_optional = false } ∷ []

@@ -1,6 +1,6 @@
 -- Canonical PER (X.691), both variants: which bits encode which parts of a value of a type in the tables, the first fault of other
 -- bits, and the first misfit of other parts. `E` says the same of the types that a type names.
-use Rattle.std.specs.Prelude.{ℕ, ℤ, pos, ◌+ℤ◌, zero, suc, ◌+◌, ◌-◌, ◌<◌, ◌≤◌, nat_lt, Bool, true, false, List, length, Option, Some, None, slice_get, ◌≡◌, ◌||◌, [], ◌∷◌, ⊤}
+use Rattle.std.specs.Prelude.{ℕ, ℤ, pos, ◌+ℤ◌, zero, suc, ◌+◌, ◌-◌, ◌<◌, ◌≤◌, ◌⊎◌, ◌<ℤ◌, ◌≤ℤ◌, nat_lt, Bool, true, false, List, length, Option, Some, None, slice_get, ◌≡◌, ◌||◌, [], ◌∷◌, ⊤}
 use Rattle.asn1_schema.specs.declared.tables.Length.{Length}
 use Rattle.asn1_schema.specs.declared.tables.Length.TheVariants.{AtLeast, Between}
 use Rattle.asn1_schema.specs.declared.tables.Member.{Member}
@@ -13,7 +13,7 @@ use Rattle.asn1_schema.specs.Encodings.{Encoding, constant, invalid, cases, anyw
 use Rattle.asn1_schema.specs.Fields.{raw_bits}
 use Rattle.asn1_schema.specs.TypeEncodings.{TypeEncoding, AfterHeader, nothing, invalid_type, several, part, leaf, put, header, end_of_components, mandatory, optional, both, either_by_bit, only_where}
 use Rattle.asn1_x691.specs.declared.fault.FaultKind.{FaultKind}
-use Rattle.asn1_x691.specs.declared.fault.FaultKind.TheVariants.{Short, BelowLeast, NoNode, TooDeep, NoAddition}
+use Rattle.asn1_x691.specs.declared.fault.FaultKind.TheVariants.{Short, BelowLeast, NoNode, TooDeep, NoAddition, InRoot}
 use Rattle.asn1_x691.specs.Fields.{constrained, length_of, semi_constrained, unconstrained, small_length, small_number}
 use Rattle.asn1_x691.specs.Fragments.{octets}
 use Rattle.asn1_x691.specs.Strings.{bit, string_of}
@@ -26,6 +26,23 @@ no_node node = invalid_type NoNode misfit.NoNode node
 -- INTEGER: the value is so far above the least
 abbrev pub from_least : ℤ → ℕ → Piece
 from_least least d = Integer (least +ℤ pos d)
+
+-- of the values of an INTEGER with an extension marker, those of the root, and all others
+abbrev pub IsBetween : ℤ → ℕ → ℤ → Type 0
+IsBetween least range n = (least ≤ℤ n) × (n ≤ℤ (least +ℤ pos range))
+
+abbrev pub IsOutside : ℤ → ℕ → ℤ → Type 0
+IsOutside least range n = (n <ℤ least) ⊎ ((least +ℤ pos range) <ℤ n)
+
+-- a piece that is an INTEGER, and no value of the root
+abbrev pub IsAddedInteger : (ℤ → Type 0) → Piece → Type 0
+IsAddedInteger Added (Integer n) = Added n
+IsAddedInteger Added p = ⊥
+
+-- a value that is none of the root
+abbrev pub added_integer : Bool → ℕ → (ℤ → Type 0) → (ℤ → Type 0) → ℕ → Encoding FaultKind ℤ
+added_integer aligned node Root Added = in_turn (unconstrained aligned node) (λ n m. m) (λ n.
+    anywhere (cases (Added n) (constant n) (Root n) (invalid InRoot node)))
 
 -- an addition of an ENUMERATED, by its index among the additions: the value of that index after the root, where it is known
 abbrev pub added_value : ℕ → Bool → ℕ → Piece
@@ -178,6 +195,29 @@ module _ (aligned : Bool) (E : ℕ → ℕ → TypeEncoding FaultKind) (members 
   choice_by true rows known = header (bit node) 1
       (either_by_bit (IsAddedAlternative (rows.count - 1)) node (choice rows) (choice_extension rows known)) node
 
+  -- ---- INTEGER (13)
+
+  -- the distance from the least value (13.2.2), and the same in the fewest octets, after their number (13.2.3)
+  abbrev pub integer_between : ℤ → ℕ → ℕ → TypeEncoding FaultKind
+  integer_between least range = leaf (constrained aligned range node) (from_least least) node
+
+  abbrev pub integer_at_least : ℤ → ℕ → TypeEncoding FaultKind
+  integer_at_least least = leaf (semi_constrained aligned node) (from_least least) node
+
+  -- a bit 0 and a value of the root, or a bit 1 and any other value, as without bounds (13.1)
+  abbrev pub extensible_integer : (ℤ → Type 0) → (ℤ → Type 0) → (ℕ → TypeEncoding FaultKind) → ℕ → TypeEncoding FaultKind
+  extensible_integer Root Added root = header (bit node) 1
+      (either_by_bit (IsAddedInteger Added) node root (leaf (added_integer aligned node Root Added) Integer node)) node
+
+  abbrev pub integer_between_by : Bool → ℤ → ℕ → ℕ → TypeEncoding FaultKind
+  integer_between_by false least range = integer_between least range
+  integer_between_by true least range =
+      extensible_integer (IsBetween least range) (IsOutside least range) (integer_between least range)
+
+  abbrev pub integer_at_least_by : Bool → ℤ → ℕ → TypeEncoding FaultKind
+  integer_at_least_by false least = integer_at_least least
+  integer_at_least_by true least = extensible_integer (λ n. least ≤ℤ n) (λ n. n <ℤ least) (integer_at_least least)
+
   -- ---- ENUMERATED (14)
 
   -- the index of the value (14.2)
@@ -199,10 +239,8 @@ module _ (aligned : Bool) (E : ℕ → ℕ → TypeEncoding FaultKind) (members 
   type_of (Some type.Null) = put Null nothing node
   -- one bit (12)
   type_of (Some type.Boolean) = leaf (anywhere (bit node)) Truth node
-  -- the distance from the least value (13.2.2)
-  type_of (Some (type.IntegerBetween least range)) = leaf (constrained aligned range node) (from_least least) node
-  -- the same in the fewest octets, after their number (13.2.3)
-  type_of (Some (type.IntegerAtLeast least)) = leaf (semi_constrained aligned node) (from_least least) node
+  type_of (Some (type.IntegerBetween least range is_extensible)) = integer_between_by is_extensible least range
+  type_of (Some (type.IntegerAtLeast least is_extensible)) = integer_at_least_by is_extensible least
   -- the value in the fewest octets, after their number (13.2.4)
   type_of (Some type.Integer) = leaf (unconstrained aligned node) Integer node
   type_of (Some (type.Enumerated last is_extensible known)) = enumerated_by is_extensible last known

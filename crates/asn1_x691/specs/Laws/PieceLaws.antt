@@ -1,16 +1,18 @@
 -- Laws of pieces and of the numbers before them: a piece tells its number, which is in its range.
 use Rattle.std.proofs.Common.{◌≡◌, ℕ, ℤ, pos, ◌+ℤ◌, ◌+◌, ◌*◌, ◌<◌, ◌≤◌, Bool, true, false, List, length, sym, ◌∙◌, arith, inl, inr, subst}
 use Rattle.std.proofs.lemmas.Int.{ints}
+use Rattle.std.specs.Int.Signed.{clash_ℤ, ◌<ℤ◌}
 use Rattle.asn1_schema.specs.Pieces.{Absent, Truth, Integer, Enumerated, Bits, Octets, Count, Chosen, Additions, Unknown}
 use Rattle.asn1_schema.specs.Encodings.{EncodesOne, constant, invalid, cases, anywhere}
 use Rattle.asn1_schema.specs.Laws.EncodingLaws.{invalid_sound}
 use Rattle.asn1_schema.specs.Laws.PositionLaws.{IsSoundEverywhere}
 use Rattle.asn1_schema.specs.Laws.ByStructure.{cases_of, constant_of, in_turn_of}
 use Rattle.asn1_schema.specs.Laws.OneEncodingLaws.{in_turn_encodes_one, only_constant, constant_if_encodes_one}
-use Rattle.asn1_x691.specs.declared.fault.FaultKind.TheVariants.{BelowLeast, AboveMost}
-use Rattle.asn1_x691.specs.Fields.{constrained, length_of, in_bits, minimal_up_to, width_to}
-use Rattle.asn1_x691.specs.Types.{from_least, count_from, length_from, added_value, IsAddedValue, added_alternative, IsAddedAlternative}
-use Rattle.asn1_x691.specs.Laws.FieldLaws.{length_sound}
+use Rattle.asn1_x691.specs.declared.fault.FaultKind.TheVariants.{BelowLeast, AboveMost, InRoot}
+use Rattle.asn1_x691.specs.Fields.{constrained, length_of, unconstrained, in_bits, minimal_up_to, width_to}
+use Rattle.asn1_x691.specs.Types.{from_least, count_from, length_from, added_value, IsAddedValue, added_alternative, IsAddedAlternative, IsOutside, IsBetween, added_integer}
+use Rattle.asn1_x691.specs.Laws.FieldLaws.{length_sound, unconstrained_sound}
+use Rattle.asn1_x691.specs.Laws.NumberLaws.{unconstrained_one}
 use Rattle.asn1_x691.specs.Laws.OneEncodingLaws.{length_one, inner}
 
 pub truth_alike : (x y : Bool) → Truth x ≡ Truth y → x ≡ y
@@ -126,3 +128,36 @@ length_from_one aligned least node =
     (λ n at. constant_if_encodes_one (least ≤ n) (n < least) n BelowLeast node)
     (λ x y u v at m n i j k l p q r s e.
     (sym (only_constant _ _ x u BelowLeast node k r).1 ∙ e ∙ (only_constant _ _ y v BelowLeast node l s).1, e))
+
+-- ---- an INTEGER that is none of the root
+
+pub added_integer_sound : (aligned : Bool) (node : ℕ) (Root Added : ℤ → Type 0) → ((n : ℤ) → Added n → Root n → ⊥)
+    → IsSoundEverywhere (added_integer aligned node Root Added)
+added_integer_sound aligned node Root Added apart =
+    in_turn_of (unconstrained_sound aligned node) (λ n at. cases_of (apart n) constant_of (invalid_sound InRoot node))
+
+pub added_integer_one : (aligned : Bool) (node : ℕ) (Root Added : ℤ → Type 0) (at : ℕ)
+    → EncodesOne (added_integer aligned node Root Added at).encodes
+added_integer_one aligned node Root Added =
+    in_turn_encodes_one (unconstrained aligned node) (λ n m. m)
+    (λ n. anywhere (cases (Added n) (constant n) (Root n) (invalid InRoot node))) (unconstrained_one aligned node)
+    (λ n at. constant_if_encodes_one (Added n) (Root n) n InRoot node)
+    (λ x y u v at m n i j k l p q r s e.
+    (sym (only_constant _ _ x u InRoot node k r).1 ∙ e ∙ (only_constant _ _ y v InRoot node l s).1, e))
+
+pub added_integer_is : (aligned : Bool) (node : ℕ) (Root Added : ℤ → Type 0) (at : ℕ) (n : ℤ) (k : List Bool)
+    → (added_integer aligned node Root Added at).encodes n k → Added n
+added_integer_is aligned node Root Added at n k p =
+    let g = only_constant _ _ p.value p.after InRoot node p.rest p.second in
+    subst Added (sym (p.is ∙ g.1)) g.0
+
+pub from_least_between : (least : ℤ) (range d : ℕ) → d ≤ range → IsOutside least range (least +ℤ pos d) → ⊥
+from_least_between least range d few (inl p) = omega (arith, ints, few, p)
+from_least_between least range d few (inr p) = omega (arith, ints, few, p)
+
+pub from_least_at_least : (least : ℤ) (d : ℕ) → (least +ℤ pos d) <ℤ least → ⊥
+from_least_at_least least d p = omega (arith, ints, p)
+
+pub outside_apart : (least : ℤ) (range : ℕ) (n : ℤ) → IsOutside least range n → IsBetween least range n → ⊥
+outside_apart least range n (inl p) q = clash_ℤ p q.0
+outside_apart least range n (inr p) q = clash_ℤ p q.1

@@ -1,6 +1,7 @@
 -- Laws of types: at every node of every schema, at every position, in both variants.
-use Rattle.std.proofs.Common.{◌≡◌, ℕ, zero, suc, ◌+◌, ◌-◌, nat_lt, Bool, true, false, List, length, refl, sym, ◌∙◌, arith, Option, Some, None}
+use Rattle.std.proofs.Common.{◌≡◌, ℕ, ℤ, zero, suc, ◌+◌, ◌-◌, nat_lt, Bool, true, false, List, length, refl, sym, ◌∙◌, arith, Option, Some, None}
 use Rattle.std.specs.Prelude.{slice_get}
+use Rattle.std.specs.Int.Signed.{clash_ℤ, ◌<ℤ◌, ◌≤ℤ◌}
 use Rattle.asn1_schema.specs.declared.tables.Length.{Length}
 use Rattle.asn1_schema.specs.declared.tables.Length.TheVariants.{AtLeast, Between}
 use Rattle.asn1_schema.specs.declared.tables.Member.{Member}
@@ -24,7 +25,7 @@ use Rattle.asn1_x691.specs.declared.fault.FaultKind.TheVariants.{Short, NoNode, 
 use Rattle.asn1_x691.specs.Fields.{constrained, semi_constrained, unconstrained, small_length, small_number}
 use Rattle.asn1_x691.specs.Strings.{bit, string_of}
 use Rattle.asn1_x691.specs.OpenTypes.{complete, open_type}
-use Rattle.asn1_x691.specs.Types.{no_node, from_least, optional_count, count_from, length_from, component_by, no_component, component, components, sequence, sequence_of, alternative, alternative_if, choice, type_of, type_at, any_true, root_of, known_addition, addition, additions_by_bits, some_additions, extension, IsExtended, extensible_sequence, sequence_by, value_of_addition, IsAddedValue, alternative_of_addition, IsAddedAlternative, added, choice_extension, choice_by, enumerated, enumerated_by}
+use Rattle.asn1_x691.specs.Types.{no_node, from_least, optional_count, count_from, length_from, component_by, no_component, component, components, sequence, sequence_of, alternative, alternative_if, choice, type_of, type_at, any_true, root_of, known_addition, addition, additions_by_bits, some_additions, extension, IsExtended, extensible_sequence, sequence_by, value_of_addition, IsAddedValue, alternative_of_addition, IsAddedAlternative, added, choice_extension, choice_by, enumerated, enumerated_by, integer_between, integer_at_least, extensible_integer, integer_between_by, integer_at_least_by, added_integer, IsAddedInteger, IsOutside, IsBetween}
 use Rattle.asn1_x691.specs.Laws.FieldLaws.{constrained_sound, semi_constrained_sound, unconstrained_sound, small_length_sound, small_number_sound}
 use Rattle.asn1_x691.specs.Laws.OneEncodingLaws.{constrained_one, small_length_one, inner}
 use Rattle.asn1_x691.specs.Laws.NumberLaws.{semi_constrained_one, unconstrained_one, small_number_one}
@@ -32,7 +33,7 @@ use Rattle.asn1_x691.specs.Laws.StringLaws.{bit_sound, bit_one, string_of_sound,
 use Rattle.asn1_x691.specs.Fragments.{octets}
 use Rattle.asn1_x691.specs.Laws.FragmentLaws.{octets_sound, octets_one}
 use Rattle.asn1_x691.specs.Laws.OpenTypeLaws.{open_type_good}
-use Rattle.asn1_x691.specs.Laws.PieceLaws.{truth_alike, integer_alike, from_least_alike, enumerated_alike, bits_alike, octets_alike, count_alike, count_from_alike, chosen_alike, unknown_alike, additions_alike, added_value_alike, added_alternative_alike, added_value_present, added_alternative_present, is_added_value, is_added_alternative, constrained_within, one_apart, eight_apart, length_from_sound, length_from_one}
+use Rattle.asn1_x691.specs.Laws.PieceLaws.{added_integer_sound, added_integer_one, added_integer_is, from_least_between, from_least_at_least, outside_apart, truth_alike, integer_alike, from_least_alike, enumerated_alike, bits_alike, octets_alike, count_alike, count_from_alike, chosen_alike, unknown_alike, additions_alike, added_value_alike, added_alternative_alike, added_value_present, added_alternative_present, is_added_value, is_added_alternative, constrained_within, one_apart, eight_apart, length_from_sound, length_from_one}
 
 -- a type that is good at every position, and whose first part never says that a component is absent
 pub record IsType (A : ℕ → TypeEncoding FaultKind) : Type 1 where
@@ -262,6 +263,49 @@ module _ (aligned : Bool) (E : ℕ → ℕ → TypeEncoding FaultKind) (e : (n :
         );
       })
 
+  integer_between_type : (least : ℤ) (range : ℕ) → IsType (integer_between aligned E members node least range)
+  integer_between_type least range =
+      leaf_type (constrained aligned range node) (from_least least) node (constrained_sound aligned range node)
+      (constrained_one aligned range node) (from_least_alike least) (λ x p. cc)
+
+  integer_at_least_type : (least : ℤ) → IsType (integer_at_least aligned E members node least)
+  integer_at_least_type least =
+      leaf_type (semi_constrained aligned node) (from_least least) node (semi_constrained_sound aligned node)
+      (semi_constrained_one aligned node) (from_least_alike least) (λ x p. cc)
+
+  extensible_integer_type : (Root Added : ℤ → Type 0) (A : ℕ → TypeEncoding FaultKind) → ((n : ℤ) → Added n → Root n → ⊥)
+      → IsType A → ((at : ℕ) → BeginsWith (λ p. ¬ (IsAddedInteger Added p)) (A at))
+      → IsType (extensible_integer aligned E members node Root Added A)
+  extensible_integer_type Root Added A apart a root =
+      by_bit_type (IsAddedInteger Added) A (leaf (added_integer aligned node Root Added) Integer node) a
+      (leaf_type (added_integer aligned node Root Added) Integer node (added_integer_sound aligned node Root Added apart)
+      (added_integer_one aligned node Root Added) integer_alike (λ x p. cc)) root
+      (λ at. record {
+        each = λ xs l p.
+            (Integer p.value, p.after, p.is, added_integer_is aligned node Root Added at p.value p.front p.first);
+      })
+
+  integer_between_by_type : (b : Bool) (least : ℤ) (range : ℕ) → IsType (integer_between_by aligned E members node b least range)
+  integer_between_by_type false least range = integer_between_type least range
+  integer_between_by_type true least range =
+      extensible_integer_type (IsBetween least range) (IsOutside least range) (integer_between aligned E members node least range)
+      (outside_apart least range) (integer_between_type least range)
+      (λ at. record {
+        each = λ xs l p. (
+          from_least least p.value,
+          p.after,
+          p.is,
+          from_least_between least range p.value (constrained_within aligned range node at p.value p.front p.first),
+        );
+      })
+
+  integer_at_least_by_type : (b : Bool) (least : ℤ) → IsType (integer_at_least_by aligned E members node b least)
+  integer_at_least_by_type false least = integer_at_least_type least
+  integer_at_least_by_type true least =
+      extensible_integer_type (λ n. least ≤ℤ n) (λ n. n <ℤ least) (integer_at_least aligned E members node least)
+      (λ n p q. clash_ℤ p q) (integer_at_least_type least)
+      (λ at. record { each = λ xs l p. (from_least least p.value, p.after, p.is, from_least_at_least least p.value) })
+
   enumerated_type : (last : ℕ) → IsType (enumerated aligned E members node last)
   enumerated_type last =
       leaf_type (constrained aligned last node) Enumerated node (constrained_sound aligned last node) (constrained_one aligned last node)
@@ -296,12 +340,8 @@ module _ (aligned : Bool) (E : ℕ → ℕ → TypeEncoding FaultKind) (e : (n :
   }
   type_of_type (Some type.Boolean) =
       leaf_type (anywhere (bit node)) Truth node (λ at. bit_sound node) (λ at. bit_one node) truth_alike (λ x p. cc)
-  type_of_type (Some (type.IntegerBetween least range)) =
-      leaf_type (constrained aligned range node) (from_least least) node (constrained_sound aligned range node)
-      (constrained_one aligned range node) (from_least_alike least) (λ x p. cc)
-  type_of_type (Some (type.IntegerAtLeast least)) =
-      leaf_type (semi_constrained aligned node) (from_least least) node (semi_constrained_sound aligned node)
-      (semi_constrained_one aligned node) (from_least_alike least) (λ x p. cc)
+  type_of_type (Some (type.IntegerBetween least range is_extensible)) = integer_between_by_type is_extensible least range
+  type_of_type (Some (type.IntegerAtLeast least is_extensible)) = integer_at_least_by_type is_extensible least
   type_of_type (Some type.Integer) =
       leaf_type (unconstrained aligned node) Integer node (unconstrained_sound aligned node) (unconstrained_one aligned node)
       integer_alike (λ x p. cc)
