@@ -64,11 +64,15 @@ pub enum Node {
     BitString {
         /// How many bits it may have.
         length: Length,
+        /// Whether the size has an extension marker.
+        is_extensible: bool,
     },
     /// OCTET STRING, in octets.
     OctetString {
         /// How many octets it may have.
         length: Length,
+        /// Whether the size has an extension marker.
+        is_extensible: bool,
     },
     /// SEQUENCE.
     Sequence {
@@ -84,6 +88,8 @@ pub enum Node {
     SequenceOf {
         /// How many items it may have.
         length: Length,
+        /// Whether the size has an extension marker.
+        is_extensible: bool,
         /// The type of the items.
         item: usize,
     },

@@ -2,9 +2,11 @@
 pub mod FieldLaws
 pub mod OneEncodingLaws
 pub mod NumberLaws
+pub mod RangeLaws
 pub mod FragmentLaws
 pub mod StringLaws
 pub mod OpenTypeLaws
 pub mod PieceLaws
+pub mod GoodTypes
 pub mod TypeLaws
 pub mod ExampleLaws

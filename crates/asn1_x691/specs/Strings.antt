@@ -1,11 +1,11 @@
 -- Strings and numbers as types have them (X.691 12, 16, 17).
-use Rattle.std.specs.Prelude.{◌≡◌, ℕ, ◌+◌, ◌*◌, ◌<◌, ◌≤◌, ◌⊎◌, Bool, false, List, [], ◌∷◌}
+use Rattle.std.specs.Prelude.{◌≡◌, ℕ, ◌+◌, ◌*◌, ◌<◌, ◌≤◌, ◌⊎◌, Bool, false, List, length, [], ◌∷◌}
 use Rattle.asn1_schema.specs.declared.tables.Length.{Length}
 use Rattle.asn1_schema.specs.declared.tables.Length.TheVariants.{AtLeast, Between}
 use Rattle.asn1_schema.specs.Encodings.{Encoding, constant, invalid, then, cases, anywhere, in_turn, in_case}
 use Rattle.asn1_schema.specs.Fields.{raw_bits}
 use Rattle.asn1_x691.specs.declared.fault.FaultKind.{FaultKind}
-use Rattle.asn1_x691.specs.declared.fault.FaultKind.TheVariants.{Short, BelowLeast}
+use Rattle.asn1_x691.specs.declared.fault.FaultKind.TheVariants.{Short, BelowLeast, InRoot}
 use Rattle.asn1_x691.specs.Fields.{on_octet, constrained}
 use Rattle.asn1_x691.specs.Fragments.{string}
 
@@ -36,14 +36,37 @@ abbrev pub sized_string : Bool → ℕ → ℕ → ℕ → ℕ → ℕ → Encod
 sized_string aligned unit least range node =
     in_turn (constrained aligned range node) (λ d bits. bits) (λ d. units_of aligned unit least range node (least + d))
 
--- units after their number, of which there are at least so many
-abbrev pub at_least : ℕ → ℕ → ℕ × List Bool → ℕ → Encoding FaultKind (List Bool)
-at_least least node v = anywhere (cases (least ≤ v.0) (constant v.1) (v.0 < least) (invalid BelowLeast node))
+-- units after their number, of which there are as many as `Yes` permits and `No` forbids
+abbrev pub where_size : (ℕ → Type 0) → (ℕ → Type 0) → FaultKind → ℕ → ℕ × List Bool → ℕ → Encoding FaultKind (List Bool)
+where_size Yes No kind node v = anywhere (cases (Yes v.0) (constant v.1) (No v.0) (invalid kind node))
+
+abbrev pub string_where : Bool → ℕ → (ℕ → Type 0) → (ℕ → Type 0) → FaultKind → ℕ → ℕ → Encoding FaultKind (List Bool)
+string_where aligned unit Yes No kind node =
+    in_turn (string aligned unit node) (λ v bits. bits) (λ v. where_size Yes No kind node v)
 
 abbrev pub long_string : Bool → ℕ → ℕ → ℕ → ℕ → Encoding FaultKind (List Bool)
-long_string aligned unit least node = in_turn (string aligned unit node) (λ v bits. bits) (λ v. at_least least node v)
+long_string aligned unit least node = string_where aligned unit (λ n. least ≤ n) (λ n. n < least) BelowLeast node
 
 -- a string of units of so many bits, by its size constraint
 abbrev pub string_of : Bool → ℕ → Length → ℕ → ℕ → Encoding FaultKind (List Bool)
 string_of aligned unit (AtLeast least) node = long_string aligned unit least node
 string_of aligned unit (Between least range) node = sized_string aligned unit least range node
+
+-- ---- sizes with an extension marker
+
+-- the sizes of the root, and all others
+abbrev pub IsOfRoot : Length → ℕ → Type 0
+IsOfRoot (AtLeast least) n = least ≤ n
+IsOfRoot (Between least range) n = (least ≤ n) × (n ≤ least + range)
+
+abbrev pub IsAddedSize : Length → ℕ → Type 0
+IsAddedSize (AtLeast least) n = n < least
+IsAddedSize (Between least range) n = (n < least) ⊎ (least + range < n)
+
+-- bits that are units of such a number
+abbrev pub AreAdded : ℕ → Length → List Bool → Type 0
+AreAdded unit size bits = (n : ℕ) × (length bits ≡ unit * n) × IsAddedSize size n
+
+-- a string of a size that is none of the root (16.6, 17.3)
+abbrev pub added_string : Bool → ℕ → Length → ℕ → ℕ → Encoding FaultKind (List Bool)
+added_string aligned unit size node = string_where aligned unit (IsAddedSize size) (IsOfRoot size) InRoot node

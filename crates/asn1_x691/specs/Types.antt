@@ -1,6 +1,6 @@
 -- Canonical PER (X.691), both variants: which bits encode which parts of a value of a type in the tables, the first fault of other
 -- bits, and the first misfit of other parts. `E` says the same of the types that a type names.
-use Rattle.std.specs.Prelude.{ℕ, ℤ, pos, ◌+ℤ◌, zero, suc, ◌+◌, ◌-◌, ◌<◌, ◌≤◌, ◌⊎◌, ◌<ℤ◌, ◌≤ℤ◌, nat_lt, Bool, true, false, List, length, Option, Some, None, slice_get, ◌≡◌, ◌||◌, [], ◌∷◌, ⊤}
+use Rattle.std.specs.Prelude.{ℕ, ℤ, pos, ◌+ℤ◌, zero, suc, ◌+◌, ◌-◌, ◌<◌, ◌≤◌, ◌⊎◌, ◌<ℤ◌, ◌≤ℤ◌, nat_lt, Bool, true, false, List, Option, Some, None, slice_get, ◌≡◌, ◌||◌, [], ◌∷◌, ⊤}
 use Rattle.asn1_schema.specs.declared.tables.Length.{Length}
 use Rattle.asn1_schema.specs.declared.tables.Length.TheVariants.{AtLeast, Between}
 use Rattle.asn1_schema.specs.declared.tables.Member.{Member}
@@ -16,7 +16,7 @@ use Rattle.asn1_x691.specs.declared.fault.FaultKind.{FaultKind}
 use Rattle.asn1_x691.specs.declared.fault.FaultKind.TheVariants.{Short, BelowLeast, NoNode, TooDeep, NoAddition, InRoot}
 use Rattle.asn1_x691.specs.Fields.{constrained, length_of, semi_constrained, unconstrained, small_length, small_number}
 use Rattle.asn1_x691.specs.Fragments.{octets}
-use Rattle.asn1_x691.specs.Strings.{bit, string_of}
+use Rattle.asn1_x691.specs.Strings.{bit, string_of, added_string, IsOfRoot, IsAddedSize, AreAdded}
 use Rattle.asn1_x691.specs.OpenTypes.{open_type}
 
 -- a type that the tables have not
@@ -84,10 +84,23 @@ optional_count members (suc count) at = is_optional (slice_get members at) + opt
 abbrev pub count_from : ℕ → ℕ → Piece
 count_from least d = Count (least + d)
 
--- a length that is not below the least
-abbrev pub length_from : Bool → ℕ → ℕ → ℕ → Encoding FaultKind ℕ
-length_from aligned least node = in_turn (length_of aligned node) (λ n m. m) (λ n.
-    anywhere (cases (least ≤ n) (constant n) (n < least) (invalid BelowLeast node)))
+-- a length that `Yes` permits and `No` forbids
+abbrev pub length_where : Bool → (ℕ → Type 0) → (ℕ → Type 0) → FaultKind → ℕ → ℕ → Encoding FaultKind ℕ
+length_where aligned Yes No kind node = in_turn (length_of aligned node) (λ n m. m) (λ n.
+    anywhere (cases (Yes n) (constant n) (No n) (invalid kind node)))
+
+-- a piece that tells a number of items that is none of the root
+abbrev pub IsAddedCount : Length → Piece → Type 0
+IsAddedCount size (Count n) = IsAddedSize size n
+IsAddedCount size p = ⊥
+
+abbrev pub AreAddedBits : Length → Piece → Type 0
+AreAddedBits size (Bits bits) = AreAdded 1 size bits
+AreAddedBits size p = ⊥
+
+abbrev pub AreAddedOctets : Length → Piece → Type 0
+AreAddedOctets size (Octets bits) = AreAdded 8 size bits
+AreAddedOctets size p = ⊥
 
 abbrev pub any_true : List Bool → Bool
 any_true [] = false
@@ -163,9 +176,30 @@ module _ (aligned : Bool) (E : ℕ → ℕ → TypeEncoding FaultKind) (members 
 
   -- the number of the items, and the items
   abbrev pub sequence_of : Length → ℕ → ℕ → TypeEncoding FaultKind
-  sequence_of (AtLeast least) item = part (length_from aligned least node) Count (λ n. several (E item) n) node
+  sequence_of (AtLeast least) item = part (length_where aligned (λ n. least ≤ n) (λ n. n < least) BelowLeast node) Count
+      (λ n. several (E item) n) node
   sequence_of (Between least range) item =
       part (constrained aligned range node) (count_from least) (λ d. several (E item) (least + d)) node
+
+  -- a bit 0 and a number of the root, or a bit 1 and any other number, as without bounds (20.4)
+  abbrev pub added_items : Length → ℕ → ℕ → TypeEncoding FaultKind
+  added_items size item = part (length_where aligned (IsAddedSize size) (IsOfRoot size) InRoot node) Count
+      (λ n. several (E item) n) node
+
+  abbrev pub sequence_of_by : Bool → Length → ℕ → ℕ → TypeEncoding FaultKind
+  sequence_of_by false size item = sequence_of size item
+  sequence_of_by true size item = header (bit node) 1
+      (either_by_bit (IsAddedCount size) node (sequence_of size item) (added_items size item)) node
+
+  -- ---- BIT STRING (16), OCTET STRING (17)
+
+  -- the number of the units where it is not fixed, and the units; with an extension marker a bit 0 and a number of the root, or a
+  -- bit 1 and any other number, as without bounds (16.6, 17.3)
+  abbrev pub string_by : Bool → ℕ → (List Bool → Piece) → (Piece → Type 0) → Length → ℕ → TypeEncoding FaultKind
+  string_by false unit is Added size = leaf (string_of aligned unit size node) is node
+  string_by true unit is Added size = header (bit node) 1
+      (either_by_bit Added node (leaf (string_of aligned unit size node) is node)
+      (leaf (added_string aligned unit size node) is node)) node
 
   abbrev pub alternative : Option Member → ℕ → TypeEncoding FaultKind
   alternative None = no_node node
@@ -244,12 +278,10 @@ module _ (aligned : Bool) (E : ℕ → ℕ → TypeEncoding FaultKind) (members 
   -- the value in the fewest octets, after their number (13.2.4)
   type_of (Some type.Integer) = leaf (unconstrained aligned node) Integer node
   type_of (Some (type.Enumerated last is_extensible known)) = enumerated_by is_extensible last known
-  -- the number of the bits where it is not fixed, and the bits (16)
-  type_of (Some (type.BitString length)) = leaf (string_of aligned 1 length node) Bits node
-  -- the same of octets (17)
-  type_of (Some (type.OctetString length)) = leaf (string_of aligned 8 length node) Octets node
+  type_of (Some (type.BitString size is_extensible)) = string_by is_extensible 1 Bits (AreAddedBits size) size
+  type_of (Some (type.OctetString size is_extensible)) = string_by is_extensible 8 Octets (AreAddedOctets size) size
   type_of (Some (type.Sequence root is_extensible known)) = sequence_by is_extensible root known
-  type_of (Some (type.SequenceOf length item)) = sequence_of length item
+  type_of (Some (type.SequenceOf size is_extensible item)) = sequence_of_by is_extensible size item
   type_of (Some (type.Choice alternatives is_extensible known)) = choice_by is_extensible alternatives known
   -- octets that are a complete encoding, after their number (11.2)
   type_of (Some (type.Open inner)) = open_type aligned node (E inner)

@@ -20,7 +20,7 @@ pub enum FaultKind {
     ExtraOctets,
     /// The extension bit of a SEQUENCE is 1, and no addition is present.
     NoAddition,
-    /// The extension bit of an INTEGER is 1, and the value is in the root.
+    /// The extension bit of an INTEGER or of a size is 1, and the value or the length is in the root.
     InRoot,
     /// The tables have no such node or member.
     NoNode,

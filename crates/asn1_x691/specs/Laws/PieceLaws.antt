@@ -1,5 +1,5 @@
 -- Laws of pieces and of the numbers before them: a piece tells its number, which is in its range.
-use Rattle.std.proofs.Common.{◌≡◌, ℕ, ℤ, pos, ◌+ℤ◌, ◌+◌, ◌*◌, ◌<◌, ◌≤◌, Bool, true, false, List, length, sym, ◌∙◌, arith, inl, inr, subst}
+use Rattle.std.proofs.Common.{◌≡◌, ℕ, ℤ, pos, ◌+ℤ◌, ◌+◌, ◌*◌, ◌≤◌, Bool, true, false, List, sym, ◌∙◌, arith, inl, inr, subst}
 use Rattle.std.proofs.lemmas.Int.{ints}
 use Rattle.std.specs.Int.Signed.{clash_ℤ, ◌<ℤ◌}
 use Rattle.asn1_schema.specs.Pieces.{Absent, Truth, Integer, Enumerated, Bits, Octets, Count, Chosen, Additions, Unknown}
@@ -8,12 +8,16 @@ use Rattle.asn1_schema.specs.Laws.EncodingLaws.{invalid_sound}
 use Rattle.asn1_schema.specs.Laws.PositionLaws.{IsSoundEverywhere}
 use Rattle.asn1_schema.specs.Laws.ByStructure.{cases_of, constant_of, in_turn_of}
 use Rattle.asn1_schema.specs.Laws.OneEncodingLaws.{in_turn_encodes_one, only_constant, constant_if_encodes_one}
-use Rattle.asn1_x691.specs.declared.fault.FaultKind.TheVariants.{BelowLeast, AboveMost, InRoot}
-use Rattle.asn1_x691.specs.Fields.{constrained, length_of, unconstrained, in_bits, minimal_up_to, width_to}
-use Rattle.asn1_x691.specs.Types.{from_least, count_from, length_from, added_value, IsAddedValue, added_alternative, IsAddedAlternative, IsOutside, IsBetween, added_integer}
+use Rattle.asn1_x691.specs.declared.fault.FaultKind.{FaultKind}
+use Rattle.asn1_schema.specs.declared.tables.Length.TheVariants.{Between}
+use Rattle.asn1_x691.specs.Strings.{IsAddedSize}
+use Rattle.asn1_x691.specs.Laws.RangeLaws.{constrained_within}
+use Rattle.asn1_x691.specs.declared.fault.FaultKind.TheVariants.{InRoot}
+use Rattle.asn1_x691.specs.Fields.{constrained, length_of, unconstrained}
+use Rattle.asn1_x691.specs.Types.{from_least, count_from, length_where, added_value, IsAddedValue, added_alternative, IsAddedAlternative, IsOutside, IsBetween, added_integer}
 use Rattle.asn1_x691.specs.Laws.FieldLaws.{length_sound, unconstrained_sound}
 use Rattle.asn1_x691.specs.Laws.NumberLaws.{unconstrained_one}
-use Rattle.asn1_x691.specs.Laws.OneEncodingLaws.{length_one, inner}
+use Rattle.asn1_x691.specs.Laws.OneEncodingLaws.{length_one}
 
 pub truth_alike : (x y : Bool) → Truth x ≡ Truth y → x ≡ y
 truth_alike x y e = cc
@@ -81,33 +85,6 @@ pub is_added_alternative : (last : ℕ) (b : Bool) (x : ℕ) → IsAddedAlternat
 is_added_alternative last false x = tt
 is_added_alternative last true x = omega arith
 
--- a constrained number does not exceed the range
-pub in_bits_within : (width most node d : ℕ) (k : List Bool) → (in_bits width most node).encodes d k → d ≤ most
-in_bits_within width most node d k p =
-    let g = only_constant _ _ p.value p.after AboveMost node p.rest p.second in
-    let e : d ≡ p.value = p.is ∙ g.1 in
-    subst (λ (n : ℕ). n ≤ most) (sym e) g.0
-
-pub minimal_within : (count most node d : ℕ) (k : List Bool) → (minimal_up_to count most node).encodes d k → d ≤ most
-minimal_within count most node d k p =
-    let g = only_constant _ _ p.value p.after AboveMost node p.rest p.second in
-    let e : d ≡ p.value = p.is ∙ g.1 in
-    subst (λ (n : ℕ). n ≤ most) (sym e) g.0
-
-pub constrained_within : (aligned : Bool) (range node at d : ℕ) (k : List Bool) → (constrained aligned range node at).encodes d k → d ≤ range
-constrained_within false range node at d k p = in_bits_within (width_to range) range node d k p
-constrained_within true range node at d k (inl p) = in_bits_within (width_to range) range node d k p.1
-constrained_within true range node at d k (inr (q, inl p)) =
-    let g = inner true node at (in_bits 8 range node) d k p.1 in
-    in_bits_within 8 range node d g.0 g.1
-constrained_within true range node at d k (inr (q, inr (r, inl p))) =
-    let g = inner true node at (in_bits 16 range node) d k p.1 in
-    in_bits_within 16 range node d g.0 g.1
-constrained_within true range node at d k (inr (q, inr (r, inr p))) =
-    let s = p.1 in
-    let g = inner true node (at + length s.front) (minimal_up_to s.value range node) s.after s.rest s.second in
-    subst (λ (n : ℕ). n ≤ range) (sym s.is) (minimal_within s.value range node s.after g.0 g.1)
-
 pub one_apart : (m n : ℕ) → 1 * m ≡ 1 * n → m ≡ n
 one_apart m n e = omega (arith, e)
 
@@ -116,18 +93,32 @@ eight_apart m n e = omega (arith, e)
 
 -- ---- lengths
 
-pub length_from_sound : (aligned : Bool) (least node : ℕ) → IsSoundEverywhere (length_from aligned least node)
-length_from_sound aligned least node =
-    in_turn_of (length_sound aligned node)
-    (λ n at. cases_of (λ a b. omega (arith, a, b)) constant_of (invalid_sound BelowLeast node))
+pub length_where_sound : (aligned : Bool) (Yes No : ℕ → Type 0) (kind : FaultKind) (node : ℕ) → ((n : ℕ) → Yes n → No n → ⊥)
+    → IsSoundEverywhere (length_where aligned Yes No kind node)
+length_where_sound aligned Yes No kind node not_both =
+    in_turn_of (length_sound aligned node) (λ n at. cases_of (not_both n) constant_of (invalid_sound kind node))
 
-pub length_from_one : (aligned : Bool) (least node at : ℕ) → EncodesOne (length_from aligned least node at).encodes
-length_from_one aligned least node =
+pub length_where_one : (aligned : Bool) (Yes No : ℕ → Type 0) (kind : FaultKind) (node at : ℕ)
+    → EncodesOne (length_where aligned Yes No kind node at).encodes
+length_where_one aligned Yes No kind node =
     in_turn_encodes_one (length_of aligned node) (λ n m. m)
-    (λ n. anywhere (cases (least ≤ n) (constant n) (n < least) (invalid BelowLeast node))) (length_one aligned node)
-    (λ n at. constant_if_encodes_one (least ≤ n) (n < least) n BelowLeast node)
+    (λ n. anywhere (cases (Yes n) (constant n) (No n) (invalid kind node))) (length_one aligned node)
+    (λ n at. constant_if_encodes_one (Yes n) (No n) n kind node)
     (λ x y u v at m n i j k l p q r s e.
-    (sym (only_constant _ _ x u BelowLeast node k r).1 ∙ e ∙ (only_constant _ _ y v BelowLeast node l s).1, e))
+    (sym (only_constant _ _ x u kind node k r).1 ∙ e ∙ (only_constant _ _ y v kind node l s).1, e))
+
+pub length_where_is : (aligned : Bool) (Yes No : ℕ → Type 0) (kind : FaultKind) (node at n : ℕ) (k : List Bool)
+    → (length_where aligned Yes No kind node at).encodes n k → Yes n
+length_where_is aligned Yes No kind node at n k p =
+    let g = only_constant _ _ p.value p.after kind node p.rest p.second in
+    subst Yes (sym (p.is ∙ g.1)) g.0
+
+-- the number of the items is one of the root
+pub count_is_not_added : (aligned : Bool) (least range node at d : ℕ) (k : List Bool)
+    → (constrained aligned range node at).encodes d k → IsAddedSize (Between least range) (least + d) → ⊥
+count_is_not_added aligned least range node at d k p (inl q) = omega (arith, q)
+count_is_not_added aligned least range node at d k p (inr q) =
+    let few = constrained_within aligned range node at d k p in omega (arith, few, q)
 
 -- ---- an INTEGER that is none of the root
 

@@ -1,5 +1,5 @@
 -- Laws of strings and bits as types have them.
-use Rattle.std.proofs.Common.{◌≡◌, ℕ, suc, ◌+◌, ◌*◌, inl, inr, Bool, List, [], ◌∷◌, ◌++◌, length, append-nil, sym, ◌∙◌, ap, arith}
+use Rattle.std.proofs.Common.{◌≡◌, ℕ, suc, ◌+◌, ◌*◌, ◌<◌, ◌≤◌, subst, inl, inr, Bool, List, [], ◌∷◌, ◌++◌, length, append-nil, sym, ◌∙◌, ap, arith}
 use Rattle.asn1_schema.specs.declared.tables.Length.{Length}
 use Rattle.asn1_schema.specs.declared.tables.Length.TheVariants.{AtLeast, Between}
 use Rattle.asn1_schema.specs.Encodings.{EncodesOne, constant, anywhere}
@@ -9,12 +9,14 @@ use Rattle.asn1_schema.specs.Laws.PositionLaws.{IsSoundEverywhere}
 use Rattle.asn1_schema.specs.Laws.ByStructure.{then_of, cases_of, constant_of, in_turn_of, in_case_of}
 use Rattle.asn1_schema.specs.Laws.FieldLaws.{raw_bits_sound, raw_bits_encode_one}
 use Rattle.asn1_schema.specs.Laws.OneEncodingLaws.{then_encodes_one, in_turn_encodes_one, in_case_encodes_one, only_constant, constant_if_encodes_one}
-use Rattle.asn1_x691.specs.declared.fault.FaultKind.TheVariants.{Short, BelowLeast}
+use Rattle.asn1_x691.specs.declared.fault.FaultKind.{FaultKind}
+use Rattle.asn1_x691.specs.declared.fault.FaultKind.TheVariants.{Short, BelowLeast, InRoot}
 use Rattle.asn1_x691.specs.Fields.{on_octet, constrained}
 use Rattle.asn1_x691.specs.Fragments.{most_fragments, string}
-use Rattle.asn1_x691.specs.Strings.{first_of, bit, IsInline, IsOnOctet, units_of, sized_string, at_least, long_string, string_of}
+use Rattle.asn1_x691.specs.Strings.{first_of, bit, IsInline, IsOnOctet, units_of, sized_string, where_size, string_where, string_of, IsOfRoot, IsAddedSize, AreAdded, added_string}
 use Rattle.asn1_x691.specs.Laws.FieldLaws.{on_octet_sound, constrained_sound}
 use Rattle.asn1_x691.specs.Laws.OneEncodingLaws.{on_octet_one, inner, constrained_one}
+use Rattle.asn1_x691.specs.Laws.RangeLaws.{constrained_within}
 use Rattle.asn1_x691.specs.Laws.FragmentLaws.{string_sound, string_one, all_held}
 
 -- ---- one bit
@@ -70,6 +72,11 @@ units_size aligned unit least range node n at x k (inr p) =
     let q = inner aligned node at (raw_bits (unit * n) Short node) x k p.1 in
     ap length q.1.1 ∙ q.1.0
 
+pub sizes_apart : (size : Length) (n : ℕ) → IsAddedSize size n → IsOfRoot size n → ⊥
+sizes_apart (AtLeast least) n p q = omega (arith, p, q)
+sizes_apart (Between least range) n (inl p) q = omega (arith, p, q.0)
+sizes_apart (Between least range) n (inr p) q = omega (arith, p, q.1)
+
 -- ---- strings, where units have bits: so many bits are those of one number of units
 
 module _ (aligned : Bool) (unit node : ℕ) (apart : (m n : ℕ) → unit * m ≡ unit * n → m ≡ n) where
@@ -92,32 +99,70 @@ module _ (aligned : Bool) (unit node : ℕ) (apart : (m n : ℕ) → unit * m �
         e,
       ))
 
-  pub long_string_sound : (least : ℕ) → IsSoundEverywhere (long_string aligned unit least node)
-  long_string_sound least =
-      in_turn_of (string_sound aligned unit node)
-      (λ v at. cases_of (λ a b. omega (arith, a, b)) constant_of (invalid_sound BelowLeast node))
+  pub string_where_sound : (Yes No : ℕ → Type 0) (kind : FaultKind) → ((n : ℕ) → Yes n → No n → ⊥)
+      → IsSoundEverywhere (string_where aligned unit Yes No kind node)
+  string_where_sound Yes No kind not_both =
+      in_turn_of (string_sound aligned unit node) (λ v at. cases_of (not_both v.0) constant_of (invalid_sound kind node))
 
   same_units : (x y : ℕ × List Bool) → length x.1 ≡ unit * x.0 → length y.1 ≡ unit * y.0 → x.1 ≡ y.1 → x ≡ y
   same_units x y p q e =
       let count : x.0 ≡ y.0 = apart x.0 y.0 (sym p ∙ ap length e ∙ q) in
       ap (λ (c : ℕ). (c, x.1)) count ∙ ap (λ (b : List Bool). (y.0, b)) e
 
-  pub long_string_one : (least at : ℕ) → EncodesOne (long_string aligned unit least node at).encodes
-  long_string_one least =
-      in_turn_encodes_one (string aligned unit node) (λ v bits. bits) (λ v. at_least least node v) (string_one aligned unit node)
-      (λ v at. constant_if_encodes_one _ _ v.1 BelowLeast node)
+  pub string_where_one : (Yes No : ℕ → Type 0) (kind : FaultKind) (at : ℕ)
+      → EncodesOne (string_where aligned unit Yes No kind node at).encodes
+  string_where_one Yes No kind =
+      in_turn_encodes_one (string aligned unit node) (λ v bits. bits) (λ v. where_size Yes No kind node v)
+      (string_one aligned unit node) (λ v at. constant_if_encodes_one _ _ v.1 kind node)
       (λ x y u v at m n i j k l p q r s e.
-      let a = (only_constant _ _ x.1 u BelowLeast node k r).1 in
-      let b = (only_constant _ _ y.1 v BelowLeast node l s).1 in (
+      let a = (only_constant _ _ x.1 u kind node k r).1 in
+      let b = (only_constant _ _ y.1 v kind node l s).1 in (
         same_units x y (all_held aligned unit node most_fragments at x i p).size (all_held aligned unit node most_fragments at y j q).size
             (sym a ∙ e ∙ b),
         e,
       ))
 
   pub string_of_sound : (length : Length) → IsSoundEverywhere (string_of aligned unit length node)
-  string_of_sound (AtLeast least) = long_string_sound least
+  string_of_sound (AtLeast least) = string_where_sound (λ n. least ≤ n) (λ n. n < least) BelowLeast (λ n a b. omega (arith, a, b))
   string_of_sound (Between least range) = sized_string_sound least range
 
   pub string_of_one : (length : Length) (at : ℕ) → EncodesOne (string_of aligned unit length node at).encodes
-  string_of_one (AtLeast least) = long_string_one least
+  string_of_one (AtLeast least) = string_where_one (λ n. least ≤ n) (λ n. n < least) BelowLeast
   string_of_one (Between least range) = sized_string_one least range
+
+  -- ---- sizes with an extension marker
+
+  -- a string has as many units as its size permits
+  string_size : (Yes No : ℕ → Type 0) (kind : FaultKind) (at : ℕ) (x k : List Bool)
+      → (string_where aligned unit Yes No kind node at).encodes x k → (n : ℕ) × (length x ≡ unit * n) × Yes n
+  string_size Yes No kind at x k p =
+      let g = only_constant _ _ p.value.1 p.after kind node p.rest p.second in
+      let held = all_held aligned unit node most_fragments at p.value p.front p.first in
+      (p.value.0, ap length (p.is ∙ g.1) ∙ held.size, g.0)
+
+  string_of_size : (size : Length) (at : ℕ) (x k : List Bool) → (string_of aligned unit size node at).encodes x k
+      → (n : ℕ) × (length x ≡ unit * n) × IsOfRoot size n
+  string_of_size (AtLeast least) at x k p = string_size (λ n. least ≤ n) (λ n. n < least) BelowLeast at x k p
+  string_of_size (Between least range) at x k p =
+      let few = constrained_within aligned range node at p.value p.front p.first in (
+        least + p.value,
+        ap length p.is ∙ units_size aligned unit least range node (least + p.value) (at + length p.front) p.after p.rest p.second,
+        (omega arith, omega (arith, few)),
+      )
+
+  pub string_is_not_added : (size : Length) (at : ℕ) (x k : List Bool) → (string_of aligned unit size node at).encodes x k
+      → AreAdded unit size x → ⊥
+  string_is_not_added size at x k p q =
+      let r = string_of_size size at x k p in
+      let e : q.0 ≡ r.0 = apart q.0 r.0 (sym q.1 ∙ r.1) in
+      sizes_apart size r.0 (subst (λ (n : ℕ). IsAddedSize size n) e q.2) r.2
+
+  pub added_string_sound : (size : Length) → IsSoundEverywhere (added_string aligned unit size node)
+  added_string_sound size = string_where_sound (IsAddedSize size) (IsOfRoot size) InRoot (sizes_apart size)
+
+  pub added_string_one : (size : Length) (at : ℕ) → EncodesOne (added_string aligned unit size node at).encodes
+  added_string_one size = string_where_one (IsAddedSize size) (IsOfRoot size) InRoot
+
+  pub added_string_is_added : (size : Length) (at : ℕ) (x k : List Bool) → (added_string aligned unit size node at).encodes x k
+      → AreAdded unit size x
+  added_string_is_added size at x k p = string_size (IsAddedSize size) (IsOfRoot size) InRoot at x k p

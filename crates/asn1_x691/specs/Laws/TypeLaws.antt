@@ -1,5 +1,5 @@
 -- Laws of types: at every node of every schema, at every position, in both variants.
-use Rattle.std.proofs.Common.{◌≡◌, ℕ, ℤ, zero, suc, ◌+◌, ◌-◌, nat_lt, Bool, true, false, List, length, refl, sym, ◌∙◌, arith, Option, Some, None}
+use Rattle.std.proofs.Common.{◌≡◌, ℕ, ℤ, zero, suc, ◌+◌, ◌-◌, ◌*◌, ◌<◌, ◌≤◌, nat_lt, Bool, true, false, List, length, refl, sym, ◌∙◌, arith, Option, Some, None}
 use Rattle.std.specs.Prelude.{slice_get}
 use Rattle.std.specs.Int.Signed.{clash_ℤ, ◌<ℤ◌, ◌≤ℤ◌}
 use Rattle.asn1_schema.specs.declared.tables.Length.{Length}
@@ -10,57 +10,31 @@ use Rattle.asn1_schema.specs.declared.tables.Node.{Node}
 use Rattle.asn1_schema.specs.declared.tables.Node.TheVariants as type
 use Rattle.asn1_schema.specs.declared.misfit.MisfitKind.TheVariants as misfit
 use Rattle.asn1_schema.specs.Pieces.{Piece, Absent, Null, Truth, Integer, Enumerated, Bits, Octets, Sequence, Count, Chosen, Parts, Additions, Unknown}
-use Rattle.asn1_schema.specs.Encodings.{Encoding, EncodesOne, anywhere}
+use Rattle.asn1_schema.specs.Encodings.{anywhere}
 use Rattle.asn1_schema.specs.Fields.{raw_bits}
-use Rattle.asn1_schema.specs.TypeEncodings.{TypeEncoding, AfterHeader, nothing, several, leaf, part, header, both, either_by_bit, put}
+use Rattle.asn1_schema.specs.TypeEncodings.{TypeEncoding, AfterHeader, nothing, several, leaf, header, both, either_by_bit, put}
 use Rattle.asn1_schema.specs.Laws.EncodingLaws.{invalid_sound}
-use Rattle.asn1_schema.specs.Laws.PositionLaws.{IsSoundEverywhere}
 use Rattle.asn1_schema.specs.Laws.FieldLaws.{raw_bits_sound, raw_bits_encode_one, raw_bits_size}
-use Rattle.asn1_schema.specs.Laws.WritingLaws.{IsPresent, ArePresent}
-use Rattle.asn1_schema.specs.Laws.TypeLaws.{IsGoodEverywhere, nothing_good, invalid_type_good, several_good, part_good, part_present, leaf_good, put_good, put_present, both_good}
+use Rattle.asn1_schema.specs.Laws.WritingLaws.{IsPresent}
+use Rattle.asn1_schema.specs.Laws.TypeLaws.{IsGoodEverywhere, nothing_good, invalid_type_good, several_good, part_good, put_good, put_present, both_good}
 use Rattle.asn1_schema.specs.Laws.HeaderLaws.{IsGoodAfterEverywhere, header_good, only_where_good, either_by_bit_good, BeginsWith}
 use Rattle.asn1_schema.specs.Laws.ComponentLaws.{end_of_components_good, mandatory_good, optional_good}
 use Rattle.asn1_x691.specs.declared.fault.FaultKind.{FaultKind}
-use Rattle.asn1_x691.specs.declared.fault.FaultKind.TheVariants.{Short, NoNode, TooDeep, NoAddition}
+use Rattle.asn1_x691.specs.declared.fault.FaultKind.TheVariants.{Short, BelowLeast, NoNode, TooDeep, NoAddition, InRoot}
 use Rattle.asn1_x691.specs.Fields.{constrained, semi_constrained, unconstrained, small_length, small_number}
-use Rattle.asn1_x691.specs.Strings.{bit, string_of}
+use Rattle.asn1_x691.specs.Strings.{bit, string_of, added_string, IsOfRoot, IsAddedSize, AreAdded}
 use Rattle.asn1_x691.specs.OpenTypes.{complete, open_type}
-use Rattle.asn1_x691.specs.Types.{no_node, from_least, optional_count, count_from, length_from, component_by, no_component, component, components, sequence, sequence_of, alternative, alternative_if, choice, type_of, type_at, any_true, root_of, known_addition, addition, additions_by_bits, some_additions, extension, IsExtended, extensible_sequence, sequence_by, value_of_addition, IsAddedValue, alternative_of_addition, IsAddedAlternative, added, choice_extension, choice_by, enumerated, enumerated_by, integer_between, integer_at_least, extensible_integer, integer_between_by, integer_at_least_by, added_integer, IsAddedInteger, IsOutside, IsBetween}
+use Rattle.asn1_x691.specs.Types.{from_least, optional_count, count_from, length_where, IsAddedCount, AreAddedBits, AreAddedOctets, added_items, sequence_of_by, string_by, component_by, no_component, component, components, sequence, sequence_of, alternative, alternative_if, choice, type_of, type_at, any_true, root_of, known_addition, addition, additions_by_bits, some_additions, extension, IsExtended, extensible_sequence, sequence_by, value_of_addition, IsAddedValue, alternative_of_addition, IsAddedAlternative, added, choice_extension, choice_by, enumerated, enumerated_by, integer_between, integer_at_least, extensible_integer, integer_between_by, integer_at_least_by, added_integer, IsAddedInteger, IsOutside, IsBetween}
 use Rattle.asn1_x691.specs.Laws.FieldLaws.{constrained_sound, semi_constrained_sound, unconstrained_sound, small_length_sound, small_number_sound}
 use Rattle.asn1_x691.specs.Laws.OneEncodingLaws.{constrained_one, small_length_one, inner}
 use Rattle.asn1_x691.specs.Laws.NumberLaws.{semi_constrained_one, unconstrained_one, small_number_one}
-use Rattle.asn1_x691.specs.Laws.StringLaws.{bit_sound, bit_one, string_of_sound, string_of_one, bit_size}
+use Rattle.asn1_x691.specs.Laws.StringLaws.{sizes_apart, string_is_not_added, added_string_sound, added_string_one, added_string_is_added, bit_sound, bit_one, string_of_sound, string_of_one, bit_size}
 use Rattle.asn1_x691.specs.Fragments.{octets}
 use Rattle.asn1_x691.specs.Laws.FragmentLaws.{octets_sound, octets_one}
 use Rattle.asn1_x691.specs.Laws.OpenTypeLaws.{open_type_good}
-use Rattle.asn1_x691.specs.Laws.PieceLaws.{added_integer_sound, added_integer_one, added_integer_is, from_least_between, from_least_at_least, outside_apart, truth_alike, integer_alike, from_least_alike, enumerated_alike, bits_alike, octets_alike, count_alike, count_from_alike, chosen_alike, unknown_alike, additions_alike, added_value_alike, added_alternative_alike, added_value_present, added_alternative_present, is_added_value, is_added_alternative, constrained_within, one_apart, eight_apart, length_from_sound, length_from_one}
-
--- a type that is good at every position, and whose first part never says that a component is absent
-pub record IsType (A : ℕ → TypeEncoding FaultKind) : Type 1 where
-  pub good : IsGoodEverywhere A
-  pub present : (at : ℕ) → ArePresent (A at)
-
-no_node_type : (node : ℕ) → IsType (no_node node)
-no_node_type node = record {
-  good = invalid_type_good NoNode misfit.NoNode node;
-  present = λ at. record { each = λ xs l p. absurd p };
-}
-
-leaf_type : {X : Type 0} (A : ℕ → Encoding FaultKind X) (is : X → Piece) (node : ℕ) → IsSoundEverywhere A
-    → ((at : ℕ) → EncodesOne (A at).encodes) → ((x y : X) → is x ≡ is y → x ≡ y) → ((x : X) → is x ≡ Absent → ⊥)
-    → IsType (leaf A is node)
-leaf_type A is node a one alike not = record {
-  good = leaf_good A is node a one alike;
-  present = λ at. part_present A is (λ x. nothing) node a one alike (λ x. nothing_good) at not;
-}
-
-part_type : {X : Type 0} (A : ℕ → Encoding FaultKind X) (is : X → Piece) (B : X → ℕ → TypeEncoding FaultKind) (node : ℕ)
-    → IsSoundEverywhere A → ((at : ℕ) → EncodesOne (A at).encodes) → ((x y : X) → is x ≡ is y → x ≡ y)
-    → ((x : X) → is x ≡ Absent → ⊥) → ((x : X) → IsGoodEverywhere (B x)) → IsType (part A is B node)
-part_type A is B node a one alike not b = record {
-  good = λ at. part_good A is B node a one alike b at;
-  present = λ at. part_present A is B node a one alike b at not;
-}
+use Rattle.asn1_x691.specs.Laws.RangeLaws.{constrained_within}
+use Rattle.asn1_x691.specs.Laws.GoodTypes.{IsType, no_node_type, leaf_type, part_type, by_bit_type}
+use Rattle.asn1_x691.specs.Laws.PieceLaws.{added_integer_sound, added_integer_one, added_integer_is, from_least_between, from_least_at_least, outside_apart, truth_alike, integer_alike, from_least_alike, enumerated_alike, bits_alike, octets_alike, count_alike, count_from_alike, chosen_alike, unknown_alike, additions_alike, added_value_alike, added_alternative_alike, added_value_present, added_alternative_present, is_added_value, is_added_alternative, one_apart, eight_apart, length_where_sound, length_where_one, length_where_is, count_is_not_added}
 
 -- ---- open types
 
@@ -189,12 +163,86 @@ module _ (aligned : Bool) (E : ℕ → ℕ → TypeEncoding FaultKind) (e : (n :
 
   sequence_of_type : (length : Length) (item : ℕ) → IsType (sequence_of aligned E members node length item)
   sequence_of_type (AtLeast least) item =
-      part_type (length_from aligned least node) Count (λ n. several (E item) n) node (length_from_sound aligned least node)
-      (length_from_one aligned least node) count_alike (λ x p. cc) (λ n. several_good (E item) (e item).good n)
+      part_type (length_where aligned (λ n. least ≤ n) (λ n. n < least) BelowLeast node) Count (λ n. several (E item) n) node
+      (length_where_sound aligned (λ n. least ≤ n) (λ n. n < least) BelowLeast node (λ n p q. omega (arith, p, q)))
+      (length_where_one aligned (λ n. least ≤ n) (λ n. n < least) BelowLeast node) count_alike (λ x p. cc) (λ n. several_good (E item) (e item).good n)
   sequence_of_type (Between least range) item =
       part_type (constrained aligned range node) (count_from least) (λ d. several (E item) (least + d)) node
       (constrained_sound aligned range node) (constrained_one aligned range node) (count_from_alike least) (λ x p. cc)
       (λ d. several_good (E item) (e item).good (least + d))
+
+  added_items_type : (size : Length) (item : ℕ) → IsType (added_items aligned E members node size item)
+  added_items_type size item =
+      part_type (length_where aligned (IsAddedSize size) (IsOfRoot size) InRoot node) Count (λ n. several (E item) n) node
+      (length_where_sound aligned (IsAddedSize size) (IsOfRoot size) InRoot node (sizes_apart size))
+      (length_where_one aligned (IsAddedSize size) (IsOfRoot size) InRoot node) count_alike (λ x p. cc)
+      (λ n. several_good (E item) (e item).good n)
+
+  items_begin : (size : Length) (item at : ℕ)
+      → BeginsWith (λ p. ¬ (IsAddedCount size p)) (sequence_of aligned E members node size item at)
+  items_begin (AtLeast least) item at = record {
+    each = λ xs l p. (
+      Count p.value,
+      p.after,
+      p.is,
+      sizes_not least p.value (length_where_is aligned (λ n. least ≤ n) (λ n. n < least) BelowLeast node at p.value p.front p.first),
+    );
+  }
+    where
+      sizes_not : (least n : ℕ) → least ≤ n → n < least → ⊥
+      sizes_not least n p q = omega (arith, p, q)
+  items_begin (Between least range) item at = record {
+    each = λ xs l p.
+        (count_from least p.value, p.after, p.is, count_is_not_added aligned least range node at p.value p.front p.first);
+  }
+
+  sequence_of_by_type : (b : Bool) (size : Length) (item : ℕ) → IsType (sequence_of_by aligned E members node b size item)
+  sequence_of_by_type false size item = sequence_of_type size item
+  sequence_of_by_type true size item =
+      by_bit_type node (IsAddedCount size) (sequence_of aligned E members node size item) (added_items aligned E members node size item)
+      (sequence_of_type size item) (added_items_type size item) (λ at. items_begin size item at)
+      (λ at. record {
+        each = λ xs l p. (
+          Count p.value,
+          p.after,
+          p.is,
+          length_where_is aligned (IsAddedSize size) (IsOfRoot size) InRoot node at p.value p.front p.first,
+        );
+      })
+
+  string_type : (unit : ℕ) (is : List Bool → Piece) (size : Length) → ((m n : ℕ) → unit * m ≡ unit * n → m ≡ n)
+      → ((x y : List Bool) → is x ≡ is y → x ≡ y) → ((x : List Bool) → is x ≡ Absent → ⊥)
+      → IsType (leaf (string_of aligned unit size node) is node)
+  string_type unit is size apart alike not =
+      leaf_type (string_of aligned unit size node) is node (string_of_sound aligned unit node apart size)
+      (string_of_one aligned unit node apart size) alike not
+
+  string_by_type : (b : Bool) (unit : ℕ) (is : List Bool → Piece) (Added : Piece → Type 0) (size : Length)
+      → ((m n : ℕ) → unit * m ≡ unit * n → m ≡ n) → ((x y : List Bool) → is x ≡ is y → x ≡ y)
+      → ((x : List Bool) → is x ≡ Absent → ⊥) → ((x : List Bool) → Added (is x) → AreAdded unit size x)
+      → ((x : List Bool) → AreAdded unit size x → Added (is x)) → IsType (string_by aligned E members node b unit is Added size)
+  string_by_type false unit is Added size apart alike not to from = string_type unit is size apart alike not
+  string_by_type true unit is Added size apart alike not to from =
+      by_bit_type node Added (leaf (string_of aligned unit size node) is node) (leaf (added_string aligned unit size node) is node)
+      (string_type unit is size apart alike not)
+      (leaf_type (added_string aligned unit size node) is node (added_string_sound aligned unit node apart size)
+      (added_string_one aligned unit node apart size) alike not)
+      (λ at. record {
+        each = λ xs l p. (
+          is p.value,
+          p.after,
+          p.is,
+          λ q. string_is_not_added aligned unit node apart size at p.value p.front p.first (to p.value q),
+        );
+      })
+      (λ at. record {
+        each = λ xs l p. (
+          is p.value,
+          p.after,
+          p.is,
+          from p.value (added_string_is_added aligned unit node apart size at p.value p.front p.first),
+        );
+      })
 
   alternative_good : (m : Option Member) → IsGoodEverywhere (alternative aligned E members node m)
   alternative_good None = (no_node_type node).good
@@ -223,28 +271,10 @@ module _ (aligned : Bool) (E : ℕ → ℕ → TypeEncoding FaultKind) (e : (n :
       (λ x. added_alternative_present (rows.count - 1) (nat_lt x known.count) x)
       (λ i. added_good known (nat_lt i known.count) i)
 
-  -- a bit, and a type after it
-  by_bit_type : (P : Piece → Type 0) (A B : ℕ → TypeEncoding FaultKind) → IsType A → IsType B
-      → ((at : ℕ) → BeginsWith (λ p. ¬ (P p)) (A at)) → ((at : ℕ) → BeginsWith P (B at))
-      → IsType (header (bit node) 1 (either_by_bit P node A B) node)
-  by_bit_type P A B a b root extension = record {
-    good = λ at. header_good (bit node) 1 (either_by_bit P node A B) node (bit_sound node) (bit_one node) (bit_size node)
-        (λ n. either_by_bit_good P node A B n (a.good n) (b.good n) (root n) (extension n)) at;
-    present = λ at. record { each = λ xs l p. begun (at + length p.front) p.value xs p.after p.rest p.is p.second };
-  }
-    where
-      moved_to : (xs ys : Parts) → xs ≡ ys → IsPresent ys → IsPresent xs
-      moved_to xs ys s q = record { first = q.first; others = q.others; are = s ∙ q.are; present = q.present }
-
-      begun : (to : ℕ) (c : Bool) (xs ys : Parts) (l : List Bool) → xs ≡ ys → ((either_by_bit P node A B to).after c).encodes ys l
-          → IsPresent xs
-      begun to false xs ys l s p = moved_to xs ys s ((a.present to).each ys l p)
-      begun to true xs ys l s p = moved_to xs ys s ((b.present to).each ys l p)
-
   choice_by_type : (b : Bool) (rows known : Rows) → IsType (choice_by aligned E members node b rows known)
   choice_by_type false rows known = choice_type rows
   choice_by_type true rows known =
-      by_bit_type (IsAddedAlternative (rows.count - 1)) (choice aligned E members node rows)
+      by_bit_type node (IsAddedAlternative (rows.count - 1)) (choice aligned E members node rows)
       (choice_extension aligned E members node rows known) (choice_type rows) (choice_extension_type rows known)
       (λ at. record {
         each = λ xs l p. (
@@ -277,7 +307,7 @@ module _ (aligned : Bool) (E : ℕ → ℕ → TypeEncoding FaultKind) (e : (n :
       → IsType A → ((at : ℕ) → BeginsWith (λ p. ¬ (IsAddedInteger Added p)) (A at))
       → IsType (extensible_integer aligned E members node Root Added A)
   extensible_integer_type Root Added A apart a root =
-      by_bit_type (IsAddedInteger Added) A (leaf (added_integer aligned node Root Added) Integer node) a
+      by_bit_type node (IsAddedInteger Added) A (leaf (added_integer aligned node Root Added) Integer node) a
       (leaf_type (added_integer aligned node Root Added) Integer node (added_integer_sound aligned node Root Added apart)
       (added_integer_one aligned node Root Added) integer_alike (λ x p. cc)) root
       (λ at. record {
@@ -314,7 +344,7 @@ module _ (aligned : Bool) (E : ℕ → ℕ → TypeEncoding FaultKind) (e : (n :
   enumerated_by_type : (b : Bool) (last known : ℕ) → IsType (enumerated_by aligned E members node b last known)
   enumerated_by_type false last known = enumerated_type last
   enumerated_by_type true last known =
-      by_bit_type (IsAddedValue last) (enumerated aligned E members node last)
+      by_bit_type node (IsAddedValue last) (enumerated aligned E members node last)
       (leaf (small_number aligned node) (value_of_addition last known) node) (enumerated_type last)
       (leaf_type (small_number aligned node) (value_of_addition last known) node (small_number_sound aligned node)
       (small_number_one aligned node) (λ x y. added_value_alike last (nat_lt x known) (nat_lt y known) x y)
@@ -346,14 +376,12 @@ module _ (aligned : Bool) (E : ℕ → ℕ → TypeEncoding FaultKind) (e : (n :
       leaf_type (unconstrained aligned node) Integer node (unconstrained_sound aligned node) (unconstrained_one aligned node)
       integer_alike (λ x p. cc)
   type_of_type (Some (type.Enumerated last is_extensible known)) = enumerated_by_type is_extensible last known
-  type_of_type (Some (type.BitString length)) =
-      leaf_type (string_of aligned 1 length node) Bits node (string_of_sound aligned 1 node one_apart length)
-      (string_of_one aligned 1 node one_apart length) bits_alike (λ x p. cc)
-  type_of_type (Some (type.OctetString length)) =
-      leaf_type (string_of aligned 8 length node) Octets node (string_of_sound aligned 8 node eight_apart length)
-      (string_of_one aligned 8 node eight_apart length) octets_alike (λ x p. cc)
+  type_of_type (Some (type.BitString size is_extensible)) =
+      string_by_type is_extensible 1 Bits (AreAddedBits size) size one_apart bits_alike (λ x p. cc) (λ x p. p) (λ x p. p)
+  type_of_type (Some (type.OctetString size is_extensible)) =
+      string_by_type is_extensible 8 Octets (AreAddedOctets size) size eight_apart octets_alike (λ x p. cc) (λ x p. p) (λ x p. p)
   type_of_type (Some (type.Sequence root is_extensible known)) = sequence_by_type is_extensible root known
-  type_of_type (Some (type.SequenceOf length item)) = sequence_of_type length item
+  type_of_type (Some (type.SequenceOf size is_extensible item)) = sequence_of_by_type is_extensible size item
   type_of_type (Some (type.Choice alternatives is_extensible known)) = choice_by_type is_extensible alternatives known
   type_of_type (Some (type.Open inner)) = open_type_type aligned node (E inner) (e inner)
 
