@@ -74,7 +74,7 @@ pub enum Node {
         /// Whether the size has an extension marker.
         is_extensible: bool,
     },
-    /// SEQUENCE.
+    /// SEQUENCE; or SET, whose root has the canonical order of the tags (X.691 21).
     Sequence {
         /// The components of its root, in the table of members.
         root: Rows,
