@@ -208,6 +208,10 @@ in_turn A f B at = record {
 abbrev pub in_case : {K X : Type 0} → Type 0 → (ℕ → Encoding K X) → Type 0 → (ℕ → Encoding K X) → ℕ → Encoding K X
 in_case C A D B at = cases C (A at) D (B at)
 
+-- a value that `Yes` permits and `No` forbids; where it is forbidden, the fault is after its bits
+abbrev pub permitted : {K X : Type 0} → (X → Type 0) → (X → Type 0) → K → ℕ → (ℕ → Encoding K X) → ℕ → Encoding K X
+permitted Yes No kind node A = in_turn A (λ x y. y) (λ x. anywhere (cases (Yes x) (constant x) (No x) (invalid kind node)))
+
 -- ---- what a reader is promised of an encoding
 
 -- a list begins with an encoding of one value at most, which ends at one place; so no encoding begins another

@@ -8,5 +8,6 @@ pub mod HeaderLaws
 pub mod ComponentLaws
 pub mod ByStructure
 pub mod OneEncodingLaws
+pub mod PermittedLaws
 pub mod FieldLaws
 pub mod ExampleLaws

@@ -11,6 +11,10 @@ pub enum MisfitKind {
     NoEncoding,
     /// No addition is present, although the first part of the SEQUENCE says that additions follow.
     NoAddition,
+    /// A component has its default value, and so must be absent.
+    DefaultValue,
+    /// An item of a SET OF is before the one that precedes it.
+    NotAscending,
     /// The tables have no such node or member.
     NoNode,
     /// The value is nested deeper than the caller allows.

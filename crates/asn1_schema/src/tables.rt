@@ -66,6 +66,8 @@ pub enum Node {
         length: Length,
         /// Whether the size has an extension marker.
         is_extensible: bool,
+        /// Whether its bits have names, so that zeros after the last 1 have no meaning.
+        has_names: bool,
     },
     /// OCTET STRING, in octets.
     OctetString {
@@ -74,6 +76,12 @@ pub enum Node {
         /// Whether the size has an extension marker.
         is_extensible: bool,
     },
+    /// OBJECT IDENTIFIER.
+    ObjectIdentifier,
+    /// RELATIVE-OID.
+    RelativeIdentifier,
+    /// UTF8String.
+    Utf8String,
     /// SEQUENCE; or SET, whose root has the canonical order of the tags (X.691 21).
     Sequence {
         /// The components of its root, in the table of members.
@@ -86,6 +94,15 @@ pub enum Node {
     },
     /// SEQUENCE OF.
     SequenceOf {
+        /// How many items it may have.
+        length: Length,
+        /// Whether the size has an extension marker.
+        is_extensible: bool,
+        /// The type of the items.
+        item: usize,
+    },
+    /// SET OF.
+    SetOf {
         /// How many items it may have.
         length: Length,
         /// Whether the size has an extension marker.
@@ -110,13 +127,27 @@ pub enum Node {
     },
 }
 
+/// Whether a component may be absent.
+#[derive(Clone, Copy, Debug)]
+pub enum Presence {
+    /// It must be present. An alternative of a CHOICE is so too.
+    Mandatory,
+    /// OPTIONAL.
+    Optional,
+    /// DEFAULT: where it is absent, it has this value, and otherwise another one.
+    Default {
+        /// The index of the value among the defaults, of which each encoding rule has its encodings.
+        value: usize,
+    },
+}
+
 /// A component of a SEQUENCE, or an alternative of a CHOICE.
 #[derive(Clone, Copy, Debug)]
 pub struct Member {
     /// Its type.
     pub node: usize,
     /// Whether it may be absent.
-    pub is_optional: bool,
+    pub presence: Presence,
 }
 
 /// The tables of a schema.

@@ -1,6 +1,7 @@
 -- Examples: an open type that holds an INTEGER (0..255), and a SEQUENCE by its tables.
 use Rattle.std.specs.Prelude.{ℕ, pos, Bool, true, false, List, [], ◌∷◌}
 use Rattle.asn1_schema.specs.declared.tables.Member.{Member}
+use Rattle.asn1_schema.specs.declared.tables.Presence.TheVariants.{Mandatory, Optional}
 use Rattle.asn1_schema.specs.declared.tables.Node.{Node}
 use Rattle.asn1_schema.specs.declared.tables.Node.TheVariants as type
 use Rattle.asn1_schema.specs.Pieces.{Piece, Parts, Absent, Sequence, Truth, Integer}
@@ -30,7 +31,10 @@ example_nodes =
     type.Sequence (record { from = 0; count = 2 }) false (record { from = 0; count = 0 }) ∷ type.IntegerBetween (pos 0) 7 false ∷ type.Boolean ∷ []
 
 abbrev pub example_members : List Member
-example_members = record { node = 1; is_optional = true } ∷ record { node = 2; is_optional = false } ∷ []
+example_members = record { node = 1; presence = Optional } ∷ record { node = 2; presence = Mandatory } ∷ []
+
+abbrev pub no_defaults : ℕ → List Bool
+no_defaults value = []
 
 -- without `a`, and `b` is true: a presence bit 0, and a bit 1
 abbrev pub example_parts : Parts

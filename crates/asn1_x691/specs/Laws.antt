@@ -8,5 +8,7 @@ pub mod StringLaws
 pub mod OpenTypeLaws
 pub mod PieceLaws
 pub mod GoodTypes
+pub mod LeafLaws
+pub mod ItemLaws
 pub mod TypeLaws
 pub mod ExampleLaws

@@ -22,6 +22,14 @@ pub enum FaultKind {
     NoAddition,
     /// The extension bit of an INTEGER or of a size is 1, and the value or the length is in the root.
     InRoot,
+    /// A component is present with its default value.
+    DefaultValue,
+    /// An item of a SET OF is before the one that precedes it.
+    NotAscending,
+    /// Bits with names end in a zero that their size does not ask for.
+    NotTrimmed,
+    /// Octets are no contents of an identifier, or no UTF-8.
+    Contents,
     /// The tables have no such node or member.
     NoNode,
     /// A value is nested deeper than the caller allows.

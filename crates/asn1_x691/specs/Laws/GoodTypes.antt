@@ -3,7 +3,7 @@ use Rattle.std.proofs.Common.{◌≡◌, ℕ, ◌+◌, Bool, true, false, List, 
 use Rattle.asn1_schema.specs.declared.misfit.MisfitKind.TheVariants as misfit
 use Rattle.asn1_schema.specs.Pieces.{Piece, Absent, Parts}
 use Rattle.asn1_schema.specs.Encodings.{Encoding, EncodesOne}
-use Rattle.asn1_schema.specs.TypeEncodings.{TypeEncoding, nothing, leaf, part, header, either_by_bit}
+use Rattle.asn1_schema.specs.TypeEncodings.{TypeEncoding, nothing, leaf, part, either_by_bit}
 use Rattle.asn1_schema.specs.Laws.PositionLaws.{IsSoundEverywhere}
 use Rattle.asn1_schema.specs.Laws.WritingLaws.{IsPresent, ArePresent}
 use Rattle.asn1_schema.specs.Laws.TypeLaws.{IsGoodEverywhere, nothing_good, invalid_type_good, part_good, part_present, leaf_good}
@@ -11,7 +11,8 @@ use Rattle.asn1_schema.specs.Laws.HeaderLaws.{header_good, either_by_bit_good, B
 use Rattle.asn1_x691.specs.declared.fault.FaultKind.{FaultKind}
 use Rattle.asn1_x691.specs.declared.fault.FaultKind.TheVariants.{NoNode}
 use Rattle.asn1_x691.specs.Strings.{bit}
-use Rattle.asn1_x691.specs.Types.{no_node, extension}
+use Rattle.asn1_x691.specs.Types.{no_node}
+use Rattle.asn1_x691.specs.Leaves.{by_extension_bit}
 use Rattle.asn1_x691.specs.Laws.StringLaws.{bit_sound, bit_one, bit_size}
 
 -- a type that is good at every position, and whose first part never says that a component is absent
@@ -41,10 +42,10 @@ part_type A is B node a one alike not b = record {
   present = λ at. part_present A is B node a one alike b at not;
 }
 
--- a bit, and a type after it
+-- an extension bit, and a type after it
 pub by_bit_type : (node : ℕ) (P : Piece → Type 0) (A B : ℕ → TypeEncoding FaultKind) → IsType A → IsType B
     → ((at : ℕ) → BeginsWith (λ p. ¬ (P p)) (A at)) → ((at : ℕ) → BeginsWith P (B at))
-    → IsType (header (bit node) 1 (either_by_bit P node A B) node)
+    → IsType (by_extension_bit node P A B)
 by_bit_type node P A B a b root extension = record {
   good = λ at. header_good (bit node) 1 (either_by_bit P node A B) node (bit_sound node) (bit_one node) (bit_size node)
       (λ n. either_by_bit_good P node A B n (a.good n) (b.good n) (root n) (extension n)) at;

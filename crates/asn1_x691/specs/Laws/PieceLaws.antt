@@ -1,23 +1,14 @@
 -- Laws of pieces and of the numbers before them: a piece tells its number, which is in its range.
-use Rattle.std.proofs.Common.{◌≡◌, ℕ, ℤ, pos, ◌+ℤ◌, ◌+◌, ◌*◌, ◌≤◌, Bool, true, false, List, sym, ◌∙◌, arith, inl, inr, subst}
+use Rattle.std.proofs.Common.{◌≡◌, ℕ, ℤ, pos, ◌+ℤ◌, ◌+◌, ◌*◌, ◌≤◌, Bool, true, false, List, arith, inl, inr}
 use Rattle.std.proofs.lemmas.Int.{ints}
 use Rattle.std.specs.Int.Signed.{clash_ℤ, ◌<ℤ◌}
 use Rattle.asn1_schema.specs.Pieces.{Absent, Truth, Integer, Enumerated, Bits, Octets, Count, Chosen, Additions, Unknown}
-use Rattle.asn1_schema.specs.Encodings.{EncodesOne, constant, invalid, cases, anywhere}
-use Rattle.asn1_schema.specs.Laws.EncodingLaws.{invalid_sound}
-use Rattle.asn1_schema.specs.Laws.PositionLaws.{IsSoundEverywhere}
-use Rattle.asn1_schema.specs.Laws.ByStructure.{cases_of, constant_of, in_turn_of}
-use Rattle.asn1_schema.specs.Laws.OneEncodingLaws.{in_turn_encodes_one, only_constant, constant_if_encodes_one}
-use Rattle.asn1_x691.specs.declared.fault.FaultKind.{FaultKind}
 use Rattle.asn1_schema.specs.declared.tables.Length.TheVariants.{Between}
 use Rattle.asn1_x691.specs.Strings.{IsAddedSize}
 use Rattle.asn1_x691.specs.Laws.RangeLaws.{constrained_within}
-use Rattle.asn1_x691.specs.declared.fault.FaultKind.TheVariants.{InRoot}
-use Rattle.asn1_x691.specs.Fields.{constrained, length_of, unconstrained}
-use Rattle.asn1_x691.specs.Types.{from_least, count_from, length_where, added_value, IsAddedValue, added_alternative, IsAddedAlternative, IsOutside, IsBetween, added_integer}
-use Rattle.asn1_x691.specs.Laws.FieldLaws.{length_sound, unconstrained_sound}
-use Rattle.asn1_x691.specs.Laws.NumberLaws.{unconstrained_one}
-use Rattle.asn1_x691.specs.Laws.OneEncodingLaws.{length_one}
+use Rattle.asn1_x691.specs.Fields.{constrained}
+use Rattle.asn1_x691.specs.Leaves.{from_least, added_value, IsAddedValue, IsOutside, IsBetween}
+use Rattle.asn1_x691.specs.Types.{count_from, added_alternative, IsAddedAlternative}
 
 pub truth_alike : (x y : Bool) → Truth x ≡ Truth y → x ≡ y
 truth_alike x y e = cc
@@ -91,28 +82,6 @@ one_apart m n e = omega (arith, e)
 pub eight_apart : (m n : ℕ) → 8 * m ≡ 8 * n → m ≡ n
 eight_apart m n e = omega (arith, e)
 
--- ---- lengths
-
-pub length_where_sound : (aligned : Bool) (Yes No : ℕ → Type 0) (kind : FaultKind) (node : ℕ) → ((n : ℕ) → Yes n → No n → ⊥)
-    → IsSoundEverywhere (length_where aligned Yes No kind node)
-length_where_sound aligned Yes No kind node not_both =
-    in_turn_of (length_sound aligned node) (λ n at. cases_of (not_both n) constant_of (invalid_sound kind node))
-
-pub length_where_one : (aligned : Bool) (Yes No : ℕ → Type 0) (kind : FaultKind) (node at : ℕ)
-    → EncodesOne (length_where aligned Yes No kind node at).encodes
-length_where_one aligned Yes No kind node =
-    in_turn_encodes_one (length_of aligned node) (λ n m. m)
-    (λ n. anywhere (cases (Yes n) (constant n) (No n) (invalid kind node))) (length_one aligned node)
-    (λ n at. constant_if_encodes_one (Yes n) (No n) n kind node)
-    (λ x y u v at m n i j k l p q r s e.
-    (sym (only_constant _ _ x u kind node k r).1 ∙ e ∙ (only_constant _ _ y v kind node l s).1, e))
-
-pub length_where_is : (aligned : Bool) (Yes No : ℕ → Type 0) (kind : FaultKind) (node at n : ℕ) (k : List Bool)
-    → (length_where aligned Yes No kind node at).encodes n k → Yes n
-length_where_is aligned Yes No kind node at n k p =
-    let g = only_constant _ _ p.value p.after kind node p.rest p.second in
-    subst Yes (sym (p.is ∙ g.1)) g.0
-
 -- the number of the items is one of the root
 pub count_is_not_added : (aligned : Bool) (least range node at d : ℕ) (k : List Bool)
     → (constrained aligned range node at).encodes d k → IsAddedSize (Between least range) (least + d) → ⊥
@@ -121,26 +90,6 @@ count_is_not_added aligned least range node at d k p (inr q) =
     let few = constrained_within aligned range node at d k p in omega (arith, few, q)
 
 -- ---- an INTEGER that is none of the root
-
-pub added_integer_sound : (aligned : Bool) (node : ℕ) (Root Added : ℤ → Type 0) → ((n : ℤ) → Added n → Root n → ⊥)
-    → IsSoundEverywhere (added_integer aligned node Root Added)
-added_integer_sound aligned node Root Added apart =
-    in_turn_of (unconstrained_sound aligned node) (λ n at. cases_of (apart n) constant_of (invalid_sound InRoot node))
-
-pub added_integer_one : (aligned : Bool) (node : ℕ) (Root Added : ℤ → Type 0) (at : ℕ)
-    → EncodesOne (added_integer aligned node Root Added at).encodes
-added_integer_one aligned node Root Added =
-    in_turn_encodes_one (unconstrained aligned node) (λ n m. m)
-    (λ n. anywhere (cases (Added n) (constant n) (Root n) (invalid InRoot node))) (unconstrained_one aligned node)
-    (λ n at. constant_if_encodes_one (Added n) (Root n) n InRoot node)
-    (λ x y u v at m n i j k l p q r s e.
-    (sym (only_constant _ _ x u InRoot node k r).1 ∙ e ∙ (only_constant _ _ y v InRoot node l s).1, e))
-
-pub added_integer_is : (aligned : Bool) (node : ℕ) (Root Added : ℤ → Type 0) (at : ℕ) (n : ℤ) (k : List Bool)
-    → (added_integer aligned node Root Added at).encodes n k → Added n
-added_integer_is aligned node Root Added at n k p =
-    let g = only_constant _ _ p.value p.after InRoot node p.rest p.second in
-    subst Added (sym (p.is ∙ g.1)) g.0
 
 pub from_least_between : (least : ℤ) (range d : ℕ) → d ≤ range → IsOutside least range (least +ℤ pos d) → ⊥
 from_least_between least range d few (inl p) = omega (arith, ints, few, p)
