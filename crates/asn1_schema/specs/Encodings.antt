@@ -1,6 +1,6 @@
 -- Encodings: which bits are an encoding of which value, and which fault is the first where bits begin with no encoding.
 -- An encoding is built of smaller ones by the combinators of this file. They belong to no standard.
-use Rattle.std.specs.Prelude.{◌≡◌, ℕ, zero, suc, ◌+◌, ◌-◌, ◌^◌, ◌<◌, ◌≤◌, ◌⊎◌, Bool, List, [], ◌++◌, take, length}
+use Rattle.std.specs.Prelude.{◌∷◌, ◌≡◌, ℕ, zero, suc, ◌+◌, ◌-◌, ◌^◌, ◌<◌, ◌≤◌, ◌⊎◌, Bool, List, [], ◌++◌, take, length}
 use Rattle.asn1_bits.specs.Bits.{digits}
 
 -- a fault: at which node of the schema, with how many bits left, and of which kind
@@ -207,6 +207,18 @@ in_turn A f B at = record {
 -- as `cases`, at a position
 abbrev pub in_case : {K X : Type 0} → Type 0 → (ℕ → Encoding K X) → Type 0 → (ℕ → Encoding K X) → ℕ → Encoding K X
 in_case C A D B at = cases C (A at) D (B at)
+
+-- in no bits, the value of which P holds
+abbrev pub value_where : {K X : Type 0} → (X → Type 0) → K → ℕ → Encoding K X
+value_where P kind node = record {
+  encodes = λ x list. P x × (list ≡ []);
+  fault = λ list e. ((x : _) → P x → ⊥) × IsAt kind node list e;
+}
+
+-- so many values, one after another
+abbrev pub each : {K X : Type 0} → Encoding K X → ℕ → Encoding K (List X)
+each A zero = constant []
+each A (suc n) = then A (λ x xs. x ∷ xs) (λ x. each A n)
 
 -- a value that `Yes` permits and `No` forbids; where it is forbidden, the fault is after its bits
 abbrev pub permitted : {K X : Type 0} → (X → Type 0) → (X → Type 0) → K → ℕ → (ℕ → Encoding K X) → ℕ → Encoding K X

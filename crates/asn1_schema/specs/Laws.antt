@@ -9,5 +9,6 @@ pub mod ComponentLaws
 pub mod ByStructure
 pub mod OneEncodingLaws
 pub mod PermittedLaws
+pub mod EachLaws
 pub mod FieldLaws
 pub mod ExampleLaws

@@ -11,4 +11,4 @@ mod tables;
 
 pub use laws::laws_of_an_example;
 pub use misfit::MisfitKind;
-pub use tables::{Length, Member, Node, Presence, Rows, Tables};
+pub use tables::{Length, Member, Node, Presence, Range, Rows, Tables};

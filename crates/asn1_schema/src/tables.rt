@@ -82,6 +82,18 @@ pub enum Node {
     RelativeIdentifier,
     /// UTF8String.
     Utf8String,
+    /// A string of characters whose alphabet is known: NumericString, PrintableString, VisibleString,
+    /// IA5String, BMPString or UniversalString. UTCTime and GeneralizedTime are VisibleStrings.
+    Text {
+        /// How many characters it may have.
+        length: Length,
+        /// Whether the size has an extension marker.
+        is_extensible: bool,
+        /// The ranges of its alphabet, in ascending order.
+        alphabet: Rows,
+        /// The ranges of its type's alphabet, for sizes that are none of the root.
+        whole: Rows,
+    },
     /// SEQUENCE; or SET, whose root has the canonical order of the tags (X.691 21).
     Sequence {
         /// The components of its root, in the table of members.
@@ -127,6 +139,15 @@ pub enum Node {
     },
 }
 
+/// Characters one after another, by their numbers.
+#[derive(Clone, Copy, Debug, PartialEq, Eq)]
+pub struct Range {
+    /// The first.
+    pub first: u32,
+    /// The last.
+    pub last: u32,
+}
+
 /// Whether a component may be absent.
 #[derive(Clone, Copy, Debug)]
 pub enum Presence {
@@ -157,4 +178,6 @@ pub struct Tables<'s> {
     pub nodes: &'s [Node],
     /// Components and alternatives.
     pub members: &'s [Member],
+    /// Ranges of characters.
+    pub ranges: &'s [Range],
 }

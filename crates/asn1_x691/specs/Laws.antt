@@ -5,6 +5,8 @@ pub mod NumberLaws
 pub mod RangeLaws
 pub mod FragmentLaws
 pub mod StringLaws
+pub mod AlphabetLaws
+pub mod CharacterLaws
 pub mod OpenTypeLaws
 pub mod PieceLaws
 pub mod GoodTypes

@@ -1,14 +1,16 @@
 -- Types of one part in canonical PER (X.691), both variants.
 use Rattle.std.specs.Prelude.{ℕ, ℤ, pos, ◌+ℤ◌, ◌<ℤ◌, ◌≤ℤ◌, ◌+◌, ◌<◌, nat_lt, Bool, true, false, List, length, ◌≡◌, ◌⊎◌, [], ◌∷◌, ◌++◌, ⊤}
+use Rattle.asn1_schema.specs.declared.tables.Range.{Range}
 use Rattle.asn1_schema.specs.declared.tables.Length.{Length}
 use Rattle.asn1_schema.specs.declared.tables.Length.TheVariants.{AtLeast, Between}
-use Rattle.asn1_schema.specs.Pieces.{Piece, Integer, Enumerated, UnknownEnumerated, Bits, Octets}
+use Rattle.asn1_schema.specs.Pieces.{Piece, Integer, Enumerated, UnknownEnumerated, Bits, Octets, Text}
 use Rattle.asn1_schema.specs.Encodings.{Encoding, permitted}
 use Rattle.asn1_schema.specs.TypeEncodings.{TypeEncoding, leaf, header, either_by_bit}
 use Rattle.asn1_x691.specs.declared.fault.FaultKind.{FaultKind}
 use Rattle.asn1_x691.specs.declared.fault.FaultKind.TheVariants.{InRoot, NotTrimmed, Contents}
 use Rattle.asn1_x691.specs.Fields.{constrained, semi_constrained, unconstrained, small_number}
 use Rattle.asn1_x691.specs.Fragments.{octets}
+use Rattle.asn1_x691.specs.Characters.{text_of, added_text, IsAddedText}
 use Rattle.asn1_x691.specs.Strings.{bit, string_of, added_string, AreAdded}
 
 -- an extension bit: 0 and a value of the root, or 1 and a value whose first piece is `Added`
@@ -106,8 +108,8 @@ module _ (aligned : Bool) (node : ℕ) where
       (leaf (small_number aligned node) (value_of_addition last known) node)
 
   -- with an extension marker a bit 0 and a size of the root, or a bit 1 and any other size, as without bounds (16.6, 17.3)
-  abbrev pub string_by : Bool → (ℕ → Encoding FaultKind (List Bool)) → (ℕ → Encoding FaultKind (List Bool))
-      → (List Bool → Piece) → (Piece → Type 0) → ℕ → TypeEncoding FaultKind
+  abbrev pub string_by : {X : Type 0} → Bool → (ℕ → Encoding FaultKind X) → (ℕ → Encoding FaultKind X) → (X → Piece)
+      → (Piece → Type 0) → ℕ → TypeEncoding FaultKind
   string_by false root extension is Added = leaf root is node
   string_by true root extension is Added = by_extension_bit node Added (leaf root is node) (leaf extension is node)
 
@@ -125,6 +127,11 @@ module _ (aligned : Bool) (node : ℕ) where
   abbrev pub octet_string : Length → Bool → ℕ → TypeEncoding FaultKind
   octet_string size is_extensible =
       string_by is_extensible (string_of aligned 8 size node) (added_string aligned 8 size node) Octets (AreAddedOctets size)
+
+  -- the number of the characters where it is not fixed, and the characters (30.1 to 30.5)
+  abbrev pub text : Length → Bool → List Range → List Range → ℕ → TypeEncoding FaultKind
+  text size is_extensible ranges whole =
+      string_by is_extensible (text_of aligned ranges node size) (added_text aligned whole node size) Text (IsAddedText size)
 
   -- octets that are valid, after their number (24, 25, 30.6)
   abbrev pub contents : (List Bool → Type 0) → ℕ → TypeEncoding FaultKind

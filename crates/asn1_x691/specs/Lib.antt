@@ -3,6 +3,8 @@ pub mod Fields
 pub mod Fragments
 pub mod Strings
 pub mod OpenTypes
+pub mod Alphabets
+pub mod Characters
 pub mod Contents
 pub mod Leaves
 pub mod Types

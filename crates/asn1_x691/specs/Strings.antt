@@ -37,7 +37,7 @@ sized_string aligned unit least range node =
     in_turn (constrained aligned range node) (λ d bits. bits) (λ d. units_of aligned unit least range node (least + d))
 
 -- units after their number, of which there are as many as `Yes` permits and `No` forbids
-abbrev pub where_size : (ℕ → Type 0) → (ℕ → Type 0) → FaultKind → ℕ → ℕ × List Bool → ℕ → Encoding FaultKind (List Bool)
+abbrev pub where_size : {X : Type 0} → (ℕ → Type 0) → (ℕ → Type 0) → FaultKind → ℕ → ℕ × X → ℕ → Encoding FaultKind X
 where_size Yes No kind node v = anywhere (cases (Yes v.0) (constant v.1) (No v.0) (invalid kind node))
 
 abbrev pub string_where : Bool → ℕ → (ℕ → Type 0) → (ℕ → Type 0) → FaultKind → ℕ → ℕ → Encoding FaultKind (List Bool)

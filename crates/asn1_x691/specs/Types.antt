@@ -1,6 +1,6 @@
 -- Canonical PER (X.691), both variants: which bits encode which parts of a value of a type in the tables, the first fault of other
 -- bits, and the first misfit of other parts. `E` says the same of the types that a type names.
-use Rattle.std.specs.Prelude.{ℕ, zero, suc, ◌+◌, ◌-◌, ◌*◌, ◌^◌, ◌<◌, ◌≤◌, nat_lt, Bool, true, false, List, length, Option, Some, None, slice_get, ◌≡◌, ◌||◌, [], ◌∷◌, ⊤}
+use Rattle.std.specs.Prelude.{ℕ, zero, suc, ◌+◌, ◌-◌, ◌*◌, ◌^◌, ◌<◌, ◌≤◌, nat_lt, Bool, true, false, List, length, Option, Some, None, slice_get, slice_range, ◌≡◌, ◌||◌, [], ◌∷◌, ⊤}
 use Rattle.asn1_bits.specs.Bits.{number}
 use Rattle.asn1_schema.specs.declared.tables.Length.{Length}
 use Rattle.asn1_schema.specs.declared.tables.Length.TheVariants.{AtLeast, Between}
@@ -8,6 +8,7 @@ use Rattle.asn1_schema.specs.declared.tables.Presence.{Presence}
 use Rattle.asn1_schema.specs.declared.tables.Presence.TheVariants as presence
 use Rattle.asn1_schema.specs.declared.tables.Member.{Member}
 use Rattle.asn1_schema.specs.declared.tables.Rows.{Rows}
+use Rattle.asn1_schema.specs.declared.tables.Range.{Range}
 use Rattle.asn1_schema.specs.declared.tables.Node.{Node}
 use Rattle.asn1_schema.specs.declared.tables.Node.TheVariants as type
 use Rattle.asn1_schema.specs.declared.misfit.MisfitKind.TheVariants as misfit
@@ -22,7 +23,7 @@ use Rattle.asn1_x691.specs.Fragments.{octets}
 use Rattle.asn1_x691.specs.Strings.{bit, IsOfRoot, IsAddedSize}
 use Rattle.asn1_x691.specs.OpenTypes.{complete, open_type}
 use Rattle.asn1_x691.specs.Contents.{IsObjectIdentifier, IsRelativeIdentifier, IsUtf8Text}
-use Rattle.asn1_x691.specs.Leaves.{by_extension_bit, integer_between_by, integer_at_least_by, integer, enumerated_by, bit_string, octet_string, contents}
+use Rattle.asn1_x691.specs.Leaves.{by_extension_bit, integer_between_by, integer_at_least_by, integer, enumerated_by, bit_string, octet_string, text, contents}
 
 -- a type that the tables have not
 abbrev pub no_node : ℕ → ℕ → TypeEncoding FaultKind
@@ -98,7 +99,8 @@ abbrev pub any_true : List Bool → Bool
 any_true [] = false
 any_true (b ∷ bits) = b || any_true bits
 
-module _ (aligned : Bool) (E : ℕ → ℕ → TypeEncoding FaultKind) (members : List Member) (defaults : ℕ → List Bool) (node : ℕ) where
+module _ (aligned : Bool) (E : ℕ → ℕ → TypeEncoding FaultKind) (members : List Member) (ranges : List Range)
+    (defaults : ℕ → List Bool) (node : ℕ) where
   -- ---- SEQUENCE (19)
 
   -- a value that is not the default, which is absent (19.5)
@@ -239,6 +241,9 @@ module _ (aligned : Bool) (E : ℕ → ℕ → TypeEncoding FaultKind) (members 
   type_of (Some (type.Enumerated last is_extensible known)) = enumerated_by aligned node is_extensible last known
   type_of (Some (type.BitString size is_extensible has_names)) = bit_string aligned node size is_extensible has_names
   type_of (Some (type.OctetString size is_extensible)) = octet_string aligned node size is_extensible
+  type_of (Some (type.Text size is_extensible alphabet whole)) =
+      text aligned node size is_extensible (slice_range ranges alphabet.from (alphabet.from + alphabet.count))
+      (slice_range ranges whole.from (whole.from + whole.count))
   type_of (Some type.ObjectIdentifier) = contents aligned node IsObjectIdentifier
   type_of (Some type.RelativeIdentifier) = contents aligned node IsRelativeIdentifier
   type_of (Some type.Utf8String) = contents aligned node IsUtf8Text
@@ -250,7 +255,7 @@ module _ (aligned : Bool) (E : ℕ → ℕ → TypeEncoding FaultKind) (members 
   type_of (Some (type.Open inner)) = open_type aligned node (E inner)
 
 -- the type at a node, whose values are nested less deep than the depth
-abbrev pub type_at : Bool → List Node → List Member → (ℕ → List Bool) → ℕ → ℕ → ℕ → TypeEncoding FaultKind
-type_at aligned nodes members defaults zero node = invalid_type TooDeep misfit.TooDeep node
-type_at aligned nodes members defaults (suc depth) node =
-    type_of aligned (type_at aligned nodes members defaults depth) members defaults node (slice_get nodes node)
+abbrev pub type_at : Bool → List Node → List Member → List Range → (ℕ → List Bool) → ℕ → ℕ → ℕ → TypeEncoding FaultKind
+type_at aligned nodes members ranges defaults zero node = invalid_type TooDeep misfit.TooDeep node
+type_at aligned nodes members ranges defaults (suc depth) node =
+    type_of aligned (type_at aligned nodes members ranges defaults depth) members ranges defaults node (slice_get nodes node)

@@ -28,6 +28,8 @@ pub enum FaultKind {
     NotAscending,
     /// Bits with names end in a zero that their size does not ask for.
     NotTrimmed,
+    /// A character is not in the alphabet.
+    NotInAlphabet,
     /// Octets are no contents of an identifier, or no UTF-8.
     Contents,
     /// The tables have no such node or member.

@@ -6,6 +6,7 @@ ghost use Rattle.asn1_schema.specs.TypeEncodings.{EncodesUniquely, NamesEachMisf
 ghost use Rattle.asn1_x691.specs.Fragments.{string, octets};
 ghost use Rattle.asn1_schema.specs.declared.tables.Node as node;
 ghost use Rattle.asn1_schema.specs.declared.tables.Member as member;
+ghost use Rattle.asn1_schema.specs.declared.tables.Range as range;
 ghost use Rattle.asn1_x691.specs.Types.{type_at};
 ghost use Rattle.asn1_x691.specs.Example.{integer, opened, opened_five, example_nodes, example_members, no_defaults, example_parts, example_bits};
 ghost use Rattle.asn1_x691.specs.Fields.{constrained, length_of, small_length, semi_constrained, small_number, unconstrained};
@@ -107,26 +108,26 @@ pub fn laws_of_an_open_type()
 pub fn laws_of_types()
     // Bits begin with an encoding of one value at most, which ends at one place.
     ensures decodes_one { (aligned : Bool) (nodes : List node.Node) (members : List member.Member)
-        (defaults : ℕ → List Bool) (depth place at : ℕ)
-        → DecodesOne (type_at aligned nodes members defaults depth place at).encoding.encodes }
+        (ranges : List range.Range) (defaults : ℕ → List Bool) (depth place at : ℕ)
+        → DecodesOne (type_at aligned nodes members ranges defaults depth place at).encoding.encodes }
     // Otherwise their first fault is one.
     ensures fault { (aligned : Bool) (nodes : List node.Node) (members : List member.Member)
-        (defaults : ℕ → List Bool) (depth place at : ℕ)
-        → NamesFault (type_at aligned nodes members defaults depth place at).encoding.encodes
-        (type_at aligned nodes members defaults depth place at).encoding.fault }
+        (ranges : List range.Range) (defaults : ℕ → List Bool) (depth place at : ℕ)
+        → NamesFault (type_at aligned nodes members ranges defaults depth place at).encoding.encodes
+        (type_at aligned nodes members ranges defaults depth place at).encoding.fault }
     // Parts begin with one value at most, which has one encoding; otherwise their first misfit is
     // one.
     ensures encodes { (aligned : Bool) (nodes : List node.Node) (members : List member.Member)
-        (defaults : ℕ → List Bool) (depth place at : ℕ)
-        → EncodesUniquely (type_at aligned nodes members defaults depth place at).encoding.encodes
-        (type_at aligned nodes members defaults depth place at).misfit }
+        (ranges : List range.Range) (defaults : ℕ → List Bool) (depth place at : ℕ)
+        → EncodesUniquely (type_at aligned nodes members ranges defaults depth place at).encoding.encodes
+        (type_at aligned nodes members ranges defaults depth place at).misfit }
     // Parts that begin with no value have a misfit.
     ensures misfit { (aligned : Bool) (nodes : List node.Node) (members : List member.Member)
-        (defaults : ℕ → List Bool) (depth place at : ℕ)
-        → NamesEachMisfit (type_at aligned nodes members defaults depth place at).encoding.encodes
-        (type_at aligned nodes members defaults depth place at).misfit }
+        (ranges : List range.Range) (defaults : ℕ → List Bool) (depth place at : ℕ)
+        → NamesEachMisfit (type_at aligned nodes members ranges defaults depth place at).encoding.encodes
+        (type_at aligned nodes members ranges defaults depth place at).misfit }
     // There are values: 01 encodes SEQUENCE { a INTEGER (0..7) OPTIONAL, b BOOLEAN } without `a`,
     // where `b` is true.
-    ensures is { (type_at false example_nodes example_members no_defaults 2 0 0).encoding.encodes
+    ensures is { (type_at false example_nodes example_members [] no_defaults 2 0 0).encoding.encodes
         example_parts example_bits }
 {}

@@ -2,6 +2,7 @@
 use Rattle.std.proofs.Common.{ℕ, ◌+◌, ◌<◌, ◌≤◌, Bool, true, false, List, [], arith}
 use Rattle.asn1_schema.specs.declared.tables.Length.{Length}
 use Rattle.asn1_schema.specs.declared.tables.Length.TheVariants.{AtLeast, Between}
+use Rattle.asn1_schema.specs.declared.tables.Range.{Range}
 use Rattle.asn1_schema.specs.declared.tables.Member.{Member}
 use Rattle.asn1_schema.specs.declared.misfit.MisfitKind.TheVariants as misfit
 use Rattle.asn1_schema.specs.Pieces.{Count}
@@ -24,39 +25,39 @@ not_below : (least n : ℕ) → least ≤ n → n < least → ⊥
 not_below least n p q = omega (arith, p, q)
 
 module _ (aligned : Bool) (E : ℕ → ℕ → TypeEncoding FaultKind) (e : (n : ℕ) → IsType (E n)) (members : List Member)
-    (defaults : ℕ → List Bool) (node : ℕ) where
-  in_order_good : (item : ℕ) (before : List Bool) → IsGoodEverywhere (in_order aligned E members defaults node item before)
+    (ranges : List Range) (defaults : ℕ → List Bool) (node : ℕ) where
+  in_order_good : (item : ℕ) (before : List Bool) → IsGoodEverywhere (in_order aligned E members ranges defaults node item before)
   in_order_good item before at =
       except_type_good (IsMisplaced (E item) before at) NotAscending misfit.NotAscending node (E item at) ((e item).good at)
 
-  items_good : (is_set : Bool) (item n : ℕ) → IsGoodEverywhere (items aligned E members defaults node is_set item n)
+  items_good : (is_set : Bool) (item n : ℕ) → IsGoodEverywhere (items aligned E members ranges defaults node is_set item n)
   items_good false item n = several_good (E item) (e item).good n
   items_good true item n =
-      several_by_bits_good (in_order aligned E members defaults node item) (λ before. in_order_good item before) [] n
+      several_by_bits_good (in_order aligned E members ranges defaults node item) (λ before. in_order_good item before) [] n
 
-  sequence_of_type : (is_set : Bool) (size : Length) (item : ℕ) → IsType (sequence_of aligned E members defaults node is_set size item)
+  sequence_of_type : (is_set : Bool) (size : Length) (item : ℕ) → IsType (sequence_of aligned E members ranges defaults node is_set size item)
   sequence_of_type is_set (AtLeast least) item =
-      part_type (length_at_least aligned least node) Count (λ n. items aligned E members defaults node is_set item n) node
+      part_type (length_at_least aligned least node) Count (λ n. items aligned E members ranges defaults node is_set item n) node
       (permitted_sound (λ n. least ≤ n) (λ n. n < least) BelowLeast node (length_of aligned node) (not_below least)
       (length_sound aligned node))
       (permitted_one (λ n. least ≤ n) (λ n. n < least) BelowLeast node (length_of aligned node) (length_one aligned node)) count_alike
       (λ x p. cc) (λ n. items_good is_set item n)
   sequence_of_type is_set (Between least range) item =
       part_type (constrained aligned range node) (count_from least)
-      (λ d. items aligned E members defaults node is_set item (least + d)) node (constrained_sound aligned range node)
+      (λ d. items aligned E members ranges defaults node is_set item (least + d)) node (constrained_sound aligned range node)
       (constrained_one aligned range node) (count_from_alike least) (λ x p. cc) (λ d. items_good is_set item (least + d))
 
   added_items_type : (is_set : Bool) (size : Length) (item : ℕ)
-      → IsType (part (added_length aligned size node) Count (λ n. items aligned E members defaults node is_set item n) node)
+      → IsType (part (added_length aligned size node) Count (λ n. items aligned E members ranges defaults node is_set item n) node)
   added_items_type is_set size item =
-      part_type (added_length aligned size node) Count (λ n. items aligned E members defaults node is_set item n) node
+      part_type (added_length aligned size node) Count (λ n. items aligned E members ranges defaults node is_set item n) node
       (permitted_sound (IsAddedSize size) (IsOfRoot size) InRoot node (length_of aligned node) (sizes_apart size)
       (length_sound aligned node))
       (permitted_one (IsAddedSize size) (IsOfRoot size) InRoot node (length_of aligned node) (length_one aligned node)) count_alike
       (λ x p. cc) (λ n. items_good is_set item n)
 
   items_begin : (is_set : Bool) (size : Length) (item at : ℕ)
-      → BeginsWith (λ p. ¬ (IsAddedCount size p)) (sequence_of aligned E members defaults node is_set size item at)
+      → BeginsWith (λ p. ¬ (IsAddedCount size p)) (sequence_of aligned E members ranges defaults node is_set size item at)
   items_begin is_set (AtLeast least) item at = record {
     each = λ xs l p. (
       Count p.value,
@@ -72,11 +73,11 @@ module _ (aligned : Bool) (E : ℕ → ℕ → TypeEncoding FaultKind) (e : (n :
   }
 
   pub sequence_of_by_type : (b is_set : Bool) (size : Length) (item : ℕ)
-      → IsType (sequence_of_by aligned E members defaults node b is_set size item)
+      → IsType (sequence_of_by aligned E members ranges defaults node b is_set size item)
   sequence_of_by_type false is_set size item = sequence_of_type is_set size item
   sequence_of_by_type true is_set size item =
-      by_bit_type node (IsAddedCount size) (sequence_of aligned E members defaults node is_set size item)
-      (part (added_length aligned size node) Count (λ n. items aligned E members defaults node is_set item n) node)
+      by_bit_type node (IsAddedCount size) (sequence_of aligned E members ranges defaults node is_set size item)
+      (part (added_length aligned size node) Count (λ n. items aligned E members ranges defaults node is_set item n) node)
       (sequence_of_type is_set size item) (added_items_type is_set size item) (λ at. items_begin is_set size item at)
       (λ at. record {
         each = λ xs l p. (

@@ -1,8 +1,8 @@
 -- Laws of types of one part.
-use Rattle.std.proofs.Common.{◌≡◌, ℕ, ℤ, nat_lt, Bool, true, false, List, arith}
+use Rattle.std.proofs.Common.{length, ◌≡◌, ℕ, ℤ, nat_lt, Bool, true, false, List, arith}
 use Rattle.std.specs.Int.Signed.{clash_ℤ, ◌<ℤ◌, ◌≤ℤ◌}
 use Rattle.asn1_schema.specs.declared.tables.Length.{Length}
-use Rattle.asn1_schema.specs.Pieces.{Piece, Absent, Integer, Enumerated, Bits, Octets}
+use Rattle.asn1_schema.specs.Pieces.{Piece, Absent, Integer, Enumerated, Bits, Octets, Text}
 use Rattle.asn1_schema.specs.Encodings.{Encoding, EncodesOne, permitted}
 use Rattle.asn1_schema.specs.TypeEncodings.{TypeEncoding, leaf}
 use Rattle.asn1_schema.specs.Laws.PositionLaws.{IsSoundEverywhere}
@@ -13,15 +13,18 @@ use Rattle.asn1_x691.specs.declared.fault.FaultKind.TheVariants.{InRoot, NotTrim
 use Rattle.asn1_x691.specs.Fields.{constrained, semi_constrained, unconstrained, small_number}
 use Rattle.asn1_x691.specs.Fragments.{octets}
 use Rattle.asn1_x691.specs.Strings.{string_of, added_string}
-use Rattle.asn1_x691.specs.Leaves.{from_least, IsBetween, IsOutside, IsAddedInteger, value_of_addition, IsAddedValue, AreAddedBits, AreAddedOctets, AreTrimmed, integer_between, integer_at_least, integer, extensible_integer, integer_between_by, integer_at_least_by, enumerated, enumerated_by, string_by, bits_by, bit_string, octet_string, contents}
+use Rattle.asn1_x691.specs.Leaves.{from_least, IsBetween, IsOutside, IsAddedInteger, value_of_addition, IsAddedValue, AreAddedBits, AreAddedOctets, AreTrimmed, integer_between, integer_at_least, integer, extensible_integer, integer_between_by, integer_at_least_by, enumerated, enumerated_by, string_by, bits_by, bit_string, octet_string, text, contents}
 use Rattle.asn1_x691.specs.Laws.FieldLaws.{constrained_sound, semi_constrained_sound, unconstrained_sound, small_number_sound}
 use Rattle.asn1_x691.specs.Laws.OneEncodingLaws.{constrained_one}
 use Rattle.asn1_x691.specs.Laws.NumberLaws.{semi_constrained_one, unconstrained_one, small_number_one}
-use Rattle.asn1_x691.specs.Laws.StringLaws.{string_of_sound, string_of_one, string_is_not_added, added_string_sound, added_string_one, added_string_is_added}
+use Rattle.asn1_x691.specs.Laws.StringLaws.{sizes_apart, string_of_sound, string_of_one, string_is_not_added, added_string_sound, added_string_one, added_string_is_added}
+use Rattle.asn1_x691.specs.Characters.{text_of, added_text, IsAddedText}
+use Rattle.asn1_x691.specs.Laws.CharacterLaws.{text_of_sound, text_of_one, text_of_size, added_text_sound, added_text_one, added_text_is_added}
+use Rattle.asn1_schema.specs.declared.tables.Range.{Range}
 use Rattle.asn1_x691.specs.Laws.FragmentLaws.{octets_sound, octets_one}
 use Rattle.asn1_x691.specs.Laws.RangeLaws.{constrained_within}
 use Rattle.asn1_x691.specs.Laws.GoodTypes.{IsType, leaf_type, by_bit_type}
-use Rattle.asn1_x691.specs.Laws.PieceLaws.{from_least_between, from_least_at_least, outside_apart, integer_alike, from_least_alike, enumerated_alike, bits_alike, octets_alike, added_value_alike, added_value_present, is_added_value, one_apart, eight_apart}
+use Rattle.asn1_x691.specs.Laws.PieceLaws.{from_least_between, from_least_at_least, outside_apart, integer_alike, from_least_alike, enumerated_alike, bits_alike, octets_alike, text_alike, added_value_alike, added_value_present, is_added_value, one_apart, eight_apart}
 
 module _ (aligned : Bool) (node : ℕ) where
   -- ---- INTEGER
@@ -109,11 +112,11 @@ module _ (aligned : Bool) (node : ℕ) where
 
   -- ---- strings
 
-  string_by_type : (b : Bool) (A B : ℕ → Encoding FaultKind (List Bool)) (is : List Bool → Piece) (Added : Piece → Type 0)
+  string_by_type : {X : Type 0} (b : Bool) (A B : ℕ → Encoding FaultKind X) (is : X → Piece) (Added : Piece → Type 0)
       → IsSoundEverywhere A → ((at : ℕ) → EncodesOne (A at).encodes) → IsSoundEverywhere B → ((at : ℕ) → EncodesOne (B at).encodes)
-      → ((x y : List Bool) → is x ≡ is y → x ≡ y) → ((x : List Bool) → is x ≡ Absent → ⊥)
-      → ((at : ℕ) (x k : List Bool) → (A at).encodes x k → Added (is x) → ⊥)
-      → ((at : ℕ) (x k : List Bool) → (B at).encodes x k → Added (is x)) → IsType (string_by aligned node b A B is Added)
+      → ((x y : X) → is x ≡ is y → x ≡ y) → ((x : X) → is x ≡ Absent → ⊥)
+      → ((at : ℕ) (x : X) (k : List Bool) → (A at).encodes x k → Added (is x) → ⊥)
+      → ((at : ℕ) (x : X) (k : List Bool) → (B at).encodes x k → Added (is x)) → IsType (string_by aligned node b A B is Added)
   string_by_type false A B is Added a one b other alike not absent present = leaf_type A is node a one alike not
   string_by_type true A B is Added a one b other alike not absent present =
       by_bit_type node Added (leaf A is node) (leaf B is node) (leaf_type A is node a one alike not) (leaf_type B is node b other alike not)
@@ -166,3 +169,11 @@ module _ (aligned : Bool) (node : ℕ) where
       (permitted_sound Valid (λ list. ¬ (Valid list)) Contents node (octets aligned node) (λ x p q. q p) (octets_sound aligned node))
       (permitted_one Valid (λ list. ¬ (Valid list)) Contents node (octets aligned node) (octets_one aligned node)) octets_alike
       (λ x p. cc)
+
+  pub text_type : (size : Length) (b : Bool) (ranges whole : List Range) → IsType (text aligned node size b ranges whole)
+  text_type size b ranges whole =
+      string_by_type b (text_of aligned ranges node size) (added_text aligned whole node size) Text (IsAddedText size)
+      (text_of_sound aligned ranges node size) (text_of_one aligned ranges node size) (added_text_sound aligned whole node size)
+      (added_text_one aligned whole node size) text_alike (λ x p. cc)
+      (λ at x k p q. sizes_apart size (length x) q (text_of_size aligned ranges node size at x k p))
+      (λ at x k p. added_text_is_added aligned whole node size at x k p)

@@ -2,7 +2,7 @@
 use Rattle.std.proofs.Common.{◌≡◌, ℕ, ℤ, pos, ◌+ℤ◌, ◌+◌, ◌*◌, ◌≤◌, Bool, true, false, List, arith, inl, inr}
 use Rattle.std.proofs.lemmas.Int.{ints}
 use Rattle.std.specs.Int.Signed.{clash_ℤ, ◌<ℤ◌}
-use Rattle.asn1_schema.specs.Pieces.{Absent, Truth, Integer, Enumerated, Bits, Octets, Count, Chosen, Additions, Unknown}
+use Rattle.asn1_schema.specs.Pieces.{Absent, Truth, Integer, Enumerated, Bits, Octets, Text, Count, Chosen, Additions, Unknown}
 use Rattle.asn1_schema.specs.declared.tables.Length.TheVariants.{Between}
 use Rattle.asn1_x691.specs.Strings.{IsAddedSize}
 use Rattle.asn1_x691.specs.Laws.RangeLaws.{constrained_within}
@@ -30,6 +30,9 @@ bits_alike x y e = cc
 
 pub octets_alike : (x y : List Bool) → Octets x ≡ Octets y → x ≡ y
 octets_alike x y e = cc
+
+pub text_alike : (x y : List ℕ) → Text x ≡ Text y → x ≡ y
+text_alike x y e = cc
 
 pub count_alike : (x y : ℕ) → Count x ≡ Count y → x ≡ y
 count_alike x y e = cc
