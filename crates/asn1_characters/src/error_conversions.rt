@@ -1,4 +1,4 @@
-//! Conversions of refusals, so that `?` passes one up.
+//! Conversions between errors, so that `?` returns one from a caller.
 ghost use Rattle.std.specs.Prelude.{◌≡◌};
 ghost use Rattle.asn1_characters.specs.declared.error.InvalidRestrictedString.TheVariants as own;
 ghost use Rattle.asn1_characters.specs.declared.error.PermittedAlphabetError.TheVariants.{InvalidRestrictedString as Refused};

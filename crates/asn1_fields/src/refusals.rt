@@ -1,5 +1,5 @@
-//! A run for which a request for memory is refused. `scripts/refuse-each-allocation` refuses its
-//! first request, then its second, and so on until it makes no more.
+//! A run in which an allocation fails. `scripts/refuse-each-allocation` lets its first allocation
+//! fail, then its second, and so on until it makes no more.
 
 use crate::run::run;
 use octet_streams::StreamError;
@@ -23,7 +23,7 @@ impl Write for Counted {
     }
 }
 
-/// Says that the call under test met the refusal.
+/// Prints that the call under test ran out of memory.
 fn met(rt: &HostRuntime, call: &str) -> Result<(), Fail> {
     println!(rt; "refused: {call}")?;
     Ok(())

@@ -36,7 +36,7 @@ impl TryFromIntegerError {
         TryFromIntegerError { original }
     }
 
-    /// The number that was refused, borrowed.
+    /// Returns the number that did not fit, borrowed.
     pub fn original(&self) -> &Integer
         ensures { result.now ≡ self.now }
     {

@@ -27,7 +27,8 @@ pub trait AsText: StringKind<T = u8> {
 pub trait Iso646: AsText {}
 
 impl<K: FromBytes> RestrictedString<K> {
-    /// The string of these characters, one octet each; refused as by `try_from_slice`.
+    /// Returns the string of these characters, one octet each. The errors are those of
+    /// `try_from_slice`.
     pub fn from_bytes(alloc: Global, bytes: &[u8]) -> Result<Self, PermittedAlphabetError>
         ensures { Answers (λ s. s) result (string_of_octets K.NAME 1 bytes.now) }
     {
@@ -69,7 +70,8 @@ impl<K: AsText> RestrictedString<K> {
 }
 
 impl<K: Iso646> RestrictedString<K> {
-    /// The string of these characters, one octet each; refused as by `try_from_slice`.
+    /// Returns the string of these characters, one octet each. The errors are those of
+    /// `try_from_slice`.
     pub fn from_iso646_bytes(alloc: Global, bytes: &[u8]) -> Result<Self, PermittedAlphabetError>
         ensures { Answers (λ s. s) result (string_of_octets K.NAME 1 bytes.now) }
     {

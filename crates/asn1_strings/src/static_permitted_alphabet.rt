@@ -24,7 +24,7 @@ use std::collections::BTreeMap;
 /// A restricted character string (X.680 41): a list of characters, each in the string's base set.
 ///
 /// The calls that read a string examine the whole input, whatever memory there is. Those that read
-/// bits ask for room for all characters before they look at the first.
+/// bits allocate room for all characters before they look at the first.
 ///
 /// # Errors
 ///

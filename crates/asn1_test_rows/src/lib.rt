@@ -5,7 +5,7 @@
 //! signed_octets -129 = FF7F
 //! ```
 //!
-//! A word with a count in braces is meant so many times, in a call and in an answer: `n1=1{70000}`.
+//! A count in braces repeats a word, in a call and in an answer: `n1=1{70000}` is 70,000 words.
 //!
 //! A row costs no proof: each call that the rows name is proved once, in a function without a
 //! contract, and the program compares. No program but those of tests should use this crate.

@@ -77,7 +77,7 @@ fn words_of<'a>(alloc: Global, call: &'a str) -> Result<Vec<&'a str>, RowError> 
     Ok(words)
 }
 
-/// Returns a word and how often it is meant: `n1=1{70000}` is `n1=1`, 70,000 times.
+/// Returns a word and the count in braces after it, or 1: `n1=1{70000}` is `n1=1` and 70,000.
 fn counted<'a>(alloc: Global, word: &'a str) -> Result<(&'a str, u32), RowError> {
     if let Some(text) = word.strip_suffix('}')
         && let Some((word, count)) = text.split_once('{')

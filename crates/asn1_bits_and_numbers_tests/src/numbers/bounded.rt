@@ -83,7 +83,7 @@ fn handed_back(
     }
 }
 
-/// The number that a refusal lends.
+/// Returns the number that an error borrows.
 fn lent_back(
     alloc: Global,
     number: Result<Bounded, TryFromIntegerError>,

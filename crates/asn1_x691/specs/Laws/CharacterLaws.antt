@@ -19,7 +19,7 @@ use Rattle.asn1_x691.specs.Alphabets.{width_of, HasCode}
 use Rattle.asn1_x691.specs.Characters.{IsInlineText, IsOnOctetText, character, characters, sized_characters, sized_text, text_where, text_of, added_text}
 use Rattle.asn1_x691.specs.Laws.FieldLaws.{on_octet_sound, constrained_sound}
 use Rattle.asn1_x691.specs.Laws.OneEncodingLaws.{on_octet_one, inner, constrained_one}
-use Rattle.asn1_x691.specs.Laws.RangeLaws.{constrained_within}
+use Rattle.asn1_x691.specs.Laws.RangeLaws.{constrained_within, same_distance, not_below}
 use Rattle.asn1_x691.specs.Laws.FragmentLaws.{all_units_sound, all_units_one}
 use Rattle.asn1_x691.specs.Laws.StringLaws.{sizes_apart}
 use Rattle.asn1_x691.specs.Laws.AlphabetLaws.{character_of_code, code_of_character}
@@ -79,9 +79,6 @@ module _ (aligned : Bool) (ranges : List Range) (node : ℕ) where
   sized_characters_length least range n at x k (inr p) =
       let q = inner aligned node at (each A n) x k p.1 in
       each_length A n x q.0 q.1
-
-  same_distance : (least x y : ℕ) → least + x ≡ least + y → x ≡ y
-  same_distance least x y e = omega (arith, e)
 
   sized_text_sound : (least range : ℕ) → IsSoundEverywhere (sized_text aligned ranges node least range)
   sized_text_sound least range =
@@ -179,11 +176,8 @@ module _ (aligned : Bool) (ranges : List Range) (node : ℕ) where
 
   -- ---- by a size constraint
 
-  below_least : (least n : ℕ) → least ≤ n → n < least → ⊥
-  below_least least n p q = omega (arith, p, q)
-
   pub text_of_sound : (size : Length) → IsSoundEverywhere (text_of aligned ranges node size)
-  text_of_sound (AtLeast least) = text_where_sound (λ n. least ≤ n) (λ n. n < least) BelowLeast (below_least least)
+  text_of_sound (AtLeast least) = text_where_sound (λ n. least ≤ n) (λ n. n < least) BelowLeast (not_below least)
   text_of_sound (Between least range) = sized_text_sound least range
 
   pub text_of_one : (size : Length) (at : ℕ) → EncodesOne (text_of aligned ranges node size at).encodes

@@ -1,5 +1,5 @@
 -- Laws of SEQUENCE OF and SET OF.
-use Rattle.std.proofs.Common.{ℕ, ◌+◌, ◌<◌, ◌≤◌, Bool, true, false, List, [], arith}
+use Rattle.std.proofs.Common.{ℕ, ◌+◌, ◌<◌, ◌≤◌, Bool, true, false, List, []}
 use Rattle.asn1_schema.specs.declared.tables.Length.{Length}
 use Rattle.asn1_schema.specs.declared.tables.Length.TheVariants.{AtLeast, Between}
 use Rattle.asn1_schema.specs.declared.tables.Range.{Range}
@@ -18,11 +18,9 @@ use Rattle.asn1_x691.specs.Types.{IsMisplaced, count_from, IsAddedCount, length_
 use Rattle.asn1_x691.specs.Laws.FieldLaws.{constrained_sound, length_sound}
 use Rattle.asn1_x691.specs.Laws.OneEncodingLaws.{constrained_one, length_one}
 use Rattle.asn1_x691.specs.Laws.StringLaws.{sizes_apart}
+use Rattle.asn1_x691.specs.Laws.RangeLaws.{not_below}
 use Rattle.asn1_x691.specs.Laws.GoodTypes.{IsType, part_type, by_bit_type}
 use Rattle.asn1_x691.specs.Laws.PieceLaws.{count_alike, count_from_alike, count_is_not_added}
-
-not_below : (least n : ℕ) → least ≤ n → n < least → ⊥
-not_below least n p q = omega (arith, p, q)
 
 module _ (aligned : Bool) (E : ℕ → ℕ → TypeEncoding FaultKind) (e : (n : ℕ) → IsType (E n)) (members : List Member)
     (ranges : List Range) (defaults : ℕ → List Bool) (node : ℕ) where

@@ -1,9 +1,15 @@
--- A constrained number does not exceed its range.
-use Rattle.std.proofs.Common.{◌≡◌, ℕ, ◌+◌, ◌≤◌, Bool, true, false, List, length, sym, ◌∙◌, inl, inr, subst}
+-- A constrained number does not exceed its range; distances and least numbers.
+use Rattle.std.proofs.Common.{◌≡◌, ℕ, ◌+◌, ◌<◌, ◌≤◌, arith, Bool, true, false, List, length, sym, ◌∙◌, inl, inr, subst}
 use Rattle.asn1_schema.specs.Laws.OneEncodingLaws.{only_constant}
 use Rattle.asn1_x691.specs.declared.fault.FaultKind.TheVariants.{AboveMost}
 use Rattle.asn1_x691.specs.Fields.{constrained, in_bits, minimal_up_to, width_to}
 use Rattle.asn1_x691.specs.Laws.OneEncodingLaws.{inner}
+
+pub same_distance : (least x y : ℕ) → least + x ≡ least + y → x ≡ y
+same_distance least x y e = omega (arith, e)
+
+pub not_below : (least n : ℕ) → least ≤ n → n < least → ⊥
+not_below least n p q = omega (arith, p, q)
 
 pub in_bits_within : (width most node d : ℕ) (k : List Bool) → (in_bits width most node).encodes d k → d ≤ most
 in_bits_within width most node d k p =

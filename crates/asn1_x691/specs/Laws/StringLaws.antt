@@ -16,7 +16,7 @@ use Rattle.asn1_x691.specs.Fragments.{most_fragments, string}
 use Rattle.asn1_x691.specs.Strings.{first_of, bit, IsInline, IsOnOctet, units_of, sized_string, where_size, string_where, string_of, IsOfRoot, IsAddedSize, AreAdded, added_string}
 use Rattle.asn1_x691.specs.Laws.FieldLaws.{on_octet_sound, constrained_sound}
 use Rattle.asn1_x691.specs.Laws.OneEncodingLaws.{on_octet_one, inner, constrained_one}
-use Rattle.asn1_x691.specs.Laws.RangeLaws.{constrained_within}
+use Rattle.asn1_x691.specs.Laws.RangeLaws.{constrained_within, same_distance, not_below}
 use Rattle.asn1_x691.specs.Laws.FragmentLaws.{string_sound, string_one, all_held}
 
 -- ---- one bit
@@ -84,9 +84,6 @@ module _ (aligned : Bool) (unit node : ℕ) (apart : (m n : ℕ) → unit * m �
   sized_string_sound least range =
       in_turn_of (constrained_sound aligned range node) (λ d. units_of_sound aligned unit least range node (least + d))
 
-  same_distance : (least x y : ℕ) → least + x ≡ least + y → x ≡ y
-  same_distance least x y e = omega (arith, e)
-
   pub sized_string_one : (least range at : ℕ) → EncodesOne (sized_string aligned unit least range node at).encodes
   sized_string_one least range =
       in_turn_encodes_one (constrained aligned range node) (λ d bits. bits) (λ d. units_of aligned unit least range node (least + d))
@@ -123,7 +120,7 @@ module _ (aligned : Bool) (unit node : ℕ) (apart : (m n : ℕ) → unit * m �
       ))
 
   pub string_of_sound : (length : Length) → IsSoundEverywhere (string_of aligned unit length node)
-  string_of_sound (AtLeast least) = string_where_sound (λ n. least ≤ n) (λ n. n < least) BelowLeast (λ n a b. omega (arith, a, b))
+  string_of_sound (AtLeast least) = string_where_sound (λ n. least ≤ n) (λ n. n < least) BelowLeast (not_below least)
   string_of_sound (Between least range) = sized_string_sound least range
 
   pub string_of_one : (length : Length) (at : ℕ) → EncodesOne (string_of aligned unit length node at).encodes
