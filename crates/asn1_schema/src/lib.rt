@@ -7,8 +7,10 @@
 
 mod laws;
 mod misfit;
+mod part;
 mod tables;
 
 pub use laws::laws_of_an_example;
 pub use misfit::MisfitKind;
-pub use tables::{Length, Member, Node, Presence, Range, Rows, Tables};
+pub use part::{Natural, Part, Span};
+pub use tables::{Bounds, Length, Member, Node, Presence, Range, Rows, Tables};

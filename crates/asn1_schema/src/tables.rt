@@ -1,5 +1,7 @@
 //! A schema: the types of modules as tables. A type names others by their index in the tables.
 
+ghost use Rattle.std.specs.Prelude.{pos, ◌+ℤ◌, ◌<ℤ◌, ◌^◌};
+
 /// Rows of a table: so many from an index on.
 #[derive(Clone, Copy, Debug, PartialEq, Eq)]
 pub struct Rows {
@@ -26,6 +28,16 @@ pub enum Length {
     },
 }
 
+/// The bounds of an INTEGER. The greatest value, `least + range`, is at most 2^127 - 1.
+#[derive(Clone, Copy, Debug)]
+pub struct Bounds {
+    /// The least value.
+    pub least: i128,
+    /// How far the greatest value is from the least.
+    pub range: u128,
+    ghost fits: { (least +ℤ pos range) <ℤ pos (2 ^ 127) },
+}
+
 /// A type.
 #[derive(Clone, Copy, Debug)]
 pub enum Node {
@@ -35,10 +47,8 @@ pub enum Node {
     Boolean,
     /// INTEGER (least..least + range).
     IntegerBetween {
-        /// The least value.
-        least: i128,
-        /// How far the greatest value is from the least.
-        range: u128,
+        /// The least value, and the range.
+        bounds: Bounds,
         /// Whether it has an extension marker.
         is_extensible: bool,
     },

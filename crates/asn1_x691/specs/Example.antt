@@ -24,11 +24,11 @@ abbrev pub opened_five : List Bool
 opened_five = false ∷ false ∷ false ∷ false ∷ false ∷ false ∷ false ∷ true
     ∷ false ∷ false ∷ false ∷ false ∷ false ∷ true ∷ false ∷ true ∷ []
 
--- ---- SEQUENCE { a INTEGER (0..7) OPTIONAL, b BOOLEAN }
+-- ---- SEQUENCE { a ENUMERATED OPTIONAL, b BOOLEAN }, where a has eight values
 
 abbrev pub example_nodes : List Node
 example_nodes =
-    type.Sequence (record { from = 0; count = 2 }) false (record { from = 0; count = 0 }) ∷ type.IntegerBetween (pos 0) 7 false ∷ type.Boolean ∷ []
+    type.Sequence (record { from = 0; count = 2 }) false (record { from = 0; count = 0 }) ∷ type.Enumerated 7 false 0 ∷ type.Boolean ∷ []
 
 abbrev pub example_members : List Member
 example_members = record { node = 1; presence = Optional } ∷ record { node = 2; presence = Mandatory } ∷ []

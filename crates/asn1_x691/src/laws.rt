@@ -126,7 +126,7 @@ pub fn laws_of_types()
         (ranges : List range.Range) (defaults : ℕ → List Bool) (depth place at : ℕ)
         → NamesEachMisfit (type_at aligned nodes members ranges defaults depth place at).encoding.encodes
         (type_at aligned nodes members ranges defaults depth place at).misfit }
-    // There are values: 01 encodes SEQUENCE { a INTEGER (0..7) OPTIONAL, b BOOLEAN } without `a`,
+    // There are values: 01 encodes SEQUENCE { a ENUMERATED OPTIONAL, b BOOLEAN } without `a`,
     // where `b` is true.
     ensures is { (type_at false example_nodes example_members [] no_defaults 2 0 0).encoding.encodes
         example_parts example_bits }

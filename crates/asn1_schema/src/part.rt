@@ -1,0 +1,69 @@
+//! The parts of a value.
+
+/// Bits of a message.
+#[derive(Clone, Copy, Debug, PartialEq, Eq)]
+pub struct Span {
+    /// The index of the first bit.
+    pub at: usize,
+    /// How many bits there are.
+    pub count: usize,
+}
+
+/// A whole number from 0 on.
+#[derive(Clone, Copy, Debug, PartialEq, Eq)]
+pub enum Natural {
+    /// The number.
+    Small(u64),
+    /// The bits of the message that are its binary digits.
+    Large(Span),
+}
+
+/// A part of a value. A value is a list of parts in the order of the type's text: each component of
+/// a SEQUENCE, each item of a list and the alternative of a CHOICE follow their own part.
+#[derive(Clone, Copy, Debug, PartialEq, Eq)]
+pub enum Part {
+    /// An optional component that is absent, or an addition.
+    Absent,
+    /// NULL.
+    Null,
+    /// BOOLEAN.
+    Truth(bool),
+    /// INTEGER: the value.
+    Integer(i128),
+    /// INTEGER: a number in the message, above the least value.
+    Above {
+        /// The least value.
+        least: i128,
+        /// The index of the number's first bit.
+        at: usize,
+        /// How many bits it has.
+        count: u32,
+    },
+    /// INTEGER: octets of two's complement.
+    Signed(Span),
+    /// ENUMERATED: the index of the value in the type's table.
+    Enumerated(usize),
+    /// ENUMERATED: the index of an unknown value among the additions.
+    UnknownEnumerated(Natural),
+    /// BIT STRING.
+    Bits(Span),
+    /// OCTET STRING, or octets that are kept by their contents.
+    Octets(Span),
+    /// SEQUENCE or SET.
+    Sequence {
+        /// How many components of the root follow.
+        count: usize,
+        /// Whether additions follow them.
+        is_extended: bool,
+    },
+    /// How many additions follow.
+    Additions(usize),
+    /// SEQUENCE OF or SET OF: how many items follow.
+    Count(usize),
+    /// CHOICE: the index of the alternative that follows.
+    Chosen(usize),
+    /// CHOICE: the index of an unknown alternative among the additions. Its octets follow.
+    UnknownChosen(Natural),
+    /// The octets of a value that the schema does not know.
+    Unknown(Span),
+}

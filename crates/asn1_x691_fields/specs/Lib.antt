@@ -1,0 +1,3 @@
+-- What a call did to the state of a decoder.
+pub mod Outcomes
+pub mod Steps
