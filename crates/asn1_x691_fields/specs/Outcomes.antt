@@ -24,7 +24,15 @@ pub record IsWithin (list : List Bool) (s : State) : Type 0 where
 abbrev pub IsPlaced : Bool → State → Type 0
 IsPlaced aligned s = aligned ≡ true → s.first % 8 ≡ 0
 
--- bits were read, of the same complete encoding
+-- bits of the same complete encoding were passed
+pub record IsMoved (list : List Bool) (old new : State) : Type 0 where
+  pub same_first : new.first ≡ old.first
+  pub same_end : new.end ≡ old.end
+  pub on : old.at ≤ new.at
+  pub ends : new.at ≤ new.end
+  pub inside : new.end ≤ length list
+
+-- the same where no part was decoded
 pub record IsOnward (list : List Bool) (old new : State) : Type 0 where
   pub same_first : new.first ≡ old.first
   pub same_end : new.end ≡ old.end

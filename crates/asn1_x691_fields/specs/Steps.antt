@@ -11,7 +11,7 @@ use Rattle.asn1_x691.specs.declared.fault.FaultKind.{FaultKind}
 use Rattle.asn1_x691.specs.declared.fault.FaultKind.TheVariants.{Short}
 use Rattle.asn1_x691.specs.Strings.{bit, first_of}
 use Rattle.asn1_x691_fields.specs.declared.state.State.{State}
-use Rattle.asn1_x691_fields.specs.Outcomes.{rest, position, fault_of, IsWithin, IsOnward}
+use Rattle.asn1_x691_fields.specs.Outcomes.{rest, position, fault_of, IsWithin, IsMoved, IsOnward}
 
 -- ---- bits of a message
 
@@ -97,8 +97,28 @@ pub then_fault : {X Y Z : Type 0} (A : Encoding FaultKind X) (f : X → Y → Z)
     (list mid : List Bool) (x : X) (e : Fault FaultKind) → Starts A.encodes list x mid → (B x).fault mid e → (then A f B).fault list e
 then_fault A f B list mid x e s w = inr (record { value = x; rest = mid; starts = s; holds = w })
 
--- how far a step went
-module _ (list : List Bool) (old mid : State) (h : IsWithin list old) (g : IsOnward list old mid) where
+-- ---- one encoding after another, by their positions
+
+pub moved_on : (list : List Bool) (old new : State) → IsOnward list old new → IsMoved list old new
+moved_on list old new g = record { same_first = g.same_first; same_end = g.same_end; on = g.on; ends = g.ends; inside = g.inside }
+
+pub within_after : (list : List Bool) (old new : State) → IsWithin list old → IsMoved list old new → IsWithin list new
+within_after list old new h g = record {
+  begins = omega (arith, g.same_first, g.on, h.begins);
+  ends = g.ends;
+  inside = g.inside;
+}
+
+pub moved_over : (list : List Bool) (old mid new : State) → IsMoved list old mid → IsMoved list mid new → IsMoved list old new
+moved_over list old mid new g k = record {
+  same_first = k.same_first ∙ g.same_first;
+  same_end = k.same_end ∙ g.same_end;
+  on = omega (arith, g.on, k.on);
+  ends = k.ends;
+  inside = k.inside;
+}
+
+module _ (list : List Bool) (old mid : State) (h : IsWithin list old) (g : IsMoved list old mid) where
   step_size : {X : Type 0} (P : X → List Bool → Type 0) (x : X) → (s : Starts P (rest list old) x (rest list mid))
       → mid.at ≡ old.at + length s.front
   step_size P x s =
@@ -106,15 +126,15 @@ module _ (list : List Bool) (old mid : State) (h : IsWithin list old) (g : IsOnw
       let b = rest_length list mid g.inside in
       omega (arith, a, b, ap length s.parts, length-append s.front (rest list mid), g.same_end, g.on, g.ends, h.ends)
 
-  step_position : {X : Type 0} (P : X → List Bool → Type 0) (x : X) → (s : Starts P (rest list old) x (rest list mid))
+  pub step_position : {X : Type 0} (P : X → List Bool → Type 0) (x : X) → (s : Starts P (rest list old) x (rest list mid))
       → position mid ≡ position old + length s.front
   step_position P x s = omega (arith, step_size P x s, g.same_first, h.begins)
 
   module _ {X Y Z : Type 0} (A : ℕ → Encoding FaultKind X) (f : X → Y → Z) (B : X → ℕ → Encoding FaultKind Y) (x : X)
       (s : Starts (A (position old)).encodes (rest list old) x (rest list mid)) where
-    pub turn_starts : (left : List Bool) (y : Y) → Starts (B x (position mid)).encodes (rest list mid) y left
+    pub after_starts : (left : List Bool) (y : Y) → Starts (B x (position mid)).encodes (rest list mid) y left
         → Starts (in_turn A f B (position old)).encodes (rest list old) (f x y) left
-    turn_starts left y t = record {
+    after_starts left y t = record {
       front = s.front ++ t.front;
       encoded = record {
         value = x;
@@ -129,14 +149,26 @@ module _ (list : List Bool) (old mid : State) (h : IsWithin list old) (g : IsOnw
       parts = s.parts ∙ ap (λ (l : List Bool). s.front ++ l) t.parts ∙ sym (append_assoc s.front t.front left);
     }
 
-    pub turn_fault : (e : Fault FaultKind) → (B x (position mid)).fault (rest list mid) e
+    pub after_fault : (e : Fault FaultKind) → (B x (position mid)).fault (rest list mid) e
         → (in_turn A f B (position old)).fault (rest list old) e
-    turn_fault e w = inr (record {
+    after_fault e w = inr (record {
       value = (x, s.front);
       rest = rest list mid;
       starts = record { front = s.front; encoded = (s.encoded, refl); parts = s.parts };
       holds = subst (λ (n : ℕ). (B x n).fault (rest list mid) e) (step_position (A (position old)).encodes x s) w;
     })
+
+-- the same after a step that decoded no part
+module _ (list : List Bool) (old mid : State) (h : IsWithin list old) (g : IsOnward list old mid) {X Y Z : Type 0}
+    (A : ℕ → Encoding FaultKind X) (f : X → Y → Z) (B : X → ℕ → Encoding FaultKind Y) (x : X)
+    (s : Starts (A (position old)).encodes (rest list old) x (rest list mid)) where
+  pub turn_starts : (left : List Bool) (y : Y) → Starts (B x (position mid)).encodes (rest list mid) y left
+      → Starts (in_turn A f B (position old)).encodes (rest list old) (f x y) left
+  turn_starts left y t = after_starts list old mid h (moved_on list old mid g) A f B x s left y t
+
+  pub turn_fault : (e : Fault FaultKind) → (B x (position mid)).fault (rest list mid) e
+      → (in_turn A f B (position old)).fault (rest list old) e
+  turn_fault e w = after_fault list old mid h (moved_on list old mid g) A f B x s e w
 
 -- ---- one bit
 
