@@ -6,6 +6,8 @@
 mod bits;
 mod heads;
 mod state;
+mod strings;
 
-pub use heads::{next_bit, next_bits, next_start, next_word};
+pub use heads::{next_bit, next_bits, next_start, next_wide, next_word};
 pub use state::{State, fail};
+pub use strings::{next_count, next_octets, next_units};
