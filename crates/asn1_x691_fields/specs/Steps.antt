@@ -172,23 +172,23 @@ module _ (list : List Bool) (old mid : State) (h : IsWithin list old) (g : IsOnw
 
 -- ---- one bit
 
-one_digit : (n : ℕ) → digits n 1 ≡ is_odd n ∷ []
-unfolding digits
-one_digit n = refl
-
 odd_of_one : (n : ℕ) → n < 2 ^ 1 → is_odd n ≡ nat_eq n 1
 odd_of_one zero h = refl
 odd_of_one (suc zero) h = refl
 odd_of_one (suc (suc n)) h = absurd (omega arith)
 
+pub one_bit : (n : ℕ) → n < 2 ^ 1 → digits n 1 ≡ nat_eq n 1 ∷ []
+unfolding digits
+one_bit n h = ap (λ (b : Bool). b ∷ []) (odd_of_one n h)
+
 pub bit_starts : (node : ℕ) (list left : List Bool) (n : ℕ) → Starts (number 1 Short node).encodes list n left
     → Starts (bit node).encodes list (nat_eq n 1) left
 bit_starts node list left n s =
-    let e : s.front ≡ is_odd n ∷ [] = s.encoded.1 ∙ one_digit n in
+    let e : s.front ≡ nat_eq n 1 ∷ [] = s.encoded.1 ∙ one_bit n s.encoded.0 in
     then_starts (raw_bits 1 Short node) (λ bits b. b) (λ bits. constant (first_of bits)) list left left s.front (nat_eq n 1)
     (record { front = s.front; encoded = (ap length e, refl); parts = s.parts })
     (record {
       front = [];
-      encoded = (sym (odd_of_one n s.encoded.0) ∙ sym (ap first_of e), refl);
+      encoded = (sym (ap first_of e), refl);
       parts = refl;
     })

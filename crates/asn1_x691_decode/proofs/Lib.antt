@@ -1,0 +1,2 @@
+mod PresenceSteps
+mod Steps

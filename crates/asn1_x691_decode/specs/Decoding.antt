@@ -1,0 +1,139 @@
+-- What a decoder did: the parts that it found, or the first fault.
+use Rattle.std.specs.Prelude.{◌≡◌, ℕ, ◌+◌, ◌⊎◌, ⊤, Bool, true, false, List, [], ◌∷◌, Option, Some, None, slice_get, slice_range, drop}
+use Rattle.asn1_bits.specs.Bits.{bits}
+use Rattle.asn1_schema.specs.declared.part.Part.{Part}
+use Rattle.asn1_schema.specs.declared.tables.Node.{Node}
+use Rattle.asn1_schema.specs.declared.tables.Node.TheVariants as type
+use Rattle.asn1_schema.specs.declared.tables.Member.{Member}
+use Rattle.asn1_schema.specs.declared.tables.Presence.{Presence}
+use Rattle.asn1_schema.specs.declared.tables.Presence.TheVariants as presence
+use Rattle.asn1_schema.specs.declared.tables.Rows.{Rows}
+use Rattle.asn1_schema.specs.Pieces.{Absent, Parts}
+use Rattle.asn1_schema.specs.PiecesOfParts.{bits_at}
+use Rattle.asn1_schema.specs.Encodings.{Encoding, Starts, constant, invalid}
+use Rattle.asn1_schema.specs.TypeEncodings.{TypeEncoding, AfterHeader}
+use Rattle.asn1_x691.specs.declared.fault.FaultKind.{FaultKind}
+use Rattle.asn1_x691.specs.declared.fault.FaultKind.TheVariants.{Unsupported, NoNode}
+use Rattle.asn1_x691.specs.Types.{type_at, type_of, value_by, components, root_of, sequence_by, extension}
+use Rattle.asn1_x691_fields.specs.declared.state.State.{State}
+use Rattle.asn1_x691_fields.specs.Outcomes.{rest, position, fault_of, IsInFragments}
+use Rattle.asn1_x691_decode.specs.declared.context.Context.{Context}
+use Rattle.asn1_x691_decode.specs.declared.presence.PresenceBits.{PresenceBits}
+use Rattle.asn1_x691_decode.specs.Room.{IsGrown}
+
+-- ---- a schema
+
+-- the complete encoding of a default value; none where the table has none
+abbrev pub default_in : List ℕ → Option Rows → List Bool
+default_in octets None = []
+default_in octets (Some r) = bits (slice_range octets r.from (r.from + r.count))
+
+abbrev pub default_of : List ℕ → List Rows → ℕ → List Bool
+default_of octets rows value = default_in octets (slice_get rows value)
+
+-- the types of a context, whose values are nested less deep than the depth
+abbrev pub types : Context → ℕ → ℕ → ℕ → TypeEncoding FaultKind
+types c depth node = type_at c.is_aligned c.tables.nodes.now c.tables.members.now c.tables.ranges.now
+    (default_of c.defaults.octets.now c.defaults.rows.now) depth node
+
+-- ---- what the decoder does not read yet
+
+-- types that it does not know
+abbrev pub IsLater : Option Node → Type 0
+IsLater (Some (type.Text length is_extensible alphabet whole)) = ⊤
+IsLater (Some type.ObjectIdentifier) = ⊤
+IsLater (Some type.RelativeIdentifier) = ⊤
+IsLater (Some type.Utf8String) = ⊤
+IsLater (Some (type.SetOf length is_extensible item)) = ⊤
+IsLater (Some (type.IntegerBetween bounds is_extensible)) = is_extensible ≡ true
+IsLater (Some (type.IntegerAtLeast least is_extensible)) = is_extensible ≡ true
+IsLater o = ⊥
+
+-- types whose default values it compares
+abbrev pub IsSimple : Option Node → Type 0
+IsSimple (Some type.Boolean) = ⊤
+IsSimple (Some (type.IntegerBetween bounds is_extensible)) = ⊤
+IsSimple (Some (type.Enumerated last is_extensible known)) = ⊤
+IsSimple o = ⊥
+
+-- a component of the type at a node has a default value that it does not compare
+pub record IsDefaulted (c : Context) (node : ℕ) : Type 0 where
+  pub index : ℕ
+  pub value : ℕ
+  pub member : slice_get c.tables.members.now index ≡ Some (record { node = node; presence = presence.Default value })
+  pub type : ¬ (IsSimple (slice_get c.tables.nodes.now node))
+
+abbrev pub IsUnsupported : Context → State → Type 0
+IsUnsupported c s = IsInFragments (bits c.octets.now) s
+    ⊎ ((s.kind ≡ Unsupported) × (IsLater (slice_get c.tables.nodes.now s.node) ⊎ IsDefaulted c s.node))
+
+-- ---- what a call did
+
+-- parts were found, of which the bits from the old index to the new one are an encoding
+pub record IsDecoded (P : Parts → List Bool → Type 0) (list : List Bool) (old new : State) (was now : List Part) : Type 0 where
+  pub parts : Parts
+  pub starts : Starts P (rest list old) parts (rest list new)
+  pub grown : IsGrown list was old.count now new.count parts
+
+-- parts were found; or the state names the first fault, or what the decoder does not read yet
+abbrev pub Outcome : Context → (ℕ → Encoding FaultKind Parts) → State → State → List Part → List Part → Bool → Type 0
+Outcome c A old new was now true = IsDecoded (A (position old)).encodes (bits c.octets.now) old new was now
+Outcome c A old new was now false =
+    (A (position old)).fault (rest (bits c.octets.now) old) (fault_of new) ⊎ IsUnsupported c new
+
+-- ---- the definitions of X.691, for a context
+
+module _ (c : Context) (depth node : ℕ) where
+  abbrev defaults : ℕ → List Bool
+  defaults = default_of c.defaults.octets.now c.defaults.rows.now
+
+  -- the type of a node, where other types are nested less deep than the depth
+  abbrev pub type_in : Option Node → ℕ → TypeEncoding FaultKind
+  type_in = type_of c.is_aligned (types c depth) c.tables.members.now c.tables.ranges.now defaults node
+
+  -- a value that is not the default
+  abbrev pub value_in : Presence → ℕ → ℕ → TypeEncoding FaultKind
+  value_in p inner = value_by c.is_aligned (types c depth) c.tables.members.now c.tables.ranges.now defaults node p (types c depth inner)
+
+  abbrev pub components_in : ℕ → ℕ → ℕ → AfterHeader FaultKind (List Bool)
+  components_in = components c.is_aligned (types c depth) c.tables.members.now c.tables.ranges.now defaults node
+
+  abbrev pub root_in : Rows → ℕ → TypeEncoding FaultKind
+  root_in = root_of c.is_aligned (types c depth) c.tables.members.now c.tables.ranges.now defaults node
+
+  abbrev pub sequence_in : Bool → Rows → Rows → ℕ → TypeEncoding FaultKind
+  sequence_in = sequence_by c.is_aligned (types c depth) c.tables.members.now c.tables.ranges.now defaults node
+
+  abbrev pub extension_in : Rows → ℕ → TypeEncoding FaultKind
+  extension_in = extension c.is_aligned (types c depth) c.tables.members.now c.tables.ranges.now defaults node
+
+  -- a component alone: a bit tells whether it is present
+  abbrev pub by_presence : List Bool → (ℕ → TypeEncoding FaultKind) → ℕ → Encoding FaultKind Parts
+  by_presence [] A at = invalid NoNode node
+  by_presence (false ∷ bits) A at = constant (Absent ∷ [])
+  by_presence (true ∷ bits) A at = (A at).encoding
+
+  abbrev pub component_in : Presence → ℕ → List Bool → ℕ → Encoding FaultKind Parts
+  component_in presence.Mandatory inner bits at = (value_in presence.Mandatory inner at).encoding
+  component_in presence.Optional inner bits at = by_presence bits (value_in presence.Optional inner) at
+  component_in (presence.Default v) inner bits at = by_presence bits (value_in (presence.Default v) inner) at
+
+-- the bits that tell of the components after one
+abbrev pub bits_after_one : List Bool → List Bool
+bits_after_one [] = []
+bits_after_one (b ∷ bits) = bits
+
+abbrev pub bits_after : Presence → List Bool → List Bool
+bits_after presence.Mandatory bits = bits
+bits_after presence.Optional bits = bits_after_one bits
+bits_after (presence.Default v) bits = bits_after_one bits
+
+-- ---- bits that tell which components are present
+
+abbrev pub told_by : List Bool → PresenceBits → List Bool
+told_by list p = bits_at list p.at p.left
+
+-- the first of them, if there is one
+abbrev pub IsTold : List Bool → PresenceBits → PresenceBits → Option Bool → Type 0
+IsTold list old new None = (told_by list old ≡ []) × (told_by list new ≡ [])
+IsTold list old new (Some b) = told_by list old ≡ b ∷ told_by list new

@@ -1,0 +1,3 @@
+-- What a decoder did: which parts it found.
+pub mod Room
+pub mod Decoding

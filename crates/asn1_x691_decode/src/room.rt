@@ -1,0 +1,26 @@
+//! Room for parts.
+
+ghost use Rattle.std.specs.Prelude.{◌≡◌, List, Bool, ◌∷◌, []};
+ghost use Rattle.asn1_schema.specs.PiecesOfParts.{piece_of};
+ghost use Rattle.asn1_x691_decode.specs.Room.{IsGrown};
+
+use asn1_schema::Part;
+use asn1_x691_fields::State;
+
+/// Counts a part, and stores it where there is room.
+#[inline(always)]
+pub(crate) fn push(parts: &mut [Part], state: &mut State, part: Part)
+    ensures at { state.new.at ≡ state.old.at }
+    ensures first { state.new.first ≡ state.old.first }
+    ensures end { state.new.end ≡ state.old.end }
+    ensures grown { (list : List Bool) → IsGrown list parts.old state.old.count parts.new state.new.count
+        (piece_of list part ∷ []) }
+{
+    let count = state.count;
+    if count < parts.len() {
+        parts[count] = part;
+        state.count = count + 1;
+        return;
+    }
+    state.count = count.saturating_add(1);
+}
