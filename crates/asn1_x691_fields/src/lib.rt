@@ -5,7 +5,11 @@
 
 mod bits;
 mod heads;
+mod lengths;
+mod numbers;
 mod state;
 
 pub use heads::{next_bit, next_bits, next_start, next_word};
+pub use lengths::next_length;
+pub use numbers::{next_constrained, next_in_bits, next_number, width_to};
 pub use state::{State, fail};
