@@ -108,8 +108,21 @@ fn next_indefinite(octets: &[u8], range: u128, node: usize, state: &mut State) -
 {
     let most = width_to(range).saturating_sub(1) / 8 + 1;
     let count = next_octet_count(octets, most, node, state)?;
+    next_counted(octets, count, range, node, state)
+}
+
+/// Reads a number from 0 to `most` in `count` octets, and no fewer, from an octet on (X.691 11.3.6).
+fn next_counted(octets: &[u8], count: usize, most: u128, node: usize, state: &mut State) -> Option<u128>
+    requires size { 8 * length octets.now < 2 ^ 64 }
+    requires count { count ≤ 16 }
+    requires within { IsWithin (bits octets.now) state.old }
+    requires placed { IsPlaced true state.old }
+    ensures onward { IsOnward (bits octets.now) state.old state.new }
+    ensures most { IfSome result (λ n. n ≤ most) }
+    ensures read { IsRead (on_octet true node (minimal_up_to count most node)) (λ n. n) (bits octets.now) state.old state.new result }
+{
     next_start(octets, true, node, state)?;
-    next_minimal_up_to(octets, count, range, node, state)
+    next_minimal_up_to(octets, count, most, node, state)
 }
 
 /// Reads a number of octets from 1 to `most` (X.691 13.2.6 a).
