@@ -1,12 +1,20 @@
 -- What follows from steps of a decoder that reads numbers and lengths.
-use Rattle.std.proofs.Common.{◌≡◌, ℕ, ◌+◌, List, [], ◌∷◌, ◌++◌, Bool, true, false, refl, sym, ◌∙◌, ap, subst, inl, inr, Option, Some, None}
+use Rattle.std.proofs.Common.{◌≡◌, ℕ, ℤ, negsuc, suc, ◌+◌, ◌-◌, ◌*◌, ◌^◌, ◌<◌, ◌≤◌, List, [], ◌∷◌, ◌++◌, Bool, true, false, length, refl, sym, ◌∙◌, ap, subst, inl, inr, Option, Some, None, arith}
+use Rattle.std.specs.Prelude.{◌⊎◌}
+use Rattle.std.proofs.Math.Pow.{pow_mono}
 use Rattle.std.proofs.lemmas.List.{append-nil}
+use Rattle.asn1_bits.specs.Bits.{number as number_of}
+use Rattle.asn1_bits.specs.NumberLaws.{number_is}
 use Rattle.asn1_schema.specs.Encodings.{Fault, Encoding, Starts, IsAt, number, anywhere, constant, invalid, then, cases, in_turn, in_case}
+use Rattle.asn1_schema.specs.Fields.{raw_bits}
+use Rattle.asn1_schema.specs.PiecesOfParts.{signed_number}
 use Rattle.asn1_x691.specs.declared.fault.FaultKind.{FaultKind}
-use Rattle.asn1_x691.specs.Fields.{zeros, to_octet, on_octet}
+use Rattle.asn1_x691.specs.declared.fault.FaultKind.TheVariants.{Short, NotMinimal}
+use Rattle.asn1_x691.specs.Fields.{zeros, to_octet, on_octet, below_minus_one, signed_of, signed_octets}
 use Rattle.asn1_x691_fields.specs.declared.state.State.{State}
+use Rattle.asn1_x691_fields.specs.FirstBits.{IsPositive, IsNegative, by_sign}
 use Rattle.asn1_x691_fields.specs.Outcomes.{rest, position, fault_of, IsWithin, IsOnward, IsRead}
-use Rattle.asn1_x691_fields.specs.Steps.{then_starts, then_fault, turn_starts, turn_fault, constant_starts}
+use Rattle.asn1_x691_fields.specs.Steps.{then_starts, then_fault, turn_starts, turn_fault}
 
 -- ---- a value that is tested
 
@@ -91,3 +99,57 @@ octet_read list old mid new g aligned node A (Some t) s p =
     octet_starts node A (position old) aligned (rest list old) (rest list mid) (rest list new) (g t) s p
 octet_read list old mid new g aligned node A None s p =
     octet_fault node A (position old) aligned (rest list old) (rest list mid) (fault_of new) s p
+
+-- ---- a number that stays in the message
+
+pub number_of_bits : (width node : ℕ) (list front left : List Bool) → Starts (raw_bits width Short node).encodes list front left
+    → Starts (number width Short node).encodes list (number_of front) left
+number_of_bits width node list front left s =
+    let e = number_is s.front (number_of front) width s.encoded.0 (ap number_of s.encoded.1) in
+    record { front = s.front; encoded = (e.0, sym e.1); parts = s.parts }
+
+-- octets of two's complement that are as few as they can be
+abbrev pub IsFewest : ℕ → ℕ → Type 0
+IsFewest count d = (count ≤ 1) ⊎ ((2 ^ (8 * count - 9) ≤ d) × (2 ^ (8 * count - 9) ≤ below_minus_one count d))
+
+-- and octets that are too many
+abbrev pub IsTooLong : ℕ → ℕ → Type 0
+IsTooLong count d = (d < 2 ^ (8 * count - 9)) ⊎ ((2 ^ (8 * count - 1) ≤ d) × (below_minus_one count d < 2 ^ (8 * count - 9)))
+
+module _ (count node : ℕ) (list bits mid : List Bool) (s : Starts (raw_bits (8 * count) Short node).encodes list bits mid) where
+  fewest_up : (d : ℕ) → IsFewest count d → (count ≤ 1) ⊎ (2 ^ (8 * count - 9) ≤ d)
+  fewest_up d (inl p) = inl p
+  fewest_up d (inr p) = inr p.0
+
+  fewest_down : (d : ℕ) → IsFewest count d → (count ≤ 1) ⊎ (2 ^ (8 * count - 9) ≤ below_minus_one count d)
+  fewest_down d (inl p) = inl p
+  fewest_down d (inr p) = inr p.1
+
+  signed : (z : ℤ) → (signed_of count node (number_of bits)).encodes z [] → Starts (signed_octets count node).encodes list z mid
+  signed z p =
+      then_starts (number (8 * count) Short node) (λ d z. z) (λ d. signed_of count node d) list mid mid (number_of bits) z
+      (number_of_bits (8 * count) node list bits mid s) (record { front = []; encoded = p; parts = refl })
+
+  signed_case : (w : ℕ) → suc w ≡ 8 * count → 8 * count - 1 ≡ w → IsFewest count (number_of bits)
+      → IsPositive bits w ⊎ IsNegative bits w → (signed_of count node (number_of bits)).encodes (signed_number bits) []
+  signed_case w e f few (inl p) =
+      inl (subst (λ (n : ℕ). number_of bits < 2 ^ n) (sym f) p.low, inl (fewest_up (number_of bits) few, (p.same, refl)))
+  signed_case w e f few (inr p) =
+      inr (subst (λ (n : ℕ). 2 ^ n ≤ number_of bits) (sym f) p.high,
+      inl (fewest_down (number_of bits) few, (p.below ∙ ap (λ (n : ℕ). negsuc (2 ^ n - 1 - number_of bits)) e, refl)))
+
+  pub signed_starts : 0 < count → IsFewest count (number_of bits) → Starts (signed_octets count node).encodes list (signed_number bits) mid
+  signed_starts some few =
+      let e : suc (8 * count - 1) ≡ 8 * count = omega (arith, some) in
+      let size : length bits ≡ suc (8 * count - 1) = ap length s.encoded.1 ∙ s.encoded.0 ∙ sym e in
+      signed (signed_number bits) (signed_case (8 * count - 1) e refl few (by_sign bits (8 * count - 1) size))
+
+  pub signed_fault : (e : Fault FaultKind) → 1 < count → IsTooLong count (number_of bits) → IsAt NotMinimal node mid e
+      → (signed_octets count node).fault list e
+  signed_fault e some (inl p) w =
+      let up : 2 ^ (8 * count - 9) ≤ 2 ^ (8 * count - 1) = pow_mono (omega (arith, some)) in
+      then_fault (number (8 * count) Short node) (λ d z. z) (λ d. signed_of count node d) list mid (number_of bits) e
+      (number_of_bits (8 * count) node list bits mid s) (inl (omega (arith, p, up), inr ((some, p), w)))
+  signed_fault e some (inr p) w =
+      then_fault (number (8 * count) Short node) (λ d z. z) (λ d. signed_of count node d) list mid (number_of bits) e
+      (number_of_bits (8 * count) node list bits mid s) (inr (p.0, inr ((some, p.1), w)))

@@ -1,6 +1,6 @@
 //! Constrained whole numbers (X.691 11.5): each is read as its distance from the least.
 
-ghost use Rattle.std.specs.Prelude.{◌≡◌, ◌≢◌, ◌≤◌, ◌<◌, ◌^◌, ◌*◌, length, true, IfSome};
+ghost use Rattle.std.specs.Prelude.{◌≡◌, ◌≢◌, ◌≤◌, ◌<◌, ◌^◌, ◌*◌, pos, ◌+ℤ◌, ◌<ℤ◌, length, true, IfSome};
 ghost use Rattle.asn1_bits.specs.Bits.{bits};
 ghost use Rattle.asn1_schema.specs.Encodings.{anywhere, number, in_case};
 ghost use Rattle.asn1_x691.specs.declared.fault.FaultKind.TheVariants.{Short};
@@ -19,6 +19,15 @@ pub fn width_to(range: u128) -> usize
     ensures most { result ≤ 128 }
 {
     (128 - range.leading_zeros()) as usize
+}
+
+/// Returns the number that is so far above the least.
+#[inline(always)]
+pub fn above(least: i128, n: u128) -> i128
+    requires { (least +ℤ pos n) <ℤ pos (2 ^ 127) }
+    ensures { result ≡ least +ℤ pos n }
+{
+    least.wrapping_add_unsigned(n)
 }
 
 /// Reads a number of `width` bits, at most 128 (X.691 11.3).
