@@ -7,11 +7,13 @@ mod bits;
 mod heads;
 mod lengths;
 mod numbers;
+mod small;
 mod state;
 mod unbounded;
 
 pub use heads::{next_bit, next_bits, next_start, next_word};
-pub use lengths::next_length;
+pub use lengths::{next_length, next_small_length};
 pub use numbers::{above, next_constrained, next_in_bits, next_number, width_to};
+pub use small::next_small_number;
 pub use state::{State, fail};
 pub use unbounded::{next_semi_constrained, next_unconstrained};
