@@ -1,5 +1,5 @@
 -- What follows from steps of a decoder that reads numbers and lengths.
-use Rattle.std.proofs.Common.{◌≡◌, ℕ, ℤ, negsuc, suc, ◌+◌, ◌-◌, ◌*◌, ◌^◌, ◌<◌, ◌≤◌, List, [], ◌∷◌, ◌++◌, Bool, true, false, length, refl, sym, ◌∙◌, ap, subst, inl, inr, Option, Some, None, arith}
+use Rattle.std.proofs.Common.{◌≡◌, ℕ, ℤ, negsuc, suc, ◌-◌, ◌*◌, ◌^◌, ◌<◌, ◌≤◌, List, [], ◌++◌, Bool, true, false, length, refl, sym, ◌∙◌, ap, subst, inl, inr, Option, Some, None, arith}
 use Rattle.std.specs.Prelude.{◌⊎◌}
 use Rattle.std.proofs.Math.Pow.{pow_mono}
 use Rattle.std.proofs.lemmas.List.{append-nil}
@@ -135,8 +135,10 @@ module _ (count node : ℕ) (list bits mid : List Bool) (s : Starts (raw_bits (8
   signed_case w e f few (inl p) =
       inl (subst (λ (n : ℕ). number_of bits < 2 ^ n) (sym f) p.low, inl (fewest_up (number_of bits) few, (p.same, refl)))
   signed_case w e f few (inr p) =
-      inr (subst (λ (n : ℕ). 2 ^ n ≤ number_of bits) (sym f) p.high,
-      inl (fewest_down (number_of bits) few, (p.below ∙ ap (λ (n : ℕ). negsuc (2 ^ n - 1 - number_of bits)) e, refl)))
+      inr (
+        subst (λ (n : ℕ). 2 ^ n ≤ number_of bits) (sym f) p.high,
+        inl (fewest_down (number_of bits) few, (p.below ∙ ap (λ (n : ℕ). negsuc (2 ^ n - 1 - number_of bits)) e, refl)),
+      )
 
   pub signed_starts : 0 < count → IsFewest count (number_of bits) → Starts (signed_octets count node).encodes list (signed_number bits) mid
   signed_starts some few =

@@ -63,7 +63,12 @@ fn next_length_after(octets: &[u8], first: u64, node: usize, state: &mut State) 
 }
 
 /// Reads a length below 16,384, where most are from 1 to 64 (X.691 11.9.3.4).
-pub fn next_small_length(octets: &[u8], is_aligned: bool, node: usize, state: &mut State) -> Option<usize>
+pub fn next_small_length(
+    octets: &[u8],
+    is_aligned: bool,
+    node: usize,
+    state: &mut State,
+) -> Option<usize>
     requires size { 8 * length octets.now < 2 ^ 64 }
     requires within { IsWithin (bits octets.now) state.old }
     requires placed { IsPlaced is_aligned state.old }
@@ -77,7 +82,13 @@ pub fn next_small_length(octets: &[u8], is_aligned: bool, node: usize, state: &m
 
 /// Reads a length after the bit that tells its form: 0 up to 64, and 1 above.
 #[inline(always)]
-fn next_small_or_large(octets: &[u8], is_aligned: bool, bit: u64, node: usize, state: &mut State) -> Option<usize>
+fn next_small_or_large(
+    octets: &[u8],
+    is_aligned: bool,
+    bit: u64,
+    node: usize,
+    state: &mut State,
+) -> Option<usize>
     requires size { 8 * length octets.now < 2 ^ 64 }
     requires within { IsWithin (bits octets.now) state.old }
     requires placed { IsPlaced is_aligned state.old }
@@ -106,7 +117,12 @@ fn next_distance_from_one(octets: &[u8], node: usize, state: &mut State) -> Opti
 }
 
 /// Reads a length above 64.
-fn next_large_length(octets: &[u8], is_aligned: bool, node: usize, state: &mut State) -> Option<usize>
+fn next_large_length(
+    octets: &[u8],
+    is_aligned: bool,
+    node: usize,
+    state: &mut State,
+) -> Option<usize>
     requires size { 8 * length octets.now < 2 ^ 64 }
     requires within { IsWithin (bits octets.now) state.old }
     requires placed { IsPlaced is_aligned state.old }

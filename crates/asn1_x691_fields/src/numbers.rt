@@ -51,7 +51,13 @@ pub fn next_number(octets: &[u8], width: usize, node: usize, state: &mut State) 
 
 /// Reads a number from 0 to `most` of `width` bits (X.691 11.3).
 #[inline(always)]
-pub fn next_in_bits(octets: &[u8], width: usize, most: u128, node: usize, state: &mut State) -> Option<u128>
+pub fn next_in_bits(
+    octets: &[u8],
+    width: usize,
+    most: u128,
+    node: usize,
+    state: &mut State,
+) -> Option<u128>
     requires size { 8 * length octets.now < 2 ^ 64 }
     requires width { width ≤ 128 }
     requires within { IsWithin (bits octets.now) state.old }
@@ -70,7 +76,13 @@ pub fn next_in_bits(octets: &[u8], width: usize, most: u128, node: usize, state:
 /// Reads a constrained whole number from 0 to `range`, the distance of the greatest from the least
 /// (X.691 11.5.6, 11.5.7).
 #[inline(always)]
-pub fn next_constrained(octets: &[u8], is_aligned: bool, range: u128, node: usize, state: &mut State) -> Option<u128>
+pub fn next_constrained(
+    octets: &[u8],
+    is_aligned: bool,
+    range: u128,
+    node: usize,
+    state: &mut State,
+) -> Option<u128>
     requires size { 8 * length octets.now < 2 ^ 64 }
     requires within { IsWithin (bits octets.now) state.old }
     requires placed { IsPlaced is_aligned state.old }
@@ -121,7 +133,13 @@ fn next_indefinite(octets: &[u8], range: u128, node: usize, state: &mut State) -
 }
 
 /// Reads a number from 0 to `most` in `count` octets, and no fewer, from an octet on (X.691 11.3.6).
-fn next_counted(octets: &[u8], count: usize, most: u128, node: usize, state: &mut State) -> Option<u128>
+fn next_counted(
+    octets: &[u8],
+    count: usize,
+    most: u128,
+    node: usize,
+    state: &mut State,
+) -> Option<u128>
     requires size { 8 * length octets.now < 2 ^ 64 }
     requires count { count ≤ 16 }
     requires within { IsWithin (bits octets.now) state.old }
@@ -149,7 +167,13 @@ fn next_octet_count(octets: &[u8], most: usize, node: usize, state: &mut State) 
 }
 
 /// Reads a number from 0 to `most` in `count` octets, and no fewer (X.691 11.3.6).
-fn next_minimal_up_to(octets: &[u8], count: usize, most: u128, node: usize, state: &mut State) -> Option<u128>
+fn next_minimal_up_to(
+    octets: &[u8],
+    count: usize,
+    most: u128,
+    node: usize,
+    state: &mut State,
+) -> Option<u128>
     requires size { 8 * length octets.now < 2 ^ 64 }
     requires count { count ≤ 16 }
     requires within { IsWithin (bits octets.now) state.old }

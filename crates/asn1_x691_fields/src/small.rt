@@ -17,7 +17,12 @@ use asn1_schema::{Natural, Span};
 use asn1_x691::FaultKind;
 
 /// Reads a whole number from 0 on, where most are below 64 (X.691 11.6).
-pub fn next_small_number(octets: &[u8], is_aligned: bool, node: usize, state: &mut State) -> Option<Natural>
+pub fn next_small_number(
+    octets: &[u8],
+    is_aligned: bool,
+    node: usize,
+    state: &mut State,
+) -> Option<Natural>
     requires size { 8 * length octets.now < 2 ^ 64 }
     requires within { IsWithin (bits octets.now) state.old }
     requires placed { IsPlaced is_aligned state.old }
@@ -32,7 +37,13 @@ pub fn next_small_number(octets: &[u8], is_aligned: bool, node: usize, state: &m
 
 /// Reads a number after the bit that tells its form: 0 below 64, and 1 from 64 on.
 #[inline(always)]
-fn next_small_or_large(octets: &[u8], is_aligned: bool, bit: u64, node: usize, state: &mut State) -> Option<Natural>
+fn next_small_or_large(
+    octets: &[u8],
+    is_aligned: bool,
+    bit: u64,
+    node: usize,
+    state: &mut State,
+) -> Option<Natural>
     requires size { 8 * length octets.now < 2 ^ 64 }
     requires within { IsWithin (bits octets.now) state.old }
     requires placed { IsPlaced is_aligned state.old }
@@ -62,7 +73,12 @@ fn next_below_64(octets: &[u8], node: usize, state: &mut State) -> Option<Natura
 }
 
 /// Reads a number from 64 on.
-fn next_large_number(octets: &[u8], is_aligned: bool, node: usize, state: &mut State) -> Option<Natural>
+fn next_large_number(
+    octets: &[u8],
+    is_aligned: bool,
+    node: usize,
+    state: &mut State,
+) -> Option<Natural>
     requires size { 8 * length octets.now < 2 ^ 64 }
     requires within { IsWithin (bits octets.now) state.old }
     requires placed { IsPlaced is_aligned state.old }

@@ -18,7 +18,12 @@ use asn1_x691::FaultKind;
 
 /// Reads a whole number from 0 on, in the fewest octets after their number (X.691 11.7). Returns
 /// its octets.
-pub fn next_semi_constrained(octets: &[u8], is_aligned: bool, node: usize, state: &mut State) -> Option<Span>
+pub fn next_semi_constrained(
+    octets: &[u8],
+    is_aligned: bool,
+    node: usize,
+    state: &mut State,
+) -> Option<Span>
     requires size { 8 * length octets.now < 2 ^ 64 }
     requires within { IsWithin (bits octets.now) state.old }
     requires placed { IsPlaced is_aligned state.old }
@@ -34,7 +39,13 @@ pub fn next_semi_constrained(octets: &[u8], is_aligned: bool, node: usize, state
 
 /// Reads a number from 0 on in `count` octets, at least one, and no fewer than it needs.
 #[inline(always)]
-fn next_after_count(octets: &[u8], is_aligned: bool, count: usize, node: usize, state: &mut State) -> Option<Span>
+fn next_after_count(
+    octets: &[u8],
+    is_aligned: bool,
+    count: usize,
+    node: usize,
+    state: &mut State,
+) -> Option<Span>
     requires size { 8 * length octets.now < 2 ^ 64 }
     requires count { count < 16384 }
     requires within { IsWithin (bits octets.now) state.old }
@@ -71,12 +82,20 @@ fn next_minimal_octets(octets: &[u8], count: usize, node: usize, state: &mut Sta
         fail(state, node, FaultKind::NotMinimal);
         return None;
     }
-    Some(Span { at, count: 8 * count })
+    Some(Span {
+        at,
+        count: 8 * count,
+    })
 }
 
 /// Reads a whole number in the fewest octets of two's complement, after their number (X.691 11.8).
 /// Returns its octets.
-pub fn next_unconstrained(octets: &[u8], is_aligned: bool, node: usize, state: &mut State) -> Option<Span>
+pub fn next_unconstrained(
+    octets: &[u8],
+    is_aligned: bool,
+    node: usize,
+    state: &mut State,
+) -> Option<Span>
     requires size { 8 * length octets.now < 2 ^ 64 }
     requires within { IsWithin (bits octets.now) state.old }
     requires placed { IsPlaced is_aligned state.old }
@@ -91,7 +110,13 @@ pub fn next_unconstrained(octets: &[u8], is_aligned: bool, node: usize, state: &
 
 /// Reads a number in `count` octets of two's complement, at least one, and no fewer than it needs.
 #[inline(always)]
-fn next_signed_after_count(octets: &[u8], is_aligned: bool, count: usize, node: usize, state: &mut State) -> Option<Span>
+fn next_signed_after_count(
+    octets: &[u8],
+    is_aligned: bool,
+    count: usize,
+    node: usize,
+    state: &mut State,
+) -> Option<Span>
     requires size { 8 * length octets.now < 2 ^ 64 }
     requires count { count < 16384 }
     requires within { IsWithin (bits octets.now) state.old }
@@ -130,5 +155,8 @@ fn next_signed_octets(octets: &[u8], count: usize, node: usize, state: &mut Stat
             return None;
         }
     }
-    Some(Span { at, count: 8 * count })
+    Some(Span {
+        at,
+        count: 8 * count,
+    })
 }

@@ -14,5 +14,8 @@ returns-then-count-le64-clause-read c =
     let mid = c.next_length.new.state in
     turn_fault list c.args.state.now mid c.requires.within c.in_ok-count.ensures.onward (length_of c.args.is_aligned node) (λ n m. m)
     (λ n. anywhere (above_64 node n)) c.in_ok-count.count c.in_ok-count.ensures.read (fault_of c.fail.new.state)
-    (inr (c.if-count-le64.true, fault_at list mid c.fail.new.state node NotMinimal c.in_ok-count.ensures.onward.inside
-    c.fail.ensures.at c.fail.ensures.end c.fail.ensures.node c.fail.ensures.kind))
+    (inr (
+      c.if-count-le64.true,
+      fault_at list mid c.fail.new.state node NotMinimal c.in_ok-count.ensures.onward.inside
+          c.fail.ensures.at c.fail.ensures.end c.fail.ensures.node c.fail.ensures.kind,
+    ))

@@ -1,4 +1,4 @@
-use Rattle.std.proofs.Common.{◌≡◌, ℕ, ◌-◌, ◌*◌, ◌^◌, ◌<◌, ◌≤◌, take, drop, inl, inr, ap, ◌∙◌, sym, subst, arith}
+use Rattle.std.proofs.Common.{◌≡◌, ℕ, ◌-◌, ◌*◌, ◌^◌, ◌<◌, ◌≤◌, take, drop, inl, inr, ◌∙◌, sym, subst, arith}
 use Rattle.std.specs.Prelude.{◌⊎◌}
 use Rattle.asn1_bits.specs.Bits.{bits, number as number_of}
 use Rattle.asn1_bits.specs.DigitLaws.{length-bits}
@@ -24,10 +24,12 @@ returns-then-number_at-eq0-clause-read c =
     let mid = rest list c.next_bits.new.state in
     tested_fault (number (8 * count) Short c.args.node) (λ d. (count ≤ 1) ⊎ (2 ^ (8 * (count - 1)) ≤ d)) (λ d. (1 < count) × (d < 2 ^ (8 * (count - 1))))
     NotMinimal c.args.node start mid (number_of front) (fault_of c.fail.new.state)
-    (number_of_bits (8 * count) c.args.node start front mid c.in_ok-at.ensures.read)
-    (c.if-count-gt1.true, octet_zero list c.in_ok-at.at count c.if-count-gt1.true
-    (omega (arith, c.in_ok-at.ensures.at, c.in_ok-at.ensures.onward.inside, c.in_ok-at.ensures.onward.ends))
-    (sym c.number_at.ensures ∙ c.if-number_at-eq0.true))
+    (number_of_bits (8 * count) c.args.node start front mid c.in_ok-at.ensures.read) (
+      c.if-count-gt1.true,
+      octet_zero list c.in_ok-at.at count c.if-count-gt1.true
+          (omega (arith, c.in_ok-at.ensures.at, c.in_ok-at.ensures.onward.inside, c.in_ok-at.ensures.onward.ends))
+          (sym c.number_at.ensures ∙ c.if-number_at-eq0.true),
+    )
     (fault_at list c.next_bits.new.state c.fail.new.state c.args.node NotMinimal c.in_ok-at.ensures.onward.inside
     c.fail.ensures.at c.fail.ensures.end c.fail.ensures.node c.fail.ensures.kind)
 
