@@ -1,4 +1,8 @@
--- What a call did to the state of a decoder.
+-- What a call did to the state of a decoder, and what it says of its result.
 pub mod Outcomes
+pub mod Numbers
+-- What follows from steps of a decoder; no contract cites these.
+pub mod FirstBits
+pub mod NumberSteps
 pub mod Steps
 pub mod StringSteps

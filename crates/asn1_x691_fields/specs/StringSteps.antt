@@ -1,5 +1,5 @@
 -- What follows from steps over units and their number.
-use Rattle.std.proofs.Common.{◌≡◌, ℕ, suc, ◌+◌, ◌-◌, ◌*◌, ◌/◌, ◌^◌, ◌<◌, ◌≤◌, List, [], ◌∷◌, ◌++◌, Bool, true, false, take, drop, refl, sym, ◌∙◌, ap, subst, arith, append_assoc, append-nil, inl, inr, Option, Some, None}
+use Rattle.std.proofs.Common.{◌≡◌, ℕ, suc, ◌+◌, ◌-◌, ◌*◌, ◌/◌, ◌^◌, ◌<◌, ◌≤◌, List, [], ◌∷◌, ◌++◌, Bool, true, take, drop, refl, sym, ◌∙◌, ap, subst, arith, append_assoc, inl, inr, Option, Some, None}
 use Rattle.std.specs.Prelude.{◌⊎◌}
 use Rattle.std.proofs.lemmas.List.{take-append-drop, drop-take, drop-drop}
 use Rattle.asn1_bits.specs.Bits.{digits}
@@ -7,10 +7,11 @@ use Rattle.asn1_bits.specs.NumberLaws.{digits-append}
 use Rattle.asn1_schema.specs.Encodings.{Fault, Encoding, Starts, number, constant, then, in_case, anywhere}
 use Rattle.asn1_x691.specs.declared.fault.FaultKind.{FaultKind}
 use Rattle.asn1_x691.specs.declared.fault.FaultKind.TheVariants.{Short, Fragment}
-use Rattle.asn1_x691.specs.Fields.{long_enough, on_octet, zeros, to_octet}
+use Rattle.asn1_x691.specs.Fields.{long_enough, on_octet}
 use Rattle.asn1_x691.specs.Fragments.{units_after, units_octets, units_next, units, units_then, last_units, all_units, most_fragments}
 use Rattle.asn1_x691_fields.specs.declared.state.State.{State}
 use Rattle.asn1_x691_fields.specs.Outcomes.{rest, position, fault_of, IsWithin, IsOnward, IsTaken, IsInFragments, IsFragmentFault}
+use Rattle.asn1_x691_fields.specs.NumberSteps.{octet_starts, octet_fault}
 use Rattle.asn1_x691_fields.specs.Steps.{fault_at, then_starts, then_fault, constant_starts, turn_starts, turn_fault, moved_on, within_after}
 
 -- the same bits, by another encoding
@@ -74,41 +75,6 @@ fragment_fault list old mid new node n h g s a e (inr p) =
     inl (then_fault (number 8 Short node) (λ x m. m) (λ x. units_after node x) (rest list old) (rest list mid) n (fault_of new) s
     (inr (omega (arith, a), inr (a, inr (p.0, fault_at list mid new node Fragment g.inside p.1 e p.2 p.3)))))
 
--- ---- fields that begin with an octet
-
-module _ {X : Type 0} (A : Encoding FaultKind X) (node at : ℕ) where
-  -- after the zeros
-  pub octet_starts : (aligned : Bool) (list mid left : List Bool) (x : X)
-      → Starts (on_octet aligned node (constant {K = FaultKind} (tt {0})) at).encodes list tt mid
-      → Starts A.encodes mid x left → Starts (on_octet aligned node A at).encodes list x left
-  octet_starts false list mid left x s t =
-      let e : list ≡ mid = s.parts ∙ ap (λ (l : List Bool). l ++ mid) s.encoded.1 in
-      subst (λ (l : List Bool). Starts A.encodes l x left) (sym e) t
-  octet_starts true list mid left x s t =
-      let p = s.encoded in
-      let whole : s.front ≡ p.front = p.parts ∙ ap (λ (l : List Bool). p.front ++ l) p.second.1 ∙ append-nil p.front in
-      then_starts (zeros (to_octet at) node) (λ u y. y) (λ u. A) list mid left tt x
-      (record { front = p.front; encoded = p.first; parts = s.parts ∙ ap (λ (l : List Bool). l ++ mid) whole }) t
-
-  pub octet_fault : (aligned : Bool) (list mid : List Bool) (e : Fault FaultKind)
-      → Starts (on_octet aligned node (constant {K = FaultKind} (tt {0})) at).encodes list tt mid
-      → A.fault mid e → (on_octet aligned node A at).fault list e
-  octet_fault false list mid e s w =
-      let same : list ≡ mid = s.parts ∙ ap (λ (l : List Bool). l ++ mid) s.encoded.1 in
-      subst (λ (l : List Bool). A.fault l e) (sym same) w
-  octet_fault true list mid e s w =
-      let p = s.encoded in
-      let whole : s.front ≡ p.front = p.parts ∙ ap (λ (l : List Bool). p.front ++ l) p.second.1 ∙ append-nil p.front in
-      then_fault (zeros (to_octet at) node) (λ u y. y) (λ u. A) list mid tt e
-      (record { front = p.front; encoded = p.first; parts = s.parts ∙ ap (λ (l : List Bool). l ++ mid) whole }) w
-
-  -- the zeros have the same fault before any field
-  pub zeros_fault : (aligned : Bool) (list : List Bool) (e : Fault FaultKind)
-      → (on_octet aligned node (constant {K = FaultKind} (tt {0})) at).fault list e → (on_octet aligned node A at).fault list e
-  zeros_fault true list e (inl w) = inl w
-  zeros_fault true list e (inr w) = absurd w.holds
-  zeros_fault false list e w = absurd w
-
 -- ---- the units
 
 module _ {Y : Type 0} (U : ℕ → ℕ → Encoding FaultKind Y) (join : Y → Y → Y) (aligned : Bool) (node : ℕ) where
@@ -153,9 +119,9 @@ pub counted_after_start : {X T : Type 0} (A : Encoding FaultKind X) (node : ℕ)
     → Starts (on_octet aligned node (constant {K = FaultKind} (tt {0})) (position old)).encodes (rest list old) tt (rest list mid)
     → IsTaken (λ at. A) f list mid new r → IsTaken (on_octet aligned node A) f list old new r
 counted_after_start A node aligned list old mid new f (Some t) s p =
-    octet_starts A node (position old) aligned (rest list old) (rest list mid) (rest list new) (f t) s p
+    octet_starts node A (position old) aligned (rest list old) (rest list mid) (rest list new) (f t) s p
 counted_after_start A node aligned list old mid new f None s (inl w) =
-    inl (octet_fault A node (position old) aligned (rest list old) (rest list mid) (fault_of new) s w)
+    inl (octet_fault node A (position old) aligned (rest list old) (rest list mid) (fault_of new) s w)
 counted_after_start A node aligned list old mid new f None s (inr w) = inr w
 
 pub count_taken : {Y : Type 0} (U : ℕ → ℕ → Encoding FaultKind Y) (join : Y → Y → Y) (aligned : Bool) (node : ℕ) (list : List Bool)

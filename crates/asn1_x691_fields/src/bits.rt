@@ -42,11 +42,11 @@ pub(crate) fn number_at(octets: &[u8], at: usize, width: usize) -> u64
     last_number(octets, at, width)
 }
 
-/// Returns the same near the end of the octets.
+/// Returns the same near the end of the octets, or of up to 64 bits.
 #[cold]
 #[inline(never)]
-fn last_number(octets: &[u8], at: usize, width: usize) -> u64
-    requires width { width ≤ 57 }
+pub(crate) fn last_number(octets: &[u8], at: usize, width: usize) -> u64
+    requires width { width ≤ 64 }
     requires within { at + width ≤ 8 * length octets.now }
     ensures { result ≡ number (take width (drop at (bits octets.now))) }
 {

@@ -58,6 +58,7 @@ pub fn next_bits(octets: &[u8], count: usize, node: usize, state: &mut State) ->
     requires within { IsWithin (bits octets.now) state.old }
     ensures onward { IsOnward (bits octets.now) state.old state.new }
     ensures at { IfSome result (λ at. (at ≡ state.old.at) × (state.new.at ≡ at + count)) }
+    ensures inside { IfSome result (λ at. at + count ≤ 8 * length octets.now) }
     ensures read { IsRead (anywhere (raw_bits count Short node)) (λ at. take count (drop at (bits octets.now))) (bits octets.now)
         state.old state.new result }
 {

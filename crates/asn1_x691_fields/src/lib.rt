@@ -5,9 +5,17 @@
 
 mod bits;
 mod heads;
+mod lengths;
+mod numbers;
+mod small;
 mod state;
 mod strings;
+mod unbounded;
 
-pub use heads::{next_bit, next_bits, next_start, next_wide, next_word};
+pub use heads::{next_bit, next_bits, next_start, next_word};
+pub use lengths::{next_length, next_small_length};
+pub use numbers::{above, next_constrained, next_in_bits, next_number, width_to};
+pub use small::next_small_number;
 pub use state::{State, fail};
 pub use strings::{next_count, next_octets, next_units};
+pub use unbounded::{next_semi_constrained, next_unconstrained};

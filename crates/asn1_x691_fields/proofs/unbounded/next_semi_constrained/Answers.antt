@@ -1,0 +1,17 @@
+use Rattle.std.proofs.Common.{◌≡◌, ◌<◌}
+use Rattle.asn1_bits.specs.Bits.{bits, number}
+use Rattle.asn1_schema.specs.PiecesOfParts.{bits_of}
+use Rattle.asn1_schema.specs.Encodings.{anywhere, invalid, in_case}
+use Rattle.asn1_x691.specs.declared.fault.FaultKind.TheVariants.{NotMinimal}
+use Rattle.asn1_x691.specs.Fields.{on_octet, length_of, minimal_octets}
+use Rattle.asn1_x691_fields.specs.NumberSteps.{turn_read}
+use Rattle.asn1_x691_fields.proofs.unbounded.next_semi_constrained.Goals as goal
+
+pub returns-clause-read : goal.returns-clause-read
+returns-clause-read c =
+    let list = bits c.args.octets.now in
+    let node = c.args.node in
+    turn_read list c.args.state.now c.next_length.new.state c.next_after_count.new.state c.in_ok-count.count (λ s. number (bits_of list s))
+    (length_of c.args.is_aligned node) (λ count d. d)
+    (λ count. in_case (0 < count) (on_octet c.args.is_aligned node (minimal_octets count node)) (count ≡ 0) (anywhere (invalid NotMinimal node)))
+    c.next_after_count.result c.requires.within c.in_ok-count.ensures.onward c.in_ok-count.ensures.read c.next_after_count.ensures.read
