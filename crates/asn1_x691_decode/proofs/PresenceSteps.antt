@@ -1,8 +1,12 @@
 -- Steps over bits that tell which components are present.
-use Rattle.std.proofs.Common.{◌≡◌, ℕ, zero, suc, ◌+◌, ◌-◌, ◌*◌, ◌<◌, ◌≤◌, List, [], ◌∷◌, ◌++◌, Bool, length, take, drop, refl, sym, ◌∙◌, ap, arith, Some, None, Option}
+use Rattle.std.proofs.Common.{◌≡◌, ℕ, zero, suc, ◌+◌, ◌-◌, ◌*◌, ◌<◌, ◌≤◌, List, [], ◌∷◌, ◌++◌, Bool, length, take, drop, refl, sym, ◌∙◌, ap, arith, Some, None, Option, inl, inr}
 use Rattle.std.specs.Prelude.{slice_get}
+use Rattle.std.proofs.Math.Nat.{eq-or-lt_of_le}
 use Rattle.std.proofs.lemmas.Option.{slice_get_past}
 use Rattle.asn1_schema.specs.declared.tables.Member.{Member}
+use Rattle.asn1_x691_decode.specs.declared.presence.PresenceBits.{PresenceBits}
+use Rattle.asn1_x691_decode.specs.Decoding.{told_by}
+use Rattle.std.proofs.lemmas.List.{length-take-le, length-drop}
 use Rattle.asn1_x691.specs.Types.{optional_count, is_optional, presence_bits}
 
 pub optional_step : (members : List Member) (m : Member) (n at : ℕ) → 0 < n → slice_get members at ≡ Some m
@@ -28,7 +32,10 @@ pub all_optional : (members : List Member) (count from index known done : ℕ) �
     → (known < count → length members ≤ from + known) → done + optional_count members (count - index) (from + index) ≡ optional_count members count from
     → done ≡ optional_count members count from
 all_optional members count from index known done few end past e =
-    elim (nat_cases known count) [
-      inl lt ↦ omega (arith, e, none_optional members (count - index) (from + index) (omega (arith, past lt, end)))
-    | inr ge ↦ omega (arith, e, no_optional members (count - index) (from + index) (omega (arith, few, ge, end)))
+    elim (eq-or-lt_of_le few) [
+      inl same ↦ omega (arith, e, no_optional members (count - index) (from + index) (omega (arith, same, end)))
+    | inr lt ↦ omega (arith, e, none_optional members (count - index) (from + index) (omega (arith, past lt, end)))
     ]
+
+pub told_length : (list : List Bool) (p : PresenceBits) → p.at + p.left ≤ length list → length (told_by list p) ≡ p.left
+told_length list p h = length-take-le p.left (drop p.at list) (omega (arith, length-drop p.at list, h))

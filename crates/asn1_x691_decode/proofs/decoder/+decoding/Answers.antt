@@ -4,15 +4,19 @@ use Rattle.asn1_bits.specs.Bits.{bits}
 use Rattle.asn1_bits.specs.DigitLaws.{length-bits}
 use Rattle.asn1_schema.specs.declared.tables.Node.{Node}
 use Rattle.asn1_schema.specs.declared.tables.Node.TheVariants as type
-use Rattle.asn1_schema.specs.Pieces.{Piece, Absent, Null, Truth, Parts}
-use Rattle.asn1_schema.specs.Encodings.{Encoding, constant, anywhere}
+use Rattle.asn1_schema.specs.Pieces.{Absent, Null, Truth, Sequence, Parts}
+use Rattle.asn1_schema.specs.PiecesOfParts.{bits_at}
+use Rattle.asn1_schema.specs.Fields.{raw_bits}
+use Rattle.asn1_schema.specs.Encodings.{Encoding, Starts, constant, anywhere}
 use Rattle.asn1_x691.specs.declared.fault.FaultKind.{FaultKind}
-use Rattle.asn1_x691.specs.declared.fault.FaultKind.TheVariants.{NoNode}
+use Rattle.asn1_x691.specs.declared.fault.FaultKind.TheVariants.{NoNode, Short}
 use Rattle.asn1_x691.specs.Strings.{bit}
-use Rattle.asn1_x691_fields.specs.Outcomes.{position, fault_of}
+use Rattle.asn1_x691.specs.Types.{optional_count}
+use Rattle.asn1_x691_fields.specs.Outcomes.{rest, position, fault_of}
 use Rattle.asn1_x691_fields.specs.Steps.{within_after, moved_over, fault_at}
 use Rattle.asn1_x691_decode.specs.Decoding.{Outcome, IsDecoded, types, value_in, component_in, components_in, root_in, sequence_in, told_by, bits_after}
-use Rattle.asn1_x691_decode.proofs.Steps.{IsSamePlace, at_node, put_step, leaf_decoded, nothing_decoded, component_step, component_fault, no_member, bits_left, no_components, over, fails_on, outcome_on, by_true, by_false, absent_of, part_decoded, told_after}
+use Rattle.asn1_x691_decode.proofs.Steps.{IsSamePlace, at_node, put_step, header_step, leaf_decoded, nothing_decoded, component_step, component_fault, no_member, bits_left, no_components, over, fails_on, outcome_on, by_true, by_false, absent_of, part_decoded, told_after}
+use Rattle.asn1_x691_decode.proofs.PresenceSteps.{told_length}
 use Rattle.asn1_x691_decode.proofs.decoder.+decoding.Goals as goal
 
 pub decode_node-returns-in-Some-Null-clause-did : goal.decode_node-returns-in-Some-Null-clause-did
@@ -53,7 +57,7 @@ decode_component-returns-in-Some-false t c =
     let list = bits cx.octets.now in
     let was = told_by list c.args.presence.now in
     let now = told_by list c.next_presence.new.presence in
-    let told : was ≡ false ∷ now = ? in
+    let told : was ≡ false ∷ now = c.in-Some-false.ensures.told ∙ ap (λ (b : Bool). b ∷ now) c.in-Some-false.field-0-test in
     record {
       moved = record { same_first = c.push.ensures.first; same_end = c.push.ensures.end; on = omega (arith, c.push.ensures.at);
           ends = omega (arith, c.push.ensures.at, c.push.ensures.end, c.requires.within.ends);
@@ -67,8 +71,120 @@ decode_component-returns-in-Some-false t c =
       told = λ e. told_after c.args.member.presence was now false c.in_default.not-Mandatory told;
     }
 
+-- what is said of the component at the loop's index
 pub decode_components-returns-then-not-decode_component-clause-did : goal.decode_components-returns-then-not-decode_component-clause-did
-decode_components-returns-then-not-decode_component-clause-did t c = ?
+decode_components-returns-then-not-decode_component-clause-did t c =
+    let cx = c.args.context.now in
+    let list = bits cx.octets.now in
+    let l = c.loop-index in
+    let m = c.member_in-member.result in
+    let A : ℕ → Encoding FaultKind Parts =
+    component_in cx c.args.depth c.args.node m.presence m.node (told_by list l.presence) in
+    let B : ℕ → ℕ → ℕ → Encoding FaultKind Parts =
+    λ count from at. (components_in cx c.args.depth c.args.node count from at).after (told_by list l.presence) in
+    fails_on cx
+    (λ at. (components_in cx c.args.depth c.args.node c.args.root.count c.args.root.from at).after (told_by list c.args.presence))
+    (B (c.args.root.count - l.index) (c.args.root.from + l.index)) c.args.state.now l.state c.decode_component.new.state c.args.parts.now l.parts
+    c.decode_component.new.parts l.invariant.3
+    (elim (by_false cx A l.state c.decode_component.new.state l.parts c.decode_component.new.parts c.decode_component.result
+    c.if-not-decode_component.true c.decode_component.ensures.did) [
+      inl w ↦ inl (component_fault cx c.args.depth c.args.node c.args.root.count c.args.root.from l.index m (told_by list l.presence)
+        (position l.state) (rest list l.state) (fault_of c.decode_component.new.state)
+        (omega (arith, c.loop-index-test.true, c.known_of-known.ensures.few)) c.member_in-member.ensures w)
+    | inr u ↦ inr u
+    ])
 
 pub decode_components-loop-index-preserved : goal.decode_components-loop-index-preserved
-decode_components-loop-index-preserved t c = ?
+decode_components-loop-index-preserved t c =
+    let cx = c.args.context.now in
+    let list = bits cx.octets.now in
+    let l = c.loop-index in
+    let m = c.member_in-member.result in
+    let now = c.decode_component.new in
+    let A : ℕ → Encoding FaultKind Parts =
+    component_in cx c.args.depth c.args.node m.presence m.node (told_by list l.presence) in
+    let B : ℕ → ℕ → List Bool → ℕ → Encoding FaultKind Parts =
+    λ count from p at. (components_in cx c.args.depth c.args.node count from at).after p in (
+      within_after list l.state now.state l.invariant.0 c.decode_component.ensures.moved,
+      moved_over list c.args.state.now l.state now.state l.invariant.1 c.decode_component.ensures.moved,
+      c.decode_component.ensures.bits,
+      over cx (B c.args.root.count c.args.root.from (told_by list c.args.presence))
+      (B (c.args.root.count - l.index) (c.args.root.from + l.index) (told_by list l.presence))
+      (B (c.args.root.count - (l.index + 1)) (c.args.root.from + (l.index + 1)) (told_by list now.presence))
+      c.args.state.now l.state now.state c.args.parts.now l.parts now.parts l.invariant.3
+      (component_step cx c.args.depth c.args.node c.args.root.count c.args.root.from l.index m (told_by list l.presence)
+      (told_by list now.presence) l.state now.state l.parts now.parts
+      (omega (arith, c.loop-index-test.true, c.known_of-known.ensures.few)) c.member_in-member.ensures l.invariant.0
+      c.decode_component.ensures.moved
+      (by_true cx A l.state now.state l.parts now.parts c.decode_component.result c.if-not-decode_component.false
+      c.decode_component.ensures.did)
+      (c.decode_component.ensures.told c.if-not-decode_component.false)),
+    )
+
+pub decode_components-returns-then-known-root-clause-did : goal.decode_components-returns-then-known-root-clause-did
+decode_components-returns-then-known-root-clause-did t c =
+    let cx = c.args.context.now in
+    let list = bits cx.octets.now in
+    let l = c.loop-index in
+    inl (l.invariant.3.fault (fault_of c.fail.new.state)
+    (no_member cx c.args.depth c.args.node (c.args.root.count - l.index) (c.args.root.from + l.index) (told_by list l.presence)
+    (position l.state) (rest list l.state) (fault_of c.fail.new.state)
+    (omega (arith, c.loop-index.auto.index-end, c.if-known-root.true))
+    (omega (arith, c.known_of-known.ensures.all c.if-known-root.true, c.loop-index-test.false))
+    (fault_at list l.state c.fail.new.state c.args.node NoNode l.invariant.0.inside c.fail.ensures.at c.fail.ensures.end
+    c.fail.ensures.node c.fail.ensures.kind)))
+
+pub decode_components-returns-then-presence-gt0-clause-did : goal.decode_components-returns-then-presence-gt0-clause-did
+decode_components-returns-then-presence-gt0-clause-did t c =
+    let cx = c.args.context.now in
+    let list = bits cx.octets.now in
+    let l = c.loop-index in
+    let f = c.fail-then-presence-gt0 in
+    inl (l.invariant.3.fault (fault_of f.new.state)
+    (bits_left cx c.args.depth c.args.node (c.args.root.count - l.index) (c.args.root.from + l.index) (told_by list l.presence)
+    (position l.state) (rest list l.state) (fault_of f.new.state)
+    (omega (arith, c.loop-index-test.false, c.if-known-root.false))
+    (omega (arith, told_length list l.presence (omega (arith, length-bits cx.octets.now, l.invariant.2)), c.if-presence-gt0.true))
+    (fault_at list l.state f.new.state c.args.node NoNode l.invariant.0.inside f.ensures.at f.ensures.end f.ensures.node f.ensures.kind)))
+
+pub decode_components-returns-clause-did : goal.decode_components-returns-clause-did
+decode_components-returns-clause-did t c =
+    let cx = c.args.context.now in
+    let list = bits cx.octets.now in
+    let l = c.loop-index in
+    l.invariant.3.done l.state l.parts
+    (no_components cx c.args.depth c.args.node (c.args.root.count - l.index) (c.args.root.from + l.index) (told_by list l.presence)
+    l.state l.parts
+    (omega (arith, c.loop-index-test.false, c.if-known-root.false))
+    (omega (arith, told_length list l.presence (omega (arith, length-bits cx.octets.now, l.invariant.2)), c.if-presence-gt0.false)))
+
+pub decode_root-returns-in-Some-clause-did : goal.decode_root-returns-in-Some-clause-did
+decode_root-returns-in-Some-clause-did t c =
+    let cx = c.args.context.now in
+    let list = bits cx.octets.now in
+    let B : List Bool → ℕ → Encoding FaultKind Parts =
+    λ p at. (components_in cx c.args.depth c.args.node c.args.root.count c.args.root.from at).after p in
+    let told = bits_at list c.in-Some.at c.count_optional-left.result in
+    let k = optional_count cx.tables.members.now c.args.root.count c.args.root.from in
+    let R : ℕ → Encoding FaultKind Parts = λ at. (root_in cx c.args.depth c.args.node c.args.root at).encoding in
+    outcome_on cx R (B told) c.args.state.now c.next_bits.new.state c.decode_components.new.state c.args.parts.now c.args.parts.now
+    c.decode_components.new.parts c.decode_components.result
+    (header_step cx (λ at. raw_bits k Short c.args.node) B c.args.state.now c.next_bits.new.state c.args.parts.now told c.requires.within
+    c.next_bits.ensures.onward
+    (subst (λ (n : ℕ). Starts (raw_bits n Short c.args.node).encodes (rest list c.args.state.now) told (rest list c.next_bits.new.state))
+    c.count_optional-left.ensures c.in-Some.ensures.read))
+    c.decode_components.ensures.did
+
+pub decode_sequence-returns-then-not-is_extensible-clause-did : goal.decode_sequence-returns-then-not-is_extensible-clause-did
+decode_sequence-returns-then-not-is_extensible-clause-did t c =
+    let cx = c.args.context.now in
+    let list = bits cx.octets.now in
+    let R : ℕ → Encoding FaultKind Parts = λ at. (root_in cx c.args.depth c.args.node c.args.root at).encoding in
+    let S : Bool → ℕ → Encoding FaultKind Parts = λ b at. (sequence_in cx c.args.depth c.args.node b c.args.root c.args.additions at).encoding in
+    subst (λ (b : Bool). Outcome cx (S b) c.args.state.now c.decode_root.new.state c.args.parts.now c.decode_root.new.parts c.decode_root.result)
+    (sym c.if-not-is_extensible.true)
+    (outcome_on cx (S false) R c.args.state.now c.push.new.state c.decode_root.new.state c.args.parts.now c.push.new.parts c.decode_root.new.parts
+    c.decode_root.result
+    (put_step cx (Sequence c.args.root.count false) R c.args.state.now c.push.new.state c.args.parts.now c.push.new.parts c.requires.within
+    (record { at = c.push.ensures.at; first = c.push.ensures.first; end = c.push.ensures.end }) (c.push.ensures.grown list))
+    c.decode_root.ensures.did)
