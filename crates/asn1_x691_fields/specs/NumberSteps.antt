@@ -1,6 +1,6 @@
 -- What follows from steps of a decoder that reads numbers and lengths.
 use Rattle.std.proofs.Common.{◌≡◌, ℕ, ℤ, negsuc, suc, ◌-◌, ◌*◌, ◌^◌, ◌<◌, ◌≤◌, List, [], ◌++◌, Bool, true, false, length, refl, sym, ◌∙◌, ap, subst, inl, inr, Option, Some, None, arith}
-use Rattle.std.specs.Prelude.{◌⊎◌}
+use Rattle.std.specs.Prelude.{◌⊎◌, ⊤}
 use Rattle.std.proofs.Math.Pow.{pow_mono}
 use Rattle.std.proofs.lemmas.List.{append-nil}
 use Rattle.asn1_bits.specs.Bits.{number as number_of}
@@ -10,27 +10,31 @@ use Rattle.asn1_schema.specs.Fields.{raw_bits}
 use Rattle.asn1_schema.specs.PiecesOfParts.{signed_number}
 use Rattle.asn1_x691.specs.declared.fault.FaultKind.{FaultKind}
 use Rattle.asn1_x691.specs.declared.fault.FaultKind.TheVariants.{Short, NotMinimal}
-use Rattle.asn1_x691.specs.Fields.{zeros, to_octet, on_octet, below_minus_one, signed_of, signed_octets}
+use Rattle.asn1_x691.specs.Fields.{zeros, to_octet, on_octet, minimal_octets, below_minus_one, signed_of, signed_octets}
 use Rattle.asn1_x691_fields.specs.declared.state.State.{State}
 use Rattle.asn1_x691_fields.specs.FirstBits.{IsPositive, IsNegative, by_sign}
 use Rattle.asn1_x691_fields.specs.Outcomes.{rest, position, fault_of, IsWithin, IsOnward, IsRead}
 use Rattle.asn1_x691_fields.specs.Steps.{then_starts, then_fault, turn_starts, turn_fault}
 
--- ---- a value that is tested
+-- ---- octets that are as few as they can be
 
-module _ {X : Type 0} (A : Encoding FaultKind X) (C D : X → Type 0) (kind : FaultKind) (node : ℕ) where
-  abbrev pub tested : Encoding FaultKind X
-  tested = then A (λ d n. n) (λ d. cases (C d) (constant d) (D d) (invalid kind node))
+abbrev pub IsMinimal : ℕ → ℕ → Type 0
+IsMinimal count d = (count ≤ 1) ⊎ (2 ^ (8 * (count - 1)) ≤ d)
 
-  pub tested_starts : (list mid : List Bool) (x : X) → Starts A.encodes list x mid → C x → Starts tested.encodes list x mid
-  tested_starts list mid x s c =
-      then_starts A (λ d n. n) (λ d. cases (C d) (constant d) (D d) (invalid kind node)) list mid mid x x s
-      (record { front = []; encoded = inl (c, (refl, refl)); parts = refl })
+module _ (count node : ℕ) (list mid : List Bool) (d : ℕ) (s : Starts (number (8 * count) Short node).encodes list d mid) where
+  abbrev tested : ℕ → Encoding FaultKind ℕ
+  tested n =
+      cases (IsMinimal count n) (constant n) ((1 < count) × (n < 2 ^ (8 * (count - 1)))) (invalid NotMinimal node)
 
-  pub tested_fault : (list mid : List Bool) (x : X) (e : Fault FaultKind) → Starts A.encodes list x mid → D x → IsAt kind node mid e
-      → tested.fault list e
-  tested_fault list mid x e s d w =
-      then_fault A (λ d n. n) (λ d. cases (C d) (constant d) (D d) (invalid kind node)) list mid x e s (inr (d, w))
+  pub minimal_starts : IsMinimal count d → Starts (minimal_octets count node).encodes list d mid
+  minimal_starts few =
+      then_starts (number (8 * count) Short node) (λ d n. n) tested list mid mid d d s
+      (record { front = []; encoded = inl (few, (refl, refl)); parts = refl })
+
+  pub minimal_fault : (e : Fault FaultKind) → 1 < count → d < 2 ^ (8 * (count - 1)) → IsAt NotMinimal node mid e
+      → (minimal_octets count node).fault list e
+  minimal_fault e some low w =
+      then_fault (number (8 * count) Short node) (λ d n. n) tested list mid d e s (inr ((some, low), w))
 
 -- ---- a call that reads the rest of a field
 
@@ -61,35 +65,36 @@ module _ {X T : Type 0} (list : List Bool) (old new : State) (g : T → X) (C D 
 
 -- ---- a field that begins at an octet
 
+-- the start alone
+abbrev start : Bool → ℕ → ℕ → Encoding FaultKind ⊤
+start aligned node at = on_octet aligned node (constant tt) at
+
+-- in the UNALIGNED variant no bits precede the field
+no_zeros : (node at : ℕ) (list mid : List Bool) → Starts (start false node at).encodes list tt mid → list ≡ mid
+no_zeros node at list mid s = s.parts ∙ ap (λ (l : List Bool). l ++ mid) s.encoded.1
+
+-- in the ALIGNED variant zeros precede it
+only_zeros : (node at : ℕ) (list mid : List Bool) → Starts (start true node at).encodes list tt mid
+    → Starts (zeros (to_octet at) node).encodes list tt mid
+only_zeros node at list mid s =
+    let p = s.encoded in
+    let e : s.front ≡ p.front =
+    p.parts ∙ ap (λ (l : List Bool). p.front ++ l) p.second.1 ∙ append-nil p.front in
+    record { front = p.front; encoded = p.first; parts = s.parts ∙ ap (λ (l : List Bool). l ++ mid) e }
+
 module _ {X : Type 0} (node : ℕ) (A : Encoding FaultKind X) (at : ℕ) where
-  pub octet_starts : (aligned : Bool) (list mid left : List Bool) (x : X)
-      → Starts (on_octet aligned node (constant (tt {0})) at).encodes list (tt {0}) mid → Starts A.encodes mid x left
-      → Starts (on_octet aligned node A at).encodes list x left
+  pub octet_starts : (aligned : Bool) (list mid left : List Bool) (x : X) → Starts (start aligned node at).encodes list tt mid
+      → Starts A.encodes mid x left → Starts (on_octet aligned node A at).encodes list x left
   octet_starts false list mid left x s t =
-      let e : list ≡ mid = s.parts ∙ ap (λ (l : List Bool). l ++ mid) s.encoded.1 in
-      record { front = t.front; encoded = t.encoded; parts = e ∙ t.parts }
+      record { front = t.front; encoded = t.encoded; parts = no_zeros node at list mid s ∙ t.parts }
   octet_starts true list mid left x s t =
-      let e : s.front ≡ s.encoded.front ++ [] = s.encoded.parts ∙ ap (λ (l : List Bool). s.encoded.front ++ l) s.encoded.second.1 in
-      then_starts (zeros (to_octet at) node) (λ u x. x) (λ u. A) list mid left tt x
-      (record { front = s.encoded.front; encoded = s.encoded.first; parts = s.parts ∙ ap (λ (l : List Bool). l ++ mid) (e ∙ append-nil s.encoded.front) })
-      t
+      then_starts (zeros (to_octet at) node) (λ u x. x) (λ u. A) list mid left tt x (only_zeros node at list mid s) t
 
-  pub octet_fault : (aligned : Bool) (list mid : List Bool) (e : Fault FaultKind)
-      → Starts (on_octet aligned node (constant (tt {0})) at).encodes list (tt {0}) mid → A.fault mid e → (on_octet aligned node A at).fault list e
-  octet_fault false list mid e s w =
-      let same : list ≡ mid = s.parts ∙ ap (λ (l : List Bool). l ++ mid) s.encoded.1 in
-      subst (λ (l : List Bool). A.fault l e) (sym same) w
+  pub octet_fault : (aligned : Bool) (list mid : List Bool) (e : Fault FaultKind) → Starts (start aligned node at).encodes list tt mid
+      → A.fault mid e → (on_octet aligned node A at).fault list e
+  octet_fault false list mid e s w = subst (λ (l : List Bool). A.fault l e) (sym (no_zeros node at list mid s)) w
   octet_fault true list mid e s w =
-      let same : s.front ≡ s.encoded.front ++ [] = s.encoded.parts ∙ ap (λ (l : List Bool). s.encoded.front ++ l) s.encoded.second.1 in
-      then_fault (zeros (to_octet at) node) (λ u x. x) (λ u. A) list mid tt e
-      (record { front = s.encoded.front; encoded = s.encoded.first; parts = s.parts ∙ ap (λ (l : List Bool). l ++ mid) (same ∙ append-nil s.encoded.front) })
-      w
-
-  pub start_fault : (aligned : Bool) (list : List Bool) (e : Fault FaultKind)
-      → (on_octet aligned node (constant (tt {0})) at).fault list e → (on_octet aligned node A at).fault list e
-  start_fault false list e w = absurd w
-  start_fault true list e (inl p) = inl p
-  start_fault true list e (inr p) = absurd p.holds
+      then_fault (zeros (to_octet at) node) (λ u x. x) (λ u. A) list mid tt e (only_zeros node at list mid s) w
 
 pub octet_read : {X T : Type 0} (list : List Bool) (old mid new : State) (g : T → X) (aligned : Bool) (node : ℕ)
     (A : Encoding FaultKind X) (r : Option T)

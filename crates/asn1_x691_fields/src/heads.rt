@@ -21,6 +21,7 @@ pub fn next_word(octets: &[u8], width: usize, node: usize, state: &mut State) ->
     requires width { width ≤ 57 }
     requires within { IsWithin (bits octets.now) state.old }
     ensures onward { IsOnward (bits octets.now) state.old state.new }
+    ensures at { IfSome result (λ n. state.new.at ≡ state.old.at + width) }
     ensures below { IfSome result (λ n. n < 2 ^ width) }
     ensures read { IsRead (anywhere (number width Short node)) (λ n. n) (bits octets.now) state.old state.new result }
 {
@@ -92,6 +93,7 @@ pub fn next_start(octets: &[u8], is_aligned: bool, node: usize, state: &mut Stat
     requires within { IsWithin (bits octets.now) state.old }
     requires placed { IsPlaced is_aligned state.old }
     ensures onward { IsOnward (bits octets.now) state.old state.new }
+    ensures octet { IfSome result (λ u. is_aligned ≡ true → state.new.at % 8 ≡ 0) }
     ensures read { IsRead (on_octet is_aligned node (constant (tt {0}))) (λ u. tt) (bits octets.now) state.old state.new result }
 {
     if !is_aligned {

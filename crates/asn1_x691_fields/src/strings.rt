@@ -1,6 +1,6 @@
 //! Units after their number, below 16,384 (X.691 11.9.3.6 to 11.9.3.8).
 
-ghost use Rattle.std.specs.Prelude.{◌≡◌, ◌≤◌, ◌<◌, ◌^◌, ◌*◌, ◌+◌, length, IfSome};
+ghost use Rattle.std.specs.Prelude.{◌≡◌, ◌≤◌, ◌<◌, ◌^◌, ◌*◌, ◌+◌, ◌%◌, true, length, IfSome};
 ghost use Rattle.asn1_bits.specs.Bits.{bits};
 ghost use Rattle.asn1_schema.specs.PiecesOfParts.{bits_at, bits_of};
 ghost use Rattle.asn1_x691.specs.Fragments.{units_octets, units_next, string, octets};
@@ -18,6 +18,7 @@ fn next_count_octets(octets: &[u8], node: usize, state: &mut State) -> Option<us
     requires within { IsWithin (bits octets.now) state.old }
     ensures onward { IsOnward (bits octets.now) state.old state.new }
     ensures below { IfSome result (λ n. n < 16384) }
+    ensures octets { IfSome result (λ n. state.new.at % 8 ≡ state.old.at % 8) }
     ensures read { IsTaken (λ at. units_octets node) (λ n. n) (bits octets.now) state.old state.new result }
 {
     let at = state.at;
@@ -62,6 +63,7 @@ pub fn next_count(octets: &[u8], is_aligned: bool, node: usize, state: &mut Stat
     requires placed { IsPlaced is_aligned state.old }
     ensures onward { IsOnward (bits octets.now) state.old state.new }
     ensures below { IfSome result (λ n. n < 16384) }
+    ensures octet { IfSome result (λ n. is_aligned ≡ true → state.new.at % 8 ≡ 0) }
     ensures read { IsTaken (units_next is_aligned node) (λ n. n) (bits octets.now) state.old state.new result }
 {
     next_start(octets, is_aligned, node, state)?;
@@ -84,6 +86,8 @@ pub fn next_units(
     ensures onward { IsOnward (bits octets.now) state.old state.new }
     ensures below { IfSome result (λ p. p.0 < 16384) }
     ensures index { IfSome result (λ p. state.new.at ≡ p.1 + unit * p.0) }
+    ensures after { IfSome result (λ p. state.old.at ≤ p.1) }
+    ensures octet { IfSome result (λ p. is_aligned ≡ true → p.1 % 8 ≡ 0) }
     ensures read { IsTaken (string is_aligned unit node) (λ p. (p.0, bits_at (bits octets.now) p.1 (unit * p.0))) (bits octets.now)
         state.old state.new result }
 {
@@ -100,6 +104,8 @@ pub fn next_octets(message: &[u8], is_aligned: bool, node: usize, state: &mut St
     requires placed { IsPlaced is_aligned state.old }
     ensures onward { IsOnward (bits message.now) state.old state.new }
     ensures index { IfSome result (λ s. state.new.at ≡ s.at + s.count) }
+    ensures after { IfSome result (λ s. state.old.at ≤ s.at) }
+    ensures octet { IfSome result (λ s. is_aligned ≡ true → s.at % 8 ≡ 0) }
     ensures read { IsTaken (octets is_aligned node) (λ s. bits_of (bits message.now) s) (bits message.now)
         state.old state.new result }
 {

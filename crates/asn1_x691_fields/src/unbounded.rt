@@ -53,8 +53,8 @@ fn next_after_count(
     ensures onward { IsOnward (bits octets.now) state.old state.new }
     ensures octets { IfSome result (λ s. AreOctets s state.new) }
     ensures fewest { IfSome result (λ s. 8 < s.count → 2 ^ (s.count - 8) ≤ number (bits_of (bits octets.now) s)) }
-    ensures read { IsRead (in_case (0 < count) (on_octet is_aligned node (minimal_octets count node)) (count ≡ 0) (anywhere (invalid NotMinimal node)))
-        (λ s. number (bits_of (bits octets.now) s)) (bits octets.now) state.old state.new result }
+    ensures read { IsRead (in_case (0 < count) (on_octet is_aligned node (minimal_octets count node))
+        (count ≡ 0) (anywhere (invalid NotMinimal node))) (λ s. number (bits_of (bits octets.now) s)) (bits octets.now) state.old state.new result }
 {
     if count == 0 {
         fail(state, node, FaultKind::NotMinimal);
@@ -123,8 +123,8 @@ fn next_signed_after_count(
     requires placed { IsPlaced is_aligned state.old }
     ensures onward { IsOnward (bits octets.now) state.old state.new }
     ensures octets { IfSome result (λ s. AreOctets s state.new) }
-    ensures read { IsRead (in_case (0 < count) (on_octet is_aligned node (signed_octets count node)) (count ≡ 0) (anywhere (invalid NotMinimal node)))
-        (λ s. signed_number (bits_of (bits octets.now) s)) (bits octets.now) state.old state.new result }
+    ensures read { IsRead (in_case (0 < count) (on_octet is_aligned node (signed_octets count node))
+        (count ≡ 0) (anywhere (invalid NotMinimal node))) (λ s. signed_number (bits_of (bits octets.now) s)) (bits octets.now) state.old state.new result }
 {
     if count == 0 {
         fail(state, node, FaultKind::NotMinimal);
