@@ -1,2 +1,3 @@
 mod PresenceSteps
 mod Steps
+mod OpenSteps

@@ -10,10 +10,11 @@ use Rattle.asn1_schema.specs.declared.tables.Presence.TheVariants as presence
 use Rattle.asn1_schema.specs.declared.tables.Rows.{Rows}
 use Rattle.asn1_schema.specs.Pieces.{Absent, Parts}
 use Rattle.asn1_schema.specs.PiecesOfParts.{bits_at}
-use Rattle.asn1_schema.specs.Encodings.{Encoding, Starts, constant, invalid}
+use Rattle.asn1_schema.specs.Encodings.{Encoding, Contents, Starts, constant, invalid}
 use Rattle.asn1_schema.specs.TypeEncodings.{TypeEncoding, AfterHeader}
 use Rattle.asn1_x691.specs.declared.fault.FaultKind.{FaultKind}
 use Rattle.asn1_x691.specs.declared.fault.FaultKind.TheVariants.{Unsupported, NoNode}
+use Rattle.asn1_x691.specs.OpenTypes.{padding, complete, open_type}
 use Rattle.asn1_x691.specs.Types.{type_at, type_of, value_by, components, root_of, sequence_by, extension}
 use Rattle.asn1_x691_fields.specs.declared.state.State.{State}
 use Rattle.asn1_x691_fields.specs.Outcomes.{rest, position, fault_of, IsInFragments}
@@ -81,6 +82,21 @@ Outcome c A old new was now true = IsDecoded (A (position old)).encodes (bits c.
 Outcome c A old new was now false =
     (A (position old)).fault (rest (bits c.octets.now) old) (fault_of new) ⊎ IsUnsupported c new
 
+-- the same of contents, which end where the complete encoding does
+pub record IsFilled (P : Parts → List Bool → Type 0) (list : List Bool) (old new : State) (was now : List Part) : Type 0 where
+  pub parts : Parts
+  pub fills : P parts (rest list old)
+  pub grown : IsGrown list was old.count now new.count parts
+
+abbrev pub OutcomeOfContents : Context → Contents FaultKind Parts → State → State → List Part → List Part → Bool → Type 0
+OutcomeOfContents c F old new was now true = IsFilled F.fills (bits c.octets.now) old new was now
+OutcomeOfContents c F old new was now false = F.fault (rest (bits c.octets.now) old) (fault_of new) ⊎ IsUnsupported c new
+
+-- the zeros after a complete encoding
+abbrev pub IsEnd : List Bool → ℕ → State → State → Bool → Type 0
+IsEnd list node old new true = (padding node (position old)).fills tt (rest list old)
+IsEnd list node old new false = (padding node (position old)).fault (rest list old) (fault_of new)
+
 -- ---- the definitions of X.691, for a context
 
 module _ (c : Context) (depth node : ℕ) where
@@ -100,6 +116,13 @@ module _ (c : Context) (depth node : ℕ) where
 
   abbrev pub root_in : Rows → ℕ → TypeEncoding FaultKind
   root_in = root_of c.is_aligned (types c depth) c.tables.members.now c.tables.ranges.now defaults node
+
+  -- the same at the first position of octets of its own, and such octets after their number
+  abbrev pub complete_in : Presence → ℕ → Contents FaultKind Parts
+  complete_in p inner = complete node (value_in p inner)
+
+  abbrev pub enclosed_in : Presence → ℕ → ℕ → TypeEncoding FaultKind
+  enclosed_in p inner = open_type c.is_aligned node (value_in p inner)
 
   abbrev pub sequence_in : Bool → Rows → Rows → ℕ → TypeEncoding FaultKind
   sequence_in = sequence_by c.is_aligned (types c depth) c.tables.members.now c.tables.ranges.now defaults node
@@ -137,3 +160,7 @@ told_by list p = bits_at list p.at p.left
 abbrev pub IsTold : List Bool → PresenceBits → PresenceBits → Option Bool → Type 0
 IsTold list old new None = (told_by list old ≡ []) × (told_by list new ≡ [])
 IsTold list old new (Some b) = told_by list old ≡ b ∷ told_by list new
+
+-- the member of an index has this presence, where that is a default value
+abbrev pub IsListed : Context → ℕ → Member → Type 0
+IsListed c index m = (value : ℕ) → m.presence ≡ presence.Default value → slice_get c.tables.members.now index ≡ Some m

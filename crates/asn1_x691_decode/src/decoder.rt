@@ -5,14 +5,15 @@ ghost use Rattle.asn1_bits.specs.Bits.{bits};
 ghost use Rattle.asn1_schema.specs.PiecesOfParts.{piece_of, bits_at};
 ghost use Rattle.asn1_x691_fields.specs.Outcomes.{IsWithin, IsMoved, IsPlaced};
 ghost use Rattle.asn1_x691_decode.specs.Room.{IsGrown};
-ghost use Rattle.asn1_x691_decode.specs.Decoding.{Outcome, types, value_in, component_in, components_in, root_in, sequence_in, bits_after, told_by};
+ghost use Rattle.asn1_x691_decode.specs.Decoding.{Outcome, types, value_in, component_in, components_in, root_in, sequence_in, bits_after, told_by, IsListed, OutcomeOfContents, complete_in, enclosed_in};
 
+use crate::complete::at_end;
 use crate::context::Context;
 use crate::presence::{PresenceBits, count_optional, known_of, member_in, next_presence};
 use crate::room::push;
 use asn1_schema::{Member, Node, Part, Presence, Rows};
 use asn1_x691::FaultKind;
-use asn1_x691_fields::{State, fail, next_bit, next_bits};
+use asn1_x691_fields::{State, fail, next_bit, next_bits, next_octets};
 
 /// Returns the type at a node.
 #[inline(always)]
@@ -54,6 +55,9 @@ fn decode_node(context: &Context<'_>, depth: usize, node: usize, state: &mut Sta
         },
         Some(Node::Sequence { root, is_extensible, additions }) => {
             decode_sequence(context, depth - 1, node, root, is_extensible, additions, state, parts)
+        }
+        Some(Node::Open { inner }) => {
+            decode_enclosed(context, depth - 1, node, 0, Member { node: inner, presence: Presence::Mandatory }, state, parts)
         }
         Some(_) => {
             fail(state, node, FaultKind::Unsupported);
@@ -169,7 +173,7 @@ fn decode_component(
     requires within { IsWithin (bits context.now.octets.now) state.old }
     requires placed { IsPlaced context.now.is_aligned state.old }
     requires bits { presence.old.at + presence.old.left ≤ 8 * length context.now.octets.now }
-    requires member { slice_get context.now.tables.members.now index ≡ Some member }
+    requires listed { IsListed context.now index member }
     ensures moved { IsMoved (bits context.now.octets.now) state.old state.new }
     ensures bits { presence.new.at + presence.new.left ≤ 8 * length context.now.octets.now }
     ensures did { Outcome context.now (component_in context.now depth node member.presence member.node
@@ -207,7 +211,7 @@ fn decode_value(
     requires size { 8 * length context.now.octets.now < 2 ^ 64 }
     requires within { IsWithin (bits context.now.octets.now) state.old }
     requires placed { IsPlaced context.now.is_aligned state.old }
-    requires member { slice_get context.now.tables.members.now index ≡ Some member }
+    requires listed { IsListed context.now index member }
     ensures moved { IsMoved (bits context.now.octets.now) state.old state.new }
     ensures did { Outcome context.now (λ at. (value_in context.now depth node member.presence member.node at).encoding)
         state.old state.new parts.old parts.new result }
@@ -220,6 +224,69 @@ fn decode_value(
         Presence::Mandatory => decode_node(context, depth, member.node, state, parts),
         Presence::Optional => decode_node(context, depth, member.node, state, parts),
     }
+}
+
+/// Decodes an open type (X.691 11.2): octets that are a complete encoding, after their number.
+#[cycle(decoding)]
+fn decode_enclosed(
+    context: &Context<'_>,
+    depth: usize,
+    node: usize,
+    index: usize,
+    member: Member,
+    state: &mut State,
+    parts: &mut [Part],
+) -> bool
+    requires size { 8 * length context.now.octets.now < 2 ^ 64 }
+    requires within { IsWithin (bits context.now.octets.now) state.old }
+    requires placed { IsPlaced context.now.is_aligned state.old }
+    requires listed { IsListed context.now index member }
+    ensures moved { IsMoved (bits context.now.octets.now) state.old state.new }
+    ensures did { Outcome context.now (λ at. (enclosed_in context.now depth node member.presence member.node at).encoding)
+        state.old state.new parts.old parts.new result }
+{
+    let contents = match next_octets(context.octets, context.is_aligned, node, state) {
+        None => return false,
+        Some(span) => span,
+    };
+    let after = *state;
+    state.at = contents.at;
+    state.first = contents.at;
+    state.end = contents.at + contents.count;
+    let is_complete = decode_complete(context, depth, node, index, member, state, parts);
+    state.first = after.first;
+    state.end = after.end;
+    if !is_complete {
+        return false;
+    }
+    state.at = after.at;
+    true
+}
+
+/// Decodes a complete encoding (X.691 11.1), from its first bit to its last.
+#[cycle(decoding)]
+fn decode_complete(
+    context: &Context<'_>,
+    depth: usize,
+    node: usize,
+    index: usize,
+    member: Member,
+    state: &mut State,
+    parts: &mut [Part],
+) -> bool
+    requires size { 8 * length context.now.octets.now < 2 ^ 64 }
+    requires within { IsWithin (bits context.now.octets.now) state.old }
+    requires placed { IsPlaced context.now.is_aligned state.old }
+    requires begins { state.old.at ≡ state.old.first }
+    requires listed { IsListed context.now index member }
+    ensures moved { IsMoved (bits context.now.octets.now) state.old state.new }
+    ensures did { OutcomeOfContents context.now (complete_in context.now depth node member.presence member.node)
+        state.old state.new parts.old parts.new result }
+{
+    if !decode_value(context, depth, node, index, member, state, parts) {
+        return false;
+    }
+    at_end(context.octets, node, state)
 }
 
 /// Decodes.

@@ -16,6 +16,10 @@ use Rattle.asn1_x691_fields.specs.Outcomes.{rest, position, fault_of}
 use Rattle.asn1_x691_fields.specs.Steps.{within_after, moved_over, fault_at}
 use Rattle.asn1_x691_decode.specs.Decoding.{Outcome, IsDecoded, types, value_in, component_in, components_in, root_in, sequence_in, told_by, bits_after}
 use Rattle.asn1_x691_decode.proofs.Steps.{IsSamePlace, at_node, put_step, header_step, leaf_decoded, nothing_decoded, component_step, component_fault, no_member, bits_left, no_components, over, fails_on, outcome_on, by_true, by_false, absent_of, part_decoded, told_after}
+use Rattle.asn1_x691.specs.OpenTypes.{complete}
+use Rattle.asn1_x691_fields.specs.declared.state.State.{State}
+use Rattle.asn1_x691_decode.specs.Room.{IsGrown}
+use Rattle.asn1_x691_decode.proofs.OpenSteps.{complete_outcome, complete_fails, enclosed_starts, enclosed_fault, same_unsupported, contents_true, contents_false}
 use Rattle.asn1_x691_decode.proofs.PresenceSteps.{told_length}
 use Rattle.asn1_x691_decode.proofs.decoder.+decoding.Goals as goal
 
@@ -188,3 +192,68 @@ decode_sequence-returns-then-not-is_extensible-clause-did t c =
     (put_step cx (Sequence c.args.root.count false) R c.args.state.now c.push.new.state c.args.parts.now c.push.new.parts c.requires.within
     (record { at = c.push.ensures.at; first = c.push.ensures.first; end = c.push.ensures.end }) (c.push.ensures.grown list))
     c.decode_root.ensures.did)
+
+pub decode_complete-returns-clause-did : goal.decode_complete-returns-clause-did
+decode_complete-returns-clause-did t c =
+    let cx = c.args.context.now in
+    let V = value_in cx c.args.depth c.args.node c.args.member.presence c.args.member.node in
+    complete_outcome cx V c.args.node c.args.state.now c.decode_value.new.state c.at_end.new.state c.args.parts.now c.decode_value.new.parts
+    c.at_end.result c.requires.within c.decode_value.ensures.moved c.requires.begins
+    (by_true cx (λ at. (V at).encoding) c.args.state.now c.decode_value.new.state c.args.parts.now c.decode_value.new.parts
+    c.decode_value.result c.if-not-decode_value.false c.decode_value.ensures.did)
+    c.at_end.ensures.onward.same_count c.at_end.ensures.ends
+
+pub decode_complete-returns-then-not-decode_value-clause-did : goal.decode_complete-returns-then-not-decode_value-clause-did
+decode_complete-returns-then-not-decode_value-clause-did t c =
+    let cx = c.args.context.now in
+    let V = value_in cx c.args.depth c.args.node c.args.member.presence c.args.member.node in
+    complete_fails cx V c.args.node c.args.state.now c.decode_value.new.state c.requires.begins
+    (by_false cx (λ at. (V at).encoding) c.args.state.now c.decode_value.new.state c.args.parts.now c.decode_value.new.parts
+    c.decode_value.result c.if-not-decode_value.true c.decode_value.ensures.did)
+
+pub decode_enclosed-returns-then-not-is_complete-clause-did : goal.decode_enclosed-returns-then-not-is_complete-clause-did
+decode_enclosed-returns-then-not-is_complete-clause-did t c =
+    let cx = c.args.context.now in
+    let V = value_in cx c.args.depth c.args.node c.args.member.presence c.args.member.node in
+    let after = c.next_octets.new.state in
+    let span = c.in-Some.span in
+    let inside : State =
+    record { at = span.at; first = span.at; end = span.at + span.count; count = after.count; node = after.node; kind = after.kind } in
+    let out = c.decode_complete-is_complete.new.state in
+    let new : State =
+    record { at = out.at; first = after.first; end = after.end; count = out.count; node = out.node; kind = out.kind } in
+    elim (contents_false cx (complete c.args.node V) inside out c.args.parts.now c.decode_complete-is_complete.new.parts
+    c.decode_complete-is_complete.result c.if-not-is_complete.true c.decode_complete-is_complete.ensures.did) [
+      inl w ↦ inl (enclosed_fault cx V c.args.node c.args.state.now after inside out span c.requires.within c.next_octets.ensures.onward
+        c.in-Some.ensures.read c.in-Some.ensures.index refl refl new refl refl refl refl
+        c.decode_complete-is_complete.ensures.moved.ends c.decode_complete-is_complete.ensures.moved.same_end w)
+    | inr u ↦ inr (same_unsupported cx out new refl refl refl u)
+    ]
+
+pub decode_enclosed-returns-clause-did : goal.decode_enclosed-returns-clause-did
+decode_enclosed-returns-clause-did t c =
+    let cx = c.args.context.now in
+    let V = value_in cx c.args.depth c.args.node c.args.member.presence c.args.member.node in
+    let after = c.next_octets.new.state in
+    let span = c.in-Some.span in
+    let inside : State =
+    record { at = span.at; first = span.at; end = span.at + span.count; count = after.count; node = after.node; kind = after.kind } in
+    let out = c.decode_complete-is_complete.new.state in
+    let f = contents_true cx (complete c.args.node V) inside out c.args.parts.now c.decode_complete-is_complete.new.parts
+    c.decode_complete-is_complete.result c.if-not-is_complete.false c.decode_complete-is_complete.ensures.did in
+    record {
+      parts = f.parts;
+      starts = enclosed_starts cx V c.args.node c.args.state.now after inside out span c.requires.within c.next_octets.ensures.onward
+          c.in-Some.ensures.read c.in-Some.ensures.index refl refl f.parts f.fills;
+      grown = subst (λ (n : ℕ). IsGrown (bits cx.octets.now) c.args.parts.now n c.decode_complete-is_complete.new.parts out.count f.parts)
+          c.next_octets.ensures.onward.same_count f.grown;
+    }
+
+pub decode_node-returns-in-Some-Open-clause-did : goal.decode_node-returns-in-Some-Open-clause-did
+decode_node-returns-in-Some-Open-clause-did t c =
+    let cx = c.args.context.now in
+    at_node cx c.args.node c.args.depth (Some (type.Open c.in-Some-Open.inner))
+    (λ (A : ℕ → Encoding FaultKind Parts). Outcome cx A c.args.state.now c.decode_enclosed.new.state c.args.parts.now c.decode_enclosed.new.parts
+    c.decode_enclosed.result)
+    (omega (arith, c.if-depth-eq0.false))
+    (sym c.node_at.ensures ∙ c.in-Some-Open.is ∙ ap (λ (n : Node). Some n) c.in-Some-Open.field-0-is) c.decode_enclosed.ensures.did

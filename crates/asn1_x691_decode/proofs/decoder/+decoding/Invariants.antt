@@ -14,6 +14,12 @@ decreases-decode_value l = 16 * l.depth + 1
 abbrev pub decreases-decode_component : goal.decreases-decode_component
 decreases-decode_component l = 16 * l.depth + 2
 
+abbrev pub decreases-decode_complete : goal.decreases-decode_complete
+decreases-decode_complete l = 16 * l.depth + 2
+
+abbrev pub decreases-decode_enclosed : goal.decreases-decode_enclosed
+decreases-decode_enclosed l = 16 * l.depth + 3
+
 abbrev pub decreases-decode_components : goal.decreases-decode_components
 decreases-decode_components l = 16 * l.depth + 5
 
