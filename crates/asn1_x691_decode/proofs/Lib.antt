@@ -1,3 +1,4 @@
 mod PresenceSteps
 mod Steps
 mod OpenSteps
+mod SequenceSteps

@@ -19,7 +19,7 @@ use Rattle.asn1_x691_fields.specs.Outcomes.{rest, position, fault_of, IsWithin, 
 use Rattle.asn1_x691_fields.specs.Steps.{rest_length, step_position, turn_starts, constant_starts}
 use Rattle.asn1_x691_decode.specs.declared.context.Context.{Context}
 use Rattle.asn1_x691_decode.specs.Room.{IsGrown}
-use Rattle.asn1_x691_decode.specs.Decoding.{Outcome, OutcomeOfContents, IsDecoded, IsFilled, IsEnd, IsUnsupported, IsLater, IsDefaulted}
+use Rattle.asn1_x691_decode.specs.Decoding.{Outcome, OutcomeOfContents, IsDecoded, IsFilled, IsEnd, IsUnsupported, IsLater, IsTooLarge, IsDefaulted}
 
 -- ---- zeros at the end
 
@@ -98,7 +98,7 @@ module _ (c : Context) where
         bits = subst (λ (i : ℕ). drop i list ≡ true ∷ true ∷ f.others) (sym a) f.bits;
       })
   same_unsupported old new a n k (inr u) =
-      inr (k ∙ u.0, subst (λ (i : ℕ). IsLater (slice_get c.tables.nodes.now i) ⊎ IsDefaulted c i) (sym n) u.1)
+      inr (k ∙ u.0, subst (λ (i : ℕ). IsLater (slice_get c.tables.nodes.now i) ⊎ (IsTooLarge (slice_get c.tables.nodes.now i) ⊎ IsDefaulted c i)) (sym n) u.1)
 
   -- ---- open types: `in` is the state before the contents, and `out` that after them
 

@@ -1,5 +1,5 @@
 -- What a decoder did: the parts that it found, or the first fault.
-use Rattle.std.specs.Prelude.{◌≡◌, ℕ, ◌+◌, ◌⊎◌, ⊤, Bool, true, false, List, [], ◌∷◌, Option, Some, None, slice_get, slice_range, drop}
+use Rattle.std.specs.Prelude.{◌≡◌, ℕ, ◌+◌, ◌^◌, ◌≤◌, ◌⊎◌, ⊤, Bool, true, false, List, [], ◌∷◌, Option, Some, None, slice_get, slice_range, drop}
 use Rattle.asn1_bits.specs.Bits.{bits}
 use Rattle.asn1_schema.specs.declared.part.Part.{Part}
 use Rattle.asn1_schema.specs.declared.tables.Node.{Node}
@@ -7,6 +7,8 @@ use Rattle.asn1_schema.specs.declared.tables.Node.TheVariants as type
 use Rattle.asn1_schema.specs.declared.tables.Member.{Member}
 use Rattle.asn1_schema.specs.declared.tables.Presence.{Presence}
 use Rattle.asn1_schema.specs.declared.tables.Presence.TheVariants as presence
+use Rattle.asn1_schema.specs.declared.tables.Length.{Length}
+use Rattle.asn1_schema.specs.declared.tables.Length.TheVariants.{Between}
 use Rattle.asn1_schema.specs.declared.tables.Rows.{Rows}
 use Rattle.asn1_schema.specs.Pieces.{Absent, Parts}
 use Rattle.asn1_schema.specs.PiecesOfParts.{bits_at}
@@ -15,7 +17,7 @@ use Rattle.asn1_schema.specs.TypeEncodings.{TypeEncoding, AfterHeader}
 use Rattle.asn1_x691.specs.declared.fault.FaultKind.{FaultKind}
 use Rattle.asn1_x691.specs.declared.fault.FaultKind.TheVariants.{Unsupported, NoNode}
 use Rattle.asn1_x691.specs.OpenTypes.{padding, complete, open_type}
-use Rattle.asn1_x691.specs.Types.{type_at, type_of, value_by, components, root_of, sequence_by, extension}
+use Rattle.asn1_x691.specs.Types.{type_at, type_of, value_by, components, root_of, sequence_by, extension, addition, additions_by_bits, sequence_of_by, choice_by}
 use Rattle.asn1_x691_fields.specs.declared.state.State.{State}
 use Rattle.asn1_x691_fields.specs.Outcomes.{rest, position, fault_of, IsInFragments}
 use Rattle.asn1_x691_decode.specs.declared.context.Context.{Context}
@@ -50,6 +52,12 @@ IsLater (Some (type.IntegerBetween bounds is_extensible)) = is_extensible ≡ tr
 IsLater (Some (type.IntegerAtLeast least is_extensible)) = is_extensible ≡ true
 IsLater o = ⊥
 
+-- types whose numbers exceed those of the machine
+abbrev pub IsTooLarge : Option Node → Type 0
+IsTooLarge (Some (type.SequenceOf (Between least range) is_extensible item)) = 2 ^ 64 ≤ least + range
+IsTooLarge (Some (type.Choice alternatives is_extensible known)) = 2 ^ 64 ≤ alternatives.count + known.count
+IsTooLarge o = ⊥
+
 -- types whose default values it compares
 abbrev pub IsSimple : Option Node → Type 0
 IsSimple (Some type.Boolean) = ⊤
@@ -66,7 +74,7 @@ pub record IsDefaulted (c : Context) (node : ℕ) : Type 0 where
 
 abbrev pub IsUnsupported : Context → State → Type 0
 IsUnsupported c s = IsInFragments (bits c.octets.now) s
-    ⊎ ((s.kind ≡ Unsupported) × (IsLater (slice_get c.tables.nodes.now s.node) ⊎ IsDefaulted c s.node))
+    ⊎ ((s.kind ≡ Unsupported) × (IsLater (slice_get c.tables.nodes.now s.node) ⊎ (IsTooLarge (slice_get c.tables.nodes.now s.node) ⊎ IsDefaulted c s.node)))
 
 -- ---- what a call did
 
@@ -129,6 +137,18 @@ module _ (c : Context) (depth node : ℕ) where
 
   abbrev pub extension_in : Rows → ℕ → TypeEncoding FaultKind
   extension_in = extension c.is_aligned (types c depth) c.tables.members.now c.tables.ranges.now defaults node
+
+  abbrev pub addition_in : ℕ → ℕ → ℕ → TypeEncoding FaultKind
+  addition_in = addition c.is_aligned (types c depth) c.tables.members.now c.tables.ranges.now defaults node
+
+  abbrev pub additions_in : ℕ → ℕ → ℕ → ℕ → AfterHeader FaultKind (List Bool)
+  additions_in = additions_by_bits c.is_aligned (types c depth) c.tables.members.now c.tables.ranges.now defaults node
+
+  abbrev pub sequence_of_in : Bool → Length → ℕ → ℕ → TypeEncoding FaultKind
+  sequence_of_in is_extensible = sequence_of_by c.is_aligned (types c depth) c.tables.members.now c.tables.ranges.now defaults node is_extensible false
+
+  abbrev pub choice_in : Bool → Rows → Rows → ℕ → TypeEncoding FaultKind
+  choice_in = choice_by c.is_aligned (types c depth) c.tables.members.now c.tables.ranges.now defaults node
 
   -- a component alone: a bit tells whether it is present
   abbrev pub by_presence : List Bool → (ℕ → TypeEncoding FaultKind) → ℕ → Encoding FaultKind Parts

@@ -3,8 +3,8 @@
 ghost use Rattle.std.specs.Prelude.{◌≡◌, ◌+◌, ◌-◌, ◌*◌, ◌≤◌, ◌^◌, ◌<◌, length, slice_get, Some};
 ghost use Rattle.asn1_bits.specs.Bits.{bits};
 ghost use Rattle.asn1_schema.specs.PiecesOfParts.{bits_at};
-ghost use Rattle.asn1_x691.specs.Types.{optional_count, presence_bits};
-ghost use Rattle.asn1_x691_decode.specs.Decoding.{IsTold};
+ghost use Rattle.asn1_x691.specs.Types.{optional_count, presence_bits, any_true};
+ghost use Rattle.asn1_x691_decode.specs.Decoding.{IsTold, told_by};
 
 use asn1_bits::read_bits;
 use asn1_schema::{Member, Presence, Rows};
@@ -24,6 +24,7 @@ pub(crate) fn next_presence(octets: &[u8], presence: &mut PresenceBits) -> Optio
     requires size { 8 * length octets.now < 2 ^ 64 }
     requires within { presence.old.at + presence.old.left ≤ 8 * length octets.now }
     ensures within { presence.new.at + presence.new.left ≤ 8 * length octets.now }
+    ensures fewer { presence.new.left ≡ presence.old.left - 1 }
     ensures told { IsTold (bits octets.now) presence.old presence.new result }
 {
     if presence.left == 0 {
@@ -35,6 +36,21 @@ pub(crate) fn next_presence(octets: &[u8], presence: &mut PresenceBits) -> Optio
     Some(read_bits(octets, at, 1) == 1)
 }
 
+/// Returns whether a bit tells that a component is present.
+pub(crate) fn has_one(octets: &[u8], presence: PresenceBits) -> bool
+    requires size { 8 * length octets.now < 2 ^ 64 }
+    requires within { presence.at + presence.left ≤ 8 * length octets.now }
+    ensures { result ≡ any_true (told_by (bits octets.now) presence) }
+{
+    let mut presence = presence;
+    for _ in 0..presence.left {
+        if let Some(true) = next_presence(octets, &mut presence) {
+            return true;
+        }
+    }
+    false
+}
+
 /// Returns how many of so many members from an index on there are.
 pub(crate) fn known_of(members: &[Member], rows: Rows) -> usize
     ensures few { result ≤ rows.count }
@@ -43,6 +59,17 @@ pub(crate) fn known_of(members: &[Member], rows: Rows) -> usize
 {
     let left = members.len().saturating_sub(rows.from);
     if rows.count < left { rows.count } else { left }
+}
+
+/// Returns the member of an index among those from another index on.
+#[inline(always)]
+pub(crate) fn member_from(members: &[Member], from: usize, index: usize) -> Option<Member>
+    ensures { result ≡ slice_get members.now (from + index) }
+{
+    if index < members.len().saturating_sub(from) {
+        return Some(members[from + index]);
+    }
+    None
 }
 
 /// Returns the member at an index.

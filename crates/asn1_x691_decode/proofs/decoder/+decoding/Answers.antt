@@ -185,13 +185,13 @@ decode_sequence-returns-then-not-is_extensible-clause-did t c =
     let list = bits cx.octets.now in
     let R : ℕ → Encoding FaultKind Parts = λ at. (root_in cx c.args.depth c.args.node c.args.root at).encoding in
     let S : Bool → ℕ → Encoding FaultKind Parts = λ b at. (sequence_in cx c.args.depth c.args.node b c.args.root c.args.additions at).encoding in
-    subst (λ (b : Bool). Outcome cx (S b) c.args.state.now c.decode_root.new.state c.args.parts.now c.decode_root.new.parts c.decode_root.result)
+    subst (λ (b : Bool). Outcome cx (S b) c.args.state.now c.decode_root-then-not-is_extensible.new.state c.args.parts.now c.decode_root-then-not-is_extensible.new.parts c.decode_root-then-not-is_extensible.result)
     (sym c.if-not-is_extensible.true)
-    (outcome_on cx (S false) R c.args.state.now c.push.new.state c.decode_root.new.state c.args.parts.now c.push.new.parts c.decode_root.new.parts
-    c.decode_root.result
-    (put_step cx (Sequence c.args.root.count false) R c.args.state.now c.push.new.state c.args.parts.now c.push.new.parts c.requires.within
-    (record { at = c.push.ensures.at; first = c.push.ensures.first; end = c.push.ensures.end }) (c.push.ensures.grown list))
-    c.decode_root.ensures.did)
+    (outcome_on cx (S false) R c.args.state.now c.push-then-not-is_extensible.new.state c.decode_root-then-not-is_extensible.new.state c.args.parts.now c.push-then-not-is_extensible.new.parts c.decode_root-then-not-is_extensible.new.parts
+    c.decode_root-then-not-is_extensible.result
+    (put_step cx (Sequence c.args.root.count false) R c.args.state.now c.push-then-not-is_extensible.new.state c.args.parts.now c.push-then-not-is_extensible.new.parts c.requires.within
+    (record { at = c.push-then-not-is_extensible.ensures.at; first = c.push-then-not-is_extensible.ensures.first; end = c.push-then-not-is_extensible.ensures.end }) (c.push-then-not-is_extensible.ensures.grown list))
+    c.decode_root-then-not-is_extensible.ensures.did)
 
 pub decode_complete-returns-clause-did : goal.decode_complete-returns-clause-did
 decode_complete-returns-clause-did t c =
