@@ -3,17 +3,21 @@ use Rattle.std.proofs.Common.{◌≡◌, ℕ, zero, suc, ◌+◌, ◌-◌, ◌<�
 use Rattle.asn1_bits.specs.Bits.{bits}
 use Rattle.asn1_schema.specs.declared.part.Part.{Part}
 use Rattle.asn1_schema.specs.declared.tables.Rows.{Rows}
-use Rattle.asn1_schema.specs.Pieces.{Parts, Absent, Sequence}
-use Rattle.asn1_schema.specs.Encodings.{Fault, Encoding, Starts, constant, anywhere}
-use Rattle.asn1_schema.specs.TypeEncodings.{TypeEncoding, by_bit, put, both}
+use Rattle.asn1_schema.specs.Pieces.{Parts, Absent, Sequence, Additions}
+use Rattle.asn1_schema.specs.Encodings.{Fault, Encoding, Starts, IsAt, constant, invalid, anywhere}
+use Rattle.asn1_schema.specs.Fields.{raw_bits}
+use Rattle.asn1_schema.specs.TypeEncodings.{TypeEncoding, AfterHeader, by_bit, put, both, header}
 use Rattle.asn1_x691.specs.declared.fault.FaultKind.{FaultKind}
+use Rattle.asn1_x691.specs.declared.fault.FaultKind.TheVariants.{Short, NoAddition}
+use Rattle.asn1_x691.specs.Fields.{small_length}
 use Rattle.asn1_x691.specs.Strings.{bit}
+use Rattle.asn1_x691.specs.Types.{some_additions, any_true}
 use Rattle.asn1_x691_fields.specs.declared.state.State.{State}
 use Rattle.asn1_x691_fields.specs.Outcomes.{rest, position, IsWithin, IsMoved, IsOnward}
 use Rattle.asn1_x691_decode.specs.declared.context.Context.{Context}
 use Rattle.asn1_x691_decode.specs.Room.{IsGrown}
-use Rattle.asn1_x691_decode.specs.Decoding.{IsDecoded, sequence_in, root_in, extension_in, addition_in, additions_in, by_presence, bits_after_one}
-use Rattle.asn1_x691_decode.proofs.Steps.{IsUnderway, IsSamePlace, header_step, put_step, value_step, nothing_decoded}
+use Rattle.asn1_x691_decode.specs.Decoding.{IsDecoded, types, default_of, sequence_in, root_in, extension_in, addition_in, additions_in, by_presence, bits_after_one}
+use Rattle.asn1_x691_decode.proofs.Steps.{IsUnderway, IsSamePlace, header_step, part_step, put_step, value_step, first_case, nothing_decoded}
 
 module _ (c : Context) (depth node : ℕ) where
   abbrev list : List Bool
@@ -51,6 +55,44 @@ module _ (c : Context) (depth node : ℕ) where
     after_true true old now was next e h s g =
         put_step c (Sequence root.count true) (λ at. (both R X at).encoding) old now was next h s g
     after_true false old now was next e h s g = absurd cc
+
+  -- ---- the number of the additions, and the bits that tell which of them are present
+
+  module _ (known : Rows) where
+    abbrev pub E : ℕ → ℕ → AfterHeader FaultKind (List Bool)
+    E n = some_additions c.is_aligned (types c depth) c.tables.members.now c.tables.ranges.now
+        (default_of c.defaults.octets.now c.defaults.rows.now) node n known
+
+    abbrev pub Q : ℕ → ℕ → Encoding FaultKind Parts
+    Q n at = (header (raw_bits n Short node) n (E n) node at).encoding
+
+    abbrev pub X0 : ℕ → Encoding FaultKind Parts
+    X0 at = (extension_in c depth node known at).encoding
+
+    pub count_step : (old mid now : State) (was next : List Part) (n : ℕ) → IsWithin list old → IsOnward list old mid
+        → Starts (small_length c.is_aligned node (position old)).encodes (rest list old) n (rest list mid) → IsSamePlace mid now
+        → IsGrown list was mid.count next now.count (Additions n ∷ []) → IsUnderway c X0 (Q n) old now was next
+    count_step old mid now was next n h g s same grown =
+        part_step c (small_length c.is_aligned node) Additions Q old mid now was next n h g s same grown
+
+    pub no_bits : (n at : ℕ) (l : List Bool) (e : Fault FaultKind) → (raw_bits n Short node).fault l e → (Q n at).fault l e
+    no_bits n at l e w = inl w
+
+    abbrev pub T : ℕ → List Bool → ℕ → Encoding FaultKind Parts
+    T n p at = (E n at).after p
+
+    pub bits_step : (old now : State) (was : List Part) (n : ℕ) (p : List Bool) → IsWithin list old → IsOnward list old now
+        → Starts (raw_bits n Short node).encodes (rest list old) p (rest list now) → IsUnderway c (Q n) (T n p) old now was was
+    bits_step old now was n p h g s = header_step c (λ at. raw_bits n Short node) (T n) old now was p h g s
+
+    pub some_step : (s : State) (was : List Part) (n : ℕ) (p : List Bool) → any_true p ≡ true
+        → IsUnderway c (T n p) (λ at. (additions_in c depth node n known.count known.from at).after p) s s was was
+    some_step s was n p some =
+        first_case c (any_true p ≡ true) (any_true p ≡ false) (λ at. (additions_in c depth node n known.count known.from at).after p)
+        (λ at. invalid NoAddition node) s was some
+
+    pub none_fault : (n at : ℕ) (p l : List Bool) (e : Fault FaultKind) → any_true p ≡ false → IsAt NoAddition node l e → (T n p at).fault l e
+    none_fault n at p l e none w = inr (none, w)
 
   -- ---- additions
 

@@ -11,7 +11,7 @@ use Rattle.asn1_schema.specs.declared.tables.Presence.TheVariants as presence
 use Rattle.asn1_schema.specs.declared.part.Part.{Part}
 use Rattle.asn1_schema.specs.Pieces.{Piece, Parts, Absent}
 use Rattle.asn1_schema.specs.PiecesOfParts.{piece_of}
-use Rattle.asn1_schema.specs.Encodings.{Fault, Encoding, Starts, constant, invalid, in_turn, IsAt}
+use Rattle.asn1_schema.specs.Encodings.{Fault, Encoding, Starts, constant, invalid, cases, in_turn, IsAt}
 use Rattle.asn1_schema.specs.TypeEncodings.{TypeEncoding, AfterHeader}
 use Rattle.asn1_x691.specs.declared.fault.FaultKind.{FaultKind}
 use Rattle.asn1_x691.specs.declared.fault.FaultKind.TheVariants.{NoNode, TooDeep}
@@ -48,6 +48,13 @@ same_position old new s = omega (arith, s.at, s.first)
 
 pub same_fault : (old new : State) → IsSamePlace old new → IsSamePlace new old
 same_fault old new s = record { at = sym s.at; first = sym s.first; end = sym s.end }
+
+pub same_within : (list : List Bool) (old new : State) → IsSamePlace old new → IsWithin list old → IsWithin list new
+same_within list old new s h = record {
+  begins = omega (arith, s.at, s.first, h.begins);
+  ends = omega (arith, s.at, s.end, h.ends);
+  inside = omega (arith, s.end, h.inside);
+}
 
 -- ---- outcomes
 
@@ -152,6 +159,18 @@ module _ (c : Context) where
       grown = grown_over list was is next old.count now.count new.count a.parts d.parts a.grown d.grown;
     };
     fault = λ e w. after_fault list old now h g A (λ ts us. ts ++ us) (λ ts. B) a.parts a.starts e w;
+  }
+
+  -- the first of two cases
+  pub first_case : (C D : Type 0) (A B : ℕ → Encoding FaultKind Parts) (s : State) (was : List Part) → C
+      → IsUnderway (λ at. cases C (A at) D (B at)) A s s was was
+  first_case C D A B s was holds = record {
+    done = λ new next d. record {
+      parts = d.parts;
+      starts = record { front = d.starts.front; encoded = inl (holds, d.starts.encoded); parts = d.starts.parts };
+      grown = d.grown;
+    };
+    fault = λ e w. inl (holds, w);
   }
 
   onward_none : (s : State) → IsWithin list s → IsOnward list s s

@@ -390,6 +390,108 @@ fn keep_octets(context: &Context<'_>, node: usize, state: &mut State, parts: &mu
     }
 }
 
+/// Decodes a CHOICE (X.691 23).
+#[cycle(decoding)]
+fn decode_choice(
+    context: &Context<'_>,
+    depth: usize,
+    node: usize,
+    rows: Rows,
+    is_extensible: bool,
+    known: Rows,
+    state: &mut State,
+    parts: &mut [Part],
+) -> bool
+    requires size { 8 * length context.now.octets.now < 2 ^ 64 }
+    requires within { IsWithin (bits context.now.octets.now) state.old }
+    requires placed { IsPlaced context.now.is_aligned state.old }
+    requires fits { rows.count + known.count < 2 ^ 64 }
+    ensures moved { IsMoved (bits context.now.octets.now) state.old state.new }
+    ensures did { Outcome context.now (λ at. (choice_in context.now depth node is_extensible rows known at).encoding)
+        state.old state.new parts.old parts.new result }
+{
+    if is_extensible {
+        match next_bit(context.octets, node, state) {
+            None => return false,
+            Some(true) => return decode_added(context, depth, node, rows, known, state, parts),
+            Some(false) => {}
+        }
+    }
+    decode_alternative(context, depth, node, rows, state, parts)
+}
+
+/// Decodes an alternative of the root after its index (X.691 23.6).
+#[cycle(decoding)]
+fn decode_alternative(
+    context: &Context<'_>,
+    depth: usize,
+    node: usize,
+    rows: Rows,
+    state: &mut State,
+    parts: &mut [Part],
+) -> bool
+    requires size { 8 * length context.now.octets.now < 2 ^ 64 }
+    requires within { IsWithin (bits context.now.octets.now) state.old }
+    requires placed { IsPlaced context.now.is_aligned state.old }
+    ensures moved { IsMoved (bits context.now.octets.now) state.old state.new }
+    ensures did { Outcome context.now (λ at. (alternatives_in context.now depth node rows at).encoding)
+        state.old state.new parts.old parts.new result }
+{
+    let last = rows.count.saturating_sub(1);
+    let index = match next_constrained(context.octets, context.is_aligned, last as u128, node, state) {
+        None => return false,
+        Some(index) => index as usize,
+    };
+    push(parts, state, Part::Chosen(index));
+    if index >= rows.count {
+        fail(state, node, FaultKind::NoNode);
+        return false;
+    }
+    match member_from(context.tables.members, rows.from, index) {
+        None => {
+            fail(state, node, FaultKind::NoNode);
+            false
+        }
+        Some(member) => decode_node(context, depth, member.node, state, parts),
+    }
+}
+
+/// Decodes an addition of a CHOICE after its index: an open type, or its octets where it is not
+/// known (X.691 23.8).
+#[cycle(decoding)]
+fn decode_added(
+    context: &Context<'_>,
+    depth: usize,
+    node: usize,
+    rows: Rows,
+    known: Rows,
+    state: &mut State,
+    parts: &mut [Part],
+) -> bool
+    requires size { 8 * length context.now.octets.now < 2 ^ 64 }
+    requires within { IsWithin (bits context.now.octets.now) state.old }
+    requires placed { IsPlaced context.now.is_aligned state.old }
+    requires fits { rows.count + known.count < 2 ^ 64 }
+    ensures moved { IsMoved (bits context.now.octets.now) state.old state.new }
+    ensures did { Outcome context.now (λ at. (choice_extension_in context.now depth node rows known at).encoding)
+        state.old state.new parts.old parts.new result }
+{
+    let index = match next_small_number(context.octets, context.is_aligned, node, state) {
+        None => return false,
+        Some(index) => index,
+    };
+    match known_index(index, known.count) {
+        None => {
+            push(parts, state, Part::UnknownChosen(index));
+            keep_octets(context, node, state, parts)
+        }
+        Some(index) => {
+            push(parts, state, Part::Chosen(rows.count.max(1) + index));
+            decode_known(context, depth, node, known, index, state, parts)
+        }
+    }
+}
+
 /// Decodes an open type (X.691 11.2): octets that are a complete encoding, after their number.
 #[cycle(decoding)]
 fn decode_enclosed(

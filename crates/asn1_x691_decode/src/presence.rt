@@ -43,8 +43,8 @@ pub(crate) fn has_one(octets: &[u8], presence: PresenceBits) -> bool
     ensures { result ≡ any_true (told_by (bits octets.now) presence) }
 {
     let mut presence = presence;
-    for _ in 0..presence.left {
-        if let Some(true) = next_presence(octets, &mut presence) {
+    while presence.left > 0 {
+        if next_presence(octets, &mut presence) == Some(true) {
             return true;
         }
     }

@@ -1,5 +1,5 @@
 use Rattle.std.proofs.Common.{◌≡◌, ℕ, ◌+◌, ◌-◌, ◌*◌, ◌≤◌, ◌<◌, ◌∷◌, [], List, Bool, true, false, length, refl, sym, ◌∙◌, ap, subst, arith, Option, Some, None, inl, inr}
-use Rattle.std.specs.Prelude.{slice_get}
+use Rattle.std.specs.Prelude.{slice_get, ◌⊎◌}
 use Rattle.asn1_bits.specs.Bits.{bits}
 use Rattle.asn1_bits.specs.DigitLaws.{length-bits}
 use Rattle.asn1_schema.specs.declared.tables.Node.{Node}
@@ -9,17 +9,19 @@ use Rattle.asn1_schema.specs.PiecesOfParts.{bits_at}
 use Rattle.asn1_schema.specs.Fields.{raw_bits}
 use Rattle.asn1_schema.specs.Encodings.{Encoding, Starts, constant, anywhere}
 use Rattle.asn1_x691.specs.declared.fault.FaultKind.{FaultKind}
-use Rattle.asn1_x691.specs.declared.fault.FaultKind.TheVariants.{NoNode, Short}
+use Rattle.asn1_x691.specs.declared.fault.FaultKind.TheVariants.{NoNode, Short, NoAddition}
 use Rattle.asn1_x691.specs.Strings.{bit}
 use Rattle.asn1_x691.specs.Types.{optional_count}
 use Rattle.asn1_x691_fields.specs.Outcomes.{rest, position, fault_of}
-use Rattle.asn1_x691_fields.specs.Steps.{within_after, moved_over, fault_at}
-use Rattle.asn1_x691_decode.specs.Decoding.{Outcome, IsDecoded, types, value_in, component_in, components_in, root_in, sequence_in, told_by, bits_after}
-use Rattle.asn1_x691_decode.proofs.Steps.{IsSamePlace, at_node, put_step, header_step, leaf_decoded, nothing_decoded, component_step, component_fault, no_member, bits_left, no_components, over, fails_on, outcome_on, by_true, by_false, absent_of, part_decoded, told_after}
+use Rattle.asn1_x691_fields.specs.Steps.{within_after, moved_over, moved_on, fault_at}
+use Rattle.asn1_x691_decode.specs.Decoding.{Outcome, IsDecoded, IsUnsupported, extension_in, types, value_in, component_in, components_in, root_in, sequence_in, told_by, bits_after, by_presence, additions_in, addition_in}
+use Rattle.asn1_x691_decode.proofs.Steps.{IsSamePlace, same_within, at_node, put_step, value_step, header_step, leaf_decoded, nothing_decoded, component_step, component_fault, no_member, bits_left, no_components, over, fails_on, outcome_on, by_true, by_false, absent_of, part_decoded, told_after}
+use Rattle.asn1_schema.specs.TypeEncodings.{both}
 use Rattle.asn1_x691.specs.OpenTypes.{complete}
 use Rattle.asn1_x691_fields.specs.declared.state.State.{State}
 use Rattle.asn1_x691_decode.specs.Room.{IsGrown}
 use Rattle.asn1_x691_decode.proofs.OpenSteps.{complete_outcome, complete_fails, enclosed_starts, enclosed_fault, same_unsupported, contents_true, contents_false}
+use Rattle.asn1_x691_decode.proofs.SequenceSteps.{after_bit, bit_step, after_false, after_true, X0, Q, T, count_step, no_bits, bits_step, some_step, none_fault, addition_step, addition_fault, no_additions}
 use Rattle.asn1_x691_decode.proofs.PresenceSteps.{told_length}
 use Rattle.asn1_x691_decode.proofs.decoder.+decoding.Goals as goal
 
@@ -185,13 +187,13 @@ decode_sequence-returns-then-not-is_extensible-clause-did t c =
     let list = bits cx.octets.now in
     let R : ℕ → Encoding FaultKind Parts = λ at. (root_in cx c.args.depth c.args.node c.args.root at).encoding in
     let S : Bool → ℕ → Encoding FaultKind Parts = λ b at. (sequence_in cx c.args.depth c.args.node b c.args.root c.args.additions at).encoding in
-    subst (λ (b : Bool). Outcome cx (S b) c.args.state.now c.decode_root-then-not-is_extensible.new.state c.args.parts.now c.decode_root-then-not-is_extensible.new.parts c.decode_root-then-not-is_extensible.result)
+    subst (λ (b : Bool). Outcome cx (S b) c.args.state.now c.decode_root.new.state c.args.parts.now c.decode_root.new.parts c.decode_root.result)
     (sym c.if-not-is_extensible.true)
-    (outcome_on cx (S false) R c.args.state.now c.push-then-not-is_extensible.new.state c.decode_root-then-not-is_extensible.new.state c.args.parts.now c.push-then-not-is_extensible.new.parts c.decode_root-then-not-is_extensible.new.parts
-    c.decode_root-then-not-is_extensible.result
-    (put_step cx (Sequence c.args.root.count false) R c.args.state.now c.push-then-not-is_extensible.new.state c.args.parts.now c.push-then-not-is_extensible.new.parts c.requires.within
-    (record { at = c.push-then-not-is_extensible.ensures.at; first = c.push-then-not-is_extensible.ensures.first; end = c.push-then-not-is_extensible.ensures.end }) (c.push-then-not-is_extensible.ensures.grown list))
-    c.decode_root-then-not-is_extensible.ensures.did)
+    (outcome_on cx (S false) R c.args.state.now c.push.new.state c.decode_root.new.state c.args.parts.now c.push.new.parts c.decode_root.new.parts
+    c.decode_root.result
+    (put_step cx (Sequence c.args.root.count false) R c.args.state.now c.push.new.state c.args.parts.now c.push.new.parts c.requires.within
+    (record { at = c.push.ensures.at; first = c.push.ensures.first; end = c.push.ensures.end }) (c.push.ensures.grown list))
+    c.decode_root.ensures.did)
 
 pub decode_complete-returns-clause-did : goal.decode_complete-returns-clause-did
 decode_complete-returns-clause-did t c =
@@ -257,3 +259,223 @@ decode_node-returns-in-Some-Open-clause-did t c =
     c.decode_enclosed.result)
     (omega (arith, c.if-depth-eq0.false))
     (sym c.node_at.ensures ∙ c.in-Some-Open.is ∙ ap (λ (n : Node). Some n) c.in-Some-Open.field-0-is) c.decode_enclosed.ensures.did
+
+pub decode_sequence-returns-then-not-is_extended-clause-did : goal.decode_sequence-returns-then-not-is_extended-clause-did
+decode_sequence-returns-then-not-is_extended-clause-did t c =
+    let cx = c.args.context.now in
+    let list = bits cx.octets.now in
+    let a = c.args in
+    let b = c.in-Some.bit in
+    let mid = c.next_bit.new.state in
+    let now = c.push-2.new in
+    let root = c.decode_root-then-not-is_extended in
+    let within = within_after list a.state.now mid c.requires.within (moved_on list a.state.now mid c.next_bit.ensures.onward) in
+    let S : Bool → ℕ → Encoding FaultKind Parts = λ x at. (sequence_in cx a.depth a.node x a.root a.additions at).encoding in
+    let R : ℕ → Encoding FaultKind Parts = λ at. (root_in cx a.depth a.node a.root at).encoding in
+    let B = after_bit cx a.depth a.node a.root a.additions b in
+    subst (λ (x : Bool). Outcome cx (S x) a.state.now root.new.state a.parts.now root.new.parts root.result)
+    (sym c.if-not-is_extensible.false)
+    (outcome_on cx (S true) R a.state.now now.state root.new.state a.parts.now now.parts root.new.parts root.result
+    (over cx (S true) B R a.state.now mid now.state a.parts.now a.parts.now now.parts
+    (bit_step cx a.depth a.node a.root a.additions b a.state.now mid a.parts.now c.requires.within c.next_bit.ensures.onward c.in-Some.ensures.read)
+    (after_false cx a.depth a.node a.root a.additions b mid now.state a.parts.now now.parts c.if-not-is_extended.true within
+    (record { at = c.push-2.ensures.at; first = c.push-2.ensures.first; end = c.push-2.ensures.end }) (c.push-2.ensures.grown list)))
+    root.ensures.did)
+
+pub decode_sequence-returns-then-not-decode_root-clause-did : goal.decode_sequence-returns-then-not-decode_root-clause-did
+decode_sequence-returns-then-not-decode_root-clause-did t c =
+    let cx = c.args.context.now in
+    let list = bits cx.octets.now in
+    let a = c.args in
+    let b = c.in-Some.bit in
+    let mid = c.next_bit.new.state in
+    let now = c.push-2.new in
+    let root = c.decode_root-2 in
+    let within = within_after list a.state.now mid c.requires.within (moved_on list a.state.now mid c.next_bit.ensures.onward) in
+    let same : IsSamePlace mid now.state =
+    record { at = c.push-2.ensures.at; first = c.push-2.ensures.first; end = c.push-2.ensures.end } in
+    let S : Bool → ℕ → Encoding FaultKind Parts = λ x at. (sequence_in cx a.depth a.node x a.root a.additions at).encoding in
+    let R = root_in cx a.depth a.node a.root in
+    let R1 : ℕ → Encoding FaultKind Parts = λ at. (R at).encoding in
+    let X = extension_in cx a.depth a.node a.additions in
+    let X1 : ℕ → Encoding FaultKind Parts = λ at. (X at).encoding in
+    let RX : ℕ → Encoding FaultKind Parts = λ at. (both R X at).encoding in
+    let B = after_bit cx a.depth a.node a.root a.additions b in
+    let begun =
+    over cx (S true) B RX a.state.now mid now.state a.parts.now a.parts.now now.parts
+    (bit_step cx a.depth a.node a.root a.additions b a.state.now mid a.parts.now c.requires.within c.next_bit.ensures.onward c.in-Some.ensures.read)
+    (after_true cx a.depth a.node a.root a.additions b mid now.state a.parts.now now.parts c.if-not-is_extended.false within same
+    (c.push-2.ensures.grown list)) in
+    subst (λ (x : Bool). (S x (position a.state.now)).fault (rest list a.state.now) (fault_of root.new.state) ⊎ IsUnsupported cx root.new.state)
+    (sym c.if-not-is_extensible.false)
+    (fails_on cx (S true) RX a.state.now now.state root.new.state a.parts.now now.parts root.new.parts begun
+    (elim (by_false cx R1 now.state root.new.state now.parts root.new.parts root.result c.if-not-decode_root.true root.ensures.did) [
+      inl w ↦ inl (inl w)
+    | inr u ↦ inr u
+    ]))
+
+pub decode_sequence-returns-clause-did : goal.decode_sequence-returns-clause-did
+decode_sequence-returns-clause-did t c =
+    let cx = c.args.context.now in
+    let list = bits cx.octets.now in
+    let a = c.args in
+    let b = c.in-Some.bit in
+    let mid = c.next_bit.new.state in
+    let now = c.push-2.new in
+    let root = c.decode_root-2 in
+    let within = within_after list a.state.now mid c.requires.within (moved_on list a.state.now mid c.next_bit.ensures.onward) in
+    let same : IsSamePlace mid now.state =
+    record { at = c.push-2.ensures.at; first = c.push-2.ensures.first; end = c.push-2.ensures.end } in
+    let S : Bool → ℕ → Encoding FaultKind Parts = λ x at. (sequence_in cx a.depth a.node x a.root a.additions at).encoding in
+    let R = root_in cx a.depth a.node a.root in
+    let R1 : ℕ → Encoding FaultKind Parts = λ at. (R at).encoding in
+    let X = extension_in cx a.depth a.node a.additions in
+    let X1 : ℕ → Encoding FaultKind Parts = λ at. (X at).encoding in
+    let RX : ℕ → Encoding FaultKind Parts = λ at. (both R X at).encoding in
+    let B = after_bit cx a.depth a.node a.root a.additions b in
+    let begun =
+    over cx (S true) B RX a.state.now mid now.state a.parts.now a.parts.now now.parts
+    (bit_step cx a.depth a.node a.root a.additions b a.state.now mid a.parts.now c.requires.within c.next_bit.ensures.onward c.in-Some.ensures.read)
+    (after_true cx a.depth a.node a.root a.additions b mid now.state a.parts.now now.parts c.if-not-is_extended.false within same
+    (c.push-2.ensures.grown list)) in
+    let last = c.decode_extension in
+    subst (λ (x : Bool). Outcome cx (S x) a.state.now last.new.state a.parts.now last.new.parts last.result) (sym c.if-not-is_extensible.false)
+    (outcome_on cx (S true) X1 a.state.now root.new.state last.new.state a.parts.now root.new.parts last.new.parts last.result
+    (over cx (S true) RX X1 a.state.now now.state root.new.state a.parts.now now.parts root.new.parts begun
+    (value_step cx R1 X1 now.state root.new.state now.parts root.new.parts (same_within list mid now.state same within) root.ensures.moved
+    (by_true cx R1 now.state root.new.state now.parts root.new.parts root.result c.if-not-decode_root.false root.ensures.did)))
+    last.ensures.did)
+
+pub decode_extension-returns-in-None-next_bits-clause-did : goal.decode_extension-returns-in-None-next_bits-clause-did
+decode_extension-returns-in-None-next_bits-clause-did t c =
+    let cx = c.args.context.now in
+    let list = bits cx.octets.now in
+    let a = c.args in
+    let n = c.in-Some.count in
+    let now = c.push.new in
+    let new = c.next_bits.new.state in
+    inl ((count_step cx a.depth a.node a.known a.state.now c.next_small_length.new.state now.state a.parts.now now.parts n c.requires.within
+    c.next_small_length.ensures.onward c.in-Some.ensures.read
+    (record { at = c.push.ensures.at; first = c.push.ensures.first; end = c.push.ensures.end }) (c.push.ensures.grown list)).fault
+    (fault_of new) (no_bits cx a.depth a.node a.known n (position now.state) (rest list now.state) (fault_of new) c.in-None-next_bits.ensures.read))
+
+pub decode_extension-returns-then-not-has_one-clause-did : goal.decode_extension-returns-then-not-has_one-clause-did
+decode_extension-returns-then-not-has_one-clause-did t c =
+    let cx = c.args.context.now in
+    let list = bits cx.octets.now in
+    let a = c.args in
+    let n = c.in-Some.count in
+    let mid = c.next_small_length.new.state in
+    let now = c.push.new in
+    let later = c.next_bits.new.state in
+    let new = c.fail.new.state in
+    let same : IsSamePlace mid now.state =
+    record { at = c.push.ensures.at; first = c.push.ensures.first; end = c.push.ensures.end } in
+    let within = same_within list mid now.state same
+        (within_after list a.state.now mid c.requires.within (moved_on list a.state.now mid c.next_small_length.ensures.onward)) in
+    let told = bits_at list c.in-Some-next_bits.at n in
+    inl ((count_step cx a.depth a.node a.known a.state.now mid now.state a.parts.now now.parts n c.requires.within
+    c.next_small_length.ensures.onward c.in-Some.ensures.read same (c.push.ensures.grown list)).fault (fault_of new)
+    ((bits_step cx a.depth a.node a.known now.state later now.parts n told within c.next_bits.ensures.onward c.in-Some-next_bits.ensures.read).fault
+    (fault_of new)
+    (none_fault cx a.depth a.node a.known n (position later) told (rest list later) (fault_of new)
+    (sym c.has_one.ensures ∙ c.if-not-has_one.true)
+    (fault_at list later new a.node NoAddition c.next_bits.ensures.onward.inside c.fail.ensures.at c.fail.ensures.end c.fail.ensures.node c.fail.ensures.kind))))
+
+pub decode_extension-returns-clause-did : goal.decode_extension-returns-clause-did
+decode_extension-returns-clause-did t c =
+    let cx = c.args.context.now in
+    let list = bits cx.octets.now in
+    let a = c.args in
+    let n = c.in-Some.count in
+    let mid = c.next_small_length.new.state in
+    let now = c.push.new in
+    let later = c.next_bits.new.state in
+    let same : IsSamePlace mid now.state =
+    record { at = c.push.ensures.at; first = c.push.ensures.first; end = c.push.ensures.end } in
+    let within = same_within list mid now.state same
+        (within_after list a.state.now mid c.requires.within (moved_on list a.state.now mid c.next_small_length.ensures.onward)) in
+    let told = bits_at list c.in-Some-next_bits.at n in
+    let X = X0 cx a.depth a.node a.known in
+    let K = Q cx a.depth a.node a.known n in
+    let T1 = T cx a.depth a.node a.known n told in
+    let D1 : ℕ → Encoding FaultKind Parts = λ at. (additions_in cx a.depth a.node n a.known.count a.known.from at).after told in
+    outcome_on cx X D1 a.state.now later c.decode_additions.new.state a.parts.now now.parts c.decode_additions.new.parts c.decode_additions.result
+    (over cx X K D1 a.state.now now.state later a.parts.now now.parts now.parts
+    (count_step cx a.depth a.node a.known a.state.now mid now.state a.parts.now now.parts n c.requires.within
+    c.next_small_length.ensures.onward c.in-Some.ensures.read same (c.push.ensures.grown list))
+    (over cx K T1 D1 now.state later later now.parts now.parts now.parts
+    (bits_step cx a.depth a.node a.known now.state later now.parts n told within c.next_bits.ensures.onward c.in-Some-next_bits.ensures.read)
+    (some_step cx a.depth a.node a.known later now.parts n told (sym c.has_one.ensures ∙ c.if-not-has_one.false))))
+    c.decode_additions.ensures.did
+
+pub decode_optional_addition-returns-in-Some-false-clause-did : goal.decode_optional_addition-returns-in-Some-false-clause-did
+decode_optional_addition-returns-in-Some-false-clause-did t c =
+    let cx = c.args.context.now in
+    let list = bits cx.octets.now in
+    let a = c.args in
+    let now = told_by list c.next_presence.new.presence in
+    subst (λ (l : List Bool). IsDecoded (by_presence cx a.depth a.node l (addition_in cx a.depth a.node (a.known.count - a.index) (a.known.from + a.index))
+    (position a.state.now)).encodes list a.state.now c.push.new.state a.parts.now c.push.new.parts)
+    (sym (c.in-Some-false.ensures.told ∙ ap (λ (b : Bool). b ∷ now) c.in-Some-false.field-0-test))
+    (part_decoded cx Absent a.state.now c.push.new.state a.parts.now c.push.new.parts
+    (record { at = c.push.ensures.at; first = c.push.ensures.first; end = c.push.ensures.end }) (c.push.ensures.grown list))
+
+-- what is said of the addition at the loop's index
+pub decode_additions-returns-then-not-decode_optional_addition-clause-did : goal.decode_additions-returns-then-not-decode_optional_addition-clause-did
+decode_additions-returns-then-not-decode_optional_addition-clause-did t c =
+    let cx = c.args.context.now in
+    let list = bits cx.octets.now in
+    let a = c.args in
+    let l = c.loop-index in
+    let one = c.decode_optional_addition in
+    let p = told_by list l.presence in
+    let A = addition_in cx a.depth a.node (a.known.count - l.index) (a.known.from + l.index) in
+    let B : ℕ → ℕ → ℕ → List Bool → ℕ → Encoding FaultKind Parts =
+    λ left known from q at. (additions_in cx a.depth a.node left known from at).after q in
+    fails_on cx (B a.presence.left a.known.count a.known.from (told_by list a.presence))
+    (B l.presence.left (a.known.count - l.index) (a.known.from + l.index) p) a.state.now l.state one.new.state a.parts.now l.parts
+    one.new.parts l.invariant.4
+    (elim (by_false cx (by_presence cx a.depth a.node p A) l.state one.new.state l.parts one.new.parts one.result
+    c.if-not-decode_optional_addition.true one.ensures.did) [
+      inl w ↦ inl (addition_fault cx a.depth a.node l.presence.left (a.known.count - l.index) (a.known.from + l.index) p (position l.state)
+        (rest list l.state) (fault_of one.new.state) (omega (arith, l.invariant.3, c.loop-index-test.true)) w)
+    | inr u ↦ inr u
+    ])
+
+pub decode_additions-loop-index-preserved : goal.decode_additions-loop-index-preserved
+decode_additions-loop-index-preserved t c =
+    let cx = c.args.context.now in
+    let list = bits cx.octets.now in
+    let a = c.args in
+    let l = c.loop-index in
+    let one = c.decode_optional_addition in
+    let now = one.new in
+    let p = told_by list l.presence in
+    let A = addition_in cx a.depth a.node (a.known.count - l.index) (a.known.from + l.index) in
+    let B : ℕ → ℕ → ℕ → List Bool → ℕ → Encoding FaultKind Parts =
+    λ left known from q at. (additions_in cx a.depth a.node left known from at).after q in (
+      within_after list l.state now.state l.invariant.0 one.ensures.moved,
+      moved_over list a.state.now l.state now.state l.invariant.1 one.ensures.moved,
+      one.ensures.bits,
+      omega (arith, l.invariant.3, one.ensures.fewer),
+      over cx (B a.presence.left a.known.count a.known.from (told_by list a.presence))
+      (B l.presence.left (a.known.count - l.index) (a.known.from + l.index) p)
+      (B now.presence.left (a.known.count - (l.index + 1)) (a.known.from + (l.index + 1)) (told_by list now.presence))
+      a.state.now l.state now.state a.parts.now l.parts now.parts l.invariant.4
+      (addition_step cx a.depth a.node l.presence.left a.known.count a.known.from l.index now.presence.left p (told_by list now.presence)
+      l.state now.state l.parts now.parts one.ensures.fewer l.invariant.0 one.ensures.moved
+      (by_true cx (by_presence cx a.depth a.node p A) l.state now.state l.parts now.parts one.result c.if-not-decode_optional_addition.false
+      one.ensures.did) one.ensures.told),
+    )
+
+pub decode_additions-returns-clause-did : goal.decode_additions-returns-clause-did
+decode_additions-returns-clause-did t c =
+    let cx = c.args.context.now in
+    let list = bits cx.octets.now in
+    let a = c.args in
+    let l = c.loop-index in
+    let none : l.presence.left ≡ 0 = omega (arith, l.invariant.3, c.loop-index-test.false) in
+    l.invariant.4.done l.state l.parts
+    (no_additions cx a.depth a.node l.presence.left (a.known.count - l.index) (a.known.from + l.index) (told_by list l.presence) l.state l.parts
+    none (told_length list l.presence (omega (arith, length-bits cx.octets.now, l.invariant.2)) ∙ none))
