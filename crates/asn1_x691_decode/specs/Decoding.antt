@@ -1,6 +1,7 @@
 -- What a decoder did: the parts that it found, or the first fault.
-use Rattle.std.specs.Prelude.{◌≡◌, ℕ, ◌+◌, ◌^◌, ◌≤◌, ◌⊎◌, ⊤, Bool, true, false, List, [], ◌∷◌, Option, Some, None, slice_get, slice_range, drop}
+use Rattle.std.specs.Prelude.{◌≡◌, ℕ, ◌+◌, ◌^◌, ◌<◌, ◌≤◌, ◌⊎◌, ⊤, Bool, true, false, List, [], ◌∷◌, Option, Some, None, slice_get, slice_range, drop}
 use Rattle.asn1_bits.specs.Bits.{bits}
+use Rattle.asn1_schema.specs.declared.part.Natural.{Natural}
 use Rattle.asn1_schema.specs.declared.part.Part.{Part}
 use Rattle.asn1_schema.specs.declared.tables.Node.{Node}
 use Rattle.asn1_schema.specs.declared.tables.Node.TheVariants as type
@@ -11,13 +12,13 @@ use Rattle.asn1_schema.specs.declared.tables.Length.{Length}
 use Rattle.asn1_schema.specs.declared.tables.Length.TheVariants.{Between}
 use Rattle.asn1_schema.specs.declared.tables.Rows.{Rows}
 use Rattle.asn1_schema.specs.Pieces.{Absent, Parts}
-use Rattle.asn1_schema.specs.PiecesOfParts.{bits_at}
+use Rattle.asn1_schema.specs.PiecesOfParts.{bits_at, natural_of}
 use Rattle.asn1_schema.specs.Encodings.{Encoding, Contents, Starts, constant, invalid}
 use Rattle.asn1_schema.specs.TypeEncodings.{TypeEncoding, AfterHeader}
 use Rattle.asn1_x691.specs.declared.fault.FaultKind.{FaultKind}
 use Rattle.asn1_x691.specs.declared.fault.FaultKind.TheVariants.{Unsupported, NoNode}
 use Rattle.asn1_x691.specs.OpenTypes.{padding, complete, open_type}
-use Rattle.asn1_x691.specs.Types.{type_at, type_of, value_by, components, root_of, sequence_by, extension, addition, additions_by_bits, sequence_of_by, choice_by}
+use Rattle.asn1_x691.specs.Types.{type_at, type_of, value_by, components, root_of, sequence_by, extension, addition, additions_by_bits, known_addition, sequence_of_by, choice, choice_by, choice_extension}
 use Rattle.asn1_x691_fields.specs.declared.state.State.{State}
 use Rattle.asn1_x691_fields.specs.Outcomes.{rest, position, fault_of, IsInFragments}
 use Rattle.asn1_x691_decode.specs.declared.context.Context.{Context}
@@ -141,6 +142,9 @@ module _ (c : Context) (depth node : ℕ) where
   abbrev pub addition_in : ℕ → ℕ → ℕ → TypeEncoding FaultKind
   addition_in = addition c.is_aligned (types c depth) c.tables.members.now c.tables.ranges.now defaults node
 
+  abbrev pub known_in : Option Member → ℕ → TypeEncoding FaultKind
+  known_in = known_addition c.is_aligned (types c depth) c.tables.members.now c.tables.ranges.now defaults node
+
   abbrev pub additions_in : ℕ → ℕ → ℕ → ℕ → AfterHeader FaultKind (List Bool)
   additions_in = additions_by_bits c.is_aligned (types c depth) c.tables.members.now c.tables.ranges.now defaults node
 
@@ -149,6 +153,12 @@ module _ (c : Context) (depth node : ℕ) where
 
   abbrev pub choice_in : Bool → Rows → Rows → ℕ → TypeEncoding FaultKind
   choice_in = choice_by c.is_aligned (types c depth) c.tables.members.now c.tables.ranges.now defaults node
+
+  abbrev pub alternatives_in : Rows → ℕ → TypeEncoding FaultKind
+  alternatives_in = choice c.is_aligned (types c depth) c.tables.members.now c.tables.ranges.now defaults node
+
+  abbrev pub choice_extension_in : Rows → Rows → ℕ → TypeEncoding FaultKind
+  choice_extension_in = choice_extension c.is_aligned (types c depth) c.tables.members.now c.tables.ranges.now defaults node
 
   -- a component alone: a bit tells whether it is present
   abbrev pub by_presence : List Bool → (ℕ → TypeEncoding FaultKind) → ℕ → Encoding FaultKind Parts
@@ -184,3 +194,8 @@ IsTold list old new (Some b) = told_by list old ≡ b ∷ told_by list new
 -- the member of an index has this presence, where that is a default value
 abbrev pub IsListed : Context → ℕ → Member → Type 0
 IsListed c index m = (value : ℕ) → m.presence ≡ presence.Default value → slice_get c.tables.members.now index ≡ Some m
+
+-- the index of an addition, where it is below their number
+abbrev pub IsIndex : List Bool → Natural → ℕ → Option ℕ → Type 0
+IsIndex list n count None = count ≤ natural_of list n
+IsIndex list n count (Some i) = (natural_of list n ≡ i) × (i < count)

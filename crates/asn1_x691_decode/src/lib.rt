@@ -1,11 +1,15 @@
 //! Decodes values of the packed encoding rules (X.691) by a schema.
 #![tactic(auto)]
 
+mod additions;
+mod choice;
 mod complete;
 mod context;
 mod decoder;
+mod open_type;
 mod presence;
 mod room;
+mod sequence;
 
 pub use context::{Context, Defaults};
 pub use decoder::decode;

@@ -1,6 +1,6 @@
 //! Bits that tell which components are present (X.691 19.2, 19.3).
 
-ghost use Rattle.std.specs.Prelude.{◌≡◌, ◌+◌, ◌-◌, ◌*◌, ◌≤◌, ◌^◌, ◌<◌, length, slice_get, Some};
+ghost use Rattle.std.specs.Prelude.{◌≡◌, ◌+◌, ◌-◌, ◌*◌, ◌≤◌, ◌^◌, ◌<◌, length, slice_get, Some, IfSome};
 ghost use Rattle.asn1_bits.specs.Bits.{bits};
 ghost use Rattle.asn1_schema.specs.PiecesOfParts.{bits_at};
 ghost use Rattle.asn1_x691.specs.Types.{optional_count, presence_bits, any_true};
@@ -64,7 +64,8 @@ pub(crate) fn known_of(members: &[Member], rows: Rows) -> usize
 /// Returns the member of an index among those from another index on.
 #[inline(always)]
 pub(crate) fn member_from(members: &[Member], from: usize, index: usize) -> Option<Member>
-    ensures { result ≡ slice_get members.now (from + index) }
+    ensures is { result ≡ slice_get members.now (from + index) }
+    ensures fits { IfSome result (λ m. from + index < length members.now) }
 {
     if index < members.len().saturating_sub(from) {
         return Some(members[from + index]);

@@ -4,7 +4,7 @@ use Rattle.asn1_schema.specs.Pieces.{Unknown}
 use Rattle.asn1_schema.specs.PiecesOfParts.{bits_of}
 use Rattle.asn1_x691.specs.Fragments.{octets}
 use Rattle.asn1_x691_decode.proofs.Steps.{leaf_decoded}
-use Rattle.asn1_x691_decode.proofs.decoder.keep_octets.Goals as goal
+use Rattle.asn1_x691_decode.proofs.additions.keep_octets.Goals as goal
 
 pub returns-in-Some-clause-did : goal.returns-in-Some-clause-did
 returns-in-Some-clause-did c =

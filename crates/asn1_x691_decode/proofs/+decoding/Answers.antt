@@ -23,10 +23,10 @@ use Rattle.asn1_x691_decode.specs.Room.{IsGrown}
 use Rattle.asn1_x691_decode.proofs.OpenSteps.{complete_outcome, complete_fails, enclosed_starts, enclosed_fault, same_unsupported, contents_true, contents_false}
 use Rattle.asn1_x691_decode.proofs.SequenceSteps.{after_bit, bit_step, after_false, after_true, X0, Q, T, count_step, no_bits, bits_step, some_step, none_fault, addition_step, addition_fault, no_additions}
 use Rattle.asn1_x691_decode.proofs.PresenceSteps.{told_length}
-use Rattle.asn1_x691_decode.proofs.decoder.+decoding.Goals as goal
+use Rattle.asn1_x691_decode.proofs.+decoding.Goals as goal
 
-pub decode_node-returns-in-Some-Null-clause-did : goal.decode_node-returns-in-Some-Null-clause-did
-decode_node-returns-in-Some-Null-clause-did t c =
+pub decoder::decode_node-returns-in-Some-Null-clause-did : goal.decoder::decode_node-returns-in-Some-Null-clause-did
+decoder::decode_node-returns-in-Some-Null-clause-did t c =
     let cx = c.args.context.now in
     let list = bits cx.octets.now in
     at_node cx c.args.node c.args.depth (Some type.Null)
@@ -36,8 +36,8 @@ decode_node-returns-in-Some-Null-clause-did t c =
     (record { at = c.push.ensures.at; first = c.push.ensures.first; end = c.push.ensures.end }) (c.push.ensures.grown list)).done
     c.push.new.state c.push.new.parts (nothing_decoded cx c.push.new.state c.push.new.parts))
 
-pub decode_node-returns-in-Some-next_bit-clause-did : goal.decode_node-returns-in-Some-next_bit-clause-did
-decode_node-returns-in-Some-next_bit-clause-did t c =
+pub decoder::decode_node-returns-in-Some-next_bit-clause-did : goal.decoder::decode_node-returns-in-Some-next_bit-clause-did
+decoder::decode_node-returns-in-Some-next_bit-clause-did t c =
     let cx = c.args.context.now in
     let list = bits cx.octets.now in
     let p = c.push-in-Some-next_bit in
@@ -48,8 +48,8 @@ decode_node-returns-in-Some-next_bit-clause-did t c =
     c.in-Some-next_bit.bit c.requires.within c.next_bit.ensures.onward c.in-Some-next_bit.ensures.read
     (record { at = p.ensures.at; first = p.ensures.first; end = p.ensures.end }) (p.ensures.grown list))
 
-pub decode_node-returns-in-Some-Sequence-clause-did : goal.decode_node-returns-in-Some-Sequence-clause-did
-decode_node-returns-in-Some-Sequence-clause-did t c =
+pub decoder::decode_node-returns-in-Some-Sequence-clause-did : goal.decoder::decode_node-returns-in-Some-Sequence-clause-did
+decoder::decode_node-returns-in-Some-Sequence-clause-did t c =
     let cx = c.args.context.now in
     at_node cx c.args.node c.args.depth (Some (type.Sequence c.in-Some-Sequence.root c.in-Some-Sequence.is_extensible c.in-Some-Sequence.additions))
     (λ (A : ℕ → Encoding FaultKind Parts). Outcome cx A c.args.state.now c.decode_sequence.new.state c.args.parts.now c.decode_sequence.new.parts
@@ -57,8 +57,8 @@ decode_node-returns-in-Some-Sequence-clause-did t c =
     (omega (arith, c.if-depth-eq0.false))
     (sym c.node_at.ensures ∙ c.in-Some-Sequence.is ∙ ap (λ (n : Node). Some n) c.in-Some-Sequence.field-0-is) c.decode_sequence.ensures.did
 
-pub decode_component-returns-in-Some-false : goal.decode_component-returns-in-Some-false
-decode_component-returns-in-Some-false t c =
+pub sequence::decode_component-returns-in-Some-false : goal.sequence::decode_component-returns-in-Some-false
+sequence::decode_component-returns-in-Some-false t c =
     let cx = c.args.context.now in
     let list = bits cx.octets.now in
     let was = told_by list c.args.presence.now in
@@ -78,8 +78,8 @@ decode_component-returns-in-Some-false t c =
     }
 
 -- what is said of the component at the loop's index
-pub decode_components-returns-then-not-decode_component-clause-did : goal.decode_components-returns-then-not-decode_component-clause-did
-decode_components-returns-then-not-decode_component-clause-did t c =
+pub sequence::decode_components-returns-then-not-decode_component-clause-did : goal.sequence::decode_components-returns-then-not-decode_component-clause-did
+sequence::decode_components-returns-then-not-decode_component-clause-did t c =
     let cx = c.args.context.now in
     let list = bits cx.octets.now in
     let l = c.loop-index in
@@ -100,8 +100,8 @@ decode_components-returns-then-not-decode_component-clause-did t c =
     | inr u ↦ inr u
     ])
 
-pub decode_components-loop-index-preserved : goal.decode_components-loop-index-preserved
-decode_components-loop-index-preserved t c =
+pub sequence::decode_components-loop-index-preserved : goal.sequence::decode_components-loop-index-preserved
+sequence::decode_components-loop-index-preserved t c =
     let cx = c.args.context.now in
     let list = bits cx.octets.now in
     let l = c.loop-index in
@@ -127,8 +127,8 @@ decode_components-loop-index-preserved t c =
       (c.decode_component.ensures.told c.if-not-decode_component.false)),
     )
 
-pub decode_components-returns-then-known-root-clause-did : goal.decode_components-returns-then-known-root-clause-did
-decode_components-returns-then-known-root-clause-did t c =
+pub sequence::decode_components-returns-then-known-root-clause-did : goal.sequence::decode_components-returns-then-known-root-clause-did
+sequence::decode_components-returns-then-known-root-clause-did t c =
     let cx = c.args.context.now in
     let list = bits cx.octets.now in
     let l = c.loop-index in
@@ -140,8 +140,8 @@ decode_components-returns-then-known-root-clause-did t c =
     (fault_at list l.state c.fail.new.state c.args.node NoNode l.invariant.0.inside c.fail.ensures.at c.fail.ensures.end
     c.fail.ensures.node c.fail.ensures.kind)))
 
-pub decode_components-returns-then-presence-gt0-clause-did : goal.decode_components-returns-then-presence-gt0-clause-did
-decode_components-returns-then-presence-gt0-clause-did t c =
+pub sequence::decode_components-returns-then-presence-gt0-clause-did : goal.sequence::decode_components-returns-then-presence-gt0-clause-did
+sequence::decode_components-returns-then-presence-gt0-clause-did t c =
     let cx = c.args.context.now in
     let list = bits cx.octets.now in
     let l = c.loop-index in
@@ -153,8 +153,8 @@ decode_components-returns-then-presence-gt0-clause-did t c =
     (omega (arith, told_length list l.presence (omega (arith, length-bits cx.octets.now, l.invariant.2)), c.if-presence-gt0.true))
     (fault_at list l.state f.new.state c.args.node NoNode l.invariant.0.inside f.ensures.at f.ensures.end f.ensures.node f.ensures.kind)))
 
-pub decode_components-returns-clause-did : goal.decode_components-returns-clause-did
-decode_components-returns-clause-did t c =
+pub sequence::decode_components-returns-clause-did : goal.sequence::decode_components-returns-clause-did
+sequence::decode_components-returns-clause-did t c =
     let cx = c.args.context.now in
     let list = bits cx.octets.now in
     let l = c.loop-index in
@@ -164,8 +164,8 @@ decode_components-returns-clause-did t c =
     (omega (arith, c.loop-index-test.false, c.if-known-root.false))
     (omega (arith, told_length list l.presence (omega (arith, length-bits cx.octets.now, l.invariant.2)), c.if-presence-gt0.false)))
 
-pub decode_root-returns-in-Some-clause-did : goal.decode_root-returns-in-Some-clause-did
-decode_root-returns-in-Some-clause-did t c =
+pub sequence::decode_root-returns-in-Some-clause-did : goal.sequence::decode_root-returns-in-Some-clause-did
+sequence::decode_root-returns-in-Some-clause-did t c =
     let cx = c.args.context.now in
     let list = bits cx.octets.now in
     let B : List Bool → ℕ → Encoding FaultKind Parts =
@@ -181,8 +181,8 @@ decode_root-returns-in-Some-clause-did t c =
     c.count_optional-left.ensures c.in-Some.ensures.read))
     c.decode_components.ensures.did
 
-pub decode_sequence-returns-then-not-is_extensible-clause-did : goal.decode_sequence-returns-then-not-is_extensible-clause-did
-decode_sequence-returns-then-not-is_extensible-clause-did t c =
+pub sequence::decode_sequence-returns-then-not-is_extensible-clause-did : goal.sequence::decode_sequence-returns-then-not-is_extensible-clause-did
+sequence::decode_sequence-returns-then-not-is_extensible-clause-did t c =
     let cx = c.args.context.now in
     let list = bits cx.octets.now in
     let R : ℕ → Encoding FaultKind Parts = λ at. (root_in cx c.args.depth c.args.node c.args.root at).encoding in
@@ -195,8 +195,8 @@ decode_sequence-returns-then-not-is_extensible-clause-did t c =
     (record { at = c.push.ensures.at; first = c.push.ensures.first; end = c.push.ensures.end }) (c.push.ensures.grown list))
     c.decode_root.ensures.did)
 
-pub decode_complete-returns-clause-did : goal.decode_complete-returns-clause-did
-decode_complete-returns-clause-did t c =
+pub open_type::decode_complete-returns-clause-did : goal.open_type::decode_complete-returns-clause-did
+open_type::decode_complete-returns-clause-did t c =
     let cx = c.args.context.now in
     let V = value_in cx c.args.depth c.args.node c.args.member.presence c.args.member.node in
     complete_outcome cx V c.args.node c.args.state.now c.decode_value.new.state c.at_end.new.state c.args.parts.now c.decode_value.new.parts
@@ -205,16 +205,16 @@ decode_complete-returns-clause-did t c =
     c.decode_value.result c.if-not-decode_value.false c.decode_value.ensures.did)
     c.at_end.ensures.onward.same_count c.at_end.ensures.ends
 
-pub decode_complete-returns-then-not-decode_value-clause-did : goal.decode_complete-returns-then-not-decode_value-clause-did
-decode_complete-returns-then-not-decode_value-clause-did t c =
+pub open_type::decode_complete-returns-then-not-decode_value-clause-did : goal.open_type::decode_complete-returns-then-not-decode_value-clause-did
+open_type::decode_complete-returns-then-not-decode_value-clause-did t c =
     let cx = c.args.context.now in
     let V = value_in cx c.args.depth c.args.node c.args.member.presence c.args.member.node in
     complete_fails cx V c.args.node c.args.state.now c.decode_value.new.state c.requires.begins
     (by_false cx (λ at. (V at).encoding) c.args.state.now c.decode_value.new.state c.args.parts.now c.decode_value.new.parts
     c.decode_value.result c.if-not-decode_value.true c.decode_value.ensures.did)
 
-pub decode_enclosed-returns-then-not-is_complete-clause-did : goal.decode_enclosed-returns-then-not-is_complete-clause-did
-decode_enclosed-returns-then-not-is_complete-clause-did t c =
+pub open_type::decode_enclosed-returns-then-not-is_complete-clause-did : goal.open_type::decode_enclosed-returns-then-not-is_complete-clause-did
+open_type::decode_enclosed-returns-then-not-is_complete-clause-did t c =
     let cx = c.args.context.now in
     let V = value_in cx c.args.depth c.args.node c.args.member.presence c.args.member.node in
     let after = c.next_octets.new.state in
@@ -232,8 +232,8 @@ decode_enclosed-returns-then-not-is_complete-clause-did t c =
     | inr u ↦ inr (same_unsupported cx out new refl refl refl u)
     ]
 
-pub decode_enclosed-returns-clause-did : goal.decode_enclosed-returns-clause-did
-decode_enclosed-returns-clause-did t c =
+pub open_type::decode_enclosed-returns-clause-did : goal.open_type::decode_enclosed-returns-clause-did
+open_type::decode_enclosed-returns-clause-did t c =
     let cx = c.args.context.now in
     let V = value_in cx c.args.depth c.args.node c.args.member.presence c.args.member.node in
     let after = c.next_octets.new.state in
@@ -251,8 +251,8 @@ decode_enclosed-returns-clause-did t c =
           c.next_octets.ensures.onward.same_count f.grown;
     }
 
-pub decode_node-returns-in-Some-Open-clause-did : goal.decode_node-returns-in-Some-Open-clause-did
-decode_node-returns-in-Some-Open-clause-did t c =
+pub decoder::decode_node-returns-in-Some-Open-clause-did : goal.decoder::decode_node-returns-in-Some-Open-clause-did
+decoder::decode_node-returns-in-Some-Open-clause-did t c =
     let cx = c.args.context.now in
     at_node cx c.args.node c.args.depth (Some (type.Open c.in-Some-Open.inner))
     (λ (A : ℕ → Encoding FaultKind Parts). Outcome cx A c.args.state.now c.decode_enclosed.new.state c.args.parts.now c.decode_enclosed.new.parts
@@ -260,8 +260,8 @@ decode_node-returns-in-Some-Open-clause-did t c =
     (omega (arith, c.if-depth-eq0.false))
     (sym c.node_at.ensures ∙ c.in-Some-Open.is ∙ ap (λ (n : Node). Some n) c.in-Some-Open.field-0-is) c.decode_enclosed.ensures.did
 
-pub decode_sequence-returns-then-not-is_extended-clause-did : goal.decode_sequence-returns-then-not-is_extended-clause-did
-decode_sequence-returns-then-not-is_extended-clause-did t c =
+pub sequence::decode_sequence-returns-then-not-is_extended-clause-did : goal.sequence::decode_sequence-returns-then-not-is_extended-clause-did
+sequence::decode_sequence-returns-then-not-is_extended-clause-did t c =
     let cx = c.args.context.now in
     let list = bits cx.octets.now in
     let a = c.args in
@@ -282,8 +282,8 @@ decode_sequence-returns-then-not-is_extended-clause-did t c =
     (record { at = c.push-2.ensures.at; first = c.push-2.ensures.first; end = c.push-2.ensures.end }) (c.push-2.ensures.grown list)))
     root.ensures.did)
 
-pub decode_sequence-returns-then-not-decode_root-clause-did : goal.decode_sequence-returns-then-not-decode_root-clause-did
-decode_sequence-returns-then-not-decode_root-clause-did t c =
+pub sequence::decode_sequence-returns-then-not-decode_root-clause-did : goal.sequence::decode_sequence-returns-then-not-decode_root-clause-did
+sequence::decode_sequence-returns-then-not-decode_root-clause-did t c =
     let cx = c.args.context.now in
     let list = bits cx.octets.now in
     let a = c.args in
@@ -314,8 +314,8 @@ decode_sequence-returns-then-not-decode_root-clause-did t c =
     | inr u ↦ inr u
     ]))
 
-pub decode_sequence-returns-clause-did : goal.decode_sequence-returns-clause-did
-decode_sequence-returns-clause-did t c =
+pub sequence::decode_sequence-returns-clause-did : goal.sequence::decode_sequence-returns-clause-did
+sequence::decode_sequence-returns-clause-did t c =
     let cx = c.args.context.now in
     let list = bits cx.octets.now in
     let a = c.args in
@@ -346,8 +346,8 @@ decode_sequence-returns-clause-did t c =
     (by_true cx R1 now.state root.new.state now.parts root.new.parts root.result c.if-not-decode_root.false root.ensures.did)))
     last.ensures.did)
 
-pub decode_extension-returns-in-None-next_bits-clause-did : goal.decode_extension-returns-in-None-next_bits-clause-did
-decode_extension-returns-in-None-next_bits-clause-did t c =
+pub additions::decode_extension-returns-in-None-next_bits-clause-did : goal.additions::decode_extension-returns-in-None-next_bits-clause-did
+additions::decode_extension-returns-in-None-next_bits-clause-did t c =
     let cx = c.args.context.now in
     let list = bits cx.octets.now in
     let a = c.args in
@@ -359,8 +359,8 @@ decode_extension-returns-in-None-next_bits-clause-did t c =
     (record { at = c.push.ensures.at; first = c.push.ensures.first; end = c.push.ensures.end }) (c.push.ensures.grown list)).fault
     (fault_of new) (no_bits cx a.depth a.node a.known n (position now.state) (rest list now.state) (fault_of new) c.in-None-next_bits.ensures.read))
 
-pub decode_extension-returns-then-not-has_one-clause-did : goal.decode_extension-returns-then-not-has_one-clause-did
-decode_extension-returns-then-not-has_one-clause-did t c =
+pub additions::decode_extension-returns-then-not-has_one-clause-did : goal.additions::decode_extension-returns-then-not-has_one-clause-did
+additions::decode_extension-returns-then-not-has_one-clause-did t c =
     let cx = c.args.context.now in
     let list = bits cx.octets.now in
     let a = c.args in
@@ -382,8 +382,8 @@ decode_extension-returns-then-not-has_one-clause-did t c =
     (sym c.has_one.ensures ∙ c.if-not-has_one.true)
     (fault_at list later new a.node NoAddition c.next_bits.ensures.onward.inside c.fail.ensures.at c.fail.ensures.end c.fail.ensures.node c.fail.ensures.kind))))
 
-pub decode_extension-returns-clause-did : goal.decode_extension-returns-clause-did
-decode_extension-returns-clause-did t c =
+pub additions::decode_extension-returns-clause-did : goal.additions::decode_extension-returns-clause-did
+additions::decode_extension-returns-clause-did t c =
     let cx = c.args.context.now in
     let list = bits cx.octets.now in
     let a = c.args in
@@ -409,8 +409,8 @@ decode_extension-returns-clause-did t c =
     (some_step cx a.depth a.node a.known later now.parts n told (sym c.has_one.ensures ∙ c.if-not-has_one.false))))
     c.decode_additions.ensures.did
 
-pub decode_optional_addition-returns-in-Some-false-clause-did : goal.decode_optional_addition-returns-in-Some-false-clause-did
-decode_optional_addition-returns-in-Some-false-clause-did t c =
+pub additions::decode_optional_addition-returns-in-Some-false-clause-did : goal.additions::decode_optional_addition-returns-in-Some-false-clause-did
+additions::decode_optional_addition-returns-in-Some-false-clause-did t c =
     let cx = c.args.context.now in
     let list = bits cx.octets.now in
     let a = c.args in
@@ -422,8 +422,8 @@ decode_optional_addition-returns-in-Some-false-clause-did t c =
     (record { at = c.push.ensures.at; first = c.push.ensures.first; end = c.push.ensures.end }) (c.push.ensures.grown list))
 
 -- what is said of the addition at the loop's index
-pub decode_additions-returns-then-not-decode_optional_addition-clause-did : goal.decode_additions-returns-then-not-decode_optional_addition-clause-did
-decode_additions-returns-then-not-decode_optional_addition-clause-did t c =
+pub additions::decode_additions-returns-then-not-decode_optional_addition-clause-did : goal.additions::decode_additions-returns-then-not-decode_optional_addition-clause-did
+additions::decode_additions-returns-then-not-decode_optional_addition-clause-did t c =
     let cx = c.args.context.now in
     let list = bits cx.octets.now in
     let a = c.args in
@@ -443,8 +443,8 @@ decode_additions-returns-then-not-decode_optional_addition-clause-did t c =
     | inr u ↦ inr u
     ])
 
-pub decode_additions-loop-index-preserved : goal.decode_additions-loop-index-preserved
-decode_additions-loop-index-preserved t c =
+pub additions::decode_additions-loop-index-preserved : goal.additions::decode_additions-loop-index-preserved
+additions::decode_additions-loop-index-preserved t c =
     let cx = c.args.context.now in
     let list = bits cx.octets.now in
     let a = c.args in
@@ -469,8 +469,8 @@ decode_additions-loop-index-preserved t c =
       one.ensures.did) one.ensures.told),
     )
 
-pub decode_additions-returns-clause-did : goal.decode_additions-returns-clause-did
-decode_additions-returns-clause-did t c =
+pub additions::decode_additions-returns-clause-did : goal.additions::decode_additions-returns-clause-did
+additions::decode_additions-returns-clause-did t c =
     let cx = c.args.context.now in
     let list = bits cx.octets.now in
     let a = c.args in

@@ -1,0 +1,135 @@
+//! Decodes a CHOICE (X.691 23).
+
+ghost use Rattle.std.specs.Prelude.{◌≡◌, ◌≤◌, ◌<◌, ◌^◌, ◌*◌, ◌+◌, ◌-◌, ◌∷◌, [], List, Bool, true, length, slice_get, Some};
+ghost use Rattle.asn1_bits.specs.Bits.{bits};
+ghost use Rattle.asn1_schema.specs.PiecesOfParts.{piece_of, bits_at};
+ghost use Rattle.asn1_schema.specs.Pieces.{Unknown};
+ghost use Rattle.asn1_schema.specs.TypeEncodings.{leaf};
+ghost use Rattle.asn1_x691.specs.Fragments.{octets};
+ghost use Rattle.asn1_x691_fields.specs.Outcomes.{IsWithin, IsMoved, IsPlaced};
+ghost use Rattle.asn1_x691_fields.specs.declared.state.State as the_state;
+ghost use Rattle.asn1_x691_fields.specs.Numbers.{IsNatural};
+ghost use Rattle.asn1_x691_decode.specs.Room.{IsGrown};
+ghost use Rattle.asn1_x691_decode.specs.Decoding.{Outcome, types, value_in, component_in, components_in, root_in, sequence_in, bits_after, bits_after_one, by_presence, told_by, choice_in, alternatives_in, choice_extension_in, IsIndex, IsListed, OutcomeOfContents, complete_in, enclosed_in, extension_in, additions_in, addition_in};
+
+use crate::complete::at_end;
+use crate::context::Context;
+use crate::presence::{PresenceBits, count_optional, has_one, known_of, member_from, member_in, next_presence};
+use crate::room::push;
+use asn1_schema::{Natural, Part, Rows};
+use asn1_x691::FaultKind;
+use asn1_x691_fields::{State, fail, next_bit, next_constrained, next_small_number};
+use crate::decoder::decode_node;
+use crate::additions::{decode_known, keep_octets};
+
+/// Decodes a CHOICE (X.691 23).
+#[cycle(decoding)]
+pub(crate) fn decode_choice(
+    context: &Context<'_>,
+    depth: usize,
+    node: usize,
+    rows: Rows,
+    is_extensible: bool,
+    known: Rows,
+    state: &mut State,
+    parts: &mut [Part],
+) -> bool
+    requires size { 8 * length context.now.octets.now < 2 ^ 64 }
+    requires within { IsWithin (bits context.now.octets.now) state.old }
+    requires placed { IsPlaced context.now.is_aligned state.old }
+    requires fits { rows.count + known.count < 2 ^ 64 }
+    ensures moved { IsMoved (bits context.now.octets.now) state.old state.new }
+    ensures did { Outcome context.now (λ at. (choice_in context.now depth node is_extensible rows known at).encoding)
+        state.old state.new parts.old parts.new result }
+{
+    if is_extensible {
+        match next_bit(context.octets, node, state) {
+            None => return false,
+            Some(true) => return decode_added(context, depth, node, rows, known, state, parts),
+            Some(false) => {}
+        }
+    }
+    decode_alternative(context, depth, node, rows, state, parts)
+}
+
+/// Decodes an alternative of the root after its index (X.691 23.6).
+#[cycle(decoding)]
+pub(crate) fn decode_alternative(
+    context: &Context<'_>,
+    depth: usize,
+    node: usize,
+    rows: Rows,
+    state: &mut State,
+    parts: &mut [Part],
+) -> bool
+    requires size { 8 * length context.now.octets.now < 2 ^ 64 }
+    requires within { IsWithin (bits context.now.octets.now) state.old }
+    requires placed { IsPlaced context.now.is_aligned state.old }
+    ensures moved { IsMoved (bits context.now.octets.now) state.old state.new }
+    ensures did { Outcome context.now (λ at. (alternatives_in context.now depth node rows at).encoding)
+        state.old state.new parts.old parts.new result }
+{
+    let last = rows.count.saturating_sub(1);
+    let index = match next_constrained(context.octets, context.is_aligned, last as u128, node, state) {
+        None => return false,
+        Some(index) => index as usize,
+    };
+    push(parts, state, Part::Chosen(index));
+    if index >= rows.count {
+        fail(state, node, FaultKind::NoNode);
+        return false;
+    }
+    match member_from(context.tables.members, rows.from, index) {
+        None => {
+            fail(state, node, FaultKind::NoNode);
+            false
+        }
+        Some(member) => decode_node(context, depth, member.node, state, parts),
+    }
+}
+
+/// Decodes an addition of a CHOICE after its index: an open type, or its octets where it is not
+/// known (X.691 23.8).
+#[cycle(decoding)]
+pub(crate) fn decode_added(
+    context: &Context<'_>,
+    depth: usize,
+    node: usize,
+    rows: Rows,
+    known: Rows,
+    state: &mut State,
+    parts: &mut [Part],
+) -> bool
+    requires size { 8 * length context.now.octets.now < 2 ^ 64 }
+    requires within { IsWithin (bits context.now.octets.now) state.old }
+    requires placed { IsPlaced context.now.is_aligned state.old }
+    requires fits { rows.count + known.count < 2 ^ 64 }
+    ensures moved { IsMoved (bits context.now.octets.now) state.old state.new }
+    ensures did { Outcome context.now (λ at. (choice_extension_in context.now depth node rows known at).encoding)
+        state.old state.new parts.old parts.new result }
+{
+    let index = match next_small_number(context.octets, context.is_aligned, node, state) {
+        None => return false,
+        Some(index) => index,
+    };
+    match known_index(index, known.count) {
+        None => {
+            push(parts, state, Part::UnknownChosen(index));
+            keep_octets(context, node, state, parts)
+        }
+        Some(index) => {
+            push(parts, state, Part::Chosen(rows.count.max(1) + index));
+            decode_known(context, depth, node, known.from, index, state, parts)
+        }
+    }
+}
+
+/// Returns the number of an addition, where it is known.
+fn known_index(index: Natural, count: usize) -> Option<usize>
+    ensures { (list : List Bool) (s : the_state.State) → IsNatural list s index → IsIndex list index count result }
+{
+    match index {
+        Natural::Small(index) if index < count as u64 => Some(index as usize),
+        _ => None,
+    }
+}

@@ -1,0 +1,113 @@
+//! Decodes open types and complete encodings (X.691 11.1, 11.2).
+
+ghost use Rattle.std.specs.Prelude.{◌≡◌, ◌≤◌, ◌<◌, ◌^◌, ◌*◌, ◌+◌, ◌-◌, ◌∷◌, [], List, Bool, true, length, slice_get, Some};
+ghost use Rattle.asn1_bits.specs.Bits.{bits};
+ghost use Rattle.asn1_schema.specs.PiecesOfParts.{piece_of, bits_at};
+ghost use Rattle.asn1_schema.specs.Pieces.{Unknown};
+ghost use Rattle.asn1_schema.specs.TypeEncodings.{leaf};
+ghost use Rattle.asn1_x691.specs.Fragments.{octets};
+ghost use Rattle.asn1_x691_fields.specs.Outcomes.{IsWithin, IsMoved, IsPlaced};
+ghost use Rattle.asn1_x691_decode.specs.Room.{IsGrown};
+ghost use Rattle.asn1_x691_decode.specs.Decoding.{Outcome, types, value_in, component_in, components_in, root_in, sequence_in, bits_after, bits_after_one, by_presence, told_by, IsListed, OutcomeOfContents, complete_in, enclosed_in, extension_in, additions_in, addition_in};
+
+use crate::complete::at_end;
+use crate::context::Context;
+use crate::presence::{PresenceBits, count_optional, has_one, known_of, member_from, member_in, next_presence};
+use crate::room::push;
+use asn1_schema::{Member, Node, Part, Presence, Rows};
+use asn1_x691::FaultKind;
+use asn1_x691_fields::{State, fail, next_bit, next_bits, next_octets, next_small_length};
+use crate::decoder::decode_node;
+
+/// Decodes an open type (X.691 11.2): octets that are a complete encoding, after their number.
+#[cycle(decoding)]
+pub(crate) fn decode_enclosed(
+    context: &Context<'_>,
+    depth: usize,
+    node: usize,
+    index: usize,
+    member: Member,
+    state: &mut State,
+    parts: &mut [Part],
+) -> bool
+    requires size { 8 * length context.now.octets.now < 2 ^ 64 }
+    requires within { IsWithin (bits context.now.octets.now) state.old }
+    requires placed { IsPlaced context.now.is_aligned state.old }
+    requires listed { IsListed context.now index member }
+    ensures moved { IsMoved (bits context.now.octets.now) state.old state.new }
+    ensures did { Outcome context.now (λ at. (enclosed_in context.now depth node member.presence member.node at).encoding)
+        state.old state.new parts.old parts.new result }
+{
+    let contents = match next_octets(context.octets, context.is_aligned, node, state) {
+        None => return false,
+        Some(span) => span,
+    };
+    let after = *state;
+    state.at = contents.at;
+    state.first = contents.at;
+    state.end = contents.at + contents.count;
+    let is_complete = decode_complete(context, depth, node, index, member, state, parts);
+    state.first = after.first;
+    state.end = after.end;
+    if !is_complete {
+        return false;
+    }
+    state.at = after.at;
+    true
+}
+
+/// Decodes a complete encoding (X.691 11.1), from its first bit to its last.
+#[cycle(decoding)]
+pub(crate) fn decode_complete(
+    context: &Context<'_>,
+    depth: usize,
+    node: usize,
+    index: usize,
+    member: Member,
+    state: &mut State,
+    parts: &mut [Part],
+) -> bool
+    requires size { 8 * length context.now.octets.now < 2 ^ 64 }
+    requires within { IsWithin (bits context.now.octets.now) state.old }
+    requires placed { IsPlaced context.now.is_aligned state.old }
+    requires begins { state.old.at ≡ state.old.first }
+    requires listed { IsListed context.now index member }
+    ensures moved { IsMoved (bits context.now.octets.now) state.old state.new }
+    ensures did { OutcomeOfContents context.now (complete_in context.now depth node member.presence member.node)
+        state.old state.new parts.old parts.new result }
+{
+    if !decode_value(context, depth, node, index, member, state, parts) {
+        return false;
+    }
+    at_end(context.octets, node, state)
+}
+
+/// Decodes a value that is not the default value of the component.
+#[cycle(decoding)]
+pub(crate) fn decode_value(
+    context: &Context<'_>,
+    depth: usize,
+    node: usize,
+    index: usize,
+    member: Member,
+    state: &mut State,
+    parts: &mut [Part],
+) -> bool
+    requires size { 8 * length context.now.octets.now < 2 ^ 64 }
+    requires within { IsWithin (bits context.now.octets.now) state.old }
+    requires placed { IsPlaced context.now.is_aligned state.old }
+    requires listed { IsListed context.now index member }
+    ensures moved { IsMoved (bits context.now.octets.now) state.old state.new }
+    ensures did { Outcome context.now (λ at. (value_in context.now depth node member.presence member.node at).encoding)
+        state.old state.new parts.old parts.new result }
+{
+    match member.presence {
+        Presence::Default { value: _ } => {
+            fail(state, node, FaultKind::Unsupported);
+            false
+        }
+        Presence::Mandatory => decode_node(context, depth, member.node, state, parts),
+        Presence::Optional => decode_node(context, depth, member.node, state, parts),
+    }
+}
+
