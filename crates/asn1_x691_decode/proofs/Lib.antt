@@ -2,3 +2,4 @@ mod PresenceSteps
 mod Steps
 mod OpenSteps
 mod SequenceSteps
+mod ChoiceSteps

@@ -42,14 +42,14 @@ pub(crate) fn decode_choice(
     ensures did { Outcome context.now (λ at. (choice_in context.now depth node is_extensible rows known at).encoding)
         state.old state.new parts.old parts.new result }
 {
-    if is_extensible {
-        match next_bit(context.octets, node, state) {
-            None => return false,
-            Some(true) => return decode_added(context, depth, node, rows, known, state, parts),
-            Some(false) => {}
-        }
+    if !is_extensible {
+        return decode_alternative(context, depth, node, rows, state, parts);
     }
-    decode_alternative(context, depth, node, rows, state, parts)
+    match next_bit(context.octets, node, state) {
+        None => false,
+        Some(false) => decode_alternative(context, depth, node, rows, state, parts),
+        Some(true) => decode_added(context, depth, node, rows, known, state, parts),
+    }
 }
 
 /// Decodes an alternative of the root after its index (X.691 23.6).

@@ -22,6 +22,14 @@ use Rattle.asn1_x691_fields.specs.declared.state.State.{State}
 use Rattle.asn1_x691_decode.specs.Room.{IsGrown}
 use Rattle.asn1_x691_decode.proofs.OpenSteps.{complete_outcome, complete_fails, enclosed_starts, enclosed_fault, same_unsupported, contents_true, contents_false}
 use Rattle.asn1_x691_decode.proofs.SequenceSteps.{after_bit, bit_step, after_false, after_true, X0, Q, T, count_step, no_bits, bits_step, some_step, none_fault, addition_step, addition_fault, no_additions}
+use Rattle.asn1_schema.specs.Pieces.{Unknown}
+use Rattle.asn1_schema.specs.PiecesOfParts.{natural_of}
+use Rattle.asn1_schema.specs.TypeEncodings.{leaf}
+use Rattle.asn1_x691.specs.Fields.{small_number}
+use Rattle.asn1_x691.specs.Fragments.{octets}
+use Rattle.asn1_x691_decode.specs.Decoding.{known_in, choice_in, alternatives_in, choice_extension_in, IsIndex}
+use Rattle.asn1_x691_decode.proofs.ChoiceSteps as choice
+use Rattle.asn1_x691_decode.proofs.ChoiceSteps.{A, H, X, index_step, no_index, no_alternative, the_alternative, known_step, unknown_step}
 use Rattle.asn1_x691_decode.proofs.PresenceSteps.{told_length}
 use Rattle.asn1_x691_decode.proofs.+decoding.Goals as goal
 
@@ -479,3 +487,97 @@ additions::decode_additions-returns-clause-did t c =
     l.invariant.4.done l.state l.parts
     (no_additions cx a.depth a.node l.presence.left (a.known.count - l.index) (a.known.from + l.index) (told_by list l.presence) l.state l.parts
     none (told_length list l.presence (omega (arith, length-bits cx.octets.now, l.invariant.2)) ∙ none))
+
+pub choice::decode_alternative-returns-then-index-rows-clause-did : goal.choice::decode_alternative-returns-then-index-rows-clause-did
+choice::decode_alternative-returns-then-index-rows-clause-did t c =
+    let cx = c.args.context.now in
+    let list = bits cx.octets.now in
+    let a = c.args in
+    let now = c.push.new in
+    inl ((index_step cx a.depth a.node a.rows c.saturating_sub-last.result a.state.now c.next_constrained.new.state now.state a.parts.now now.parts c.in-Some.index
+    c.saturating_sub-last.ensures c.requires.within c.next_constrained.ensures.onward c.in-Some.ensures.read
+    (record { at = c.push.ensures.at; first = c.push.ensures.first; end = c.push.ensures.end }) (c.push.ensures.grown list)).fault
+    (fault_of c.fail.new.state)
+    (no_index cx a.depth a.node a.rows c.in-Some.index (position now.state) (rest list now.state) (fault_of c.fail.new.state)
+    (omega (arith, c.if-index-rows.true))
+    (fault_at list now.state c.fail.new.state a.node NoNode
+    (omega (arith, c.push.ensures.end, c.next_constrained.ensures.onward.inside)) c.fail.ensures.at c.fail.ensures.end c.fail.ensures.node c.fail.ensures.kind)))
+
+pub choice::decode_alternative-returns-in-None-member_from-clause-did : goal.choice::decode_alternative-returns-in-None-member_from-clause-did
+choice::decode_alternative-returns-in-None-member_from-clause-did t c =
+    let cx = c.args.context.now in
+    let list = bits cx.octets.now in
+    let a = c.args in
+    let now = c.push.new in
+    let f = c.fail-in-None-member_from in
+    inl ((index_step cx a.depth a.node a.rows c.saturating_sub-last.result a.state.now c.next_constrained.new.state now.state a.parts.now now.parts c.in-Some.index
+    c.saturating_sub-last.ensures c.requires.within c.next_constrained.ensures.onward c.in-Some.ensures.read
+    (record { at = c.push.ensures.at; first = c.push.ensures.first; end = c.push.ensures.end }) (c.push.ensures.grown list)).fault
+    (fault_of f.new.state)
+    (no_alternative cx a.depth a.node a.rows c.in-Some.index (position now.state) (rest list now.state) (fault_of f.new.state)
+    (omega (arith, c.if-index-rows.false)) (sym c.member_from.ensures.is ∙ c.in-None-member_from.is)
+    (fault_at list now.state f.new.state a.node NoNode
+    (omega (arith, c.push.ensures.end, c.next_constrained.ensures.onward.inside)) f.ensures.at f.ensures.end f.ensures.node f.ensures.kind)))
+
+pub choice::decode_alternative-returns-in-Some-member_from-clause-did : goal.choice::decode_alternative-returns-in-Some-member_from-clause-did
+choice::decode_alternative-returns-in-Some-member_from-clause-did t c =
+    let cx = c.args.context.now in
+    let list = bits cx.octets.now in
+    let a = c.args in
+    let now = c.push.new in
+    let last = c.decode_node in
+    outcome_on cx (A cx a.depth a.node a.rows) (H cx a.depth a.node a.rows c.in-Some.index) a.state.now now.state last.new.state a.parts.now now.parts
+    last.new.parts last.result
+    (index_step cx a.depth a.node a.rows c.saturating_sub-last.result a.state.now c.next_constrained.new.state now.state a.parts.now now.parts c.in-Some.index
+    c.saturating_sub-last.ensures c.requires.within c.next_constrained.ensures.onward c.in-Some.ensures.read
+    (record { at = c.push.ensures.at; first = c.push.ensures.first; end = c.push.ensures.end }) (c.push.ensures.grown list))
+    (the_alternative cx a.depth a.node a.rows c.in-Some.index c.in-Some-member_from.member
+    (λ (B : ℕ → Encoding FaultKind Parts). Outcome cx B now.state last.new.state now.parts last.new.parts last.result)
+    (omega (arith, c.if-index-rows.false)) (sym c.member_from.ensures.is ∙ c.in-Some-member_from.is) last.ensures.did)
+
+pub choice::decode_added-returns-in-Some-known_index-clause-did : goal.choice::decode_added-returns-in-Some-known_index-clause-did
+choice::decode_added-returns-in-Some-known_index-clause-did t c =
+    let cx = c.args.context.now in
+    let list = bits cx.octets.now in
+    let a = c.args in
+    let i = c.in-Some-known_index.index in
+    let mid = c.next_small_number.new.state in
+    let now = c.push-in-Some-known_index.new in
+    let last = c.decode_known in
+    let p = c.push-in-Some-known_index.ensures in
+    let k : IsIndex list c.in-Some.index a.known.count (Some i) = ? in
+    outcome_on cx (X cx a.depth a.node a.rows a.known)
+    (λ at. (known_in cx a.depth a.node (slice_get cx.tables.members.now (a.known.from + i)) at).encoding) a.state.now now.state last.new.state
+    a.parts.now now.parts last.new.parts last.result
+    (known_step cx a.depth a.node a.rows a.known i (c.max.result + i) a.state.now mid now.state a.parts.now now.parts k.1
+    ? c.requires.within c.next_small_number.ensures.onward
+    (subst (λ (n : ℕ). Starts (small_number cx.is_aligned a.node (position a.state.now)).encodes (rest list a.state.now) n (rest list mid)) k.0
+    c.in-Some.ensures.read)
+    (record { at = p.at; first = p.first; end = p.end }) (p.grown list))
+    last.ensures.did
+
+pub choice::decode_added-returns-in-None-known_index-clause-did : goal.choice::decode_added-returns-in-None-known_index-clause-did
+choice::decode_added-returns-in-None-known_index-clause-did t c =
+    let cx = c.args.context.now in
+    let list = bits cx.octets.now in
+    let a = c.args in
+    let i = natural_of list c.in-Some.index in
+    let mid = c.next_small_number.new.state in
+    let now = c.push.new in
+    let last = c.keep_octets in
+    let k : IsIndex list c.in-Some.index a.known.count None = ? in
+    outcome_on cx (X cx a.depth a.node a.rows a.known) (λ at. (leaf (octets cx.is_aligned a.node) Unknown a.node at).encoding)
+    a.state.now now.state last.new.state a.parts.now now.parts last.new.parts last.result
+    (unknown_step cx a.depth a.node a.rows a.known i a.state.now mid now.state a.parts.now now.parts k c.requires.within
+    c.next_small_number.ensures.onward c.in-Some.ensures.read
+    (record { at = c.push.ensures.at; first = c.push.ensures.first; end = c.push.ensures.end }) (c.push.ensures.grown list))
+    last.ensures.did
+
+pub decoder::decode_node-returns-else-is_none-clause-did : goal.decoder::decode_node-returns-else-is_none-clause-did
+decoder::decode_node-returns-else-is_none-clause-did t c =
+    let cx = c.args.context.now in
+    let k = c.in-Some-Choice in
+    at_node cx c.args.node c.args.depth (Some (type.Choice k.alternatives k.is_extensible k.additions))
+    (λ (B : ℕ → Encoding FaultKind Parts). Outcome cx B c.args.state.now c.decode_choice.new.state c.args.parts.now c.decode_choice.new.parts
+    c.decode_choice.result)
+    (omega (arith, c.if-depth-eq0.false)) (sym c.node_at.ensures ∙ k.is ∙ ap (λ (n : Node). Some n) k.field-0-is) c.decode_choice.ensures.did
