@@ -4,7 +4,9 @@
 #![tactic(auto)]
 
 mod bits;
+mod enumerations;
 mod heads;
+mod integers;
 mod lengths;
 mod numbers;
 mod small;
@@ -12,7 +14,9 @@ mod state;
 mod strings;
 mod unbounded;
 
+pub use enumerations::next_enumerated;
 pub use heads::{next_bit, next_bits, next_start, next_word};
+pub use integers::next_integer_between;
 pub use lengths::{next_length, next_small_length};
 pub use numbers::{above, next_constrained, next_in_bits, next_number, width_to};
 pub use small::next_small_number;
