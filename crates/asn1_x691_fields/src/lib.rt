@@ -9,6 +9,7 @@ mod heads;
 mod integers;
 mod lengths;
 mod numbers;
+mod sized_strings;
 mod sizes;
 mod small;
 mod state;
