@@ -3,6 +3,7 @@ pub mod Outcomes
 pub mod Numbers
 -- What follows from steps of a decoder; no contract cites these.
 pub mod FirstBits
+pub mod LeafSteps
 pub mod NumberSteps
 pub mod Steps
 pub mod StringSteps

@@ -4,17 +4,26 @@
 #![tactic(auto)]
 
 mod bits;
+mod enumerations;
 mod heads;
+mod integers;
 mod lengths;
 mod numbers;
+mod octet_strings;
+mod sized_strings;
+mod sizes;
 mod small;
 mod state;
 mod strings;
 mod unbounded;
 
+pub use enumerations::next_enumerated;
 pub use heads::{next_bit, next_bits, next_start, next_word};
+pub use integers::next_integer_between;
 pub use lengths::{next_length, next_small_length};
 pub use numbers::{above, next_constrained, next_in_bits, next_number, width_to};
+pub use octet_strings::next_octet_string;
+pub use sizes::{next_added_length, next_length_at_least};
 pub use small::next_small_number;
 pub use state::{State, fail};
 pub use strings::{next_count, next_octets, next_units};

@@ -1,0 +1,37 @@
+use Rattle.std.proofs.Common.{◌*◌, inl, inr, arith}
+use Rattle.asn1_bits.specs.Bits.{bits}
+use Rattle.asn1_bits.specs.DigitLaws.{length-bits}
+use Rattle.asn1_schema.specs.PiecesOfParts.{bits_at}
+use Rattle.asn1_x691.specs.declared.fault.FaultKind.TheVariants.{InRoot}
+use Rattle.asn1_x691.specs.Fragments.{string}
+use Rattle.asn1_x691.specs.Strings.{IsOfRoot, IsAddedSize, where_size}
+use Rattle.asn1_x691_fields.specs.Outcomes.{fault_of}
+use Rattle.asn1_x691_fields.specs.Steps.{turn_fault, fault_at}
+use Rattle.asn1_x691_fields.proofs.sized_strings.next_added_string.Goals as goal
+
+pub returns-then-is_of_root-clause-read : goal.returns-then-is_of_root-clause-read
+returns-then-is_of_root-clause-read c =
+    let list = bits c.args.octets.now in
+    let node = c.args.node in
+    let unit = c.args.unit in
+    let size = c.args.size in
+    let mid = c.next_units.new.state in
+    inl (turn_fault list c.args.state.now mid c.requires.within c.in_ok-count.ensures.onward (string c.args.is_aligned unit node)
+    (λ v bits. bits) (λ v. where_size (IsAddedSize size) (IsOfRoot size) InRoot node v)
+    (c.in_ok-count.count, bits_at list c.in_ok-count.at (unit * c.in_ok-count.count)) c.in_ok-count.ensures.read
+    (fault_of c.fail.new.state)
+    (inr (
+      c.is_of_root.ensures.of_root c.if-is_of_root.true,
+      fault_at list mid c.fail.new.state node InRoot c.in_ok-count.ensures.onward.inside
+          c.fail.ensures.at c.fail.ensures.end c.fail.ensures.node c.fail.ensures.kind,
+    )))
+
+pub returns-clause-inside : goal.returns-clause-inside
+returns-clause-inside c =
+    omega (
+      arith,
+      length-bits c.args.octets.now,
+      c.in_ok-count.ensures.index,
+      c.in_ok-count.ensures.onward.ends,
+      c.in_ok-count.ensures.onward.inside,
+    )

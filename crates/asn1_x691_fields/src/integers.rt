@@ -1,0 +1,30 @@
+//! INTEGER (X.691 13).
+
+ghost use Rattle.std.specs.Prelude.{◌≡◌, ◌≤◌, ◌<◌, ◌^◌, ◌*◌, ◌∷◌, [], length};
+ghost use Rattle.asn1_bits.specs.Bits.{bits};
+ghost use Rattle.asn1_schema.specs.PiecesOfParts.{piece_of};
+ghost use Rattle.asn1_x691.specs.Leaves.{integer_between};
+ghost use Rattle.asn1_x691_fields.specs.Outcomes.{IsWithin, IsOnward, IsTaken, IsPlaced};
+
+use crate::numbers::{above, next_constrained};
+use crate::state::State;
+use asn1_schema::{Bounds, Part};
+
+/// Reads an INTEGER between two bounds, by its distance from the least value (X.691 13.2.2).
+pub fn next_integer_between(
+    octets: &[u8],
+    is_aligned: bool,
+    bounds: Bounds,
+    node: usize,
+    state: &mut State,
+) -> Option<Part>
+    requires size { 8 * length octets.now < 2 ^ 64 }
+    requires within { IsWithin (bits octets.now) state.old }
+    requires placed { IsPlaced is_aligned state.old }
+    ensures onward { IsOnward (bits octets.now) state.old state.new }
+    ensures read { IsTaken (λ at. (integer_between is_aligned node bounds.least bounds.range at).encoding)
+        (λ p. piece_of (bits octets.now) p ∷ []) (bits octets.now) state.old state.new result }
+{
+    let n = next_constrained(octets, is_aligned, bounds.range, node, state)?;
+    Some(Part::Integer(above(bounds.least, n)))
+}

@@ -1,0 +1,99 @@
+//! OCTET STRING (X.691 17).
+
+ghost use Rattle.std.specs.Prelude.{◌≡◌, ◌≤◌, ◌<◌, ◌^◌, ◌*◌, ◌∷◌, [], length};
+ghost use Rattle.asn1_bits.specs.Bits.{bits};
+ghost use Rattle.asn1_schema.specs.Pieces.{Octets};
+ghost use Rattle.asn1_schema.specs.PiecesOfParts.{piece_of};
+ghost use Rattle.asn1_schema.specs.TypeEncodings.{leaf, by_bit};
+ghost use Rattle.asn1_x691.specs.Strings.{string_of, added_string};
+ghost use Rattle.asn1_x691.specs.Leaves.{octet_string};
+ghost use Rattle.asn1_x691_fields.specs.Outcomes.{IsWithin, IsOnward, IsTaken, IsPlaced};
+
+use crate::heads::next_bit;
+use crate::sized_strings::{next_added_string, next_string_of};
+use crate::state::State;
+use asn1_schema::{Length, Part};
+
+/// Reads an OCTET STRING by its size constraint (X.691 17.3 to 17.8).
+pub fn next_octet_string(
+    octets: &[u8],
+    is_aligned: bool,
+    size: Length,
+    is_extensible: bool,
+    node: usize,
+    state: &mut State,
+) -> Option<Part>
+    requires size { 8 * length octets.now < 2 ^ 64 }
+    requires within { IsWithin (bits octets.now) state.old }
+    requires placed { IsPlaced is_aligned state.old }
+    ensures onward { IsOnward (bits octets.now) state.old state.new }
+    ensures read { IsTaken (λ at. (octet_string is_aligned node size is_extensible at).encoding)
+        (λ p. piece_of (bits octets.now) p ∷ []) (bits octets.now) state.old state.new result }
+{
+    if !is_extensible {
+        return next_octets_of_root(octets, is_aligned, size, node, state);
+    }
+    let is_added = next_bit(octets, node, state)?;
+    next_octets_by_bit(octets, is_aligned, size, is_added, node, state)
+}
+
+/// Reads octets after the extension bit.
+fn next_octets_by_bit(
+    octets: &[u8],
+    is_aligned: bool,
+    size: Length,
+    is_added: bool,
+    node: usize,
+    state: &mut State,
+) -> Option<Part>
+    requires size { 8 * length octets.now < 2 ^ 64 }
+    requires within { IsWithin (bits octets.now) state.old }
+    requires placed { IsPlaced is_aligned state.old }
+    ensures onward { IsOnward (bits octets.now) state.old state.new }
+    ensures read { IsTaken (λ at. by_bit (leaf (string_of is_aligned 8 size node) Octets node at)
+        (leaf (added_string is_aligned 8 size node) Octets node at) is_added)
+        (λ p. piece_of (bits octets.now) p ∷ []) (bits octets.now) state.old state.new result }
+{
+    if is_added {
+        return next_added_octets(octets, is_aligned, size, node, state);
+    }
+    next_octets_of_root(octets, is_aligned, size, node, state)
+}
+
+/// Reads octets of a size of the root.
+fn next_octets_of_root(
+    octets: &[u8],
+    is_aligned: bool,
+    size: Length,
+    node: usize,
+    state: &mut State,
+) -> Option<Part>
+    requires size { 8 * length octets.now < 2 ^ 64 }
+    requires within { IsWithin (bits octets.now) state.old }
+    requires placed { IsPlaced is_aligned state.old }
+    ensures onward { IsOnward (bits octets.now) state.old state.new }
+    ensures read { IsTaken (λ at. (leaf (string_of is_aligned 8 size node) Octets node at).encoding)
+        (λ p. piece_of (bits octets.now) p ∷ []) (bits octets.now) state.old state.new result }
+{
+    let span = next_string_of(octets, is_aligned, 8, size, node, state)?;
+    Some(Part::Octets(span))
+}
+
+/// Reads octets of a size that is none of the root (X.691 17.3).
+fn next_added_octets(
+    octets: &[u8],
+    is_aligned: bool,
+    size: Length,
+    node: usize,
+    state: &mut State,
+) -> Option<Part>
+    requires size { 8 * length octets.now < 2 ^ 64 }
+    requires within { IsWithin (bits octets.now) state.old }
+    requires placed { IsPlaced is_aligned state.old }
+    ensures onward { IsOnward (bits octets.now) state.old state.new }
+    ensures read { IsTaken (λ at. (leaf (added_string is_aligned 8 size node) Octets node at).encoding)
+        (λ p. piece_of (bits octets.now) p ∷ []) (bits octets.now) state.old state.new result }
+{
+    let span = next_added_string(octets, is_aligned, 8, size, node, state)?;
+    Some(Part::Octets(span))
+}
