@@ -3,3 +3,4 @@ mod Steps
 mod OpenSteps
 mod SequenceSteps
 mod ChoiceSteps
+mod ListSteps

@@ -9,16 +9,16 @@ use Rattle.asn1_schema.specs.declared.tables.Member.{Member}
 use Rattle.asn1_schema.specs.declared.tables.Presence.{Presence}
 use Rattle.asn1_schema.specs.declared.tables.Presence.TheVariants as presence
 use Rattle.asn1_schema.specs.declared.tables.Length.{Length}
-use Rattle.asn1_schema.specs.declared.tables.Length.TheVariants.{Between}
+use Rattle.asn1_schema.specs.declared.tables.Length.TheVariants.{AtLeast, Between}
 use Rattle.asn1_schema.specs.declared.tables.Rows.{Rows}
-use Rattle.asn1_schema.specs.Pieces.{Absent, Parts}
+use Rattle.asn1_schema.specs.Pieces.{Absent, Count, Parts}
 use Rattle.asn1_schema.specs.PiecesOfParts.{bits_at, natural_of}
 use Rattle.asn1_schema.specs.Encodings.{Encoding, Contents, Starts, constant, invalid}
-use Rattle.asn1_schema.specs.TypeEncodings.{TypeEncoding, AfterHeader}
+use Rattle.asn1_schema.specs.TypeEncodings.{TypeEncoding, AfterHeader, several, part}
 use Rattle.asn1_x691.specs.declared.fault.FaultKind.{FaultKind}
 use Rattle.asn1_x691.specs.declared.fault.FaultKind.TheVariants.{Unsupported, NoNode}
 use Rattle.asn1_x691.specs.OpenTypes.{padding, complete, open_type}
-use Rattle.asn1_x691.specs.Types.{type_at, type_of, value_by, components, root_of, sequence_by, extension, addition, additions_by_bits, known_addition, sequence_of_by, choice, choice_by, choice_extension}
+use Rattle.asn1_x691.specs.Types.{type_at, type_of, value_by, components, root_of, sequence_by, extension, addition, additions_by_bits, known_addition, sequence_of_by, sequence_of, added_length, items, choice, choice_by, choice_extension}
 use Rattle.asn1_x691_fields.specs.declared.state.State.{State}
 use Rattle.asn1_x691_fields.specs.Outcomes.{rest, position, fault_of, IsInFragments}
 use Rattle.asn1_x691_decode.specs.declared.context.Context.{Context}
@@ -53,9 +53,18 @@ IsLater (Some (type.IntegerBetween bounds is_extensible)) = is_extensible ≡ tr
 IsLater (Some (type.IntegerAtLeast least is_extensible)) = is_extensible ≡ true
 IsLater o = ⊥
 
+-- whether each permitted number of items is a number of the machine
+abbrev pub IsCounted : Length → Type 0
+IsCounted (AtLeast least) = ⊤
+IsCounted (Between least range) = least + range < 2 ^ 64
+
+abbrev pub IsUncounted : Length → Type 0
+IsUncounted (AtLeast least) = ⊥
+IsUncounted (Between least range) = 2 ^ 64 ≤ least + range
+
 -- types whose numbers exceed those of the machine
 abbrev pub IsTooLarge : Option Node → Type 0
-IsTooLarge (Some (type.SequenceOf (Between least range) is_extensible item)) = 2 ^ 64 ≤ least + range
+IsTooLarge (Some (type.SequenceOf size is_extensible item)) = IsUncounted size
 IsTooLarge (Some (type.Choice alternatives is_extensible known)) = 2 ^ 64 ≤ alternatives.count + known.count
 IsTooLarge o = ⊥
 
@@ -151,6 +160,13 @@ module _ (c : Context) (depth node : ℕ) where
   abbrev pub sequence_of_in : Bool → Length → ℕ → ℕ → TypeEncoding FaultKind
   sequence_of_in is_extensible = sequence_of_by c.is_aligned (types c depth) c.tables.members.now c.tables.ranges.now defaults node is_extensible false
 
+  abbrev pub root_list_in : Length → ℕ → ℕ → TypeEncoding FaultKind
+  root_list_in = sequence_of c.is_aligned (types c depth) c.tables.members.now c.tables.ranges.now defaults node false
+
+  abbrev pub added_list_in : Length → ℕ → ℕ → TypeEncoding FaultKind
+  added_list_in size item = part (added_length c.is_aligned size node) Count
+      (λ n. items c.is_aligned (types c depth) c.tables.members.now c.tables.ranges.now defaults node false item n) node
+
   abbrev pub choice_in : Bool → Rows → Rows → ℕ → TypeEncoding FaultKind
   choice_in = choice_by c.is_aligned (types c depth) c.tables.members.now c.tables.ranges.now defaults node
 
@@ -190,6 +206,9 @@ told_by list p = bits_at list p.at p.left
 abbrev pub IsTold : List Bool → PresenceBits → PresenceBits → Option Bool → Type 0
 IsTold list old new None = (told_by list old ≡ []) × (told_by list new ≡ [])
 IsTold list old new (Some b) = told_by list old ≡ b ∷ told_by list new
+
+abbrev pub items_in : Context → ℕ → ℕ → ℕ → ℕ → TypeEncoding FaultKind
+items_in c depth item n = several (types c depth item) n
 
 -- the member of an index has this presence, where that is a default value
 abbrev pub IsListed : Context → ℕ → Member → Type 0

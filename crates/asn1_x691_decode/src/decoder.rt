@@ -19,6 +19,7 @@ use asn1_x691::FaultKind;
 use asn1_x691_fields::{State, fail, next_bit, next_bits, next_octets, next_small_length};
 use crate::open_type::decode_enclosed;
 use crate::choice::decode_choice;
+use crate::list::{decode_list, is_counted};
 use crate::sequence::decode_sequence;
 
 /// Returns the type at a node.
@@ -71,6 +72,13 @@ pub(crate) fn decode_node(context: &Context<'_>, depth: usize, node: usize, stat
                 return false;
             }
             decode_choice(context, depth - 1, node, alternatives, is_extensible, additions, state, parts)
+        }
+        Some(Node::SequenceOf { length, is_extensible, item }) => {
+            if !is_counted(length) {
+                fail(state, node, FaultKind::Unsupported);
+                return false;
+            }
+            decode_list(context, depth - 1, node, length, is_extensible, item, state, parts)
         }
         Some(_) => {
             fail(state, node, FaultKind::Unsupported);

@@ -6,6 +6,7 @@ mod choice;
 mod complete;
 mod context;
 mod decoder;
+mod list;
 mod open_type;
 mod presence;
 mod room;

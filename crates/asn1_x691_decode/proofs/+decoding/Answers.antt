@@ -545,12 +545,14 @@ choice::decode_added-returns-in-Some-known_index-clause-did t c =
     let now = c.push-in-Some-known_index.new in
     let last = c.decode_known in
     let p = c.push-in-Some-known_index.ensures in
-    let k : IsIndex list c.in-Some.index a.known.count (Some i) = ? in
+    let k : IsIndex list c.in-Some.index a.known.count (Some i) =
+    subst (λ (r : Option ℕ). IsIndex list c.in-Some.index a.known.count r) c.in-Some-known_index.is
+    (c.known_index.ensures list mid c.in-Some.ensures.natural) in
     outcome_on cx (X cx a.depth a.node a.rows a.known)
     (λ at. (known_in cx a.depth a.node (slice_get cx.tables.members.now (a.known.from + i)) at).encoding) a.state.now now.state last.new.state
     a.parts.now now.parts last.new.parts last.result
     (known_step cx a.depth a.node a.rows a.known i (c.max.result + i) a.state.now mid now.state a.parts.now now.parts k.1
-    ? c.requires.within c.next_small_number.ensures.onward
+    (omega (arith, c.max.ensures)) c.requires.within c.next_small_number.ensures.onward
     (subst (λ (n : ℕ). Starts (small_number cx.is_aligned a.node (position a.state.now)).encodes (rest list a.state.now) n (rest list mid)) k.0
     c.in-Some.ensures.read)
     (record { at = p.at; first = p.first; end = p.end }) (p.grown list))
@@ -565,7 +567,9 @@ choice::decode_added-returns-in-None-known_index-clause-did t c =
     let mid = c.next_small_number.new.state in
     let now = c.push.new in
     let last = c.keep_octets in
-    let k : IsIndex list c.in-Some.index a.known.count None = ? in
+    let k : IsIndex list c.in-Some.index a.known.count None =
+    subst (λ (r : Option ℕ). IsIndex list c.in-Some.index a.known.count r) c.in-None-known_index.is
+    (c.known_index.ensures list mid c.in-Some.ensures.natural) in
     outcome_on cx (X cx a.depth a.node a.rows a.known) (λ at. (leaf (octets cx.is_aligned a.node) Unknown a.node at).encoding)
     a.state.now now.state last.new.state a.parts.now now.parts last.new.parts last.result
     (unknown_step cx a.depth a.node a.rows a.known i a.state.now mid now.state a.parts.now now.parts k c.requires.within
@@ -581,3 +585,43 @@ decoder::decode_node-returns-else-is_none-clause-did t c =
     (λ (B : ℕ → Encoding FaultKind Parts). Outcome cx B c.args.state.now c.decode_choice.new.state c.args.parts.now c.decode_choice.new.parts
     c.decode_choice.result)
     (omega (arith, c.if-depth-eq0.false)) (sym c.node_at.ensures ∙ k.is ∙ ap (λ (n : Node). Some n) k.field-0-is) c.decode_choice.ensures.did
+
+pub choice::decode_added-overflow_add-max : goal.choice::decode_added-overflow_add-max
+choice::decode_added-overflow_add-max t c =
+    let list = bits c.args.context.now.octets.now in
+    let k : IsIndex list c.in-Some.index c.args.known.count (Some c.in-Some-known_index.index) =
+    subst (λ (r : Option ℕ). IsIndex list c.in-Some.index c.args.known.count r) c.in-Some-known_index.is
+    (c.known_index.ensures list c.next_small_number.new.state c.in-Some.ensures.natural) in
+    omega (arith, c.max.ensures, c.requires.fits, k.1)
+
+pub choice::decode_choice-returns-in-Some-true-clause-did : goal.choice::decode_choice-returns-in-Some-true-clause-did
+choice::decode_choice-returns-in-Some-true-clause-did t c =
+    let cx = c.args.context.now in
+    let list = bits cx.octets.now in
+    let a = c.args in
+    let mid = c.next_bit.new.state in
+    let last = c.decode_added in
+    let S : Bool → ℕ → Encoding FaultKind Parts = λ x at. (choice_in cx a.depth a.node x a.rows a.known at).encoding in
+    subst (λ (x : Bool). Outcome cx (S x) a.state.now last.new.state a.parts.now last.new.parts last.result) (sym c.if-not-is_extensible.false)
+    (outcome_on cx (S true) (choice.after_bit cx a.depth a.node a.rows a.known true) a.state.now mid last.new.state a.parts.now a.parts.now
+    last.new.parts last.result
+    (choice.bit_step cx a.depth a.node a.rows a.known true a.state.now mid a.parts.now c.requires.within c.next_bit.ensures.onward
+    (subst (λ (b : Bool). Starts (bit a.node).encodes (rest list a.state.now) b (rest list mid)) c.in-Some-true.field-0-test
+    c.in-Some-true.ensures.read))
+    last.ensures.did)
+
+pub choice::decode_choice-returns-in-Some-false-clause-did : goal.choice::decode_choice-returns-in-Some-false-clause-did
+choice::decode_choice-returns-in-Some-false-clause-did t c =
+    let cx = c.args.context.now in
+    let list = bits cx.octets.now in
+    let a = c.args in
+    let mid = c.next_bit.new.state in
+    let last = c.decode_alternative-in-Some-false in
+    let S : Bool → ℕ → Encoding FaultKind Parts = λ x at. (choice_in cx a.depth a.node x a.rows a.known at).encoding in
+    subst (λ (x : Bool). Outcome cx (S x) a.state.now last.new.state a.parts.now last.new.parts last.result) (sym c.if-not-is_extensible.false)
+    (outcome_on cx (S true) (choice.after_bit cx a.depth a.node a.rows a.known false) a.state.now mid last.new.state a.parts.now a.parts.now
+    last.new.parts last.result
+    (choice.bit_step cx a.depth a.node a.rows a.known false a.state.now mid a.parts.now c.requires.within c.next_bit.ensures.onward
+    (subst (λ (b : Bool). Starts (bit a.node).encodes (rest list a.state.now) b (rest list mid)) c.in-Some-false.field-0-test
+    c.in-Some-false.ensures.read))
+    last.ensures.did)

@@ -1,7 +1,7 @@
 use Rattle.std.proofs.Common.{◌≡◌, ◌≤◌, ◌*◌, ◌+◌, ◌-◌, length}
 use Rattle.asn1_bits.specs.Bits.{bits}
 use Rattle.asn1_x691_fields.specs.Outcomes.{IsWithin, IsMoved, IsPlaced}
-use Rattle.asn1_x691_decode.specs.Decoding.{components_in, additions_in, told_by}
+use Rattle.asn1_x691_decode.specs.Decoding.{components_in, additions_in, items_in, told_by}
 use Rattle.asn1_x691_decode.proofs.Steps.{IsUnderway}
 use Rattle.asn1_x691_decode.proofs.+decoding.Given as goal
 
@@ -75,3 +75,25 @@ invariant-additions::decode_additions-loop-index l =
     (λ at. (additions_in l.context l.depth l.node l.presence.left (l.known.count - l.index) (l.known.from + l.index) at).after
     (told_by (bits l.context.octets.now) l.presence))
     l.initial.state l.state l.initial.parts l.parts
+
+abbrev pub decreases-list::decode_items : goal.decreases-list::decode_items
+decreases-list::decode_items l = 16 * l.depth + 1
+
+abbrev pub decreases-list::decode_root_list : goal.decreases-list::decode_root_list
+decreases-list::decode_root_list l = 16 * l.depth + 2
+
+abbrev pub decreases-list::decode_added_list : goal.decreases-list::decode_added_list
+decreases-list::decode_added_list l = 16 * l.depth + 2
+
+abbrev pub decreases-list::decode_list : goal.decreases-list::decode_list
+decreases-list::decode_list l = 16 * l.depth + 3
+
+abbrev pub invariant-list::decode_items-loop-left : goal.invariant-list::decode_items-loop-left
+invariant-list::decode_items-loop-left l =
+    IsWithin (bits l.context.octets.now) l.state × IsMoved (bits l.context.octets.now) l.initial.state l.state
+    × IsUnderway l.context (λ at. (items_in l.context l.depth l.item l.initial.left at).encoding)
+    (λ at. (items_in l.context l.depth l.item l.left at).encoding)
+    l.initial.state l.state l.initial.parts l.parts
+
+abbrev pub decreases-list::decode_items-loop-left : goal.decreases-list::decode_items-loop-left
+decreases-list::decode_items-loop-left l = l.left

@@ -1,0 +1,147 @@
+//! Decodes a SEQUENCE OF (X.691 20).
+
+ghost use Rattle.std.specs.Prelude.{◌≡◌, ◌≤◌, ◌<◌, ◌^◌, ◌*◌, ◌+◌, length, true, false};
+ghost use Rattle.asn1_bits.specs.Bits.{bits};
+ghost use Rattle.asn1_x691_fields.specs.Outcomes.{IsWithin, IsMoved, IsPlaced};
+ghost use Rattle.asn1_x691_decode.specs.Decoding.{Outcome, IsCounted, IsUncounted, sequence_of_in, root_list_in, added_list_in, items_in};
+
+use crate::context::Context;
+use crate::decoder::decode_node;
+use crate::room::push;
+use asn1_schema::{Length, Part};
+use asn1_x691_fields::{State, next_added_length, next_bit, next_constrained, next_length_at_least};
+
+/// Decodes a SEQUENCE OF.
+#[cycle(decoding)]
+pub(crate) fn decode_list(
+    context: &Context<'_>,
+    depth: usize,
+    node: usize,
+    size: Length,
+    is_extensible: bool,
+    item: usize,
+    state: &mut State,
+    parts: &mut [Part],
+) -> bool
+    requires size { 8 * length context.now.octets.now < 2 ^ 64 }
+    requires within { IsWithin (bits context.now.octets.now) state.old }
+    requires placed { IsPlaced context.now.is_aligned state.old }
+    requires counted { IsCounted size }
+    ensures moved { IsMoved (bits context.now.octets.now) state.old state.new }
+    ensures did { Outcome context.now (λ at. (sequence_of_in context.now depth node is_extensible size item at).encoding)
+        state.old state.new parts.old parts.new result }
+{
+    if !is_extensible {
+        return decode_root_list(context, depth, node, size, item, state, parts);
+    }
+    match next_bit(context.octets, node, state) {
+        None => false,
+        Some(false) => decode_root_list(context, depth, node, size, item, state, parts),
+        Some(true) => decode_added_list(context, depth, node, size, item, state, parts),
+    }
+}
+
+/// Decodes as many items as the size constraint permits.
+#[cycle(decoding)]
+fn decode_root_list(
+    context: &Context<'_>,
+    depth: usize,
+    node: usize,
+    size: Length,
+    item: usize,
+    state: &mut State,
+    parts: &mut [Part],
+) -> bool
+    requires size { 8 * length context.now.octets.now < 2 ^ 64 }
+    requires within { IsWithin (bits context.now.octets.now) state.old }
+    requires placed { IsPlaced context.now.is_aligned state.old }
+    requires counted { IsCounted size }
+    ensures moved { IsMoved (bits context.now.octets.now) state.old state.new }
+    ensures did { Outcome context.now (λ at. (root_list_in context.now depth node size item at).encoding)
+        state.old state.new parts.old parts.new result }
+{
+    match size {
+        Length::AtLeast { least } => match next_length_at_least(context.octets, context.is_aligned, least, node, state) {
+            None => false,
+            Some(count) => {
+                push(parts, state, Part::Count(count));
+                decode_items(context, depth, item, count, state, parts)
+            }
+        },
+        Length::Between { least, range } => {
+            match next_constrained(context.octets, context.is_aligned, range as u128, node, state) {
+                None => false,
+                Some(more) => {
+                    let count = least + more as usize;
+                    push(parts, state, Part::Count(count));
+                    decode_items(context, depth, item, count, state, parts)
+                }
+            }
+        }
+    }
+}
+
+/// Decodes as many items as the size constraint does not permit (X.691 20.4).
+#[cycle(decoding)]
+fn decode_added_list(
+    context: &Context<'_>,
+    depth: usize,
+    node: usize,
+    size: Length,
+    item: usize,
+    state: &mut State,
+    parts: &mut [Part],
+) -> bool
+    requires size { 8 * length context.now.octets.now < 2 ^ 64 }
+    requires within { IsWithin (bits context.now.octets.now) state.old }
+    requires placed { IsPlaced context.now.is_aligned state.old }
+    ensures moved { IsMoved (bits context.now.octets.now) state.old state.new }
+    ensures did { Outcome context.now (λ at. (added_list_in context.now depth node size item at).encoding)
+        state.old state.new parts.old parts.new result }
+{
+    match next_added_length(context.octets, context.is_aligned, size, node, state) {
+        None => false,
+        Some(count) => {
+            push(parts, state, Part::Count(count));
+            decode_items(context, depth, item, count, state, parts)
+        }
+    }
+}
+
+/// Decodes so many items.
+#[cycle(decoding)]
+fn decode_items(
+    context: &Context<'_>,
+    depth: usize,
+    item: usize,
+    count: usize,
+    state: &mut State,
+    parts: &mut [Part],
+) -> bool
+    requires size { 8 * length context.now.octets.now < 2 ^ 64 }
+    requires within { IsWithin (bits context.now.octets.now) state.old }
+    requires placed { IsPlaced context.now.is_aligned state.old }
+    ensures moved { IsMoved (bits context.now.octets.now) state.old state.new }
+    ensures did { Outcome context.now (λ at. (items_in context.now depth item count at).encoding)
+        state.old state.new parts.old parts.new result }
+{
+    let mut left = count;
+    while left > 0 {
+        left -= 1;
+        if !decode_node(context, depth, item, state, parts) {
+            return false;
+        }
+    }
+    true
+}
+
+/// Returns whether each permitted number of items is a `usize`.
+pub(crate) fn is_counted(size: Length) -> bool
+    ensures yes { result ≡ true → IsCounted size }
+    ensures no { result ≡ false → IsUncounted size }
+{
+    match size {
+        Length::AtLeast { least: _ } => true,
+        Length::Between { least, range } => least.checked_add(range).is_some(),
+    }
+}
