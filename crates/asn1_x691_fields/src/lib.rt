@@ -3,6 +3,7 @@
 //! `specs/Outcomes` says what a call did to the [`State`] of a decoder.
 #![tactic(auto)]
 
+mod bit_strings;
 mod bits;
 mod enumerations;
 mod heads;
@@ -17,6 +18,7 @@ mod state;
 mod strings;
 mod unbounded;
 
+pub use bit_strings::next_bit_string;
 pub use enumerations::next_enumerated;
 pub use heads::{next_bit, next_bits, next_start, next_word};
 pub use integers::next_integer_between;
