@@ -21,7 +21,7 @@ mod unbounded;
 pub use bit_strings::next_bit_string;
 pub use enumerations::next_enumerated;
 pub use heads::{next_bit, next_bits, next_start, next_word};
-pub use integers::next_integer_between;
+pub use integers::{next_integer, next_integer_at_least, next_integer_between};
 pub use lengths::{next_length, next_small_length};
 pub use numbers::{above, next_constrained, next_in_bits, next_number, width_to};
 pub use octet_strings::next_octet_string;
