@@ -1,6 +1,5 @@
 -- What follows from steps of a decoder that reads a value of one part.
-use Rattle.std.proofs.Common.{◌≡◌, ℕ, List, [], ◌∷◌, ◌++◌, Bool, true, false, refl, sym, subst, inl, inr, Option, Some, None}
-use Rattle.std.specs.Prelude.{◌⊎◌}
+use Rattle.std.proofs.Common.{◌≡◌, ℕ, List, [], ◌∷◌, Bool, refl, sym, subst, inl, inr, Option, Some, None}
 use Rattle.std.proofs.lemmas.List.{append-nil}
 use Rattle.asn1_schema.specs.declared.part.Part.{Part}
 use Rattle.asn1_schema.specs.Pieces.{Piece}
@@ -11,8 +10,8 @@ use Rattle.asn1_x691.specs.declared.fault.FaultKind.{FaultKind}
 use Rattle.asn1_x691.specs.Strings.{bit}
 use Rattle.asn1_x691.specs.Leaves.{by_extension_bit}
 use Rattle.asn1_x691_fields.specs.declared.state.State.{State}
-use Rattle.asn1_x691_fields.specs.Outcomes.{rest, position, fault_of, IsWithin, IsOnward, IsTaken, IsInFragments}
-use Rattle.asn1_x691_fields.specs.Steps.{turn_starts, turn_fault, constant_starts}
+use Rattle.asn1_x691_fields.specs.Outcomes.{rest, position, fault_of, IsWithin, IsOnward, IsTaken}
+use Rattle.asn1_x691_fields.specs.Steps.{turn_starts, turn_fault}
 
 -- ---- one part, and its bits
 

@@ -7,3 +7,4 @@ pub mod LeafSteps
 pub mod NumberSteps
 pub mod Steps
 pub mod StringSteps
+pub mod TrimmedSteps

@@ -3,6 +3,7 @@
 //! `specs/Outcomes` says what a call did to the [`State`] of a decoder.
 #![tactic(auto)]
 
+mod bit_strings;
 mod bits;
 mod enumerations;
 mod heads;
@@ -17,9 +18,10 @@ mod state;
 mod strings;
 mod unbounded;
 
+pub use bit_strings::next_bit_string;
 pub use enumerations::next_enumerated;
 pub use heads::{next_bit, next_bits, next_start, next_word};
-pub use integers::next_integer_between;
+pub use integers::{next_integer, next_integer_at_least, next_integer_between};
 pub use lengths::{next_length, next_small_length};
 pub use numbers::{above, next_constrained, next_in_bits, next_number, width_to};
 pub use octet_strings::next_octet_string;
