@@ -17,10 +17,10 @@ use Rattle.asn1_x691.specs.declared.fault.FaultKind.{FaultKind}
 use Rattle.asn1_x691.specs.declared.fault.FaultKind.TheVariants.{NoNode, TooDeep}
 use Rattle.asn1_x691.specs.Types.{component_by, component}
 use Rattle.asn1_x691_fields.specs.declared.state.State.{State}
-use Rattle.asn1_x691_fields.specs.Outcomes.{rest, position, fault_of, IsWithin, IsMoved, IsOnward}
+use Rattle.asn1_x691_fields.specs.Outcomes.{rest, position, fault_of, IsWithin, IsMoved, IsOnward, IsTaken, IsInFragments}
 use Rattle.asn1_x691_fields.specs.Steps.{constant_starts, after_starts, after_fault, moved_on, fault_at}
 use Rattle.asn1_x691_decode.specs.declared.context.Context.{Context}
-use Rattle.asn1_x691_decode.specs.Room.{Holds, IsGrown}
+use Rattle.asn1_x691_decode.specs.Room.{Holds, IsGrown, IsKept}
 use Rattle.asn1_x691_decode.specs.Decoding.{Outcome, default_of, IsDecoded, IsUnsupported, types, type_in, value_in, components_in, component_in, bits_after, bits_after_one}
 
 -- ---- parts that follow others
@@ -46,8 +46,17 @@ same_rest list old new s = ap (λ (n : ℕ). drop n (take new.end list)) s.at �
 pub same_position : (old new : State) → IsSamePlace old new → position new ≡ position old
 same_position old new s = omega (arith, s.at, s.first)
 
-pub same_fault : (old new : State) → IsSamePlace old new → IsSamePlace new old
-same_fault old new s = record { at = sym s.at; first = sym s.first; end = sym s.end }
+pub same_fault : (old new : State) → IsSamePlace old new → new.node ≡ old.node → new.kind ≡ old.kind → fault_of new ≡ fault_of old
+same_fault old new s n k = rw (s.at, s.end, n, k) refl
+
+pub inl_fragments : (c : Context) (old new : State) → IsSamePlace old new → new.kind ≡ old.kind → IsInFragments (bits c.octets.now) old
+    → {A : Type 0} → A ⊎ IsUnsupported c new
+inl_fragments c old new s k f =
+    inr (inl (record {
+      kind = k ∙ f.kind;
+      others = f.others;
+      bits = subst (λ (i : ℕ). drop i (bits c.octets.now) ≡ true ∷ true ∷ f.others) (sym s.at) f.bits;
+    }))
 
 pub same_within : (list : List Bool) (old new : State) → IsSamePlace old new → IsWithin list old → IsWithin list new
 same_within list old new s h = record {
@@ -350,3 +359,24 @@ pub told_mandatory : (m : Presence) (was : List Bool) → m ≡ presence.Mandato
 told_mandatory presence.Mandatory was e = refl
 told_mandatory presence.Optional was e = absurd cc
 told_mandatory (presence.Default v) was e = absurd cc
+
+module _ (c : Context) where
+  abbrev bs : List Bool
+  bs = bits c.octets.now
+
+  -- a part that was read and kept, or the fault
+  pub kept_outcome : (A : ℕ → Encoding FaultKind Parts) (old mid new : State) (was is : List Part) (part : Option Part) (r : Bool)
+      → IsOnward bs old mid → IsTaken A (λ p. piece_of bs p ∷ []) bs old mid part → IsSamePlace mid new
+      → IsKept part mid new was is r → Outcome c A old new was is r
+  kept_outcome A old mid new was is None r g t s k =
+      subst (λ (b : Bool). Outcome c A old new was is b) (sym k.0)
+      (elim t [
+        inl w ↦ inl (subst (λ (f : Fault FaultKind). (A (position old)).fault (rest bs old) f) (sym (same_fault mid new s k.1 k.2)) w)
+      | inr f ↦ inl_fragments c mid new s k.2 f
+      ])
+  kept_outcome A old mid new was is (Some p) r g t s k =
+      subst (λ (b : Bool). Outcome c A old new was is b) (sym k.0) (record {
+        parts = piece_of bs p ∷ [];
+        starts = subst (λ (l : List Bool). Starts (A (position old)).encodes (rest bs old) (piece_of bs p ∷ []) l) (sym (same_rest bs mid new s)) t;
+        grown = subst (λ (n : ℕ). IsGrown bs was n is new.count (piece_of bs p ∷ [])) g.same_count (k.1 bs);
+      })

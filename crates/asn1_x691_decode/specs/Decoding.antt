@@ -66,21 +66,14 @@ IsUncounted (Between least range) = 2 ^ 64 ≤ least + range
 abbrev pub IsTooLarge : Option Node → Type 0
 IsTooLarge (Some (type.SequenceOf size is_extensible item)) = IsUncounted size
 IsTooLarge (Some (type.Choice alternatives is_extensible known)) = 2 ^ 64 ≤ alternatives.count + known.count
+IsTooLarge (Some (type.Enumerated last is_extensible known)) = 2 ^ 64 ≤ last + 1 + known
 IsTooLarge o = ⊥
 
--- types whose default values it compares
-abbrev pub IsSimple : Option Node → Type 0
-IsSimple (Some type.Boolean) = ⊤
-IsSimple (Some (type.IntegerBetween bounds is_extensible)) = ⊤
-IsSimple (Some (type.Enumerated last is_extensible known)) = ⊤
-IsSimple o = ⊥
-
--- a component of the type at a node has a default value that it does not compare
+-- a component of the type at a node has a default value, with which a value must be compared
 pub record IsDefaulted (c : Context) (node : ℕ) : Type 0 where
   pub index : ℕ
   pub value : ℕ
   pub member : slice_get c.tables.members.now index ≡ Some (record { node = node; presence = presence.Default value })
-  pub type : ¬ (IsSimple (slice_get c.tables.nodes.now node))
 
 abbrev pub IsUnsupported : Context → State → Type 0
 IsUnsupported c s = IsInFragments (bits c.octets.now) s

@@ -1,9 +1,11 @@
 //! Decodes a value of any type.
 
-ghost use Rattle.std.specs.Prelude.{◌≡◌, ◌≤◌, ◌<◌, ◌^◌, ◌*◌, ◌+◌, ◌-◌, ◌∷◌, [], List, Bool, true, length, slice_get, Some};
+ghost use Rattle.std.specs.Prelude.{◌≡◌, ◌≤◌, ◌<◌, ◌^◌, ◌*◌, ◌+◌, ◌-◌, ◌∷◌, [], List, Bool, true, false, length, slice_get, Some};
 ghost use Rattle.asn1_bits.specs.Bits.{bits};
 ghost use Rattle.asn1_schema.specs.PiecesOfParts.{piece_of, bits_at};
-ghost use Rattle.asn1_schema.specs.Pieces.{Unknown};
+ghost use Rattle.asn1_schema.specs.Pieces.{Truth};
+ghost use Rattle.asn1_schema.specs.Encodings.{anywhere};
+ghost use Rattle.asn1_x691.specs.Strings.{bit};
 ghost use Rattle.asn1_schema.specs.TypeEncodings.{leaf};
 ghost use Rattle.asn1_x691.specs.Fragments.{octets};
 ghost use Rattle.asn1_x691_fields.specs.Outcomes.{IsWithin, IsMoved, IsPlaced};
@@ -13,10 +15,13 @@ ghost use Rattle.asn1_x691_decode.specs.Decoding.{Outcome, types, value_in, comp
 use crate::complete::at_end;
 use crate::context::Context;
 use crate::presence::{PresenceBits, count_optional, has_one, known_of, member_from, member_in, next_presence};
-use crate::room::push;
+use crate::room::{keep, push, unsupported};
 use asn1_schema::{Member, Node, Part, Presence, Rows};
 use asn1_x691::FaultKind;
-use asn1_x691_fields::{State, fail, next_bit, next_bits, next_octets, next_small_length};
+use asn1_x691_fields::{
+    State, fail, next_bit, next_bit_string, next_enumerated, next_integer, next_integer_at_least, next_integer_between,
+    next_octet_string,
+};
 use crate::open_type::decode_enclosed;
 use crate::choice::decode_choice;
 use crate::list::{decode_list, is_counted};
@@ -28,6 +33,34 @@ fn node_at(nodes: &[Node], node: usize) -> Option<Node>
     ensures { result ≡ slice_get nodes.now node }
 {
     if node < nodes.len() { Some(nodes[node]) } else { None }
+}
+
+/// Returns whether the index of each value of an ENUMERATED is a `usize`.
+fn is_enumerable(last: usize, additions: usize) -> bool
+    ensures yes { result ≡ true → last + 1 + additions < 2 ^ 64 }
+    ensures no { result ≡ false → 2 ^ 64 ≤ last + 1 + additions }
+{
+    match last.checked_add(additions) {
+        None => false,
+        Some(sum) => sum < usize::MAX,
+    }
+}
+
+/// Decodes a BOOLEAN (X.691 12).
+fn decode_boolean(context: &Context<'_>, node: usize, state: &mut State, parts: &mut [Part]) -> bool
+    requires size { 8 * length context.now.octets.now < 2 ^ 64 }
+    requires within { IsWithin (bits context.now.octets.now) state.old }
+    ensures moved { IsMoved (bits context.now.octets.now) state.old state.new }
+    ensures did { Outcome context.now (λ at. (leaf (anywhere (bit node)) Truth node at).encoding)
+        state.old state.new parts.old parts.new result }
+{
+    match next_bit(context.octets, node, state) {
+        None => false,
+        Some(bit) => {
+            push(parts, state, Part::Truth(bit));
+            true
+        }
+    }
 }
 
 /// Decodes a value of the type at a node.
@@ -53,13 +86,7 @@ pub(crate) fn decode_node(context: &Context<'_>, depth: usize, node: usize, stat
             push(parts, state, Part::Null);
             true
         }
-        Some(Node::Boolean) => match next_bit(context.octets, node, state) {
-            None => false,
-            Some(bit) => {
-                push(parts, state, Part::Truth(bit));
-                true
-            }
-        },
+        Some(Node::Boolean) => decode_boolean(context, node, state, parts),
         Some(Node::Sequence { root, is_extensible, additions }) => {
             decode_sequence(context, depth - 1, node, root, is_extensible, additions, state, parts)
         }
@@ -80,10 +107,38 @@ pub(crate) fn decode_node(context: &Context<'_>, depth: usize, node: usize, stat
             }
             decode_list(context, depth - 1, node, length, is_extensible, item, state, parts)
         }
-        Some(_) => {
-            fail(state, node, FaultKind::Unsupported);
-            false
+        Some(Node::IntegerBetween { bounds, is_extensible }) => {
+            if is_extensible {
+                return unsupported(state, node);
+            }
+            keep(next_integer_between(context.octets, context.is_aligned, bounds, node, state), parts, state)
         }
+        Some(Node::IntegerAtLeast { least, is_extensible }) => {
+            if is_extensible {
+                return unsupported(state, node);
+            }
+            keep(next_integer_at_least(context.octets, context.is_aligned, least, node, state), parts, state)
+        }
+        Some(Node::Integer) => keep(next_integer(context.octets, context.is_aligned, node, state), parts, state),
+        Some(Node::Enumerated { last, is_extensible, additions }) => {
+            if !is_enumerable(last, additions) {
+                return unsupported(state, node);
+            }
+            let part = next_enumerated(context.octets, context.is_aligned, last, is_extensible, additions, node, state);
+            keep(part, parts, state)
+        }
+        Some(Node::BitString { length, is_extensible, has_names }) => {
+            let part = next_bit_string(context.octets, context.is_aligned, length, is_extensible, has_names, node, state);
+            keep(part, parts, state)
+        }
+        Some(Node::OctetString { length, is_extensible }) => {
+            keep(next_octet_string(context.octets, context.is_aligned, length, is_extensible, node, state), parts, state)
+        }
+        Some(Node::Text { length: _, is_extensible: _, alphabet: _, whole: _ }) => unsupported(state, node),
+        Some(Node::ObjectIdentifier) => unsupported(state, node),
+        Some(Node::RelativeIdentifier) => unsupported(state, node),
+        Some(Node::Utf8String) => unsupported(state, node),
+        Some(Node::SetOf { length: _, is_extensible: _, item: _ }) => unsupported(state, node),
     }
 }
 

@@ -13,7 +13,7 @@ ghost use Rattle.asn1_x691_decode.specs.Decoding.{Outcome, types, value_in, comp
 use crate::complete::at_end;
 use crate::context::Context;
 use crate::presence::{PresenceBits, count_optional, has_one, known_of, member_from, member_in, next_presence};
-use crate::room::push;
+use crate::room::unsupported;
 use asn1_schema::{Member, Node, Part, Presence, Rows};
 use asn1_x691::FaultKind;
 use asn1_x691_fields::{State, fail, next_bit, next_bits, next_octets, next_small_length};
@@ -102,10 +102,7 @@ pub(crate) fn decode_value(
         state.old state.new parts.old parts.new result }
 {
     match member.presence {
-        Presence::Default { value: _ } => {
-            fail(state, node, FaultKind::Unsupported);
-            false
-        }
+        Presence::Default { value: _ } => unsupported(state, member.node),
         Presence::Mandatory => decode_node(context, depth, member.node, state, parts),
         Presence::Optional => decode_node(context, depth, member.node, state, parts),
     }

@@ -1,11 +1,13 @@
 //! Room for parts.
 
-ghost use Rattle.std.specs.Prelude.{◌≡◌, List, Bool, ◌∷◌, []};
+ghost use Rattle.std.specs.Prelude.{◌≡◌, List, Bool, false, ◌∷◌, []};
 ghost use Rattle.asn1_schema.specs.PiecesOfParts.{piece_of};
-ghost use Rattle.asn1_x691_decode.specs.Room.{IsGrown};
+ghost use Rattle.asn1_x691.specs.declared.fault.FaultKind.TheVariants.{Unsupported};
+ghost use Rattle.asn1_x691_decode.specs.Room.{IsGrown, IsKept};
 
 use asn1_schema::Part;
-use asn1_x691_fields::State;
+use asn1_x691::FaultKind;
+use asn1_x691_fields::{State, fail};
 
 /// Counts a part, and stores it where there is room.
 #[inline(always)]
@@ -23,4 +25,34 @@ pub(crate) fn push(parts: &mut [Part], state: &mut State, part: Part)
         return;
     }
     state.count = count.saturating_add(1);
+}
+
+/// Stores a part that was read, if one was.
+#[inline(always)]
+pub(crate) fn keep(part: Option<Part>, parts: &mut [Part], state: &mut State) -> bool
+    ensures at { state.new.at ≡ state.old.at }
+    ensures first { state.new.first ≡ state.old.first }
+    ensures end { state.new.end ≡ state.old.end }
+    ensures kept { IsKept part state.old state.new parts.old parts.new result }
+{
+    match part {
+        None => false,
+        Some(part) => {
+            push(parts, state, part);
+            true
+        }
+    }
+}
+
+/// Sets the fault that the decoder does not read a type.
+pub(crate) fn unsupported(state: &mut State, node: usize) -> bool
+    ensures no { result ≡ false }
+    ensures at { state.new.at ≡ state.old.at }
+    ensures first { state.new.first ≡ state.old.first }
+    ensures end { state.new.end ≡ state.old.end }
+    ensures node { state.new.node ≡ node }
+    ensures kind { state.new.kind ≡ Unsupported }
+{
+    fail(state, node, FaultKind::Unsupported);
+    false
 }

@@ -5,14 +5,14 @@ use Rattle.asn1_bits.specs.DigitLaws.{length-bits}
 use Rattle.asn1_schema.specs.declared.tables.Node.{Node}
 use Rattle.asn1_schema.specs.declared.tables.Node.TheVariants as type
 use Rattle.asn1_schema.specs.Pieces.{Absent, Null, Truth, Sequence, Parts}
-use Rattle.asn1_schema.specs.PiecesOfParts.{bits_at}
+use Rattle.asn1_schema.specs.PiecesOfParts.{bits_at, piece_of}
 use Rattle.asn1_schema.specs.Fields.{raw_bits}
 use Rattle.asn1_schema.specs.Encodings.{Encoding, Starts, constant, anywhere}
 use Rattle.asn1_x691.specs.declared.fault.FaultKind.{FaultKind}
 use Rattle.asn1_x691.specs.declared.fault.FaultKind.TheVariants.{NoNode, Short, NoAddition}
 use Rattle.asn1_x691.specs.Strings.{bit}
 use Rattle.asn1_x691.specs.Types.{optional_count}
-use Rattle.asn1_x691_fields.specs.Outcomes.{rest, position, fault_of}
+use Rattle.asn1_x691_fields.specs.Outcomes.{rest, position, fault_of, IsTaken}
 use Rattle.asn1_x691_fields.specs.Steps.{within_after, moved_over, moved_on, fault_at}
 use Rattle.asn1_x691_decode.specs.Decoding.{Outcome, IsDecoded, IsUnsupported, extension_in, types, value_in, component_in, components_in, root_in, sequence_in, told_by, bits_after, by_presence, additions_in, addition_in}
 use Rattle.asn1_x691_decode.proofs.Steps.{IsSamePlace, same_within, at_node, put_step, value_step, header_step, leaf_decoded, nothing_decoded, component_step, component_fault, no_member, bits_left, no_components, over, fails_on, outcome_on, by_true, by_false, absent_of, part_decoded, told_after}
@@ -31,6 +31,12 @@ use Rattle.asn1_x691_decode.specs.Decoding.{known_in, choice_in, alternatives_in
 use Rattle.asn1_schema.specs.declared.tables.Length.{Length}
 use Rattle.asn1_schema.specs.declared.tables.Length.TheVariants.{AtLeast, Between}
 use Rattle.asn1_x691_decode.specs.Decoding.{sequence_of_in, root_list_in, added_list_in, items_in}
+use Rattle.asn1_schema.specs.declared.tables.Member.{Member}
+use Rattle.asn1_schema.specs.declared.tables.Presence.{Presence}
+use Rattle.asn1_schema.specs.declared.tables.Presence.TheVariants as presence
+use Rattle.asn1_x691.specs.Leaves.{integer_between, integer_between_by, integer_at_least, integer_at_least_by, integer, enumerated_by, bit_string, octet_string}
+use Rattle.asn1_x691_decode.specs.Decoding.{IsLater, IsTooLarge, IsDefaulted}
+use Rattle.asn1_x691_decode.proofs.Steps.{kept_outcome}
 use Rattle.asn1_x691_decode.proofs.ListSteps as list
 use Rattle.asn1_x691_decode.proofs.ChoiceSteps as choice
 use Rattle.asn1_x691_decode.proofs.ChoiceSteps.{A, H, X, index_step, no_index, no_alternative, the_alternative, known_step, unknown_step}
@@ -48,17 +54,14 @@ decoder::decode_node-returns-in-Some-Null-clause-did t c =
     (record { at = c.push.ensures.at; first = c.push.ensures.first; end = c.push.ensures.end }) (c.push.ensures.grown list)).done
     c.push.new.state c.push.new.parts (nothing_decoded cx c.push.new.state c.push.new.parts))
 
-pub decoder::decode_node-returns-in-Some-next_bit-clause-did : goal.decoder::decode_node-returns-in-Some-next_bit-clause-did
-decoder::decode_node-returns-in-Some-next_bit-clause-did t c =
+pub decoder::decode_node-returns-in-Some-Boolean-clause-did : goal.decoder::decode_node-returns-in-Some-Boolean-clause-did
+decoder::decode_node-returns-in-Some-Boolean-clause-did t c =
     let cx = c.args.context.now in
-    let list = bits cx.octets.now in
-    let p = c.push-in-Some-next_bit in
     at_node cx c.args.node c.args.depth (Some type.Boolean)
-    (λ (A : ℕ → Encoding FaultKind Parts). IsDecoded (A (position c.args.state.now)).encodes list c.args.state.now p.new.state c.args.parts.now p.new.parts)
+    (λ (A : ℕ → Encoding FaultKind Parts). Outcome cx A c.args.state.now c.decode_boolean.new.state c.args.parts.now c.decode_boolean.new.parts
+    c.decode_boolean.result)
     (omega (arith, c.if-depth-eq0.false)) (sym c.node_at.ensures ∙ c.in-Some-Boolean.is ∙ ap (λ (n : Node). Some n) c.in-Some-Boolean.field-0-is)
-    (leaf_decoded cx (anywhere (bit c.args.node)) Truth c.args.state.now c.next_bit.new.state p.new.state c.args.parts.now p.new.parts
-    c.in-Some-next_bit.bit c.requires.within c.next_bit.ensures.onward c.in-Some-next_bit.ensures.read
-    (record { at = p.ensures.at; first = p.ensures.first; end = p.ensures.end }) (p.ensures.grown list))
+    c.decode_boolean.ensures.did
 
 pub decoder::decode_node-returns-in-Some-Sequence-clause-did : goal.decoder::decode_node-returns-in-Some-Sequence-clause-did
 decoder::decode_node-returns-in-Some-Sequence-clause-did t c =
@@ -754,3 +757,99 @@ list::decode_items-returns-clause-did t c =
     let l = c.loop-left in
     l.invariant.2.done l.state l.parts
     (list.no_items cx c.args.depth c.args.item l.left l.state l.parts (omega (arith, c.loop-left-test.false)))
+
+pub decoder::decode_node-returns-else-is_extensible-clause-did : goal.decoder::decode_node-returns-else-is_extensible-clause-did
+decoder::decode_node-returns-else-is_extensible-clause-did t c =
+    let cx = c.args.context.now in
+    let a = c.args in
+    let k = c.in-Some-IntegerBetween in
+    let p = c.keep in
+    at_node cx a.node a.depth (Some (type.IntegerBetween k.bounds k.is_extensible))
+    (λ (B : ℕ → Encoding FaultKind Parts). Outcome cx B a.state.now p.new.state a.parts.now p.new.parts p.result)
+    (omega (arith, c.if-depth-eq0.false)) (sym c.node_at.ensures ∙ k.is ∙ ap (λ (n : Node). Some n) k.field-0-is)
+    (subst (λ (b : Bool). Outcome cx (λ at. (integer_between_by cx.is_aligned a.node b k.bounds.least k.bounds.range at).encoding) a.state.now p.new.state a.parts.now p.new.parts p.result)
+    (sym c.if-is_extensible.false)
+    (kept_outcome cx (λ at. (integer_between cx.is_aligned a.node k.bounds.least k.bounds.range at).encoding) a.state.now c.next_integer_between.new.state p.new.state a.parts.now p.new.parts c.next_integer_between.result p.result
+    c.next_integer_between.ensures.onward c.next_integer_between.ensures.read (record { at = p.ensures.at; first = p.ensures.first; end = p.ensures.end }) p.ensures.kept))
+
+pub decoder::decode_node-returns-else-is_extensible-2-clause-did : goal.decoder::decode_node-returns-else-is_extensible-2-clause-did
+decoder::decode_node-returns-else-is_extensible-2-clause-did t c =
+    let cx = c.args.context.now in
+    let a = c.args in
+    let k = c.in-Some-IntegerAtLeast in
+    let p = c.keep-in-Some-IntegerAtLeast in
+    let taken : IsTaken (λ at. (integer_at_least cx.is_aligned a.node k.least at).encoding) (λ q. piece_of (bits cx.octets.now) q ∷ [])
+    (bits cx.octets.now) a.state.now c.next_integer_at_least.new.state c.next_integer_at_least.result = search in
+    at_node cx a.node a.depth (Some (type.IntegerAtLeast k.least k.is_extensible))
+    (λ (B : ℕ → Encoding FaultKind Parts). Outcome cx B a.state.now p.new.state a.parts.now p.new.parts p.result)
+    (omega (arith, c.if-depth-eq0.false)) (sym c.node_at.ensures ∙ k.is ∙ ap (λ (n : Node). Some n) k.field-0-is)
+    (subst (λ (b : Bool). Outcome cx (λ at. (integer_at_least_by cx.is_aligned a.node b k.least at).encoding) a.state.now p.new.state a.parts.now p.new.parts p.result)
+    (sym c.if-is_extensible-2.false)
+    (kept_outcome cx (λ at. (integer_at_least cx.is_aligned a.node k.least at).encoding) a.state.now c.next_integer_at_least.new.state p.new.state a.parts.now p.new.parts c.next_integer_at_least.result p.result
+    c.next_integer_at_least.ensures.onward taken (record { at = p.ensures.at; first = p.ensures.first; end = p.ensures.end }) p.ensures.kept))
+
+pub decoder::decode_node-returns-in-Some-Integer-clause-did : goal.decoder::decode_node-returns-in-Some-Integer-clause-did
+decoder::decode_node-returns-in-Some-Integer-clause-did t c =
+    let cx = c.args.context.now in
+    let a = c.args in
+    let k = c.in-Some-Integer in
+    let p = c.keep-in-Some-Integer in
+    at_node cx a.node a.depth (Some (type.Integer))
+    (λ (B : ℕ → Encoding FaultKind Parts). Outcome cx B a.state.now p.new.state a.parts.now p.new.parts p.result)
+    (omega (arith, c.if-depth-eq0.false)) (sym c.node_at.ensures ∙ k.is ∙ ap (λ (n : Node). Some n) k.field-0-is)
+    (kept_outcome cx (λ at. (integer cx.is_aligned a.node at).encoding) a.state.now c.next_integer.new.state p.new.state a.parts.now p.new.parts c.next_integer.result p.result
+    c.next_integer.ensures.onward c.next_integer.ensures.read (record { at = p.ensures.at; first = p.ensures.first; end = p.ensures.end }) p.ensures.kept)
+
+pub decoder::decode_node-returns-else-not-is_enumerable-clause-did : goal.decoder::decode_node-returns-else-not-is_enumerable-clause-did
+decoder::decode_node-returns-else-not-is_enumerable-clause-did t c =
+    let cx = c.args.context.now in
+    let a = c.args in
+    let k = c.in-Some-Enumerated in
+    let p = c.keep-in-Some-Enumerated in
+    at_node cx a.node a.depth (Some (type.Enumerated k.last k.is_extensible k.additions))
+    (λ (B : ℕ → Encoding FaultKind Parts). Outcome cx B a.state.now p.new.state a.parts.now p.new.parts p.result)
+    (omega (arith, c.if-depth-eq0.false)) (sym c.node_at.ensures ∙ k.is ∙ ap (λ (n : Node). Some n) k.field-0-is)
+    (kept_outcome cx (λ at. (enumerated_by cx.is_aligned a.node k.is_extensible k.last k.additions at).encoding) a.state.now c.next_enumerated-part.new.state p.new.state a.parts.now p.new.parts c.next_enumerated-part.result p.result
+    c.next_enumerated-part.ensures.onward c.next_enumerated-part.ensures.read (record { at = p.ensures.at; first = p.ensures.first; end = p.ensures.end }) p.ensures.kept)
+
+pub decoder::decode_node-returns-in-Some-BitString-clause-did : goal.decoder::decode_node-returns-in-Some-BitString-clause-did
+decoder::decode_node-returns-in-Some-BitString-clause-did t c =
+    let cx = c.args.context.now in
+    let a = c.args in
+    let k = c.in-Some-BitString in
+    let p = c.keep-in-Some-BitString in
+    at_node cx a.node a.depth (Some (type.BitString k.length k.is_extensible k.has_names))
+    (λ (B : ℕ → Encoding FaultKind Parts). Outcome cx B a.state.now p.new.state a.parts.now p.new.parts p.result)
+    (omega (arith, c.if-depth-eq0.false)) (sym c.node_at.ensures ∙ k.is ∙ ap (λ (n : Node). Some n) k.field-0-is)
+    (kept_outcome cx (λ at. (bit_string cx.is_aligned a.node k.length k.is_extensible k.has_names at).encoding) a.state.now c.next_bit_string-part.new.state p.new.state a.parts.now p.new.parts c.next_bit_string-part.result p.result
+    c.next_bit_string-part.ensures.onward c.next_bit_string-part.ensures.read (record { at = p.ensures.at; first = p.ensures.first; end = p.ensures.end }) p.ensures.kept)
+
+pub decoder::decode_node-returns-in-Some-OctetString-clause-did : goal.decoder::decode_node-returns-in-Some-OctetString-clause-did
+decoder::decode_node-returns-in-Some-OctetString-clause-did t c =
+    let cx = c.args.context.now in
+    let a = c.args in
+    let k = c.in-Some-OctetString in
+    let p = c.keep-in-Some-OctetString in
+    at_node cx a.node a.depth (Some (type.OctetString k.length k.is_extensible))
+    (λ (B : ℕ → Encoding FaultKind Parts). Outcome cx B a.state.now p.new.state a.parts.now p.new.parts p.result)
+    (omega (arith, c.if-depth-eq0.false)) (sym c.node_at.ensures ∙ k.is ∙ ap (λ (n : Node). Some n) k.field-0-is)
+    (kept_outcome cx (λ at. (octet_string cx.is_aligned a.node k.length k.is_extensible at).encoding) a.state.now c.next_octet_string.new.state p.new.state a.parts.now p.new.parts c.next_octet_string.result p.result
+    c.next_octet_string.ensures.onward c.next_octet_string.ensures.read (record { at = p.ensures.at; first = p.ensures.first; end = p.ensures.end }) p.ensures.kept)
+
+pub open_type::decode_value-returns-in-Default-clause-did : goal.open_type::decode_value-returns-in-Default-clause-did
+open_type::decode_value-returns-in-Default-clause-did t c =
+    let cx = c.args.context.now in
+    let m = c.args.member in
+    let u = c.unsupported in
+    let same : m ≡ record { node = m.node; presence = presence.Default c.in-Default.value } =
+    ap (λ (p : Presence). record { node = m.node; presence = p }) c.in-Default.is in
+    let listed : IsDefaulted cx m.node =
+    record {
+      index = c.args.index;
+      value = c.in-Default.value;
+      member = c.requires.listed c.in-Default.value c.in-Default.is ∙ ap (λ (x : Member). Some x) same;
+    } in
+    subst (λ (b : Bool). Outcome cx (λ at. (value_in cx c.args.depth c.args.node m.presence m.node at).encoding) c.args.state.now u.new.state
+    c.args.parts.now c.args.parts.now b) (sym u.ensures.no)
+    (inr (inr (u.ensures.kind, subst (λ (n : ℕ). IsLater (slice_get cx.tables.nodes.now n) ⊎ (IsTooLarge (slice_get cx.tables.nodes.now n) ⊎ IsDefaulted cx n))
+    (sym u.ensures.node) (inr (inr listed)))))
