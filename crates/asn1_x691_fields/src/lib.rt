@@ -11,6 +11,7 @@ mod integers;
 mod lengths;
 mod numbers;
 mod octet_strings;
+mod signed;
 mod sized_strings;
 mod sizes;
 mod small;
