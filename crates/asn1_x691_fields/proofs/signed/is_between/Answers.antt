@@ -1,4 +1,3 @@
-use Rattle.std.proofs.Common.{arith}
 use Rattle.asn1_bits.specs.Bits.{bits}
 use Rattle.asn1_schema.specs.PiecesOfParts.{bits_of, signed_number}
 use Rattle.asn1_x691_fields.specs.SignedSteps.{far, far_outside}

@@ -1,11 +1,11 @@
-use Rattle.std.proofs.Common.{◌≡◌, ◌-◌, ◌+◌, ◌^◌, ◌<◌, ◌≤◌, suc, length, negsuc, sym, subst, ap, ◌∙◌, arith, pos}
+use Rattle.std.proofs.Common.{◌≡◌, ◌-◌, ◌^◌, ◌≤◌, suc, negsuc, sym, ap, ◌∙◌, arith, pos}
 use Rattle.std.specs.Int.{w128}
 use mir.Val.{to_z, of_z}
 use Rattle.std.proofs.lemmas.Int.{to_z_pos, to_z-of_z}
 use Rattle.std.proofs.Math.Pow.{pow_mono}
-use Rattle.asn1_bits.specs.Bits.{bits, number}
+use Rattle.asn1_bits.specs.Bits.{bits}
 use Rattle.asn1_bits.specs.DigitLaws.{length-bits}
-use Rattle.asn1_schema.specs.PiecesOfParts.{bits_of, signed_number}
+use Rattle.asn1_schema.specs.PiecesOfParts.{bits_of}
 use Rattle.asn1_x691_fields.specs.Steps.{front_length}
 use Rattle.asn1_x691_fields.specs.SignedSteps.{is_positive, is_negative}
 use Rattle.asn1_x691_fields.proofs.signed.signed_at.Goals as goal
