@@ -5,6 +5,7 @@ pub mod Numbers
 pub mod FirstBits
 pub mod LeafSteps
 pub mod NumberSteps
+pub mod SignedSteps
 pub mod Steps
 pub mod StringSteps
 pub mod TrimmedSteps

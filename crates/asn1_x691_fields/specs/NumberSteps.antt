@@ -13,6 +13,7 @@ use Rattle.asn1_x691.specs.declared.fault.FaultKind.TheVariants.{Short, NotMinim
 use Rattle.asn1_x691.specs.Fields.{zeros, to_octet, on_octet, minimal_octets, below_minus_one, signed_of, signed_octets}
 use Rattle.asn1_x691_fields.specs.declared.state.State.{State}
 use Rattle.asn1_x691_fields.specs.FirstBits.{IsPositive, IsNegative, by_sign}
+use Rattle.asn1_x691_fields.specs.Numbers.{distance}
 use Rattle.asn1_x691_fields.specs.Outcomes.{rest, position, fault_of, IsWithin, IsOnward, IsRead}
 use Rattle.asn1_x691_fields.specs.Steps.{then_starts, then_fault, turn_starts, turn_fault}
 
@@ -160,3 +161,19 @@ module _ (count node : ℕ) (list bits mid : List Bool) (s : Starts (raw_bits (8
   signed_fault e some (inr p) w =
       then_fault (number (8 * count) Short node) (λ d z. z) (λ d. signed_of count node d) list mid (number_of bits) e
       (number_of_bits (8 * count) node list bits mid s) (inr (p.0, inr ((some, p.1), w)))
+
+-- ---- how far a number of so many octets is from 0 or from -1
+
+far_by_sign : (count w : ℕ) (bits : List Bool) → suc w ≡ 8 * count → 1 < count → IsFewest count (number_of bits)
+    → IsPositive bits w ⊎ IsNegative bits w → 2 ^ (8 * count - 9) ≤ distance (signed_number bits)
+far_by_sign count w bits e some (inl few) s = absurd (omega (arith, some, few))
+far_by_sign count w bits e some (inr few) (inl p) = omega (arith, few.0, ap distance p.same)
+far_by_sign count w bits e some (inr few) (inr p) =
+    let d : 2 ^ suc w ≡ 2 ^ (8 * count) = ap (λ (n : ℕ). 2 ^ n) e in
+    omega (arith, few.1, ap distance p.below, d)
+
+pub far_enough : (count : ℕ) (bits : List Bool) → length bits ≡ 8 * count → 1 < count → IsFewest count (number_of bits)
+    → 2 ^ (8 * count - 9) ≤ distance (signed_number bits)
+far_enough count bits size some few =
+    let e : suc (8 * count - 1) ≡ 8 * count = omega (arith, some) in
+    far_by_sign count (8 * count - 1) bits e some few (by_sign bits (8 * count - 1) (size ∙ sym e))

@@ -1,5 +1,5 @@
 -- What a call that reads a number without an upper bound says of its result.
-use Rattle.std.specs.Prelude.{◌≡◌, ◌+◌, ◌%◌, ◌^◌, ◌<◌, ◌≤◌, Bool, List}
+use Rattle.std.specs.Prelude.{◌≡◌, ℕ, ℤ, pos, negsuc, ◌+◌, ◌%◌, ◌^◌, ◌<◌, ◌≤◌, Bool, List}
 use Rattle.asn1_bits.specs.Bits.{number}
 use Rattle.asn1_schema.specs.declared.part.Span.{Span}
 use Rattle.asn1_schema.specs.declared.part.Natural.{Natural}
@@ -18,3 +18,8 @@ pub record AreOctets (s : Span) (new : State) : Type 0 where
 abbrev pub IsNatural : List Bool → State → Natural → Type 0
 IsNatural list new (Small n) = Unit {0}
 IsNatural list new (Large s) = AreOctets s new × (2 ^ 64 ≤ number (bits_of list s))
+
+-- how far a number is from 0, or below 0 from -1
+abbrev pub distance : ℤ → ℕ
+distance (pos n) = n
+distance (negsuc n) = n

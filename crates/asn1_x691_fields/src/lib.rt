@@ -6,11 +6,13 @@
 mod bit_strings;
 mod bits;
 mod enumerations;
+mod extensible_integers;
 mod heads;
 mod integers;
 mod lengths;
 mod numbers;
 mod octet_strings;
+mod signed;
 mod sized_strings;
 mod sizes;
 mod small;
@@ -20,6 +22,7 @@ mod unbounded;
 
 pub use bit_strings::next_bit_string;
 pub use enumerations::next_enumerated;
+pub use extensible_integers::{next_integer_at_least_by, next_integer_between_by};
 pub use heads::{next_bit, next_bits, next_start, next_word};
 pub use integers::{next_integer, next_integer_at_least, next_integer_between};
 pub use lengths::{next_length, next_small_length};

@@ -6,7 +6,7 @@ ghost use Rattle.asn1_schema.specs.Encodings.{anywhere, invalid, in_case};
 ghost use Rattle.asn1_schema.specs.PiecesOfParts.{bits_of, signed_number};
 ghost use Rattle.asn1_x691.specs.declared.fault.FaultKind.TheVariants.{NotMinimal};
 ghost use Rattle.asn1_x691.specs.Fields.{on_octet, minimal_octets, semi_constrained, signed_octets, unconstrained};
-ghost use Rattle.asn1_x691_fields.specs.Numbers.{AreOctets};
+ghost use Rattle.asn1_x691_fields.specs.Numbers.{AreOctets, distance};
 ghost use Rattle.asn1_x691_fields.specs.Outcomes.{IsWithin, IsOnward, IsRead, IsPlaced};
 
 use crate::bits::number_at;
@@ -101,6 +101,7 @@ pub fn next_unconstrained(
     requires placed { IsPlaced is_aligned state.old }
     ensures onward { IsOnward (bits octets.now) state.old state.new }
     ensures octets { IfSome result (λ s. AreOctets s state.new) }
+    ensures fewest { IfSome result (λ s. 8 < s.count → 2 ^ (s.count - 9) ≤ distance (signed_number (bits_of (bits octets.now) s))) }
     ensures read { IsRead (unconstrained is_aligned node) (λ s. signed_number (bits_of (bits octets.now) s)) (bits octets.now)
         state.old state.new result }
 {
@@ -123,6 +124,7 @@ fn next_signed_after_count(
     requires placed { IsPlaced is_aligned state.old }
     ensures onward { IsOnward (bits octets.now) state.old state.new }
     ensures octets { IfSome result (λ s. AreOctets s state.new) }
+    ensures fewest { IfSome result (λ s. 8 < s.count → 2 ^ (s.count - 9) ≤ distance (signed_number (bits_of (bits octets.now) s))) }
     ensures read { IsRead (in_case (0 < count) (on_octet is_aligned node (signed_octets count node))
         (count ≡ 0) (anywhere (invalid NotMinimal node))) (λ s. signed_number (bits_of (bits octets.now) s)) (bits octets.now) state.old state.new result }
 {
@@ -144,6 +146,7 @@ fn next_signed_octets(octets: &[u8], count: usize, node: usize, state: &mut Stat
     requires within { IsWithin (bits octets.now) state.old }
     ensures onward { IsOnward (bits octets.now) state.old state.new }
     ensures octets { IfSome result (λ s. AreOctets s state.new) }
+    ensures fewest { IfSome result (λ s. 8 < s.count → 2 ^ (s.count - 9) ≤ distance (signed_number (bits_of (bits octets.now) s))) }
     ensures read { IsRead (anywhere (signed_octets count node)) (λ s. signed_number (bits_of (bits octets.now) s)) (bits octets.now)
         state.old state.new result }
 {
