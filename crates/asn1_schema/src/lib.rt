@@ -13,4 +13,4 @@ mod tables;
 pub use laws::laws_of_an_example;
 pub use misfit::MisfitKind;
 pub use part::{Natural, Part, Span};
-pub use tables::{Bounds, Length, Member, Node, Presence, Range, Rows, Tables};
+pub use tables::{Bounds, Length, LowerBound, Member, Node, Presence, Range, Rows, Tables};

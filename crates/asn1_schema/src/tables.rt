@@ -38,6 +38,13 @@ pub struct Bounds {
     ghost fits: { (least +ℤ pos range) <ℤ pos (2 ^ 127) },
 }
 
+/// The lower bound of an INTEGER that has no upper bound.
+#[derive(Clone, Copy, Debug, PartialEq, Eq)]
+pub struct LowerBound {
+    /// The least value.
+    pub least: i128,
+}
+
 /// A type.
 #[derive(Clone, Copy, Debug)]
 pub enum Node {
@@ -55,7 +62,7 @@ pub enum Node {
     /// INTEGER (least..MAX).
     IntegerAtLeast {
         /// The least value.
-        least: i128,
+        bound: LowerBound,
         /// Whether it has an extension marker.
         is_extensible: bool,
     },

@@ -237,7 +237,7 @@ module _ (aligned : Bool) (E : ℕ → ℕ → TypeEncoding FaultKind) (members 
   type_of (Some type.Boolean) = leaf (anywhere (bit node)) Truth node
   type_of (Some (type.IntegerBetween bounds is_extensible)) =
       integer_between_by aligned node is_extensible bounds.least bounds.range
-  type_of (Some (type.IntegerAtLeast least is_extensible)) = integer_at_least_by aligned node is_extensible least
+  type_of (Some (type.IntegerAtLeast bound is_extensible)) = integer_at_least_by aligned node is_extensible bound.least
   type_of (Some type.Integer) = integer aligned node
   type_of (Some (type.Enumerated last is_extensible known)) = enumerated_by aligned node is_extensible last known
   type_of (Some (type.BitString size is_extensible has_names)) = bit_string aligned node size is_extensible has_names

@@ -33,8 +33,8 @@ pub all_optional : (members : List Member) (count from index known done : ℕ) �
     → done ≡ optional_count members count from
 all_optional members count from index known done few end past e =
     elim (eq-or-lt_of_le few) [
-      inl same ↦ omega (arith, e, no_optional members (count - index) (from + index) (omega (arith, same, end)))
-    | inr lt ↦ omega (arith, e, none_optional members (count - index) (from + index) (omega (arith, past lt, end)))
+      | inl same ↦ omega (arith, e, no_optional members (count - index) (from + index) (omega (arith, same, end)))
+      | inr lt ↦ omega (arith, e, none_optional members (count - index) (from + index) (omega (arith, past lt, end)))
     ]
 
 pub told_length : (list : List Bool) (p : PresenceBits) → p.at + p.left ≤ length list → length (told_by list p) ≡ p.left

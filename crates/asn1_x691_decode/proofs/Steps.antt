@@ -371,8 +371,8 @@ module _ (c : Context) where
   kept_outcome A old mid new was is None r g t s k =
       subst (λ (b : Bool). Outcome c A old new was is b) (sym k.0)
       (elim t [
-        inl w ↦ inl (subst (λ (f : Fault FaultKind). (A (position old)).fault (rest bs old) f) (sym (same_fault mid new s k.1 k.2)) w)
-      | inr f ↦ inl_fragments c mid new s k.2 f
+        | inl w ↦ inl (subst (λ (f : Fault FaultKind). (A (position old)).fault (rest bs old) f) (sym (same_fault mid new s k.1 k.2)) w)
+        | inr f ↦ inl_fragments c mid new s k.2 f
       ])
   kept_outcome A old mid new was is (Some p) r g t s k =
       subst (λ (b : Bool). Outcome c A old new was is b) (sym k.0) (record {

@@ -49,8 +49,6 @@ IsLater (Some type.ObjectIdentifier) = ⊤
 IsLater (Some type.RelativeIdentifier) = ⊤
 IsLater (Some type.Utf8String) = ⊤
 IsLater (Some (type.SetOf length is_extensible item)) = ⊤
-IsLater (Some (type.IntegerBetween bounds is_extensible)) = is_extensible ≡ true
-IsLater (Some (type.IntegerAtLeast least is_extensible)) = is_extensible ≡ true
 IsLater o = ⊥
 
 -- whether each permitted number of items is a number of the machine

@@ -12,12 +12,14 @@ ghost use Rattle.asn1_x691_decode.specs.Decoding.{Outcome, types, value_in, comp
 
 use crate::complete::at_end;
 use crate::context::Context;
-use crate::presence::{PresenceBits, count_optional, has_one, known_of, member_from, member_in, next_presence};
+use crate::open_type::decode_enclosed;
+use crate::presence::{
+    PresenceBits, count_optional, has_one, known_of, member_from, member_in, next_presence,
+};
 use crate::room::push;
 use asn1_schema::{Member, Node, Part, Presence, Rows};
 use asn1_x691::FaultKind;
 use asn1_x691_fields::{State, fail, next_bit, next_bits, next_octets, next_small_length};
-use crate::open_type::decode_enclosed;
 
 /// Decodes the additions of a SEQUENCE: their number, the bits that tell which of them are present,
 /// and these (X.691 19.7 to 19.9).
@@ -76,7 +78,16 @@ pub(crate) fn decode_additions(
     let mut presence = presence;
     let count = presence.left;
     for index in 0..count {
-        if !decode_optional_addition(context, depth, node, known, index, &mut presence, state, parts) {
+        if !decode_optional_addition(
+            context,
+            depth,
+            node,
+            known,
+            index,
+            &mut presence,
+            state,
+            parts,
+        ) {
             return false;
         }
     }
@@ -175,7 +186,12 @@ pub(crate) fn decode_known(
 }
 
 /// Decodes the octets of a value that the schema does not know.
-pub(crate) fn keep_octets(context: &Context<'_>, node: usize, state: &mut State, parts: &mut [Part]) -> bool
+pub(crate) fn keep_octets(
+    context: &Context<'_>,
+    node: usize,
+    state: &mut State,
+    parts: &mut [Part],
+) -> bool
     requires size { 8 * length context.now.octets.now < 2 ^ 64 }
     requires within { IsWithin (bits context.now.octets.now) state.old }
     requires placed { IsPlaced context.now.is_aligned state.old }
@@ -191,4 +207,3 @@ pub(crate) fn keep_octets(context: &Context<'_>, node: usize, state: &mut State,
         }
     }
 }
-

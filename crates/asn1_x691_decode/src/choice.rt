@@ -12,15 +12,17 @@ ghost use Rattle.asn1_x691_fields.specs.Numbers.{IsNatural};
 ghost use Rattle.asn1_x691_decode.specs.Room.{IsGrown};
 ghost use Rattle.asn1_x691_decode.specs.Decoding.{Outcome, types, value_in, component_in, components_in, root_in, sequence_in, bits_after, bits_after_one, by_presence, told_by, choice_in, alternatives_in, choice_extension_in, IsIndex, IsListed, OutcomeOfContents, complete_in, enclosed_in, extension_in, additions_in, addition_in};
 
+use crate::additions::{decode_known, keep_octets};
 use crate::complete::at_end;
 use crate::context::Context;
-use crate::presence::{PresenceBits, count_optional, has_one, known_of, member_from, member_in, next_presence};
+use crate::decoder::decode_node;
+use crate::presence::{
+    PresenceBits, count_optional, has_one, known_of, member_from, member_in, next_presence,
+};
 use crate::room::push;
 use asn1_schema::{Natural, Part, Rows};
 use asn1_x691::FaultKind;
 use asn1_x691_fields::{State, fail, next_bit, next_constrained, next_small_number};
-use crate::decoder::decode_node;
-use crate::additions::{decode_known, keep_octets};
 
 /// Decodes a CHOICE (X.691 23).
 #[cycle(decoding)]
@@ -70,7 +72,13 @@ pub(crate) fn decode_alternative(
         state.old state.new parts.old parts.new result }
 {
     let last = rows.count.saturating_sub(1);
-    let index = match next_constrained(context.octets, context.is_aligned, last as u128, node, state) {
+    let index = match next_constrained(
+        context.octets,
+        context.is_aligned,
+        last as u128,
+        node,
+        state,
+    ) {
         None => return false,
         Some(index) => index as usize,
     };

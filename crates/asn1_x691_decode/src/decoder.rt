@@ -12,27 +12,33 @@ ghost use Rattle.asn1_x691_fields.specs.Outcomes.{IsWithin, IsMoved, IsPlaced};
 ghost use Rattle.asn1_x691_decode.specs.Room.{IsGrown};
 ghost use Rattle.asn1_x691_decode.specs.Decoding.{Outcome, types, value_in, component_in, components_in, root_in, sequence_in, bits_after, bits_after_one, by_presence, told_by, IsListed, OutcomeOfContents, complete_in, enclosed_in, extension_in, additions_in, addition_in};
 
+use crate::choice::decode_choice;
 use crate::complete::at_end;
 use crate::context::Context;
-use crate::presence::{PresenceBits, count_optional, has_one, known_of, member_from, member_in, next_presence};
+use crate::list::{decode_list, is_counted};
+use crate::open_type::decode_enclosed;
+use crate::presence::{
+    PresenceBits, count_optional, has_one, known_of, member_from, member_in, next_presence,
+};
 use crate::room::{keep, push, unsupported};
+use crate::sequence::decode_sequence;
 use asn1_schema::{Member, Node, Part, Presence, Rows};
 use asn1_x691::FaultKind;
 use asn1_x691_fields::{
-    State, fail, next_bit, next_bit_string, next_enumerated, next_integer, next_integer_at_least, next_integer_between,
-    next_octet_string,
+    State, fail, next_bit, next_bit_string, next_enumerated, next_integer,
+    next_integer_at_least_by, next_integer_between_by, next_octet_string,
 };
-use crate::open_type::decode_enclosed;
-use crate::choice::decode_choice;
-use crate::list::{decode_list, is_counted};
-use crate::sequence::decode_sequence;
 
 /// Returns the type at a node.
 #[inline(always)]
 fn node_at(nodes: &[Node], node: usize) -> Option<Node>
     ensures { result ≡ slice_get nodes.now node }
 {
-    if node < nodes.len() { Some(nodes[node]) } else { None }
+    if node < nodes.len() {
+        Some(nodes[node])
+    } else {
+        None
+    }
 }
 
 /// Returns whether the index of each value of an ENUMERATED is a `usize`.
@@ -65,7 +71,13 @@ fn decode_boolean(context: &Context<'_>, node: usize, state: &mut State, parts: 
 
 /// Decodes a value of the type at a node.
 #[cycle(decoding)]
-pub(crate) fn decode_node(context: &Context<'_>, depth: usize, node: usize, state: &mut State, parts: &mut [Part]) -> bool
+pub(crate) fn decode_node(
+    context: &Context<'_>,
+    depth: usize,
+    node: usize,
+    state: &mut State,
+    parts: &mut [Part],
+) -> bool
     requires size { 8 * length context.now.octets.now < 2 ^ 64 }
     requires within { IsWithin (bits context.now.octets.now) state.old }
     requires placed { IsPlaced context.now.is_aligned state.old }
@@ -87,63 +99,206 @@ pub(crate) fn decode_node(context: &Context<'_>, depth: usize, node: usize, stat
             true
         }
         Some(Node::Boolean) => decode_boolean(context, node, state, parts),
-        Some(Node::Sequence { root, is_extensible, additions }) => {
-            decode_sequence(context, depth - 1, node, root, is_extensible, additions, state, parts)
+        Some(
+            Node::Sequence {
+                root,
+                is_extensible,
+                additions,
+            },
+        ) => {
+            decode_sequence(
+                context,
+                depth - 1,
+                node,
+                root,
+                is_extensible,
+                additions,
+                state,
+                parts,
+            )
         }
         Some(Node::Open { inner }) => {
-            decode_enclosed(context, depth - 1, node, 0, Member { node: inner, presence: Presence::Mandatory }, state, parts)
+            decode_enclosed(
+                context,
+                depth - 1,
+                node,
+                0,
+                Member {
+                    node: inner,
+                    presence: Presence::Mandatory,
+                },
+                state,
+                parts,
+            )
         }
-        Some(Node::Choice { alternatives, is_extensible, additions }) => {
+        Some(
+            Node::Choice {
+                alternatives,
+                is_extensible,
+                additions,
+            },
+        ) => {
             if alternatives.count.checked_add(additions.count).is_none() {
                 fail(state, node, FaultKind::Unsupported);
                 return false;
             }
-            decode_choice(context, depth - 1, node, alternatives, is_extensible, additions, state, parts)
+            decode_choice(
+                context,
+                depth - 1,
+                node,
+                alternatives,
+                is_extensible,
+                additions,
+                state,
+                parts,
+            )
         }
-        Some(Node::SequenceOf { length, is_extensible, item }) => {
+        Some(
+            Node::SequenceOf {
+                length,
+                is_extensible,
+                item,
+            },
+        ) => {
             if !is_counted(length) {
                 fail(state, node, FaultKind::Unsupported);
                 return false;
             }
-            decode_list(context, depth - 1, node, length, is_extensible, item, state, parts)
+            decode_list(
+                context,
+                depth - 1,
+                node,
+                length,
+                is_extensible,
+                item,
+                state,
+                parts,
+            )
         }
-        Some(Node::IntegerBetween { bounds, is_extensible }) => {
-            if is_extensible {
-                return unsupported(state, node);
-            }
-            keep(next_integer_between(context.octets, context.is_aligned, bounds, node, state), parts, state)
+        Some(
+            Node::IntegerBetween {
+                bounds,
+                is_extensible,
+            },
+        ) => {
+            let part = next_integer_between_by(
+                context.octets,
+                context.is_aligned,
+                bounds,
+                is_extensible,
+                node,
+                state,
+            );
+            keep(part, parts, state)
         }
-        Some(Node::IntegerAtLeast { least, is_extensible }) => {
-            if is_extensible {
-                return unsupported(state, node);
-            }
-            keep(next_integer_at_least(context.octets, context.is_aligned, least, node, state), parts, state)
+        Some(
+            Node::IntegerAtLeast {
+                bound,
+                is_extensible,
+            },
+        ) => {
+            let part = next_integer_at_least_by(
+                context.octets,
+                context.is_aligned,
+                bound,
+                is_extensible,
+                node,
+                state,
+            );
+            keep(part, parts, state)
         }
-        Some(Node::Integer) => keep(next_integer(context.octets, context.is_aligned, node, state), parts, state),
-        Some(Node::Enumerated { last, is_extensible, additions }) => {
+        Some(Node::Integer) => keep(
+            next_integer(context.octets, context.is_aligned, node, state),
+            parts,
+            state,
+        ),
+        Some(
+            Node::Enumerated {
+                last,
+                is_extensible,
+                additions,
+            },
+        ) => {
             if !is_enumerable(last, additions) {
                 return unsupported(state, node);
             }
-            let part = next_enumerated(context.octets, context.is_aligned, last, is_extensible, additions, node, state);
+            let part = next_enumerated(
+                context.octets,
+                context.is_aligned,
+                last,
+                is_extensible,
+                additions,
+                node,
+                state,
+            );
             keep(part, parts, state)
         }
-        Some(Node::BitString { length, is_extensible, has_names }) => {
-            let part = next_bit_string(context.octets, context.is_aligned, length, is_extensible, has_names, node, state);
+        Some(
+            Node::BitString {
+                length,
+                is_extensible,
+                has_names,
+            },
+        ) => {
+            let part = next_bit_string(
+                context.octets,
+                context.is_aligned,
+                length,
+                is_extensible,
+                has_names,
+                node,
+                state,
+            );
             keep(part, parts, state)
         }
-        Some(Node::OctetString { length, is_extensible }) => {
-            keep(next_octet_string(context.octets, context.is_aligned, length, is_extensible, node, state), parts, state)
+        Some(
+            Node::OctetString {
+                length,
+                is_extensible,
+            },
+        ) => {
+            keep(
+                next_octet_string(
+                    context.octets,
+                    context.is_aligned,
+                    length,
+                    is_extensible,
+                    node,
+                    state,
+                ),
+                parts,
+                state,
+            )
         }
-        Some(Node::Text { length: _, is_extensible: _, alphabet: _, whole: _ }) => unsupported(state, node),
+        Some(
+            Node::Text {
+                length: _,
+                is_extensible: _,
+                alphabet: _,
+                whole: _,
+            },
+        ) => unsupported(state, node),
         Some(Node::ObjectIdentifier) => unsupported(state, node),
         Some(Node::RelativeIdentifier) => unsupported(state, node),
         Some(Node::Utf8String) => unsupported(state, node),
-        Some(Node::SetOf { length: _, is_extensible: _, item: _ }) => unsupported(state, node),
+        Some(
+            Node::SetOf {
+                length: _,
+                is_extensible: _,
+                item: _,
+            },
+        ) => unsupported(state, node),
     }
 }
 
 /// Decodes.
-pub fn decode(context: &Context<'_>, depth: usize, node: usize, state: &mut State, parts: &mut [Part]) -> bool
+pub fn decode(
+    context: &Context<'_>,
+    depth: usize,
+    node: usize,
+    state: &mut State,
+    parts: &mut [Part],
+) -> bool
     requires size { 8 * length context.now.octets.now < 2 ^ 64 }
     requires within { IsWithin (bits context.now.octets.now) state.old }
     requires placed { IsPlaced context.now.is_aligned state.old }

@@ -9,7 +9,9 @@ use crate::context::Context;
 use crate::decoder::decode_node;
 use crate::room::push;
 use asn1_schema::{Length, Part};
-use asn1_x691_fields::{State, next_added_length, next_bit, next_constrained, next_length_at_least};
+use asn1_x691_fields::{
+    State, next_added_length, next_bit, next_constrained, next_length_at_least,
+};
 
 /// Decodes a SEQUENCE OF.
 #[cycle(decoding)]
@@ -61,7 +63,13 @@ fn decode_root_list(
         state.old state.new parts.old parts.new result }
 {
     match size {
-        Length::AtLeast { least } => match next_length_at_least(context.octets, context.is_aligned, least, node, state) {
+        Length::AtLeast { least } => match next_length_at_least(
+            context.octets,
+            context.is_aligned,
+            least,
+            node,
+            state,
+        ) {
             None => false,
             Some(count) => {
                 push(parts, state, Part::Count(count));
@@ -69,7 +77,13 @@ fn decode_root_list(
             }
         },
         Length::Between { least, range } => {
-            match next_constrained(context.octets, context.is_aligned, range as u128, node, state) {
+            match next_constrained(
+                context.octets,
+                context.is_aligned,
+                range as u128,
+                node,
+                state,
+            ) {
                 None => false,
                 Some(more) => {
                     let count = least + more as usize;

@@ -12,12 +12,14 @@ ghost use Rattle.asn1_x691_decode.specs.Decoding.{Outcome, types, value_in, comp
 
 use crate::complete::at_end;
 use crate::context::Context;
-use crate::presence::{PresenceBits, count_optional, has_one, known_of, member_from, member_in, next_presence};
+use crate::decoder::decode_node;
+use crate::presence::{
+    PresenceBits, count_optional, has_one, known_of, member_from, member_in, next_presence,
+};
 use crate::room::unsupported;
 use asn1_schema::{Member, Node, Part, Presence, Rows};
 use asn1_x691::FaultKind;
 use asn1_x691_fields::{State, fail, next_bit, next_bits, next_octets, next_small_length};
-use crate::decoder::decode_node;
 
 /// Decodes an open type (X.691 11.2): octets that are a complete encoding, after their number.
 #[cycle(decoding)]
@@ -107,4 +109,3 @@ pub(crate) fn decode_value(
         Presence::Optional => decode_node(context, depth, member.node, state, parts),
     }
 }
-

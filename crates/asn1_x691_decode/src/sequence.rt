@@ -10,15 +10,17 @@ ghost use Rattle.asn1_x691_fields.specs.Outcomes.{IsWithin, IsMoved, IsPlaced};
 ghost use Rattle.asn1_x691_decode.specs.Room.{IsGrown};
 ghost use Rattle.asn1_x691_decode.specs.Decoding.{Outcome, types, value_in, component_in, components_in, root_in, sequence_in, bits_after, bits_after_one, by_presence, told_by, IsListed, OutcomeOfContents, complete_in, enclosed_in, extension_in, additions_in, addition_in};
 
+use crate::additions::decode_extension;
 use crate::complete::at_end;
 use crate::context::Context;
-use crate::presence::{PresenceBits, count_optional, has_one, known_of, member_from, member_in, next_presence};
+use crate::open_type::decode_value;
+use crate::presence::{
+    PresenceBits, count_optional, has_one, known_of, member_from, member_in, next_presence,
+};
 use crate::room::push;
 use asn1_schema::{Member, Node, Part, Presence, Rows};
 use asn1_x691::FaultKind;
 use asn1_x691_fields::{State, fail, next_bit, next_bits, next_octets, next_small_length};
-use crate::additions::decode_extension;
-use crate::open_type::decode_value;
 
 /// Decodes a SEQUENCE (X.691 19).
 #[cycle(decoding)]
@@ -40,14 +42,28 @@ pub(crate) fn decode_sequence(
         state.old state.new parts.old parts.new result }
 {
     if !is_extensible {
-        push(parts, state, Part::Sequence { count: root.count, is_extended: false });
+        push(
+            parts,
+            state,
+            Part::Sequence {
+                count: root.count,
+                is_extended: false,
+            },
+        );
         return decode_root(context, depth, node, root, state, parts);
     }
     let is_extended = match next_bit(context.octets, node, state) {
         None => return false,
         Some(bit) => bit,
     };
-    push(parts, state, Part::Sequence { count: root.count, is_extended });
+    push(
+        parts,
+        state,
+        Part::Sequence {
+            count: root.count,
+            is_extended,
+        },
+    );
     if !is_extended {
         return decode_root(context, depth, node, root, state, parts);
     }
@@ -78,7 +94,15 @@ pub(crate) fn decode_root(
     let left = count_optional(context.tables.members, root);
     match next_bits(context.octets, left, node, state) {
         None => false,
-        Some(at) => decode_components(context, depth, node, root, PresenceBits { at, left }, state, parts),
+        Some(at) => decode_components(
+            context,
+            depth,
+            node,
+            root,
+            PresenceBits { at, left },
+            state,
+            parts,
+        ),
     }
 }
 
@@ -106,7 +130,16 @@ pub(crate) fn decode_components(
     for index in 0..known {
         let at = root.from + index;
         let member = member_in(context.tables.members, at);
-        if !decode_component(context, depth, node, at, member, &mut presence, state, parts) {
+        if !decode_component(
+            context,
+            depth,
+            node,
+            at,
+            member,
+            &mut presence,
+            state,
+            parts,
+        ) {
             return false;
         }
     }
@@ -160,4 +193,3 @@ pub(crate) fn decode_component(
         Some(true) => decode_value(context, depth, node, index, member, state, parts),
     }
 }
-

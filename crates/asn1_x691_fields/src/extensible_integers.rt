@@ -16,7 +16,7 @@ use crate::integers::{next_integer_at_least, next_integer_between};
 use crate::signed::{is_below, is_between};
 use crate::state::{State, fail};
 use crate::unbounded::next_unconstrained;
-use asn1_schema::{Bounds, Part};
+use asn1_schema::{Bounds, LowerBound, Part};
 use asn1_x691::FaultKind;
 
 /// Reads an INTEGER between two bounds, which may have an extension marker (X.691 13.1, 13.2.2).
@@ -97,7 +97,7 @@ fn next_outside(
 pub fn next_integer_at_least_by(
     octets: &[u8],
     is_aligned: bool,
-    least: i128,
+    bound: LowerBound,
     is_extensible: bool,
     node: usize,
     state: &mut State,
@@ -106,21 +106,21 @@ pub fn next_integer_at_least_by(
     requires within { IsWithin (bits octets.now) state.old }
     requires placed { IsPlaced is_aligned state.old }
     ensures onward { IsOnward (bits octets.now) state.old state.new }
-    ensures read { IsTaken (λ at. (integer_at_least_by is_aligned node is_extensible least at).encoding)
+    ensures read { IsTaken (λ at. (integer_at_least_by is_aligned node is_extensible bound.least at).encoding)
         (λ p. piece_of (bits octets.now) p ∷ []) (bits octets.now) state.old state.new result }
 {
     if !is_extensible {
-        return next_integer_at_least(octets, is_aligned, least, node, state);
+        return next_integer_at_least(octets, is_aligned, bound, node, state);
     }
     let is_added = next_bit(octets, node, state)?;
-    next_at_least_by_bit(octets, is_aligned, least, is_added, node, state)
+    next_at_least_by_bit(octets, is_aligned, bound, is_added, node, state)
 }
 
 /// Reads a value from a least one on, or below it, after the extension bit.
 fn next_at_least_by_bit(
     octets: &[u8],
     is_aligned: bool,
-    least: i128,
+    bound: LowerBound,
     is_added: bool,
     node: usize,
     state: &mut State,
@@ -129,14 +129,14 @@ fn next_at_least_by_bit(
     requires within { IsWithin (bits octets.now) state.old }
     requires placed { IsPlaced is_aligned state.old }
     ensures onward { IsOnward (bits octets.now) state.old state.new }
-    ensures read { IsTaken (λ at. by_bit (integer_at_least is_aligned node least at)
-        (leaf (permitted (λ n. n <ℤ least) (λ n. least ≤ℤ n) InRoot node (unconstrained is_aligned node)) Integer node at) is_added)
+    ensures read { IsTaken (λ at. by_bit (integer_at_least is_aligned node bound.least at)
+        (leaf (permitted (λ n. n <ℤ bound.least) (λ n. bound.least ≤ℤ n) InRoot node (unconstrained is_aligned node)) Integer node at) is_added)
         (λ p. piece_of (bits octets.now) p ∷ []) (bits octets.now) state.old state.new result }
 {
     if is_added {
-        return next_below(octets, is_aligned, least, node, state);
+        return next_below(octets, is_aligned, bound.least, node, state);
     }
-    next_integer_at_least(octets, is_aligned, least, node, state)
+    next_integer_at_least(octets, is_aligned, bound, node, state)
 }
 
 /// Reads a value below the least of the root.

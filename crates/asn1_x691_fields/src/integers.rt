@@ -9,7 +9,7 @@ ghost use Rattle.asn1_x691_fields.specs.Outcomes.{IsWithin, IsOnward, IsTaken, I
 use crate::numbers::{above, next_constrained};
 use crate::state::State;
 use crate::unbounded::{next_semi_constrained, next_unconstrained};
-use asn1_schema::{Bounds, Part};
+use asn1_schema::{Bounds, LowerBound, Part};
 
 /// Reads an INTEGER between two bounds, by its distance from the least value (X.691 13.2.2).
 pub fn next_integer_between(
@@ -34,7 +34,7 @@ pub fn next_integer_between(
 pub fn next_integer_at_least(
     octets: &[u8],
     is_aligned: bool,
-    least: i128,
+    bound: LowerBound,
     node: usize,
     state: &mut State,
 ) -> Option<Part>
@@ -42,12 +42,12 @@ pub fn next_integer_at_least(
     requires within { IsWithin (bits octets.now) state.old }
     requires placed { IsPlaced is_aligned state.old }
     ensures onward { IsOnward (bits octets.now) state.old state.new }
-    ensures read { IsTaken (λ at. (integer_at_least is_aligned node least at).encoding)
+    ensures read { IsTaken (λ at. (integer_at_least is_aligned node bound.least at).encoding)
         (λ p. piece_of (bits octets.now) p ∷ []) (bits octets.now) state.old state.new result }
 {
     let span = next_semi_constrained(octets, is_aligned, node, state)?;
     Some(Part::Above {
-        least,
+        least: bound.least,
         at: span.at,
         count: span.count as u32,
     })

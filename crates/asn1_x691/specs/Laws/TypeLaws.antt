@@ -227,7 +227,8 @@ module _ (aligned : Bool) (E : ℕ → ℕ → TypeEncoding FaultKind) (e : (n :
       leaf_type (anywhere (bit node)) Truth node (λ at. bit_sound node) (λ at. bit_one node) truth_alike (λ x p. cc)
   type_of_type (Some (type.IntegerBetween bounds is_extensible)) =
       integer_between_by_type aligned node is_extensible bounds.least bounds.range
-  type_of_type (Some (type.IntegerAtLeast least is_extensible)) = integer_at_least_by_type aligned node is_extensible least
+  type_of_type (Some (type.IntegerAtLeast bound is_extensible)) =
+      integer_at_least_by_type aligned node is_extensible bound.least
   type_of_type (Some type.Integer) = integer_type aligned node
   type_of_type (Some (type.Enumerated last is_extensible known)) = enumerated_by_type aligned node is_extensible last known
   type_of_type (Some (type.BitString size is_extensible has_names)) = bit_string_type aligned node size is_extensible has_names

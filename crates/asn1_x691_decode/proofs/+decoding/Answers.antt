@@ -80,9 +80,13 @@ sequence::decode_component-returns-in-Some-false t c =
     let now = told_by list c.next_presence.new.presence in
     let told : was ≡ false ∷ now = c.in-Some-false.ensures.told ∙ ap (λ (b : Bool). b ∷ now) c.in-Some-false.field-0-test in
     record {
-      moved = record { same_first = c.push.ensures.first; same_end = c.push.ensures.end; on = omega (arith, c.push.ensures.at);
-          ends = omega (arith, c.push.ensures.at, c.push.ensures.end, c.requires.within.ends);
-          inside = omega (arith, c.push.ensures.end, c.requires.within.inside) };
+      moved = record {
+        same_first = c.push.ensures.first;
+        same_end = c.push.ensures.end;
+        on = omega (arith, c.push.ensures.at);
+        ends = omega (arith, c.push.ensures.at, c.push.ensures.end, c.requires.within.ends);
+        inside = omega (arith, c.push.ensures.end, c.requires.within.inside);
+      };
       bits = c.next_presence.ensures.within;
       did = absent_of cx c.args.depth c.args.node c.args.member.presence c.args.member.node was now
           (λ (A : Encoding FaultKind Parts). IsDecoded A.encodes list c.args.state.now c.push.new.state c.args.parts.now c.push.new.parts)
@@ -109,10 +113,10 @@ sequence::decode_components-returns-then-not-decode_component-clause-did t c =
     c.decode_component.new.parts l.invariant.3
     (elim (by_false cx A l.state c.decode_component.new.state l.parts c.decode_component.new.parts c.decode_component.result
     c.if-not-decode_component.true c.decode_component.ensures.did) [
-      inl w ↦ inl (component_fault cx c.args.depth c.args.node c.args.root.count c.args.root.from l.index m (told_by list l.presence)
-        (position l.state) (rest list l.state) (fault_of c.decode_component.new.state)
-        (omega (arith, c.loop-index-test.true, c.known_of-known.ensures.few)) c.member_in-member.ensures w)
-    | inr u ↦ inr u
+      | inl w ↦ inl (component_fault cx c.args.depth c.args.node c.args.root.count c.args.root.from l.index m (told_by list l.presence)
+          (position l.state) (rest list l.state) (fault_of c.decode_component.new.state)
+          (omega (arith, c.loop-index-test.true, c.known_of-known.ensures.few)) c.member_in-member.ensures w)
+      | inr u ↦ inr u
     ])
 
 pub sequence::decode_components-loop-index-preserved : goal.sequence::decode_components-loop-index-preserved
@@ -130,16 +134,16 @@ sequence::decode_components-loop-index-preserved t c =
       moved_over list c.args.state.now l.state now.state l.invariant.1 c.decode_component.ensures.moved,
       c.decode_component.ensures.bits,
       over cx (B c.args.root.count c.args.root.from (told_by list c.args.presence))
-      (B (c.args.root.count - l.index) (c.args.root.from + l.index) (told_by list l.presence))
-      (B (c.args.root.count - (l.index + 1)) (c.args.root.from + (l.index + 1)) (told_by list now.presence))
-      c.args.state.now l.state now.state c.args.parts.now l.parts now.parts l.invariant.3
-      (component_step cx c.args.depth c.args.node c.args.root.count c.args.root.from l.index m (told_by list l.presence)
-      (told_by list now.presence) l.state now.state l.parts now.parts
-      (omega (arith, c.loop-index-test.true, c.known_of-known.ensures.few)) c.member_in-member.ensures l.invariant.0
-      c.decode_component.ensures.moved
-      (by_true cx A l.state now.state l.parts now.parts c.decode_component.result c.if-not-decode_component.false
-      c.decode_component.ensures.did)
-      (c.decode_component.ensures.told c.if-not-decode_component.false)),
+          (B (c.args.root.count - l.index) (c.args.root.from + l.index) (told_by list l.presence))
+          (B (c.args.root.count - (l.index + 1)) (c.args.root.from + (l.index + 1)) (told_by list now.presence))
+          c.args.state.now l.state now.state c.args.parts.now l.parts now.parts l.invariant.3
+          (component_step cx c.args.depth c.args.node c.args.root.count c.args.root.from l.index m (told_by list l.presence)
+          (told_by list now.presence) l.state now.state l.parts now.parts
+          (omega (arith, c.loop-index-test.true, c.known_of-known.ensures.few)) c.member_in-member.ensures l.invariant.0
+          c.decode_component.ensures.moved
+          (by_true cx A l.state now.state l.parts now.parts c.decode_component.result c.if-not-decode_component.false
+          c.decode_component.ensures.did)
+          (c.decode_component.ensures.told c.if-not-decode_component.false)),
     )
 
 pub sequence::decode_components-returns-then-known-root-clause-did : goal.sequence::decode_components-returns-then-known-root-clause-did
@@ -241,10 +245,10 @@ open_type::decode_enclosed-returns-then-not-is_complete-clause-did t c =
     record { at = out.at; first = after.first; end = after.end; count = out.count; node = out.node; kind = out.kind } in
     elim (contents_false cx (complete c.args.node V) inside out c.args.parts.now c.decode_complete-is_complete.new.parts
     c.decode_complete-is_complete.result c.if-not-is_complete.true c.decode_complete-is_complete.ensures.did) [
-      inl w ↦ inl (enclosed_fault cx V c.args.node c.args.state.now after inside out span c.requires.within c.next_octets.ensures.onward
-        c.in-Some.ensures.read c.in-Some.ensures.index refl refl new refl refl refl refl
-        c.decode_complete-is_complete.ensures.moved.ends c.decode_complete-is_complete.ensures.moved.same_end w)
-    | inr u ↦ inr (same_unsupported cx out new refl refl refl u)
+      | inl w ↦ inl (enclosed_fault cx V c.args.node c.args.state.now after inside out span c.requires.within c.next_octets.ensures.onward
+          c.in-Some.ensures.read c.in-Some.ensures.index refl refl new refl refl refl refl
+          c.decode_complete-is_complete.ensures.moved.ends c.decode_complete-is_complete.ensures.moved.same_end w)
+      | inr u ↦ inr (same_unsupported cx out new refl refl refl u)
     ]
 
 pub open_type::decode_enclosed-returns-clause-did : goal.open_type::decode_enclosed-returns-clause-did
@@ -325,8 +329,8 @@ sequence::decode_sequence-returns-then-not-decode_root-clause-did t c =
     (sym c.if-not-is_extensible.false)
     (fails_on cx (S true) RX a.state.now now.state root.new.state a.parts.now now.parts root.new.parts begun
     (elim (by_false cx R1 now.state root.new.state now.parts root.new.parts root.result c.if-not-decode_root.true root.ensures.did) [
-      inl w ↦ inl (inl w)
-    | inr u ↦ inr u
+      | inl w ↦ inl (inl w)
+      | inr u ↦ inr u
     ]))
 
 pub sequence::decode_sequence-returns-clause-did : goal.sequence::decode_sequence-returns-clause-did
@@ -387,7 +391,7 @@ additions::decode_extension-returns-then-not-has_one-clause-did t c =
     let same : IsSamePlace mid now.state =
     record { at = c.push.ensures.at; first = c.push.ensures.first; end = c.push.ensures.end } in
     let within = same_within list mid now.state same
-        (within_after list a.state.now mid c.requires.within (moved_on list a.state.now mid c.next_small_length.ensures.onward)) in
+    (within_after list a.state.now mid c.requires.within (moved_on list a.state.now mid c.next_small_length.ensures.onward)) in
     let told = bits_at list c.in-Some-next_bits.at n in
     inl ((count_step cx a.depth a.node a.known a.state.now mid now.state a.parts.now now.parts n c.requires.within
     c.next_small_length.ensures.onward c.in-Some.ensures.read same (c.push.ensures.grown list)).fault (fault_of new)
@@ -409,7 +413,7 @@ additions::decode_extension-returns-clause-did t c =
     let same : IsSamePlace mid now.state =
     record { at = c.push.ensures.at; first = c.push.ensures.first; end = c.push.ensures.end } in
     let within = same_within list mid now.state same
-        (within_after list a.state.now mid c.requires.within (moved_on list a.state.now mid c.next_small_length.ensures.onward)) in
+    (within_after list a.state.now mid c.requires.within (moved_on list a.state.now mid c.next_small_length.ensures.onward)) in
     let told = bits_at list c.in-Some-next_bits.at n in
     let X = X0 cx a.depth a.node a.known in
     let K = Q cx a.depth a.node a.known n in
@@ -453,9 +457,9 @@ additions::decode_additions-returns-then-not-decode_optional_addition-clause-did
     one.new.parts l.invariant.4
     (elim (by_false cx (by_presence cx a.depth a.node p A) l.state one.new.state l.parts one.new.parts one.result
     c.if-not-decode_optional_addition.true one.ensures.did) [
-      inl w ↦ inl (addition_fault cx a.depth a.node l.presence.left (a.known.count - l.index) (a.known.from + l.index) p (position l.state)
-        (rest list l.state) (fault_of one.new.state) (omega (arith, l.invariant.3, c.loop-index-test.true)) w)
-    | inr u ↦ inr u
+      | inl w ↦ inl (addition_fault cx a.depth a.node l.presence.left (a.known.count - l.index) (a.known.from + l.index) p (position l.state)
+          (rest list l.state) (fault_of one.new.state) (omega (arith, l.invariant.3, c.loop-index-test.true)) w)
+      | inr u ↦ inr u
     ])
 
 pub additions::decode_additions-loop-index-preserved : goal.additions::decode_additions-loop-index-preserved
@@ -475,13 +479,13 @@ additions::decode_additions-loop-index-preserved t c =
       one.ensures.bits,
       omega (arith, l.invariant.3, one.ensures.fewer),
       over cx (B a.presence.left a.known.count a.known.from (told_by list a.presence))
-      (B l.presence.left (a.known.count - l.index) (a.known.from + l.index) p)
-      (B now.presence.left (a.known.count - (l.index + 1)) (a.known.from + (l.index + 1)) (told_by list now.presence))
-      a.state.now l.state now.state a.parts.now l.parts now.parts l.invariant.4
-      (addition_step cx a.depth a.node l.presence.left a.known.count a.known.from l.index now.presence.left p (told_by list now.presence)
-      l.state now.state l.parts now.parts one.ensures.fewer l.invariant.0 one.ensures.moved
-      (by_true cx (by_presence cx a.depth a.node p A) l.state now.state l.parts now.parts one.result c.if-not-decode_optional_addition.false
-      one.ensures.did) one.ensures.told),
+          (B l.presence.left (a.known.count - l.index) (a.known.from + l.index) p)
+          (B now.presence.left (a.known.count - (l.index + 1)) (a.known.from + (l.index + 1)) (told_by list now.presence))
+          a.state.now l.state now.state a.parts.now l.parts now.parts l.invariant.4
+          (addition_step cx a.depth a.node l.presence.left a.known.count a.known.from l.index now.presence.left p (told_by list now.presence)
+          l.state now.state l.parts now.parts one.ensures.fewer l.invariant.0 one.ensures.moved
+          (by_true cx (by_presence cx a.depth a.node p A) l.state now.state l.parts now.parts one.result c.if-not-decode_optional_addition.false
+          one.ensures.did) one.ensures.told),
     )
 
 pub additions::decode_additions-returns-clause-did : goal.additions::decode_additions-returns-clause-did
@@ -729,9 +733,9 @@ list::decode_items-returns-then-not-decode_node-clause-did t c =
     fails_on cx (list.I cx a.depth a.item a.count) (list.I cx a.depth a.item l.left) a.state.now l.state one.new.state a.parts.now l.parts one.new.parts
     l.invariant.2
     (elim (by_false cx V l.state one.new.state l.parts one.new.parts one.result c.if-not-decode_node.true one.ensures.did) [
-      inl w ↦ inl (list.item_fault cx a.depth a.item l.left (position l.state) (rest (bits cx.octets.now) l.state) (fault_of one.new.state)
-        (omega (arith, c.loop-left-test.true)) w)
-    | inr u ↦ inr u
+      | inl w ↦ inl (list.item_fault cx a.depth a.item l.left (position l.state) (rest (bits cx.octets.now) l.state) (fault_of one.new.state)
+          (omega (arith, c.loop-left-test.true)) w)
+      | inr u ↦ inr u
     ])
 
 pub list::decode_items-loop-left-preserved : goal.list::decode_items-loop-left-preserved
@@ -745,10 +749,10 @@ list::decode_items-loop-left-preserved t c =
       within_after bs l.state one.new.state l.invariant.0 one.ensures.moved,
       moved_over bs a.state.now l.state one.new.state l.invariant.1 one.ensures.moved,
       over cx (list.I cx a.depth a.item a.count) (list.I cx a.depth a.item l.left) (list.I cx a.depth a.item (l.left - 1))
-      a.state.now l.state one.new.state a.parts.now l.parts one.new.parts l.invariant.2
-      (list.item_step cx a.depth a.item l.left (l.left - 1) l.state one.new.state l.parts one.new.parts (omega (arith, c.loop-left-test.true))
-      l.invariant.0 one.ensures.moved
-      (by_true cx V l.state one.new.state l.parts one.new.parts one.result c.if-not-decode_node.false one.ensures.did)),
+          a.state.now l.state one.new.state a.parts.now l.parts one.new.parts l.invariant.2
+          (list.item_step cx a.depth a.item l.left (l.left - 1) l.state one.new.state l.parts one.new.parts (omega (arith, c.loop-left-test.true))
+          l.invariant.0 one.ensures.moved
+          (by_true cx V l.state one.new.state l.parts one.new.parts one.result c.if-not-decode_node.false one.ensures.did)),
     )
 
 pub list::decode_items-returns-clause-did : goal.list::decode_items-returns-clause-did
@@ -758,8 +762,8 @@ list::decode_items-returns-clause-did t c =
     l.invariant.2.done l.state l.parts
     (list.no_items cx c.args.depth c.args.item l.left l.state l.parts (omega (arith, c.loop-left-test.false)))
 
-pub decoder::decode_node-returns-else-is_extensible-clause-did : goal.decoder::decode_node-returns-else-is_extensible-clause-did
-decoder::decode_node-returns-else-is_extensible-clause-did t c =
+pub decoder::decode_node-returns-in-Some-IntegerBetween-clause-did : goal.decoder::decode_node-returns-in-Some-IntegerBetween-clause-did
+decoder::decode_node-returns-in-Some-IntegerBetween-clause-did t c =
     let cx = c.args.context.now in
     let a = c.args in
     let k = c.in-Some-IntegerBetween in
@@ -767,26 +771,20 @@ decoder::decode_node-returns-else-is_extensible-clause-did t c =
     at_node cx a.node a.depth (Some (type.IntegerBetween k.bounds k.is_extensible))
     (λ (B : ℕ → Encoding FaultKind Parts). Outcome cx B a.state.now p.new.state a.parts.now p.new.parts p.result)
     (omega (arith, c.if-depth-eq0.false)) (sym c.node_at.ensures ∙ k.is ∙ ap (λ (n : Node). Some n) k.field-0-is)
-    (subst (λ (b : Bool). Outcome cx (λ at. (integer_between_by cx.is_aligned a.node b k.bounds.least k.bounds.range at).encoding) a.state.now p.new.state a.parts.now p.new.parts p.result)
-    (sym c.if-is_extensible.false)
-    (kept_outcome cx (λ at. (integer_between cx.is_aligned a.node k.bounds.least k.bounds.range at).encoding) a.state.now c.next_integer_between.new.state p.new.state a.parts.now p.new.parts c.next_integer_between.result p.result
-    c.next_integer_between.ensures.onward c.next_integer_between.ensures.read (record { at = p.ensures.at; first = p.ensures.first; end = p.ensures.end }) p.ensures.kept))
+    (kept_outcome cx (λ at. (integer_between_by cx.is_aligned a.node k.is_extensible k.bounds.least k.bounds.range at).encoding) a.state.now c.next_integer_between_by-part.new.state p.new.state a.parts.now p.new.parts c.next_integer_between_by-part.result p.result
+    c.next_integer_between_by-part.ensures.onward c.next_integer_between_by-part.ensures.read (record { at = p.ensures.at; first = p.ensures.first; end = p.ensures.end }) p.ensures.kept)
 
-pub decoder::decode_node-returns-else-is_extensible-2-clause-did : goal.decoder::decode_node-returns-else-is_extensible-2-clause-did
-decoder::decode_node-returns-else-is_extensible-2-clause-did t c =
+pub decoder::decode_node-returns-in-Some-IntegerAtLeast-clause-did : goal.decoder::decode_node-returns-in-Some-IntegerAtLeast-clause-did
+decoder::decode_node-returns-in-Some-IntegerAtLeast-clause-did t c =
     let cx = c.args.context.now in
     let a = c.args in
     let k = c.in-Some-IntegerAtLeast in
     let p = c.keep-in-Some-IntegerAtLeast in
-    let taken : IsTaken (λ at. (integer_at_least cx.is_aligned a.node k.least at).encoding) (λ q. piece_of (bits cx.octets.now) q ∷ [])
-    (bits cx.octets.now) a.state.now c.next_integer_at_least.new.state c.next_integer_at_least.result = search in
-    at_node cx a.node a.depth (Some (type.IntegerAtLeast k.least k.is_extensible))
+    at_node cx a.node a.depth (Some (type.IntegerAtLeast k.bound k.is_extensible))
     (λ (B : ℕ → Encoding FaultKind Parts). Outcome cx B a.state.now p.new.state a.parts.now p.new.parts p.result)
     (omega (arith, c.if-depth-eq0.false)) (sym c.node_at.ensures ∙ k.is ∙ ap (λ (n : Node). Some n) k.field-0-is)
-    (subst (λ (b : Bool). Outcome cx (λ at. (integer_at_least_by cx.is_aligned a.node b k.least at).encoding) a.state.now p.new.state a.parts.now p.new.parts p.result)
-    (sym c.if-is_extensible-2.false)
-    (kept_outcome cx (λ at. (integer_at_least cx.is_aligned a.node k.least at).encoding) a.state.now c.next_integer_at_least.new.state p.new.state a.parts.now p.new.parts c.next_integer_at_least.result p.result
-    c.next_integer_at_least.ensures.onward taken (record { at = p.ensures.at; first = p.ensures.first; end = p.ensures.end }) p.ensures.kept))
+    (kept_outcome cx (λ at. (integer_at_least_by cx.is_aligned a.node k.is_extensible k.bound.least at).encoding) a.state.now c.next_integer_at_least_by-part.new.state p.new.state a.parts.now p.new.parts c.next_integer_at_least_by-part.result p.result
+    c.next_integer_at_least_by-part.ensures.onward c.next_integer_at_least_by-part.ensures.read (record { at = p.ensures.at; first = p.ensures.first; end = p.ensures.end }) p.ensures.kept)
 
 pub decoder::decode_node-returns-in-Some-Integer-clause-did : goal.decoder::decode_node-returns-in-Some-Integer-clause-did
 decoder::decode_node-returns-in-Some-Integer-clause-did t c =
@@ -851,5 +849,8 @@ open_type::decode_value-returns-in-Default-clause-did t c =
     } in
     subst (λ (b : Bool). Outcome cx (λ at. (value_in cx c.args.depth c.args.node m.presence m.node at).encoding) c.args.state.now u.new.state
     c.args.parts.now c.args.parts.now b) (sym u.ensures.no)
-    (inr (inr (u.ensures.kind, subst (λ (n : ℕ). IsLater (slice_get cx.tables.nodes.now n) ⊎ (IsTooLarge (slice_get cx.tables.nodes.now n) ⊎ IsDefaulted cx n))
-    (sym u.ensures.node) (inr (inr listed)))))
+    (inr (inr (
+      u.ensures.kind,
+      subst (λ (n : ℕ). IsLater (slice_get cx.tables.nodes.now n) ⊎ (IsTooLarge (slice_get cx.tables.nodes.now n) ⊎ IsDefaulted cx n))
+          (sym u.ensures.node) (inr (inr listed)),
+    )))

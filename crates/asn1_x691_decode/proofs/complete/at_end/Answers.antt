@@ -34,5 +34,5 @@ returns-clause-ends c =
     let taken = rest_taken list s n (omega (arith, c.requires.within.ends, c.if-state-zeros.false)) in (
       size ∙ c.if-state-zeros.false ∙ c.padding_of-zeros.ensures.value,
       all_zeros (rest list s) c.read_bits.result n (c.read_bits.ensures.digits ∙ sym taken) (size ∙ c.if-state-zeros.false)
-      c.if-read_bits-ne0.false,
+          c.if-read_bits-ne0.false,
     )

@@ -11,9 +11,9 @@ loop-index-preserved c =
     let a : n - 1 ≡ c.args.rows.count - (c.loop-index.index + 1) = omega arith in
     let b : at + 1 ≡ c.args.rows.from + (c.loop-index.index + 1) = omega arith in
     let e = optional_step members c.member_in-member.result n at
-        (omega (arith, c.loop-index-test.true, c.known_of-known.ensures.few)) c.member_in-member.ensures in
+    (omega (arith, c.loop-index-test.true, c.known_of-known.ensures.few)) c.member_in-member.ensures in
     let f = ap (λ (k : ℕ). optional_count members k (at + 1)) a
-        ∙ ap (λ (k : ℕ). optional_count members (c.args.rows.count - (c.loop-index.index + 1)) k) b in (
+    ∙ ap (λ (k : ℕ). optional_count members (c.args.rows.count - (c.loop-index.index + 1)) k) b in (
       omega (arith, c.loop-index.invariant.0, c.presence_bits-count.ensures.few),
       omega (arith, c.loop-index.invariant.1, e, f, c.presence_bits-count.ensures.value),
     )

@@ -1,12 +1,10 @@
 use Rattle.std.proofs.Common.{[], ◌∷◌, Bool, sym, subst}
-use Rattle.std.specs.Int.{w128}
-use Rattle.std.proofs.lemmas.Int.{to_z-of_z}
 use Rattle.std.specs.Prelude.{◌<ℤ◌, ◌≤ℤ◌}
 use Rattle.asn1_bits.specs.Bits.{bits}
 use Rattle.asn1_schema.specs.Encodings.{permitted}
 use Rattle.asn1_schema.specs.Pieces.{Integer}
 use Rattle.asn1_schema.specs.PiecesOfParts.{piece_of}
-use Rattle.asn1_schema.specs.TypeEncodings.{leaf, by_bit}
+use Rattle.asn1_schema.specs.TypeEncodings.{leaf}
 use Rattle.asn1_x691.specs.declared.fault.FaultKind.TheVariants.{InRoot}
 use Rattle.asn1_x691.specs.Fields.{unconstrained}
 use Rattle.asn1_x691.specs.Leaves.{IsAddedInteger, integer_at_least, integer_at_least_by}
@@ -19,15 +17,12 @@ returns-clause-read c =
     let list = bits c.args.octets.now in
     let aligned = c.args.is_aligned in
     let node = c.args.node in
-    let least = c.args.least in
+    let least = c.args.bound.least in
     let new = c.next_at_least_by_bit.new.state in
     let taken = bit_taken node (IsAddedInteger (λ n. n <ℤ least)) (integer_at_least aligned node least)
     (leaf (permitted (λ n. n <ℤ least) (λ n. least ≤ℤ n) InRoot node (unconstrained aligned node)) Integer node) list
     c.args.state.now c.next_bit.new.state new c.in_ok-is_added.is_added c.next_at_least_by_bit.result c.requires.within
     c.in_ok-is_added.ensures.onward c.in_ok-is_added.ensures.read
-    (subst (λ z. IsTaken (λ at. by_bit (integer_at_least aligned node z at)
-    (leaf (permitted (λ n. n <ℤ z) (λ n. z ≤ℤ n) InRoot node (unconstrained aligned node)) Integer node at) c.in_ok-is_added.is_added)
-    (λ p. piece_of list p ∷ []) list c.next_bit.new.state new c.next_at_least_by_bit.result) (to_z-of_z w128 least c.ranges.least)
-    c.next_at_least_by_bit.ensures.read) in
+    c.next_at_least_by_bit.ensures.read in
     subst (λ (b : Bool). IsTaken (λ at. (integer_at_least_by aligned node b least at).encoding) (λ p. piece_of list p ∷ []) list
     c.args.state.now new c.next_at_least_by_bit.result) (sym c.if-not-is_extensible.false) taken
