@@ -21,11 +21,11 @@ fn half_of(count: usize) -> u128
 }
 
 /// Returns the number that is so far below -1.
-fn below_minus_one(distance: u128) -> i128
-    requires { distance < 2 ^ 127 }
-    ensures { result ≡ negsuc distance }
+fn below_minus_one(n: u128) -> i128
+    requires { n < 2 ^ 127 }
+    ensures { result ≡ negsuc n }
 {
-    -1 - distance as i128
+    -1 - n as i128
 }
 
 /// Returns the number that at most 16 octets are.
