@@ -4,3 +4,4 @@ mod OpenSteps
 mod SequenceSteps
 mod ChoiceSteps
 mod ListSteps
+mod MessageSteps

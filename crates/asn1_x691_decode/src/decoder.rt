@@ -290,21 +290,3 @@ pub(crate) fn decode_node(
         ) => unsupported(state, node),
     }
 }
-
-/// Decodes.
-pub fn decode(
-    context: &Context<'_>,
-    depth: usize,
-    node: usize,
-    state: &mut State,
-    parts: &mut [Part],
-) -> bool
-    requires size { 8 * length context.now.octets.now < 2 ^ 64 }
-    requires within { IsWithin (bits context.now.octets.now) state.old }
-    requires placed { IsPlaced context.now.is_aligned state.old }
-    ensures moved { IsMoved (bits context.now.octets.now) state.old state.new }
-    ensures did { Outcome context.now (λ at. (types context.now depth node at).encoding) state.old state.new
-        parts.old parts.new result }
-{
-    decode_node(context, depth, node, state, parts)
-}

@@ -7,10 +7,11 @@ mod complete;
 mod context;
 mod decoder;
 mod list;
+mod message;
 mod open_type;
 mod presence;
 mod room;
 mod sequence;
 
 pub use context::{Context, Defaults};
-pub use decoder::decode;
+pub use message::{Fault, Prefix, decode, decode_prefix};

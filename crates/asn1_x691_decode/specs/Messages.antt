@@ -1,0 +1,47 @@
+-- What a decoder says of a message.
+use Rattle.std.specs.Prelude.{◌≡◌, ℕ, ◌-◌, ◌⊎◌, ◌∷◌, true, List, Bool, length, drop, take, slice_get}
+use Rattle.asn1_bits.specs.Bits.{bits}
+use Rattle.asn1_schema.specs.declared.part.Part.{Part}
+use Rattle.asn1_schema.specs.Pieces.{Parts}
+use Rattle.asn1_schema.specs.Encodings.{Fault, Starts}
+use Rattle.asn1_x691.specs.declared.fault.FaultKind.{FaultKind}
+use Rattle.asn1_x691.specs.declared.fault.FaultKind.TheVariants.{Unsupported}
+use Rattle.asn1_x691.specs.OpenTypes.{complete}
+use Rattle.asn1_x691_decode.specs.declared.context.Context.{Context}
+use Rattle.asn1_x691_decode.specs.declared.message.Fault.{Fault as FoundFault}
+use Rattle.asn1_x691_decode.specs.declared.message.Prefix.{Prefix}
+use Rattle.asn1_x691_decode.specs.Room.{Holds}
+use Rattle.asn1_x691_decode.specs.Decoding.{types, IsLater, IsTooLarge, IsDefaulted}
+
+module _ (c : Context) where
+  abbrev message : List Bool
+  message = bits c.octets.now
+
+  -- the fault, by how many bits of the message are left
+  abbrev pub named : FoundFault → Fault FaultKind
+  named e = record { node = e.node; left = length message - e.at; kind = e.kind }
+
+  -- the message is the complete encoding of these parts, of which the room holds the first
+  pub record IsComplete (depth node : ℕ) (room : List Part) (count : ℕ) : Type 0 where
+    pub parts : Parts
+    pub encodes : (complete node (types c depth node)).fills parts message
+    pub held : Holds message room count parts
+
+  abbrev pub IsFirstFault : ℕ → ℕ → FoundFault → Type 0
+  IsFirstFault depth node e = (complete node (types c depth node)).fault message (named e)
+
+  -- so many first bits of the message encode these parts
+  pub record IsPrefix (depth node : ℕ) (room : List Part) (p : Prefix) : Type 0 where
+    pub parts : Parts
+    pub starts : Starts (types c depth node 0).encoding.encodes message parts (drop p.bits message)
+    pub held : Holds message room p.parts parts
+
+  abbrev pub IsFirstFaultOfPrefix : ℕ → ℕ → FoundFault → Type 0
+  IsFirstFaultOfPrefix depth node e = (types c depth node 0).encoding.fault message (named e)
+
+  -- the decoder does not read a length in fragments yet, or a type
+  pub record IsNotSupported (e : FoundFault) : Type 0 where
+    pub kind : e.kind ≡ Unsupported
+    pub is : ((others : List Bool) × (drop e.at message ≡ true ∷ true ∷ others))
+        ⊎ (IsLater (slice_get c.tables.nodes.now e.node)
+        ⊎ (IsTooLarge (slice_get c.tables.nodes.now e.node) ⊎ IsDefaulted c e.node))
