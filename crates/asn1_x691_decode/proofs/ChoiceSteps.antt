@@ -1,20 +1,20 @@
 -- Steps over a CHOICE.
-use Rattle.std.proofs.Common.{◌≡◌, ℕ, ◌+◌, ◌-◌, ◌<◌, ◌≤◌, List, [], ◌∷◌, Bool, true, false, sym, ◌∙◌, ap, subst, arith, Option, Some, None}
+use Rattle.std.proofs.Common.{◌≡◌, ℕ, ◌+◌, ◌-◌, ◌<◌, ◌≤◌, List, [], ◌∷◌, Bool, true, false, sym, subst, arith, Option, Some, None}
 use Rattle.std.specs.Prelude.{slice_get, nat_lt}
 use Rattle.std.proofs.lemmas.Bool.{lt-ltb}
 use Rattle.asn1_bits.specs.Bits.{bits}
 use Rattle.asn1_schema.specs.declared.part.Part.{Part}
 use Rattle.asn1_schema.specs.declared.tables.Member.{Member}
 use Rattle.asn1_schema.specs.declared.tables.Rows.{Rows}
-use Rattle.asn1_schema.specs.Pieces.{Parts, Piece, Chosen, Unknown, UnknownChosen}
+use Rattle.asn1_schema.specs.Pieces.{Parts, Chosen, Unknown, UnknownChosen}
 use Rattle.asn1_schema.specs.Encodings.{Fault, Encoding, Starts, IsAt, anywhere}
-use Rattle.asn1_schema.specs.TypeEncodings.{TypeEncoding, leaf, by_bit}
+use Rattle.asn1_schema.specs.TypeEncodings.{leaf, by_bit}
 use Rattle.asn1_x691.specs.declared.fault.FaultKind.{FaultKind}
 use Rattle.asn1_x691.specs.declared.fault.FaultKind.TheVariants.{NoNode}
 use Rattle.asn1_x691.specs.Fields.{constrained, small_number}
 use Rattle.asn1_x691.specs.Fragments.{octets}
 use Rattle.asn1_x691.specs.Strings.{bit}
-use Rattle.asn1_x691.specs.Types.{alternative, alternative_if, added, added_alternative, alternative_of_addition}
+use Rattle.asn1_x691.specs.Types.{alternative_if, added, added_alternative, alternative_of_addition}
 use Rattle.asn1_x691_fields.specs.declared.state.State.{State}
 use Rattle.asn1_x691_fields.specs.Outcomes.{rest, position, IsWithin, IsOnward}
 use Rattle.asn1_x691_decode.specs.declared.context.Context.{Context}

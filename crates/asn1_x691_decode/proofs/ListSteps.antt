@@ -1,5 +1,5 @@
 -- Steps over a SEQUENCE OF.
-use Rattle.std.proofs.Common.{◌≡◌, ℕ, zero, suc, ◌+◌, ◌-◌, ◌<◌, ◌≤◌, List, [], ◌∷◌, Bool, true, false, sym, subst, arith, inl}
+use Rattle.std.proofs.Common.{◌≡◌, ℕ, zero, suc, ◌+◌, ◌<◌, List, [], ◌∷◌, Bool, true, subst, arith, inl}
 use Rattle.asn1_bits.specs.Bits.{bits}
 use Rattle.asn1_schema.specs.declared.part.Part.{Part}
 use Rattle.asn1_schema.specs.declared.tables.Length.{Length}
@@ -12,7 +12,7 @@ use Rattle.asn1_x691.specs.Fields.{constrained}
 use Rattle.asn1_x691.specs.Strings.{bit}
 use Rattle.asn1_x691.specs.Types.{length_at_least, added_length, count_from}
 use Rattle.asn1_x691_fields.specs.declared.state.State.{State}
-use Rattle.asn1_x691_fields.specs.Outcomes.{rest, position, fault_of, IsWithin, IsMoved, IsOnward}
+use Rattle.asn1_x691_fields.specs.Outcomes.{rest, position, IsWithin, IsMoved, IsOnward}
 use Rattle.asn1_x691_decode.specs.declared.context.Context.{Context}
 use Rattle.asn1_x691_decode.specs.Room.{IsGrown}
 use Rattle.asn1_x691_decode.specs.Decoding.{IsDecoded, types, sequence_of_in, root_list_in, added_list_in, items_in}

@@ -1,20 +1,17 @@
 -- Steps over a message.
-use Rattle.std.proofs.Common.{◌≡◌, ℕ, ◌-◌, ◌*◌, ◌≤◌, List, [], Bool, length, take, drop, refl, sym, ◌∙◌, ap, subst, arith, inl, inr}
+use Rattle.std.proofs.Common.{◌≡◌, ℕ, ◌-◌, ◌*◌, List, [], Bool, length, take, drop, refl, sym, ◌∙◌, ap, subst, arith, inl, inr}
 use Rattle.std.specs.Prelude.{◌⊎◌}
 use Rattle.std.proofs.lemmas.List.{take_all}
 use Rattle.asn1_bits.specs.Bits.{bits}
 use Rattle.asn1_bits.specs.DigitLaws.{length-bits}
 use Rattle.asn1_schema.specs.declared.part.Part.{Part}
-use Rattle.asn1_schema.specs.Encodings.{Fault, Encoding, Contents, Starts}
-use Rattle.asn1_schema.specs.Pieces.{Parts}
+use Rattle.asn1_schema.specs.Encodings.{Fault, Starts}
 use Rattle.asn1_x691.specs.declared.fault.FaultKind.{FaultKind}
 use Rattle.asn1_x691.specs.OpenTypes.{complete}
 use Rattle.asn1_x691_fields.specs.declared.state.State.{State}
 use Rattle.asn1_x691_fields.specs.Outcomes.{rest, position, fault_of, IsWithin, IsMoved}
 use Rattle.asn1_x691_decode.specs.declared.context.Context.{Context}
-use Rattle.asn1_x691_decode.specs.declared.message.Fault.{Fault as FoundFault}
-use Rattle.asn1_x691_decode.specs.declared.message.Prefix.{Prefix}
-use Rattle.asn1_x691_decode.specs.Room.{Holds, IsGrown}
+use Rattle.asn1_x691_decode.specs.Room.{Holds}
 use Rattle.asn1_x691_decode.specs.Decoding.{IsDecoded, IsFilled, IsUnsupported, types}
 use Rattle.asn1_x691_decode.specs.Messages.{named, IsComplete, IsFirstFault, IsPrefix, IsFirstFaultOfPrefix, IsNotSupported}
 

@@ -1,25 +1,24 @@
 -- Steps over complete encodings and open types.
-use Rattle.std.proofs.Common.{◌≡◌, ◌≢◌, ℕ, zero, suc, ◌+◌, ◌-◌, ◌*◌, ◌%◌, ◌^◌, ◌<◌, ◌≤◌, List, [], ◌∷◌, ◌++◌, Bool, true, false, length, take, drop, refl, sym, ◌∙◌, ap, subst, arith, inl, inr, pow_pos}
+use Rattle.std.proofs.Common.{◌≡◌, ◌≢◌, ℕ, zero, suc, ◌+◌, ◌-◌, ◌%◌, ◌<◌, ◌≤◌, List, ◌∷◌, Bool, true, false, length, take, drop, refl, sym, ◌∙◌, ap, subst, arith, inl, inr, pow_pos}
 use Rattle.std.specs.Prelude.{◌⊎◌, slice_get}
-use Rattle.std.proofs.lemmas.List.{drop-take, length-take-le}
+use Rattle.std.proofs.lemmas.List.{drop-take}
 use Rattle.asn1_bits.specs.Bits.{bits, digits, number}
 use Rattle.asn1_bits.specs.NumberLaws.{number_of-digits}
 use Rattle.asn1_schema.specs.declared.part.Part.{Part}
 use Rattle.asn1_schema.specs.declared.part.Span.{Span}
 use Rattle.asn1_schema.specs.Pieces.{Parts}
 use Rattle.asn1_schema.specs.PiecesOfParts.{bits_of}
-use Rattle.asn1_schema.specs.Encodings.{Fault, Encoding, Contents, Starts, with_more_after, anywhere, constant}
+use Rattle.asn1_schema.specs.Encodings.{Contents, Starts, with_more_after, anywhere, constant}
 use Rattle.asn1_schema.specs.TypeEncodings.{TypeEncoding}
 use Rattle.asn1_x691.specs.declared.fault.FaultKind.{FaultKind}
-use Rattle.asn1_x691.specs.Fields.{to_octet}
 use Rattle.asn1_x691.specs.Fragments.{octets}
 use Rattle.asn1_x691.specs.OpenTypes.{padding_of, padding, complete, enclosing, open_type}
 use Rattle.asn1_x691_fields.specs.declared.state.State.{State}
-use Rattle.asn1_x691_fields.specs.Outcomes.{rest, position, fault_of, IsWithin, IsMoved, IsOnward, IsInFragments}
+use Rattle.asn1_x691_fields.specs.Outcomes.{rest, position, fault_of, IsWithin, IsMoved, IsOnward}
 use Rattle.asn1_x691_fields.specs.Steps.{rest_length, step_position, turn_starts, constant_starts}
 use Rattle.asn1_x691_decode.specs.declared.context.Context.{Context}
 use Rattle.asn1_x691_decode.specs.Room.{IsGrown}
-use Rattle.asn1_x691_decode.specs.Decoding.{Outcome, OutcomeOfContents, IsDecoded, IsFilled, IsEnd, IsUnsupported, IsLater, IsTooLarge, IsDefaulted}
+use Rattle.asn1_x691_decode.specs.Decoding.{OutcomeOfContents, IsDecoded, IsFilled, IsEnd, IsUnsupported, IsLater, IsTooLarge, IsDefaulted}
 
 -- ---- zeros at the end
 

@@ -1,5 +1,5 @@
 -- Steps of a decoder.
-use Rattle.std.proofs.Common.{◌≡◌, ℕ, zero, suc, ◌+◌, ◌-◌, ◌*◌, ◌^◌, ◌<◌, ◌≤◌, List, [], ◌∷◌, ◌++◌, Bool, true, false, length, take, drop, refl, sym, ◌∙◌, ap, subst, arith, append_assoc, Option, Some, None, inl, inr}
+use Rattle.std.proofs.Common.{◌≡◌, ℕ, zero, suc, ◌+◌, ◌-◌, ◌<◌, ◌≤◌, List, [], ◌∷◌, ◌++◌, Bool, true, false, length, take, drop, refl, sym, ◌∙◌, ap, subst, arith, append_assoc, Option, Some, None, inl, inr}
 use Rattle.std.specs.Prelude.{slice_get, ◌⊎◌}
 use Rattle.std.proofs.lemmas.List.{append-nil}
 use Rattle.std.proofs.lemmas.Option.{slice_get_past}
@@ -12,13 +12,12 @@ use Rattle.asn1_schema.specs.declared.part.Part.{Part}
 use Rattle.asn1_schema.specs.Pieces.{Piece, Parts, Absent}
 use Rattle.asn1_schema.specs.PiecesOfParts.{piece_of}
 use Rattle.asn1_schema.specs.Encodings.{Fault, Encoding, Starts, constant, invalid, cases, in_turn, IsAt}
-use Rattle.asn1_schema.specs.TypeEncodings.{TypeEncoding, AfterHeader}
 use Rattle.asn1_x691.specs.declared.fault.FaultKind.{FaultKind}
 use Rattle.asn1_x691.specs.declared.fault.FaultKind.TheVariants.{NoNode, TooDeep}
 use Rattle.asn1_x691.specs.Types.{component_by, component}
 use Rattle.asn1_x691_fields.specs.declared.state.State.{State}
 use Rattle.asn1_x691_fields.specs.Outcomes.{rest, position, fault_of, IsWithin, IsMoved, IsOnward, IsTaken, IsInFragments}
-use Rattle.asn1_x691_fields.specs.Steps.{constant_starts, after_starts, after_fault, moved_on, fault_at}
+use Rattle.asn1_x691_fields.specs.Steps.{constant_starts, after_starts, after_fault, moved_on}
 use Rattle.asn1_x691_decode.specs.declared.context.Context.{Context}
 use Rattle.asn1_x691_decode.specs.Room.{Holds, IsGrown, IsKept}
 use Rattle.asn1_x691_decode.specs.Decoding.{Outcome, default_of, IsDecoded, IsUnsupported, types, type_in, value_in, components_in, component_in, bits_after, bits_after_one}

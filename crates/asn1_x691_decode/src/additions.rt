@@ -1,25 +1,20 @@
 //! Decodes the additions of a SEQUENCE (X.691 19.7 to 19.9).
 
-ghost use Rattle.std.specs.Prelude.{◌≡◌, ◌≤◌, ◌<◌, ◌^◌, ◌*◌, ◌+◌, ◌-◌, ◌∷◌, [], List, Bool, true, length, slice_get, Some};
+ghost use Rattle.std.specs.Prelude.{◌≡◌, ◌≤◌, ◌<◌, ◌^◌, ◌*◌, ◌+◌, ◌-◌, true, length, slice_get, Some};
 ghost use Rattle.asn1_bits.specs.Bits.{bits};
-ghost use Rattle.asn1_schema.specs.PiecesOfParts.{piece_of, bits_at};
 ghost use Rattle.asn1_schema.specs.Pieces.{Unknown};
 ghost use Rattle.asn1_schema.specs.TypeEncodings.{leaf};
 ghost use Rattle.asn1_x691.specs.Fragments.{octets};
 ghost use Rattle.asn1_x691_fields.specs.Outcomes.{IsWithin, IsMoved, IsPlaced};
-ghost use Rattle.asn1_x691_decode.specs.Room.{IsGrown};
-ghost use Rattle.asn1_x691_decode.specs.Decoding.{Outcome, types, value_in, component_in, components_in, root_in, sequence_in, bits_after, bits_after_one, by_presence, told_by, IsListed, OutcomeOfContents, complete_in, enclosed_in, extension_in, additions_in, addition_in, known_in};
+ghost use Rattle.asn1_x691_decode.specs.Decoding.{Outcome, bits_after_one, by_presence, told_by, extension_in, additions_in, addition_in, known_in};
 
-use crate::complete::at_end;
 use crate::context::Context;
 use crate::open_type::decode_enclosed;
-use crate::presence::{
-    PresenceBits, count_optional, has_one, known_of, member_from, member_in, next_presence,
-};
+use crate::presence::{PresenceBits, has_one, member_from, next_presence};
 use crate::room::push;
-use asn1_schema::{Member, Node, Part, Presence, Rows};
+use asn1_schema::{Part, Rows};
 use asn1_x691::FaultKind;
-use asn1_x691_fields::{State, fail, next_bit, next_bits, next_octets, next_small_length};
+use asn1_x691_fields::{State, fail, next_bits, next_octets, next_small_length};
 
 /// Decodes the additions of a SEQUENCE: their number, the bits that tell which of them are present,
 /// and these (X.691 19.7 to 19.9).

@@ -1,24 +1,17 @@
 //! Decodes a CHOICE (X.691 23).
 
-ghost use Rattle.std.specs.Prelude.{◌≡◌, ◌≤◌, ◌<◌, ◌^◌, ◌*◌, ◌+◌, ◌-◌, ◌∷◌, [], List, Bool, true, length, slice_get, Some};
+ghost use Rattle.std.specs.Prelude.{◌<◌, ◌^◌, ◌*◌, ◌+◌, ◌-◌, List, Bool, true, length, Some};
 ghost use Rattle.asn1_bits.specs.Bits.{bits};
-ghost use Rattle.asn1_schema.specs.PiecesOfParts.{piece_of, bits_at};
-ghost use Rattle.asn1_schema.specs.Pieces.{Unknown};
-ghost use Rattle.asn1_schema.specs.TypeEncodings.{leaf};
 ghost use Rattle.asn1_x691.specs.Fragments.{octets};
 ghost use Rattle.asn1_x691_fields.specs.Outcomes.{IsWithin, IsMoved, IsPlaced};
 ghost use Rattle.asn1_x691_fields.specs.declared.state.State as the_state;
 ghost use Rattle.asn1_x691_fields.specs.Numbers.{IsNatural};
-ghost use Rattle.asn1_x691_decode.specs.Room.{IsGrown};
-ghost use Rattle.asn1_x691_decode.specs.Decoding.{Outcome, types, value_in, component_in, components_in, root_in, sequence_in, bits_after, bits_after_one, by_presence, told_by, choice_in, alternatives_in, choice_extension_in, IsIndex, IsListed, OutcomeOfContents, complete_in, enclosed_in, extension_in, additions_in, addition_in};
+ghost use Rattle.asn1_x691_decode.specs.Decoding.{Outcome, choice_in, alternatives_in, choice_extension_in, IsIndex};
 
 use crate::additions::{decode_known, keep_octets};
-use crate::complete::at_end;
 use crate::context::Context;
 use crate::decoder::decode_node;
-use crate::presence::{
-    PresenceBits, count_optional, has_one, known_of, member_from, member_in, next_presence,
-};
+use crate::presence::member_from;
 use crate::room::push;
 use asn1_schema::{Natural, Part, Rows};
 use asn1_x691::FaultKind;

@@ -1,6 +1,6 @@
 //! The end of a complete encoding (X.691 11.1).
 
-ghost use Rattle.std.specs.Prelude.{◌≡◌, ◌≤◌, ◌<◌, ◌^◌, ◌*◌, ◌+◌, length};
+ghost use Rattle.std.specs.Prelude.{◌≡◌, ◌≤◌, ◌<◌, ◌^◌, ◌*◌, length};
 ghost use Rattle.asn1_bits.specs.Bits.{bits};
 ghost use Rattle.asn1_x691.specs.OpenTypes.{padding_of};
 ghost use Rattle.asn1_x691_fields.specs.Outcomes.{IsWithin, IsOnward};

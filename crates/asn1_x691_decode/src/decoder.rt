@@ -1,28 +1,22 @@
 //! Decodes a value of any type.
 
-ghost use Rattle.std.specs.Prelude.{◌≡◌, ◌≤◌, ◌<◌, ◌^◌, ◌*◌, ◌+◌, ◌-◌, ◌∷◌, [], List, Bool, true, false, length, slice_get, Some};
+ghost use Rattle.std.specs.Prelude.{◌≡◌, ◌≤◌, ◌<◌, ◌^◌, ◌*◌, ◌+◌, ◌-◌, true, false, length, slice_get, Some};
 ghost use Rattle.asn1_bits.specs.Bits.{bits};
-ghost use Rattle.asn1_schema.specs.PiecesOfParts.{piece_of, bits_at};
 ghost use Rattle.asn1_schema.specs.Pieces.{Truth};
 ghost use Rattle.asn1_schema.specs.Encodings.{anywhere};
 ghost use Rattle.asn1_x691.specs.Strings.{bit};
 ghost use Rattle.asn1_schema.specs.TypeEncodings.{leaf};
 ghost use Rattle.asn1_x691.specs.Fragments.{octets};
 ghost use Rattle.asn1_x691_fields.specs.Outcomes.{IsWithin, IsMoved, IsPlaced};
-ghost use Rattle.asn1_x691_decode.specs.Room.{IsGrown};
-ghost use Rattle.asn1_x691_decode.specs.Decoding.{Outcome, types, value_in, component_in, components_in, root_in, sequence_in, bits_after, bits_after_one, by_presence, told_by, IsListed, OutcomeOfContents, complete_in, enclosed_in, extension_in, additions_in, addition_in};
+ghost use Rattle.asn1_x691_decode.specs.Decoding.{Outcome, types};
 
 use crate::choice::decode_choice;
-use crate::complete::at_end;
 use crate::context::Context;
 use crate::list::{decode_list, is_counted};
 use crate::open_type::decode_enclosed;
-use crate::presence::{
-    PresenceBits, count_optional, has_one, known_of, member_from, member_in, next_presence,
-};
 use crate::room::{keep, push, unsupported};
 use crate::sequence::decode_sequence;
-use asn1_schema::{Member, Node, Part, Presence, Rows};
+use asn1_schema::{Member, Node, Part, Presence};
 use asn1_x691::FaultKind;
 use asn1_x691_fields::{
     State, fail, next_bit, next_bit_string, next_enumerated, next_integer,

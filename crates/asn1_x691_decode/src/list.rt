@@ -1,6 +1,6 @@
 //! Decodes a SEQUENCE OF (X.691 20).
 
-ghost use Rattle.std.specs.Prelude.{◌≡◌, ◌≤◌, ◌<◌, ◌^◌, ◌*◌, ◌+◌, length, true, false};
+ghost use Rattle.std.specs.Prelude.{◌≡◌, ◌<◌, ◌^◌, ◌*◌, ◌+◌, length, true, false};
 ghost use Rattle.asn1_bits.specs.Bits.{bits};
 ghost use Rattle.asn1_x691_fields.specs.Outcomes.{IsWithin, IsMoved, IsPlaced};
 ghost use Rattle.asn1_x691_decode.specs.Decoding.{Outcome, IsCounted, IsUncounted, sequence_of_in, root_list_in, added_list_in, items_in};

@@ -1,25 +1,17 @@
 //! Decodes open types and complete encodings (X.691 11.1, 11.2).
 
-ghost use Rattle.std.specs.Prelude.{◌≡◌, ◌≤◌, ◌<◌, ◌^◌, ◌*◌, ◌+◌, ◌-◌, ◌∷◌, [], List, Bool, true, length, slice_get, Some};
+ghost use Rattle.std.specs.Prelude.{◌≡◌, ◌<◌, ◌^◌, ◌*◌, ◌+◌, ◌-◌, true, length, Some};
 ghost use Rattle.asn1_bits.specs.Bits.{bits};
-ghost use Rattle.asn1_schema.specs.PiecesOfParts.{piece_of, bits_at};
-ghost use Rattle.asn1_schema.specs.Pieces.{Unknown};
-ghost use Rattle.asn1_schema.specs.TypeEncodings.{leaf};
 ghost use Rattle.asn1_x691.specs.Fragments.{octets};
 ghost use Rattle.asn1_x691_fields.specs.Outcomes.{IsWithin, IsMoved, IsPlaced};
-ghost use Rattle.asn1_x691_decode.specs.Room.{IsGrown};
-ghost use Rattle.asn1_x691_decode.specs.Decoding.{Outcome, types, value_in, component_in, components_in, root_in, sequence_in, bits_after, bits_after_one, by_presence, told_by, IsListed, OutcomeOfContents, complete_in, enclosed_in, extension_in, additions_in, addition_in};
+ghost use Rattle.asn1_x691_decode.specs.Decoding.{Outcome, types, value_in, IsListed, OutcomeOfContents, complete_in, enclosed_in};
 
 use crate::complete::at_end;
 use crate::context::Context;
 use crate::decoder::decode_node;
-use crate::presence::{
-    PresenceBits, count_optional, has_one, known_of, member_from, member_in, next_presence,
-};
 use crate::room::unsupported;
-use asn1_schema::{Member, Node, Part, Presence, Rows};
-use asn1_x691::FaultKind;
-use asn1_x691_fields::{State, fail, next_bit, next_bits, next_octets, next_small_length};
+use asn1_schema::{Member, Part, Presence};
+use asn1_x691_fields::{State, next_octets};
 
 /// Decodes an open type (X.691 11.2): octets that are a complete encoding, after their number.
 #[cycle(decoding)]

@@ -2,7 +2,6 @@
 
 ghost use Rattle.std.specs.Prelude.{◌≡◌, ◌+◌, ◌-◌, ◌*◌, ◌≤◌, ◌^◌, ◌<◌, length, slice_get, Some, IfSome};
 ghost use Rattle.asn1_bits.specs.Bits.{bits};
-ghost use Rattle.asn1_schema.specs.PiecesOfParts.{bits_at};
 ghost use Rattle.asn1_x691.specs.Types.{optional_count, presence_bits, any_true};
 ghost use Rattle.asn1_x691_decode.specs.Decoding.{IsTold, told_by};
 

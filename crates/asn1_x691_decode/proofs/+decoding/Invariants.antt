@@ -1,6 +1,6 @@
 use Rattle.std.proofs.Common.{◌≡◌, ◌≤◌, ◌*◌, ◌+◌, ◌-◌, length}
 use Rattle.asn1_bits.specs.Bits.{bits}
-use Rattle.asn1_x691_fields.specs.Outcomes.{IsWithin, IsMoved, IsPlaced}
+use Rattle.asn1_x691_fields.specs.Outcomes.{IsWithin, IsMoved}
 use Rattle.asn1_x691_decode.specs.Decoding.{components_in, additions_in, items_in, told_by}
 use Rattle.asn1_x691_decode.proofs.Steps.{IsUnderway}
 use Rattle.asn1_x691_decode.proofs.+decoding.Given as goal

@@ -1,5 +1,5 @@
-use Rattle.std.proofs.Common.{◌≡◌, ◌≢◌, ℕ, ◌+◌, ◌-◌, ◌*◌, ◌≤◌, List, Bool, length, take, drop, sym, ◌∙◌, ap, arith, inr}
-use Rattle.asn1_bits.specs.Bits.{bits, digits, number}
+use Rattle.std.proofs.Common.{sym, ◌∙◌, ap, arith, inr}
+use Rattle.asn1_bits.specs.Bits.{bits, number}
 use Rattle.asn1_bits.specs.DigitLaws.{length-bits}
 use Rattle.asn1_x691.specs.declared.fault.FaultKind.TheVariants.{NotZero}
 use Rattle.asn1_x691_fields.specs.Outcomes.{rest}

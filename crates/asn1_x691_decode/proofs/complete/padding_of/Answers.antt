@@ -1,4 +1,4 @@
-use Rattle.std.proofs.Common.{◌≡◌, ◌<◌, sym, arith}
+use Rattle.std.proofs.Common.{sym, arith}
 use Rattle.asn1_x691_decode.proofs.OpenSteps.{padding_none, padding_some}
 use Rattle.asn1_x691_decode.proofs.complete.padding_of.Goals as goal
 

@@ -1,4 +1,3 @@
-use Rattle.std.proofs.Common.{◌≡◌, ℕ}
 use Rattle.asn1_bits.specs.Bits.{bits}
 use Rattle.asn1_schema.specs.Pieces.{Truth}
 use Rattle.asn1_schema.specs.Encodings.{anywhere}

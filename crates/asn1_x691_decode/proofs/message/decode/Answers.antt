@@ -1,4 +1,3 @@
-use Rattle.std.proofs.Common.{◌≡◌, ℕ, Bool}
 use Rattle.asn1_x691.specs.OpenTypes.{complete}
 use Rattle.asn1_x691_decode.specs.Decoding.{types}
 use Rattle.asn1_x691_decode.proofs.OpenSteps.{contents_true, contents_false}

@@ -1,4 +1,3 @@
-use Rattle.std.proofs.Common.{◌≡◌, ℕ, Bool}
 use Rattle.asn1_x691_decode.specs.Decoding.{types}
 use Rattle.asn1_x691_decode.proofs.Steps.{by_true, by_false}
 use Rattle.asn1_x691_decode.proofs.MessageSteps.{begins_within, prefix_message, prefix_fault}

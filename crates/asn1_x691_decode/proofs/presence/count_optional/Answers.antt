@@ -1,4 +1,4 @@
-use Rattle.std.proofs.Common.{◌≡◌, ℕ, ◌+◌, ◌-◌, ◌≤◌, sym, ◌∙◌, ap, arith}
+use Rattle.std.proofs.Common.{◌≡◌, ℕ, ◌+◌, ◌-◌, ◌∙◌, ap, arith}
 use Rattle.asn1_x691.specs.Types.{optional_count}
 use Rattle.asn1_x691_decode.proofs.PresenceSteps.{optional_step, all_optional}
 use Rattle.asn1_x691_decode.proofs.presence.count_optional.Goals as goal

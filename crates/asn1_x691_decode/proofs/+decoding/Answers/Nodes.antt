@@ -1,0 +1,142 @@
+-- Answers for the decoders of src/decoder.rt.
+use Rattle.std.proofs.Common.{ℕ, [], sym, ◌∙◌, ap, arith, Some}
+use Rattle.asn1_bits.specs.Bits.{bits}
+use Rattle.asn1_schema.specs.declared.tables.Node.{Node}
+use Rattle.asn1_schema.specs.declared.tables.Node.TheVariants as type
+use Rattle.asn1_schema.specs.Pieces.{Null, Parts}
+use Rattle.asn1_schema.specs.Encodings.{Encoding, constant}
+use Rattle.asn1_x691.specs.declared.fault.FaultKind.{FaultKind}
+use Rattle.asn1_x691_fields.specs.Outcomes.{position}
+use Rattle.asn1_x691_decode.specs.Decoding.{Outcome, IsDecoded}
+use Rattle.asn1_x691_decode.proofs.Steps.{at_node, put_step, nothing_decoded}
+use Rattle.asn1_x691.specs.Leaves.{integer_between_by, integer_at_least_by, integer, enumerated_by, bit_string, octet_string}
+use Rattle.asn1_x691_decode.proofs.Steps.{kept_outcome}
+use Rattle.asn1_x691_decode.proofs.+decoding.Goals as goal
+
+pub decode_node-returns-in-Some-Null-clause-did : goal.decoder::decode_node-returns-in-Some-Null-clause-did
+decode_node-returns-in-Some-Null-clause-did t c =
+    let cx = c.args.context.now in
+    let list = bits cx.octets.now in
+    at_node cx c.args.node c.args.depth (Some type.Null)
+    (λ (A : ℕ → Encoding FaultKind Parts). IsDecoded (A (position c.args.state.now)).encodes list c.args.state.now c.push.new.state c.args.parts.now c.push.new.parts)
+    (omega (arith, c.if-depth-eq0.false)) (sym c.node_at.ensures ∙ c.in-Some-Null.is ∙ ap (λ (n : Node). Some n) c.in-Some-Null.field-0-is)
+    ((put_step cx Null (λ at. constant []) c.args.state.now c.push.new.state c.args.parts.now c.push.new.parts c.requires.within
+    (record { at = c.push.ensures.at; first = c.push.ensures.first; end = c.push.ensures.end }) (c.push.ensures.grown list)).done
+    c.push.new.state c.push.new.parts (nothing_decoded cx c.push.new.state c.push.new.parts))
+
+pub decode_node-returns-in-Some-Boolean-clause-did : goal.decoder::decode_node-returns-in-Some-Boolean-clause-did
+decode_node-returns-in-Some-Boolean-clause-did t c =
+    let cx = c.args.context.now in
+    at_node cx c.args.node c.args.depth (Some type.Boolean)
+    (λ (A : ℕ → Encoding FaultKind Parts). Outcome cx A c.args.state.now c.decode_boolean.new.state c.args.parts.now c.decode_boolean.new.parts
+    c.decode_boolean.result)
+    (omega (arith, c.if-depth-eq0.false)) (sym c.node_at.ensures ∙ c.in-Some-Boolean.is ∙ ap (λ (n : Node). Some n) c.in-Some-Boolean.field-0-is)
+    c.decode_boolean.ensures.did
+
+pub decode_node-returns-in-Some-Sequence-clause-did : goal.decoder::decode_node-returns-in-Some-Sequence-clause-did
+decode_node-returns-in-Some-Sequence-clause-did t c =
+    let cx = c.args.context.now in
+    at_node cx c.args.node c.args.depth (Some (type.Sequence c.in-Some-Sequence.root c.in-Some-Sequence.is_extensible c.in-Some-Sequence.additions))
+    (λ (A : ℕ → Encoding FaultKind Parts). Outcome cx A c.args.state.now c.decode_sequence.new.state c.args.parts.now c.decode_sequence.new.parts
+    c.decode_sequence.result)
+    (omega (arith, c.if-depth-eq0.false))
+    (sym c.node_at.ensures ∙ c.in-Some-Sequence.is ∙ ap (λ (n : Node). Some n) c.in-Some-Sequence.field-0-is) c.decode_sequence.ensures.did
+
+pub decode_node-returns-in-Some-Open-clause-did : goal.decoder::decode_node-returns-in-Some-Open-clause-did
+decode_node-returns-in-Some-Open-clause-did t c =
+    let cx = c.args.context.now in
+    at_node cx c.args.node c.args.depth (Some (type.Open c.in-Some-Open.inner))
+    (λ (A : ℕ → Encoding FaultKind Parts). Outcome cx A c.args.state.now c.decode_enclosed.new.state c.args.parts.now c.decode_enclosed.new.parts
+    c.decode_enclosed.result)
+    (omega (arith, c.if-depth-eq0.false))
+    (sym c.node_at.ensures ∙ c.in-Some-Open.is ∙ ap (λ (n : Node). Some n) c.in-Some-Open.field-0-is) c.decode_enclosed.ensures.did
+
+pub decode_node-returns-else-is_none-clause-did : goal.decoder::decode_node-returns-else-is_none-clause-did
+decode_node-returns-else-is_none-clause-did t c =
+    let cx = c.args.context.now in
+    let k = c.in-Some-Choice in
+    at_node cx c.args.node c.args.depth (Some (type.Choice k.alternatives k.is_extensible k.additions))
+    (λ (B : ℕ → Encoding FaultKind Parts). Outcome cx B c.args.state.now c.decode_choice.new.state c.args.parts.now c.decode_choice.new.parts
+    c.decode_choice.result)
+    (omega (arith, c.if-depth-eq0.false)) (sym c.node_at.ensures ∙ k.is ∙ ap (λ (n : Node). Some n) k.field-0-is) c.decode_choice.ensures.did
+
+pub decode_node-returns-else-not-is_counted-clause-did : goal.decoder::decode_node-returns-else-not-is_counted-clause-did
+decode_node-returns-else-not-is_counted-clause-did t c =
+    let cx = c.args.context.now in
+    let k = c.in-Some-SequenceOf in
+    at_node cx c.args.node c.args.depth (Some (type.SequenceOf k.length k.is_extensible k.item))
+    (λ (B : ℕ → Encoding FaultKind Parts). Outcome cx B c.args.state.now c.decode_list.new.state c.args.parts.now c.decode_list.new.parts
+    c.decode_list.result)
+    (omega (arith, c.if-depth-eq0.false)) (sym c.node_at.ensures ∙ k.is ∙ ap (λ (n : Node). Some n) k.field-0-is) c.decode_list.ensures.did
+
+pub decode_node-returns-in-Some-IntegerBetween-clause-did : goal.decoder::decode_node-returns-in-Some-IntegerBetween-clause-did
+decode_node-returns-in-Some-IntegerBetween-clause-did t c =
+    let cx = c.args.context.now in
+    let a = c.args in
+    let k = c.in-Some-IntegerBetween in
+    let p = c.keep in
+    at_node cx a.node a.depth (Some (type.IntegerBetween k.bounds k.is_extensible))
+    (λ (B : ℕ → Encoding FaultKind Parts). Outcome cx B a.state.now p.new.state a.parts.now p.new.parts p.result)
+    (omega (arith, c.if-depth-eq0.false)) (sym c.node_at.ensures ∙ k.is ∙ ap (λ (n : Node). Some n) k.field-0-is)
+    (kept_outcome cx (λ at. (integer_between_by cx.is_aligned a.node k.is_extensible k.bounds.least k.bounds.range at).encoding) a.state.now c.next_integer_between_by-part.new.state p.new.state a.parts.now p.new.parts c.next_integer_between_by-part.result p.result
+    c.next_integer_between_by-part.ensures.onward c.next_integer_between_by-part.ensures.read (record { at = p.ensures.at; first = p.ensures.first; end = p.ensures.end }) p.ensures.kept)
+
+pub decode_node-returns-in-Some-IntegerAtLeast-clause-did : goal.decoder::decode_node-returns-in-Some-IntegerAtLeast-clause-did
+decode_node-returns-in-Some-IntegerAtLeast-clause-did t c =
+    let cx = c.args.context.now in
+    let a = c.args in
+    let k = c.in-Some-IntegerAtLeast in
+    let p = c.keep-in-Some-IntegerAtLeast in
+    at_node cx a.node a.depth (Some (type.IntegerAtLeast k.bound k.is_extensible))
+    (λ (B : ℕ → Encoding FaultKind Parts). Outcome cx B a.state.now p.new.state a.parts.now p.new.parts p.result)
+    (omega (arith, c.if-depth-eq0.false)) (sym c.node_at.ensures ∙ k.is ∙ ap (λ (n : Node). Some n) k.field-0-is)
+    (kept_outcome cx (λ at. (integer_at_least_by cx.is_aligned a.node k.is_extensible k.bound.least at).encoding) a.state.now c.next_integer_at_least_by-part.new.state p.new.state a.parts.now p.new.parts c.next_integer_at_least_by-part.result p.result
+    c.next_integer_at_least_by-part.ensures.onward c.next_integer_at_least_by-part.ensures.read (record { at = p.ensures.at; first = p.ensures.first; end = p.ensures.end }) p.ensures.kept)
+
+pub decode_node-returns-in-Some-Integer-clause-did : goal.decoder::decode_node-returns-in-Some-Integer-clause-did
+decode_node-returns-in-Some-Integer-clause-did t c =
+    let cx = c.args.context.now in
+    let a = c.args in
+    let k = c.in-Some-Integer in
+    let p = c.keep-in-Some-Integer in
+    at_node cx a.node a.depth (Some (type.Integer))
+    (λ (B : ℕ → Encoding FaultKind Parts). Outcome cx B a.state.now p.new.state a.parts.now p.new.parts p.result)
+    (omega (arith, c.if-depth-eq0.false)) (sym c.node_at.ensures ∙ k.is ∙ ap (λ (n : Node). Some n) k.field-0-is)
+    (kept_outcome cx (λ at. (integer cx.is_aligned a.node at).encoding) a.state.now c.next_integer.new.state p.new.state a.parts.now p.new.parts c.next_integer.result p.result
+    c.next_integer.ensures.onward c.next_integer.ensures.read (record { at = p.ensures.at; first = p.ensures.first; end = p.ensures.end }) p.ensures.kept)
+
+pub decode_node-returns-else-not-is_enumerable-clause-did : goal.decoder::decode_node-returns-else-not-is_enumerable-clause-did
+decode_node-returns-else-not-is_enumerable-clause-did t c =
+    let cx = c.args.context.now in
+    let a = c.args in
+    let k = c.in-Some-Enumerated in
+    let p = c.keep-in-Some-Enumerated in
+    at_node cx a.node a.depth (Some (type.Enumerated k.last k.is_extensible k.additions))
+    (λ (B : ℕ → Encoding FaultKind Parts). Outcome cx B a.state.now p.new.state a.parts.now p.new.parts p.result)
+    (omega (arith, c.if-depth-eq0.false)) (sym c.node_at.ensures ∙ k.is ∙ ap (λ (n : Node). Some n) k.field-0-is)
+    (kept_outcome cx (λ at. (enumerated_by cx.is_aligned a.node k.is_extensible k.last k.additions at).encoding) a.state.now c.next_enumerated-part.new.state p.new.state a.parts.now p.new.parts c.next_enumerated-part.result p.result
+    c.next_enumerated-part.ensures.onward c.next_enumerated-part.ensures.read (record { at = p.ensures.at; first = p.ensures.first; end = p.ensures.end }) p.ensures.kept)
+
+pub decode_node-returns-in-Some-BitString-clause-did : goal.decoder::decode_node-returns-in-Some-BitString-clause-did
+decode_node-returns-in-Some-BitString-clause-did t c =
+    let cx = c.args.context.now in
+    let a = c.args in
+    let k = c.in-Some-BitString in
+    let p = c.keep-in-Some-BitString in
+    at_node cx a.node a.depth (Some (type.BitString k.length k.is_extensible k.has_names))
+    (λ (B : ℕ → Encoding FaultKind Parts). Outcome cx B a.state.now p.new.state a.parts.now p.new.parts p.result)
+    (omega (arith, c.if-depth-eq0.false)) (sym c.node_at.ensures ∙ k.is ∙ ap (λ (n : Node). Some n) k.field-0-is)
+    (kept_outcome cx (λ at. (bit_string cx.is_aligned a.node k.length k.is_extensible k.has_names at).encoding) a.state.now c.next_bit_string-part.new.state p.new.state a.parts.now p.new.parts c.next_bit_string-part.result p.result
+    c.next_bit_string-part.ensures.onward c.next_bit_string-part.ensures.read (record { at = p.ensures.at; first = p.ensures.first; end = p.ensures.end }) p.ensures.kept)
+
+pub decode_node-returns-in-Some-OctetString-clause-did : goal.decoder::decode_node-returns-in-Some-OctetString-clause-did
+decode_node-returns-in-Some-OctetString-clause-did t c =
+    let cx = c.args.context.now in
+    let a = c.args in
+    let k = c.in-Some-OctetString in
+    let p = c.keep-in-Some-OctetString in
+    at_node cx a.node a.depth (Some (type.OctetString k.length k.is_extensible))
+    (λ (B : ℕ → Encoding FaultKind Parts). Outcome cx B a.state.now p.new.state a.parts.now p.new.parts p.result)
+    (omega (arith, c.if-depth-eq0.false)) (sym c.node_at.ensures ∙ k.is ∙ ap (λ (n : Node). Some n) k.field-0-is)
+    (kept_outcome cx (λ at. (octet_string cx.is_aligned a.node k.length k.is_extensible at).encoding) a.state.now c.next_octet_string.new.state p.new.state a.parts.now p.new.parts c.next_octet_string.result p.result
+    c.next_octet_string.ensures.onward c.next_octet_string.ensures.read (record { at = p.ensures.at; first = p.ensures.first; end = p.ensures.end }) p.ensures.kept)
