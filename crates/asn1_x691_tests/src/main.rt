@@ -1,0 +1,76 @@
+//! Tests of PER: a program that answers the rows of its stored input.
+//!
+//! A row is a variant, octets and a type, as `uper 20 seq:2 ? int:0..7 ! bool = seq2 absent true`. The
+//! rows are made by `scripts/x691-vectors`, with another compiler.
+#![tactic(auto)]
+
+mod parts;
+mod types;
+
+use asn1_schema::{Part, Tables};
+use asn1_test_rows::{Answers, RowError, octets, run, wrong};
+use asn1_x691_decode::{Context, Defaults, decode};
+use std::alloc::Global;
+use std::io::BufReader;
+use std::process::ExitCode;
+
+/// How many parts a value of a row has at most.
+const ROOM: usize = 1_000;
+
+/// How deep a value of a row is nested at most.
+const DEPTH: usize = 100;
+
+/// Decodes octets by the type that words name, and returns the parts or the fault in words.
+fn decoded(
+    alloc: Global,
+    is_aligned: bool,
+    octets: &[u8],
+    words: &[&str],
+) -> Result<String, RowError> {
+    let schema = types::schema_of(alloc, words)?;
+    let context = Context {
+        tables: Tables {
+            nodes: schema.nodes.as_slice(),
+            members: schema.members.as_slice(),
+            ranges: &[],
+        },
+        defaults: Defaults {
+            octets: &[],
+            rows: &[],
+        },
+        octets,
+        is_aligned,
+    };
+    if octets.len() > 1_000_000 {
+        return Err(wrong(alloc, "octets", "short message"));
+    }
+    let mut room = vec![in alloc; Part::Absent; ROOM]?;
+    match decode(&context, DEPTH, schema.node, room.as_mut_slice()) {
+        Ok(count) => parts::text_of(alloc, octets, room.as_slice(), count),
+        Err(fault) => parts::text_of_fault(alloc, fault),
+    }
+}
+
+/// The calls of the rows.
+struct Calls;
+
+impl Answers for Calls {
+    fn answer(&self, alloc: Global, call: &str, words: &[&str]) -> Result<String, RowError> {
+        let Some((message, words)) = words.split_first() else {
+            return Err(wrong(alloc, call, "call with octets"));
+        };
+        let message = octets(alloc, message)?;
+        match call {
+            "uper" => decoded(alloc, false, message.as_slice(), words),
+            "aper" => decoded(alloc, true, message.as_slice(), words),
+            _ => Err(wrong(alloc, call, "variant")),
+        }
+    }
+}
+
+/// Runs on standard input and output.
+fn main(rt: HostRuntime) -> Result<ExitCode, RowError> {
+    let mut input = BufReader::new(rt.alloc(), rt.stdin())?;
+    let status = run(rt.alloc(), &Calls, &mut input, &mut rt.stdout())?;
+    Ok(ExitCode::from(status))
+}
