@@ -1,7 +1,7 @@
 //! Tests of PER: a program that answers the rows of its stored input.
 //!
 //! A row is a variant, octets and a type, as `uper 20 seq:2 ? int:0..7 ! bool = seq2 absent true`. The
-//! rows are made by `scripts/x691-vectors`, with another compiler.
+//! rows are made by `scripts/x691-vectors`, with another compiler, and by `scripts/x691-model`.
 #![tactic(auto)]
 
 mod parts;
