@@ -7,7 +7,8 @@
 mod parts;
 mod types;
 
-use asn1_schema::{Part, Tables};
+use crate::types::{Schema, schema_of};
+use asn1_schema::{Part, Range, Rows, Tables};
 use asn1_test_rows::{Answers, RowError, octets, run, wrong};
 use asn1_x691_decode::{Context, Defaults, decode};
 use std::alloc::Global;
@@ -20,30 +21,36 @@ const ROOM: usize = 1_000;
 /// How deep a value of a row is nested at most.
 const DEPTH: usize = 100;
 
-/// Decodes octets by the type that words name, and returns the parts or the fault in words.
-fn decoded(
+/// No type of a row has an alphabet, and no component a default value.
+const NO_RANGES: [Range; 0] = [];
+
+const NO_OCTETS: [u8; 0] = [];
+
+const NO_ROWS: [Rows; 0] = [];
+
+/// Decodes octets by a schema, and returns the parts or the fault in words.
+fn decoded<'a>(
     alloc: Global,
     is_aligned: bool,
-    octets: &[u8],
-    words: &[&str],
+    octets: &'a [u8],
+    schema: &'a Schema,
 ) -> Result<String, RowError> {
-    let schema = types::schema_of(alloc, words)?;
+    if octets.len() > 1_000_000 {
+        return Err(wrong(alloc, "octets", "short message"));
+    }
     let context = Context {
         tables: Tables {
             nodes: schema.nodes.as_slice(),
             members: schema.members.as_slice(),
-            ranges: &[],
+            ranges: &NO_RANGES,
         },
         defaults: Defaults {
-            octets: &[],
-            rows: &[],
+            octets: &NO_OCTETS,
+            rows: &NO_ROWS,
         },
         octets,
         is_aligned,
     };
-    if octets.len() > 1_000_000 {
-        return Err(wrong(alloc, "octets", "short message"));
-    }
     let mut room = vec![in alloc; Part::Absent; ROOM]?;
     match decode(&context, DEPTH, schema.node, room.as_mut_slice()) {
         Ok(count) => parts::text_of(alloc, octets, room.as_slice(), count),
@@ -60,9 +67,10 @@ impl Answers for Calls {
             return Err(wrong(alloc, call, "call with octets"));
         };
         let message = octets(alloc, message)?;
+        let schema = schema_of(alloc, words)?;
         match call {
-            "uper" => decoded(alloc, false, message.as_slice(), words),
-            "aper" => decoded(alloc, true, message.as_slice(), words),
+            "uper" => decoded(alloc, false, message.as_slice(), &schema),
+            "aper" => decoded(alloc, true, message.as_slice(), &schema),
             _ => Err(wrong(alloc, call, "variant")),
         }
     }
