@@ -39,7 +39,8 @@ module _ (c : Context) where
   abbrev pub IsFirstFaultOfPrefix : ℕ → ℕ → FoundFault → Type 0
   IsFirstFaultOfPrefix depth node e = (types c depth node 0).encoding.fault message (named e)
 
-  -- the decoder does not read a length in fragments yet, or a type
+  -- at the bit is a length in fragments, or at the node a type that the decoder does not read yet. That decoding the message
+  -- leads there is not said.
   pub record IsNotSupported (e : FoundFault) : Type 0 where
     pub kind : e.kind ≡ Unsupported
     pub is : ((others : List Bool) × (drop e.at message ≡ true ∷ true ∷ others))
