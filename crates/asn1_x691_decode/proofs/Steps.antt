@@ -70,11 +70,11 @@ module _ (c : Context) where
   abbrev list : List Bool
   list = bits c.octets.now
 
-  -- what `behind` says from here on, `whole` says of all
-  pub record IsUnderway (whole behind : ℕ → Encoding FaultKind Parts) (old now : State) (was is : List Part) : Type 0 where
-    pub done : (new : State) (next : List Part) → IsDecoded (behind (position now)).encodes list now new is next
+  -- what `rule` says from here on, `whole` says of all
+  pub record IsUnderway (whole rule : ℕ → Encoding FaultKind Parts) (old now : State) (was is : List Part) : Type 0 where
+    pub done : (new : State) (next : List Part) → IsDecoded (rule (position now)).encodes list now new is next
         → IsDecoded (whole (position old)).encodes list old new was next
-    pub fault : (e : Fault FaultKind) → (behind (position now)).fault (rest list now) e
+    pub fault : (e : Fault FaultKind) → (rule (position now)).fault (rest list now) e
         → (whole (position old)).fault (rest list old) e
 
   pub same_step : (A : ℕ → Encoding FaultKind Parts) (s : State) (was : List Part) → IsUnderway A A s s was was
