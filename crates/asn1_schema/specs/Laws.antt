@@ -9,6 +9,7 @@ pub mod ComponentLaws
 pub mod ByStructure
 pub mod OneEncodingLaws
 pub mod PermittedLaws
+pub mod PhaseLaws
 pub mod EachLaws
 pub mod FieldLaws
 pub mod ExampleLaws

@@ -15,6 +15,8 @@ pub enum MisfitKind {
     DefaultValue,
     /// An item of a SET OF is before the one that precedes it.
     NotAscending,
+    /// The value exceeds a limit of the encoder.
+    Unsupported,
     /// The tables have no such node or member.
     NoNode,
     /// The value is nested deeper than the caller allows.

@@ -8,7 +8,7 @@ use Rattle.asn1_schema.specs.Encodings.{Encoding, then, number, value_where, eac
 use Rattle.asn1_x691.specs.declared.fault.FaultKind.{FaultKind}
 use Rattle.asn1_x691.specs.declared.fault.FaultKind.TheVariants.{Short, BelowLeast, InRoot, NotInAlphabet}
 use Rattle.asn1_x691.specs.Fields.{on_octet, constrained}
-use Rattle.asn1_x691.specs.Fragments.{all_units, most_fragments}
+use Rattle.asn1_x691.specs.Fragments.{all_units}
 use Rattle.asn1_x691.specs.Strings.{where_size, IsOfRoot, IsAddedSize}
 use Rattle.asn1_x691.specs.Alphabets.{width_of, HasCode}
 
@@ -48,15 +48,16 @@ module _ (aligned : Bool) (ranges : List Range) (node : ℕ) where
   sized_text least range =
       in_turn (constrained aligned range node) (λ d text. text) (λ d. sized_characters least range (least + d))
 
-  -- characters after their number, which `Yes` permits and `No` forbids
+module _ (most : ℕ) (aligned : Bool) (ranges : List Range) (node : ℕ) where
+  -- characters after their number, which `Yes` permits and `No` forbids, in so many fragments at most
   abbrev pub text_where : (ℕ → Type 0) → (ℕ → Type 0) → FaultKind → ℕ → Encoding FaultKind (List ℕ)
   text_where Yes No kind =
-      in_turn (all_units characters (λ a b. a ++ b) aligned node most_fragments) (λ v text. text)
+      in_turn (all_units (characters aligned ranges node) (λ a b. a ++ b) aligned node most) (λ v text. text)
       (λ v. where_size Yes No kind node v)
 
   abbrev pub text_of : Length → ℕ → Encoding FaultKind (List ℕ)
   text_of (AtLeast least) = text_where (λ n. least ≤ n) (λ n. n < least) BelowLeast
-  text_of (Between least range) = sized_text least range
+  text_of (Between least range) = sized_text aligned ranges node least range
 
   -- of a size that is none of the root (30.4)
   abbrev pub added_text : Length → ℕ → Encoding FaultKind (List ℕ)

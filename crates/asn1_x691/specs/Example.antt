@@ -8,6 +8,7 @@ use Rattle.asn1_schema.specs.Pieces.{Piece, Parts, Absent, Sequence, Truth, Inte
 use Rattle.asn1_schema.specs.TypeEncodings.{TypeEncoding, leaf}
 use Rattle.asn1_x691.specs.declared.fault.FaultKind.{FaultKind}
 use Rattle.asn1_x691.specs.Fields.{constrained}
+use Rattle.asn1_x691.specs.Fragments.{most_fragments}
 use Rattle.asn1_x691.specs.OpenTypes.{open_type}
 
 abbrev pub integer : ℕ → Piece
@@ -17,7 +18,7 @@ abbrev pub octet_integer : Bool → ℕ → TypeEncoding FaultKind
 octet_integer aligned = leaf (constrained aligned 255 1) integer 1
 
 abbrev pub opened : Bool → ℕ → TypeEncoding FaultKind
-opened aligned = open_type aligned 0 (octet_integer aligned)
+opened aligned = open_type most_fragments aligned 0 (octet_integer aligned)
 
 -- one octet, 05
 abbrev pub opened_five : List Bool
@@ -33,8 +34,8 @@ example_nodes =
 abbrev pub example_members : List Member
 example_members = record { node = 1; presence = Optional } ∷ record { node = 2; presence = Mandatory } ∷ []
 
-abbrev pub no_defaults : ℕ → List Bool
-no_defaults value = []
+abbrev pub no_defaults : ℕ → ℕ → List Bool
+no_defaults value phase = []
 
 -- without `a`, and `b` is true: a presence bit 0, and a bit 1
 abbrev pub example_parts : Parts

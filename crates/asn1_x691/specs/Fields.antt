@@ -16,6 +16,12 @@ zeros count node = then (number count Short node) (λ n u. u) (λ n. cases (n �
 abbrev pub to_octet : ℕ → ℕ
 to_octet at = (8 - at % 8) % 8
 
+-- how many bits of an octet precede a position: in the ALIGNED variant the encoding of a value depends on them, in the UNALIGNED variant
+-- on no position
+abbrev pub phase : Bool → ℕ → ℕ
+phase false at = 0
+phase true at = at % 8
+
 -- a field that begins at an octet in the ALIGNED variant: zeros up to the octet precede it (11.2.6, 11.5.7, 11.9.3.3)
 abbrev pub on_octet : {X : Type 0} → Bool → ℕ → Encoding FaultKind X → ℕ → Encoding FaultKind X
 on_octet false node A at = A

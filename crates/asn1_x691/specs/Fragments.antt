@@ -3,7 +3,7 @@ use Rattle.std.specs.Prelude.{ℕ, zero, suc, ◌+◌, ◌-◌, ◌*◌, ◌<◌
 use Rattle.asn1_schema.specs.Encodings.{Encoding, constant, invalid, then, cases, number, anywhere, in_turn, in_case}
 use Rattle.asn1_schema.specs.Fields.{raw_bits}
 use Rattle.asn1_x691.specs.declared.fault.FaultKind.{FaultKind}
-use Rattle.asn1_x691.specs.declared.fault.FaultKind.TheVariants.{Short, AboveMost, NotMinimal, Fragment}
+use Rattle.asn1_x691.specs.declared.fault.FaultKind.TheVariants.{Short, NotMinimal, Fragment, Unsupported}
 use Rattle.asn1_x691.specs.Fields.{on_octet, long_enough}
 
 -- a fragment of one to four times 16,384 units
@@ -24,7 +24,7 @@ units_octets node = then (number 8 Short node) (λ first n. n) (λ first. units_
 abbrev pub units_next : Bool → ℕ → ℕ → Encoding FaultKind ℕ
 units_next aligned node = on_octet aligned node (units_octets node)
 
--- the most fragments: with them, more units than a computer counts
+-- so many fragments are more units than a computer counts
 unfoldable pub most_fragments : ℕ
 most_fragments = 281474976710656
 
@@ -38,14 +38,19 @@ module _ {Y : Type 0} (U : ℕ → ℕ → Encoding FaultKind Y) (join : Y → Y
   abbrev pub units_then : ℕ → (ℕ → Encoding FaultKind (ℕ × Y)) → ℕ → Encoding FaultKind (ℕ × Y)
   units_then n R = in_turn (U n) (λ y v. (n + v.0, join y v.1)) (λ y. R)
 
-  -- the last units are fewer than 16,384, maybe none
-  abbrev pub last_units : ℕ → Encoding FaultKind (ℕ × Y)
-  last_units = in_turn (units_next aligned node) (λ n v. v) (λ n.
-      in_case (n < 16384) (units n) (16384 ≤ n) (anywhere (invalid NotMinimal node)))
+  -- fewer than 16,384 units, maybe none; a fragment has a fault of this kind
+  abbrev pub units_below : FaultKind → ℕ → Encoding FaultKind (ℕ × Y)
+  units_below kind = in_turn (units_next aligned node) (λ n v. v) (λ n.
+      in_case (n < 16384) (units n) (16384 ≤ n) (anywhere (invalid kind node)))
 
-  -- the largest fragments come first, so one of fewer than 65,536 units is followed by the last
+  -- the last units: another fragment would not be minimal
+  abbrev pub last_units : ℕ → Encoding FaultKind (ℕ × Y)
+  last_units = units_below NotMinimal
+
+  -- all units, in so many fragments at most and the last units. The largest fragments come first, so one of fewer than 65,536
+  -- units is followed by the last.
   abbrev pub all_units : ℕ → ℕ → Encoding FaultKind (ℕ × Y)
-  all_units zero = anywhere (invalid AboveMost node)
+  all_units zero = units_below Unsupported
   all_units (suc more) = in_turn (units_next aligned node) (λ n v. v) (λ n.
       in_case (n < 16384) (units n) (16384 ≤ n)
       (in_case (n < 65536) (units_then n last_units) (65536 ≤ n) (units_then n (all_units more))))
@@ -54,9 +59,9 @@ module _ {Y : Type 0} (U : ℕ → ℕ → Encoding FaultKind Y) (join : Y → Y
 abbrev pub bits_of_units : ℕ → ℕ → ℕ → ℕ → Encoding FaultKind (List Bool)
 bits_of_units unit node n = anywhere (raw_bits (unit * n) Short node)
 
-abbrev pub string : Bool → ℕ → ℕ → ℕ → Encoding FaultKind (ℕ × List Bool)
-string aligned unit node = all_units (bits_of_units unit node) (λ a b. a ++ b) aligned node most_fragments
+abbrev pub string : ℕ → Bool → ℕ → ℕ → ℕ → Encoding FaultKind (ℕ × List Bool)
+string most aligned unit node = all_units (bits_of_units unit node) (λ a b. a ++ b) aligned node most
 
 -- octets after their number (17.8)
-abbrev pub octets : Bool → ℕ → ℕ → Encoding FaultKind (List Bool)
-octets aligned node = in_turn (string aligned 8 node) (λ v u. v.1) (λ v. anywhere (constant (tt {0})))
+abbrev pub octets : ℕ → Bool → ℕ → ℕ → Encoding FaultKind (List Bool)
+octets most aligned node = in_turn (string most aligned 8 node) (λ v u. v.1) (λ v. anywhere (constant (tt {0})))

@@ -13,4 +13,6 @@ pub mod GoodTypes
 pub mod LeafLaws
 pub mod ItemLaws
 pub mod TypeLaws
+pub mod PhaseLaws
+pub mod TypePhaseLaws
 pub mod ExampleLaws

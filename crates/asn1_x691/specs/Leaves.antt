@@ -117,22 +117,24 @@ module _ (aligned : Bool) (node : ℕ) where
   bits_by false size A = A
   bits_by true size A = permitted (AreTrimmed size) (λ bits. ¬ (AreTrimmed size bits)) NotTrimmed node A
 
+-- lengths are in so many fragments at most
+module _ (most : ℕ) (aligned : Bool) (node : ℕ) where
   -- the number of the bits where it is not fixed, and the bits (16)
   abbrev pub bit_string : Length → Bool → Bool → ℕ → TypeEncoding FaultKind
   bit_string size is_extensible has_names =
-      string_by is_extensible (bits_by has_names size (string_of aligned 1 size node))
-      (bits_by has_names size (added_string aligned 1 size node)) Bits (AreAddedBits size)
+      string_by aligned node is_extensible (bits_by aligned node has_names size (string_of most aligned 1 size node))
+      (bits_by aligned node has_names size (added_string most aligned 1 size node)) Bits (AreAddedBits size)
 
   -- the same of octets (17)
   abbrev pub octet_string : Length → Bool → ℕ → TypeEncoding FaultKind
   octet_string size is_extensible =
-      string_by is_extensible (string_of aligned 8 size node) (added_string aligned 8 size node) Octets (AreAddedOctets size)
+      string_by aligned node is_extensible (string_of most aligned 8 size node) (added_string most aligned 8 size node) Octets (AreAddedOctets size)
 
   -- the number of the characters where it is not fixed, and the characters (30.1 to 30.5)
   abbrev pub text : Length → Bool → List Range → List Range → ℕ → TypeEncoding FaultKind
   text size is_extensible ranges whole =
-      string_by is_extensible (text_of aligned ranges node size) (added_text aligned whole node size) Text (IsAddedText size)
+      string_by aligned node is_extensible (text_of most aligned ranges node size) (added_text most aligned whole node size) Text (IsAddedText size)
 
   -- octets that are valid, after their number (24, 25, 30.6)
   abbrev pub contents : (List Bool → Type 0) → ℕ → TypeEncoding FaultKind
-  contents Valid = leaf (permitted Valid (λ list. ¬ (Valid list)) Contents node (octets aligned node)) Octets node
+  contents Valid = leaf (permitted Valid (λ list. ¬ (Valid list)) Contents node (octets most aligned node)) Octets node

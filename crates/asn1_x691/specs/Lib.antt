@@ -1,6 +1,7 @@
 -- The fields of X.691.
 pub mod Fields
 pub mod Fragments
+pub mod Limits
 pub mod Strings
 pub mod OpenTypes
 pub mod Alphabets

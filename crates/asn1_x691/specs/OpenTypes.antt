@@ -26,10 +26,10 @@ padding node n = record {
 abbrev pub complete : ℕ → (ℕ → TypeEncoding FaultKind) → Contents FaultKind Parts
 complete node A = then_contents (with_bits (A 0).encoding) (λ v u. v.0) (λ v. padding node (length v.1))
 
--- octets after their number; they are contents of something
-abbrev pub enclosing : Bool → ℕ → ℕ → Encoding FaultKind (⊤ × List Bool)
-enclosing aligned node = in_turn (octets aligned node) (λ contents u. (u, contents)) (λ contents. anywhere (constant tt))
+-- octets after their number, in so many fragments at most; they are contents of something
+abbrev pub enclosing : ℕ → Bool → ℕ → ℕ → Encoding FaultKind (⊤ × List Bool)
+enclosing most aligned node = in_turn (octets most aligned node) (λ contents u. (u, contents)) (λ contents. anywhere (constant tt))
 
 -- an open type: octets that are a complete encoding, after their number (11.2)
-abbrev pub open_type : Bool → ℕ → (ℕ → TypeEncoding FaultKind) → ℕ → TypeEncoding FaultKind
-open_type aligned node A = enclosed (enclosing aligned node) (complete node A) (A 0).misfit node
+abbrev pub open_type : ℕ → Bool → ℕ → (ℕ → TypeEncoding FaultKind) → ℕ → TypeEncoding FaultKind
+open_type most aligned node A = enclosed (enclosing most aligned node) (complete node A) (A 0).misfit node

@@ -36,21 +36,21 @@ abbrev pub sized_string : Bool → ℕ → ℕ → ℕ → ℕ → ℕ → Encod
 sized_string aligned unit least range node =
     in_turn (constrained aligned range node) (λ d bits. bits) (λ d. units_of aligned unit least range node (least + d))
 
--- units after their number, of which there are as many as `Yes` permits and `No` forbids
+-- units after their number, of which there are as many as `Yes` permits and `No` forbids, in so many fragments at most
 abbrev pub where_size : {X : Type 0} → (ℕ → Type 0) → (ℕ → Type 0) → FaultKind → ℕ → ℕ × X → ℕ → Encoding FaultKind X
 where_size Yes No kind node v = anywhere (cases (Yes v.0) (constant v.1) (No v.0) (invalid kind node))
 
-abbrev pub string_where : Bool → ℕ → (ℕ → Type 0) → (ℕ → Type 0) → FaultKind → ℕ → ℕ → Encoding FaultKind (List Bool)
-string_where aligned unit Yes No kind node =
-    in_turn (string aligned unit node) (λ v bits. bits) (λ v. where_size Yes No kind node v)
+abbrev pub string_where : ℕ → Bool → ℕ → (ℕ → Type 0) → (ℕ → Type 0) → FaultKind → ℕ → ℕ → Encoding FaultKind (List Bool)
+string_where most aligned unit Yes No kind node =
+    in_turn (string most aligned unit node) (λ v bits. bits) (λ v. where_size Yes No kind node v)
 
-abbrev pub long_string : Bool → ℕ → ℕ → ℕ → ℕ → Encoding FaultKind (List Bool)
-long_string aligned unit least node = string_where aligned unit (λ n. least ≤ n) (λ n. n < least) BelowLeast node
+abbrev pub long_string : ℕ → Bool → ℕ → ℕ → ℕ → ℕ → Encoding FaultKind (List Bool)
+long_string most aligned unit least node = string_where most aligned unit (λ n. least ≤ n) (λ n. n < least) BelowLeast node
 
 -- a string of units of so many bits, by its size constraint
-abbrev pub string_of : Bool → ℕ → Length → ℕ → ℕ → Encoding FaultKind (List Bool)
-string_of aligned unit (AtLeast least) node = long_string aligned unit least node
-string_of aligned unit (Between least range) node = sized_string aligned unit least range node
+abbrev pub string_of : ℕ → Bool → ℕ → Length → ℕ → ℕ → Encoding FaultKind (List Bool)
+string_of most aligned unit (AtLeast least) node = long_string most aligned unit least node
+string_of most aligned unit (Between least range) node = sized_string aligned unit least range node
 
 -- ---- sizes with an extension marker
 
@@ -68,5 +68,5 @@ abbrev pub AreAdded : ℕ → Length → List Bool → Type 0
 AreAdded unit size bits = (n : ℕ) × (length bits ≡ unit * n) × IsAddedSize size n
 
 -- a string of a size that is none of the root (16.6, 17.3)
-abbrev pub added_string : Bool → ℕ → Length → ℕ → ℕ → Encoding FaultKind (List Bool)
-added_string aligned unit size node = string_where aligned unit (IsAddedSize size) (IsOfRoot size) InRoot node
+abbrev pub added_string : ℕ → Bool → ℕ → Length → ℕ → ℕ → Encoding FaultKind (List Bool)
+added_string most aligned unit size node = string_where most aligned unit (IsAddedSize size) (IsOfRoot size) InRoot node

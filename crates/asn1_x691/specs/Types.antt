@@ -17,11 +17,12 @@ use Rattle.asn1_schema.specs.Encodings.{Encoding, invalid, anywhere, permitted}
 use Rattle.asn1_schema.specs.Fields.{raw_bits}
 use Rattle.asn1_schema.specs.TypeEncodings.{TypeEncoding, AfterHeader, nothing, invalid_type, several, several_by_bits, part, leaf, put, header, end_of_components, mandatory, optional, both, except_type, only_where}
 use Rattle.asn1_x691.specs.declared.fault.FaultKind.{FaultKind}
-use Rattle.asn1_x691.specs.declared.fault.FaultKind.TheVariants.{Short, BelowLeast, NoNode, TooDeep, NoAddition, InRoot, DefaultValue, NotAscending}
-use Rattle.asn1_x691.specs.Fields.{constrained, length_of, small_length, small_number}
+use Rattle.asn1_x691.specs.declared.fault.FaultKind.TheVariants.{Short, BelowLeast, NoNode, TooDeep, NoAddition, InRoot, DefaultValue, NotAscending, Unsupported}
+use Rattle.asn1_x691.specs.Fields.{phase, constrained, length_of, small_length, small_number}
 use Rattle.asn1_x691.specs.Fragments.{octets}
 use Rattle.asn1_x691.specs.Strings.{bit, IsOfRoot, IsAddedSize}
-use Rattle.asn1_x691.specs.OpenTypes.{complete, open_type}
+use Rattle.asn1_x691.specs.Limits.{Limits, IsOffOctet}
+use Rattle.asn1_x691.specs.OpenTypes.{open_type}
 use Rattle.asn1_x691.specs.Contents.{IsObjectIdentifier, IsRelativeIdentifier, IsUtf8Text}
 use Rattle.asn1_x691.specs.Leaves.{by_extension_bit, integer_between_by, integer_at_least_by, integer, enumerated_by, bit_string, octet_string, text, contents}
 
@@ -56,24 +57,20 @@ abbrev pub optional_count : List Member → ℕ → ℕ → ℕ
 optional_count members zero at = 0
 optional_count members (suc count) at = is_optional (slice_get members at) + optional_count members count (at + 1)
 
--- bits at a position encode a value, and these are its complete encoding
-pub record IsDefault (A : ℕ → TypeEncoding FaultKind) (node : ℕ) (default : List Bool) (at : ℕ) (list : List Bool) : Type 0 where
-  pub parts : Parts
-  pub here : (A at).encoding.encodes parts list
-  pub alone : (complete node A).fills parts default
-
 -- one list is before another: with zeros after it, to as many bits, it is the lesser number
 abbrev pub IsBefore : List Bool → List Bool → Type 0
 IsBefore list other = number list * 2 ^ length other < number other * 2 ^ length list
 
 -- bits at a position encode an item that is before the one whose bits precede it. The ALIGNED variant pads to octets of the message,
 -- so what is compared are their encodings at the beginning of a message.
-pub record IsMisplaced (A : ℕ → TypeEncoding FaultKind) (before : List Bool) (at : ℕ) (list : List Bool) : Type 0 where
+pub record IsMisplaced (aligned : Bool) (A : ℕ → TypeEncoding FaultKind) (before : List Bool) (at : ℕ) (list : List Bool) : Type 0 where
   pub first : Parts
   pub second : Parts
   pub first_bits : List Bool
   pub second_bits : List Bool
-  pub first_here : (A (at - length before)).encoding.encodes first before
+  pub began : ℕ
+  pub ended : phase aligned (began + length before) ≡ phase aligned at
+  pub first_here : (A began).encoding.encodes first before
   pub second_here : (A at).encoding.encodes second list
   pub first_alone : (A 0).encoding.encodes first first_bits
   pub second_alone : (A 0).encoding.encodes second second_bits
@@ -99,8 +96,9 @@ abbrev pub any_true : List Bool → Bool
 any_true [] = false
 any_true (b ∷ bits) = b || any_true bits
 
-module _ (aligned : Bool) (E : ℕ → ℕ → TypeEncoding FaultKind) (members : List Member) (ranges : List Range)
-    (defaults : ℕ → List Bool) (node : ℕ) where
+-- `defaults` has the bits that encode each default value, where so many bits of an octet precede them
+module _ (limits : Limits) (aligned : Bool) (E : ℕ → ℕ → TypeEncoding FaultKind) (members : List Member) (ranges : List Range)
+    (defaults : ℕ → ℕ → List Bool) (node : ℕ) where
   -- ---- SEQUENCE (19)
 
   -- a value that is not the default, which is absent (19.5)
@@ -108,7 +106,7 @@ module _ (aligned : Bool) (E : ℕ → ℕ → TypeEncoding FaultKind) (members 
   value_by presence.Mandatory A at = A at
   value_by presence.Optional A at = A at
   value_by (presence.Default value) A at =
-      except_type (IsDefault A node (defaults value) at) DefaultValue misfit.DefaultValue node (A at)
+      except_type (λ list. list ≡ defaults value (phase aligned at)) DefaultValue misfit.DefaultValue node (A at)
 
   -- a component, and others
   abbrev pub component_by : Presence → (ℕ → TypeEncoding FaultKind) → (ℕ → AfterHeader FaultKind (List Bool)) → ℕ
@@ -140,10 +138,10 @@ module _ (aligned : Bool) (E : ℕ → ℕ → TypeEncoding FaultKind) (members 
   -- an addition: an open type, whatever it holds where the schema does not know it (19.9)
   abbrev pub known_addition : Option Member → ℕ → TypeEncoding FaultKind
   known_addition None = no_node node
-  known_addition (Some m) = open_type aligned node (value_by m.presence (E m.node))
+  known_addition (Some m) = open_type limits.fragments aligned node (value_by m.presence (E m.node))
 
   abbrev pub addition : ℕ → ℕ → ℕ → TypeEncoding FaultKind
-  addition zero from = leaf (octets aligned node) Unknown node
+  addition zero from = leaf (octets limits.fragments aligned node) Unknown node
   addition (suc known) from = known_addition (slice_get members from)
 
   -- so many additions, of which the known ones are members from an index on; a bit tells of each whether it is present
@@ -178,7 +176,8 @@ module _ (aligned : Bool) (E : ℕ → ℕ → TypeEncoding FaultKind) (members 
 
   -- an item that is not before the one whose bits precede it
   abbrev pub in_order : ℕ → List Bool → ℕ → TypeEncoding FaultKind
-  in_order item before at = except_type (IsMisplaced (E item) before at) NotAscending misfit.NotAscending node (E item at)
+  in_order item before at = except_type (IsMisplaced aligned (E item) before at) NotAscending misfit.NotAscending node
+      (except_type (λ list. IsOffOctet limits.sets_on_octets aligned before at) Unsupported misfit.Unsupported node (E item at))
 
   -- so many items; those of a SET OF in ascending order (22.1)
   abbrev pub items : Bool → ℕ → ℕ → ℕ → TypeEncoding FaultKind
@@ -214,7 +213,7 @@ module _ (aligned : Bool) (E : ℕ → ℕ → TypeEncoding FaultKind) (members 
 
   -- an addition is an open type, whatever it holds where the schema does not know it (23.8)
   abbrev pub added : Rows → Bool → ℕ → ℕ → TypeEncoding FaultKind
-  added known false i = leaf (octets aligned node) Unknown node
+  added known false i = leaf (octets limits.fragments aligned node) Unknown node
   added known true i = known_addition (slice_get members (known.from + i))
 
   -- a bit 0 and the root, or a bit 1, the index of an addition, and the addition (23.5 to 23.8)
@@ -240,23 +239,23 @@ module _ (aligned : Bool) (E : ℕ → ℕ → TypeEncoding FaultKind) (members 
   type_of (Some (type.IntegerAtLeast bound is_extensible)) = integer_at_least_by aligned node is_extensible bound.least
   type_of (Some type.Integer) = integer aligned node
   type_of (Some (type.Enumerated last is_extensible known)) = enumerated_by aligned node is_extensible last known
-  type_of (Some (type.BitString size is_extensible has_names)) = bit_string aligned node size is_extensible has_names
-  type_of (Some (type.OctetString size is_extensible)) = octet_string aligned node size is_extensible
+  type_of (Some (type.BitString size is_extensible has_names)) = bit_string limits.fragments aligned node size is_extensible has_names
+  type_of (Some (type.OctetString size is_extensible)) = octet_string limits.fragments aligned node size is_extensible
   type_of (Some (type.Text size is_extensible alphabet whole)) =
-      text aligned node size is_extensible (slice_range ranges alphabet.from (alphabet.from + alphabet.count))
+      text limits.fragments aligned node size is_extensible (slice_range ranges alphabet.from (alphabet.from + alphabet.count))
       (slice_range ranges whole.from (whole.from + whole.count))
-  type_of (Some type.ObjectIdentifier) = contents aligned node IsObjectIdentifier
-  type_of (Some type.RelativeIdentifier) = contents aligned node IsRelativeIdentifier
-  type_of (Some type.Utf8String) = contents aligned node IsUtf8Text
+  type_of (Some type.ObjectIdentifier) = contents limits.fragments aligned node IsObjectIdentifier
+  type_of (Some type.RelativeIdentifier) = contents limits.fragments aligned node IsRelativeIdentifier
+  type_of (Some type.Utf8String) = contents limits.fragments aligned node IsUtf8Text
   type_of (Some (type.Sequence root is_extensible known)) = sequence_by is_extensible root known
   type_of (Some (type.SequenceOf size is_extensible item)) = sequence_of_by is_extensible false size item
   type_of (Some (type.SetOf size is_extensible item)) = sequence_of_by is_extensible true size item
   type_of (Some (type.Choice alternatives is_extensible known)) = choice_by is_extensible alternatives known
   -- octets that are a complete encoding, after their number (11.2)
-  type_of (Some (type.Open inner)) = open_type aligned node (E inner)
+  type_of (Some (type.Open inner)) = open_type limits.fragments aligned node (E inner)
 
 -- the type at a node, whose values are nested less deep than the depth
-abbrev pub type_at : Bool → List Node → List Member → List Range → (ℕ → List Bool) → ℕ → ℕ → ℕ → TypeEncoding FaultKind
-type_at aligned nodes members ranges defaults zero node = invalid_type TooDeep misfit.TooDeep node
-type_at aligned nodes members ranges defaults (suc depth) node =
-    type_of aligned (type_at aligned nodes members ranges defaults depth) members ranges defaults node (slice_get nodes node)
+abbrev pub type_at : Limits → Bool → List Node → List Member → List Range → (ℕ → ℕ → List Bool) → ℕ → ℕ → ℕ → TypeEncoding FaultKind
+type_at limits aligned nodes members ranges defaults zero node = invalid_type TooDeep misfit.TooDeep node
+type_at limits aligned nodes members ranges defaults (suc depth) node =
+    type_of limits aligned (type_at limits aligned nodes members ranges defaults depth) members ranges defaults node (slice_get nodes node)

@@ -36,6 +36,6 @@ pub enum FaultKind {
     NoNode,
     /// A value is nested deeper than the caller allows.
     TooDeep,
-    /// The decoder does not know the type, or a length in fragments. No definition has this fault.
+    /// The value exceeds a limit of the decoder, as `specs/Limits` defines them.
     Unsupported,
 }

@@ -7,6 +7,7 @@ ghost use Rattle.asn1_x691.specs.Fragments.{string, octets};
 ghost use Rattle.asn1_schema.specs.declared.tables.Node as node;
 ghost use Rattle.asn1_schema.specs.declared.tables.Member as member;
 ghost use Rattle.asn1_schema.specs.declared.tables.Range as range;
+ghost use Rattle.asn1_x691.specs.Limits.{Limits, no_limits};
 ghost use Rattle.asn1_x691.specs.Types.{type_at};
 ghost use Rattle.asn1_x691.specs.Example.{integer, opened, opened_five, example_nodes, example_members, no_defaults, example_parts, example_bits};
 ghost use Rattle.asn1_x691.specs.Fields.{constrained, length_of, small_length, semi_constrained, small_number, unconstrained};
@@ -65,23 +66,23 @@ pub fn laws_of_unconstrained()
     ensures encodes_one { (aligned : Bool) (node at : ℕ) → EncodesOne (unconstrained aligned node at).encodes }
 {}
 
-/// States the same of octets after their length (X.691 17.8).
+/// States the same of octets after their length (X.691 17.8), in so many fragments at most.
 pub fn laws_of_octets()
-    ensures decodes_one { (aligned : Bool) (node at : ℕ) → DecodesOne (octets aligned node at).encodes }
-    ensures fault { (aligned : Bool) (node at : ℕ)
-        → NamesFault (octets aligned node at).encodes (octets aligned node at).fault }
-    ensures encodes_one { (aligned : Bool) (node at : ℕ) → EncodesOne (octets aligned node at).encodes }
+    ensures decodes_one { (most : ℕ) (aligned : Bool) (node at : ℕ) → DecodesOne (octets most aligned node at).encodes }
+    ensures fault { (most : ℕ) (aligned : Bool) (node at : ℕ)
+        → NamesFault (octets most aligned node at).encodes (octets most aligned node at).fault }
+    ensures encodes_one { (most : ℕ) (aligned : Bool) (node at : ℕ) → EncodesOne (octets most aligned node at).encodes }
 {}
 
 /// States the same of units of so many bits after their number, which is in fragments from 16,384
 /// units on (X.691 11.9.3.5 to 11.9.3.8): BIT STRING and OCTET STRING without an upper bound.
 pub fn laws_of_string()
-    ensures decodes_one { (aligned : Bool) (unit node at : ℕ)
-        → DecodesOne (string aligned unit node at).encodes }
-    ensures fault { (aligned : Bool) (unit node at : ℕ)
-        → NamesFault (string aligned unit node at).encodes (string aligned unit node at).fault }
-    ensures encodes_one { (aligned : Bool) (unit node at : ℕ)
-        → EncodesOne (string aligned unit node at).encodes }
+    ensures decodes_one { (most : ℕ) (aligned : Bool) (unit node at : ℕ)
+        → DecodesOne (string most aligned unit node at).encodes }
+    ensures fault { (most : ℕ) (aligned : Bool) (unit node at : ℕ)
+        → NamesFault (string most aligned unit node at).encodes (string most aligned unit node at).fault }
+    ensures encodes_one { (most : ℕ) (aligned : Bool) (unit node at : ℕ)
+        → EncodesOne (string most aligned unit node at).encodes }
 {}
 
 /// States what holds of an open type (X.691 11.2) that holds an INTEGER (0..255), in both variants,
@@ -103,31 +104,31 @@ pub fn laws_of_an_open_type()
 {}
 
 /// States what holds of every type of every schema, in both variants, at each position of a
-/// message, for values that are nested less deep than the depth. `defaults` has the complete
-/// encodings of default values. The tables need no check.
+/// message, within any limits, for values that are nested less deep than the depth. `defaults` has
+/// the encodings of default values at each position in an octet. The tables need no check.
 pub fn laws_of_types()
     // Bits begin with an encoding of one value at most, which ends at one place.
-    ensures decodes_one { (aligned : Bool) (nodes : List node.Node) (members : List member.Member)
-        (ranges : List range.Range) (defaults : ℕ → List Bool) (depth place at : ℕ)
-        → DecodesOne (type_at aligned nodes members ranges defaults depth place at).encoding.encodes }
+    ensures decodes_one { (limits : Limits) (aligned : Bool) (nodes : List node.Node) (members : List member.Member)
+        (ranges : List range.Range) (defaults : ℕ → ℕ → List Bool) (depth place at : ℕ)
+        → DecodesOne (type_at limits aligned nodes members ranges defaults depth place at).encoding.encodes }
     // Otherwise their first fault is one.
-    ensures fault { (aligned : Bool) (nodes : List node.Node) (members : List member.Member)
-        (ranges : List range.Range) (defaults : ℕ → List Bool) (depth place at : ℕ)
-        → NamesFault (type_at aligned nodes members ranges defaults depth place at).encoding.encodes
-        (type_at aligned nodes members ranges defaults depth place at).encoding.fault }
+    ensures fault { (limits : Limits) (aligned : Bool) (nodes : List node.Node) (members : List member.Member)
+        (ranges : List range.Range) (defaults : ℕ → ℕ → List Bool) (depth place at : ℕ)
+        → NamesFault (type_at limits aligned nodes members ranges defaults depth place at).encoding.encodes
+        (type_at limits aligned nodes members ranges defaults depth place at).encoding.fault }
     // Parts begin with one value at most, which has one encoding; otherwise their first misfit is
     // one.
-    ensures encodes { (aligned : Bool) (nodes : List node.Node) (members : List member.Member)
-        (ranges : List range.Range) (defaults : ℕ → List Bool) (depth place at : ℕ)
-        → EncodesUniquely (type_at aligned nodes members ranges defaults depth place at).encoding.encodes
-        (type_at aligned nodes members ranges defaults depth place at).misfit }
+    ensures encodes { (limits : Limits) (aligned : Bool) (nodes : List node.Node) (members : List member.Member)
+        (ranges : List range.Range) (defaults : ℕ → ℕ → List Bool) (depth place at : ℕ)
+        → EncodesUniquely (type_at limits aligned nodes members ranges defaults depth place at).encoding.encodes
+        (type_at limits aligned nodes members ranges defaults depth place at).misfit }
     // Parts that begin with no value have a misfit.
-    ensures misfit { (aligned : Bool) (nodes : List node.Node) (members : List member.Member)
-        (ranges : List range.Range) (defaults : ℕ → List Bool) (depth place at : ℕ)
-        → NamesEachMisfit (type_at aligned nodes members ranges defaults depth place at).encoding.encodes
-        (type_at aligned nodes members ranges defaults depth place at).misfit }
+    ensures misfit { (limits : Limits) (aligned : Bool) (nodes : List node.Node) (members : List member.Member)
+        (ranges : List range.Range) (defaults : ℕ → ℕ → List Bool) (depth place at : ℕ)
+        → NamesEachMisfit (type_at limits aligned nodes members ranges defaults depth place at).encoding.encodes
+        (type_at limits aligned nodes members ranges defaults depth place at).misfit }
     // There are values: 01 encodes SEQUENCE { a ENUMERATED OPTIONAL, b BOOLEAN } without `a`,
     // where `b` is true.
-    ensures is { (type_at false example_nodes example_members [] no_defaults 2 0 0).encoding.encodes
+    ensures is { (type_at no_limits false example_nodes example_members [] no_defaults 2 0 0).encoding.encodes
         example_parts example_bits }
 {}

@@ -11,9 +11,9 @@ use Rattle.asn1_schema.specs.Laws.FieldLaws.{number_encodes_one}
 use Rattle.asn1_schema.specs.Laws.OneEncodingLaws.{then_encodes_one, in_turn_encodes_one, in_case_encodes_one, only_constant, constant_if_encodes_one}
 use Rattle.asn1_schema.specs.Laws.EachLaws.{value_where_sound, value_where_one, each_sound, each_one, each_length}
 use Rattle.asn1_x691.specs.declared.fault.FaultKind.{FaultKind}
-use Rattle.asn1_x691.specs.declared.fault.FaultKind.TheVariants.{Short, BelowLeast, InRoot, NotInAlphabet, NotMinimal}
+use Rattle.asn1_x691.specs.declared.fault.FaultKind.TheVariants.{Short, BelowLeast, InRoot, NotInAlphabet, NotMinimal, Unsupported}
 use Rattle.asn1_x691.specs.Fields.{on_octet, constrained}
-use Rattle.asn1_x691.specs.Fragments.{units, units_then, last_units, all_units, most_fragments}
+use Rattle.asn1_x691.specs.Fragments.{units, units_then, units_below, last_units, all_units}
 use Rattle.asn1_x691.specs.Strings.{where_size, IsOfRoot, IsAddedSize}
 use Rattle.asn1_x691.specs.Alphabets.{width_of, HasCode}
 use Rattle.asn1_x691.specs.Characters.{IsInlineText, IsOnOctetText, character, characters, sized_characters, sized_text, text_where, text_of, added_text}
@@ -117,12 +117,13 @@ module _ (aligned : Bool) (ranges : List Range) (node : ℕ) where
       let all : length (p.value ++ p.after.1) ≡ length p.value + length p.after.1 = length-append p.value p.after.1 in
       subst (λ (w : ℕ × List ℕ). IsCounted w) (sym p.is) (omega (arith, h, s, all))
 
-  last_counted : (at : ℕ) (v : ℕ × List ℕ) (k : List Bool) → (last_units U J aligned node at).encodes v k → IsCounted v
-  last_counted at v k p =
+  below_counted : (kind : FaultKind) (at : ℕ) (v : ℕ × List ℕ) (k : List Bool) → (units_below U J aligned node kind at).encodes v k
+      → IsCounted v
+  below_counted kind at v k p =
       subst (λ (w : ℕ × List ℕ). IsCounted w) (sym p.is) (each_of p.value (at + length p.front) p.after p.rest p.second)
     where
       each_of : (n to : ℕ) (w : ℕ × List ℕ) (l : List Bool)
-          → (in_case (n < 16384) (units U J aligned node n) (16384 ≤ n) (anywhere (invalid NotMinimal node)) to).encodes w l
+          → (in_case (n < 16384) (units U J aligned node n) (16384 ≤ n) (anywhere (invalid kind node)) to).encodes w l
           → IsCounted w
       each_of n to w l (inl q) = units_counted n to w l q.1
       each_of n to w l (inr q) = absurd q.1
@@ -133,11 +134,11 @@ module _ (aligned : Bool) (ranges : List Range) (node : ℕ) where
       (in_case (n < 65536) (units_then U J aligned node n (last_units U J aligned node)) (65536 ≤ n)
       (units_then U J aligned node n (all_units U J aligned node more))) to).encodes w l → IsCounted w
   next_counted more n to go w l (inl q) = units_counted n to w l q.1
-  next_counted more n to go w l (inr (low, inl q)) = then_counted n to (last_units U J aligned node) last_counted w l q.1
+  next_counted more n to go w l (inr (low, inl q)) = then_counted n to (last_units U J aligned node) (below_counted NotMinimal) w l q.1
   next_counted more n to go w l (inr (low, inr q)) = then_counted n to (all_units U J aligned node more) go w l q.1
 
   all_counted : (most at : ℕ) (v : ℕ × List ℕ) (k : List Bool) → (all_units U J aligned node most at).encodes v k → IsCounted v
-  all_counted zero at v k p = absurd p
+  all_counted zero at v k p = below_counted Unsupported at v k p
   all_counted (suc more) at v k p =
       subst (λ (w : ℕ × List ℕ). IsCounted w) (sym p.is)
       (next_counted more p.value (at + length p.front) (all_counted more) p.after p.rest p.second)
@@ -147,58 +148,60 @@ module _ (aligned : Bool) (ranges : List Range) (node : ℕ) where
       let count : x.0 ≡ y.0 = sym p ∙ ap length e ∙ q in
       ap (λ (c : ℕ). (c, x.1)) count ∙ ap (λ (b : List ℕ). (y.0, b)) e
 
-  text_where_sound : (Yes No : ℕ → Type 0) (kind : FaultKind) → ((n : ℕ) → Yes n → No n → ⊥)
-      → IsSoundEverywhere (text_where aligned ranges node Yes No kind)
-  text_where_sound Yes No kind not_both =
-      in_turn_of (all_units_sound U J aligned node characters_sound most_fragments)
-      (λ v at. cases_of (not_both v.0) constant_of (invalid_sound kind node))
+  -- in so many fragments at most
+  module _ (most : ℕ) where
+    text_where_sound : (Yes No : ℕ → Type 0) (kind : FaultKind) → ((n : ℕ) → Yes n → No n → ⊥)
+        → IsSoundEverywhere (text_where most aligned ranges node Yes No kind)
+    text_where_sound Yes No kind not_both =
+        in_turn_of (all_units_sound U J aligned node characters_sound most)
+        (λ v at. cases_of (not_both v.0) constant_of (invalid_sound kind node))
 
-  text_where_one : (Yes No : ℕ → Type 0) (kind : FaultKind) (at : ℕ)
-      → EncodesOne (text_where aligned ranges node Yes No kind at).encodes
-  text_where_one Yes No kind =
-      in_turn_encodes_one (all_units U J aligned node most_fragments) (λ v text. text) (λ v. where_size Yes No kind node v)
-      (all_units_one U J aligned node characters_sound characters_one joined_apart most_fragments)
-      (λ v at. constant_if_encodes_one _ _ v.1 kind node)
-      (λ x y u v at m n i j k l p q r s e.
-      let a = (only_constant _ _ x.1 u kind node k r).1 in
-      let b = (only_constant _ _ y.1 v kind node l s).1 in (
-        same_counted x y (all_counted most_fragments at x i p) (all_counted most_fragments at y j q) (sym a ∙ e ∙ b),
-        e,
-      ))
+    text_where_one : (Yes No : ℕ → Type 0) (kind : FaultKind) (at : ℕ)
+        → EncodesOne (text_where most aligned ranges node Yes No kind at).encodes
+    text_where_one Yes No kind =
+        in_turn_encodes_one (all_units U J aligned node most) (λ v text. text) (λ v. where_size Yes No kind node v)
+        (all_units_one U J aligned node characters_sound characters_one joined_apart most)
+        (λ v at. constant_if_encodes_one _ _ v.1 kind node)
+        (λ x y u v at m n i j k l p q r s e.
+        let a = (only_constant _ _ x.1 u kind node k r).1 in
+        let b = (only_constant _ _ y.1 v kind node l s).1 in (
+          same_counted x y (all_counted most at x i p) (all_counted most at y j q) (sym a ∙ e ∙ b),
+          e,
+        ))
 
-  text_where_size : (Yes No : ℕ → Type 0) (kind : FaultKind) (at : ℕ) (x : List ℕ) (k : List Bool)
-      → (text_where aligned ranges node Yes No kind at).encodes x k → Yes (length x)
-  text_where_size Yes No kind at x k p =
-      let g = only_constant _ _ p.value.1 p.after kind node p.rest p.second in
-      let counted : length p.value.1 ≡ p.value.0 = all_counted most_fragments at p.value p.front p.first in
-      let same : length x ≡ p.value.0 = ap length (p.is ∙ g.1) ∙ counted in
-      subst Yes (sym same) g.0
+    text_where_size : (Yes No : ℕ → Type 0) (kind : FaultKind) (at : ℕ) (x : List ℕ) (k : List Bool)
+        → (text_where most aligned ranges node Yes No kind at).encodes x k → Yes (length x)
+    text_where_size Yes No kind at x k p =
+        let g = only_constant _ _ p.value.1 p.after kind node p.rest p.second in
+        let counted : length p.value.1 ≡ p.value.0 = all_counted most at p.value p.front p.first in
+        let same : length x ≡ p.value.0 = ap length (p.is ∙ g.1) ∙ counted in
+        subst Yes (sym same) g.0
 
-  -- ---- by a size constraint
+    -- ---- by a size constraint
 
-  pub text_of_sound : (size : Length) → IsSoundEverywhere (text_of aligned ranges node size)
-  text_of_sound (AtLeast least) = text_where_sound (λ n. least ≤ n) (λ n. n < least) BelowLeast (not_below least)
-  text_of_sound (Between least range) = sized_text_sound least range
+    pub text_of_sound : (size : Length) → IsSoundEverywhere (text_of most aligned ranges node size)
+    text_of_sound (AtLeast least) = text_where_sound (λ n. least ≤ n) (λ n. n < least) BelowLeast (not_below least)
+    text_of_sound (Between least range) = sized_text_sound least range
 
-  pub text_of_one : (size : Length) (at : ℕ) → EncodesOne (text_of aligned ranges node size at).encodes
-  text_of_one (AtLeast least) = text_where_one (λ n. least ≤ n) (λ n. n < least) BelowLeast
-  text_of_one (Between least range) = sized_text_one least range
+    pub text_of_one : (size : Length) (at : ℕ) → EncodesOne (text_of most aligned ranges node size at).encodes
+    text_of_one (AtLeast least) = text_where_one (λ n. least ≤ n) (λ n. n < least) BelowLeast
+    text_of_one (Between least range) = sized_text_one least range
 
-  pub text_of_size : (size : Length) (at : ℕ) (x : List ℕ) (k : List Bool) → (text_of aligned ranges node size at).encodes x k
-      → IsOfRoot size (length x)
-  text_of_size (AtLeast least) at x k p = text_where_size (λ n. least ≤ n) (λ n. n < least) BelowLeast at x k p
-  text_of_size (Between least range) at x k p =
-      let few = constrained_within aligned range node at p.value p.front p.first in
-      let same : length x ≡ least + p.value =
-      ap length p.is ∙ sized_characters_length least range (least + p.value) (at + length p.front) p.after p.rest p.second in
-      (omega (arith, same), omega (arith, same, few))
+    pub text_of_size : (size : Length) (at : ℕ) (x : List ℕ) (k : List Bool) → (text_of most aligned ranges node size at).encodes x k
+        → IsOfRoot size (length x)
+    text_of_size (AtLeast least) at x k p = text_where_size (λ n. least ≤ n) (λ n. n < least) BelowLeast at x k p
+    text_of_size (Between least range) at x k p =
+        let few = constrained_within aligned range node at p.value p.front p.first in
+        let same : length x ≡ least + p.value =
+        ap length p.is ∙ sized_characters_length least range (least + p.value) (at + length p.front) p.after p.rest p.second in
+        (omega (arith, same), omega (arith, same, few))
 
-  pub added_text_sound : (size : Length) → IsSoundEverywhere (added_text aligned ranges node size)
-  added_text_sound size = text_where_sound (IsAddedSize size) (IsOfRoot size) InRoot (sizes_apart size)
+    pub added_text_sound : (size : Length) → IsSoundEverywhere (added_text most aligned ranges node size)
+    added_text_sound size = text_where_sound (IsAddedSize size) (IsOfRoot size) InRoot (sizes_apart size)
 
-  pub added_text_one : (size : Length) (at : ℕ) → EncodesOne (added_text aligned ranges node size at).encodes
-  added_text_one size = text_where_one (IsAddedSize size) (IsOfRoot size) InRoot
+    pub added_text_one : (size : Length) (at : ℕ) → EncodesOne (added_text most aligned ranges node size at).encodes
+    added_text_one size = text_where_one (IsAddedSize size) (IsOfRoot size) InRoot
 
-  pub added_text_is_added : (size : Length) (at : ℕ) (x : List ℕ) (k : List Bool)
-      → (added_text aligned ranges node size at).encodes x k → IsAddedSize size (length x)
-  added_text_is_added size at x k p = text_where_size (IsAddedSize size) (IsOfRoot size) InRoot at x k p
+    pub added_text_is_added : (size : Length) (at : ℕ) (x : List ℕ) (k : List Bool)
+        → (added_text most aligned ranges node size at).encodes x k → IsAddedSize size (length x)
+    added_text_is_added size at x k p = text_where_size (IsAddedSize size) (IsOfRoot size) InRoot at x k p

@@ -10,8 +10,8 @@ use Rattle.asn1_schema.specs.Laws.ByStructure.{then_of, cases_of, constant_of, i
 use Rattle.asn1_schema.specs.Laws.FieldLaws.{number_encodes_one, raw_bits_sound, raw_bits_encode_one}
 use Rattle.asn1_schema.specs.Laws.OneEncodingLaws.{then_encodes_one, in_turn_encodes_one, only_constant, constant_if_encodes_one, in_case_encodes_one}
 use Rattle.asn1_x691.specs.declared.fault.FaultKind.{FaultKind}
-use Rattle.asn1_x691.specs.declared.fault.FaultKind.TheVariants.{Short, AboveMost, NotMinimal, Fragment}
-use Rattle.asn1_x691.specs.Fragments.{fragment, units_after, units_octets, units_next, most_fragments, units, units_then, last_units, all_units, bits_of_units, string, octets}
+use Rattle.asn1_x691.specs.declared.fault.FaultKind.TheVariants.{Short, NotMinimal, Fragment, Unsupported}
+use Rattle.asn1_x691.specs.Fragments.{fragment, units_after, units_octets, units_next, units, units_then, units_below, last_units, all_units, bits_of_units, string, octets}
 use Rattle.asn1_x691.specs.Laws.FieldLaws.{on_octet_sound, long_enough_sound}
 use Rattle.asn1_x691.specs.Laws.OneEncodingLaws.{on_octet_one, inner, IsLong, long_of, Two, two_octets_one}
 
@@ -116,21 +116,21 @@ module _ {Y : Type 0} (U : ℕ → ℕ → Encoding FaultKind Y) (join : Y → Y
   units_sound : (n : ℕ) → IsSoundEverywhere (units U join aligned node n)
   units_sound n = in_turn_of (sound n) (λ y at. constant_sound (tt {0}))
 
-  last_units_sound : IsSoundEverywhere (last_units U join aligned node)
-  last_units_sound =
+  units_below_sound : (kind : FaultKind) → IsSoundEverywhere (units_below U join aligned node kind)
+  units_below_sound kind =
       in_turn_of (units_next_sound aligned node)
-      (λ n. in_case_of (λ a b. omega (arith, a, b)) (units_sound n) (λ at. invalid_sound NotMinimal node))
+      (λ n. in_case_of (λ a b. omega (arith, a, b)) (units_sound n) (λ at. invalid_sound kind node))
 
   units_then_sound : (n : ℕ) (R : ℕ → Encoding FaultKind (ℕ × Y)) → IsSoundEverywhere R
       → IsSoundEverywhere (units_then U join aligned node n R)
   units_then_sound n R r = in_turn_of (sound n) (λ y. r)
 
   pub all_units_sound : (most : ℕ) → IsSoundEverywhere (all_units U join aligned node most)
-  all_units_sound zero = λ at. invalid_sound AboveMost node
+  all_units_sound zero = units_below_sound Unsupported
   all_units_sound (suc more) =
       in_turn_of (units_next_sound aligned node)
       (λ n. in_case_of (λ a b. omega (arith, a, b)) (units_sound n)
-      (in_case_of (λ a b. omega (arith, a, b)) (units_then_sound n (last_units U join aligned node) last_units_sound)
+      (in_case_of (λ a b. omega (arith, a, b)) (units_then_sound n (last_units U join aligned node) (units_below_sound NotMinimal))
       (units_then_sound n (all_units U join aligned node more) (all_units_sound more))))
 
   -- ---- one encoding, where what is joined tells its parts
@@ -153,29 +153,27 @@ module _ {Y : Type 0} (U : ℕ → ℕ → Encoding FaultKind Y) (join : Y → Y
     units_count : (n at : ℕ) (v : ℕ × Y) (k : List Bool) → (units U join aligned node n at).encodes v k → v.0 ≡ n
     units_count n at v k p = first_of v (n, p.value) p.is
 
-    abbrev Last : ℕ → ℕ → Encoding FaultKind (ℕ × Y)
-    Last n = in_case (n < 16384) (units U join aligned node n) (16384 ≤ n) (anywhere (invalid NotMinimal node))
+    abbrev Below : FaultKind → ℕ → ℕ → Encoding FaultKind (ℕ × Y)
+    Below kind n = in_case (n < 16384) (units U join aligned node n) (16384 ≤ n) (anywhere (invalid kind node))
 
-    last_of : (n at : ℕ) (v : ℕ × Y) (k : List Bool) → (Last n at).encodes v k → (n < 16384) × (v.0 ≡ n)
-    last_of n at v k (inl p) = (p.0, units_count n at v k p.1)
-    last_of n at v k (inr p) = absurd p.1
+    below_of : (kind : FaultKind) (n at : ℕ) (v : ℕ × Y) (k : List Bool) → (Below kind n at).encodes v k → (n < 16384) × (v.0 ≡ n)
+    below_of kind n at v k (inl p) = (p.0, units_count n at v k p.1)
+    below_of kind n at v k (inr p) = absurd p.1
 
     -- the last are fewer than 16,384
     last_count : (at : ℕ) (v : ℕ × Y) (k : List Bool) → (last_units U join aligned node at).encodes v k → v.0 < 16384
     last_count at v k p =
-        let q = last_of p.value (at + length p.front) p.after p.rest p.second in
+        let q = below_of NotMinimal p.value (at + length p.front) p.after p.rest p.second in
         let e : v.0 ≡ p.after.0 = first_of v p.after p.is in
         omega (arith, q.0, q.1, e)
 
-    last_one : (at : ℕ) → EncodesOne (last_units U join aligned node at).encodes
-    last_one =
-        in_turn_encodes_one (units_next aligned node) (λ n v. v)
-        (λ n. in_case (n < 16384) (units U join aligned node n) (16384 ≤ n) (anywhere (invalid NotMinimal node)))
-        (units_next_one aligned node)
-        (λ n. in_case_encodes_one (n < 16384) (16384 ≤ n) (units U join aligned node n) (anywhere (invalid NotMinimal node))
+    below_one : (kind : FaultKind) (at : ℕ) → EncodesOne (units_below U join aligned node kind at).encodes
+    below_one kind =
+        in_turn_encodes_one (units_next aligned node) (λ n v. v) (Below kind) (units_next_one aligned node)
+        (λ n. in_case_encodes_one (n < 16384) (16384 ≤ n) (units U join aligned node n) (anywhere (invalid kind node))
         (λ a b. omega (arith, a, b)) (units_one n) (λ at. record { one = λ u k l p q. absurd p }))
         (λ x y u v at m n i j k l p q r s e.
-        (sym (last_of x m u k r).1 ∙ first_of u v e ∙ (last_of y n v l s).1, e))
+        (sym (below_of kind x m u k r).1 ∙ first_of u v e ∙ (below_of kind y n v l s).1, e))
 
     module _ (R : ℕ → Encoding FaultKind (ℕ × Y)) (r : (at : ℕ) → EncodesOne (R at).encodes) where
       units_then_one : (n at : ℕ) → EncodesOne (units_then U join aligned node n R at).encodes
@@ -238,13 +236,13 @@ module _ {Y : Type 0} (U : ℕ → ℕ → Encoding FaultKind Y) (join : Y → Y
         omega (arith, i.2, i.3, j.2, j.3, p.0, q.0)
 
     pub all_units_one : (most at : ℕ) → EncodesOne (all_units U join aligned node most at).encodes
-    all_units_one zero at = record { one = λ u k l p q. absurd p }
+    all_units_one zero at = below_one Unsupported at
     all_units_one (suc more) at =
         in_turn_encodes_one (units_next aligned node) (λ n v. v) (All more) (units_next_one aligned node)
         (λ n. in_case_encodes_one (n < 16384) (16384 ≤ n) (units U join aligned node n) (More more n) (λ a b. omega (arith, a, b)) (units_one n)
         (in_case_encodes_one (n < 65536) (65536 ≤ n) (units_then U join aligned node n (last_units U join aligned node))
         (units_then U join aligned node n (all_units U join aligned node more)) (λ a b. omega (arith, a, b))
-        (units_then_one (last_units U join aligned node) last_one n)
+        (units_then_one (last_units U join aligned node) (below_one NotMinimal) n)
         (units_then_one (all_units U join aligned node more) (all_units_one more) n)))
         (λ x y u v at m n i j k l p q r s e. (
           same_next x y u.0 v.0 (is_next aligned node at x i p) (is_next aligned node at y j q) (count_of more x m u k r)
@@ -258,15 +256,15 @@ joined_apart : (n : ℕ) (y z a b k l : List Bool) → length k ≡ n → y ≡ 
 joined_apart n y z a b k l p q r s e =
     same_fronts y z a b e (ap length q ∙ p ∙ sym r ∙ ap length (sym s))
 
-pub string_sound : (aligned : Bool) (unit node : ℕ) → IsSoundEverywhere (string aligned unit node)
-string_sound aligned unit node =
-    all_units_sound (bits_of_units unit node) (λ a b. a ++ b) aligned node (λ n at. raw_bits_sound (unit * n) Short node) most_fragments
+pub string_sound : (most : ℕ) (aligned : Bool) (unit node : ℕ) → IsSoundEverywhere (string most aligned unit node)
+string_sound most aligned unit node =
+    all_units_sound (bits_of_units unit node) (λ a b. a ++ b) aligned node (λ n at. raw_bits_sound (unit * n) Short node) most
 
-pub string_one : (aligned : Bool) (unit node at : ℕ) → EncodesOne (string aligned unit node at).encodes
-string_one aligned unit node =
+pub string_one : (most : ℕ) (aligned : Bool) (unit node at : ℕ) → EncodesOne (string most aligned unit node at).encodes
+string_one most aligned unit node =
     all_units_one (bits_of_units unit node) (λ a b. a ++ b) aligned node (λ n at. raw_bits_sound (unit * n) Short node)
     (λ n at. raw_bits_encode_one (unit * n) Short node)
-    (λ n at to y z a b k l p q e. joined_apart (unit * n) y z a b k l p.0 p.1 q.0 q.1 e) most_fragments
+    (λ n at to y z a b k l p q e. joined_apart (unit * n) y z a b k l p.0 p.1 q.0 q.1 e) most
 
 -- ---- octets
 
@@ -315,11 +313,12 @@ module _ (aligned : Bool) (unit node : ℕ) where
       subst (λ (x : ℕ × List Bool). IsHeld unit x list) (sym p.is)
       (record { size = omega (arith, same, both, more, first, rest); within = omega (arith, same, all, both, h.within) })
 
-  last_held : (at : ℕ) (v : ℕ × List Bool) (list : List Bool) → (last_units B J aligned node at).encodes v list → IsHeld unit v list
-  last_held at v list p = held_in v p.after list p.front p.rest p.is p.parts (each p.value (at + length p.front) p.after p.rest p.second)
+  below_held : (kind : FaultKind) (at : ℕ) (v : ℕ × List Bool) (list : List Bool) → (units_below B J aligned node kind at).encodes v list
+      → IsHeld unit v list
+  below_held kind at v list p = held_in v p.after list p.front p.rest p.is p.parts (each p.value (at + length p.front) p.after p.rest p.second)
     where
       each : (n to : ℕ) (w : ℕ × List Bool) (l : List Bool)
-          → (in_case (n < 16384) (units B J aligned node n) (16384 ≤ n) (anywhere (invalid NotMinimal node)) to).encodes w l
+          → (in_case (n < 16384) (units B J aligned node n) (16384 ≤ n) (anywhere (invalid kind node)) to).encodes w l
           → IsHeld unit w l
       each n to w l (inl q) = units_held n to w l q.1
       each n to w l (inr q) = absurd q.1
@@ -330,18 +329,18 @@ module _ (aligned : Bool) (unit node : ℕ) where
       (in_case (n < 65536) (units_then B J aligned node n (last_units B J aligned node)) (65536 ≤ n)
       (units_then B J aligned node n (all_units B J aligned node more))) to).encodes w l → IsHeld unit w l
   next_held more n to go w l (inl q) = units_held n to w l q.1
-  next_held more n to go w l (inr (low, inl q)) = then_held n to (last_units B J aligned node) last_held w l q.1
+  next_held more n to go w l (inr (low, inl q)) = then_held n to (last_units B J aligned node) (below_held NotMinimal) w l q.1
   next_held more n to go w l (inr (low, inr q)) = then_held n to (all_units B J aligned node more) go w l q.1
 
   pub all_held : (most at : ℕ) (v : ℕ × List Bool) (list : List Bool) → (all_units B J aligned node most at).encodes v list
       → IsHeld unit v list
-  all_held zero at v list p = absurd p
+  all_held zero at v list p = below_held Unsupported at v list p
   all_held (suc more) at v list p =
       held_in v p.after list p.front p.rest p.is p.parts
       (next_held more p.value (at + length p.front) (all_held more) p.after p.rest p.second)
 
-pub octets_sound : (aligned : Bool) (node : ℕ) → IsSoundEverywhere (octets aligned node)
-octets_sound aligned node = in_turn_of (string_sound aligned 8 node) (λ v at. constant_sound (tt {0}))
+pub octets_sound : (most : ℕ) (aligned : Bool) (node : ℕ) → IsSoundEverywhere (octets most aligned node)
+octets_sound most aligned node = in_turn_of (string_sound most aligned 8 node) (λ v at. constant_sound (tt {0}))
 
 same_counted : (u v : ℕ × List Bool) → length u.1 ≡ 8 * u.0 → length v.1 ≡ 8 * v.0 → u.1 ≡ v.1 → u ≡ v
 same_counted u v p q e =
@@ -349,20 +348,20 @@ same_counted u v p q e =
     let count : u.0 ≡ v.0 = omega (arith, p, q, same) in
     ap (λ (c : ℕ). (c, u.1)) count ∙ ap (λ (b : List Bool). (v.0, b)) e
 
-pub octets_one : (aligned : Bool) (node at : ℕ) → EncodesOne (octets aligned node at).encodes
-octets_one aligned node =
-    in_turn_encodes_one (string aligned 8 node) (λ v u. v.1) (λ v. anywhere (constant (tt {0}))) (string_one aligned 8 node)
+pub octets_one : (most : ℕ) (aligned : Bool) (node at : ℕ) → EncodesOne (octets most aligned node at).encodes
+octets_one most aligned node =
+    in_turn_encodes_one (string most aligned 8 node) (λ v u. v.1) (λ v. anywhere (constant (tt {0}))) (string_one most aligned 8 node)
     (λ v at. record { one = λ u k l p q. p.1 ∙ sym q.1 })
     (λ x y u v at m n i j k l p q r s e. (
-      same_counted x y (all_held aligned 8 node most_fragments at x i p).size (all_held aligned 8 node most_fragments at y j q).size e,
+      same_counted x y (all_held aligned 8 node most at x i p).size (all_held aligned 8 node most at y j q).size e,
       refl,
     ))
 
 -- octets are no longer than they with their number
-pub octets_fewer : (aligned : Bool) (node at : ℕ) (contents list : List Bool) → (octets aligned node at).encodes contents list
+pub octets_fewer : (most : ℕ) (aligned : Bool) (node at : ℕ) (contents list : List Bool) → (octets most aligned node at).encodes contents list
     → length contents ≤ length list
-octets_fewer aligned node at contents list p =
+octets_fewer most aligned node at contents list p =
     let few = (longer aligned 8 node list p.front p.rest p.parts).0 in
-    let h = all_held aligned 8 node most_fragments at p.value p.front p.first in
+    let h = all_held aligned 8 node most at p.value p.front p.first in
     let same : length contents ≡ length p.value.1 = ap length p.is in
     omega (arith, few, h.within, same)

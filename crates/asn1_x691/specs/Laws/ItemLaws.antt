@@ -6,14 +6,15 @@ use Rattle.asn1_schema.specs.declared.tables.Range.{Range}
 use Rattle.asn1_schema.specs.declared.tables.Member.{Member}
 use Rattle.asn1_schema.specs.declared.misfit.MisfitKind.TheVariants as misfit
 use Rattle.asn1_schema.specs.Pieces.{Count}
-use Rattle.asn1_schema.specs.TypeEncodings.{TypeEncoding, part}
+use Rattle.asn1_schema.specs.TypeEncodings.{TypeEncoding, part, except_type}
 use Rattle.asn1_schema.specs.Laws.TypeLaws.{IsGoodEverywhere, several_good, several_by_bits_good, except_type_good}
 use Rattle.asn1_schema.specs.Laws.HeaderLaws.{BeginsWith}
 use Rattle.asn1_schema.specs.Laws.PermittedLaws.{permitted_sound, permitted_one, permitted_is}
 use Rattle.asn1_x691.specs.declared.fault.FaultKind.{FaultKind}
-use Rattle.asn1_x691.specs.declared.fault.FaultKind.TheVariants.{BelowLeast, InRoot, NotAscending}
+use Rattle.asn1_x691.specs.declared.fault.FaultKind.TheVariants.{BelowLeast, InRoot, NotAscending, Unsupported}
 use Rattle.asn1_x691.specs.Fields.{constrained, length_of}
 use Rattle.asn1_x691.specs.Strings.{IsOfRoot, IsAddedSize}
+use Rattle.asn1_x691.specs.Limits.{Limits, IsOffOctet}
 use Rattle.asn1_x691.specs.Types.{IsMisplaced, count_from, IsAddedCount, length_at_least, added_length, in_order, items, sequence_of, sequence_of_by}
 use Rattle.asn1_x691.specs.Laws.FieldLaws.{constrained_sound, length_sound}
 use Rattle.asn1_x691.specs.Laws.OneEncodingLaws.{constrained_one, length_one}
@@ -22,40 +23,43 @@ use Rattle.asn1_x691.specs.Laws.RangeLaws.{not_below}
 use Rattle.asn1_x691.specs.Laws.GoodTypes.{IsType, part_type, by_bit_type}
 use Rattle.asn1_x691.specs.Laws.PieceLaws.{count_alike, count_from_alike, count_is_not_added}
 
-module _ (aligned : Bool) (E : ℕ → ℕ → TypeEncoding FaultKind) (e : (n : ℕ) → IsType (E n)) (members : List Member)
-    (ranges : List Range) (defaults : ℕ → List Bool) (node : ℕ) where
-  in_order_good : (item : ℕ) (before : List Bool) → IsGoodEverywhere (in_order aligned E members ranges defaults node item before)
+module _ (limits : Limits) (aligned : Bool) (E : ℕ → ℕ → TypeEncoding FaultKind) (e : (n : ℕ) → IsType (E n)) (members : List Member)
+    (ranges : List Range) (defaults : ℕ → ℕ → List Bool) (node : ℕ) where
+  in_order_good : (item : ℕ) (before : List Bool) → IsGoodEverywhere (in_order limits aligned E members ranges defaults node item before)
   in_order_good item before at =
-      except_type_good (IsMisplaced (E item) before at) NotAscending misfit.NotAscending node (E item at) ((e item).good at)
+      except_type_good (IsMisplaced aligned (E item) before at) NotAscending misfit.NotAscending node
+      (except_type (λ list. IsOffOctet limits.sets_on_octets aligned before at) Unsupported misfit.Unsupported node (E item at))
+      (except_type_good (λ list. IsOffOctet limits.sets_on_octets aligned before at) Unsupported misfit.Unsupported node (E item at)
+      ((e item).good at))
 
-  items_good : (is_set : Bool) (item n : ℕ) → IsGoodEverywhere (items aligned E members ranges defaults node is_set item n)
+  items_good : (is_set : Bool) (item n : ℕ) → IsGoodEverywhere (items limits aligned E members ranges defaults node is_set item n)
   items_good false item n = several_good (E item) (e item).good n
   items_good true item n =
-      several_by_bits_good (in_order aligned E members ranges defaults node item) (λ before. in_order_good item before) [] n
+      several_by_bits_good (in_order limits aligned E members ranges defaults node item) (λ before. in_order_good item before) [] n
 
-  sequence_of_type : (is_set : Bool) (size : Length) (item : ℕ) → IsType (sequence_of aligned E members ranges defaults node is_set size item)
+  sequence_of_type : (is_set : Bool) (size : Length) (item : ℕ) → IsType (sequence_of limits aligned E members ranges defaults node is_set size item)
   sequence_of_type is_set (AtLeast least) item =
-      part_type (length_at_least aligned least node) Count (λ n. items aligned E members ranges defaults node is_set item n) node
+      part_type (length_at_least aligned least node) Count (λ n. items limits aligned E members ranges defaults node is_set item n) node
       (permitted_sound (λ n. least ≤ n) (λ n. n < least) BelowLeast node (length_of aligned node) (not_below least)
       (length_sound aligned node))
       (permitted_one (λ n. least ≤ n) (λ n. n < least) BelowLeast node (length_of aligned node) (length_one aligned node)) count_alike
       (λ x p. cc) (λ n. items_good is_set item n)
   sequence_of_type is_set (Between least range) item =
       part_type (constrained aligned range node) (count_from least)
-      (λ d. items aligned E members ranges defaults node is_set item (least + d)) node (constrained_sound aligned range node)
+      (λ d. items limits aligned E members ranges defaults node is_set item (least + d)) node (constrained_sound aligned range node)
       (constrained_one aligned range node) (count_from_alike least) (λ x p. cc) (λ d. items_good is_set item (least + d))
 
   added_items_type : (is_set : Bool) (size : Length) (item : ℕ)
-      → IsType (part (added_length aligned size node) Count (λ n. items aligned E members ranges defaults node is_set item n) node)
+      → IsType (part (added_length aligned size node) Count (λ n. items limits aligned E members ranges defaults node is_set item n) node)
   added_items_type is_set size item =
-      part_type (added_length aligned size node) Count (λ n. items aligned E members ranges defaults node is_set item n) node
+      part_type (added_length aligned size node) Count (λ n. items limits aligned E members ranges defaults node is_set item n) node
       (permitted_sound (IsAddedSize size) (IsOfRoot size) InRoot node (length_of aligned node) (sizes_apart size)
       (length_sound aligned node))
       (permitted_one (IsAddedSize size) (IsOfRoot size) InRoot node (length_of aligned node) (length_one aligned node)) count_alike
       (λ x p. cc) (λ n. items_good is_set item n)
 
   items_begin : (is_set : Bool) (size : Length) (item at : ℕ)
-      → BeginsWith (λ p. ¬ (IsAddedCount size p)) (sequence_of aligned E members ranges defaults node is_set size item at)
+      → BeginsWith (λ p. ¬ (IsAddedCount size p)) (sequence_of limits aligned E members ranges defaults node is_set size item at)
   items_begin is_set (AtLeast least) item at = record {
     each = λ xs l p. (
       Count p.value,
@@ -71,11 +75,11 @@ module _ (aligned : Bool) (E : ℕ → ℕ → TypeEncoding FaultKind) (e : (n :
   }
 
   pub sequence_of_by_type : (b is_set : Bool) (size : Length) (item : ℕ)
-      → IsType (sequence_of_by aligned E members ranges defaults node b is_set size item)
+      → IsType (sequence_of_by limits aligned E members ranges defaults node b is_set size item)
   sequence_of_by_type false is_set size item = sequence_of_type is_set size item
   sequence_of_by_type true is_set size item =
-      by_bit_type node (IsAddedCount size) (sequence_of aligned E members ranges defaults node is_set size item)
-      (part (added_length aligned size node) Count (λ n. items aligned E members ranges defaults node is_set item n) node)
+      by_bit_type node (IsAddedCount size) (sequence_of limits aligned E members ranges defaults node is_set size item)
+      (part (added_length aligned size node) Count (λ n. items limits aligned E members ranges defaults node is_set item n) node)
       (sequence_of_type is_set size item) (added_items_type is_set size item) (λ at. items_begin is_set size item at)
       (λ at. record {
         each = λ xs l p. (

@@ -123,14 +123,6 @@ module _ (aligned : Bool) (node : ℕ) where
       (λ at. record { each = λ xs l p. (is p.value, p.after, p.is, λ q. absent at p.value p.front p.first q) })
       (λ at. record { each = λ xs l p. (is p.value, p.after, p.is, present at p.value p.front p.first) })
 
-  pub octet_string_type : (size : Length) (b : Bool) → IsType (octet_string aligned node size b)
-  octet_string_type size b =
-      string_by_type b (string_of aligned 8 size node) (added_string aligned 8 size node) Octets (AreAddedOctets size)
-      (string_of_sound aligned 8 node eight_apart size) (string_of_one aligned 8 node eight_apart size)
-      (added_string_sound aligned 8 node eight_apart size) (added_string_one aligned 8 node eight_apart size) octets_alike
-      (λ x p. cc) (λ at x k p q. string_is_not_added aligned 8 node eight_apart size at x k p q)
-      (λ at x k p. added_string_is_added aligned 8 node eight_apart size at x k p)
-
   module _ (size : Length) (A : ℕ → Encoding FaultKind (List Bool)) where
     bits_by_sound : (has_names : Bool) → IsSoundEverywhere A → IsSoundEverywhere (bits_by aligned node has_names size A)
     bits_by_sound false a = a
@@ -147,33 +139,43 @@ module _ (aligned : Bool) (node : ℕ) where
     bits_by_of false at x k p = (k, p)
     bits_by_of true at x k p = permitted_of (AreTrimmed size) (λ bits. ¬ (AreTrimmed size bits)) NotTrimmed node A at x k p
 
-  pub bit_string_type : (size : Length) (b has_names : Bool) → IsType (bit_string aligned node size b has_names)
+-- in so many fragments at most
+module _ (most : ℕ) (aligned : Bool) (node : ℕ) where
+  pub octet_string_type : (size : Length) (b : Bool) → IsType (octet_string most aligned node size b)
+  octet_string_type size b =
+      string_by_type aligned node b (string_of most aligned 8 size node) (added_string most aligned 8 size node) Octets (AreAddedOctets size)
+      (string_of_sound most aligned 8 node eight_apart size) (string_of_one most aligned 8 node eight_apart size)
+      (added_string_sound most aligned 8 node eight_apart size) (added_string_one most aligned 8 node eight_apart size) octets_alike
+      (λ x p. cc) (λ at x k p q. string_is_not_added most aligned 8 node eight_apart size at x k p q)
+      (λ at x k p. added_string_is_added most aligned 8 node eight_apart size at x k p)
+
+  pub bit_string_type : (size : Length) (b has_names : Bool) → IsType (bit_string most aligned node size b has_names)
   bit_string_type size b has_names =
-      string_by_type b (bits_by aligned node has_names size (string_of aligned 1 size node))
-      (bits_by aligned node has_names size (added_string aligned 1 size node)) Bits (AreAddedBits size)
-      (bits_by_sound size (string_of aligned 1 size node) has_names (string_of_sound aligned 1 node one_apart size))
-      (bits_by_one size (string_of aligned 1 size node) has_names (string_of_one aligned 1 node one_apart size))
-      (bits_by_sound size (added_string aligned 1 size node) has_names (added_string_sound aligned 1 node one_apart size))
-      (bits_by_one size (added_string aligned 1 size node) has_names (added_string_one aligned 1 node one_apart size)) bits_alike
+      string_by_type aligned node b (bits_by aligned node has_names size (string_of most aligned 1 size node))
+      (bits_by aligned node has_names size (added_string most aligned 1 size node)) Bits (AreAddedBits size)
+      (bits_by_sound aligned node size (string_of most aligned 1 size node) has_names (string_of_sound most aligned 1 node one_apart size))
+      (bits_by_one aligned node size (string_of most aligned 1 size node) has_names (string_of_one most aligned 1 node one_apart size))
+      (bits_by_sound aligned node size (added_string most aligned 1 size node) has_names (added_string_sound most aligned 1 node one_apart size))
+      (bits_by_one aligned node size (added_string most aligned 1 size node) has_names (added_string_one most aligned 1 node one_apart size)) bits_alike
       (λ x p. cc)
       (λ at x k p q.
-      let g = bits_by_of size (string_of aligned 1 size node) has_names at x k p in
-      string_is_not_added aligned 1 node one_apart size at x g.0 g.1 q)
+      let g = bits_by_of aligned node size (string_of most aligned 1 size node) has_names at x k p in
+      string_is_not_added most aligned 1 node one_apart size at x g.0 g.1 q)
       (λ at x k p.
-      let g = bits_by_of size (added_string aligned 1 size node) has_names at x k p in
-      added_string_is_added aligned 1 node one_apart size at x g.0 g.1)
+      let g = bits_by_of aligned node size (added_string most aligned 1 size node) has_names at x k p in
+      added_string_is_added most aligned 1 node one_apart size at x g.0 g.1)
 
-  pub contents_type : (Valid : List Bool → Type 0) → IsType (contents aligned node Valid)
+  pub contents_type : (Valid : List Bool → Type 0) → IsType (contents most aligned node Valid)
   contents_type Valid =
-      leaf_type (permitted Valid (λ list. ¬ (Valid list)) Contents node (octets aligned node)) Octets node
-      (permitted_sound Valid (λ list. ¬ (Valid list)) Contents node (octets aligned node) (λ x p q. q p) (octets_sound aligned node))
-      (permitted_one Valid (λ list. ¬ (Valid list)) Contents node (octets aligned node) (octets_one aligned node)) octets_alike
+      leaf_type (permitted Valid (λ list. ¬ (Valid list)) Contents node (octets most aligned node)) Octets node
+      (permitted_sound Valid (λ list. ¬ (Valid list)) Contents node (octets most aligned node) (λ x p q. q p) (octets_sound most aligned node))
+      (permitted_one Valid (λ list. ¬ (Valid list)) Contents node (octets most aligned node) (octets_one most aligned node)) octets_alike
       (λ x p. cc)
 
-  pub text_type : (size : Length) (b : Bool) (ranges whole : List Range) → IsType (text aligned node size b ranges whole)
+  pub text_type : (size : Length) (b : Bool) (ranges whole : List Range) → IsType (text most aligned node size b ranges whole)
   text_type size b ranges whole =
-      string_by_type b (text_of aligned ranges node size) (added_text aligned whole node size) Text (IsAddedText size)
-      (text_of_sound aligned ranges node size) (text_of_one aligned ranges node size) (added_text_sound aligned whole node size)
-      (added_text_one aligned whole node size) text_alike (λ x p. cc)
-      (λ at x k p q. sizes_apart size (length x) q (text_of_size aligned ranges node size at x k p))
-      (λ at x k p. added_text_is_added aligned whole node size at x k p)
+      string_by_type aligned node b (text_of most aligned ranges node size) (added_text most aligned whole node size) Text (IsAddedText size)
+      (text_of_sound aligned ranges node most size) (text_of_one aligned ranges node most size) (added_text_sound aligned whole node most size)
+      (added_text_one aligned whole node most size) text_alike (λ x p. cc)
+      (λ at x k p q. sizes_apart size (length x) q (text_of_size aligned ranges node most size at x k p))
+      (λ at x k p. added_text_is_added aligned whole node most size at x k p)

@@ -107,27 +107,27 @@ module _ (node : ℕ) (A : ℕ → TypeEncoding FaultKind) (a : IsGoodEverywhere
 
 -- ---- octets after their number
 
-enclosing_sound : (aligned : Bool) (node : ℕ) → IsSoundEverywhere (enclosing aligned node)
-enclosing_sound aligned node = in_turn_of (octets_sound aligned node) (λ contents at. constant_sound tt)
+enclosing_sound : (most : ℕ) (aligned : Bool) (node : ℕ) → IsSoundEverywhere (enclosing most aligned node)
+enclosing_sound most aligned node = in_turn_of (octets_sound most aligned node) (λ contents at. constant_sound tt)
 
 second_of : (a b : ⊤ × List Bool) → a ≡ b → a.1 ≡ b.1
 second_of a b e = ap (λ (v : ⊤ × List Bool). v.1) e
 
-enclosing_one : (aligned : Bool) (node at : ℕ) → EncodesOne (enclosing aligned node at).encodes
-enclosing_one aligned node =
-    in_turn_encodes_one (octets aligned node) (λ contents u. (u, contents)) (λ contents. anywhere (constant tt)) (octets_one aligned node)
+enclosing_one : (most : ℕ) (aligned : Bool) (node at : ℕ) → EncodesOne (enclosing most aligned node at).encodes
+enclosing_one most aligned node =
+    in_turn_encodes_one (octets most aligned node) (λ contents u. (u, contents)) (λ contents. anywhere (constant tt)) (octets_one most aligned node)
     (λ contents at. record { one = λ u k l p q. p.1 ∙ sym q.1 })
     (λ x y u v at m n i j k l p q r s e. (second_of (u, x) (v, y) e, refl))
 
-pub open_type_good : (aligned : Bool) (node : ℕ) (A : ℕ → TypeEncoding FaultKind) → IsGoodEverywhere A
-    → IsGoodEverywhere (open_type aligned node A)
-open_type_good aligned node A a at =
-    enclosed_good (enclosing aligned node) (complete node A) (A 0).misfit node at (enclosing_sound aligned node at)
-    (enclosing_one aligned node at) fewer (complete_is_sound node A a) (complete_encodes node A a) (complete_names node A a)
+pub open_type_good : (most : ℕ) (aligned : Bool) (node : ℕ) (A : ℕ → TypeEncoding FaultKind) → IsGoodEverywhere A
+    → IsGoodEverywhere (open_type most aligned node A)
+open_type_good most aligned node A a at =
+    enclosed_good (enclosing most aligned node) (complete node A) (A 0).misfit node at (enclosing_sound most aligned node at)
+    (enclosing_one most aligned node at) fewer (complete_is_sound node A a) (complete_encodes node A a) (complete_names node A a)
   where
-    fewer : (v : ⊤ × List Bool) (list : List Bool) → (enclosing aligned node at).encodes v list → length v.1 ≤ length list
+    fewer : (v : ⊤ × List Bool) (list : List Bool) → (enclosing most aligned node at).encodes v list → length v.1 ≤ length list
     fewer v list p =
         let all : length list ≡ length p.front + length p.rest = ap length p.parts ∙ length-append p.front p.rest in
-        let few = octets_fewer aligned node at p.value p.front p.first in
+        let few = octets_fewer most aligned node at p.value p.front p.first in
         let same : length v.1 ≡ length p.value = ap length (second_of v (p.after, p.value) p.is) in
         omega (arith, all, few, same)

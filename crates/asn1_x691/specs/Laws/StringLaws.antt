@@ -12,7 +12,7 @@ use Rattle.asn1_schema.specs.Laws.OneEncodingLaws.{then_encodes_one, in_turn_enc
 use Rattle.asn1_x691.specs.declared.fault.FaultKind.{FaultKind}
 use Rattle.asn1_x691.specs.declared.fault.FaultKind.TheVariants.{Short, BelowLeast, InRoot}
 use Rattle.asn1_x691.specs.Fields.{on_octet, constrained}
-use Rattle.asn1_x691.specs.Fragments.{most_fragments, string}
+use Rattle.asn1_x691.specs.Fragments.{string}
 use Rattle.asn1_x691.specs.Strings.{first_of, bit, IsInline, IsOnOctet, units_of, sized_string, where_size, string_where, string_of, IsOfRoot, IsAddedSize, AreAdded, added_string}
 use Rattle.asn1_x691.specs.Laws.FieldLaws.{on_octet_sound, constrained_sound}
 use Rattle.asn1_x691.specs.Laws.OneEncodingLaws.{on_octet_one, inner, constrained_one}
@@ -79,7 +79,7 @@ sizes_apart (Between least range) n (inr p) q = omega (arith, p, q.1)
 
 -- ---- strings, where units have bits: so many bits are those of one number of units
 
-module _ (aligned : Bool) (unit node : ℕ) (apart : (m n : ℕ) → unit * m ≡ unit * n → m ≡ n) where
+module _ (most : ℕ) (aligned : Bool) (unit node : ℕ) (apart : (m n : ℕ) → unit * m ≡ unit * n → m ≡ n) where
   pub sized_string_sound : (least range : ℕ) → IsSoundEverywhere (sized_string aligned unit least range node)
   sized_string_sound least range =
       in_turn_of (constrained_sound aligned range node) (λ d. units_of_sound aligned unit least range node (least + d))
@@ -97,9 +97,9 @@ module _ (aligned : Bool) (unit node : ℕ) (apart : (m n : ℕ) → unit * m �
       ))
 
   pub string_where_sound : (Yes No : ℕ → Type 0) (kind : FaultKind) → ((n : ℕ) → Yes n → No n → ⊥)
-      → IsSoundEverywhere (string_where aligned unit Yes No kind node)
+      → IsSoundEverywhere (string_where most aligned unit Yes No kind node)
   string_where_sound Yes No kind not_both =
-      in_turn_of (string_sound aligned unit node) (λ v at. cases_of (not_both v.0) constant_of (invalid_sound kind node))
+      in_turn_of (string_sound most aligned unit node) (λ v at. cases_of (not_both v.0) constant_of (invalid_sound kind node))
 
   same_units : (x y : ℕ × List Bool) → length x.1 ≡ unit * x.0 → length y.1 ≡ unit * y.0 → x.1 ≡ y.1 → x ≡ y
   same_units x y p q e =
@@ -107,23 +107,23 @@ module _ (aligned : Bool) (unit node : ℕ) (apart : (m n : ℕ) → unit * m �
       ap (λ (c : ℕ). (c, x.1)) count ∙ ap (λ (b : List Bool). (y.0, b)) e
 
   pub string_where_one : (Yes No : ℕ → Type 0) (kind : FaultKind) (at : ℕ)
-      → EncodesOne (string_where aligned unit Yes No kind node at).encodes
+      → EncodesOne (string_where most aligned unit Yes No kind node at).encodes
   string_where_one Yes No kind =
-      in_turn_encodes_one (string aligned unit node) (λ v bits. bits) (λ v. where_size Yes No kind node v)
-      (string_one aligned unit node) (λ v at. constant_if_encodes_one _ _ v.1 kind node)
+      in_turn_encodes_one (string most aligned unit node) (λ v bits. bits) (λ v. where_size Yes No kind node v)
+      (string_one most aligned unit node) (λ v at. constant_if_encodes_one _ _ v.1 kind node)
       (λ x y u v at m n i j k l p q r s e.
       let a = (only_constant _ _ x.1 u kind node k r).1 in
       let b = (only_constant _ _ y.1 v kind node l s).1 in (
-        same_units x y (all_held aligned unit node most_fragments at x i p).size (all_held aligned unit node most_fragments at y j q).size
+        same_units x y (all_held aligned unit node most at x i p).size (all_held aligned unit node most at y j q).size
             (sym a ∙ e ∙ b),
         e,
       ))
 
-  pub string_of_sound : (length : Length) → IsSoundEverywhere (string_of aligned unit length node)
+  pub string_of_sound : (length : Length) → IsSoundEverywhere (string_of most aligned unit length node)
   string_of_sound (AtLeast least) = string_where_sound (λ n. least ≤ n) (λ n. n < least) BelowLeast (not_below least)
   string_of_sound (Between least range) = sized_string_sound least range
 
-  pub string_of_one : (length : Length) (at : ℕ) → EncodesOne (string_of aligned unit length node at).encodes
+  pub string_of_one : (length : Length) (at : ℕ) → EncodesOne (string_of most aligned unit length node at).encodes
   string_of_one (AtLeast least) = string_where_one (λ n. least ≤ n) (λ n. n < least) BelowLeast
   string_of_one (Between least range) = sized_string_one least range
 
@@ -131,13 +131,13 @@ module _ (aligned : Bool) (unit node : ℕ) (apart : (m n : ℕ) → unit * m �
 
   -- a string has as many units as its size permits
   string_size : (Yes No : ℕ → Type 0) (kind : FaultKind) (at : ℕ) (x k : List Bool)
-      → (string_where aligned unit Yes No kind node at).encodes x k → (n : ℕ) × (length x ≡ unit * n) × Yes n
+      → (string_where most aligned unit Yes No kind node at).encodes x k → (n : ℕ) × (length x ≡ unit * n) × Yes n
   string_size Yes No kind at x k p =
       let g = only_constant _ _ p.value.1 p.after kind node p.rest p.second in
-      let held = all_held aligned unit node most_fragments at p.value p.front p.first in
+      let held = all_held aligned unit node most at p.value p.front p.first in
       (p.value.0, ap length (p.is ∙ g.1) ∙ held.size, g.0)
 
-  string_of_size : (size : Length) (at : ℕ) (x k : List Bool) → (string_of aligned unit size node at).encodes x k
+  string_of_size : (size : Length) (at : ℕ) (x k : List Bool) → (string_of most aligned unit size node at).encodes x k
       → (n : ℕ) × (length x ≡ unit * n) × IsOfRoot size n
   string_of_size (AtLeast least) at x k p = string_size (λ n. least ≤ n) (λ n. n < least) BelowLeast at x k p
   string_of_size (Between least range) at x k p =
@@ -147,19 +147,19 @@ module _ (aligned : Bool) (unit node : ℕ) (apart : (m n : ℕ) → unit * m �
         (omega arith, omega (arith, few)),
       )
 
-  pub string_is_not_added : (size : Length) (at : ℕ) (x k : List Bool) → (string_of aligned unit size node at).encodes x k
+  pub string_is_not_added : (size : Length) (at : ℕ) (x k : List Bool) → (string_of most aligned unit size node at).encodes x k
       → AreAdded unit size x → ⊥
   string_is_not_added size at x k p q =
       let r = string_of_size size at x k p in
       let e : q.0 ≡ r.0 = apart q.0 r.0 (sym q.1 ∙ r.1) in
       sizes_apart size r.0 (subst (λ (n : ℕ). IsAddedSize size n) e q.2) r.2
 
-  pub added_string_sound : (size : Length) → IsSoundEverywhere (added_string aligned unit size node)
+  pub added_string_sound : (size : Length) → IsSoundEverywhere (added_string most aligned unit size node)
   added_string_sound size = string_where_sound (IsAddedSize size) (IsOfRoot size) InRoot (sizes_apart size)
 
-  pub added_string_one : (size : Length) (at : ℕ) → EncodesOne (added_string aligned unit size node at).encodes
+  pub added_string_one : (size : Length) (at : ℕ) → EncodesOne (added_string most aligned unit size node at).encodes
   added_string_one size = string_where_one (IsAddedSize size) (IsOfRoot size) InRoot
 
-  pub added_string_is_added : (size : Length) (at : ℕ) (x k : List Bool) → (added_string aligned unit size node at).encodes x k
+  pub added_string_is_added : (size : Length) (at : ℕ) (x k : List Bool) → (added_string most aligned unit size node at).encodes x k
       → AreAdded unit size x
   added_string_is_added size at x k p = string_size (IsAddedSize size) (IsOfRoot size) InRoot at x k p

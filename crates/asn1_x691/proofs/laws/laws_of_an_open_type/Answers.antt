@@ -56,7 +56,7 @@ number_five = record {
   parts = refl;
 }
 
-one_unit : (string false 8 0 0).encodes (1, five) opened_five
+one_unit : (string most_fragments false 8 0 0).encodes (1, five) opened_five
 unfolding most_fragments
 one_unit = record {
   value = 1;
@@ -90,7 +90,7 @@ one_unit = record {
   parts = refl;
 }
 
-one_octet : (octets false 0 0).encodes five opened_five
+one_octet : (octets most_fragments false 0 0).encodes five opened_five
 one_octet = record {
   value = (1, five);
   after = tt;

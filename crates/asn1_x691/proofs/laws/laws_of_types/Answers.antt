@@ -5,16 +5,16 @@ use Rattle.asn1_x691.specs.Laws.TypeLaws.{type_at_type}
 use Rattle.asn1_x691.proofs.laws.laws_of_types.Goals as goal
 
 pub returns-clause-decodes_one : goal.returns-clause-decodes_one
-returns-clause-decodes_one c aligned nodes members ranges defaults depth place at = ((type_at_type aligned nodes members ranges defaults depth place).good at).decodes.one
+returns-clause-decodes_one c limits aligned nodes members ranges defaults depth place at = ((type_at_type limits aligned nodes members ranges defaults depth place).good at).decodes.one
 
 pub returns-clause-fault : goal.returns-clause-fault
-returns-clause-fault c aligned nodes members ranges defaults depth place at = ((type_at_type aligned nodes members ranges defaults depth place).good at).decodes.names
+returns-clause-fault c limits aligned nodes members ranges defaults depth place at = ((type_at_type limits aligned nodes members ranges defaults depth place).good at).decodes.names
 
 pub returns-clause-encodes : goal.returns-clause-encodes
-returns-clause-encodes c aligned nodes members ranges defaults depth place at = ((type_at_type aligned nodes members ranges defaults depth place).good at).encodes
+returns-clause-encodes c limits aligned nodes members ranges defaults depth place at = ((type_at_type limits aligned nodes members ranges defaults depth place).good at).encodes
 
 pub returns-clause-misfit : goal.returns-clause-misfit
-returns-clause-misfit c aligned nodes members ranges defaults depth place at = ((type_at_type aligned nodes members ranges defaults depth place).good at).names
+returns-clause-misfit c limits aligned nodes members ranges defaults depth place at = ((type_at_type limits aligned nodes members ranges defaults depth place).good at).names
 
 pub returns-clause-is : goal.returns-clause-is
 returns-clause-is c = record {

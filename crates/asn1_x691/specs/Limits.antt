@@ -1,0 +1,20 @@
+-- What a decoder or an encoder leaves out of X.691. Where a value exceeds a limit, the fault is `Unsupported`, and the limits are part
+-- of the definition, so that it is known exactly where that fault is. More than these it does not leave out.
+use Rattle.std.specs.Prelude.{ℕ, Bool, true, false, ◌%◌, ◌≡◌, ◌≢◌, ◌+◌, ◌<◌, ◌⊎◌, List, length}
+use Rattle.asn1_x691.specs.Fragments.{most_fragments}
+
+pub record Limits : Type 0 where
+  -- in how many fragments the units of a string may be, before the last units (11.9.3.8)
+  pub fragments : ℕ
+  -- in the ALIGNED variant, whether the items of a SET OF must begin at octets
+  pub sets_on_octets : Bool
+
+-- X.691
+abbrev pub no_limits : Limits
+no_limits = record { fragments = most_fragments; sets_on_octets = false }
+
+-- an item of a SET OF, or the one whose bits precede it, does not begin at an octet
+abbrev pub IsOffOctet : Bool → Bool → List Bool → ℕ → Type 0
+IsOffOctet false aligned before at = ⊥
+IsOffOctet true false before at = ⊥
+IsOffOctet true true before at = (0 < length before) × ((at % 8 ≢ 0) ⊎ (length before % 8 ≢ 0))
