@@ -1,5 +1,5 @@
 -- Examples: an open type that holds an INTEGER (0..255), and a SEQUENCE by its tables.
-use Rattle.std.specs.Prelude.{ℕ, pos, Bool, true, false, List, [], ◌∷◌}
+use Rattle.std.specs.Prelude.{ℕ, pos, Bool, true, false, List, [], ◌∷◌, Option, None}
 use Rattle.asn1_schema.specs.declared.tables.Member.{Member}
 use Rattle.asn1_schema.specs.declared.tables.Presence.TheVariants.{Mandatory, Optional}
 use Rattle.asn1_schema.specs.declared.tables.Node.{Node}
@@ -34,8 +34,8 @@ example_nodes =
 abbrev pub example_members : List Member
 example_members = record { node = 1; presence = Optional } ∷ record { node = 2; presence = Mandatory } ∷ []
 
-abbrev pub no_defaults : ℕ → ℕ → List Bool
-no_defaults value phase = []
+abbrev pub no_defaults : ℕ → ℕ → Option (List Bool)
+no_defaults value phase = None
 
 -- without `a`, and `b` is true: a presence bit 0, and a bit 1
 abbrev pub example_parts : Parts

@@ -96,9 +96,9 @@ abbrev pub any_true : List Bool → Bool
 any_true [] = false
 any_true (b ∷ bits) = b || any_true bits
 
--- `defaults` has the bits that encode each default value, where so many bits of an octet precede them
+-- `defaults` has the bits that encode a default value after so many bits of an octet, where the tables have it
 module _ (limits : Limits) (aligned : Bool) (E : ℕ → ℕ → TypeEncoding FaultKind) (members : List Member) (ranges : List Range)
-    (defaults : ℕ → ℕ → List Bool) (node : ℕ) where
+    (defaults : ℕ → ℕ → Option (List Bool)) (node : ℕ) where
   -- ---- SEQUENCE (19)
 
   -- a value that is not the default, which is absent (19.5)
@@ -106,7 +106,7 @@ module _ (limits : Limits) (aligned : Bool) (E : ℕ → ℕ → TypeEncoding Fa
   value_by presence.Mandatory A at = A at
   value_by presence.Optional A at = A at
   value_by (presence.Default value) A at =
-      except_type (λ list. list ≡ defaults value (phase aligned at)) DefaultValue misfit.DefaultValue node (A at)
+      except_type (λ list. defaults value (phase aligned at) ≡ Some list) DefaultValue misfit.DefaultValue node (A at)
 
   -- a component, and others
   abbrev pub component_by : Presence → (ℕ → TypeEncoding FaultKind) → (ℕ → AfterHeader FaultKind (List Bool)) → ℕ
@@ -255,7 +255,7 @@ module _ (limits : Limits) (aligned : Bool) (E : ℕ → ℕ → TypeEncoding Fa
   type_of (Some (type.Open inner)) = open_type limits.fragments aligned node (E inner)
 
 -- the type at a node, whose values are nested less deep than the depth
-abbrev pub type_at : Limits → Bool → List Node → List Member → List Range → (ℕ → ℕ → List Bool) → ℕ → ℕ → ℕ → TypeEncoding FaultKind
+abbrev pub type_at : Limits → Bool → List Node → List Member → List Range → (ℕ → ℕ → Option (List Bool)) → ℕ → ℕ → ℕ → TypeEncoding FaultKind
 type_at limits aligned nodes members ranges defaults zero node = invalid_type TooDeep misfit.TooDeep node
 type_at limits aligned nodes members ranges defaults (suc depth) node =
     type_of limits aligned (type_at limits aligned nodes members ranges defaults depth) members ranges defaults node (slice_get nodes node)

@@ -1,6 +1,7 @@
 //! What holds of the fields that values are encoded by.
 
-ghost use Rattle.std.specs.Prelude.{ℕ, List, Bool, false, [], ◌∷◌};
+ghost use Rattle.std.specs.Prelude.{◌≡◌, ℕ, List, Bool, false, [], ◌∷◌, Option};
+ghost use Rattle.asn1_schema.specs.Pieces.{Parts};
 ghost use Rattle.asn1_schema.specs.Encodings.{DecodesOne, EncodesOne, NamesFault};
 ghost use Rattle.asn1_schema.specs.TypeEncodings.{EncodesUniquely, NamesEachMisfit};
 ghost use Rattle.asn1_x691.specs.Fragments.{string, octets};
@@ -10,7 +11,7 @@ ghost use Rattle.asn1_schema.specs.declared.tables.Range as range;
 ghost use Rattle.asn1_x691.specs.Limits.{Limits, no_limits};
 ghost use Rattle.asn1_x691.specs.Types.{type_at};
 ghost use Rattle.asn1_x691.specs.Example.{integer, opened, opened_five, example_nodes, example_members, no_defaults, example_parts, example_bits};
-ghost use Rattle.asn1_x691.specs.Fields.{constrained, length_of, small_length, semi_constrained, small_number, unconstrained};
+ghost use Rattle.asn1_x691.specs.Fields.{phase, constrained, length_of, small_length, semi_constrained, small_number, unconstrained};
 
 /// States what holds of a constrained whole number (X.691 11.5), in both variants, at each position
 /// of a message; it does nothing.
@@ -109,24 +110,31 @@ pub fn laws_of_an_open_type()
 pub fn laws_of_types()
     // Bits begin with an encoding of one value at most, which ends at one place.
     ensures decodes_one { (limits : Limits) (aligned : Bool) (nodes : List node.Node) (members : List member.Member)
-        (ranges : List range.Range) (defaults : ℕ → ℕ → List Bool) (depth place at : ℕ)
+        (ranges : List range.Range) (defaults : ℕ → ℕ → Option (List Bool)) (depth place at : ℕ)
         → DecodesOne (type_at limits aligned nodes members ranges defaults depth place at).encoding.encodes }
     // Otherwise their first fault is one.
     ensures fault { (limits : Limits) (aligned : Bool) (nodes : List node.Node) (members : List member.Member)
-        (ranges : List range.Range) (defaults : ℕ → ℕ → List Bool) (depth place at : ℕ)
+        (ranges : List range.Range) (defaults : ℕ → ℕ → Option (List Bool)) (depth place at : ℕ)
         → NamesFault (type_at limits aligned nodes members ranges defaults depth place at).encoding.encodes
         (type_at limits aligned nodes members ranges defaults depth place at).encoding.fault }
     // Parts begin with one value at most, which has one encoding; otherwise their first misfit is
     // one.
     ensures encodes { (limits : Limits) (aligned : Bool) (nodes : List node.Node) (members : List member.Member)
-        (ranges : List range.Range) (defaults : ℕ → ℕ → List Bool) (depth place at : ℕ)
+        (ranges : List range.Range) (defaults : ℕ → ℕ → Option (List Bool)) (depth place at : ℕ)
         → EncodesUniquely (type_at limits aligned nodes members ranges defaults depth place at).encoding.encodes
         (type_at limits aligned nodes members ranges defaults depth place at).misfit }
     // Parts that begin with no value have a misfit.
     ensures misfit { (limits : Limits) (aligned : Bool) (nodes : List node.Node) (members : List member.Member)
-        (ranges : List range.Range) (defaults : ℕ → ℕ → List Bool) (depth place at : ℕ)
+        (ranges : List range.Range) (defaults : ℕ → ℕ → Option (List Bool)) (depth place at : ℕ)
         → NamesEachMisfit (type_at limits aligned nodes members ranges defaults depth place at).encoding.encodes
         (type_at limits aligned nodes members ranges defaults depth place at).misfit }
+    // At two positions a value has the same encodings: at any two in the UNALIGNED variant, and where
+    // as many bits of an octet precede them in the ALIGNED variant.
+    ensures positions { (limits : Limits) (aligned : Bool) (nodes : List node.Node) (members : List member.Member)
+        (ranges : List range.Range) (defaults : ℕ → ℕ → Option (List Bool)) (depth place p q : ℕ)
+        → phase aligned p ≡ phase aligned q → (parts : Parts) (list : List Bool)
+        → (type_at limits aligned nodes members ranges defaults depth place p).encoding.encodes parts list
+        → (type_at limits aligned nodes members ranges defaults depth place q).encoding.encodes parts list }
     // There are values: 01 encodes SEQUENCE { a ENUMERATED OPTIONAL, b BOOLEAN } without `a`,
     // where `b` is true.
     ensures is { (type_at no_limits false example_nodes example_members [] no_defaults 2 0 0).encoding.encodes

@@ -1,5 +1,5 @@
 -- Laws of SEQUENCE OF and SET OF.
-use Rattle.std.proofs.Common.{ℕ, ◌+◌, ◌<◌, ◌≤◌, Bool, true, false, List, []}
+use Rattle.std.proofs.Common.{ℕ, ◌+◌, ◌<◌, ◌≤◌, Bool, true, false, List, [], Option}
 use Rattle.asn1_schema.specs.declared.tables.Length.{Length}
 use Rattle.asn1_schema.specs.declared.tables.Length.TheVariants.{AtLeast, Between}
 use Rattle.asn1_schema.specs.declared.tables.Range.{Range}
@@ -24,7 +24,7 @@ use Rattle.asn1_x691.specs.Laws.GoodTypes.{IsType, part_type, by_bit_type}
 use Rattle.asn1_x691.specs.Laws.PieceLaws.{count_alike, count_from_alike, count_is_not_added}
 
 module _ (limits : Limits) (aligned : Bool) (E : ℕ → ℕ → TypeEncoding FaultKind) (e : (n : ℕ) → IsType (E n)) (members : List Member)
-    (ranges : List Range) (defaults : ℕ → ℕ → List Bool) (node : ℕ) where
+    (ranges : List Range) (defaults : ℕ → ℕ → Option (List Bool)) (node : ℕ) where
   in_order_good : (item : ℕ) (before : List Bool) → IsGoodEverywhere (in_order limits aligned E members ranges defaults node item before)
   in_order_good item before at =
       except_type_good (IsMisplaced aligned (E item) before at) NotAscending misfit.NotAscending node

@@ -56,14 +56,14 @@ open_type_type most aligned node A a = record {
 -- ---- all types
 
 module _ (limits : Limits) (aligned : Bool) (E : ℕ → ℕ → TypeEncoding FaultKind) (e : (n : ℕ) → IsType (E n)) (members : List Member)
-    (ranges : List Range) (defaults : ℕ → ℕ → List Bool) (node : ℕ) where
+    (ranges : List Range) (defaults : ℕ → ℕ → Option (List Bool)) (node : ℕ) where
   value_by_type : (p : Presence) (A : ℕ → TypeEncoding FaultKind) → IsType A → IsType (value_by limits aligned E members ranges defaults node p A)
   value_by_type presence.Mandatory A a = record { good = λ at. a.good at; present = λ at. a.present at }
   value_by_type presence.Optional A a = record { good = λ at. a.good at; present = λ at. a.present at }
   value_by_type (presence.Default value) A a = record {
-    good = λ at. except_type_good (λ list. list ≡ defaults value (phase aligned at)) DefaultValue misfit.DefaultValue node (A at) (a.good at);
+    good = λ at. except_type_good (λ list. defaults value (phase aligned at) ≡ Some list) DefaultValue misfit.DefaultValue node (A at) (a.good at);
     present = λ at.
-        except_type_present (λ list. list ≡ defaults value (phase aligned at)) DefaultValue misfit.DefaultValue node (A at) (a.good at) (a.present at);
+        except_type_present (λ list. defaults value (phase aligned at) ≡ Some list) DefaultValue misfit.DefaultValue node (A at) (a.good at) (a.present at);
   }
 
   component_by_good : (p : Presence) (A : ℕ → TypeEncoding FaultKind) → IsType A → (F : ℕ → AfterHeader FaultKind (List Bool))
@@ -248,7 +248,7 @@ module _ (limits : Limits) (aligned : Bool) (E : ℕ → ℕ → TypeEncoding Fa
   type_of_type (Some (type.Choice alternatives is_extensible known)) = choice_by_type is_extensible alternatives known
   type_of_type (Some (type.Open inner)) = open_type_type limits.fragments aligned node (E inner) (e inner)
 
-pub type_at_type : (limits : Limits) (aligned : Bool) (nodes : List Node) (members : List Member) (ranges : List Range) (defaults : ℕ → ℕ → List Bool) (depth node : ℕ)
+pub type_at_type : (limits : Limits) (aligned : Bool) (nodes : List Node) (members : List Member) (ranges : List Range) (defaults : ℕ → ℕ → Option (List Bool)) (depth node : ℕ)
     → IsType (type_at limits aligned nodes members ranges defaults depth node)
 type_at_type limits aligned nodes members ranges defaults zero node = record {
   good = invalid_type_good TooDeep misfit.TooDeep node;

@@ -154,7 +154,7 @@ off_octet_follows true true before p q e (m, inl w) = (m, inl (λ h. w (e ∙ h)
 off_octet_follows true true before p q e (m, inr w) = (m, inr w)
 
 module _ (limits : Limits) (aligned : Bool) (E : ℕ → ℕ → TypeEncoding FaultKind) (e : (n : ℕ) → TypeFollows aligned (E n))
-    (members : List Member) (ranges : List Range) (defaults : ℕ → ℕ → List Bool) (node : ℕ) where
+    (members : List Member) (ranges : List Range) (defaults : ℕ → ℕ → Option (List Bool)) (node : ℕ) where
   abbrev Ph : Shifts (phase aligned)
   Ph = shifts aligned
 
@@ -163,8 +163,8 @@ module _ (limits : Limits) (aligned : Bool) (E : ℕ → ℕ → TypeEncoding Fa
   value_by_follows presence.Mandatory A a = record { same = λ p q e x list w. a.same p q e x list w }
   value_by_follows presence.Optional A a = record { same = λ p q e x list w. a.same p q e x list w }
   value_by_follows (presence.Default value) A a =
-      except_type_agrees Ph (λ at list. list ≡ defaults value (phase aligned at)) DefaultValue misfit.DefaultValue node A
-      (λ p q e list h. h ∙ ap (λ (i : ℕ). defaults value i) e) a
+      except_type_agrees Ph (λ at list. defaults value (phase aligned at) ≡ Some list) DefaultValue misfit.DefaultValue node A
+      (λ p q e list h. ap (λ (i : ℕ). defaults value i) (sym e) ∙ h) a
 
   component_by_follows : (p : Presence) (A : ℕ → TypeEncoding FaultKind) → TypeFollows aligned A
       → (F : ℕ → AfterHeader FaultKind (List Bool)) → AfterAgree (phase aligned) F
@@ -318,7 +318,7 @@ module _ (limits : Limits) (aligned : Bool) (E : ℕ → ℕ → TypeEncoding Fa
   type_of_follows (Some (type.Open inner)) = open_type_follows aligned node limits.fragments (E inner)
 
 pub type_at_follows : (limits : Limits) (aligned : Bool) (nodes : List Node) (members : List Member) (ranges : List Range)
-    (defaults : ℕ → ℕ → List Bool) (depth node : ℕ)
+    (defaults : ℕ → ℕ → Option (List Bool)) (depth node : ℕ)
     → TypeFollows aligned (type_at limits aligned nodes members ranges defaults depth node)
 type_at_follows limits aligned nodes members ranges defaults zero node = record { same = λ p q e x list w. absurd w }
 type_at_follows limits aligned nodes members ranges defaults (suc depth) node =
