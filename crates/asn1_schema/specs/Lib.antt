@@ -1,6 +1,7 @@
 -- The algebra of encoding rules.
 pub mod Encodings
 pub mod Pieces
+pub mod CharactersOfParts
 pub mod PiecesOfParts
 pub mod Fields
 pub mod TypeEncodings

@@ -1,5 +1,7 @@
 //! The parts of a value.
 
+use crate::tables::Rows;
+
 /// Bits of a message.
 #[derive(Clone, Copy, Debug, PartialEq, Eq)]
 pub struct Span {
@@ -16,6 +18,28 @@ pub enum Natural {
     Small(u64),
     /// The bits of the message that are its binary digits.
     Large(Span),
+}
+
+/// What the codes of characters tell.
+#[derive(Clone, Copy, Debug, PartialEq, Eq)]
+pub enum Codes {
+    /// A code is the number of a character.
+    Numbers,
+    /// A code is the index of a character among those of these ranges, in ascending order.
+    Indices(Rows),
+}
+
+/// Characters of a message, one after another.
+#[derive(Clone, Copy, Debug, PartialEq, Eq)]
+pub struct Characters {
+    /// The index of the first bit.
+    pub at: usize,
+    /// How many characters there are.
+    pub count: usize,
+    /// How many bits the code of each has.
+    pub width: usize,
+    /// What their codes tell.
+    pub codes: Codes,
 }
 
 /// A part of a value. A value is a list of parts in the order of the type's text: each component of
@@ -49,6 +73,8 @@ pub enum Part {
     Bits(Span),
     /// OCTET STRING, or octets that are kept by their contents.
     Octets(Span),
+    /// A string of characters whose alphabet is known.
+    Text(Characters),
     /// SEQUENCE or SET.
     Sequence {
         /// How many components of the root follow.

@@ -44,7 +44,7 @@ module _ (c : Context) (depth node : ℕ) where
 
     pub index_step : (last : ℕ) (old mid now : State) (was next : List Part) (i : ℕ) → last ≡ rows.count - 1 → IsWithin list old → IsOnward list old mid
         → Starts (constrained c.is_aligned last node (position old)).encodes (rest list old) i (rest list mid)
-        → IsSamePlace mid now → IsGrown list was mid.count next now.count (Chosen i ∷ []) → IsUnderway c A (H i) old now was next
+        → IsSamePlace mid now → IsGrown c.tables.ranges.now list was mid.count next now.count (Chosen i ∷ []) → IsUnderway c A (H i) old now was next
     index_step last old mid now was next i e h g s same grown =
         part_step c (constrained c.is_aligned (rows.count - 1) node) Chosen H old mid now was next i h g
         (subst (λ (n : ℕ). Starts (constrained c.is_aligned n node (position old)).encodes (rest list old) i (rest list mid)) e s) same grown
@@ -87,25 +87,25 @@ module _ (c : Context) (depth node : ℕ) where
 
     added_step : (i : ℕ) (b : Bool) (old mid now : State) (was next : List Part) → nat_lt i known.count ≡ b → IsWithin list old
         → IsOnward list old mid → Starts (small_number c.is_aligned node (position old)).encodes (rest list old) i (rest list mid)
-        → IsSamePlace mid now → IsGrown list was mid.count next now.count (added_alternative (rows.count - 1) b i ∷ [])
+        → IsSamePlace mid now → IsGrown c.tables.ranges.now list was mid.count next now.count (added_alternative (rows.count - 1) b i ∷ [])
         → IsUnderway c X (G b i) old now was next
     added_step i b old mid now was next e h g s same grown =
         subst (λ (x : Bool). IsUnderway c X (G x i) old now was next) e
         (part_step c (small_number c.is_aligned node) (alternative_of_addition (rows.count - 1) known.count) (λ k. G (nat_lt k known.count) k)
         old mid now was next i h g s same
-        (subst (λ (x : Bool). IsGrown list was mid.count next now.count (added_alternative (rows.count - 1) x i ∷ [])) (sym e) grown))
+        (subst (λ (x : Bool). IsGrown c.tables.ranges.now list was mid.count next now.count (added_alternative (rows.count - 1) x i ∷ [])) (sym e) grown))
 
     pub known_step : (i n : ℕ) (old mid now : State) (was next : List Part) → i < known.count → n ≡ rows.count - 1 + 1 + i → IsWithin list old
         → IsOnward list old mid → Starts (small_number c.is_aligned node (position old)).encodes (rest list old) i (rest list mid)
-        → IsSamePlace mid now → IsGrown list was mid.count next now.count (Chosen n ∷ [])
+        → IsSamePlace mid now → IsGrown c.tables.ranges.now list was mid.count next now.count (Chosen n ∷ [])
         → IsUnderway c X (λ at. (known_in c depth node (slice_get c.tables.members.now (known.from + i)) at).encoding) old now was next
     known_step i n old mid now was next lt e h g s same grown =
         added_step i true old mid now was next (lt-ltb i known.count lt) h g s same
-        (subst (λ (k : ℕ). IsGrown list was mid.count next now.count (Chosen k ∷ [])) e grown)
+        (subst (λ (k : ℕ). IsGrown c.tables.ranges.now list was mid.count next now.count (Chosen k ∷ [])) e grown)
 
     pub unknown_step : (i : ℕ) (old mid now : State) (was next : List Part) → known.count ≤ i → IsWithin list old
         → IsOnward list old mid → Starts (small_number c.is_aligned node (position old)).encodes (rest list old) i (rest list mid)
-        → IsSamePlace mid now → IsGrown list was mid.count next now.count (UnknownChosen i ∷ [])
+        → IsSamePlace mid now → IsGrown c.tables.ranges.now list was mid.count next now.count (UnknownChosen i ∷ [])
         → IsUnderway c X (λ at. (leaf (octets c.is_aligned node) Unknown node at).encoding) old now was next
     unknown_step i old mid now was next past h g s same grown =
         added_step i false old mid now was next (lt_false i known.count past) h g s same grown

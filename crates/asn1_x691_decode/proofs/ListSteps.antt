@@ -31,7 +31,7 @@ module _ (c : Context) (depth : ℕ) where
   V item at = (types c depth item at).encoding
 
   pub item_step : (item left more : ℕ) (old now : State) (was is : List Part) → more + 1 ≡ left → IsWithin list old → IsMoved list old now
-      → IsDecoded (V item (position old)).encodes list old now was is → IsUnderway c (I item left) (I item more) old now was is
+      → IsDecoded c.tables.ranges.now (V item (position old)).encodes list old now was is → IsUnderway c (I item left) (I item more) old now was is
   item_step item left more old now was is e h g d =
       let a : suc more ≡ left = omega (arith, e) in
       subst (λ (n : ℕ). IsUnderway c (I item n) (I item more) old now was is) a (value_step c (V item) (I item more) old now was is h g d)
@@ -40,7 +40,7 @@ module _ (c : Context) (depth : ℕ) where
   item_fault item zero at l e some w = absurd (omega (arith, some))
   item_fault item (suc left) at l e some w = inl w
 
-  pub no_items : (item left : ℕ) (s : State) (was : List Part) → left ≡ 0 → IsDecoded (I item left (position s)).encodes list s s was was
+  pub no_items : (item left : ℕ) (s : State) (was : List Part) → left ≡ 0 → IsDecoded c.tables.ranges.now (I item left (position s)).encodes list s s was was
   no_items item zero s was z = nothing_decoded c s was
   no_items item (suc left) s was z = absurd (omega (arith, z))
 
@@ -49,21 +49,21 @@ module _ (c : Context) (depth : ℕ) where
   module _ (node item : ℕ) where
     pub at_least_step : (least n : ℕ) (old mid now : State) (was next : List Part) → IsWithin list old → IsOnward list old mid
         → Starts (length_at_least c.is_aligned least node (position old)).encodes (rest list old) n (rest list mid)
-        → IsSamePlace mid now → IsGrown list was mid.count next now.count (Count n ∷ [])
+        → IsSamePlace mid now → IsGrown c.tables.ranges.now list was mid.count next now.count (Count n ∷ [])
         → IsUnderway c (λ at. (root_list_in c depth node (AtLeast least) item at).encoding) (I item n) old now was next
     at_least_step least n old mid now was next h g s same grown =
         part_step c (length_at_least c.is_aligned least node) Count (I item) old mid now was next n h g s same grown
 
     pub between_step : (least range d : ℕ) (old mid now : State) (was next : List Part) → IsWithin list old → IsOnward list old mid
         → Starts (constrained c.is_aligned range node (position old)).encodes (rest list old) d (rest list mid)
-        → IsSamePlace mid now → IsGrown list was mid.count next now.count (Count (least + d) ∷ [])
+        → IsSamePlace mid now → IsGrown c.tables.ranges.now list was mid.count next now.count (Count (least + d) ∷ [])
         → IsUnderway c (λ at. (root_list_in c depth node (Between least range) item at).encoding) (I item (least + d)) old now was next
     between_step least range d old mid now was next h g s same grown =
         part_step c (constrained c.is_aligned range node) (count_from least) (λ k. I item (least + k)) old mid now was next d h g s same grown
 
     pub added_step : (size : Length) (n : ℕ) (old mid now : State) (was next : List Part) → IsWithin list old → IsOnward list old mid
         → Starts (added_length c.is_aligned size node (position old)).encodes (rest list old) n (rest list mid)
-        → IsSamePlace mid now → IsGrown list was mid.count next now.count (Count n ∷ [])
+        → IsSamePlace mid now → IsGrown c.tables.ranges.now list was mid.count next now.count (Count n ∷ [])
         → IsUnderway c (λ at. (added_list_in c depth node size item at).encoding) (I item n) old now was next
     added_step size n old mid now was next h g s same grown =
         part_step c (added_length c.is_aligned size node) Count (I item) old mid now was next n h g s same grown

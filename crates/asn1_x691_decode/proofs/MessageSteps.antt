@@ -5,6 +5,7 @@ use Rattle.std.proofs.lemmas.List.{take_all}
 use Rattle.asn1_bits.specs.Bits.{bits}
 use Rattle.asn1_bits.specs.DigitLaws.{length-bits}
 use Rattle.asn1_schema.specs.declared.part.Part.{Part}
+use Rattle.asn1_schema.specs.declared.tables.Range.{Range}
 use Rattle.asn1_schema.specs.Encodings.{Fault, Starts}
 use Rattle.asn1_x691.specs.declared.fault.FaultKind.{FaultKind}
 use Rattle.asn1_x691.specs.OpenTypes.{complete}
@@ -15,8 +16,8 @@ use Rattle.asn1_x691_decode.specs.Room.{Holds}
 use Rattle.asn1_x691_decode.specs.Decoding.{IsDecoded, IsFilled, IsUnsupported, types}
 use Rattle.asn1_x691_decode.specs.Messages.{named, IsComplete, IsFirstFault, IsPrefix, IsFirstFaultOfPrefix, IsNotSupported}
 
-pub holds_none : (list : List Bool) (room : List Part) → Holds list room 0 []
-holds_none list room = record { kept = sym (take_all (length room) [] (omega arith)); many = inl refl }
+pub holds_none : (ranges : List Range) (list : List Bool) (room : List Part) → Holds ranges list room 0 []
+holds_none ranges list room = record { kept = sym (take_all (length room) [] (omega arith)); many = inl refl }
 
 module _ (c : Context) (s : State) (at : s.at ≡ 0) (first : s.first ≡ 0) (end : s.end ≡ 8 * length c.octets.now) where
   abbrev list : List Bool
@@ -47,11 +48,11 @@ module _ (c : Context) (s : State) (at : s.at ≡ 0) (first : s.first ≡ 0) (en
   unsupported_name new (inr u) = record { kind = u.0; is = inr u.1 }
 
   pub complete_message : (depth node : ℕ) (new : State) (was now : List Part) → s.count ≡ 0
-      → IsFilled (complete node (types c depth node)).fills list s new was now → IsComplete c depth node now new.count
+      → IsFilled c.tables.ranges.now (complete node (types c depth node)).fills list s new was now → IsComplete c depth node now new.count
   complete_message depth node new was now none f = record {
     parts = f.parts;
     encodes = subst (λ (l : List Bool). (complete node (types c depth node)).fills f.parts l) the_whole f.fills;
-    held = f.grown [] (subst (λ (n : ℕ). Holds list was n []) (sym none) (holds_none list was));
+    held = f.grown [] (subst (λ (n : ℕ). Holds c.tables.ranges.now list was n []) (sym none) (holds_none c.tables.ranges.now list was));
   }
 
   pub fault_message : (depth node : ℕ) (new : State) → IsMoved list s new
@@ -64,7 +65,7 @@ module _ (c : Context) (s : State) (at : s.at ≡ 0) (first : s.first ≡ 0) (en
   fault_message depth node new g (inr u) = inr (unsupported_name new u)
 
   pub prefix_message : (depth node : ℕ) (new : State) (was now : List Part) → s.count ≡ 0 → IsMoved list s new
-      → IsDecoded (types c depth node (position s)).encoding.encodes list s new was now
+      → IsDecoded c.tables.ranges.now (types c depth node (position s)).encoding.encodes list s new was now
       → IsPrefix c depth node now (record { parts = new.count; bits = new.at })
   prefix_message depth node new was now none g d =
       let e : rest list new ≡ drop new.at list =
@@ -74,7 +75,7 @@ module _ (c : Context) (s : State) (at : s.at ≡ 0) (first : s.first ≡ 0) (en
         starts = subst (λ (n : ℕ). Starts (types c depth node n).encoding.encodes list d.parts (drop new.at list)) no_position
             (subst (λ (l : List Bool). Starts (types c depth node (position s)).encoding.encodes l d.parts (drop new.at list)) the_whole
             (subst (λ (l : List Bool). Starts (types c depth node (position s)).encoding.encodes (rest list s) d.parts l) e d.starts));
-        held = d.grown [] (subst (λ (n : ℕ). Holds list was n []) (sym none) (holds_none list was));
+        held = d.grown [] (subst (λ (n : ℕ). Holds c.tables.ranges.now list was n []) (sym none) (holds_none c.tables.ranges.now list was));
       }
 
   pub prefix_fault : (depth node : ℕ) (new : State) → IsMoved list s new

@@ -46,7 +46,7 @@ module _ (c : Context) where
   list = bits c.octets.now
 
   pub complete_outcome : (A : ℕ → TypeEncoding FaultKind) (node : ℕ) (old mid new : State) (was is : List Part) (r : Bool)
-      → IsWithin list old → IsMoved list old mid → old.at ≡ old.first → IsDecoded (A (position old)).encoding.encodes list old mid was is
+      → IsWithin list old → IsMoved list old mid → old.at ≡ old.first → IsDecoded c.tables.ranges.now (A (position old)).encoding.encodes list old mid was is
       → new.count ≡ mid.count → IsEnd list node mid new r → OutcomeOfContents c (complete node A) old new was is r
   complete_outcome A node old mid new was is true h g begins d same e =
       let none : position old ≡ 0 = omega (arith, begins) in
@@ -65,7 +65,7 @@ module _ (c : Context) where
           is = refl;
           parts = s.parts;
         };
-        grown = subst (λ (n : ℕ). IsGrown list was old.count is n d.parts) (sym same) d.grown;
+        grown = subst (λ (n : ℕ). IsGrown c.tables.ranges.now list was old.count is n d.parts) (sym same) d.grown;
       }
   complete_outcome A node old mid new was is false h g begins d same e =
       let none : position old ≡ 0 = omega (arith, begins) in
@@ -145,7 +145,7 @@ module _ (c : Context) where
         farther = rw (more, n, k) refl
 
   pub contents_true : (F : Contents FaultKind Parts) (old new : State) (was is : List Part) (r : Bool) → r ≡ true
-      → OutcomeOfContents c F old new was is r → IsFilled F.fills list old new was is
+      → OutcomeOfContents c F old new was is r → IsFilled c.tables.ranges.now F.fills list old new was is
   contents_true F old new was is r e o = subst (λ (b : Bool). OutcomeOfContents c F old new was is b) e o
 
   pub contents_false : (F : Contents FaultKind Parts) (old new : State) (was is : List Part) (r : Bool) → r ≡ false

@@ -43,14 +43,14 @@ module _ (c : Context) (depth node : ℕ) where
     bit_step b old now was h g s = header_step c (anywhere (bit node)) after_bit old now was b h g s
 
     pub after_false : (b : Bool) (old now : State) (was next : List Part) → b ≡ false → IsWithin list old → IsSamePlace old now
-        → IsGrown list was old.count next now.count (Sequence root.count b ∷ [])
+        → IsGrown c.tables.ranges.now list was old.count next now.count (Sequence root.count b ∷ [])
         → IsUnderway c (after_bit b) (λ at. (R at).encoding) old now was next
     after_false true old now was next e h s g = absurd cc
     after_false false old now was next e h s g =
         put_step c (Sequence root.count false) (λ at. (R at).encoding) old now was next h s g
 
     pub after_true : (b : Bool) (old now : State) (was next : List Part) → b ≡ true → IsWithin list old → IsSamePlace old now
-        → IsGrown list was old.count next now.count (Sequence root.count b ∷ [])
+        → IsGrown c.tables.ranges.now list was old.count next now.count (Sequence root.count b ∷ [])
         → IsUnderway c (after_bit b) (λ at. (both R X at).encoding) old now was next
     after_true true old now was next e h s g =
         put_step c (Sequence root.count true) (λ at. (both R X at).encoding) old now was next h s g
@@ -71,7 +71,7 @@ module _ (c : Context) (depth node : ℕ) where
 
     pub count_step : (old mid now : State) (was next : List Part) (n : ℕ) → IsWithin list old → IsOnward list old mid
         → Starts (small_length c.is_aligned node (position old)).encodes (rest list old) n (rest list mid) → IsSamePlace mid now
-        → IsGrown list was mid.count next now.count (Additions n ∷ []) → IsUnderway c X0 (Q n) old now was next
+        → IsGrown c.tables.ranges.now list was mid.count next now.count (Additions n ∷ []) → IsUnderway c X0 (Q n) old now was next
     count_step old mid now was next n h g s same grown =
         part_step c (small_length c.is_aligned node) Additions Q old mid now was next n h g s same grown
 
@@ -100,7 +100,7 @@ module _ (c : Context) (depth node : ℕ) where
   D count known from p at = (additions_in c depth node count known from at).after p
 
   one_addition : (count known from : ℕ) (p : List Bool) (old now : State) (was is : List Part) → IsWithin list old → IsMoved list old now
-      → IsDecoded (by_presence c depth node p (addition_in c depth node known from) (position old)).encodes list old now was is
+      → IsDecoded c.tables.ranges.now (by_presence c depth node p (addition_in c depth node known from) (position old)).encodes list old now was is
       → IsUnderway c (D (suc count) known from p) (D count (known - 1) (from + 1) (bits_after_one p)) old now was is
   one_addition count known from [] old now was is h g d = absurd d.starts.encoded
   one_addition count known from (false ∷ p) old now was is h g d =
@@ -116,7 +116,7 @@ module _ (c : Context) (depth node : ℕ) where
 
   pub addition_step : (left known from index more : ℕ) (p q : List Bool) (old now : State) (was is : List Part) → more + 1 ≡ left
       → IsWithin list old → IsMoved list old now
-      → IsDecoded (by_presence c depth node p (addition_in c depth node (known - index) (from + index)) (position old)).encodes list old now was is
+      → IsDecoded c.tables.ranges.now (by_presence c depth node p (addition_in c depth node (known - index) (from + index)) (position old)).encodes list old now was is
       → q ≡ bits_after_one p
       → IsUnderway c (D left (known - index) (from + index) p) (D more (known - (index + 1)) (from + (index + 1)) q) old now was is
   addition_step left known from index more p q old now was is e h g d f =
@@ -135,7 +135,7 @@ module _ (c : Context) (depth node : ℕ) where
   addition_fault (suc left) known from p at l e some w = one_fault left known from p at l e w
 
   pub no_additions : (left known from : ℕ) (p : List Bool) (s : State) (was : List Part) → left ≡ 0 → length p ≡ 0
-      → IsDecoded (D left known from p (position s)).encodes list s s was was
+      → IsDecoded c.tables.ranges.now (D left known from p (position s)).encodes list s s was was
   no_additions zero known from [] s was z none = nothing_decoded c s was
   no_additions zero known from (b ∷ p) s was z none = absurd (omega (arith, none))
   no_additions (suc left) known from p s was z none = absurd (omega (arith, z))

@@ -9,6 +9,7 @@ use Rattle.asn1_schema.specs.declared.tables.Member.{Member}
 use Rattle.asn1_schema.specs.declared.tables.Presence.{Presence}
 use Rattle.asn1_schema.specs.declared.tables.Presence.TheVariants as presence
 use Rattle.asn1_schema.specs.declared.part.Part.{Part}
+use Rattle.asn1_schema.specs.declared.tables.Range.{Range}
 use Rattle.asn1_schema.specs.Pieces.{Piece, Parts, Absent}
 use Rattle.asn1_schema.specs.PiecesOfParts.{piece_of}
 use Rattle.asn1_schema.specs.Encodings.{Fault, Encoding, Starts, constant, invalid, cases, in_turn, IsAt}
@@ -24,13 +25,13 @@ use Rattle.asn1_x691_decode.specs.Decoding.{Outcome, default_of, IsDecoded, IsUn
 
 -- ---- parts that follow others
 
-pub grown_over : (list : List Bool) (was mid now : List Part) (a b c : ℕ) (ts us : Parts) → IsGrown list was a mid b ts
-    → IsGrown list mid b now c us → IsGrown list was a now c (ts ++ us)
-grown_over list was mid now a b c ts us g h = λ tape k.
-    subst (λ (l : Parts). Holds list now c l) (append_assoc tape ts us) (h (tape ++ ts) (g tape k))
+pub grown_over : (ranges : List Range) (list : List Bool) (was mid now : List Part) (a b c : ℕ) (ts us : Parts) → IsGrown ranges list was a mid b ts
+    → IsGrown ranges list mid b now c us → IsGrown ranges list was a now c (ts ++ us)
+grown_over ranges list was mid now a b c ts us g h = λ tape k.
+    subst (λ (l : Parts). Holds ranges list now c l) (append_assoc tape ts us) (h (tape ++ ts) (g tape k))
 
-pub none_grown : (list : List Bool) (was : List Part) (n : ℕ) → IsGrown list was n was n []
-none_grown list was n = λ tape k. subst (λ (l : Parts). Holds list was n l) (sym (append-nil tape)) k
+pub none_grown : (ranges : List Range) (list : List Bool) (was : List Part) (n : ℕ) → IsGrown ranges list was n was n []
+none_grown ranges list was n = λ tape k. subst (λ (l : Parts). Holds ranges list was n l) (sym (append-nil tape)) k
 
 -- ---- where only the count of parts differs
 
@@ -72,8 +73,8 @@ module _ (c : Context) where
 
   -- what `rule` says from here on, `whole` says of all
   pub record IsUnderway (whole rule : ℕ → Encoding FaultKind Parts) (old now : State) (was is : List Part) : Type 0 where
-    pub done : (new : State) (next : List Part) → IsDecoded (rule (position now)).encodes list now new is next
-        → IsDecoded (whole (position old)).encodes list old new was next
+    pub done : (new : State) (next : List Part) → IsDecoded c.tables.ranges.now (rule (position now)).encodes list now new is next
+        → IsDecoded c.tables.ranges.now (whole (position old)).encodes list old new was next
     pub fault : (e : Fault FaultKind) → (rule (position now)).fault (rest list now) e
         → (whole (position old)).fault (rest list old) e
 
@@ -94,7 +95,7 @@ module _ (c : Context) where
   outcome_on A B old now new was is next false p (inr u) = inr u
 
   pub by_true : (A : ℕ → Encoding FaultKind Parts) (old new : State) (was is : List Part) (r : Bool) → r ≡ true
-      → Outcome c A old new was is r → IsDecoded (A (position old)).encodes list old new was is
+      → Outcome c A old new was is r → IsDecoded c.tables.ranges.now (A (position old)).encodes list old new was is
   by_true A old new was is r e o = subst (λ (b : Bool). Outcome c A old new was is b) e o
 
   pub by_false : (A : ℕ → Encoding FaultKind Parts) (old new : State) (was is : List Part) (r : Bool) → r ≡ false
@@ -109,13 +110,13 @@ module _ (c : Context) where
   fails_on A B old now new was is next p (inr u) = inr u
 
   -- no bits and these parts
-  pub nothing_decoded : (s : State) (was : List Part) → IsDecoded (constant {K = FaultKind} []).encodes list s s was was
+  pub nothing_decoded : (s : State) (was : List Part) → IsDecoded c.tables.ranges.now (constant {K = FaultKind} []).encodes list s s was was
   nothing_decoded s was =
-      record { parts = []; starts = constant_starts [] (rest list s); grown = none_grown list was s.count }
+      record { parts = []; starts = constant_starts [] (rest list s); grown = none_grown c.tables.ranges.now list was s.count }
 
   -- one part, and no bits
   pub part_decoded : (p : Piece) (old new : State) (was is : List Part) → IsSamePlace old new
-      → IsGrown list was old.count is new.count (p ∷ []) → IsDecoded (constant {K = FaultKind} (p ∷ [])).encodes list old new was is
+      → IsGrown c.tables.ranges.now list was old.count is new.count (p ∷ []) → IsDecoded c.tables.ranges.now (constant {K = FaultKind} (p ∷ [])).encodes list old new was is
   part_decoded p old new was is s g = record {
     parts = p ∷ [];
     starts = subst (λ (l : List Bool). Starts (constant {K = FaultKind} (p ∷ [])).encodes (rest list old) (p ∷ []) l)
@@ -131,7 +132,7 @@ module _ (c : Context) where
     done = λ new next d. record {
       parts = d.parts;
       starts = after_starts list old now h (moved_on list old now g) A (λ y ts. ts) B x s (rest list new) d.parts d.starts;
-      grown = subst (λ (n : ℕ). IsGrown list was n next new.count d.parts) g.same_count d.grown;
+      grown = subst (λ (n : ℕ). IsGrown c.tables.ranges.now list was n next new.count d.parts) g.same_count d.grown;
     };
     fault = λ e w. after_fault list old now h (moved_on list old now g) A (λ y ts. ts) B x s e w;
   }
@@ -140,7 +141,7 @@ module _ (c : Context) where
   pub part_step : {X : Type 0} (A : ℕ → Encoding FaultKind X) (is : X → Piece) (B : X → ℕ → Encoding FaultKind Parts)
       (old mid now : State) (was next : List Part) (x : X) → IsWithin list old → IsOnward list old mid
       → Starts (A (position old)).encodes (rest list old) x (rest list mid) → IsSamePlace mid now
-      → IsGrown list was mid.count next now.count (is x ∷ [])
+      → IsGrown c.tables.ranges.now list was mid.count next now.count (is x ∷ [])
       → IsUnderway (in_turn A (λ y ts. is y ∷ ts) B) (B x) old now was next
   part_step A is B old mid now was next x h g s same grown = record {
     done = λ new later d. record {
@@ -148,8 +149,8 @@ module _ (c : Context) where
       starts = after_starts list old mid h (moved_on list old mid g) A (λ y ts. is y ∷ ts) B x s (rest list new) d.parts
           (subst (λ (l : List Bool). Starts (B x (position mid)).encodes l d.parts (rest list new)) (same_rest list mid now same)
           (subst (λ (n : ℕ). Starts (B x n).encodes (rest list now) d.parts (rest list new)) (same_position mid now same) d.starts));
-      grown = grown_over list was next later old.count now.count new.count (is x ∷ []) d.parts
-          (subst (λ (n : ℕ). IsGrown list was n next now.count (is x ∷ [])) g.same_count grown) d.grown;
+      grown = grown_over c.tables.ranges.now list was next later old.count now.count new.count (is x ∷ []) d.parts
+          (subst (λ (n : ℕ). IsGrown c.tables.ranges.now list was n next now.count (is x ∷ [])) g.same_count grown) d.grown;
     };
     fault = λ e w. after_fault list old mid h (moved_on list old mid g) A (λ y ts. is y ∷ ts) B x s e
         (subst (λ (l : List Bool). (B x (position mid)).fault l e) (same_rest list mid now same)
@@ -158,13 +159,13 @@ module _ (c : Context) where
 
   -- a value, and what follows it
   pub value_step : (A : ℕ → Encoding FaultKind Parts) (B : ℕ → Encoding FaultKind Parts) (old now : State) (was is : List Part)
-      → IsWithin list old → IsMoved list old now → IsDecoded (A (position old)).encodes list old now was is
+      → IsWithin list old → IsMoved list old now → IsDecoded c.tables.ranges.now (A (position old)).encodes list old now was is
       → IsUnderway (in_turn A (λ ts us. ts ++ us) (λ ts. B)) B old now was is
   value_step A B old now was is h g a = record {
     done = λ new next d. record {
       parts = a.parts ++ d.parts;
       starts = after_starts list old now h g A (λ ts us. ts ++ us) (λ ts. B) a.parts a.starts (rest list new) d.parts d.starts;
-      grown = grown_over list was is next old.count now.count new.count a.parts d.parts a.grown d.grown;
+      grown = grown_over c.tables.ranges.now list was is next old.count now.count new.count a.parts d.parts a.grown d.grown;
     };
     fault = λ e w. after_fault list old now h g A (λ ts us. ts ++ us) (λ ts. B) a.parts a.starts e w;
   }
@@ -186,7 +187,7 @@ module _ (c : Context) where
 
   -- a part that no bits tell, and what follows it
   pub put_step : (p : Piece) (B : ℕ → Encoding FaultKind Parts) (old now : State) (was next : List Part) → IsWithin list old
-      → IsSamePlace old now → IsGrown list was old.count next now.count (p ∷ [])
+      → IsSamePlace old now → IsGrown c.tables.ranges.now list was old.count next now.count (p ∷ [])
       → IsUnderway (in_turn (λ at. constant (tt {0})) (λ u ts. p ∷ ts) (λ u. B)) B old now was next
   put_step p B old now was next h same grown =
       part_step (λ at. constant (tt {0})) (λ u. p) (λ u. B) old old now was next tt h (onward_none old h)
@@ -195,8 +196,8 @@ module _ (c : Context) where
   -- a part and its bits, and nothing else
   pub leaf_decoded : {X : Type 0} (A : ℕ → Encoding FaultKind X) (is : X → Piece) (old mid now : State) (was next : List Part) (x : X)
       → IsWithin list old → IsOnward list old mid → Starts (A (position old)).encodes (rest list old) x (rest list mid)
-      → IsSamePlace mid now → IsGrown list was mid.count next now.count (is x ∷ [])
-      → IsDecoded (in_turn A (λ y ts. is y ∷ ts) (λ y at. constant {K = FaultKind} []) (position old)).encodes list old now was next
+      → IsSamePlace mid now → IsGrown c.tables.ranges.now list was mid.count next now.count (is x ∷ [])
+      → IsDecoded c.tables.ranges.now (in_turn A (λ y ts. is y ∷ ts) (λ y at. constant {K = FaultKind} []) (position old)).encodes list old now was next
   leaf_decoded A is old mid now was next x h g s same grown =
       (part_step A is (λ y at. constant []) old mid now was next x h g s same grown).done now next (nothing_decoded now next)
 
@@ -227,7 +228,7 @@ module _ (c : Context) where
 
     -- one component, and others
     one_step : (m : Presence) (inner count from : ℕ) (p : List Bool) (old now : State) (was is : List Part) → IsWithin list old
-        → IsMoved list old now → IsDecoded (component_in c depth node m inner p (position old)).encodes list old now was is
+        → IsMoved list old now → IsDecoded c.tables.ranges.now (component_in c depth node m inner p (position old)).encodes list old now was is
         → IsUnderway (λ at. (component_by c.is_aligned (types c depth) c.tables.members.now c.tables.ranges.now
         (default_of c.defaults.octets.now c.defaults.rows.now) node m (value_in c depth node m inner)
         (components_in c depth node count from) at).after p) (C count from (bits_after m p)) old now was is
@@ -263,7 +264,7 @@ module _ (c : Context) where
 
     pub component_step : (count from index : ℕ) (m : Member) (p q : List Bool) (old now : State) (was is : List Part) → index < count
         → slice_get c.tables.members.now (from + index) ≡ Some m → IsWithin list old → IsMoved list old now
-        → IsDecoded (component_in c depth node m.presence m.node p (position old)).encodes list old now was is
+        → IsDecoded c.tables.ranges.now (component_in c depth node m.presence m.node p (position old)).encodes list old now was is
         → q ≡ bits_after m.presence p
         → IsUnderway (C (count - index) (from + index) p) (C (count - (index + 1)) (from + (index + 1)) q) old now was is
     component_step count from index m p q old now was is lt some h g d e =
@@ -303,7 +304,7 @@ module _ (c : Context) where
     bits_left (suc count) from p at l e z some w = absurd (omega (arith, z))
 
     pub no_components : (count from : ℕ) (p : List Bool) (s : State) (was : List Part) → count ≡ 0 → length p ≡ 0
-        → IsDecoded (C count from p (position s)).encodes list s s was was
+        → IsDecoded c.tables.ranges.now (C count from p (position s)).encodes list s s was was
     no_components zero from [] s was z none = nothing_decoded s was
     no_components zero from (b ∷ p) s was z none = absurd (omega (arith, none))
     no_components (suc count) from p s was z none = absurd (omega (arith, z))
@@ -365,7 +366,7 @@ module _ (c : Context) where
 
   -- a part that was read and kept, or the fault
   pub kept_outcome : (A : ℕ → Encoding FaultKind Parts) (old mid new : State) (was is : List Part) (part : Option Part) (r : Bool)
-      → IsOnward bs old mid → IsTaken A (λ p. piece_of bs p ∷ []) bs old mid part → IsSamePlace mid new
+      → IsOnward bs old mid → IsTaken A (λ p. piece_of c.tables.ranges.now bs p ∷ []) bs old mid part → IsSamePlace mid new
       → IsKept part mid new was is r → Outcome c A old new was is r
   kept_outcome A old mid new was is None r g t s k =
       subst (λ (b : Bool). Outcome c A old new was is b) (sym k.0)
@@ -375,7 +376,7 @@ module _ (c : Context) where
       ])
   kept_outcome A old mid new was is (Some p) r g t s k =
       subst (λ (b : Bool). Outcome c A old new was is b) (sym k.0) (record {
-        parts = piece_of bs p ∷ [];
-        starts = subst (λ (l : List Bool). Starts (A (position old)).encodes (rest bs old) (piece_of bs p ∷ []) l) (sym (same_rest bs mid new s)) t;
-        grown = subst (λ (n : ℕ). IsGrown bs was n is new.count (piece_of bs p ∷ [])) g.same_count (k.1 bs);
+        parts = piece_of c.tables.ranges.now bs p ∷ [];
+        starts = subst (λ (l : List Bool). Starts (A (position old)).encodes (rest bs old) (piece_of c.tables.ranges.now bs p ∷ []) l) (sym (same_rest bs mid new s)) t;
+        grown = subst (λ (n : ℕ). IsGrown c.tables.ranges.now bs was n is new.count (piece_of c.tables.ranges.now bs p ∷ [])) g.same_count (k.1 c.tables.ranges.now bs);
       })

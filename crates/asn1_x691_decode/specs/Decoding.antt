@@ -11,6 +11,7 @@ use Rattle.asn1_schema.specs.declared.tables.Presence.TheVariants as presence
 use Rattle.asn1_schema.specs.declared.tables.Length.{Length}
 use Rattle.asn1_schema.specs.declared.tables.Length.TheVariants.{AtLeast, Between}
 use Rattle.asn1_schema.specs.declared.tables.Rows.{Rows}
+use Rattle.asn1_schema.specs.declared.tables.Range.{Range}
 use Rattle.asn1_schema.specs.Pieces.{Absent, Count, Parts}
 use Rattle.asn1_schema.specs.PiecesOfParts.{bits_at, natural_of}
 use Rattle.asn1_schema.specs.Encodings.{Encoding, Contents, Starts, constant, invalid}
@@ -80,25 +81,25 @@ IsUnsupported c s = IsInFragments (bits c.octets.now) s
 -- ---- what a call did
 
 -- parts were found, of which the bits from the old index to the new one are an encoding
-pub record IsDecoded (P : Parts → List Bool → Type 0) (list : List Bool) (old new : State) (was now : List Part) : Type 0 where
+pub record IsDecoded (ranges : List Range) (P : Parts → List Bool → Type 0) (list : List Bool) (old new : State) (was now : List Part) : Type 0 where
   pub parts : Parts
   pub starts : Starts P (rest list old) parts (rest list new)
-  pub grown : IsGrown list was old.count now new.count parts
+  pub grown : IsGrown ranges list was old.count now new.count parts
 
 -- parts were found; or the state names the first fault, or what the decoder does not read yet
 abbrev pub Outcome : Context → (ℕ → Encoding FaultKind Parts) → State → State → List Part → List Part → Bool → Type 0
-Outcome c A old new was now true = IsDecoded (A (position old)).encodes (bits c.octets.now) old new was now
+Outcome c A old new was now true = IsDecoded c.tables.ranges.now (A (position old)).encodes (bits c.octets.now) old new was now
 Outcome c A old new was now false =
     (A (position old)).fault (rest (bits c.octets.now) old) (fault_of new) ⊎ IsUnsupported c new
 
 -- the same of contents, which end where the complete encoding does
-pub record IsFilled (P : Parts → List Bool → Type 0) (list : List Bool) (old new : State) (was now : List Part) : Type 0 where
+pub record IsFilled (ranges : List Range) (P : Parts → List Bool → Type 0) (list : List Bool) (old new : State) (was now : List Part) : Type 0 where
   pub parts : Parts
   pub fills : P parts (rest list old)
-  pub grown : IsGrown list was old.count now new.count parts
+  pub grown : IsGrown ranges list was old.count now new.count parts
 
 abbrev pub OutcomeOfContents : Context → Contents FaultKind Parts → State → State → List Part → List Part → Bool → Type 0
-OutcomeOfContents c F old new was now true = IsFilled F.fills (bits c.octets.now) old new was now
+OutcomeOfContents c F old new was now true = IsFilled c.tables.ranges.now F.fills (bits c.octets.now) old new was now
 OutcomeOfContents c F old new was now false = F.fault (rest (bits c.octets.now) old) (fault_of new) ⊎ IsUnsupported c new
 
 -- the zeros after a complete encoding

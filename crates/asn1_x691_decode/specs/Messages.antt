@@ -25,7 +25,7 @@ module _ (c : Context) where
   pub record IsComplete (depth node : ℕ) (room : List Part) (count : ℕ) : Type 0 where
     pub parts : Parts
     pub encodes : (complete node (types c depth node)).fills parts message
-    pub held : Holds message room count parts
+    pub held : Holds c.tables.ranges.now message room count parts
 
   abbrev pub IsFirstFault : ℕ → ℕ → FoundFault → Type 0
   IsFirstFault depth node e = (complete node (types c depth node)).fault message (named e)
@@ -34,7 +34,7 @@ module _ (c : Context) where
   pub record IsPrefix (depth node : ℕ) (room : List Part) (p : Prefix) : Type 0 where
     pub parts : Parts
     pub starts : Starts (types c depth node 0).encoding.encodes message parts (drop p.bits message)
-    pub held : Holds message room p.parts parts
+    pub held : Holds c.tables.ranges.now message room p.parts parts
 
   abbrev pub IsFirstFaultOfPrefix : ℕ → ℕ → FoundFault → Type 0
   IsFirstFaultOfPrefix depth node e = (types c depth node 0).encoding.fault message (named e)

@@ -1,6 +1,7 @@
 //! Room for parts.
 
 ghost use Rattle.std.specs.Prelude.{◌≡◌, List, Bool, false, ◌∷◌, []};
+ghost use Rattle.asn1_schema.specs.declared.tables.Range.{Range};
 ghost use Rattle.asn1_schema.specs.PiecesOfParts.{piece_of};
 ghost use Rattle.asn1_x691.specs.declared.fault.FaultKind.TheVariants.{Unsupported};
 ghost use Rattle.asn1_x691_decode.specs.Room.{IsGrown, IsKept};
@@ -15,8 +16,8 @@ pub(crate) fn push(parts: &mut [Part], state: &mut State, part: Part)
     ensures at { state.new.at ≡ state.old.at }
     ensures first { state.new.first ≡ state.old.first }
     ensures end { state.new.end ≡ state.old.end }
-    ensures grown { (list : List Bool) → IsGrown list parts.old state.old.count parts.new state.new.count
-        (piece_of list part ∷ []) }
+    ensures grown { (ranges : List Range) (list : List Bool) → IsGrown ranges list parts.old state.old.count parts.new state.new.count
+        (piece_of ranges list part ∷ []) }
 {
     let count = state.count;
     if count < parts.len() {

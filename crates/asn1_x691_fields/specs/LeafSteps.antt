@@ -2,6 +2,7 @@
 use Rattle.std.proofs.Common.{◌≡◌, ℕ, List, [], ◌∷◌, Bool, refl, sym, subst, inl, inr, Option, Some, None}
 use Rattle.std.proofs.lemmas.List.{append-nil}
 use Rattle.asn1_schema.specs.declared.part.Part.{Part}
+use Rattle.asn1_schema.specs.declared.tables.Range.{Range}
 use Rattle.asn1_schema.specs.Pieces.{Piece}
 use Rattle.asn1_schema.specs.PiecesOfParts.{piece_of}
 use Rattle.asn1_schema.specs.Encodings.{Fault, Encoding, Starts, IsAt, constant, invalid, cases, anywhere, in_turn, permitted}
@@ -46,13 +47,13 @@ module _ {X Y Z T : Type 0} (list : List Bool) (old mid new : State) (x : X) (g 
   turn_taken A f B None h o s (inr w) = inr w
 
 -- an extension bit, and what it tells
-pub bit_taken : (node : ℕ) (Added : Piece → Type 0) (root extension : ℕ → TypeEncoding FaultKind) (list : List Bool) (old mid new : State)
+pub bit_taken : (node : ℕ) (Added : Piece → Type 0) (root extension : ℕ → TypeEncoding FaultKind) (ranges : List Range) (list : List Bool) (old mid new : State)
     (b : Bool) (r : Option Part) → IsWithin list old → IsOnward list old mid
     → Starts (bit node).encodes (rest list old) b (rest list mid)
-    → IsTaken (λ at. by_bit (root at) (extension at) b) (λ p. piece_of list p ∷ []) list mid new r
-    → IsTaken (λ at. (by_extension_bit node Added root extension at).encoding) (λ p. piece_of list p ∷ []) list old new r
-bit_taken node Added root extension list old mid new b r h o s p =
-    turn_taken list old mid new b (λ (t : Part). piece_of list t ∷ []) (λ at. bit node) (λ x ts. ts)
+    → IsTaken (λ at. by_bit (root at) (extension at) b) (λ p. piece_of ranges list p ∷ []) list mid new r
+    → IsTaken (λ at. (by_extension_bit node Added root extension at).encoding) (λ p. piece_of ranges list p ∷ []) list old new r
+bit_taken node Added root extension ranges list old mid new b r h o s p =
+    turn_taken list old mid new b (λ (t : Part). piece_of ranges list t ∷ []) (λ at. bit node) (λ x ts. ts)
     (λ x at. by_bit (root at) (extension at) x) r h o s p
 
 -- ---- a value that is permitted

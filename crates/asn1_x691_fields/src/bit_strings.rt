@@ -1,8 +1,9 @@
 //! BIT STRING (X.691 16).
 
-ghost use Rattle.std.specs.Prelude.{◌≡◌, ◌≤◌, ◌<◌, ◌^◌, ◌*◌, ◌+◌, ◌∷◌, [], true, false, length, IfSome};
+ghost use Rattle.std.specs.Prelude.{◌≡◌, ◌≤◌, ◌<◌, ◌^◌, ◌*◌, ◌+◌, ◌∷◌, [], true, false, List, length, IfSome};
 ghost use Rattle.asn1_bits.specs.Bits.{bits};
 ghost use Rattle.asn1_schema.specs.Pieces.{Bits};
+ghost use Rattle.asn1_schema.specs.declared.tables.Range.{Range};
 ghost use Rattle.asn1_schema.specs.PiecesOfParts.{piece_of, bits_of};
 ghost use Rattle.asn1_schema.specs.TypeEncodings.{leaf, by_bit};
 ghost use Rattle.asn1_x691.specs.Strings.{string_of, added_string};
@@ -30,8 +31,8 @@ pub fn next_bit_string(
     requires within { IsWithin (bits octets.now) state.old }
     requires placed { IsPlaced is_aligned state.old }
     ensures onward { IsOnward (bits octets.now) state.old state.new }
-    ensures read { IsTaken (λ at. (bit_string is_aligned node size is_extensible has_names at).encoding)
-        (λ p. piece_of (bits octets.now) p ∷ []) (bits octets.now) state.old state.new result }
+    ensures read { (ranges : List Range) → IsTaken (λ at. (bit_string is_aligned node size is_extensible has_names at).encoding)
+        (λ p. piece_of ranges (bits octets.now) p ∷ []) (bits octets.now) state.old state.new result }
 {
     if !is_extensible {
         return next_bits_of_root(octets, is_aligned, size, has_names, node, state);
@@ -54,10 +55,10 @@ fn next_bits_by_bit(
     requires within { IsWithin (bits octets.now) state.old }
     requires placed { IsPlaced is_aligned state.old }
     ensures onward { IsOnward (bits octets.now) state.old state.new }
-    ensures read { IsTaken (λ at. by_bit
+    ensures read { (ranges : List Range) → IsTaken (λ at. by_bit
         (leaf (bits_by is_aligned node has_names size (string_of is_aligned 1 size node)) Bits node at)
         (leaf (bits_by is_aligned node has_names size (added_string is_aligned 1 size node)) Bits node at) is_added)
-        (λ p. piece_of (bits octets.now) p ∷ []) (bits octets.now) state.old state.new result }
+        (λ p. piece_of ranges (bits octets.now) p ∷ []) (bits octets.now) state.old state.new result }
 {
     if is_added {
         return next_added_bits(octets, is_aligned, size, has_names, node, state);
@@ -78,8 +79,8 @@ fn next_bits_of_root(
     requires within { IsWithin (bits octets.now) state.old }
     requires placed { IsPlaced is_aligned state.old }
     ensures onward { IsOnward (bits octets.now) state.old state.new }
-    ensures read { IsTaken (λ at. (leaf (bits_by is_aligned node has_names size (string_of is_aligned 1 size node)) Bits node at).encoding)
-        (λ p. piece_of (bits octets.now) p ∷ []) (bits octets.now) state.old state.new result }
+    ensures read { (ranges : List Range) → IsTaken (λ at. (leaf (bits_by is_aligned node has_names size (string_of is_aligned 1 size node)) Bits node at).encoding)
+        (λ p. piece_of ranges (bits octets.now) p ∷ []) (bits octets.now) state.old state.new result }
 {
     let span = next_string_of(octets, is_aligned, 1, size, node, state)?;
     if !are_permitted(octets, size, has_names, span) {
@@ -102,8 +103,8 @@ fn next_added_bits(
     requires within { IsWithin (bits octets.now) state.old }
     requires placed { IsPlaced is_aligned state.old }
     ensures onward { IsOnward (bits octets.now) state.old state.new }
-    ensures read { IsTaken (λ at. (leaf (bits_by is_aligned node has_names size (added_string is_aligned 1 size node)) Bits node at).encoding)
-        (λ p. piece_of (bits octets.now) p ∷ []) (bits octets.now) state.old state.new result }
+    ensures read { (ranges : List Range) → IsTaken (λ at. (leaf (bits_by is_aligned node has_names size (added_string is_aligned 1 size node)) Bits node at).encoding)
+        (λ p. piece_of ranges (bits octets.now) p ∷ []) (bits octets.now) state.old state.new result }
 {
     let span = next_added_string(octets, is_aligned, 1, size, node, state)?;
     if !are_permitted(octets, size, has_names, span) {

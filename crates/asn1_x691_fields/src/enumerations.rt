@@ -2,6 +2,7 @@
 
 ghost use Rattle.std.specs.Prelude.{◌≡◌, ◌≤◌, ◌<◌, ◌^◌, ◌*◌, ◌+◌, ◌∷◌, [], List, Bool, length};
 ghost use Rattle.asn1_bits.specs.Bits.{bits};
+ghost use Rattle.asn1_schema.specs.declared.tables.Range.{Range};
 ghost use Rattle.asn1_schema.specs.PiecesOfParts.{piece_of, natural_of};
 ghost use Rattle.asn1_schema.specs.TypeEncodings.{leaf, by_bit};
 ghost use Rattle.asn1_x691.specs.Fields.{small_number};
@@ -31,8 +32,8 @@ pub fn next_enumerated(
     requires within { IsWithin (bits octets.now) state.old }
     requires placed { IsPlaced is_aligned state.old }
     ensures onward { IsOnward (bits octets.now) state.old state.new }
-    ensures read { IsTaken (λ at. (enumerated_by is_aligned node is_extensible last additions at).encoding)
-        (λ p. piece_of (bits octets.now) p ∷ []) (bits octets.now) state.old state.new result }
+    ensures read { (ranges : List Range) → IsTaken (λ at. (enumerated_by is_aligned node is_extensible last additions at).encoding)
+        (λ p. piece_of ranges (bits octets.now) p ∷ []) (bits octets.now) state.old state.new result }
 {
     if !is_extensible {
         return next_value_of_root(octets, is_aligned, last, node, state);
@@ -56,9 +57,9 @@ fn next_value_by_bit(
     requires within { IsWithin (bits octets.now) state.old }
     requires placed { IsPlaced is_aligned state.old }
     ensures onward { IsOnward (bits octets.now) state.old state.new }
-    ensures read { IsTaken (λ at. by_bit (enumerated is_aligned node last at)
+    ensures read { (ranges : List Range) → IsTaken (λ at. by_bit (enumerated is_aligned node last at)
         (leaf (small_number is_aligned node) (piece_of_addition last additions) node at) is_added)
-        (λ p. piece_of (bits octets.now) p ∷ []) (bits octets.now) state.old state.new result }
+        (λ p. piece_of ranges (bits octets.now) p ∷ []) (bits octets.now) state.old state.new result }
 {
     if is_added {
         return next_added_value(octets, is_aligned, last, additions, node, state);
@@ -78,8 +79,8 @@ fn next_value_of_root(
     requires within { IsWithin (bits octets.now) state.old }
     requires placed { IsPlaced is_aligned state.old }
     ensures onward { IsOnward (bits octets.now) state.old state.new }
-    ensures read { IsTaken (λ at. (enumerated is_aligned node last at).encoding)
-        (λ p. piece_of (bits octets.now) p ∷ []) (bits octets.now) state.old state.new result }
+    ensures read { (ranges : List Range) → IsTaken (λ at. (enumerated is_aligned node last at).encoding)
+        (λ p. piece_of ranges (bits octets.now) p ∷ []) (bits octets.now) state.old state.new result }
 {
     let index = next_constrained(octets, is_aligned, last as u128, node, state)?;
     Some(Part::Enumerated(index as usize))
@@ -99,8 +100,8 @@ fn next_added_value(
     requires within { IsWithin (bits octets.now) state.old }
     requires placed { IsPlaced is_aligned state.old }
     ensures onward { IsOnward (bits octets.now) state.old state.new }
-    ensures read { IsTaken (λ at. (leaf (small_number is_aligned node) (piece_of_addition last additions) node at).encoding)
-        (λ p. piece_of (bits octets.now) p ∷ []) (bits octets.now) state.old state.new result }
+    ensures read { (ranges : List Range) → IsTaken (λ at. (leaf (small_number is_aligned node) (piece_of_addition last additions) node at).encoding)
+        (λ p. piece_of ranges (bits octets.now) p ∷ []) (bits octets.now) state.old state.new result }
 {
     let index = next_small_number(octets, is_aligned, node, state)?;
     Some(value_of_addition(last, additions, index))
@@ -109,8 +110,8 @@ fn next_added_value(
 /// Returns an addition by its index: the value of that index after the root, where it is known.
 fn value_of_addition(last: usize, additions: usize, index: Natural) -> Part
     requires fits { last + 1 + additions < 2 ^ 64 }
-    ensures { (list : List Bool) (s : State) → IsNatural list s index
-        → piece_of list result ≡ piece_of_addition last additions (natural_of list index) }
+    ensures { (ranges : List Range) (list : List Bool) (s : State) → IsNatural list s index
+        → piece_of ranges list result ≡ piece_of_addition last additions (natural_of list index) }
 {
     match index {
         Natural::Small(i) => {

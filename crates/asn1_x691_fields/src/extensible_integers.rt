@@ -1,9 +1,10 @@
 //! INTEGER with an extension marker (X.691 13.1): a value outside the root is as without bounds.
 
-ghost use Rattle.std.specs.Prelude.{◌≡◌, ◌≤◌, ◌<◌, ◌^◌, ◌*◌, ◌∷◌, [], pos, ◌+ℤ◌, ◌<ℤ◌, ◌≤ℤ◌, length};
+ghost use Rattle.std.specs.Prelude.{◌≡◌, ◌≤◌, ◌<◌, ◌^◌, ◌*◌, ◌∷◌, [], pos, ◌+ℤ◌, ◌<ℤ◌, ◌≤ℤ◌, List, length};
 ghost use Rattle.asn1_bits.specs.Bits.{bits};
 ghost use Rattle.asn1_schema.specs.Encodings.{permitted};
 ghost use Rattle.asn1_schema.specs.Pieces.{Integer};
+ghost use Rattle.asn1_schema.specs.declared.tables.Range.{Range};
 ghost use Rattle.asn1_schema.specs.PiecesOfParts.{piece_of};
 ghost use Rattle.asn1_schema.specs.TypeEncodings.{leaf, by_bit};
 ghost use Rattle.asn1_x691.specs.declared.fault.FaultKind.TheVariants.{InRoot};
@@ -32,8 +33,8 @@ pub fn next_integer_between_by(
     requires within { IsWithin (bits octets.now) state.old }
     requires placed { IsPlaced is_aligned state.old }
     ensures onward { IsOnward (bits octets.now) state.old state.new }
-    ensures read { IsTaken (λ at. (integer_between_by is_aligned node is_extensible bounds.least bounds.range at).encoding)
-        (λ p. piece_of (bits octets.now) p ∷ []) (bits octets.now) state.old state.new result }
+    ensures read { (ranges : List Range) → IsTaken (λ at. (integer_between_by is_aligned node is_extensible bounds.least bounds.range at).encoding)
+        (λ p. piece_of ranges (bits octets.now) p ∷ []) (bits octets.now) state.old state.new result }
 {
     if !is_extensible {
         return next_integer_between(octets, is_aligned, bounds, node, state);
@@ -55,10 +56,10 @@ fn next_between_by_bit(
     requires within { IsWithin (bits octets.now) state.old }
     requires placed { IsPlaced is_aligned state.old }
     ensures onward { IsOnward (bits octets.now) state.old state.new }
-    ensures read { IsTaken (λ at. by_bit (integer_between is_aligned node bounds.least bounds.range at)
+    ensures read { (ranges : List Range) → IsTaken (λ at. by_bit (integer_between is_aligned node bounds.least bounds.range at)
         (leaf (permitted (IsOutside bounds.least bounds.range) (IsBetween bounds.least bounds.range) InRoot node
         (unconstrained is_aligned node)) Integer node at) is_added)
-        (λ p. piece_of (bits octets.now) p ∷ []) (bits octets.now) state.old state.new result }
+        (λ p. piece_of ranges (bits octets.now) p ∷ []) (bits octets.now) state.old state.new result }
 {
     if is_added {
         return next_outside(octets, is_aligned, bounds.least, bounds.range, node, state);
@@ -80,9 +81,9 @@ fn next_outside(
     requires within { IsWithin (bits octets.now) state.old }
     requires placed { IsPlaced is_aligned state.old }
     ensures onward { IsOnward (bits octets.now) state.old state.new }
-    ensures read { IsTaken (λ at. (leaf (permitted (IsOutside least range) (IsBetween least range) InRoot node
+    ensures read { (ranges : List Range) → IsTaken (λ at. (leaf (permitted (IsOutside least range) (IsBetween least range) InRoot node
         (unconstrained is_aligned node)) Integer node at).encoding)
-        (λ p. piece_of (bits octets.now) p ∷ []) (bits octets.now) state.old state.new result }
+        (λ p. piece_of ranges (bits octets.now) p ∷ []) (bits octets.now) state.old state.new result }
 {
     let span = next_unconstrained(octets, is_aligned, node, state)?;
     if is_between(octets, span, least, range) {
@@ -106,8 +107,8 @@ pub fn next_integer_at_least_by(
     requires within { IsWithin (bits octets.now) state.old }
     requires placed { IsPlaced is_aligned state.old }
     ensures onward { IsOnward (bits octets.now) state.old state.new }
-    ensures read { IsTaken (λ at. (integer_at_least_by is_aligned node is_extensible bound.least at).encoding)
-        (λ p. piece_of (bits octets.now) p ∷ []) (bits octets.now) state.old state.new result }
+    ensures read { (ranges : List Range) → IsTaken (λ at. (integer_at_least_by is_aligned node is_extensible bound.least at).encoding)
+        (λ p. piece_of ranges (bits octets.now) p ∷ []) (bits octets.now) state.old state.new result }
 {
     if !is_extensible {
         return next_integer_at_least(octets, is_aligned, bound, node, state);
@@ -129,9 +130,9 @@ fn next_at_least_by_bit(
     requires within { IsWithin (bits octets.now) state.old }
     requires placed { IsPlaced is_aligned state.old }
     ensures onward { IsOnward (bits octets.now) state.old state.new }
-    ensures read { IsTaken (λ at. by_bit (integer_at_least is_aligned node bound.least at)
+    ensures read { (ranges : List Range) → IsTaken (λ at. by_bit (integer_at_least is_aligned node bound.least at)
         (leaf (permitted (λ n. n <ℤ bound.least) (λ n. bound.least ≤ℤ n) InRoot node (unconstrained is_aligned node)) Integer node at) is_added)
-        (λ p. piece_of (bits octets.now) p ∷ []) (bits octets.now) state.old state.new result }
+        (λ p. piece_of ranges (bits octets.now) p ∷ []) (bits octets.now) state.old state.new result }
 {
     if is_added {
         return next_below(octets, is_aligned, bound.least, node, state);
@@ -151,9 +152,9 @@ fn next_below(
     requires within { IsWithin (bits octets.now) state.old }
     requires placed { IsPlaced is_aligned state.old }
     ensures onward { IsOnward (bits octets.now) state.old state.new }
-    ensures read { IsTaken (λ at. (leaf (permitted (λ n. n <ℤ least) (λ n. least ≤ℤ n) InRoot node
+    ensures read { (ranges : List Range) → IsTaken (λ at. (leaf (permitted (λ n. n <ℤ least) (λ n. least ≤ℤ n) InRoot node
         (unconstrained is_aligned node)) Integer node at).encoding)
-        (λ p. piece_of (bits octets.now) p ∷ []) (bits octets.now) state.old state.new result }
+        (λ p. piece_of ranges (bits octets.now) p ∷ []) (bits octets.now) state.old state.new result }
 {
     let span = next_unconstrained(octets, is_aligned, node, state)?;
     if !is_below(octets, span, least) {

@@ -1,7 +1,8 @@
 //! INTEGER (X.691 13).
 
-ghost use Rattle.std.specs.Prelude.{◌≡◌, ◌≤◌, ◌<◌, ◌^◌, ◌*◌, ◌∷◌, [], length};
+ghost use Rattle.std.specs.Prelude.{◌≡◌, ◌≤◌, ◌<◌, ◌^◌, ◌*◌, ◌∷◌, [], List, length};
 ghost use Rattle.asn1_bits.specs.Bits.{bits};
+ghost use Rattle.asn1_schema.specs.declared.tables.Range.{Range};
 ghost use Rattle.asn1_schema.specs.PiecesOfParts.{piece_of};
 ghost use Rattle.asn1_x691.specs.Leaves.{integer, integer_at_least, integer_between};
 ghost use Rattle.asn1_x691_fields.specs.Outcomes.{IsWithin, IsOnward, IsTaken, IsPlaced};
@@ -23,8 +24,8 @@ pub fn next_integer_between(
     requires within { IsWithin (bits octets.now) state.old }
     requires placed { IsPlaced is_aligned state.old }
     ensures onward { IsOnward (bits octets.now) state.old state.new }
-    ensures read { IsTaken (λ at. (integer_between is_aligned node bounds.least bounds.range at).encoding)
-        (λ p. piece_of (bits octets.now) p ∷ []) (bits octets.now) state.old state.new result }
+    ensures read { (ranges : List Range) → IsTaken (λ at. (integer_between is_aligned node bounds.least bounds.range at).encoding)
+        (λ p. piece_of ranges (bits octets.now) p ∷ []) (bits octets.now) state.old state.new result }
 {
     let n = next_constrained(octets, is_aligned, bounds.range, node, state)?;
     Some(Part::Integer(above(bounds.least, n)))
@@ -42,8 +43,8 @@ pub fn next_integer_at_least(
     requires within { IsWithin (bits octets.now) state.old }
     requires placed { IsPlaced is_aligned state.old }
     ensures onward { IsOnward (bits octets.now) state.old state.new }
-    ensures read { IsTaken (λ at. (integer_at_least is_aligned node bound.least at).encoding)
-        (λ p. piece_of (bits octets.now) p ∷ []) (bits octets.now) state.old state.new result }
+    ensures read { (ranges : List Range) → IsTaken (λ at. (integer_at_least is_aligned node bound.least at).encoding)
+        (λ p. piece_of ranges (bits octets.now) p ∷ []) (bits octets.now) state.old state.new result }
 {
     let span = next_semi_constrained(octets, is_aligned, node, state)?;
     Some(Part::Above {
@@ -59,8 +60,8 @@ pub fn next_integer(octets: &[u8], is_aligned: bool, node: usize, state: &mut St
     requires within { IsWithin (bits octets.now) state.old }
     requires placed { IsPlaced is_aligned state.old }
     ensures onward { IsOnward (bits octets.now) state.old state.new }
-    ensures read { IsTaken (λ at. (integer is_aligned node at).encoding)
-        (λ p. piece_of (bits octets.now) p ∷ []) (bits octets.now) state.old state.new result }
+    ensures read { (ranges : List Range) → IsTaken (λ at. (integer is_aligned node at).encoding)
+        (λ p. piece_of ranges (bits octets.now) p ∷ []) (bits octets.now) state.old state.new result }
 {
     let span = next_unconstrained(octets, is_aligned, node, state)?;
     Some(Part::Signed(span))

@@ -1,8 +1,9 @@
 //! OCTET STRING (X.691 17).
 
-ghost use Rattle.std.specs.Prelude.{◌≡◌, ◌≤◌, ◌<◌, ◌^◌, ◌*◌, ◌∷◌, [], length};
+ghost use Rattle.std.specs.Prelude.{◌≡◌, ◌≤◌, ◌<◌, ◌^◌, ◌*◌, ◌∷◌, [], List, length};
 ghost use Rattle.asn1_bits.specs.Bits.{bits};
 ghost use Rattle.asn1_schema.specs.Pieces.{Octets};
+ghost use Rattle.asn1_schema.specs.declared.tables.Range.{Range};
 ghost use Rattle.asn1_schema.specs.PiecesOfParts.{piece_of};
 ghost use Rattle.asn1_schema.specs.TypeEncodings.{leaf, by_bit};
 ghost use Rattle.asn1_x691.specs.Strings.{string_of, added_string};
@@ -27,8 +28,8 @@ pub fn next_octet_string(
     requires within { IsWithin (bits octets.now) state.old }
     requires placed { IsPlaced is_aligned state.old }
     ensures onward { IsOnward (bits octets.now) state.old state.new }
-    ensures read { IsTaken (λ at. (octet_string is_aligned node size is_extensible at).encoding)
-        (λ p. piece_of (bits octets.now) p ∷ []) (bits octets.now) state.old state.new result }
+    ensures read { (ranges : List Range) → IsTaken (λ at. (octet_string is_aligned node size is_extensible at).encoding)
+        (λ p. piece_of ranges (bits octets.now) p ∷ []) (bits octets.now) state.old state.new result }
 {
     if !is_extensible {
         return next_octets_of_root(octets, is_aligned, size, node, state);
@@ -50,9 +51,9 @@ fn next_octets_by_bit(
     requires within { IsWithin (bits octets.now) state.old }
     requires placed { IsPlaced is_aligned state.old }
     ensures onward { IsOnward (bits octets.now) state.old state.new }
-    ensures read { IsTaken (λ at. by_bit (leaf (string_of is_aligned 8 size node) Octets node at)
+    ensures read { (ranges : List Range) → IsTaken (λ at. by_bit (leaf (string_of is_aligned 8 size node) Octets node at)
         (leaf (added_string is_aligned 8 size node) Octets node at) is_added)
-        (λ p. piece_of (bits octets.now) p ∷ []) (bits octets.now) state.old state.new result }
+        (λ p. piece_of ranges (bits octets.now) p ∷ []) (bits octets.now) state.old state.new result }
 {
     if is_added {
         return next_added_octets(octets, is_aligned, size, node, state);
@@ -72,8 +73,8 @@ fn next_octets_of_root(
     requires within { IsWithin (bits octets.now) state.old }
     requires placed { IsPlaced is_aligned state.old }
     ensures onward { IsOnward (bits octets.now) state.old state.new }
-    ensures read { IsTaken (λ at. (leaf (string_of is_aligned 8 size node) Octets node at).encoding)
-        (λ p. piece_of (bits octets.now) p ∷ []) (bits octets.now) state.old state.new result }
+    ensures read { (ranges : List Range) → IsTaken (λ at. (leaf (string_of is_aligned 8 size node) Octets node at).encoding)
+        (λ p. piece_of ranges (bits octets.now) p ∷ []) (bits octets.now) state.old state.new result }
 {
     let span = next_string_of(octets, is_aligned, 8, size, node, state)?;
     Some(Part::Octets(span))
@@ -91,8 +92,8 @@ fn next_added_octets(
     requires within { IsWithin (bits octets.now) state.old }
     requires placed { IsPlaced is_aligned state.old }
     ensures onward { IsOnward (bits octets.now) state.old state.new }
-    ensures read { IsTaken (λ at. (leaf (added_string is_aligned 8 size node) Octets node at).encoding)
-        (λ p. piece_of (bits octets.now) p ∷ []) (bits octets.now) state.old state.new result }
+    ensures read { (ranges : List Range) → IsTaken (λ at. (leaf (added_string is_aligned 8 size node) Octets node at).encoding)
+        (λ p. piece_of ranges (bits octets.now) p ∷ []) (bits octets.now) state.old state.new result }
 {
     let span = next_added_string(octets, is_aligned, 8, size, node, state)?;
     Some(Part::Octets(span))

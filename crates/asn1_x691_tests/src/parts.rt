@@ -1,7 +1,7 @@
 //! Parts and faults in words.
 
 use asn1_bits::{BitStr, read_u128};
-use asn1_schema::{Natural, Part, Span};
+use asn1_schema::{Characters, Codes, Natural, Part, Span};
 use asn1_test_rows::{RowError, wrong};
 use asn1_x691_decode::Fault;
 use std::alloc::Global;
@@ -60,6 +60,7 @@ fn word_of(alloc: Global, octets: &[u8], part: Part) -> Result<String, RowError>
         Part::UnknownEnumerated(index) => unknown(alloc, "e", index),
         Part::Bits(span) => digits_at(alloc, "b", 1, octets, span),
         Part::Octets(span) => digits_at(alloc, "o", 4, octets, span),
+        Part::Text(text) => codes_at(alloc, octets, text),
         Part::Sequence { count, is_extended } => {
             let mark = if is_extended { "+" } else { "" };
             Ok(format!(in alloc; "seq{count}{mark}")?)
@@ -101,6 +102,28 @@ fn signed_at(octets: &[u8], span: Span) -> Option<i128> {
     let shift = (128 - span.count) as u32;
     let high = number.wrapping_shl(shift).cast_signed();
     Some(high.wrapping_shr(shift))
+}
+
+/// Returns characters by their codes: `tn` is before numbers, and `ti` before indices.
+fn codes_at(alloc: Global, octets: &[u8], text: Characters) -> Result<String, RowError> {
+    let name = match text.codes {
+        Codes::Numbers => "tn",
+        Codes::Indices(_) => "ti",
+    };
+    let mut word = String::from_str(alloc, name)?;
+    let mut at = text.at;
+    for _ in 0..text.count {
+        let span = Span {
+            at,
+            count: text.width,
+        };
+        match number_at(octets, span) {
+            Some(code) => word.push_str(format!(in alloc; ".{code}")?.as_str())?,
+            None => return Err(wrong(alloc, "the part", "part of the message")),
+        }
+        at = at.saturating_add(text.width);
+    }
+    Ok(word)
 }
 
 /// Returns bits by digits of `width` bits each after a name; `-` stands for none.

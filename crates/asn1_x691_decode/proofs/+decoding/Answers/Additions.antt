@@ -25,7 +25,7 @@ decode_extension-returns-in-None-next_bits-clause-did t c =
     let new = c.next_bits.new.state in
     inl ((count_step cx a.depth a.node a.known a.state.now c.next_small_length.new.state now.state a.parts.now now.parts n c.requires.within
     c.next_small_length.ensures.onward c.in-Some.ensures.read
-    (record { at = c.push.ensures.at; first = c.push.ensures.first; end = c.push.ensures.end }) (c.push.ensures.grown list)).fault
+    (record { at = c.push.ensures.at; first = c.push.ensures.first; end = c.push.ensures.end }) (c.push.ensures.grown cx.tables.ranges.now list)).fault
     (fault_of new) (no_bits cx a.depth a.node a.known n (position now.state) (rest list now.state) (fault_of new) c.in-None-next_bits.ensures.read))
 
 pub decode_extension-returns-then-not-has_one-clause-did : goal.additions::decode_extension-returns-then-not-has_one-clause-did
@@ -44,7 +44,7 @@ decode_extension-returns-then-not-has_one-clause-did t c =
     (within_after list a.state.now mid c.requires.within (moved_on list a.state.now mid c.next_small_length.ensures.onward)) in
     let told = bits_at list c.in-Some-next_bits.at n in
     inl ((count_step cx a.depth a.node a.known a.state.now mid now.state a.parts.now now.parts n c.requires.within
-    c.next_small_length.ensures.onward c.in-Some.ensures.read same (c.push.ensures.grown list)).fault (fault_of new)
+    c.next_small_length.ensures.onward c.in-Some.ensures.read same (c.push.ensures.grown cx.tables.ranges.now list)).fault (fault_of new)
     ((bits_step cx a.depth a.node a.known now.state later now.parts n told within c.next_bits.ensures.onward c.in-Some-next_bits.ensures.read).fault
     (fault_of new)
     (none_fault cx a.depth a.node a.known n (position later) told (rest list later) (fault_of new)
@@ -72,7 +72,7 @@ decode_extension-returns-clause-did t c =
     outcome_on cx X D1 a.state.now later c.decode_additions.new.state a.parts.now now.parts c.decode_additions.new.parts c.decode_additions.result
     (over cx X K D1 a.state.now now.state later a.parts.now now.parts now.parts
     (count_step cx a.depth a.node a.known a.state.now mid now.state a.parts.now now.parts n c.requires.within
-    c.next_small_length.ensures.onward c.in-Some.ensures.read same (c.push.ensures.grown list))
+    c.next_small_length.ensures.onward c.in-Some.ensures.read same (c.push.ensures.grown cx.tables.ranges.now list))
     (over cx K T1 D1 now.state later later now.parts now.parts now.parts
     (bits_step cx a.depth a.node a.known now.state later now.parts n told within c.next_bits.ensures.onward c.in-Some-next_bits.ensures.read)
     (some_step cx a.depth a.node a.known later now.parts n told (sym c.has_one.ensures ∙ c.if-not-has_one.false))))
@@ -84,11 +84,11 @@ decode_optional_addition-returns-in-Some-false-clause-did t c =
     let list = bits cx.octets.now in
     let a = c.args in
     let now = told_by list c.next_presence.new.presence in
-    subst (λ (l : List Bool). IsDecoded (by_presence cx a.depth a.node l (addition_in cx a.depth a.node (a.known.count - a.index) (a.known.from + a.index))
+    subst (λ (l : List Bool). IsDecoded cx.tables.ranges.now (by_presence cx a.depth a.node l (addition_in cx a.depth a.node (a.known.count - a.index) (a.known.from + a.index))
     (position a.state.now)).encodes list a.state.now c.push.new.state a.parts.now c.push.new.parts)
     (sym (c.in-Some-false.ensures.told ∙ ap (λ (b : Bool). b ∷ now) c.in-Some-false.field-0-test))
     (part_decoded cx Absent a.state.now c.push.new.state a.parts.now c.push.new.parts
-    (record { at = c.push.ensures.at; first = c.push.ensures.first; end = c.push.ensures.end }) (c.push.ensures.grown list))
+    (record { at = c.push.ensures.at; first = c.push.ensures.first; end = c.push.ensures.end }) (c.push.ensures.grown cx.tables.ranges.now list))
 
 pub decode_additions-returns-then-not-decode_optional_addition-clause-did : goal.additions::decode_additions-returns-then-not-decode_optional_addition-clause-did
 decode_additions-returns-then-not-decode_optional_addition-clause-did t c =

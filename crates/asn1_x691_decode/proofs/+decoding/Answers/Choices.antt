@@ -29,7 +29,7 @@ decode_alternative-returns-then-index-rows-clause-did t c =
     let now = c.push.new in
     inl ((index_step cx a.depth a.node a.rows c.saturating_sub-last.result a.state.now c.next_constrained.new.state now.state a.parts.now now.parts c.in-Some.index
     c.saturating_sub-last.ensures c.requires.within c.next_constrained.ensures.onward c.in-Some.ensures.read
-    (record { at = c.push.ensures.at; first = c.push.ensures.first; end = c.push.ensures.end }) (c.push.ensures.grown list)).fault
+    (record { at = c.push.ensures.at; first = c.push.ensures.first; end = c.push.ensures.end }) (c.push.ensures.grown cx.tables.ranges.now list)).fault
     (fault_of c.fail.new.state)
     (no_index cx a.depth a.node a.rows c.in-Some.index (position now.state) (rest list now.state) (fault_of c.fail.new.state)
     (omega (arith, c.if-index-rows.true))
@@ -45,7 +45,7 @@ decode_alternative-returns-in-None-member_from-clause-did t c =
     let f = c.fail-in-None-member_from in
     inl ((index_step cx a.depth a.node a.rows c.saturating_sub-last.result a.state.now c.next_constrained.new.state now.state a.parts.now now.parts c.in-Some.index
     c.saturating_sub-last.ensures c.requires.within c.next_constrained.ensures.onward c.in-Some.ensures.read
-    (record { at = c.push.ensures.at; first = c.push.ensures.first; end = c.push.ensures.end }) (c.push.ensures.grown list)).fault
+    (record { at = c.push.ensures.at; first = c.push.ensures.first; end = c.push.ensures.end }) (c.push.ensures.grown cx.tables.ranges.now list)).fault
     (fault_of f.new.state)
     (no_alternative cx a.depth a.node a.rows c.in-Some.index (position now.state) (rest list now.state) (fault_of f.new.state)
     (omega (arith, c.if-index-rows.false)) (sym c.member_from.ensures.is ∙ c.in-None-member_from.is)
@@ -63,7 +63,7 @@ decode_alternative-returns-in-Some-member_from-clause-did t c =
     last.new.parts last.result
     (index_step cx a.depth a.node a.rows c.saturating_sub-last.result a.state.now c.next_constrained.new.state now.state a.parts.now now.parts c.in-Some.index
     c.saturating_sub-last.ensures c.requires.within c.next_constrained.ensures.onward c.in-Some.ensures.read
-    (record { at = c.push.ensures.at; first = c.push.ensures.first; end = c.push.ensures.end }) (c.push.ensures.grown list))
+    (record { at = c.push.ensures.at; first = c.push.ensures.first; end = c.push.ensures.end }) (c.push.ensures.grown cx.tables.ranges.now list))
     (the_alternative cx a.depth a.node a.rows c.in-Some.index c.in-Some-member_from.member
     (λ (B : ℕ → Encoding FaultKind Parts). Outcome cx B now.state last.new.state now.parts last.new.parts last.result)
     (omega (arith, c.if-index-rows.false)) (sym c.member_from.ensures.is ∙ c.in-Some-member_from.is) last.ensures.did)
@@ -88,7 +88,7 @@ decode_added-returns-in-Some-known_index-clause-did t c =
     (omega (arith, c.max.ensures)) c.requires.within c.next_small_number.ensures.onward
     (subst (λ (n : ℕ). Starts (small_number cx.is_aligned a.node (position a.state.now)).encodes (rest list a.state.now) n (rest list mid)) k.0
     c.in-Some.ensures.read)
-    (record { at = p.at; first = p.first; end = p.end }) (p.grown list))
+    (record { at = p.at; first = p.first; end = p.end }) (p.grown cx.tables.ranges.now list))
     last.ensures.did
 
 pub decode_added-returns-in-None-known_index-clause-did : goal.choice::decode_added-returns-in-None-known_index-clause-did
@@ -107,7 +107,7 @@ decode_added-returns-in-None-known_index-clause-did t c =
     a.state.now now.state last.new.state a.parts.now now.parts last.new.parts last.result
     (unknown_step cx a.depth a.node a.rows a.known i a.state.now mid now.state a.parts.now now.parts k c.requires.within
     c.next_small_number.ensures.onward c.in-Some.ensures.read
-    (record { at = c.push.ensures.at; first = c.push.ensures.first; end = c.push.ensures.end }) (c.push.ensures.grown list))
+    (record { at = c.push.ensures.at; first = c.push.ensures.first; end = c.push.ensures.end }) (c.push.ensures.grown cx.tables.ranges.now list))
     last.ensures.did
 
 pub decode_added-overflow_add-max : goal.choice::decode_added-overflow_add-max

@@ -25,7 +25,7 @@ decode_added_list-returns-in-Some-clause-did t c =
     last.new.state a.parts.now now.parts last.new.parts last.result
     (list.added_step cx a.depth a.node a.item a.size c.in-Some.count a.state.now c.next_added_length.new.state now.state a.parts.now now.parts
     c.requires.within c.next_added_length.ensures.onward c.in-Some.ensures.read
-    (record { at = c.push.ensures.at; first = c.push.ensures.first; end = c.push.ensures.end }) (c.push.ensures.grown (bits cx.octets.now)))
+    (record { at = c.push.ensures.at; first = c.push.ensures.first; end = c.push.ensures.end }) (c.push.ensures.grown cx.tables.ranges.now (bits cx.octets.now)))
     last.ensures.did
 
 pub decode_root_list-returns-in-Some-clause-did : goal.list::decode_root_list-returns-in-Some-clause-did
@@ -40,7 +40,7 @@ decode_root_list-returns-in-Some-clause-did t c =
     last.new.state a.parts.now now.parts last.new.parts last.result
     (list.at_least_step cx a.depth a.node a.item c.in-AtLeast.least c.in-Some.count a.state.now c.next_length_at_least.new.state now.state a.parts.now now.parts
     c.requires.within c.next_length_at_least.ensures.onward c.in-Some.ensures.read
-    (record { at = c.push.ensures.at; first = c.push.ensures.first; end = c.push.ensures.end }) (c.push.ensures.grown (bits cx.octets.now)))
+    (record { at = c.push.ensures.at; first = c.push.ensures.first; end = c.push.ensures.end }) (c.push.ensures.grown cx.tables.ranges.now (bits cx.octets.now)))
     last.ensures.did)
 
 pub decode_root_list-returns-in-Some-next_constrained-clause-did : goal.list::decode_root_list-returns-in-Some-next_constrained-clause-did
@@ -57,7 +57,7 @@ decode_root_list-returns-in-Some-next_constrained-clause-did t c =
     last.new.state a.parts.now now.parts last.new.parts last.result
     (list.between_step cx a.depth a.node a.item c.in-Between.least c.in-Between.range d a.state.now c.next_constrained.new.state now.state a.parts.now now.parts
     c.requires.within c.next_constrained.ensures.onward c.in-Some-next_constrained.ensures.read
-    (record { at = p.ensures.at; first = p.ensures.first; end = p.ensures.end }) (p.ensures.grown (bits cx.octets.now)))
+    (record { at = p.ensures.at; first = p.ensures.first; end = p.ensures.end }) (p.ensures.grown cx.tables.ranges.now (bits cx.octets.now)))
     last.ensures.did)
 
 pub decode_list-returns-in-Some-true-clause-did : goal.list::decode_list-returns-in-Some-true-clause-did

@@ -18,10 +18,10 @@ decode_node-returns-in-Some-Null-clause-did t c =
     let cx = c.args.context.now in
     let list = bits cx.octets.now in
     at_node cx c.args.node c.args.depth (Some type.Null)
-    (λ (A : ℕ → Encoding FaultKind Parts). IsDecoded (A (position c.args.state.now)).encodes list c.args.state.now c.push.new.state c.args.parts.now c.push.new.parts)
+    (λ (A : ℕ → Encoding FaultKind Parts). IsDecoded cx.tables.ranges.now (A (position c.args.state.now)).encodes list c.args.state.now c.push.new.state c.args.parts.now c.push.new.parts)
     (omega (arith, c.if-depth-eq0.false)) (sym c.node_at.ensures ∙ c.in-Some-Null.is ∙ ap (λ (n : Node). Some n) c.in-Some-Null.field-0-is)
     ((put_step cx Null (λ at. constant []) c.args.state.now c.push.new.state c.args.parts.now c.push.new.parts c.requires.within
-    (record { at = c.push.ensures.at; first = c.push.ensures.first; end = c.push.ensures.end }) (c.push.ensures.grown list)).done
+    (record { at = c.push.ensures.at; first = c.push.ensures.first; end = c.push.ensures.end }) (c.push.ensures.grown cx.tables.ranges.now list)).done
     c.push.new.state c.push.new.parts (nothing_decoded cx c.push.new.state c.push.new.parts))
 
 pub decode_node-returns-in-Some-Boolean-clause-did : goal.decoder::decode_node-returns-in-Some-Boolean-clause-did
@@ -79,7 +79,7 @@ decode_node-returns-in-Some-IntegerBetween-clause-did t c =
     (λ (B : ℕ → Encoding FaultKind Parts). Outcome cx B a.state.now p.new.state a.parts.now p.new.parts p.result)
     (omega (arith, c.if-depth-eq0.false)) (sym c.node_at.ensures ∙ k.is ∙ ap (λ (n : Node). Some n) k.field-0-is)
     (kept_outcome cx (λ at. (integer_between_by cx.is_aligned a.node k.is_extensible k.bounds.least k.bounds.range at).encoding) a.state.now c.next_integer_between_by-part.new.state p.new.state a.parts.now p.new.parts c.next_integer_between_by-part.result p.result
-    c.next_integer_between_by-part.ensures.onward c.next_integer_between_by-part.ensures.read (record { at = p.ensures.at; first = p.ensures.first; end = p.ensures.end }) p.ensures.kept)
+    c.next_integer_between_by-part.ensures.onward (c.next_integer_between_by-part.ensures.read cx.tables.ranges.now) (record { at = p.ensures.at; first = p.ensures.first; end = p.ensures.end }) p.ensures.kept)
 
 pub decode_node-returns-in-Some-IntegerAtLeast-clause-did : goal.decoder::decode_node-returns-in-Some-IntegerAtLeast-clause-did
 decode_node-returns-in-Some-IntegerAtLeast-clause-did t c =
@@ -91,7 +91,7 @@ decode_node-returns-in-Some-IntegerAtLeast-clause-did t c =
     (λ (B : ℕ → Encoding FaultKind Parts). Outcome cx B a.state.now p.new.state a.parts.now p.new.parts p.result)
     (omega (arith, c.if-depth-eq0.false)) (sym c.node_at.ensures ∙ k.is ∙ ap (λ (n : Node). Some n) k.field-0-is)
     (kept_outcome cx (λ at. (integer_at_least_by cx.is_aligned a.node k.is_extensible k.bound.least at).encoding) a.state.now c.next_integer_at_least_by-part.new.state p.new.state a.parts.now p.new.parts c.next_integer_at_least_by-part.result p.result
-    c.next_integer_at_least_by-part.ensures.onward c.next_integer_at_least_by-part.ensures.read (record { at = p.ensures.at; first = p.ensures.first; end = p.ensures.end }) p.ensures.kept)
+    c.next_integer_at_least_by-part.ensures.onward (c.next_integer_at_least_by-part.ensures.read cx.tables.ranges.now) (record { at = p.ensures.at; first = p.ensures.first; end = p.ensures.end }) p.ensures.kept)
 
 pub decode_node-returns-in-Some-Integer-clause-did : goal.decoder::decode_node-returns-in-Some-Integer-clause-did
 decode_node-returns-in-Some-Integer-clause-did t c =
@@ -103,7 +103,7 @@ decode_node-returns-in-Some-Integer-clause-did t c =
     (λ (B : ℕ → Encoding FaultKind Parts). Outcome cx B a.state.now p.new.state a.parts.now p.new.parts p.result)
     (omega (arith, c.if-depth-eq0.false)) (sym c.node_at.ensures ∙ k.is ∙ ap (λ (n : Node). Some n) k.field-0-is)
     (kept_outcome cx (λ at. (integer cx.is_aligned a.node at).encoding) a.state.now c.next_integer.new.state p.new.state a.parts.now p.new.parts c.next_integer.result p.result
-    c.next_integer.ensures.onward c.next_integer.ensures.read (record { at = p.ensures.at; first = p.ensures.first; end = p.ensures.end }) p.ensures.kept)
+    c.next_integer.ensures.onward (c.next_integer.ensures.read cx.tables.ranges.now) (record { at = p.ensures.at; first = p.ensures.first; end = p.ensures.end }) p.ensures.kept)
 
 pub decode_node-returns-else-not-is_enumerable-clause-did : goal.decoder::decode_node-returns-else-not-is_enumerable-clause-did
 decode_node-returns-else-not-is_enumerable-clause-did t c =
@@ -115,7 +115,7 @@ decode_node-returns-else-not-is_enumerable-clause-did t c =
     (λ (B : ℕ → Encoding FaultKind Parts). Outcome cx B a.state.now p.new.state a.parts.now p.new.parts p.result)
     (omega (arith, c.if-depth-eq0.false)) (sym c.node_at.ensures ∙ k.is ∙ ap (λ (n : Node). Some n) k.field-0-is)
     (kept_outcome cx (λ at. (enumerated_by cx.is_aligned a.node k.is_extensible k.last k.additions at).encoding) a.state.now c.next_enumerated-part.new.state p.new.state a.parts.now p.new.parts c.next_enumerated-part.result p.result
-    c.next_enumerated-part.ensures.onward c.next_enumerated-part.ensures.read (record { at = p.ensures.at; first = p.ensures.first; end = p.ensures.end }) p.ensures.kept)
+    c.next_enumerated-part.ensures.onward (c.next_enumerated-part.ensures.read cx.tables.ranges.now) (record { at = p.ensures.at; first = p.ensures.first; end = p.ensures.end }) p.ensures.kept)
 
 pub decode_node-returns-in-Some-BitString-clause-did : goal.decoder::decode_node-returns-in-Some-BitString-clause-did
 decode_node-returns-in-Some-BitString-clause-did t c =
@@ -127,7 +127,7 @@ decode_node-returns-in-Some-BitString-clause-did t c =
     (λ (B : ℕ → Encoding FaultKind Parts). Outcome cx B a.state.now p.new.state a.parts.now p.new.parts p.result)
     (omega (arith, c.if-depth-eq0.false)) (sym c.node_at.ensures ∙ k.is ∙ ap (λ (n : Node). Some n) k.field-0-is)
     (kept_outcome cx (λ at. (bit_string cx.is_aligned a.node k.length k.is_extensible k.has_names at).encoding) a.state.now c.next_bit_string-part.new.state p.new.state a.parts.now p.new.parts c.next_bit_string-part.result p.result
-    c.next_bit_string-part.ensures.onward c.next_bit_string-part.ensures.read (record { at = p.ensures.at; first = p.ensures.first; end = p.ensures.end }) p.ensures.kept)
+    c.next_bit_string-part.ensures.onward (c.next_bit_string-part.ensures.read cx.tables.ranges.now) (record { at = p.ensures.at; first = p.ensures.first; end = p.ensures.end }) p.ensures.kept)
 
 pub decode_node-returns-in-Some-OctetString-clause-did : goal.decoder::decode_node-returns-in-Some-OctetString-clause-did
 decode_node-returns-in-Some-OctetString-clause-did t c =
@@ -139,4 +139,4 @@ decode_node-returns-in-Some-OctetString-clause-did t c =
     (λ (B : ℕ → Encoding FaultKind Parts). Outcome cx B a.state.now p.new.state a.parts.now p.new.parts p.result)
     (omega (arith, c.if-depth-eq0.false)) (sym c.node_at.ensures ∙ k.is ∙ ap (λ (n : Node). Some n) k.field-0-is)
     (kept_outcome cx (λ at. (octet_string cx.is_aligned a.node k.length k.is_extensible at).encoding) a.state.now c.next_octet_string.new.state p.new.state a.parts.now p.new.parts c.next_octet_string.result p.result
-    c.next_octet_string.ensures.onward c.next_octet_string.ensures.read (record { at = p.ensures.at; first = p.ensures.first; end = p.ensures.end }) p.ensures.kept)
+    c.next_octet_string.ensures.onward (c.next_octet_string.ensures.read cx.tables.ranges.now) (record { at = p.ensures.at; first = p.ensures.first; end = p.ensures.end }) p.ensures.kept)

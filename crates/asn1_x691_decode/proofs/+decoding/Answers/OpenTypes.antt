@@ -66,7 +66,7 @@ decode_enclosed-returns-clause-did t c =
       parts = f.parts;
       starts = enclosed_starts cx V c.args.node c.args.state.now after inside out span c.requires.within c.next_octets.ensures.onward
           c.in-Some.ensures.read c.in-Some.ensures.index refl refl f.parts f.fills;
-      grown = subst (λ (n : ℕ). IsGrown (bits cx.octets.now) c.args.parts.now n c.decode_complete-is_complete.new.parts out.count f.parts)
+      grown = subst (λ (n : ℕ). IsGrown cx.tables.ranges.now (bits cx.octets.now) c.args.parts.now n c.decode_complete-is_complete.new.parts out.count f.parts)
           c.next_octets.ensures.onward.same_count f.grown;
     }
 

@@ -36,10 +36,10 @@ decode_component-returns-in-Some-false t c =
       };
       bits = c.next_presence.ensures.within;
       did = absent_of cx c.args.depth c.args.node c.args.member.presence c.args.member.node was now
-          (λ (A : Encoding FaultKind Parts). IsDecoded A.encodes list c.args.state.now c.push.new.state c.args.parts.now c.push.new.parts)
+          (λ (A : Encoding FaultKind Parts). IsDecoded cx.tables.ranges.now A.encodes list c.args.state.now c.push.new.state c.args.parts.now c.push.new.parts)
           (position c.args.state.now) c.in_default.not-Mandatory told
           (part_decoded cx Absent c.args.state.now c.push.new.state c.args.parts.now c.push.new.parts
-          (record { at = c.push.ensures.at; first = c.push.ensures.first; end = c.push.ensures.end }) (c.push.ensures.grown list));
+          (record { at = c.push.ensures.at; first = c.push.ensures.first; end = c.push.ensures.end }) (c.push.ensures.grown cx.tables.ranges.now list));
       told = λ e. told_after c.args.member.presence was now false c.in_default.not-Mandatory told;
     }
 
@@ -157,7 +157,7 @@ decode_sequence-returns-then-not-is_extensible-clause-did t c =
     (outcome_on cx (S false) R c.args.state.now c.push.new.state c.decode_root.new.state c.args.parts.now c.push.new.parts c.decode_root.new.parts
     c.decode_root.result
     (put_step cx (Sequence c.args.root.count false) R c.args.state.now c.push.new.state c.args.parts.now c.push.new.parts c.requires.within
-    (record { at = c.push.ensures.at; first = c.push.ensures.first; end = c.push.ensures.end }) (c.push.ensures.grown list))
+    (record { at = c.push.ensures.at; first = c.push.ensures.first; end = c.push.ensures.end }) (c.push.ensures.grown cx.tables.ranges.now list))
     c.decode_root.ensures.did)
 
 pub decode_sequence-returns-then-not-is_extended-clause-did : goal.sequence::decode_sequence-returns-then-not-is_extended-clause-did
@@ -179,7 +179,7 @@ decode_sequence-returns-then-not-is_extended-clause-did t c =
     (over cx (S true) B R a.state.now mid now.state a.parts.now a.parts.now now.parts
     (bit_step cx a.depth a.node a.root a.additions b a.state.now mid a.parts.now c.requires.within c.next_bit.ensures.onward c.in-Some.ensures.read)
     (after_false cx a.depth a.node a.root a.additions b mid now.state a.parts.now now.parts c.if-not-is_extended.true within
-    (record { at = c.push-2.ensures.at; first = c.push-2.ensures.first; end = c.push-2.ensures.end }) (c.push-2.ensures.grown list)))
+    (record { at = c.push-2.ensures.at; first = c.push-2.ensures.first; end = c.push-2.ensures.end }) (c.push-2.ensures.grown cx.tables.ranges.now list)))
     root.ensures.did)
 
 pub decode_sequence-returns-then-not-decode_root-clause-did : goal.sequence::decode_sequence-returns-then-not-decode_root-clause-did
@@ -205,7 +205,7 @@ decode_sequence-returns-then-not-decode_root-clause-did t c =
     over cx (S true) B RX a.state.now mid now.state a.parts.now a.parts.now now.parts
     (bit_step cx a.depth a.node a.root a.additions b a.state.now mid a.parts.now c.requires.within c.next_bit.ensures.onward c.in-Some.ensures.read)
     (after_true cx a.depth a.node a.root a.additions b mid now.state a.parts.now now.parts c.if-not-is_extended.false within same
-    (c.push-2.ensures.grown list)) in
+    (c.push-2.ensures.grown cx.tables.ranges.now list)) in
     subst (λ (x : Bool). (S x (position a.state.now)).fault (rest list a.state.now) (fault_of root.new.state) ⊎ IsUnsupported cx root.new.state)
     (sym c.if-not-is_extensible.false)
     (fails_on cx (S true) RX a.state.now now.state root.new.state a.parts.now now.parts root.new.parts begun
@@ -237,7 +237,7 @@ decode_sequence-returns-clause-did t c =
     over cx (S true) B RX a.state.now mid now.state a.parts.now a.parts.now now.parts
     (bit_step cx a.depth a.node a.root a.additions b a.state.now mid a.parts.now c.requires.within c.next_bit.ensures.onward c.in-Some.ensures.read)
     (after_true cx a.depth a.node a.root a.additions b mid now.state a.parts.now now.parts c.if-not-is_extended.false within same
-    (c.push-2.ensures.grown list)) in
+    (c.push-2.ensures.grown cx.tables.ranges.now list)) in
     let last = c.decode_extension in
     subst (λ (x : Bool). Outcome cx (S x) a.state.now last.new.state a.parts.now last.new.parts last.result) (sym c.if-not-is_extensible.false)
     (outcome_on cx (S true) X1 a.state.now root.new.state last.new.state a.parts.now root.new.parts last.new.parts last.result

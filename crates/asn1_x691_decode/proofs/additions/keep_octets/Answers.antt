@@ -11,4 +11,4 @@ returns-in-Some-clause-did c =
     let list = bits cx.octets.now in
     leaf_decoded cx (octets cx.is_aligned c.args.node) Unknown c.args.state.now c.next_octets.new.state c.push.new.state c.args.parts.now
     c.push.new.parts (bits_of list c.in-Some.span) c.requires.within c.next_octets.ensures.onward c.in-Some.ensures.read
-    (record { at = c.push.ensures.at; first = c.push.ensures.first; end = c.push.ensures.end }) (c.push.ensures.grown list)
+    (record { at = c.push.ensures.at; first = c.push.ensures.first; end = c.push.ensures.end }) (c.push.ensures.grown cx.tables.ranges.now list)

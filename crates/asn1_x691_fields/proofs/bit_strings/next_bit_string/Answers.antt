@@ -10,7 +10,7 @@ use Rattle.asn1_x691_fields.specs.LeafSteps.{bit_taken}
 use Rattle.asn1_x691_fields.proofs.bit_strings.next_bit_string.Goals as goal
 
 pub returns-clause-read : goal.returns-clause-read
-returns-clause-read c =
+returns-clause-read c ranges =
     let list = bits c.args.octets.now in
     let aligned = c.args.is_aligned in
     let node = c.args.node in
@@ -18,8 +18,11 @@ returns-clause-read c =
     let names = c.args.has_names in
     let new = c.next_bits_by_bit.new.state in
     let taken = bit_taken node (AreAddedBits size) (leaf (bits_by aligned node names size (string_of aligned 1 size node)) Bits node)
-    (leaf (bits_by aligned node names size (added_string aligned 1 size node)) Bits node) list c.args.state.now c.next_bit.new.state new
+    (leaf (bits_by aligned node names size (added_string aligned 1 size node)) Bits node) ranges list c.args.state.now c.next_bit.new.state new
     c.in_ok-is_added.is_added c.next_bits_by_bit.result c.requires.within c.in_ok-is_added.ensures.onward
-    c.in_ok-is_added.ensures.read c.next_bits_by_bit.ensures.read in
-    subst (λ (b : Bool). IsTaken (λ at. (bit_string aligned node size b names at).encoding) (λ p. piece_of list p ∷ []) list
+    c.in_ok-is_added.ensures.read (c.next_bits_by_bit.ensures.read ranges) in
+    subst (λ (b : Bool). IsTaken (λ at. (bit_string aligned node size b names at).encoding) (λ p. piece_of ranges list p ∷ []) list
     c.args.state.now new c.next_bits_by_bit.result) (sym c.if-not-is_extensible.false) taken
+
+pub returns-then-not-is_extensible-clause-read : goal.returns-then-not-is_extensible-clause-read
+returns-then-not-is_extensible-clause-read c ranges = rw c.if-not-is_extensible.true (c.next_bits_of_root.ensures.read ranges)

@@ -12,7 +12,7 @@ use Rattle.asn1_x691_fields.specs.TrimmedSteps.{named_starts, named_fault}
 use Rattle.asn1_x691_fields.proofs.bit_strings.next_bits_of_root.Goals as goal
 
 pub returns-then-not-are_permitted-clause-read : goal.returns-then-not-are_permitted-clause-read
-returns-then-not-are_permitted-clause-read c =
+returns-then-not-are_permitted-clause-read c ranges =
     let list = bits c.args.octets.now in
     let node = c.args.node in
     let size = c.args.size in
@@ -25,7 +25,7 @@ returns-then-not-are_permitted-clause-read c =
     c.fail.ensures.at c.fail.ensures.end c.fail.ensures.node c.fail.ensures.kind)))
 
 pub returns-clause-read : goal.returns-clause-read
-returns-clause-read c =
+returns-clause-read c ranges =
     let list = bits c.args.octets.now in
     let node = c.args.node in
     let size = c.args.size in

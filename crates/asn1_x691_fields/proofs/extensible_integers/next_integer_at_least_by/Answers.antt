@@ -13,16 +13,19 @@ use Rattle.asn1_x691_fields.specs.LeafSteps.{bit_taken}
 use Rattle.asn1_x691_fields.proofs.extensible_integers.next_integer_at_least_by.Goals as goal
 
 pub returns-clause-read : goal.returns-clause-read
-returns-clause-read c =
+returns-clause-read c ranges =
     let list = bits c.args.octets.now in
     let aligned = c.args.is_aligned in
     let node = c.args.node in
     let least = c.args.bound.least in
     let new = c.next_at_least_by_bit.new.state in
     let taken = bit_taken node (IsAddedInteger (λ n. n <ℤ least)) (integer_at_least aligned node least)
-    (leaf (permitted (λ n. n <ℤ least) (λ n. least ≤ℤ n) InRoot node (unconstrained aligned node)) Integer node) list
+    (leaf (permitted (λ n. n <ℤ least) (λ n. least ≤ℤ n) InRoot node (unconstrained aligned node)) Integer node) ranges list
     c.args.state.now c.next_bit.new.state new c.in_ok-is_added.is_added c.next_at_least_by_bit.result c.requires.within
     c.in_ok-is_added.ensures.onward c.in_ok-is_added.ensures.read
-    c.next_at_least_by_bit.ensures.read in
-    subst (λ (b : Bool). IsTaken (λ at. (integer_at_least_by aligned node b least at).encoding) (λ p. piece_of list p ∷ []) list
+    (c.next_at_least_by_bit.ensures.read ranges) in
+    subst (λ (b : Bool). IsTaken (λ at. (integer_at_least_by aligned node b least at).encoding) (λ p. piece_of ranges list p ∷ []) list
     c.args.state.now new c.next_at_least_by_bit.result) (sym c.if-not-is_extensible.false) taken
+
+pub returns-then-not-is_extensible-clause-read : goal.returns-then-not-is_extensible-clause-read
+returns-then-not-is_extensible-clause-read c ranges = rw c.if-not-is_extensible.true (c.next_integer_at_least.ensures.read ranges)

@@ -25,7 +25,7 @@ is_between-requires-clause-inside c =
     )
 
 pub returns-then-is_between-clause-read : goal.returns-then-is_between-clause-read
-returns-then-is_between-clause-read c =
+returns-then-is_between-clause-read c ranges =
     let list = bits c.args.octets.now in
     let node = c.args.node in
     let mid = c.next_unconstrained.new.state in
@@ -38,7 +38,7 @@ returns-then-is_between-clause-read c =
     c.fail.ensures.at c.fail.ensures.end c.fail.ensures.node c.fail.ensures.kind)))
 
 pub returns-clause-read : goal.returns-clause-read
-returns-clause-read c =
+returns-clause-read c ranges =
     let list = bits c.args.octets.now in
     let node = c.args.node in
     let A = unconstrained c.args.is_aligned node in

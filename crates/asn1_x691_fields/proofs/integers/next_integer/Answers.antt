@@ -8,7 +8,7 @@ use Rattle.asn1_x691_fields.specs.LeafSteps.{leaf_starts}
 use Rattle.asn1_x691_fields.proofs.integers.next_integer.Goals as goal
 
 pub returns-clause-read : goal.returns-clause-read
-returns-clause-read c =
+returns-clause-read c ranges =
     let list = bits c.args.octets.now in
     let z = signed_number (bits_of list c.in_ok-span.span) in
     leaf_starts (unconstrained c.args.is_aligned c.args.node) Integer c.args.node (position c.args.state.now)
