@@ -11,7 +11,7 @@ use Rattle.asn1_x691.specs.declared.fault.FaultKind.{FaultKind}
 use Rattle.asn1_x691.specs.Strings.{bit}
 use Rattle.asn1_x691.specs.Leaves.{by_extension_bit}
 use Rattle.asn1_x691_fields.specs.declared.state.State.{State}
-use Rattle.asn1_x691_fields.specs.Outcomes.{rest, position, fault_of, IsWithin, IsOnward, IsTaken}
+use Rattle.asn1_x691_fields.specs.Outcomes.{rest, position, fault_of, IsWithin, IsOnward, IsRead}
 use Rattle.asn1_x691_fields.specs.Steps.{turn_starts, turn_fault}
 
 -- ---- one part, and its bits
@@ -38,22 +38,21 @@ leaf_starts A is node at list left x p e s =
 -- ---- a value after a header
 
 module _ {X Y Z T : Type 0} (list : List Bool) (old mid new : State) (x : X) (g : T → Y) where
-  pub turn_taken : (A : ℕ → Encoding FaultKind X) (f : X → Y → Z) (B : X → ℕ → Encoding FaultKind Y) (r : Option T)
+  pub turn_read : (A : ℕ → Encoding FaultKind X) (f : X → Y → Z) (B : X → ℕ → Encoding FaultKind Y) (r : Option T)
       → IsWithin list old → IsOnward list old mid
-      → Starts (A (position old)).encodes (rest list old) x (rest list mid) → IsTaken (B x) g list mid new r
-      → IsTaken (in_turn A f B) (λ t. f x (g t)) list old new r
-  turn_taken A f B (Some t) h o s p = turn_starts list old mid h o A f B x s (rest list new) (g t) p
-  turn_taken A f B None h o s (inl w) = inl (turn_fault list old mid h o A f B x s (fault_of new) w)
-  turn_taken A f B None h o s (inr w) = inr w
+      → Starts (A (position old)).encodes (rest list old) x (rest list mid) → IsRead (B x) g list mid new r
+      → IsRead (in_turn A f B) (λ t. f x (g t)) list old new r
+  turn_read A f B (Some t) h o s p = turn_starts list old mid h o A f B x s (rest list new) (g t) p
+  turn_read A f B None h o s w = turn_fault list old mid h o A f B x s (fault_of new) w
 
 -- an extension bit, and what it tells
 pub bit_taken : (node : ℕ) (Added : Piece → Type 0) (root extension : ℕ → TypeEncoding FaultKind) (ranges : List Range) (list : List Bool) (old mid new : State)
     (b : Bool) (r : Option Part) → IsWithin list old → IsOnward list old mid
     → Starts (bit node).encodes (rest list old) b (rest list mid)
-    → IsTaken (λ at. by_bit (root at) (extension at) b) (λ p. piece_of ranges list p ∷ []) list mid new r
-    → IsTaken (λ at. (by_extension_bit node Added root extension at).encoding) (λ p. piece_of ranges list p ∷ []) list old new r
+    → IsRead (λ at. by_bit (root at) (extension at) b) (λ p. piece_of ranges list p ∷ []) list mid new r
+    → IsRead (λ at. (by_extension_bit node Added root extension at).encoding) (λ p. piece_of ranges list p ∷ []) list old new r
 bit_taken node Added root extension ranges list old mid new b r h o s p =
-    turn_taken list old mid new b (λ (t : Part). piece_of ranges list t ∷ []) (λ at. bit node) (λ x ts. ts)
+    turn_read list old mid new b (λ (t : Part). piece_of ranges list t ∷ []) (λ at. bit node) (λ x ts. ts)
     (λ x at. by_bit (root at) (extension at) x) r h o s p
 
 -- ---- a value that is permitted

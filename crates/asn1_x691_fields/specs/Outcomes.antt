@@ -1,8 +1,7 @@
 -- What a call did to the state of a decoder: what it read, or the fault that it found.
-use Rattle.std.specs.Prelude.{◌≡◌, ℕ, ◌-◌, ◌%◌, ◌<◌, ◌≤◌, ◌⊎◌, ◌∷◌, Bool, true, List, length, take, drop, Option, Some, None}
+use Rattle.std.specs.Prelude.{◌≡◌, ℕ, ◌-◌, ◌%◌, ◌≤◌, Bool, true, List, length, take, drop, Option, Some, None}
 use Rattle.asn1_schema.specs.Encodings.{Fault, Encoding, Starts}
 use Rattle.asn1_x691.specs.declared.fault.FaultKind.{FaultKind}
-use Rattle.asn1_x691.specs.declared.fault.FaultKind.TheVariants.{Unsupported, Fragment}
 use Rattle.asn1_x691_fields.specs.declared.state.State.{State}
 
 -- the bits that are left of a message, up to the end of the complete encoding
@@ -46,21 +45,3 @@ pub record IsOnward (list : List Bool) (old new : State) : Type 0 where
 abbrev pub IsRead : {X T : Type 0} → (ℕ → Encoding FaultKind X) → (T → X) → List Bool → State → State → Option T → Type 0
 IsRead A f list old new (Some t) = Starts (A (position old)).encodes (rest list old) (f t) (rest list new)
 IsRead A f list old new None = (A (position old)).fault (rest list old) (fault_of new)
-
--- ---- what the decoder does not read yet: units in fragments (X.691 11.9.3.8), whose number begins with the bits 1 and 1
-
-pub record IsInFragments (list : List Bool) (s : State) : Type 0 where
-  pub kind : s.kind ≡ Unsupported
-  pub others : List Bool
-  pub bits : drop s.at list ≡ true ∷ true ∷ others
-
--- as `IsRead`; or the bits are in fragments
-abbrev pub IsTaken : {X T : Type 0} → (ℕ → Encoding FaultKind X) → (T → X) → List Bool → State → State → Option T → Type 0
-IsTaken A f list old new (Some t) = Starts (A (position old)).encodes (rest list old) (f t) (rest list new)
-IsTaken A f list old new None = (A (position old)).fault (rest list old) (fault_of new) ⊎ IsInFragments list new
-
--- the fault of a fragment of so many times 16,384 units, or of another first octet
-abbrev pub IsFragmentFault : ℕ → ℕ → ℕ → State → State → Type 0
-IsFragmentFault times at node old new =
-    ((1 ≤ times) × (times ≤ 4) × (new.at ≡ at) × (new.kind ≡ Unsupported))
-    ⊎ (((times < 1) ⊎ (4 < times)) × (new.at ≡ old.at) × (new.node ≡ node) × (new.kind ≡ Fragment))

@@ -1,16 +1,17 @@
 -- What follows from steps over units and their number.
 use Rattle.std.proofs.Common.{◌≡◌, ℕ, suc, ◌+◌, ◌-◌, ◌*◌, ◌/◌, ◌^◌, ◌<◌, ◌≤◌, List, [], ◌∷◌, ◌++◌, Bool, true, take, drop, refl, sym, ◌∙◌, ap, subst, arith, append_assoc, inl, inr, Option, Some, None}
-use Rattle.std.specs.Prelude.{◌⊎◌}
+use Rattle.std.specs.Prelude.{◌⊎◌, IfSome}
 use Rattle.std.proofs.lemmas.List.{take-append-drop, drop-take, drop-drop}
 use Rattle.asn1_bits.specs.Bits.{digits}
 use Rattle.asn1_bits.specs.NumberLaws.{digits-append}
-use Rattle.asn1_schema.specs.Encodings.{Fault, Encoding, Starts, number, constant, then, in_case, anywhere}
+use Rattle.asn1_schema.specs.Encodings.{Fault, Encoding, Starts, invalid, number, constant, then, in_case, anywhere}
 use Rattle.asn1_x691.specs.declared.fault.FaultKind.{FaultKind}
-use Rattle.asn1_x691.specs.declared.fault.FaultKind.TheVariants.{Short, Fragment}
+use Rattle.asn1_x691.specs.declared.fault.FaultKind.TheVariants.{Short, Fragment, Unsupported}
 use Rattle.asn1_x691.specs.Fields.{long_enough, on_octet}
-use Rattle.asn1_x691.specs.Fragments.{units_after, units_octets, units_next, units, units_then, last_units, all_units, most_fragments}
+use Rattle.asn1_x691.specs.Fragments.{units_after, units_octets, units_next, units, all_units, string}
+use Rattle.asn1_x691.specs.Strings.{where_size, string_where}
 use Rattle.asn1_x691_fields.specs.declared.state.State.{State}
-use Rattle.asn1_x691_fields.specs.Outcomes.{rest, position, fault_of, IsWithin, IsOnward, IsTaken, IsInFragments, IsFragmentFault}
+use Rattle.asn1_x691_fields.specs.Outcomes.{rest, position, fault_of, IsWithin, IsOnward, IsRead}
 use Rattle.asn1_x691_fields.specs.NumberSteps.{octet_starts, octet_fault}
 use Rattle.asn1_x691_fields.specs.Steps.{fault_at, then_starts, then_fault, constant_starts, turn_starts, turn_fault, moved_on, within_after}
 
@@ -19,9 +20,9 @@ pub starts_by : {X : Type 0} (P Q : X → List Bool → Type 0) (list left : Lis
     → Starts P list x left → Starts Q list x left
 starts_by P Q list left x f s = record { front = s.front; encoded = f s.front s.encoded; parts = s.parts }
 
-pub none_taken : {X T : Type 0} (A : ℕ → Encoding FaultKind X) (f : T → X) (list : List Bool) (old new : State) (r : Option T) → r ≡ None
-    → (A (position old)).fault (rest list old) (fault_of new) ⊎ IsInFragments list new → IsTaken A f list old new r
-none_taken A f list old new r e w = subst (λ (o : Option _). IsTaken A f list old new o) (sym e) w
+pub none_read : {X T : Type 0} (A : ℕ → Encoding FaultKind X) (f : T → X) (list : List Bool) (old new : State) (r : Option T) → r ≡ None
+    → (A (position old)).fault (rest list old) (fault_of new) → IsRead A f list old new r
+none_read A f list old new r e w = subst (λ (o : Option _). IsRead A f list old new o) (sym e) w
 
 -- ---- the number of the units
 
@@ -37,96 +38,78 @@ long_count node first second list mid left s t a b c =
     (then_starts (number 8 Short node) (λ x m. m) (λ x. long_enough node (256 * (first - 128) + x)) mid left left second n t
     (record { front = []; encoded = inl (c, (refl, refl)); parts = refl })))
 
-two_ones : (n : ℕ) → 192 ≤ n → n < 256 → digits n 8 ≡ true ∷ true ∷ digits n 6
-unfolding digits
-two_ones n a b =
-    let f : n / 2 ^ 6 ≡ 3 = omega (arith, a, b) in
-    digits-append n 2 6 ∙ ap (λ (k : ℕ). digits k 2 ++ digits n 6) f
+-- a fragment, or the fault of its first octet
+module _ (list : List Bool) (old mid new : State) (node first : ℕ) (g : IsOnward list old mid)
+    (s : Starts (number 8 Short node).encodes (rest list old) first (rest list mid)) (many : 192 ≤ first) where
+  fragment_starts : (n : ℕ) → rest list new ≡ rest list mid → (1 ≤ first - 192) × (first - 192 ≤ 4) → n ≡ 16384 * (first - 192)
+      → Starts (units_octets node).encodes (rest list old) n (rest list new)
+  fragment_starts n same p is =
+      then_starts (number 8 Short node) (λ x m. m) (λ x. units_after node x) (rest list old) (rest list mid) (rest list new) first n s
+      (record { front = []; encoded = inr (omega (arith, many), inr (many, inl (p, (is, refl)))); parts = sym same })
 
-pub rest_begins : (list : List Bool) (s : State) → s.at ≤ s.end → drop s.at list ≡ rest list s ++ drop s.end list
-rest_begins list s h =
-    let k = s.end - s.at in
-    let e : s.end ≡ s.at + k = omega (arith, h) in
-    sym (take-append-drop k (drop s.at list))
-    ∙ ap (λ (l : List Bool). l ++ drop k (drop s.at list)) (sym (drop-take s.at k list) ∙ ap (λ (n : ℕ). drop s.at (take n list)) (sym e))
-    ∙ ap (λ (l : List Bool). rest list s ++ l) (drop-drop k s.at list ∙ ap (λ (n : ℕ). drop n list) (sym e))
+  fragment_fault : (first - 192 < 1) ⊎ (4 < first - 192) → new.at ≡ mid.at → new.end ≡ mid.end → new.node ≡ node → new.kind ≡ Fragment
+      → (units_octets node).fault (rest list old) (fault_of new)
+  fragment_fault p at end place kind =
+      then_fault (number 8 Short node) (λ x m. m) (λ x. units_after node x) (rest list old) (rest list mid) first (fault_of new) s
+      (inr (omega (arith, many), inr (many, inr (p, fault_at list mid new node Fragment g.inside at end place kind))))
 
-pub begins_fragment : (list left : List Bool) (s : State) (node n : ℕ) → s.at ≤ s.end → Starts (number 8 Short node).encodes (rest list s) n left
-    → 192 ≤ n → (others : List Bool) × (drop s.at list ≡ true ∷ true ∷ others)
-begins_fragment list left s node n h t a =
-    let e : s.at ≤ s.end = h in (
-      digits n 6 ++ (left ++ drop s.end list),
-      rest_begins list s h ∙ ap (λ (l : List Bool). l ++ drop s.end list) (t.parts ∙ ap (λ (l : List Bool). l ++ left) (t.encoded.1 ∙ two_ones n a t.encoded.0))
-          ∙ ap (λ (l : List Bool). true ∷ true ∷ l) (append_assoc (digits n 6) left (drop s.end list)),
-    )
-
-pub fragment_fault : (list : List Bool) (old mid new : State) (node n : ℕ) → IsWithin list old → IsOnward list old mid
-    → Starts (number 8 Short node).encodes (rest list old) n (rest list mid) → 192 ≤ n → new.end ≡ mid.end
-    → IsFragmentFault (n - 192) old.at node mid new
-    → (units_octets node).fault (rest list old) (fault_of new) ⊎ IsInFragments list new
-fragment_fault list old mid new node n h g s a e (inl p) =
-    let b = begins_fragment list (rest list mid) old node n h.ends s a in
-    inr (record {
-      kind = p.3;
-      others = b.0;
-      bits = subst (λ (k : ℕ). drop k list ≡ true ∷ true ∷ b.0) (sym p.2) b.1;
-    })
-fragment_fault list old mid new node n h g s a e (inr p) =
-    inl (then_fault (number 8 Short node) (λ x m. m) (λ x. units_after node x) (rest list old) (rest list mid) n (fault_of new) s
-    (inr (omega (arith, a), inr (a, inr (p.0, fault_at list mid new node Fragment g.inside p.1 e p.2 p.3)))))
+  pub fragment_read : (r : Option ℕ) → IfSome r (λ n. (1 ≤ first - 192) × (first - 192 ≤ 4) × (n ≡ 16384 * (first - 192)))
+      → (r ≡ None → ((first - 192 < 1) ⊎ (4 < first - 192)) × (new.node ≡ node) × (new.kind ≡ Fragment)) → new.at ≡ mid.at
+      → new.end ≡ mid.end → IsRead (λ at. units_octets node) (λ n. n) list old new r
+  fragment_read (Some n) p q at end =
+      let same : rest list new ≡ rest list mid =
+      ap (λ (k : ℕ). drop k (take new.end list)) at ∙ ap (λ (k : ℕ). drop mid.at (take k list)) end in
+      fragment_starts n same (p.0, p.1) p.2
+  fragment_read None p q at end = let w = q refl in fragment_fault w.0 at end w.1 w.2
 
 -- ---- the units
 
 module _ {Y : Type 0} (U : ℕ → ℕ → Encoding FaultKind Y) (join : Y → Y → Y) (aligned : Bool) (node : ℕ) where
-  abbrev B : ℕ → ℕ → ℕ → Encoding FaultKind (ℕ × Y)
-  B more n = in_case (n < 16384) (units U join aligned node n) (16384 ≤ n)
-      (in_case (n < 65536) (units_then U join aligned node n (last_units U join aligned node)) (65536 ≤ n)
-      (units_then U join aligned node n (all_units U join aligned node more)))
+  abbrev B : ℕ → ℕ → Encoding FaultKind (ℕ × Y)
+  B n = in_case (n < 16384) (units U join aligned node n) (16384 ≤ n) (anywhere (invalid Unsupported node))
 
-  module _ (list : List Bool) (old mid : State) (h : IsWithin list old) (g : IsOnward list old mid) (n : ℕ) (few : n < 16384)
+  module _ (list : List Bool) (old mid : State) (h : IsWithin list old) (g : IsOnward list old mid) (n : ℕ)
       (s : Starts (units_next aligned node (position old)).encodes (rest list old) n (rest list mid)) where
-    units_of_more : (more : ℕ) (new : State) (y : Y) → IsOnward list mid new → Starts (U n (position mid)).encodes (rest list mid) y (rest list new)
-        → Starts (all_units U join aligned node (suc more) (position old)).encodes (rest list old) (n, y) (rest list new)
-    units_of_more more new y k t =
-        turn_starts list old mid h g (units_next aligned node) (λ m v. v) (B more) n s (rest list new) (n, y)
-        (starts_by (λ v l. (units U join aligned node n (position mid)).encodes v l) (λ v l. (B more n (position mid)).encodes v l)
+    pub units_start : n < 16384 → (new : State) (y : Y) → IsOnward list mid new
+        → Starts (U n (position mid)).encodes (rest list mid) y (rest list new)
+        → Starts (all_units U join aligned node 0 (position old)).encodes (rest list old) (n, y) (rest list new)
+    units_start few new y k t =
+        turn_starts list old mid h g (units_next aligned node) (λ m v. v) B n s (rest list new) (n, y)
+        (starts_by (λ v l. (units U join aligned node n (position mid)).encodes v l) (λ v l. (B n (position mid)).encodes v l)
         (rest list mid) (rest list new) (n, y) (λ front p. inl (few, p))
         (turn_starts list mid new (within_after list old mid h (moved_on list old mid g)) k (U n) (λ z u. (n, z))
         (λ z. anywhere (constant (tt {0}))) y t (rest list new) tt (constant_starts tt (rest list new))))
 
-    more_fault : (more : ℕ) (e : Fault FaultKind) → (U n (position mid)).fault (rest list mid) e
-        → (all_units U join aligned node (suc more) (position old)).fault (rest list old) e
-    more_fault more e w =
-        turn_fault list old mid h g (units_next aligned node) (λ m v. v) (B more) n s e (inl (few, inl w))
+    pub units_fault : n < 16384 → (e : Fault FaultKind) → (U n (position mid)).fault (rest list mid) e
+        → (all_units U join aligned node 0 (position old)).fault (rest list old) e
+    units_fault few e w =
+        turn_fault list old mid h g (units_next aligned node) (λ m v. v) B n s e (inl (few, inl w))
 
-    pub units_start : (new : State) (y : Y) → IsOnward list mid new → Starts (U n (position mid)).encodes (rest list mid) y (rest list new)
-        → Starts (all_units U join aligned node most_fragments (position old)).encodes (rest list old) (n, y) (rest list new)
-    unfolding most_fragments
-    units_start new y k t = units_of_more (most_fragments - 1) new y k t
-
-    pub units_fault : (e : Fault FaultKind) → (U n (position mid)).fault (rest list mid) e
-        → (all_units U join aligned node most_fragments (position old)).fault (rest list old) e
-    unfolding most_fragments
-    units_fault e w = more_fault (most_fragments - 1) e w
+    -- a fragment exceeds the limit
+    pub limit_fault : 16384 ≤ n → (new : State) → new.at ≡ mid.at → new.end ≡ mid.end → new.node ≡ node → new.kind ≡ Unsupported
+        → (all_units U join aligned node 0 (position old)).fault (rest list old) (fault_of new)
+    limit_fault many new at end place kind =
+        turn_fault list old mid h g (units_next aligned node) (λ m v. v) B n s (fault_of new)
+        (inr (many, fault_at list mid new node Unsupported g.inside at end place kind))
 
   pub count_fault : (at : ℕ) (list : List Bool) (e : Fault FaultKind) → (units_next aligned node at).fault list e
-      → (all_units U join aligned node most_fragments at).fault list e
-  unfolding most_fragments
+      → (all_units U join aligned node 0 at).fault list e
   count_fault at list e w = inl w
 
 pub counted_after_start : {X T : Type 0} (A : Encoding FaultKind X) (node : ℕ) (aligned : Bool) (list : List Bool) (old mid new : State)
     (f : T → X) (r : Option T)
     → Starts (on_octet aligned node (constant {K = FaultKind} (tt {0})) (position old)).encodes (rest list old) tt (rest list mid)
-    → IsTaken (λ at. A) f list mid new r → IsTaken (on_octet aligned node A) f list old new r
+    → IsRead (λ at. A) f list mid new r → IsRead (on_octet aligned node A) f list old new r
 counted_after_start A node aligned list old mid new f (Some t) s p =
     octet_starts node A (position old) aligned (rest list old) (rest list mid) (rest list new) (f t) s p
-counted_after_start A node aligned list old mid new f None s (inl w) =
-    inl (octet_fault node A (position old) aligned (rest list old) (rest list mid) (fault_of new) s w)
-counted_after_start A node aligned list old mid new f None s (inr w) = inr w
+counted_after_start A node aligned list old mid new f None s w =
+    octet_fault node A (position old) aligned (rest list old) (rest list mid) (fault_of new) s w
 
-pub count_taken : {Y : Type 0} (U : ℕ → ℕ → Encoding FaultKind Y) (join : Y → Y → Y) (aligned : Bool) (node : ℕ) (list : List Bool)
-    (old new : State)
-    → (units_next aligned node (position old)).fault (rest list old) (fault_of new) ⊎ IsInFragments list new
-    → (all_units U join aligned node most_fragments (position old)).fault (rest list old) (fault_of new) ⊎ IsInFragments list new
-count_taken U join aligned node list old new (inl w) = inl (count_fault U join aligned node (position old) (rest list old) (fault_of new) w)
-count_taken U join aligned node list old new (inr w) = inr w
+-- units of a permitted number
+pub sized_starts : (most : ℕ) (aligned : Bool) (unit node : ℕ) (Yes No : ℕ → Type 0) (kind : FaultKind) (list : List Bool) (old mid : State)
+    → IsWithin list old → IsOnward list old mid → (v : ℕ × List Bool)
+    → Starts (string most aligned unit node (position old)).encodes (rest list old) v (rest list mid) → Yes v.0
+    → Starts (string_where most aligned unit Yes No kind node (position old)).encodes (rest list old) v.1 (rest list mid)
+sized_starts most aligned unit node Yes No kind list old mid h g v s fits =
+    turn_starts list old mid h g (string most aligned unit node) (λ v bits. bits) (λ v. where_size Yes No kind node v) v s (rest list mid) v.1
+    (record { front = []; encoded = inl (fits, (refl, refl)); parts = refl })

@@ -8,7 +8,7 @@ ghost use Rattle.asn1_schema.specs.PiecesOfParts.{piece_of, bits_of};
 ghost use Rattle.asn1_schema.specs.TypeEncodings.{leaf, by_bit};
 ghost use Rattle.asn1_x691.specs.Strings.{string_of, added_string};
 ghost use Rattle.asn1_x691.specs.Leaves.{AreTrimmed, bits_by, bit_string, least_of as least_in};
-ghost use Rattle.asn1_x691_fields.specs.Outcomes.{IsWithin, IsOnward, IsTaken, IsPlaced};
+ghost use Rattle.asn1_x691_fields.specs.Outcomes.{IsWithin, IsOnward, IsRead, IsPlaced};
 
 use crate::bits::number_at;
 use crate::heads::next_bit;
@@ -31,7 +31,7 @@ pub fn next_bit_string(
     requires within { IsWithin (bits octets.now) state.old }
     requires placed { IsPlaced is_aligned state.old }
     ensures onward { IsOnward (bits octets.now) state.old state.new }
-    ensures read { (ranges : List Range) → IsTaken (λ at. (bit_string is_aligned node size is_extensible has_names at).encoding)
+    ensures read { (ranges : List Range) → IsRead (λ at. (bit_string 0 is_aligned node size is_extensible has_names at).encoding)
         (λ p. piece_of ranges (bits octets.now) p ∷ []) (bits octets.now) state.old state.new result }
 {
     if !is_extensible {
@@ -55,9 +55,9 @@ fn next_bits_by_bit(
     requires within { IsWithin (bits octets.now) state.old }
     requires placed { IsPlaced is_aligned state.old }
     ensures onward { IsOnward (bits octets.now) state.old state.new }
-    ensures read { (ranges : List Range) → IsTaken (λ at. by_bit
-        (leaf (bits_by is_aligned node has_names size (string_of is_aligned 1 size node)) Bits node at)
-        (leaf (bits_by is_aligned node has_names size (added_string is_aligned 1 size node)) Bits node at) is_added)
+    ensures read { (ranges : List Range) → IsRead (λ at. by_bit
+        (leaf (bits_by is_aligned node has_names size (string_of 0 is_aligned 1 size node)) Bits node at)
+        (leaf (bits_by is_aligned node has_names size (added_string 0 is_aligned 1 size node)) Bits node at) is_added)
         (λ p. piece_of ranges (bits octets.now) p ∷ []) (bits octets.now) state.old state.new result }
 {
     if is_added {
@@ -79,7 +79,7 @@ fn next_bits_of_root(
     requires within { IsWithin (bits octets.now) state.old }
     requires placed { IsPlaced is_aligned state.old }
     ensures onward { IsOnward (bits octets.now) state.old state.new }
-    ensures read { (ranges : List Range) → IsTaken (λ at. (leaf (bits_by is_aligned node has_names size (string_of is_aligned 1 size node)) Bits node at).encoding)
+    ensures read { (ranges : List Range) → IsRead (λ at. (leaf (bits_by is_aligned node has_names size (string_of 0 is_aligned 1 size node)) Bits node at).encoding)
         (λ p. piece_of ranges (bits octets.now) p ∷ []) (bits octets.now) state.old state.new result }
 {
     let span = next_string_of(octets, is_aligned, 1, size, node, state)?;
@@ -103,7 +103,7 @@ fn next_added_bits(
     requires within { IsWithin (bits octets.now) state.old }
     requires placed { IsPlaced is_aligned state.old }
     ensures onward { IsOnward (bits octets.now) state.old state.new }
-    ensures read { (ranges : List Range) → IsTaken (λ at. (leaf (bits_by is_aligned node has_names size (added_string is_aligned 1 size node)) Bits node at).encoding)
+    ensures read { (ranges : List Range) → IsRead (λ at. (leaf (bits_by is_aligned node has_names size (added_string 0 is_aligned 1 size node)) Bits node at).encoding)
         (λ p. piece_of ranges (bits octets.now) p ∷ []) (bits octets.now) state.old state.new result }
 {
     let span = next_added_string(octets, is_aligned, 1, size, node, state)?;

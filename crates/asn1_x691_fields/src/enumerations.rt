@@ -8,7 +8,7 @@ ghost use Rattle.asn1_schema.specs.TypeEncodings.{leaf, by_bit};
 ghost use Rattle.asn1_x691.specs.Fields.{small_number};
 ghost use Rattle.asn1_x691.specs.Leaves.{enumerated, enumerated_by, value_of_addition as piece_of_addition};
 ghost use Rattle.asn1_x691_fields.specs.Numbers.{IsNatural};
-ghost use Rattle.asn1_x691_fields.specs.Outcomes.{IsWithin, IsOnward, IsTaken, IsPlaced};
+ghost use Rattle.asn1_x691_fields.specs.Outcomes.{IsWithin, IsOnward, IsRead, IsPlaced};
 
 use crate::heads::next_bit;
 use crate::numbers::next_constrained;
@@ -32,7 +32,7 @@ pub fn next_enumerated(
     requires within { IsWithin (bits octets.now) state.old }
     requires placed { IsPlaced is_aligned state.old }
     ensures onward { IsOnward (bits octets.now) state.old state.new }
-    ensures read { (ranges : List Range) → IsTaken (λ at. (enumerated_by is_aligned node is_extensible last additions at).encoding)
+    ensures read { (ranges : List Range) → IsRead (λ at. (enumerated_by is_aligned node is_extensible last additions at).encoding)
         (λ p. piece_of ranges (bits octets.now) p ∷ []) (bits octets.now) state.old state.new result }
 {
     if !is_extensible {
@@ -57,7 +57,7 @@ fn next_value_by_bit(
     requires within { IsWithin (bits octets.now) state.old }
     requires placed { IsPlaced is_aligned state.old }
     ensures onward { IsOnward (bits octets.now) state.old state.new }
-    ensures read { (ranges : List Range) → IsTaken (λ at. by_bit (enumerated is_aligned node last at)
+    ensures read { (ranges : List Range) → IsRead (λ at. by_bit (enumerated is_aligned node last at)
         (leaf (small_number is_aligned node) (piece_of_addition last additions) node at) is_added)
         (λ p. piece_of ranges (bits octets.now) p ∷ []) (bits octets.now) state.old state.new result }
 {
@@ -79,7 +79,7 @@ fn next_value_of_root(
     requires within { IsWithin (bits octets.now) state.old }
     requires placed { IsPlaced is_aligned state.old }
     ensures onward { IsOnward (bits octets.now) state.old state.new }
-    ensures read { (ranges : List Range) → IsTaken (λ at. (enumerated is_aligned node last at).encoding)
+    ensures read { (ranges : List Range) → IsRead (λ at. (enumerated is_aligned node last at).encoding)
         (λ p. piece_of ranges (bits octets.now) p ∷ []) (bits octets.now) state.old state.new result }
 {
     let index = next_constrained(octets, is_aligned, last as u128, node, state)?;
@@ -100,7 +100,7 @@ fn next_added_value(
     requires within { IsWithin (bits octets.now) state.old }
     requires placed { IsPlaced is_aligned state.old }
     ensures onward { IsOnward (bits octets.now) state.old state.new }
-    ensures read { (ranges : List Range) → IsTaken (λ at. (leaf (small_number is_aligned node) (piece_of_addition last additions) node at).encoding)
+    ensures read { (ranges : List Range) → IsRead (λ at. (leaf (small_number is_aligned node) (piece_of_addition last additions) node at).encoding)
         (λ p. piece_of ranges (bits octets.now) p ∷ []) (bits octets.now) state.old state.new result }
 {
     let index = next_small_number(octets, is_aligned, node, state)?;

@@ -10,7 +10,7 @@ ghost use Rattle.asn1_schema.specs.TypeEncodings.{leaf, by_bit};
 ghost use Rattle.asn1_x691.specs.declared.fault.FaultKind.TheVariants.{InRoot};
 ghost use Rattle.asn1_x691.specs.Fields.{unconstrained};
 ghost use Rattle.asn1_x691.specs.Leaves.{IsBetween, IsOutside, integer_between, integer_at_least, integer_between_by, integer_at_least_by};
-ghost use Rattle.asn1_x691_fields.specs.Outcomes.{IsWithin, IsOnward, IsTaken, IsPlaced};
+ghost use Rattle.asn1_x691_fields.specs.Outcomes.{IsWithin, IsOnward, IsRead, IsPlaced};
 
 use crate::heads::next_bit;
 use crate::integers::{next_integer_at_least, next_integer_between};
@@ -33,7 +33,7 @@ pub fn next_integer_between_by(
     requires within { IsWithin (bits octets.now) state.old }
     requires placed { IsPlaced is_aligned state.old }
     ensures onward { IsOnward (bits octets.now) state.old state.new }
-    ensures read { (ranges : List Range) → IsTaken (λ at. (integer_between_by is_aligned node is_extensible bounds.least bounds.range at).encoding)
+    ensures read { (ranges : List Range) → IsRead (λ at. (integer_between_by is_aligned node is_extensible bounds.least bounds.range at).encoding)
         (λ p. piece_of ranges (bits octets.now) p ∷ []) (bits octets.now) state.old state.new result }
 {
     if !is_extensible {
@@ -56,7 +56,7 @@ fn next_between_by_bit(
     requires within { IsWithin (bits octets.now) state.old }
     requires placed { IsPlaced is_aligned state.old }
     ensures onward { IsOnward (bits octets.now) state.old state.new }
-    ensures read { (ranges : List Range) → IsTaken (λ at. by_bit (integer_between is_aligned node bounds.least bounds.range at)
+    ensures read { (ranges : List Range) → IsRead (λ at. by_bit (integer_between is_aligned node bounds.least bounds.range at)
         (leaf (permitted (IsOutside bounds.least bounds.range) (IsBetween bounds.least bounds.range) InRoot node
         (unconstrained is_aligned node)) Integer node at) is_added)
         (λ p. piece_of ranges (bits octets.now) p ∷ []) (bits octets.now) state.old state.new result }
@@ -81,7 +81,7 @@ fn next_outside(
     requires within { IsWithin (bits octets.now) state.old }
     requires placed { IsPlaced is_aligned state.old }
     ensures onward { IsOnward (bits octets.now) state.old state.new }
-    ensures read { (ranges : List Range) → IsTaken (λ at. (leaf (permitted (IsOutside least range) (IsBetween least range) InRoot node
+    ensures read { (ranges : List Range) → IsRead (λ at. (leaf (permitted (IsOutside least range) (IsBetween least range) InRoot node
         (unconstrained is_aligned node)) Integer node at).encoding)
         (λ p. piece_of ranges (bits octets.now) p ∷ []) (bits octets.now) state.old state.new result }
 {
@@ -107,7 +107,7 @@ pub fn next_integer_at_least_by(
     requires within { IsWithin (bits octets.now) state.old }
     requires placed { IsPlaced is_aligned state.old }
     ensures onward { IsOnward (bits octets.now) state.old state.new }
-    ensures read { (ranges : List Range) → IsTaken (λ at. (integer_at_least_by is_aligned node is_extensible bound.least at).encoding)
+    ensures read { (ranges : List Range) → IsRead (λ at. (integer_at_least_by is_aligned node is_extensible bound.least at).encoding)
         (λ p. piece_of ranges (bits octets.now) p ∷ []) (bits octets.now) state.old state.new result }
 {
     if !is_extensible {
@@ -130,7 +130,7 @@ fn next_at_least_by_bit(
     requires within { IsWithin (bits octets.now) state.old }
     requires placed { IsPlaced is_aligned state.old }
     ensures onward { IsOnward (bits octets.now) state.old state.new }
-    ensures read { (ranges : List Range) → IsTaken (λ at. by_bit (integer_at_least is_aligned node bound.least at)
+    ensures read { (ranges : List Range) → IsRead (λ at. by_bit (integer_at_least is_aligned node bound.least at)
         (leaf (permitted (λ n. n <ℤ bound.least) (λ n. bound.least ≤ℤ n) InRoot node (unconstrained is_aligned node)) Integer node at) is_added)
         (λ p. piece_of ranges (bits octets.now) p ∷ []) (bits octets.now) state.old state.new result }
 {
@@ -152,7 +152,7 @@ fn next_below(
     requires within { IsWithin (bits octets.now) state.old }
     requires placed { IsPlaced is_aligned state.old }
     ensures onward { IsOnward (bits octets.now) state.old state.new }
-    ensures read { (ranges : List Range) → IsTaken (λ at. (leaf (permitted (λ n. n <ℤ least) (λ n. least ≤ℤ n) InRoot node
+    ensures read { (ranges : List Range) → IsRead (λ at. (leaf (permitted (λ n. n <ℤ least) (λ n. least ≤ℤ n) InRoot node
         (unconstrained is_aligned node)) Integer node at).encoding)
         (λ p. piece_of ranges (bits octets.now) p ∷ []) (bits octets.now) state.old state.new result }
 {

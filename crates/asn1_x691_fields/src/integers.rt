@@ -5,7 +5,7 @@ ghost use Rattle.asn1_bits.specs.Bits.{bits};
 ghost use Rattle.asn1_schema.specs.declared.tables.Range.{Range};
 ghost use Rattle.asn1_schema.specs.PiecesOfParts.{piece_of};
 ghost use Rattle.asn1_x691.specs.Leaves.{integer, integer_at_least, integer_between};
-ghost use Rattle.asn1_x691_fields.specs.Outcomes.{IsWithin, IsOnward, IsTaken, IsPlaced};
+ghost use Rattle.asn1_x691_fields.specs.Outcomes.{IsWithin, IsOnward, IsRead, IsPlaced};
 
 use crate::numbers::{above, next_constrained};
 use crate::state::State;
@@ -24,7 +24,7 @@ pub fn next_integer_between(
     requires within { IsWithin (bits octets.now) state.old }
     requires placed { IsPlaced is_aligned state.old }
     ensures onward { IsOnward (bits octets.now) state.old state.new }
-    ensures read { (ranges : List Range) → IsTaken (λ at. (integer_between is_aligned node bounds.least bounds.range at).encoding)
+    ensures read { (ranges : List Range) → IsRead (λ at. (integer_between is_aligned node bounds.least bounds.range at).encoding)
         (λ p. piece_of ranges (bits octets.now) p ∷ []) (bits octets.now) state.old state.new result }
 {
     let n = next_constrained(octets, is_aligned, bounds.range, node, state)?;
@@ -43,7 +43,7 @@ pub fn next_integer_at_least(
     requires within { IsWithin (bits octets.now) state.old }
     requires placed { IsPlaced is_aligned state.old }
     ensures onward { IsOnward (bits octets.now) state.old state.new }
-    ensures read { (ranges : List Range) → IsTaken (λ at. (integer_at_least is_aligned node bound.least at).encoding)
+    ensures read { (ranges : List Range) → IsRead (λ at. (integer_at_least is_aligned node bound.least at).encoding)
         (λ p. piece_of ranges (bits octets.now) p ∷ []) (bits octets.now) state.old state.new result }
 {
     let span = next_semi_constrained(octets, is_aligned, node, state)?;
@@ -60,7 +60,7 @@ pub fn next_integer(octets: &[u8], is_aligned: bool, node: usize, state: &mut St
     requires within { IsWithin (bits octets.now) state.old }
     requires placed { IsPlaced is_aligned state.old }
     ensures onward { IsOnward (bits octets.now) state.old state.new }
-    ensures read { (ranges : List Range) → IsTaken (λ at. (integer is_aligned node at).encoding)
+    ensures read { (ranges : List Range) → IsRead (λ at. (integer is_aligned node at).encoding)
         (λ p. piece_of ranges (bits octets.now) p ∷ []) (bits octets.now) state.old state.new result }
 {
     let span = next_unconstrained(octets, is_aligned, node, state)?;

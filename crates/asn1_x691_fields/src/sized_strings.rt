@@ -7,7 +7,7 @@ ghost use Rattle.asn1_schema.specs.Fields.{raw_bits};
 ghost use Rattle.asn1_schema.specs.PiecesOfParts.{bits_of};
 ghost use Rattle.asn1_x691.specs.declared.fault.FaultKind.TheVariants.{Short};
 ghost use Rattle.asn1_x691.specs.Strings.{string_of, added_string, long_string, sized_string, units_of, IsInline, IsOnOctet};
-ghost use Rattle.asn1_x691_fields.specs.Outcomes.{IsWithin, IsOnward, IsRead, IsTaken, IsPlaced};
+ghost use Rattle.asn1_x691_fields.specs.Outcomes.{IsWithin, IsOnward, IsRead, IsPlaced};
 
 use crate::heads::{next_bits, next_start};
 use crate::numbers::next_constrained;
@@ -32,7 +32,7 @@ pub(crate) fn next_string_of(
     requires placed { IsPlaced is_aligned state.old }
     ensures onward { IsOnward (bits octets.now) state.old state.new }
     ensures inside { IfSome result (λ s. s.at + s.count ≤ 8 * length octets.now) }
-    ensures read { IsTaken (string_of is_aligned unit size node) (λ s. bits_of (bits octets.now) s) (bits octets.now)
+    ensures read { IsRead (string_of 0 is_aligned unit size node) (λ s. bits_of (bits octets.now) s) (bits octets.now)
         state.old state.new result }
 {
     match size {
@@ -59,7 +59,7 @@ pub(crate) fn next_added_string(
     requires placed { IsPlaced is_aligned state.old }
     ensures onward { IsOnward (bits octets.now) state.old state.new }
     ensures inside { IfSome result (λ s. s.at + s.count ≤ 8 * length octets.now) }
-    ensures read { IsTaken (added_string is_aligned unit size node) (λ s. bits_of (bits octets.now) s) (bits octets.now)
+    ensures read { IsRead (added_string 0 is_aligned unit size node) (λ s. bits_of (bits octets.now) s) (bits octets.now)
         state.old state.new result }
 {
     let (count, at) = next_units(octets, is_aligned, unit, node, state)?;
@@ -88,7 +88,7 @@ fn next_long_string(
     requires placed { IsPlaced is_aligned state.old }
     ensures onward { IsOnward (bits octets.now) state.old state.new }
     ensures inside { IfSome result (λ s. s.at + s.count ≤ 8 * length octets.now) }
-    ensures read { IsTaken (long_string is_aligned unit least node) (λ s. bits_of (bits octets.now) s) (bits octets.now)
+    ensures read { IsRead (long_string 0 is_aligned unit least node) (λ s. bits_of (bits octets.now) s) (bits octets.now)
         state.old state.new result }
 {
     let (count, at) = next_units(octets, is_aligned, unit, node, state)?;

@@ -18,18 +18,18 @@ returns-then-not-are_permitted-clause-read c ranges =
     let size = c.args.size in
     let mid = c.next_string_of.new.state in
     let p = c.are_permitted.ensures.forbidden c.if-not-are_permitted.true in
-    inl (inl (named_fault c.args.is_aligned node size (string_of c.args.is_aligned 1 size node) list c.args.state.now mid c.requires.within
+    inl (named_fault c.args.is_aligned node size (string_of 0 c.args.is_aligned 1 size node) list c.args.state.now mid c.requires.within
     c.in_ok-span.ensures.onward (bits_of list c.in_ok-span.span) c.in_ok-span.ensures.read c.args.has_names (fault_of c.fail.new.state)
     p.0 p.1
     (fault_at list mid c.fail.new.state node NotTrimmed c.in_ok-span.ensures.onward.inside
-    c.fail.ensures.at c.fail.ensures.end c.fail.ensures.node c.fail.ensures.kind)))
+    c.fail.ensures.at c.fail.ensures.end c.fail.ensures.node c.fail.ensures.kind))
 
 pub returns-clause-read : goal.returns-clause-read
 returns-clause-read c ranges =
     let list = bits c.args.octets.now in
     let node = c.args.node in
     let size = c.args.size in
-    let A = string_of c.args.is_aligned 1 size node in
+    let A = string_of 0 c.args.is_aligned 1 size node in
     let mid = c.next_string_of.new.state in
     leaf_starts (bits_by c.args.is_aligned node c.args.has_names size A) Bits node (position c.args.state.now)
     (rest list c.args.state.now) (rest list mid) (bits_of list c.in_ok-span.span) (Bits (bits_of list c.in_ok-span.span)) refl

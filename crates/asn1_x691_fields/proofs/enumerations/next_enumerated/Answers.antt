@@ -4,7 +4,7 @@ use Rattle.asn1_schema.specs.PiecesOfParts.{piece_of}
 use Rattle.asn1_schema.specs.TypeEncodings.{leaf}
 use Rattle.asn1_x691.specs.Fields.{small_number}
 use Rattle.asn1_x691.specs.Leaves.{IsAddedValue, enumerated, enumerated_by, value_of_addition}
-use Rattle.asn1_x691_fields.specs.Outcomes.{IsTaken}
+use Rattle.asn1_x691_fields.specs.Outcomes.{IsRead}
 use Rattle.asn1_x691_fields.specs.LeafSteps.{bit_taken}
 use Rattle.asn1_x691_fields.proofs.enumerations.next_enumerated.Goals as goal
 
@@ -18,7 +18,7 @@ returns-clause-read c ranges =
     (leaf (small_number c.args.is_aligned node) (value_of_addition last c.args.additions) node) ranges list c.args.state.now
     c.next_bit.new.state new c.in_ok-is_added.is_added c.next_value_by_bit.result c.requires.within
     c.in_ok-is_added.ensures.onward c.in_ok-is_added.ensures.read (c.next_value_by_bit.ensures.read ranges) in
-    subst (λ (b : Bool). IsTaken (λ at. (enumerated_by c.args.is_aligned node b last c.args.additions at).encoding)
+    subst (λ (b : Bool). IsRead (λ at. (enumerated_by c.args.is_aligned node b last c.args.additions at).encoding)
     (λ p. piece_of ranges list p ∷ []) list c.args.state.now new c.next_value_by_bit.result)
     (sym c.if-not-is_extensible.false) taken
 

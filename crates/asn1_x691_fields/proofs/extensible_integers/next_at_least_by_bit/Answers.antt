@@ -9,7 +9,7 @@ use Rattle.asn1_schema.specs.PiecesOfParts.{piece_of}
 use Rattle.asn1_schema.specs.TypeEncodings.{leaf}
 use Rattle.asn1_x691.specs.declared.fault.FaultKind.TheVariants.{InRoot}
 use Rattle.asn1_x691.specs.Fields.{unconstrained}
-use Rattle.asn1_x691_fields.specs.Outcomes.{IsTaken}
+use Rattle.asn1_x691_fields.specs.Outcomes.{IsRead}
 use Rattle.asn1_x691_fields.proofs.extensible_integers.next_at_least_by_bit.Goals as goal
 use mir.Val.{SFits}
 
@@ -20,7 +20,7 @@ returns-then-is_added-clause-read c ranges =
     let node = c.args.node in
     let least = c.args.bound.least in
     let fits : SFits w128 least = search rules in
-    let taken = subst (λ z. IsTaken (λ at. (leaf (permitted (λ n. n <ℤ z) (λ n. z ≤ℤ n) InRoot node (unconstrained aligned node))
+    let taken = subst (λ z. IsRead (λ at. (leaf (permitted (λ n. n <ℤ z) (λ n. z ≤ℤ n) InRoot node (unconstrained aligned node))
     Integer node at).encoding) (λ p. piece_of ranges list p ∷ []) list c.args.state.now c.next_below.new.state c.next_below.result)
     (to_z-of_z w128 least fits) (c.next_below.ensures.read ranges) in
     rw c.if-is_added.true taken

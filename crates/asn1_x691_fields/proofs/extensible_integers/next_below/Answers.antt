@@ -30,12 +30,12 @@ returns-then-not-is_below-clause-read c ranges =
     let node = c.args.node in
     let mid = c.next_unconstrained.new.state in
     let z = signed_number (bits_of list c.in_ok-span.span) in
-    inl (inl (permitted_fault (λ n. n <ℤ c.args.least) (λ n. c.args.least ≤ℤ n) InRoot node (unconstrained c.args.is_aligned node) list
+    inl (permitted_fault (λ n. n <ℤ c.args.least) (λ n. c.args.least ≤ℤ n) InRoot node (unconstrained c.args.is_aligned node) list
     c.args.state.now mid c.requires.within c.in_ok-span.ensures.onward z
     c.in_ok-span.ensures.read (fault_of c.fail.new.state) (subst (λ b. b ≤ℤ z) (to_z-of_z w128 c.args.least c.ranges.least)
     (c.is_below.ensures.above c.if-not-is_below.true))
     (fault_at list mid c.fail.new.state node InRoot c.in_ok-span.ensures.onward.inside
-    c.fail.ensures.at c.fail.ensures.end c.fail.ensures.node c.fail.ensures.kind)))
+    c.fail.ensures.at c.fail.ensures.end c.fail.ensures.node c.fail.ensures.kind))
 
 pub returns-clause-read : goal.returns-clause-read
 returns-clause-read c ranges =

@@ -9,7 +9,7 @@ use Rattle.asn1_schema.specs.TypeEncodings.{leaf, by_bit}
 use Rattle.asn1_x691.specs.declared.fault.FaultKind.TheVariants.{InRoot}
 use Rattle.asn1_x691.specs.Fields.{unconstrained}
 use Rattle.asn1_x691.specs.Leaves.{IsBetween, IsOutside, integer_between}
-use Rattle.asn1_x691_fields.specs.Outcomes.{IsTaken}
+use Rattle.asn1_x691_fields.specs.Outcomes.{IsRead}
 use Rattle.asn1_x691_fields.proofs.extensible_integers.next_between_by_bit.Goals as goal
 use mir.Val.{SFits}
 
@@ -22,10 +22,10 @@ returns-then-is_added-clause-read c ranges =
     let range = c.args.bounds.range in
     let new = c.next_outside.new.state in
     let fits : SFits w128 least = search rules in
-    let taken = subst (λ z. IsTaken (λ at. (leaf (permitted (IsOutside z range) (IsBetween z range) InRoot node (unconstrained aligned node))
+    let taken = subst (λ z. IsRead (λ at. (leaf (permitted (IsOutside z range) (IsBetween z range) InRoot node (unconstrained aligned node))
     Integer node at).encoding) (λ p. piece_of ranges list p ∷ []) list c.args.state.now new c.next_outside.result)
     (to_z-of_z w128 least fits) (c.next_outside.ensures.read ranges) in
-    subst (λ (b : Bool). IsTaken (λ at. by_bit (integer_between aligned node least range at)
+    subst (λ (b : Bool). IsRead (λ at. by_bit (integer_between aligned node least range at)
     (leaf (permitted (IsOutside least range) (IsBetween least range) InRoot node (unconstrained aligned node)) Integer node at) b)
     (λ p. piece_of ranges list p ∷ []) list c.args.state.now new c.next_outside.result) (sym c.if-is_added.true) taken
 

@@ -8,7 +8,7 @@ use Rattle.asn1_schema.specs.TypeEncodings.{leaf}
 use Rattle.asn1_x691.specs.declared.fault.FaultKind.TheVariants.{InRoot}
 use Rattle.asn1_x691.specs.Fields.{unconstrained}
 use Rattle.asn1_x691.specs.Leaves.{IsAddedInteger, integer_at_least, integer_at_least_by}
-use Rattle.asn1_x691_fields.specs.Outcomes.{IsTaken}
+use Rattle.asn1_x691_fields.specs.Outcomes.{IsRead}
 use Rattle.asn1_x691_fields.specs.LeafSteps.{bit_taken}
 use Rattle.asn1_x691_fields.proofs.extensible_integers.next_integer_at_least_by.Goals as goal
 
@@ -24,7 +24,7 @@ returns-clause-read c ranges =
     c.args.state.now c.next_bit.new.state new c.in_ok-is_added.is_added c.next_at_least_by_bit.result c.requires.within
     c.in_ok-is_added.ensures.onward c.in_ok-is_added.ensures.read
     (c.next_at_least_by_bit.ensures.read ranges) in
-    subst (λ (b : Bool). IsTaken (λ at. (integer_at_least_by aligned node b least at).encoding) (λ p. piece_of ranges list p ∷ []) list
+    subst (λ (b : Bool). IsRead (λ at. (integer_at_least_by aligned node b least at).encoding) (λ p. piece_of ranges list p ∷ []) list
     c.args.state.now new c.next_at_least_by_bit.result) (sym c.if-not-is_extensible.false) taken
 
 pub returns-then-not-is_extensible-clause-read : goal.returns-then-not-is_extensible-clause-read

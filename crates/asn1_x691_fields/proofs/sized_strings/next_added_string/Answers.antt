@@ -7,6 +7,7 @@ use Rattle.asn1_x691.specs.Fragments.{string}
 use Rattle.asn1_x691.specs.Strings.{IsOfRoot, IsAddedSize, where_size}
 use Rattle.asn1_x691_fields.specs.Outcomes.{fault_of}
 use Rattle.asn1_x691_fields.specs.Steps.{turn_fault, fault_at}
+use Rattle.asn1_x691_fields.specs.StringSteps.{sized_starts}
 use Rattle.asn1_x691_fields.proofs.sized_strings.next_added_string.Goals as goal
 
 pub returns-then-is_of_root-clause-read : goal.returns-then-is_of_root-clause-read
@@ -16,7 +17,7 @@ returns-then-is_of_root-clause-read c =
     let unit = c.args.unit in
     let size = c.args.size in
     let mid = c.next_units.new.state in
-    inl (turn_fault list c.args.state.now mid c.requires.within c.in_ok-count.ensures.onward (string c.args.is_aligned unit node)
+    turn_fault list c.args.state.now mid c.requires.within c.in_ok-count.ensures.onward (string 0 c.args.is_aligned unit node)
     (λ v bits. bits) (λ v. where_size (IsAddedSize size) (IsOfRoot size) InRoot node v)
     (c.in_ok-count.count, bits_at list c.in_ok-count.at (unit * c.in_ok-count.count)) c.in_ok-count.ensures.read
     (fault_of c.fail.new.state)
@@ -24,7 +25,7 @@ returns-then-is_of_root-clause-read c =
       c.is_of_root.ensures.of_root c.if-is_of_root.true,
       fault_at list mid c.fail.new.state node InRoot c.in_ok-count.ensures.onward.inside
           c.fail.ensures.at c.fail.ensures.end c.fail.ensures.node c.fail.ensures.kind,
-    )))
+    ))
 
 pub returns-clause-inside : goal.returns-clause-inside
 returns-clause-inside c =
@@ -35,3 +36,10 @@ returns-clause-inside c =
       c.in_ok-count.ensures.onward.ends,
       c.in_ok-count.ensures.onward.inside,
     )
+
+pub returns-clause-read : goal.returns-clause-read
+returns-clause-read c =
+    sized_starts 0 c.args.is_aligned c.args.unit c.args.node (IsAddedSize c.args.size) (IsOfRoot c.args.size) InRoot (bits c.args.octets.now)
+    c.args.state.now c.next_units.new.state c.requires.within c.in_ok-count.ensures.onward
+    (c.in_ok-count.count, bits_at (bits c.args.octets.now) c.in_ok-count.at (c.args.unit * c.in_ok-count.count)) c.in_ok-count.ensures.read
+    (c.is_of_root.ensures.added c.if-is_of_root.false)

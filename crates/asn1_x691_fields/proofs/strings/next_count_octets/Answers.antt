@@ -1,14 +1,14 @@
 use Rattle.std.proofs.Common.{arith}
 use Rattle.asn1_bits.specs.Bits.{bits}
 use Rattle.asn1_x691_fields.specs.Outcomes.{rest}
-use Rattle.asn1_x691_fields.specs.StringSteps.{long_count, fragment_fault}
+use Rattle.asn1_x691_fields.specs.StringSteps.{long_count, fragment_read}
 use Rattle.asn1_x691_fields.proofs.strings.next_count_octets.Goals as goal
 
 pub returns-then-first-ge192-clause-read : goal.returns-then-first-ge192-clause-read
 returns-then-first-ge192-clause-read c =
-    fragment_fault (bits c.args.octets.now) c.args.state.now c.next_word.new.state c.fail_fragment.new.state c.args.node c.in_ok-first.first
-    c.requires.within c.next_word.ensures.onward c.in_ok-first.ensures.read c.if-first-ge192.true c.fail_fragment.ensures.end
-    c.fail_fragment.ensures.set
+    fragment_read (bits c.args.octets.now) c.args.state.now c.next_word.new.state c.fragment_of.new.state c.args.node c.in_ok-first.first
+    c.next_word.ensures.onward c.in_ok-first.ensures.read c.if-first-ge192.true c.fragment_of.result c.fragment_of.ensures.some
+    c.fragment_of.ensures.none c.fragment_of.ensures.at c.fragment_of.ensures.end
 
 pub returns-clause-read : goal.returns-clause-read
 returns-clause-read c =
