@@ -19,7 +19,7 @@ use Rattle.asn1_x691_fields.specs.declared.state.State.{State}
 use Rattle.asn1_x691_fields.specs.Outcomes.{rest, position, IsWithin, IsOnward}
 use Rattle.asn1_x691_decode.specs.declared.context.Context.{Context}
 use Rattle.asn1_x691_decode.specs.Room.{IsGrown}
-use Rattle.asn1_x691_decode.specs.Decoding.{types, default_of, choice_in, alternatives_in, choice_extension_in, known_in}
+use Rattle.asn1_x691_decode.specs.Decoding.{types, decoder_limits, defaults_in, choice_in, alternatives_in, choice_extension_in, known_in}
 use Rattle.asn1_x691_decode.proofs.Steps.{IsUnderway, IsSamePlace, header_step, part_step}
 
 lt_false : (a b : ℕ) → b ≤ a → nat_lt a b ≡ false
@@ -36,8 +36,8 @@ module _ (c : Context) (depth node : ℕ) where
     A at = (alternatives_in c depth node rows at).encoding
 
     abbrev F : Bool → Option Member → ℕ → Encoding FaultKind Parts
-    F b o at = (alternative_if c.is_aligned (types c depth) c.tables.members.now c.tables.ranges.now
-        (default_of c.defaults.octets.now c.defaults.rows.now) node b o at).encoding
+    F b o at = (alternative_if decoder_limits c.is_aligned (types c depth) c.tables.members.now c.tables.ranges.now
+        (defaults_in c) node b o at).encoding
 
     abbrev pub H : ℕ → ℕ → Encoding FaultKind Parts
     H i = F (nat_lt i rows.count) (slice_get c.tables.members.now (rows.from + i))
@@ -82,8 +82,8 @@ module _ (c : Context) (depth node : ℕ) where
     -- ---- an addition
 
     abbrev G : Bool → ℕ → ℕ → Encoding FaultKind Parts
-    G b i at = (added c.is_aligned (types c depth) c.tables.members.now c.tables.ranges.now
-        (default_of c.defaults.octets.now c.defaults.rows.now) node known b i at).encoding
+    G b i at = (added decoder_limits c.is_aligned (types c depth) c.tables.members.now c.tables.ranges.now
+        (defaults_in c) node known b i at).encoding
 
     added_step : (i : ℕ) (b : Bool) (old mid now : State) (was next : List Part) → nat_lt i known.count ≡ b → IsWithin list old
         → IsOnward list old mid → Starts (small_number c.is_aligned node (position old)).encodes (rest list old) i (rest list mid)
@@ -106,6 +106,6 @@ module _ (c : Context) (depth node : ℕ) where
     pub unknown_step : (i : ℕ) (old mid now : State) (was next : List Part) → known.count ≤ i → IsWithin list old
         → IsOnward list old mid → Starts (small_number c.is_aligned node (position old)).encodes (rest list old) i (rest list mid)
         → IsSamePlace mid now → IsGrown c.tables.ranges.now list was mid.count next now.count (UnknownChosen i ∷ [])
-        → IsUnderway c X (λ at. (leaf (octets c.is_aligned node) Unknown node at).encoding) old now was next
+        → IsUnderway c X (λ at. (leaf (octets 0 c.is_aligned node) Unknown node at).encoding) old now was next
     unknown_step i old mid now was next past h g s same grown =
         added_step i false old mid now was next (lt_false i known.count past) h g s same grown

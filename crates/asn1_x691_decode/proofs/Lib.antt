@@ -1,6 +1,8 @@
 mod PresenceSteps
 mod Steps
-mod OpenSteps
+mod CompareSteps
+mod ExceptSteps
+pub mod OpenSteps
 mod SequenceSteps
 mod ChoiceSteps
 mod ListSteps

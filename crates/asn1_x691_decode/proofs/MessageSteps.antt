@@ -44,8 +44,7 @@ module _ (c : Context) (s : State) (at : s.at ≡ 0) (first : s.first ≡ 0) (en
       rw e refl
 
   pub unsupported_name : (new : State) → IsUnsupported c new → IsNotSupported c (record { node = new.node; at = new.at; kind = new.kind })
-  unsupported_name new (inl f) = record { kind = f.kind; is = inl (f.others, f.bits) }
-  unsupported_name new (inr u) = record { kind = u.0; is = inr u.1 }
+  unsupported_name new u = record { kind = u.0; is = u.1 }
 
   pub complete_message : (depth node : ℕ) (new : State) (was now : List Part) → s.count ≡ 0
       → IsFilled c.tables.ranges.now (complete node (types c depth node)).fills list s new was now → IsComplete c depth node now new.count

@@ -18,7 +18,7 @@ use Rattle.asn1_x691_fields.specs.Outcomes.{rest, position, fault_of, IsWithin, 
 use Rattle.asn1_x691_fields.specs.Steps.{rest_length, step_position, turn_starts, constant_starts}
 use Rattle.asn1_x691_decode.specs.declared.context.Context.{Context}
 use Rattle.asn1_x691_decode.specs.Room.{IsGrown}
-use Rattle.asn1_x691_decode.specs.Decoding.{OutcomeOfContents, IsDecoded, IsFilled, IsEnd, IsUnsupported, IsLater, IsTooLarge, IsDefaulted}
+use Rattle.asn1_x691_decode.specs.Decoding.{OutcomeOfContents, IsDecoded, IsFilled, IsEnd, IsUnsupported, IsLater, IsTooLarge}
 
 -- ---- zeros at the end
 
@@ -90,23 +90,17 @@ module _ (c : Context) where
   -- only the complete encoding differs
   pub same_unsupported : (old new : State) → new.at ≡ old.at → new.node ≡ old.node → new.kind ≡ old.kind → IsUnsupported c old
       → IsUnsupported c new
-  same_unsupported old new a n k (inl f) =
-      inl (record {
-        kind = k ∙ f.kind;
-        others = f.others;
-        bits = subst (λ (i : ℕ). drop i list ≡ true ∷ true ∷ f.others) (sym a) f.bits;
-      })
-  same_unsupported old new a n k (inr u) =
-      inr (k ∙ u.0, subst (λ (i : ℕ). IsLater (slice_get c.tables.nodes.now i) ⊎ (IsTooLarge (slice_get c.tables.nodes.now i) ⊎ IsDefaulted c i)) (sym n) u.1)
+  same_unsupported old new a n k u =
+      (k ∙ u.0, subst (λ (i : ℕ). IsLater (slice_get c.tables.nodes.now i) ⊎ IsTooLarge (slice_get c.tables.nodes.now i)) (sym n) u.1)
 
   -- ---- open types: `in` is the state before the contents, and `out` that after them
 
   module _ (A : ℕ → TypeEncoding FaultKind) (node : ℕ) (old after inside out : State) (contents : Span) (h : IsWithin list old)
-      (g : IsOnward list old after) (s : Starts (octets c.is_aligned node (position old)).encodes (rest list old) (bits_of list contents) (rest list after))
+      (g : IsOnward list old after) (s : Starts (octets 0 c.is_aligned node (position old)).encodes (rest list old) (bits_of list contents) (rest list after))
       (ends : after.at ≡ contents.at + contents.count) (at : inside.at ≡ contents.at) (end : inside.end ≡ contents.at + contents.count) where
-    encloses : Starts (enclosing c.is_aligned node (position old)).encodes (rest list old) (tt {0}, bits_of list contents) (rest list after)
+    encloses : Starts (enclosing 0 c.is_aligned node (position old)).encodes (rest list old) (tt {0}, bits_of list contents) (rest list after)
     encloses =
-        turn_starts list old after h g (octets c.is_aligned node) (λ l u. (u, l)) (λ l. anywhere (constant (tt {0}))) (bits_of list contents) s
+        turn_starts list old after h g (octets 0 c.is_aligned node) (λ l u. (u, l)) (λ l. anywhere (constant (tt {0}))) (bits_of list contents) s
         (rest list after) tt (constant_starts tt (rest list after))
 
     the_contents : rest list inside ≡ bits_of list contents
@@ -114,7 +108,7 @@ module _ (c : Context) where
         ∙ drop-take contents.at contents.count list
 
     pub enclosed_starts : (parts : Parts) → (complete node A).fills parts (rest list inside)
-        → Starts (open_type c.is_aligned node A (position old)).encoding.encodes (rest list old) parts (rest list after)
+        → Starts (open_type 0 c.is_aligned node A (position old)).encoding.encodes (rest list old) parts (rest list after)
     enclosed_starts parts f =
         let e = encloses in
         record {
@@ -125,7 +119,7 @@ module _ (c : Context) where
 
     pub enclosed_fault : (new : State) → new.at ≡ out.at → new.end ≡ after.end → new.node ≡ out.node → new.kind ≡ out.kind → out.at ≤ out.end
         → out.end ≡ inside.end → (complete node A).fault (rest list inside) (fault_of out)
-        → (open_type c.is_aligned node A (position old)).encoding.fault (rest list old) (fault_of new)
+        → (open_type 0 c.is_aligned node A (position old)).encoding.fault (rest list old) (fault_of new)
     enclosed_fault new a e n k few o w =
         inr (record {
           value = (tt, bits_of list contents);

@@ -16,7 +16,7 @@ use Rattle.asn1_x691_fields.specs.declared.state.State.{State}
 use Rattle.asn1_x691_fields.specs.Outcomes.{rest, position, IsWithin, IsMoved, IsOnward}
 use Rattle.asn1_x691_decode.specs.declared.context.Context.{Context}
 use Rattle.asn1_x691_decode.specs.Room.{IsGrown}
-use Rattle.asn1_x691_decode.specs.Decoding.{IsDecoded, types, default_of, sequence_in, root_in, extension_in, addition_in, additions_in, by_presence, bits_after_one}
+use Rattle.asn1_x691_decode.specs.Decoding.{IsDecoded, types, decoder_limits, defaults_in, sequence_in, root_in, extension_in, addition_in, additions_in, by_presence, bits_after_one}
 use Rattle.asn1_x691_decode.proofs.Steps.{IsUnderway, IsSamePlace, header_step, part_step, put_step, value_step, first_case, nothing_decoded}
 
 module _ (c : Context) (depth node : ℕ) where
@@ -60,8 +60,8 @@ module _ (c : Context) (depth node : ℕ) where
 
   module _ (known : Rows) where
     abbrev pub E : ℕ → ℕ → AfterHeader FaultKind (List Bool)
-    E n = some_additions c.is_aligned (types c depth) c.tables.members.now c.tables.ranges.now
-        (default_of c.defaults.octets.now c.defaults.rows.now) node n known
+    E n = some_additions decoder_limits c.is_aligned (types c depth) c.tables.members.now c.tables.ranges.now
+        (defaults_in c) node n known
 
     abbrev pub Q : ℕ → ℕ → Encoding FaultKind Parts
     Q n at = (header (raw_bits n Short node) n (E n) node at).encoding

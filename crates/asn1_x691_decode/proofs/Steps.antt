@@ -17,11 +17,11 @@ use Rattle.asn1_x691.specs.declared.fault.FaultKind.{FaultKind}
 use Rattle.asn1_x691.specs.declared.fault.FaultKind.TheVariants.{NoNode, TooDeep}
 use Rattle.asn1_x691.specs.Types.{component_by, component}
 use Rattle.asn1_x691_fields.specs.declared.state.State.{State}
-use Rattle.asn1_x691_fields.specs.Outcomes.{rest, position, fault_of, IsWithin, IsMoved, IsOnward, IsTaken, IsInFragments}
+use Rattle.asn1_x691_fields.specs.Outcomes.{rest, position, fault_of, IsWithin, IsMoved, IsOnward, IsRead}
 use Rattle.asn1_x691_fields.specs.Steps.{constant_starts, after_starts, after_fault, moved_on}
 use Rattle.asn1_x691_decode.specs.declared.context.Context.{Context}
 use Rattle.asn1_x691_decode.specs.Room.{Holds, IsGrown, IsKept}
-use Rattle.asn1_x691_decode.specs.Decoding.{Outcome, default_of, IsDecoded, IsUnsupported, types, type_in, value_in, components_in, component_in, bits_after, bits_after_one}
+use Rattle.asn1_x691_decode.specs.Decoding.{Outcome, decoder_limits, defaults_in, IsDecoded, IsUnsupported, types, type_in, value_in, components_in, component_in, bits_after, bits_after_one}
 
 -- ---- parts that follow others
 
@@ -48,15 +48,6 @@ same_position old new s = omega (arith, s.at, s.first)
 
 pub same_fault : (old new : State) → IsSamePlace old new → new.node ≡ old.node → new.kind ≡ old.kind → fault_of new ≡ fault_of old
 same_fault old new s n k = rw (s.at, s.end, n, k) refl
-
-pub inl_fragments : (c : Context) (old new : State) → IsSamePlace old new → new.kind ≡ old.kind → IsInFragments (bits c.octets.now) old
-    → {A : Type 0} → A ⊎ IsUnsupported c new
-inl_fragments c old new s k f =
-    inr (inl (record {
-      kind = k ∙ f.kind;
-      others = f.others;
-      bits = subst (λ (i : ℕ). drop i (bits c.octets.now) ≡ true ∷ true ∷ f.others) (sym s.at) f.bits;
-    }))
 
 pub same_within : (list : List Bool) (old new : State) → IsSamePlace old new → IsWithin list old → IsWithin list new
 same_within list old new s h = record {
@@ -229,8 +220,8 @@ module _ (c : Context) where
     -- one component, and others
     one_step : (m : Presence) (inner count from : ℕ) (p : List Bool) (old now : State) (was is : List Part) → IsWithin list old
         → IsMoved list old now → IsDecoded c.tables.ranges.now (component_in c depth node m inner p (position old)).encodes list old now was is
-        → IsUnderway (λ at. (component_by c.is_aligned (types c depth) c.tables.members.now c.tables.ranges.now
-        (default_of c.defaults.octets.now c.defaults.rows.now) node m (value_in c depth node m inner)
+        → IsUnderway (λ at. (component_by decoder_limits c.is_aligned (types c depth) c.tables.members.now c.tables.ranges.now
+        (defaults_in c) node m (value_in c depth node m inner)
         (components_in c depth node count from) at).after p) (C count from (bits_after m p)) old now was is
     one_step presence.Mandatory inner count from p old now was is h g d =
         value_step (V presence.Mandatory inner) (C count from p) old now was is h g d
@@ -247,8 +238,8 @@ module _ (c : Context) where
 
     one_fault : (m : Presence) (inner count from : ℕ) (p : List Bool) (at : ℕ) (l : List Bool) (e : Fault FaultKind)
         → (component_in c depth node m inner p at).fault l e
-        → ((component_by c.is_aligned (types c depth) c.tables.members.now c.tables.ranges.now
-        (default_of c.defaults.octets.now c.defaults.rows.now) node m (value_in c depth node m inner)
+        → ((component_by decoder_limits c.is_aligned (types c depth) c.tables.members.now c.tables.ranges.now
+        (defaults_in c) node m (value_in c depth node m inner)
         (components_in c depth node count from) at).after p).fault l e
     one_fault presence.Mandatory inner count from p at l e w = inl w
     one_fault presence.Optional inner count from [] at l e w = w
@@ -259,8 +250,8 @@ module _ (c : Context) where
     one_fault (presence.Default v) inner count from (true ∷ p) at l e w = inl w
 
     abbrev K : Option Member → ℕ → ℕ → List Bool → ℕ → Encoding FaultKind Parts
-    K o count from p at = (component c.is_aligned (types c depth) c.tables.members.now c.tables.ranges.now
-        (default_of c.defaults.octets.now c.defaults.rows.now) node o (components_in c depth node count from) at).after p
+    K o count from p at = (component decoder_limits c.is_aligned (types c depth) c.tables.members.now c.tables.ranges.now
+        (defaults_in c) node o (components_in c depth node count from) at).after p
 
     pub component_step : (count from index : ℕ) (m : Member) (p q : List Bool) (old now : State) (was is : List Part) → index < count
         → slice_get c.tables.members.now (from + index) ≡ Some m → IsWithin list old → IsMoved list old now
@@ -366,14 +357,11 @@ module _ (c : Context) where
 
   -- a part that was read and kept, or the fault
   pub kept_outcome : (A : ℕ → Encoding FaultKind Parts) (old mid new : State) (was is : List Part) (part : Option Part) (r : Bool)
-      → IsOnward bs old mid → IsTaken A (λ p. piece_of c.tables.ranges.now bs p ∷ []) bs old mid part → IsSamePlace mid new
+      → IsOnward bs old mid → IsRead A (λ p. piece_of c.tables.ranges.now bs p ∷ []) bs old mid part → IsSamePlace mid new
       → IsKept part mid new was is r → Outcome c A old new was is r
   kept_outcome A old mid new was is None r g t s k =
       subst (λ (b : Bool). Outcome c A old new was is b) (sym k.0)
-      (elim t [
-        | inl w ↦ inl (subst (λ (f : Fault FaultKind). (A (position old)).fault (rest bs old) f) (sym (same_fault mid new s k.1 k.2)) w)
-        | inr f ↦ inl_fragments c mid new s k.2 f
-      ])
+      (inl (subst (λ (f : Fault FaultKind). (A (position old)).fault (rest bs old) f) (sym (same_fault mid new s k.1 k.2)) t))
   kept_outcome A old mid new was is (Some p) r g t s k =
       subst (λ (b : Bool). Outcome c A old new was is b) (sym k.0) (record {
         parts = piece_of c.tables.ranges.now bs p ∷ [];

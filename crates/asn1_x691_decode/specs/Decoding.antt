@@ -1,7 +1,8 @@
 -- What a decoder did: the parts that it found, or the first fault.
-use Rattle.std.specs.Prelude.{◌≡◌, ℕ, ◌+◌, ◌^◌, ◌<◌, ◌≤◌, ◌⊎◌, ⊤, Bool, true, false, List, [], ◌∷◌, Option, Some, None, slice_get, slice_range}
+use Rattle.std.specs.Prelude.{◌≡◌, ℕ, ◌+◌, ◌*◌, ◌^◌, ◌<◌, ◌≤◌, ◌⊎◌, ⊤, nat_le, Bool, true, false, List, [], ◌∷◌, length, Option, Some, None, slice_get}
 use Rattle.asn1_bits.specs.Bits.{bits}
 use Rattle.asn1_schema.specs.declared.part.Natural.{Natural}
+use Rattle.asn1_schema.specs.declared.part.Span.{Span}
 use Rattle.asn1_schema.specs.declared.part.Part.{Part}
 use Rattle.asn1_schema.specs.declared.tables.Node.{Node}
 use Rattle.asn1_schema.specs.declared.tables.Node.TheVariants as type
@@ -13,33 +14,47 @@ use Rattle.asn1_schema.specs.declared.tables.Length.TheVariants.{AtLeast, Betwee
 use Rattle.asn1_schema.specs.declared.tables.Rows.{Rows}
 use Rattle.asn1_schema.specs.declared.tables.Range.{Range}
 use Rattle.asn1_schema.specs.Pieces.{Absent, Count, Parts}
-use Rattle.asn1_schema.specs.PiecesOfParts.{bits_at, natural_of}
+use Rattle.asn1_schema.specs.PiecesOfParts.{bits_at, bits_of, natural_of}
 use Rattle.asn1_schema.specs.Encodings.{Encoding, Contents, Starts, constant, invalid}
 use Rattle.asn1_schema.specs.TypeEncodings.{TypeEncoding, AfterHeader, several, part}
 use Rattle.asn1_x691.specs.declared.fault.FaultKind.{FaultKind}
 use Rattle.asn1_x691.specs.declared.fault.FaultKind.TheVariants.{Unsupported, NoNode}
 use Rattle.asn1_x691.specs.OpenTypes.{padding, complete, open_type}
+use Rattle.asn1_x691.specs.Limits.{Limits}
 use Rattle.asn1_x691.specs.Types.{type_at, type_of, value_by, components, root_of, sequence_by, extension, addition, additions_by_bits, known_addition, sequence_of_by, sequence_of, added_length, items, choice, choice_by, choice_extension}
 use Rattle.asn1_x691_fields.specs.declared.state.State.{State}
-use Rattle.asn1_x691_fields.specs.Outcomes.{rest, position, fault_of, IsInFragments}
+use Rattle.asn1_x691_fields.specs.Outcomes.{rest, position, fault_of}
 use Rattle.asn1_x691_decode.specs.declared.context.Context.{Context}
 use Rattle.asn1_x691_decode.specs.declared.presence.PresenceBits.{PresenceBits}
 use Rattle.asn1_x691_decode.specs.Room.{IsGrown}
 
 -- ---- a schema
 
--- the complete encoding of a default value; none where the table has none
-abbrev pub default_in : List ℕ → Option Rows → List Bool
-default_in octets None = []
-default_in octets (Some r) = bits (slice_range octets r.from (r.from + r.count))
+-- the limits of the decoder: no fragments, and items of a SET OF that begin at octets in the ALIGNED variant
+abbrev pub decoder_limits : Limits
+decoder_limits = record { fragments = 0; sets_on_octets = true }
 
-abbrev pub default_of : List ℕ → List Rows → ℕ → List Bool
-default_of octets rows value = default_in octets (slice_get rows value)
+-- the bits that encode a default value after so many bits of an octet; none where the table has none. In the ALIGNED variant each
+-- value has eight rows of the table, and otherwise one.
+abbrev pub row_of : Bool → ℕ → ℕ → ℕ
+row_of false value phase = value
+row_of true value phase = 8 * value + phase
+
+abbrev pub bits_if : Bool → List ℕ → Span → Option (List Bool)
+bits_if false octets s = None
+bits_if true octets s = Some (bits_of (bits octets) s)
+
+abbrev pub default_at : List ℕ → Option Span → Option (List Bool)
+default_at octets None = None
+default_at octets (Some s) = bits_if (nat_le (s.at + s.count) (8 * length octets)) octets s
+
+abbrev pub defaults_in : Context → ℕ → ℕ → Option (List Bool)
+defaults_in c value phase = default_at c.defaults.octets.now (slice_get c.defaults.spans.now (row_of c.is_aligned value phase))
 
 -- the types of a context, whose values are nested less deep than the depth
 abbrev pub types : Context → ℕ → ℕ → ℕ → TypeEncoding FaultKind
-types c depth node = type_at c.is_aligned c.tables.nodes.now c.tables.members.now c.tables.ranges.now
-    (default_of c.defaults.octets.now c.defaults.rows.now) depth node
+types c depth node = type_at decoder_limits c.is_aligned c.tables.nodes.now c.tables.members.now c.tables.ranges.now
+    (defaults_in c) depth node
 
 -- ---- what the decoder does not read yet
 
@@ -68,15 +83,9 @@ IsTooLarge (Some (type.Choice alternatives is_extensible known)) = 2 ^ 64 ≤ al
 IsTooLarge (Some (type.Enumerated last is_extensible known)) = 2 ^ 64 ≤ last + 1 + known
 IsTooLarge o = ⊥
 
--- a component of the type at a node has a default value, with which a value must be compared
-pub record IsDefaulted (c : Context) (node : ℕ) : Type 0 where
-  pub index : ℕ
-  pub value : ℕ
-  pub member : slice_get c.tables.members.now index ≡ Some (record { node = node; presence = presence.Default value })
-
 abbrev pub IsUnsupported : Context → State → Type 0
-IsUnsupported c s = IsInFragments (bits c.octets.now) s
-    ⊎ ((s.kind ≡ Unsupported) × (IsLater (slice_get c.tables.nodes.now s.node) ⊎ (IsTooLarge (slice_get c.tables.nodes.now s.node) ⊎ IsDefaulted c s.node)))
+IsUnsupported c s =
+    (s.kind ≡ Unsupported) × (IsLater (slice_get c.tables.nodes.now s.node) ⊎ IsTooLarge (slice_get c.tables.nodes.now s.node))
 
 -- ---- what a call did
 
@@ -110,63 +119,63 @@ IsEnd list node old new false = (padding node (position old)).fault (rest list o
 -- ---- the definitions of X.691, for a context
 
 module _ (c : Context) (depth node : ℕ) where
-  abbrev defaults : ℕ → List Bool
-  defaults = default_of c.defaults.octets.now c.defaults.rows.now
+  abbrev defaults : ℕ → ℕ → Option (List Bool)
+  defaults = defaults_in c
 
   -- the type of a node, where other types are nested less deep than the depth
   abbrev pub type_in : Option Node → ℕ → TypeEncoding FaultKind
-  type_in = type_of c.is_aligned (types c depth) c.tables.members.now c.tables.ranges.now defaults node
+  type_in = type_of decoder_limits c.is_aligned (types c depth) c.tables.members.now c.tables.ranges.now defaults node
 
   -- a value that is not the default
   abbrev pub value_in : Presence → ℕ → ℕ → TypeEncoding FaultKind
-  value_in p inner = value_by c.is_aligned (types c depth) c.tables.members.now c.tables.ranges.now defaults node p (types c depth inner)
+  value_in p inner = value_by decoder_limits c.is_aligned (types c depth) c.tables.members.now c.tables.ranges.now defaults node p (types c depth inner)
 
   abbrev pub components_in : ℕ → ℕ → ℕ → AfterHeader FaultKind (List Bool)
-  components_in = components c.is_aligned (types c depth) c.tables.members.now c.tables.ranges.now defaults node
+  components_in = components decoder_limits c.is_aligned (types c depth) c.tables.members.now c.tables.ranges.now defaults node
 
   abbrev pub root_in : Rows → ℕ → TypeEncoding FaultKind
-  root_in = root_of c.is_aligned (types c depth) c.tables.members.now c.tables.ranges.now defaults node
+  root_in = root_of decoder_limits c.is_aligned (types c depth) c.tables.members.now c.tables.ranges.now defaults node
 
   -- the same at the first position of octets of its own, and such octets after their number
   abbrev pub complete_in : Presence → ℕ → Contents FaultKind Parts
   complete_in p inner = complete node (value_in p inner)
 
   abbrev pub enclosed_in : Presence → ℕ → ℕ → TypeEncoding FaultKind
-  enclosed_in p inner = open_type c.is_aligned node (value_in p inner)
+  enclosed_in p inner = open_type 0 c.is_aligned node (value_in p inner)
 
   abbrev pub sequence_in : Bool → Rows → Rows → ℕ → TypeEncoding FaultKind
-  sequence_in = sequence_by c.is_aligned (types c depth) c.tables.members.now c.tables.ranges.now defaults node
+  sequence_in = sequence_by decoder_limits c.is_aligned (types c depth) c.tables.members.now c.tables.ranges.now defaults node
 
   abbrev pub extension_in : Rows → ℕ → TypeEncoding FaultKind
-  extension_in = extension c.is_aligned (types c depth) c.tables.members.now c.tables.ranges.now defaults node
+  extension_in = extension decoder_limits c.is_aligned (types c depth) c.tables.members.now c.tables.ranges.now defaults node
 
   abbrev pub addition_in : ℕ → ℕ → ℕ → TypeEncoding FaultKind
-  addition_in = addition c.is_aligned (types c depth) c.tables.members.now c.tables.ranges.now defaults node
+  addition_in = addition decoder_limits c.is_aligned (types c depth) c.tables.members.now c.tables.ranges.now defaults node
 
   abbrev pub known_in : Option Member → ℕ → TypeEncoding FaultKind
-  known_in = known_addition c.is_aligned (types c depth) c.tables.members.now c.tables.ranges.now defaults node
+  known_in = known_addition decoder_limits c.is_aligned (types c depth) c.tables.members.now c.tables.ranges.now defaults node
 
   abbrev pub additions_in : ℕ → ℕ → ℕ → ℕ → AfterHeader FaultKind (List Bool)
-  additions_in = additions_by_bits c.is_aligned (types c depth) c.tables.members.now c.tables.ranges.now defaults node
+  additions_in = additions_by_bits decoder_limits c.is_aligned (types c depth) c.tables.members.now c.tables.ranges.now defaults node
 
   abbrev pub sequence_of_in : Bool → Length → ℕ → ℕ → TypeEncoding FaultKind
-  sequence_of_in is_extensible = sequence_of_by c.is_aligned (types c depth) c.tables.members.now c.tables.ranges.now defaults node is_extensible false
+  sequence_of_in is_extensible = sequence_of_by decoder_limits c.is_aligned (types c depth) c.tables.members.now c.tables.ranges.now defaults node is_extensible false
 
   abbrev pub root_list_in : Length → ℕ → ℕ → TypeEncoding FaultKind
-  root_list_in = sequence_of c.is_aligned (types c depth) c.tables.members.now c.tables.ranges.now defaults node false
+  root_list_in = sequence_of decoder_limits c.is_aligned (types c depth) c.tables.members.now c.tables.ranges.now defaults node false
 
   abbrev pub added_list_in : Length → ℕ → ℕ → TypeEncoding FaultKind
   added_list_in size item = part (added_length c.is_aligned size node) Count
-      (λ n. items c.is_aligned (types c depth) c.tables.members.now c.tables.ranges.now defaults node false item n) node
+      (λ n. items decoder_limits c.is_aligned (types c depth) c.tables.members.now c.tables.ranges.now defaults node false item n) node
 
   abbrev pub choice_in : Bool → Rows → Rows → ℕ → TypeEncoding FaultKind
-  choice_in = choice_by c.is_aligned (types c depth) c.tables.members.now c.tables.ranges.now defaults node
+  choice_in = choice_by decoder_limits c.is_aligned (types c depth) c.tables.members.now c.tables.ranges.now defaults node
 
   abbrev pub alternatives_in : Rows → ℕ → TypeEncoding FaultKind
-  alternatives_in = choice c.is_aligned (types c depth) c.tables.members.now c.tables.ranges.now defaults node
+  alternatives_in = choice decoder_limits c.is_aligned (types c depth) c.tables.members.now c.tables.ranges.now defaults node
 
   abbrev pub choice_extension_in : Rows → Rows → ℕ → TypeEncoding FaultKind
-  choice_extension_in = choice_extension c.is_aligned (types c depth) c.tables.members.now c.tables.ranges.now defaults node
+  choice_extension_in = choice_extension decoder_limits c.is_aligned (types c depth) c.tables.members.now c.tables.ranges.now defaults node
 
   -- a component alone: a bit tells whether it is present
   abbrev pub by_presence : List Bool → (ℕ → TypeEncoding FaultKind) → ℕ → Encoding FaultKind Parts
@@ -201,10 +210,6 @@ IsTold list old new (Some b) = told_by list old ≡ b ∷ told_by list new
 
 abbrev pub items_in : Context → ℕ → ℕ → ℕ → ℕ → TypeEncoding FaultKind
 items_in c depth item n = several (types c depth item) n
-
--- the member of an index has this presence, where that is a default value
-abbrev pub IsListed : Context → ℕ → Member → Type 0
-IsListed c index m = (value : ℕ) → m.presence ≡ presence.Default value → slice_get c.tables.members.now index ≡ Some m
 
 -- the index of an addition, where it is below their number
 abbrev pub IsIndex : List Bool → Natural → ℕ → Option ℕ → Type 0

@@ -1,5 +1,5 @@
 -- What a decoder says of a message.
-use Rattle.std.specs.Prelude.{◌≡◌, ℕ, ◌-◌, ◌⊎◌, ◌∷◌, true, List, Bool, length, drop, slice_get}
+use Rattle.std.specs.Prelude.{◌≡◌, ℕ, ◌-◌, ◌⊎◌, List, Bool, length, drop, slice_get}
 use Rattle.asn1_bits.specs.Bits.{bits}
 use Rattle.asn1_schema.specs.declared.part.Part.{Part}
 use Rattle.asn1_schema.specs.Pieces.{Parts}
@@ -11,7 +11,7 @@ use Rattle.asn1_x691_decode.specs.declared.context.Context.{Context}
 use Rattle.asn1_x691_decode.specs.declared.message.Fault.{Fault as FoundFault}
 use Rattle.asn1_x691_decode.specs.declared.message.Prefix.{Prefix}
 use Rattle.asn1_x691_decode.specs.Room.{Holds}
-use Rattle.asn1_x691_decode.specs.Decoding.{types, IsLater, IsTooLarge, IsDefaulted}
+use Rattle.asn1_x691_decode.specs.Decoding.{types, IsLater, IsTooLarge}
 
 module _ (c : Context) where
   abbrev message : List Bool
@@ -39,10 +39,7 @@ module _ (c : Context) where
   abbrev pub IsFirstFaultOfPrefix : ℕ → ℕ → FoundFault → Type 0
   IsFirstFaultOfPrefix depth node e = (types c depth node 0).encoding.fault message (named e)
 
-  -- at the bit is a length in fragments, or at the node a type that the decoder does not read yet. That decoding the message
-  -- leads there is not said.
+  -- at the node is a type that the decoder does not read yet. That decoding the message leads there is not said.
   pub record IsNotSupported (e : FoundFault) : Type 0 where
     pub kind : e.kind ≡ Unsupported
-    pub is : ((others : List Bool) × (drop e.at message ≡ true ∷ true ∷ others))
-        ⊎ (IsLater (slice_get c.tables.nodes.now e.node)
-        ⊎ (IsTooLarge (slice_get c.tables.nodes.now e.node) ⊎ IsDefaulted c e.node))
+    pub is : IsLater (slice_get c.tables.nodes.now e.node) ⊎ IsTooLarge (slice_get c.tables.nodes.now e.node)

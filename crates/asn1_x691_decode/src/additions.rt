@@ -176,7 +176,7 @@ pub(crate) fn decode_known(
             fail(state, node, FaultKind::NoNode);
             false
         }
-        Some(member) => decode_enclosed(context, depth, node, from + index, member, state, parts),
+        Some(member) => decode_enclosed(context, depth, node, member, state, parts),
     }
 }
 
@@ -191,7 +191,7 @@ pub(crate) fn keep_octets(
     requires within { IsWithin (bits context.now.octets.now) state.old }
     requires placed { IsPlaced context.now.is_aligned state.old }
     ensures moved { IsMoved (bits context.now.octets.now) state.old state.new }
-    ensures did { Outcome context.now (λ at. (leaf (octets context.now.is_aligned node) Unknown node at).encoding)
+    ensures did { Outcome context.now (λ at. (leaf (octets 0 context.now.is_aligned node) Unknown node at).encoding)
         state.old state.new parts.old parts.new result }
 {
     match next_octets(context.octets, context.is_aligned, node, state) {

@@ -116,7 +116,6 @@ pub(crate) fn decode_node(
                 context,
                 depth - 1,
                 node,
-                0,
                 Member {
                     node: inner,
                     presence: Presence::Mandatory,

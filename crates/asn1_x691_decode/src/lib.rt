@@ -3,6 +3,7 @@
 
 mod additions;
 mod choice;
+mod compare;
 mod complete;
 mod context;
 mod decoder;

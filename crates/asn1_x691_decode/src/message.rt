@@ -73,7 +73,7 @@ pub fn decode(
         node,
         presence: Presence::Mandatory,
     };
-    if decode_complete(context, depth, node, 0, member, &mut state, parts) {
+    if decode_complete(context, depth, node, member, &mut state, parts) {
         return Ok(state.count);
     }
     Err(Fault {

@@ -4,14 +4,16 @@ ghost use Rattle.std.specs.Prelude.{◌≡◌, ◌<◌, ◌^◌, ◌*◌, ◌+�
 ghost use Rattle.asn1_bits.specs.Bits.{bits};
 ghost use Rattle.asn1_x691.specs.Fragments.{octets};
 ghost use Rattle.asn1_x691_fields.specs.Outcomes.{IsWithin, IsMoved, IsPlaced};
-ghost use Rattle.asn1_x691_decode.specs.Decoding.{Outcome, types, value_in, IsListed, OutcomeOfContents, complete_in, enclosed_in};
+ghost use Rattle.asn1_schema.specs.declared.tables.Presence.TheVariants as presence;
+ghost use Rattle.asn1_x691_decode.specs.Decoding.{Outcome, types, value_in, OutcomeOfContents, complete_in, enclosed_in};
 
+use crate::compare::is_default;
 use crate::complete::at_end;
 use crate::context::Context;
 use crate::decoder::decode_node;
-use crate::room::unsupported;
 use asn1_schema::{Member, Part, Presence};
-use asn1_x691_fields::{State, next_octets};
+use asn1_x691::FaultKind;
+use asn1_x691_fields::{State, fail, next_octets};
 
 /// Decodes an open type (X.691 11.2): octets that are a complete encoding, after their number.
 #[cycle(decoding)]
@@ -19,7 +21,6 @@ pub(crate) fn decode_enclosed(
     context: &Context<'_>,
     depth: usize,
     node: usize,
-    index: usize,
     member: Member,
     state: &mut State,
     parts: &mut [Part],
@@ -27,7 +28,6 @@ pub(crate) fn decode_enclosed(
     requires size { 8 * length context.now.octets.now < 2 ^ 64 }
     requires within { IsWithin (bits context.now.octets.now) state.old }
     requires placed { IsPlaced context.now.is_aligned state.old }
-    requires listed { IsListed context.now index member }
     ensures moved { IsMoved (bits context.now.octets.now) state.old state.new }
     ensures did { Outcome context.now (λ at. (enclosed_in context.now depth node member.presence member.node at).encoding)
         state.old state.new parts.old parts.new result }
@@ -40,7 +40,7 @@ pub(crate) fn decode_enclosed(
     state.at = contents.at;
     state.first = contents.at;
     state.end = contents.at + contents.count;
-    let is_complete = decode_complete(context, depth, node, index, member, state, parts);
+    let is_complete = decode_complete(context, depth, node, member, state, parts);
     state.first = after.first;
     state.end = after.end;
     if !is_complete {
@@ -56,7 +56,6 @@ pub(crate) fn decode_complete(
     context: &Context<'_>,
     depth: usize,
     node: usize,
-    index: usize,
     member: Member,
     state: &mut State,
     parts: &mut [Part],
@@ -65,12 +64,11 @@ pub(crate) fn decode_complete(
     requires within { IsWithin (bits context.now.octets.now) state.old }
     requires placed { IsPlaced context.now.is_aligned state.old }
     requires begins { state.old.at ≡ state.old.first }
-    requires listed { IsListed context.now index member }
     ensures moved { IsMoved (bits context.now.octets.now) state.old state.new }
     ensures did { OutcomeOfContents context.now (complete_in context.now depth node member.presence member.node)
         state.old state.new parts.old parts.new result }
 {
-    if !decode_value(context, depth, node, index, member, state, parts) {
+    if !decode_value(context, depth, node, member, state, parts) {
         return false;
     }
     at_end(context.octets, node, state)
@@ -82,7 +80,6 @@ pub(crate) fn decode_value(
     context: &Context<'_>,
     depth: usize,
     node: usize,
-    index: usize,
     member: Member,
     state: &mut State,
     parts: &mut [Part],
@@ -90,14 +87,45 @@ pub(crate) fn decode_value(
     requires size { 8 * length context.now.octets.now < 2 ^ 64 }
     requires within { IsWithin (bits context.now.octets.now) state.old }
     requires placed { IsPlaced context.now.is_aligned state.old }
-    requires listed { IsListed context.now index member }
     ensures moved { IsMoved (bits context.now.octets.now) state.old state.new }
     ensures did { Outcome context.now (λ at. (value_in context.now depth node member.presence member.node at).encoding)
         state.old state.new parts.old parts.new result }
 {
     match member.presence {
-        Presence::Default { value: _ } => unsupported(state, member.node),
+        Presence::Default { value } => {
+            decode_other_than(context, depth, node, value, member.node, state, parts)
+        }
         Presence::Mandatory => decode_node(context, depth, member.node, state, parts),
         Presence::Optional => decode_node(context, depth, member.node, state, parts),
     }
+}
+
+/// Decodes a value that is not a default value (X.691 19.5).
+#[cycle(decoding)]
+fn decode_other_than(
+    context: &Context<'_>,
+    depth: usize,
+    node: usize,
+    value: usize,
+    inner: usize,
+    state: &mut State,
+    parts: &mut [Part],
+) -> bool
+    requires size { 8 * length context.now.octets.now < 2 ^ 64 }
+    requires within { IsWithin (bits context.now.octets.now) state.old }
+    requires placed { IsPlaced context.now.is_aligned state.old }
+    ensures moved { IsMoved (bits context.now.octets.now) state.old state.new }
+    ensures did { Outcome context.now (λ at. (value_in context.now depth node (presence.Default value) inner at).encoding)
+        state.old state.new parts.old parts.new result }
+{
+    let (first, from) = (state.first, state.at);
+    if !decode_node(context, depth, inner, state, parts) {
+        return false;
+    }
+    if is_default(context, value, first, from, state.at) {
+        state.at = from;
+        fail(state, node, FaultKind::DefaultValue);
+        return false;
+    }
+    true
 }

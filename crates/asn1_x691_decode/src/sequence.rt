@@ -4,7 +4,7 @@ ghost use Rattle.std.specs.Prelude.{◌≡◌, ◌≤◌, ◌<◌, ◌^◌, ◌*
 ghost use Rattle.asn1_bits.specs.Bits.{bits};
 ghost use Rattle.asn1_x691.specs.Fragments.{octets};
 ghost use Rattle.asn1_x691_fields.specs.Outcomes.{IsWithin, IsMoved, IsPlaced};
-ghost use Rattle.asn1_x691_decode.specs.Decoding.{Outcome, component_in, components_in, root_in, sequence_in, bits_after, told_by, IsListed};
+ghost use Rattle.asn1_x691_decode.specs.Decoding.{Outcome, component_in, components_in, root_in, sequence_in, bits_after, told_by};
 
 use crate::additions::decode_extension;
 use crate::context::Context;
@@ -127,7 +127,6 @@ pub(crate) fn decode_components(
             context,
             depth,
             node,
-            at,
             member,
             &mut presence,
             state,
@@ -153,7 +152,6 @@ pub(crate) fn decode_component(
     context: &Context<'_>,
     depth: usize,
     node: usize,
-    index: usize,
     member: Member,
     presence: &mut PresenceBits,
     state: &mut State,
@@ -163,7 +161,6 @@ pub(crate) fn decode_component(
     requires within { IsWithin (bits context.now.octets.now) state.old }
     requires placed { IsPlaced context.now.is_aligned state.old }
     requires bits { presence.old.at + presence.old.left ≤ 8 * length context.now.octets.now }
-    requires listed { IsListed context.now index member }
     ensures moved { IsMoved (bits context.now.octets.now) state.old state.new }
     ensures bits { presence.new.at + presence.new.left ≤ 8 * length context.now.octets.now }
     ensures did { Outcome context.now (component_in context.now depth node member.presence member.node
@@ -172,7 +169,7 @@ pub(crate) fn decode_component(
         ≡ bits_after member.presence (told_by (bits context.now.octets.now) presence.old) }
 {
     if let Presence::Mandatory = member.presence {
-        return decode_value(context, depth, node, index, member, state, parts);
+        return decode_value(context, depth, node, member, state, parts);
     }
     match next_presence(context.octets, presence) {
         None => {
@@ -183,6 +180,6 @@ pub(crate) fn decode_component(
             push(parts, state, Part::Absent);
             true
         }
-        Some(true) => decode_value(context, depth, node, index, member, state, parts),
+        Some(true) => decode_value(context, depth, node, member, state, parts),
     }
 }

@@ -97,6 +97,18 @@ open_type::decode_enclosed-returns-clause-did = opentypes.decode_enclosed-return
 pub open_type::decode_value-returns-in-Default-clause-did : goal.open_type::decode_value-returns-in-Default-clause-did
 open_type::decode_value-returns-in-Default-clause-did = opentypes.decode_value-returns-in-Default-clause-did
 
+pub open_type::decode_other_than-is_default-requires-clause-inside : goal.open_type::decode_other_than-is_default-requires-clause-inside
+open_type::decode_other_than-is_default-requires-clause-inside = opentypes.decode_other_than-is_default-requires-clause-inside
+
+pub open_type::decode_other_than-returns-then-not-decode_node-clause-did : goal.open_type::decode_other_than-returns-then-not-decode_node-clause-did
+open_type::decode_other_than-returns-then-not-decode_node-clause-did = opentypes.decode_other_than-returns-then-not-decode_node-clause-did
+
+pub open_type::decode_other_than-returns-then-is_default-clause-did : goal.open_type::decode_other_than-returns-then-is_default-clause-did
+open_type::decode_other_than-returns-then-is_default-clause-did = opentypes.decode_other_than-returns-then-is_default-clause-did
+
+pub open_type::decode_other_than-returns-clause-did : goal.open_type::decode_other_than-returns-clause-did
+open_type::decode_other_than-returns-clause-did = opentypes.decode_other_than-returns-clause-did
+
 pub additions::decode_extension-returns-in-None-next_bits-clause-did : goal.additions::decode_extension-returns-in-None-next_bits-clause-did
 additions::decode_extension-returns-in-None-next_bits-clause-did = additions.decode_extension-returns-in-None-next_bits-clause-did
 

@@ -9,40 +9,43 @@ abbrev pub decreases-decoder::decode_node : goal.decreases-decoder::decode_node
 decreases-decoder::decode_node l = 16 * l.depth
 
 abbrev pub decreases-open_type::decode_value : goal.decreases-open_type::decode_value
-decreases-open_type::decode_value l = 16 * l.depth + 1
+decreases-open_type::decode_value l = 16 * l.depth + 2
+
+abbrev pub decreases-open_type::decode_other_than : goal.decreases-open_type::decode_other_than
+decreases-open_type::decode_other_than l = 16 * l.depth + 1
 
 abbrev pub decreases-sequence::decode_component : goal.decreases-sequence::decode_component
-decreases-sequence::decode_component l = 16 * l.depth + 2
+decreases-sequence::decode_component l = 16 * l.depth + 3
 
 abbrev pub decreases-open_type::decode_complete : goal.decreases-open_type::decode_complete
-decreases-open_type::decode_complete l = 16 * l.depth + 2
+decreases-open_type::decode_complete l = 16 * l.depth + 3
 
 abbrev pub decreases-open_type::decode_enclosed : goal.decreases-open_type::decode_enclosed
-decreases-open_type::decode_enclosed l = 16 * l.depth + 3
+decreases-open_type::decode_enclosed l = 16 * l.depth + 4
 
 abbrev pub decreases-additions::decode_known : goal.decreases-additions::decode_known
-decreases-additions::decode_known l = 16 * l.depth + 4
+decreases-additions::decode_known l = 16 * l.depth + 5
 
 abbrev pub decreases-additions::decode_addition : goal.decreases-additions::decode_addition
-decreases-additions::decode_addition l = 16 * l.depth + 5
+decreases-additions::decode_addition l = 16 * l.depth + 6
 
 abbrev pub decreases-additions::decode_optional_addition : goal.decreases-additions::decode_optional_addition
-decreases-additions::decode_optional_addition l = 16 * l.depth + 6
+decreases-additions::decode_optional_addition l = 16 * l.depth + 7
 
 abbrev pub decreases-additions::decode_additions : goal.decreases-additions::decode_additions
-decreases-additions::decode_additions l = 16 * l.depth + 7
+decreases-additions::decode_additions l = 16 * l.depth + 8
 
 abbrev pub decreases-additions::decode_extension : goal.decreases-additions::decode_extension
-decreases-additions::decode_extension l = 16 * l.depth + 8
+decreases-additions::decode_extension l = 16 * l.depth + 9
 
 abbrev pub decreases-choice::decode_alternative : goal.decreases-choice::decode_alternative
 decreases-choice::decode_alternative l = 16 * l.depth + 1
 
 abbrev pub decreases-choice::decode_added : goal.decreases-choice::decode_added
-decreases-choice::decode_added l = 16 * l.depth + 5
+decreases-choice::decode_added l = 16 * l.depth + 6
 
 abbrev pub decreases-choice::decode_choice : goal.decreases-choice::decode_choice
-decreases-choice::decode_choice l = 16 * l.depth + 6
+decreases-choice::decode_choice l = 16 * l.depth + 7
 
 abbrev pub decreases-sequence::decode_components : goal.decreases-sequence::decode_components
 decreases-sequence::decode_components l = 16 * l.depth + 5
@@ -51,7 +54,7 @@ abbrev pub decreases-sequence::decode_root : goal.decreases-sequence::decode_roo
 decreases-sequence::decode_root l = 16 * l.depth + 6
 
 abbrev pub decreases-sequence::decode_sequence : goal.decreases-sequence::decode_sequence
-decreases-sequence::decode_sequence l = 16 * l.depth + 9
+decreases-sequence::decode_sequence l = 16 * l.depth + 10
 
 abbrev pub invariant-sequence::decode_components-loop-index : goal.invariant-sequence::decode_components-loop-index
 invariant-sequence::decode_components-loop-index l =

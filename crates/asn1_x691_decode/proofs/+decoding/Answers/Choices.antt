@@ -103,7 +103,7 @@ decode_added-returns-in-None-known_index-clause-did t c =
     let k : IsIndex list c.in-Some.index a.known.count None =
     subst (λ (r : Option ℕ). IsIndex list c.in-Some.index a.known.count r) c.in-None-known_index.is
     (c.known_index.ensures list mid c.in-Some.ensures.natural) in
-    outcome_on cx (X cx a.depth a.node a.rows a.known) (λ at. (leaf (octets cx.is_aligned a.node) Unknown a.node at).encoding)
+    outcome_on cx (X cx a.depth a.node a.rows a.known) (λ at. (leaf (octets 0 cx.is_aligned a.node) Unknown a.node at).encoding)
     a.state.now now.state last.new.state a.parts.now now.parts last.new.parts last.result
     (unknown_step cx a.depth a.node a.rows a.known i a.state.now mid now.state a.parts.now now.parts k c.requires.within
     c.next_small_number.ensures.onward c.in-Some.ensures.read

@@ -126,7 +126,7 @@ decode_node-returns-in-Some-BitString-clause-did t c =
     at_node cx a.node a.depth (Some (type.BitString k.length k.is_extensible k.has_names))
     (λ (B : ℕ → Encoding FaultKind Parts). Outcome cx B a.state.now p.new.state a.parts.now p.new.parts p.result)
     (omega (arith, c.if-depth-eq0.false)) (sym c.node_at.ensures ∙ k.is ∙ ap (λ (n : Node). Some n) k.field-0-is)
-    (kept_outcome cx (λ at. (bit_string cx.is_aligned a.node k.length k.is_extensible k.has_names at).encoding) a.state.now c.next_bit_string-part.new.state p.new.state a.parts.now p.new.parts c.next_bit_string-part.result p.result
+    (kept_outcome cx (λ at. (bit_string 0 cx.is_aligned a.node k.length k.is_extensible k.has_names at).encoding) a.state.now c.next_bit_string-part.new.state p.new.state a.parts.now p.new.parts c.next_bit_string-part.result p.result
     c.next_bit_string-part.ensures.onward (c.next_bit_string-part.ensures.read cx.tables.ranges.now) (record { at = p.ensures.at; first = p.ensures.first; end = p.ensures.end }) p.ensures.kept)
 
 pub decode_node-returns-in-Some-OctetString-clause-did : goal.decoder::decode_node-returns-in-Some-OctetString-clause-did
@@ -138,5 +138,5 @@ decode_node-returns-in-Some-OctetString-clause-did t c =
     at_node cx a.node a.depth (Some (type.OctetString k.length k.is_extensible))
     (λ (B : ℕ → Encoding FaultKind Parts). Outcome cx B a.state.now p.new.state a.parts.now p.new.parts p.result)
     (omega (arith, c.if-depth-eq0.false)) (sym c.node_at.ensures ∙ k.is ∙ ap (λ (n : Node). Some n) k.field-0-is)
-    (kept_outcome cx (λ at. (octet_string cx.is_aligned a.node k.length k.is_extensible at).encoding) a.state.now c.next_octet_string.new.state p.new.state a.parts.now p.new.parts c.next_octet_string.result p.result
+    (kept_outcome cx (λ at. (octet_string 0 cx.is_aligned a.node k.length k.is_extensible at).encoding) a.state.now c.next_octet_string.new.state p.new.state a.parts.now p.new.parts c.next_octet_string.result p.result
     c.next_octet_string.ensures.onward (c.next_octet_string.ensures.read cx.tables.ranges.now) (record { at = p.ensures.at; first = p.ensures.first; end = p.ensures.end }) p.ensures.kept)

@@ -1,5 +1,5 @@
 -- Answers for the decoders of src/open_type.rt.
-use Rattle.std.proofs.Common.{◌≡◌, ℕ, ◌+◌, Bool, refl, sym, ◌∙◌, ap, subst, Some, inl, inr}
+use Rattle.std.proofs.Common.{◌≡◌, ℕ, ◌+◌, Bool, true, false, List, arith, refl, sym, ◌∙◌, ap, subst, Some, inl, inr}
 use Rattle.std.specs.Prelude.{slice_get, ◌⊎◌}
 use Rattle.asn1_bits.specs.Bits.{bits}
 use Rattle.asn1_x691_decode.specs.Decoding.{Outcome, value_in}
@@ -8,10 +8,16 @@ use Rattle.asn1_x691.specs.OpenTypes.{complete}
 use Rattle.asn1_x691_fields.specs.declared.state.State.{State}
 use Rattle.asn1_x691_decode.specs.Room.{IsGrown}
 use Rattle.asn1_x691_decode.proofs.OpenSteps.{complete_outcome, complete_fails, enclosed_starts, enclosed_fault, same_unsupported, contents_true, contents_false}
-use Rattle.asn1_schema.specs.declared.tables.Member.{Member}
 use Rattle.asn1_schema.specs.declared.tables.Presence.{Presence}
 use Rattle.asn1_schema.specs.declared.tables.Presence.TheVariants as presence
-use Rattle.asn1_x691_decode.specs.Decoding.{IsLater, IsTooLarge, IsDefaulted}
+use Rattle.asn1_schema.specs.declared.misfit.MisfitKind.TheVariants as misfit
+use Rattle.asn1_bits.specs.DigitLaws.{length-bits}
+use Rattle.asn1_x691.specs.declared.fault.FaultKind.TheVariants.{DefaultValue}
+use Rattle.asn1_x691.specs.Fields.{phase}
+use Rattle.asn1_x691_fields.specs.Outcomes.{position}
+use Rattle.asn1_x691_fields.specs.Steps.{fault_at}
+use Rattle.asn1_x691_decode.specs.Decoding.{types, defaults_in}
+use Rattle.asn1_x691_decode.proofs.ExceptSteps.{front_bits, other_decoded, other_fault}
 use Rattle.asn1_x691_decode.proofs.+decoding.Goals as goal
 
 pub decode_complete-returns-clause-did : goal.open_type::decode_complete-returns-clause-did
@@ -74,19 +80,59 @@ pub decode_value-returns-in-Default-clause-did : goal.open_type::decode_value-re
 decode_value-returns-in-Default-clause-did t c =
     let cx = c.args.context.now in
     let m = c.args.member in
-    let u = c.unsupported in
-    let same : m ≡ record { node = m.node; presence = presence.Default c.in-Default.value } =
-    ap (λ (p : Presence). record { node = m.node; presence = p }) c.in-Default.is in
-    let listed : IsDefaulted cx m.node =
-    record {
-      index = c.args.index;
-      value = c.in-Default.value;
-      member = c.requires.listed c.in-Default.value c.in-Default.is ∙ ap (λ (x : Member). Some x) same;
-    } in
-    subst (λ (b : Bool). Outcome cx (λ at. (value_in cx c.args.depth c.args.node m.presence m.node at).encoding) c.args.state.now u.new.state
-    c.args.parts.now c.args.parts.now b) (sym u.ensures.no)
-    (inr (inr (
-      u.ensures.kind,
-      subst (λ (n : ℕ). IsLater (slice_get cx.tables.nodes.now n) ⊎ (IsTooLarge (slice_get cx.tables.nodes.now n) ⊎ IsDefaulted cx n))
-          (sym u.ensures.node) (inr (inr listed)),
-    )))
+    let o = c.decode_other_than in
+    subst (λ (p : Presence). Outcome cx (λ at. (value_in cx c.args.depth c.args.node p m.node at).encoding) c.args.state.now o.new.state
+    c.args.parts.now o.new.parts o.result) (sym c.in-Default.is) o.ensures.did
+
+pub decode_other_than-is_default-requires-clause-inside : goal.open_type::decode_other_than-is_default-requires-clause-inside
+decode_other_than-is_default-requires-clause-inside t c =
+    omega (arith, length-bits c.args.context.now.octets.now, c.decode_node.ensures.moved.ends, c.decode_node.ensures.moved.inside)
+
+pub decode_other_than-returns-then-not-decode_node-clause-did : goal.open_type::decode_other_than-returns-then-not-decode_node-clause-did
+decode_other_than-returns-then-not-decode_node-clause-did t c =
+    let cx = c.args.context.now in
+    let a = c.args in
+    let one = c.decode_node in
+    elim (by_false cx (λ at. (types cx a.depth a.inner at).encoding) a.state.now one.new.state a.parts.now one.new.parts one.result
+    c.if-not-decode_node.true one.ensures.did) [
+      | inl w ↦ inl (inl w)
+      | inr u ↦ inr u
+    ]
+
+pub decode_other_than-returns-then-is_default-clause-did : goal.open_type::decode_other_than-returns-then-is_default-clause-did
+decode_other_than-returns-then-is_default-clause-did t c =
+    let cx = c.args.context.now in
+    let a = c.args in
+    let one = c.decode_node in
+    let list = bits cx.octets.now in
+    let d = by_true cx (λ at. (types cx a.depth a.inner at).encoding) a.state.now one.new.state a.parts.now one.new.parts one.result
+    c.if-not-decode_node.false one.ensures.did in
+    let C : List Bool → Type 0 = λ l. defaults_in cx a.value (phase cx.is_aligned (position a.state.now)) ≡ Some l in
+    inl (other_fault cx C DefaultValue misfit.DefaultValue a.node (types cx a.depth a.inner (position a.state.now)) a.state.now one.new.state
+    c.fail.new.state a.parts.now one.new.parts d
+    (subst C
+    (sym (front_bits list a.state.now one.new.state c.requires.within one.ensures.moved
+    (types cx a.depth a.inner (position a.state.now)).encoding.encodes d.parts d.starts))
+    (c.is_default.ensures.0 c.if-is_default.true))
+    (fault_at list a.state.now c.fail.new.state a.node DefaultValue c.requires.within.inside
+    c.fail.ensures.at (c.fail.ensures.end ∙ one.ensures.moved.same_end) c.fail.ensures.node c.fail.ensures.kind))
+
+pub decode_other_than-returns-clause-did : goal.open_type::decode_other_than-returns-clause-did
+decode_other_than-returns-clause-did t c =
+    let cx = c.args.context.now in
+    let a = c.args in
+    let one = c.decode_node in
+    let list = bits cx.octets.now in
+    let d = by_true cx (λ at. (types cx a.depth a.inner at).encoding) a.state.now one.new.state a.parts.now one.new.parts one.result
+    c.if-not-decode_node.false one.ensures.did in
+    let C : List Bool → Type 0 = λ l. defaults_in cx a.value (phase cx.is_aligned (position a.state.now)) ≡ Some l in
+    other_decoded cx C DefaultValue misfit.DefaultValue a.node (types cx a.depth a.inner (position a.state.now)) a.state.now one.new.state
+    a.parts.now one.new.parts d
+    (λ h. not_both c.is_default.result c.if-is_default.false
+    (c.is_default.ensures.1
+    (subst C
+    (front_bits list a.state.now one.new.state c.requires.within one.ensures.moved
+    (types cx a.depth a.inner (position a.state.now)).encoding.encodes d.parts d.starts) h)))
+  where
+    not_both : (b : Bool) → b ≡ false → b ≡ true → ⊥
+    not_both b e f = absurd cc
