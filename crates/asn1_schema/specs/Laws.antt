@@ -10,6 +10,7 @@ pub mod ByStructure
 pub mod OneEncodingLaws
 pub mod PermittedLaws
 pub mod PhaseLaws
+pub mod OrderLaws
 pub mod EachLaws
 pub mod FieldLaws
 pub mod ExampleLaws

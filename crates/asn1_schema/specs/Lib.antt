@@ -1,5 +1,6 @@
 -- The algebra of encoding rules.
 pub mod Encodings
+pub mod Order
 pub mod Pieces
 pub mod CharactersOfParts
 pub mod PiecesOfParts

@@ -1,7 +1,6 @@
 -- Canonical PER (X.691), both variants: which bits encode which parts of a value of a type in the tables, the first fault of other
 -- bits, and the first misfit of other parts. `E` says the same of the types that a type names.
 use Rattle.std.specs.Prelude.{ℕ, zero, suc, ◌+◌, ◌-◌, ◌*◌, ◌^◌, ◌<◌, ◌≤◌, nat_lt, Bool, true, false, List, length, Option, Some, None, slice_get, slice_range, ◌≡◌, ◌||◌, [], ◌∷◌, ⊤}
-use Rattle.asn1_bits.specs.Bits.{number}
 use Rattle.asn1_schema.specs.declared.tables.Length.{Length}
 use Rattle.asn1_schema.specs.declared.tables.Length.TheVariants.{AtLeast, Between}
 use Rattle.asn1_schema.specs.declared.tables.Presence.{Presence}
@@ -13,6 +12,7 @@ use Rattle.asn1_schema.specs.declared.tables.Node.{Node}
 use Rattle.asn1_schema.specs.declared.tables.Node.TheVariants as type
 use Rattle.asn1_schema.specs.declared.misfit.MisfitKind.TheVariants as misfit
 use Rattle.asn1_schema.specs.Pieces.{Piece, Parts, Null, Truth, Sequence, Count, Chosen, Additions, Unknown, UnknownChosen}
+use Rattle.asn1_schema.specs.Order.{IsBefore}
 use Rattle.asn1_schema.specs.Encodings.{Encoding, invalid, anywhere, permitted}
 use Rattle.asn1_schema.specs.Fields.{raw_bits}
 use Rattle.asn1_schema.specs.TypeEncodings.{TypeEncoding, AfterHeader, nothing, invalid_type, several, several_by_bits, part, leaf, put, header, end_of_components, mandatory, optional, both, except_type, only_where}
@@ -57,10 +57,6 @@ abbrev pub optional_count : List Member → ℕ → ℕ → ℕ
 optional_count members zero at = 0
 optional_count members (suc count) at = is_optional (slice_get members at) + optional_count members count (at + 1)
 
--- one list is before another: with zeros after it, to as many bits, it is the lesser number
-abbrev pub IsBefore : List Bool → List Bool → Type 0
-IsBefore list other = number list * 2 ^ length other < number other * 2 ^ length list
-
 -- bits at a position encode an item that is before the one whose bits precede it. The ALIGNED variant pads to octets of the message,
 -- so what is compared are their encodings at the beginning of a message.
 pub record IsMisplaced (aligned : Bool) (A : ℕ → TypeEncoding FaultKind) (before : List Bool) (at : ℕ) (list : List Bool) : Type 0 where
@@ -68,6 +64,7 @@ pub record IsMisplaced (aligned : Bool) (A : ℕ → TypeEncoding FaultKind) (be
   pub second : Parts
   pub first_bits : List Bool
   pub second_bits : List Bool
+  pub some : 0 < length before
   pub began : ℕ
   pub ended : phase aligned (began + length before) ≡ phase aligned at
   pub first_here : (A began).encoding.encodes first before

@@ -137,6 +137,7 @@ misplaced_follows aligned A a before p q e list w = record {
   second = w.second;
   first_bits = w.first_bits;
   second_bits = w.second_bits;
+  some = w.some;
   began = w.began;
   ended = w.ended ∙ e;
   first_here = w.first_here;
