@@ -36,7 +36,7 @@ module _ (c : Context) (C : List Bool → Type 0) (kind : FaultKind) (misfit : M
   abbrev list : List Bool
   list = bits c.octets.now
 
-  pub other_decoded : (old mid : State) (was is : List Part)
+  abbrev pub other_decoded : (old mid : State) (was is : List Part)
       → (d : IsDecoded c.tables.ranges.now A.encoding.encodes list old mid was is) → (C d.starts.front → ⊥)
       → IsDecoded c.tables.ranges.now (except_type C kind misfit node A).encoding.encodes list old mid was is
   other_decoded old mid was is d not = record {

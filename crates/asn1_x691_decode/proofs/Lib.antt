@@ -4,6 +4,7 @@ mod CompareSteps
 mod ExceptSteps
 pub mod OpenSteps
 mod SequenceSteps
+mod SetSteps
 mod ChoiceSteps
 mod ListSteps
 mod MessageSteps

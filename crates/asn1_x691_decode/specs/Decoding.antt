@@ -1,5 +1,5 @@
 -- What a decoder did: the parts that it found, or the first fault.
-use Rattle.std.specs.Prelude.{◌≡◌, ℕ, ◌+◌, ◌*◌, ◌^◌, ◌<◌, ◌≤◌, ◌⊎◌, ⊤, nat_le, Bool, true, false, List, [], ◌∷◌, length, Option, Some, None, slice_get}
+use Rattle.std.specs.Prelude.{◌≡◌, ℕ, ◌+◌, ◌-◌, ◌*◌, ◌^◌, ◌<◌, ◌≤◌, ◌⊎◌, ⊤, nat_le, Bool, true, false, List, [], ◌∷◌, length, Option, Some, None, slice_get}
 use Rattle.asn1_bits.specs.Bits.{bits}
 use Rattle.asn1_schema.specs.declared.part.Natural.{Natural}
 use Rattle.asn1_schema.specs.declared.part.Span.{Span}
@@ -16,12 +16,12 @@ use Rattle.asn1_schema.specs.declared.tables.Range.{Range}
 use Rattle.asn1_schema.specs.Pieces.{Absent, Count, Parts}
 use Rattle.asn1_schema.specs.PiecesOfParts.{bits_at, bits_of, natural_of}
 use Rattle.asn1_schema.specs.Encodings.{Encoding, Contents, Starts, constant, invalid}
-use Rattle.asn1_schema.specs.TypeEncodings.{TypeEncoding, AfterHeader, several, part}
+use Rattle.asn1_schema.specs.TypeEncodings.{TypeEncoding, AfterHeader, several, several_by_bits, part}
 use Rattle.asn1_x691.specs.declared.fault.FaultKind.{FaultKind}
 use Rattle.asn1_x691.specs.declared.fault.FaultKind.TheVariants.{Unsupported, NoNode}
 use Rattle.asn1_x691.specs.OpenTypes.{padding, complete, open_type}
 use Rattle.asn1_x691.specs.Limits.{Limits}
-use Rattle.asn1_x691.specs.Types.{type_at, type_of, value_by, components, root_of, sequence_by, extension, addition, additions_by_bits, known_addition, sequence_of_by, sequence_of, added_length, items, choice, choice_by, choice_extension}
+use Rattle.asn1_x691.specs.Types.{type_at, type_of, value_by, components, root_of, sequence_by, extension, addition, additions_by_bits, known_addition, sequence_of_by, sequence_of, added_length, in_order, items, choice, choice_by, choice_extension}
 use Rattle.asn1_x691_fields.specs.declared.state.State.{State}
 use Rattle.asn1_x691_fields.specs.Outcomes.{rest, position, fault_of}
 use Rattle.asn1_x691_decode.specs.declared.context.Context.{Context}
@@ -64,7 +64,6 @@ IsLater (Some (type.Text length is_extensible alphabet whole)) = ⊤
 IsLater (Some type.ObjectIdentifier) = ⊤
 IsLater (Some type.RelativeIdentifier) = ⊤
 IsLater (Some type.Utf8String) = ⊤
-IsLater (Some (type.SetOf length is_extensible item)) = ⊤
 IsLater o = ⊥
 
 -- whether each permitted number of items is a number of the machine
@@ -79,6 +78,7 @@ IsUncounted (Between least range) = 2 ^ 64 ≤ least + range
 -- types whose numbers exceed those of the machine
 abbrev pub IsTooLarge : Option Node → Type 0
 IsTooLarge (Some (type.SequenceOf size is_extensible item)) = IsUncounted size
+IsTooLarge (Some (type.SetOf size is_extensible item)) = IsUncounted size
 IsTooLarge (Some (type.Choice alternatives is_extensible known)) = 2 ^ 64 ≤ alternatives.count + known.count
 IsTooLarge (Some (type.Enumerated last is_extensible known)) = 2 ^ 64 ≤ last + 1 + known
 IsTooLarge o = ⊥
@@ -158,15 +158,24 @@ module _ (c : Context) (depth node : ℕ) where
   abbrev pub additions_in : ℕ → ℕ → ℕ → ℕ → AfterHeader FaultKind (List Bool)
   additions_in = additions_by_bits decoder_limits c.is_aligned (types c depth) c.tables.members.now c.tables.ranges.now defaults node
 
-  abbrev pub sequence_of_in : Bool → Length → ℕ → ℕ → TypeEncoding FaultKind
-  sequence_of_in is_extensible = sequence_of_by decoder_limits c.is_aligned (types c depth) c.tables.members.now c.tables.ranges.now defaults node is_extensible false
+  abbrev pub sequence_of_in : Bool → Bool → Length → ℕ → ℕ → TypeEncoding FaultKind
+  sequence_of_in = sequence_of_by decoder_limits c.is_aligned (types c depth) c.tables.members.now c.tables.ranges.now defaults node
 
-  abbrev pub root_list_in : Length → ℕ → ℕ → TypeEncoding FaultKind
-  root_list_in = sequence_of decoder_limits c.is_aligned (types c depth) c.tables.members.now c.tables.ranges.now defaults node false
+  abbrev pub root_list_in : Bool → Length → ℕ → ℕ → TypeEncoding FaultKind
+  root_list_in = sequence_of decoder_limits c.is_aligned (types c depth) c.tables.members.now c.tables.ranges.now defaults node
 
-  abbrev pub added_list_in : Length → ℕ → ℕ → TypeEncoding FaultKind
-  added_list_in size item = part (added_length c.is_aligned size node) Count
-      (λ n. items decoder_limits c.is_aligned (types c depth) c.tables.members.now c.tables.ranges.now defaults node false item n) node
+  abbrev pub all_items_in : Bool → ℕ → ℕ → ℕ → TypeEncoding FaultKind
+  all_items_in = items decoder_limits c.is_aligned (types c depth) c.tables.members.now c.tables.ranges.now defaults node
+
+  abbrev pub added_list_in : Bool → Length → ℕ → ℕ → TypeEncoding FaultKind
+  added_list_in is_set size item = part (added_length c.is_aligned size node) Count (λ n. all_items_in is_set item n) node
+
+  -- an item that is not before the one of these bits, and so many of them
+  abbrev pub in_order_in : ℕ → List Bool → ℕ → TypeEncoding FaultKind
+  in_order_in = in_order decoder_limits c.is_aligned (types c depth) c.tables.members.now c.tables.ranges.now defaults node
+
+  abbrev pub set_items_in : ℕ → List Bool → ℕ → ℕ → TypeEncoding FaultKind
+  set_items_in item before n = several_by_bits (in_order_in item) before n
 
   abbrev pub choice_in : Bool → Rows → Rows → ℕ → TypeEncoding FaultKind
   choice_in = choice_by decoder_limits c.is_aligned (types c depth) c.tables.members.now c.tables.ranges.now defaults node
@@ -210,6 +219,16 @@ IsTold list old new (Some b) = told_by list old ≡ b ∷ told_by list new
 
 abbrev pub items_in : Context → ℕ → ℕ → ℕ → ℕ → TypeEncoding FaultKind
 items_in c depth item n = several (types c depth item) n
+
+-- an item of a list begins at an index before the state, or none precedes it
+pub record IsItem (c : Context) (depth item at : ℕ) (s : State) : Type 0 where
+  pub parts : Parts
+  pub encodes : (types c depth item (at - s.first)).encoding.encodes parts (bits_at (bits c.octets.now) at (s.at - at))
+
+pub record IsItemBefore (c : Context) (depth item at : ℕ) (s : State) : Type 0 where
+  pub begins : s.first ≤ at
+  pub ends : at ≤ s.at
+  pub is : (at ≡ s.at) ⊎ IsItem c depth item at s
 
 -- the index of an addition, where it is below their number
 abbrev pub IsIndex : List Bool → Natural → ℕ → Option ℕ → Type 0

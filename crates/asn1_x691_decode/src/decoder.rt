@@ -163,6 +163,30 @@ pub(crate) fn decode_node(
                 node,
                 length,
                 is_extensible,
+                false,
+                item,
+                state,
+                parts,
+            )
+        }
+        Some(
+            Node::SetOf {
+                length,
+                is_extensible,
+                item,
+            },
+        ) => {
+            if !is_counted(length) {
+                fail(state, node, FaultKind::Unsupported);
+                return false;
+            }
+            decode_list(
+                context,
+                depth - 1,
+                node,
+                length,
+                is_extensible,
+                true,
                 item,
                 state,
                 parts,
@@ -274,12 +298,5 @@ pub(crate) fn decode_node(
         Some(Node::ObjectIdentifier) => unsupported(state, node),
         Some(Node::RelativeIdentifier) => unsupported(state, node),
         Some(Node::Utf8String) => unsupported(state, node),
-        Some(
-            Node::SetOf {
-                length: _,
-                is_extensible: _,
-                item: _,
-            },
-        ) => unsupported(state, node),
     }
 }

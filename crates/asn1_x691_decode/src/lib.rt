@@ -13,6 +13,7 @@ mod open_type;
 mod presence;
 mod room;
 mod sequence;
+mod set;
 
 pub use context::{Context, Defaults};
 pub use message::{Fault, Prefix, decode, decode_prefix};

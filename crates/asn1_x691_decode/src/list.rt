@@ -1,19 +1,20 @@
-//! Decodes a SEQUENCE OF (X.691 20).
+//! Decodes a SEQUENCE OF (X.691 20) and a SET OF (X.691 22).
 
 ghost use Rattle.std.specs.Prelude.{◌≡◌, ◌<◌, ◌^◌, ◌*◌, ◌+◌, length, true, false};
 ghost use Rattle.asn1_bits.specs.Bits.{bits};
 ghost use Rattle.asn1_x691_fields.specs.Outcomes.{IsWithin, IsMoved, IsPlaced};
-ghost use Rattle.asn1_x691_decode.specs.Decoding.{Outcome, IsCounted, IsUncounted, sequence_of_in, root_list_in, added_list_in, items_in};
+ghost use Rattle.asn1_x691_decode.specs.Decoding.{Outcome, IsCounted, IsUncounted, sequence_of_in, root_list_in, added_list_in, all_items_in, items_in};
 
 use crate::context::Context;
 use crate::decoder::decode_node;
 use crate::room::push;
+use crate::set::decode_set_items;
 use asn1_schema::{Length, Part};
 use asn1_x691_fields::{
     State, next_added_length, next_bit, next_constrained, next_length_at_least,
 };
 
-/// Decodes a SEQUENCE OF.
+/// Decodes a SEQUENCE OF, or a SET OF.
 #[cycle(decoding)]
 pub(crate) fn decode_list(
     context: &Context<'_>,
@@ -21,6 +22,7 @@ pub(crate) fn decode_list(
     node: usize,
     size: Length,
     is_extensible: bool,
+    is_set: bool,
     item: usize,
     state: &mut State,
     parts: &mut [Part],
@@ -30,16 +32,16 @@ pub(crate) fn decode_list(
     requires placed { IsPlaced context.now.is_aligned state.old }
     requires counted { IsCounted size }
     ensures moved { IsMoved (bits context.now.octets.now) state.old state.new }
-    ensures did { Outcome context.now (λ at. (sequence_of_in context.now depth node is_extensible size item at).encoding)
+    ensures did { Outcome context.now (λ at. (sequence_of_in context.now depth node is_extensible is_set size item at).encoding)
         state.old state.new parts.old parts.new result }
 {
     if !is_extensible {
-        return decode_root_list(context, depth, node, size, item, state, parts);
+        return decode_root_list(context, depth, node, size, is_set, item, state, parts);
     }
     match next_bit(context.octets, node, state) {
         None => false,
-        Some(false) => decode_root_list(context, depth, node, size, item, state, parts),
-        Some(true) => decode_added_list(context, depth, node, size, item, state, parts),
+        Some(false) => decode_root_list(context, depth, node, size, is_set, item, state, parts),
+        Some(true) => decode_added_list(context, depth, node, size, is_set, item, state, parts),
     }
 }
 
@@ -50,6 +52,7 @@ fn decode_root_list(
     depth: usize,
     node: usize,
     size: Length,
+    is_set: bool,
     item: usize,
     state: &mut State,
     parts: &mut [Part],
@@ -59,7 +62,7 @@ fn decode_root_list(
     requires placed { IsPlaced context.now.is_aligned state.old }
     requires counted { IsCounted size }
     ensures moved { IsMoved (bits context.now.octets.now) state.old state.new }
-    ensures did { Outcome context.now (λ at. (root_list_in context.now depth node size item at).encoding)
+    ensures did { Outcome context.now (λ at. (root_list_in context.now depth node is_set size item at).encoding)
         state.old state.new parts.old parts.new result }
 {
     match size {
@@ -73,7 +76,7 @@ fn decode_root_list(
             None => false,
             Some(count) => {
                 push(parts, state, Part::Count(count));
-                decode_items(context, depth, item, count, state, parts)
+                decode_each(context, depth, node, is_set, item, count, state, parts)
             }
         },
         Length::Between { least, range } => {
@@ -88,7 +91,7 @@ fn decode_root_list(
                 Some(more) => {
                     let count = least + more as usize;
                     push(parts, state, Part::Count(count));
-                    decode_items(context, depth, item, count, state, parts)
+                    decode_each(context, depth, node, is_set, item, count, state, parts)
                 }
             }
         }
@@ -102,6 +105,7 @@ fn decode_added_list(
     depth: usize,
     node: usize,
     size: Length,
+    is_set: bool,
     item: usize,
     state: &mut State,
     parts: &mut [Part],
@@ -110,19 +114,44 @@ fn decode_added_list(
     requires within { IsWithin (bits context.now.octets.now) state.old }
     requires placed { IsPlaced context.now.is_aligned state.old }
     ensures moved { IsMoved (bits context.now.octets.now) state.old state.new }
-    ensures did { Outcome context.now (λ at. (added_list_in context.now depth node size item at).encoding)
+    ensures did { Outcome context.now (λ at. (added_list_in context.now depth node is_set size item at).encoding)
         state.old state.new parts.old parts.new result }
 {
     match next_added_length(context.octets, context.is_aligned, size, node, state) {
         None => false,
         Some(count) => {
             push(parts, state, Part::Count(count));
-            decode_items(context, depth, item, count, state, parts)
+            decode_each(context, depth, node, is_set, item, count, state, parts)
         }
     }
 }
 
-/// Decodes so many items.
+/// Decodes so many items of a SEQUENCE OF or of a SET OF.
+#[cycle(decoding)]
+fn decode_each(
+    context: &Context<'_>,
+    depth: usize,
+    node: usize,
+    is_set: bool,
+    item: usize,
+    count: usize,
+    state: &mut State,
+    parts: &mut [Part],
+) -> bool
+    requires size { 8 * length context.now.octets.now < 2 ^ 64 }
+    requires within { IsWithin (bits context.now.octets.now) state.old }
+    requires placed { IsPlaced context.now.is_aligned state.old }
+    ensures moved { IsMoved (bits context.now.octets.now) state.old state.new }
+    ensures did { Outcome context.now (λ at. (all_items_in context.now depth node is_set item count at).encoding)
+        state.old state.new parts.old parts.new result }
+{
+    if is_set {
+        return decode_set_items(context, depth, node, item, count, state, parts);
+    }
+    decode_items(context, depth, item, count, state, parts)
+}
+
+/// Decodes so many items of a SEQUENCE OF.
 #[cycle(decoding)]
 fn decode_items(
     context: &Context<'_>,

@@ -4,6 +4,7 @@ mod Sequences
 mod Additions
 mod Choices
 mod Lists
+mod Sets
 mod OpenTypes
 use Rattle.asn1_x691_decode.proofs.+decoding.Answers.Nodes as nodes
 use Rattle.asn1_x691_decode.proofs.+decoding.Answers.Sequences as sequences
@@ -11,6 +12,7 @@ use Rattle.asn1_x691_decode.proofs.+decoding.Answers.OpenTypes as opentypes
 use Rattle.asn1_x691_decode.proofs.+decoding.Answers.Additions as additions
 use Rattle.asn1_x691_decode.proofs.+decoding.Answers.Choices as choices
 use Rattle.asn1_x691_decode.proofs.+decoding.Answers.Lists as lists
+use Rattle.asn1_x691_decode.proofs.+decoding.Answers.Sets as sets
 use Rattle.asn1_x691_decode.proofs.+decoding.Goals as goal
 
 pub decoder::decode_node-returns-in-Some-Null-clause-did : goal.decoder::decode_node-returns-in-Some-Null-clause-did
@@ -30,6 +32,9 @@ decoder::decode_node-returns-else-is_none-clause-did = nodes.decode_node-returns
 
 pub decoder::decode_node-returns-else-not-is_counted-clause-did : goal.decoder::decode_node-returns-else-not-is_counted-clause-did
 decoder::decode_node-returns-else-not-is_counted-clause-did = nodes.decode_node-returns-else-not-is_counted-clause-did
+
+pub decoder::decode_node-returns-else-not-is_counted-2-clause-did : goal.decoder::decode_node-returns-else-not-is_counted-2-clause-did
+decoder::decode_node-returns-else-not-is_counted-2-clause-did = nodes.decode_node-returns-else-not-is_counted-2-clause-did
 
 pub decoder::decode_node-returns-in-Some-IntegerBetween-clause-did : goal.decoder::decode_node-returns-in-Some-IntegerBetween-clause-did
 decoder::decode_node-returns-in-Some-IntegerBetween-clause-did = nodes.decode_node-returns-in-Some-IntegerBetween-clause-did
@@ -177,3 +182,36 @@ list::decode_items-loop-left-preserved = lists.decode_items-loop-left-preserved
 
 pub list::decode_items-returns-clause-did : goal.list::decode_items-returns-clause-did
 list::decode_items-returns-clause-did = lists.decode_items-returns-clause-did
+
+pub list::decode_each-returns-then-is_set-clause-did : goal.list::decode_each-returns-then-is_set-clause-did
+list::decode_each-returns-then-is_set-clause-did = lists.decode_each-returns-then-is_set-clause-did
+
+pub list::decode_each-returns-clause-did : goal.list::decode_each-returns-clause-did
+list::decode_each-returns-clause-did = lists.decode_each-returns-clause-did
+
+pub set::decode_set_items-returns-then-not-decode_item-clause-did : goal.set::decode_set_items-returns-then-not-decode_item-clause-did
+set::decode_set_items-returns-then-not-decode_item-clause-did = sets.decode_set_items-returns-then-not-decode_item-clause-did
+
+pub set::decode_set_items-loop-left-init : goal.set::decode_set_items-loop-left-init
+set::decode_set_items-loop-left-init = sets.decode_set_items-loop-left-init
+
+pub set::decode_set_items-loop-left-preserved : goal.set::decode_set_items-loop-left-preserved
+set::decode_set_items-loop-left-preserved = sets.decode_set_items-loop-left-preserved
+
+pub set::decode_set_items-returns-clause-did : goal.set::decode_set_items-returns-clause-did
+set::decode_set_items-returns-clause-did = sets.decode_set_items-returns-clause-did
+
+pub set::decode_item-returns-then-not-decode_node-clause-did : goal.set::decode_item-returns-then-not-decode_node-clause-did
+set::decode_item-returns-then-not-decode_node-clause-did = sets.decode_item-returns-then-not-decode_node-clause-did
+
+pub set::decode_item-returns-then-is_off_octet-clause-did : goal.set::decode_item-returns-then-is_off_octet-clause-did
+set::decode_item-returns-then-is_off_octet-clause-did = sets.decode_item-returns-then-is_off_octet-clause-did
+
+pub set::decode_item-returns-then-is_before-clause-did : goal.set::decode_item-returns-then-is_before-clause-did
+set::decode_item-returns-then-is_before-clause-did = sets.decode_item-returns-then-is_before-clause-did
+
+pub set::decode_item-returns-clause-did : goal.set::decode_item-returns-clause-did
+set::decode_item-returns-clause-did = sets.decode_item-returns-clause-did
+
+pub set::decode_item-is_before-requires-clause-inside : goal.set::decode_item-is_before-requires-clause-inside
+set::decode_item-is_before-requires-clause-inside = sets.decode_item-is_before-requires-clause-inside

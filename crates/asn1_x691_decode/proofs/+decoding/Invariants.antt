@@ -1,7 +1,8 @@
-use Rattle.std.proofs.Common.{◌≡◌, ◌≤◌, ◌*◌, ◌+◌, ◌-◌, length}
+use Rattle.std.proofs.Common.{◌≡◌, ◌≤◌, ◌*◌, ◌+◌, ◌-◌, [], length}
 use Rattle.asn1_bits.specs.Bits.{bits}
+use Rattle.asn1_schema.specs.PiecesOfParts.{bits_at}
 use Rattle.asn1_x691_fields.specs.Outcomes.{IsWithin, IsMoved}
-use Rattle.asn1_x691_decode.specs.Decoding.{components_in, additions_in, items_in, told_by}
+use Rattle.asn1_x691_decode.specs.Decoding.{components_in, additions_in, items_in, set_items_in, IsItemBefore, told_by}
 use Rattle.asn1_x691_decode.proofs.Steps.{IsUnderway}
 use Rattle.asn1_x691_decode.proofs.+decoding.Given as goal
 
@@ -83,13 +84,13 @@ abbrev pub decreases-list::decode_items : goal.decreases-list::decode_items
 decreases-list::decode_items l = 16 * l.depth + 1
 
 abbrev pub decreases-list::decode_root_list : goal.decreases-list::decode_root_list
-decreases-list::decode_root_list l = 16 * l.depth + 2
+decreases-list::decode_root_list l = 16 * l.depth + 4
 
 abbrev pub decreases-list::decode_added_list : goal.decreases-list::decode_added_list
-decreases-list::decode_added_list l = 16 * l.depth + 2
+decreases-list::decode_added_list l = 16 * l.depth + 4
 
 abbrev pub decreases-list::decode_list : goal.decreases-list::decode_list
-decreases-list::decode_list l = 16 * l.depth + 3
+decreases-list::decode_list l = 16 * l.depth + 5
 
 abbrev pub invariant-list::decode_items-loop-left : goal.invariant-list::decode_items-loop-left
 invariant-list::decode_items-loop-left l =
@@ -100,3 +101,24 @@ invariant-list::decode_items-loop-left l =
 
 abbrev pub decreases-list::decode_items-loop-left : goal.decreases-list::decode_items-loop-left
 decreases-list::decode_items-loop-left l = l.left
+
+abbrev pub decreases-list::decode_each : goal.decreases-list::decode_each
+decreases-list::decode_each l = 16 * l.depth + 3
+
+abbrev pub decreases-set::decode_set_items : goal.decreases-set::decode_set_items
+decreases-set::decode_set_items l = 16 * l.depth + 2
+
+abbrev pub decreases-set::decode_item : goal.decreases-set::decode_item
+decreases-set::decode_item l = 16 * l.depth + 1
+
+abbrev pub invariant-set::decode_set_items-loop-left : goal.invariant-set::decode_set_items-loop-left
+invariant-set::decode_set_items-loop-left l =
+    IsWithin (bits l.context.octets.now) l.state × IsMoved (bits l.context.octets.now) l.initial.state l.state
+    × IsItemBefore l.context l.depth l.item l.before l.state
+    × IsUnderway l.context (λ at. (set_items_in l.context l.depth l.node l.item [] l.initial.left at).encoding)
+    (λ at. (set_items_in l.context l.depth l.node l.item
+    (bits_at (bits l.context.octets.now) l.before (l.state.at - l.before)) l.left at).encoding)
+    l.initial.state l.state l.initial.parts l.parts
+
+abbrev pub decreases-set::decode_set_items-loop-left : goal.decreases-set::decode_set_items-loop-left
+decreases-set::decode_set_items-loop-left l = l.left

@@ -11,7 +11,7 @@ use Rattle.asn1_x691_decode.specs.Decoding.{Outcome, types}
 use Rattle.asn1_x691_decode.proofs.Steps.{over, fails_on, outcome_on, by_true, by_false}
 use Rattle.asn1_schema.specs.declared.tables.Length.{Length}
 use Rattle.asn1_schema.specs.declared.tables.Length.TheVariants.{AtLeast, Between}
-use Rattle.asn1_x691_decode.specs.Decoding.{sequence_of_in, root_list_in, added_list_in}
+use Rattle.asn1_x691_decode.specs.Decoding.{sequence_of_in, root_list_in, added_list_in, all_items_in}
 use Rattle.asn1_x691_decode.proofs.ListSteps as list
 use Rattle.asn1_x691_decode.proofs.+decoding.Goals as goal
 
@@ -20,10 +20,10 @@ decode_added_list-returns-in-Some-clause-did t c =
     let cx = c.args.context.now in
     let a = c.args in
     let now = c.push.new in
-    let last = c.decode_items in
-    outcome_on cx (λ at. (added_list_in cx a.depth a.node a.size a.item at).encoding) (list.I cx a.depth a.item c.in-Some.count) a.state.now now.state
+    let last = c.decode_each in
+    outcome_on cx (λ at. (added_list_in cx a.depth a.node a.is_set a.size a.item at).encoding) (list.L cx a.depth a.node a.is_set a.item c.in-Some.count) a.state.now now.state
     last.new.state a.parts.now now.parts last.new.parts last.result
-    (list.added_step cx a.depth a.node a.item a.size c.in-Some.count a.state.now c.next_added_length.new.state now.state a.parts.now now.parts
+    (list.added_step cx a.depth a.node a.is_set a.item a.size c.in-Some.count a.state.now c.next_added_length.new.state now.state a.parts.now now.parts
     c.requires.within c.next_added_length.ensures.onward c.in-Some.ensures.read
     (record { at = c.push.ensures.at; first = c.push.ensures.first; end = c.push.ensures.end }) (c.push.ensures.grown cx.tables.ranges.now (bits cx.octets.now)))
     last.ensures.did
@@ -33,12 +33,12 @@ decode_root_list-returns-in-Some-clause-did t c =
     let cx = c.args.context.now in
     let a = c.args in
     let now = c.push.new in
-    let last = c.decode_items in
-    let L : Length → ℕ → Encoding FaultKind Parts = λ size at. (root_list_in cx a.depth a.node size a.item at).encoding in
+    let last = c.decode_each in
+    let L : Length → ℕ → Encoding FaultKind Parts = λ size at. (root_list_in cx a.depth a.node a.is_set size a.item at).encoding in
     subst (λ (size : Length). Outcome cx (L size) a.state.now last.new.state a.parts.now last.new.parts last.result) (sym c.in-AtLeast.is)
-    (outcome_on cx (L (AtLeast c.in-AtLeast.least)) (list.I cx a.depth a.item c.in-Some.count) a.state.now now.state
+    (outcome_on cx (L (AtLeast c.in-AtLeast.least)) (list.L cx a.depth a.node a.is_set a.item c.in-Some.count) a.state.now now.state
     last.new.state a.parts.now now.parts last.new.parts last.result
-    (list.at_least_step cx a.depth a.node a.item c.in-AtLeast.least c.in-Some.count a.state.now c.next_length_at_least.new.state now.state a.parts.now now.parts
+    (list.at_least_step cx a.depth a.node a.is_set a.item c.in-AtLeast.least c.in-Some.count a.state.now c.next_length_at_least.new.state now.state a.parts.now now.parts
     c.requires.within c.next_length_at_least.ensures.onward c.in-Some.ensures.read
     (record { at = c.push.ensures.at; first = c.push.ensures.first; end = c.push.ensures.end }) (c.push.ensures.grown cx.tables.ranges.now (bits cx.octets.now)))
     last.ensures.did)
@@ -49,13 +49,13 @@ decode_root_list-returns-in-Some-next_constrained-clause-did t c =
     let a = c.args in
     let p = c.push-in-Some-next_constrained in
     let now = p.new in
-    let last = c.decode_items-in-Some-next_constrained in
+    let last = c.decode_each-in-Some-next_constrained in
     let d = c.in-Some-next_constrained.more in
-    let L : Length → ℕ → Encoding FaultKind Parts = λ size at. (root_list_in cx a.depth a.node size a.item at).encoding in
+    let L : Length → ℕ → Encoding FaultKind Parts = λ size at. (root_list_in cx a.depth a.node a.is_set size a.item at).encoding in
     subst (λ (size : Length). Outcome cx (L size) a.state.now last.new.state a.parts.now last.new.parts last.result) (sym c.in-Between.is)
-    (outcome_on cx (L (Between c.in-Between.least c.in-Between.range)) (list.I cx a.depth a.item (c.in-Between.least + d)) a.state.now now.state
+    (outcome_on cx (L (Between c.in-Between.least c.in-Between.range)) (list.L cx a.depth a.node a.is_set a.item (c.in-Between.least + d)) a.state.now now.state
     last.new.state a.parts.now now.parts last.new.parts last.result
-    (list.between_step cx a.depth a.node a.item c.in-Between.least c.in-Between.range d a.state.now c.next_constrained.new.state now.state a.parts.now now.parts
+    (list.between_step cx a.depth a.node a.is_set a.item c.in-Between.least c.in-Between.range d a.state.now c.next_constrained.new.state now.state a.parts.now now.parts
     c.requires.within c.next_constrained.ensures.onward c.in-Some-next_constrained.ensures.read
     (record { at = p.ensures.at; first = p.ensures.first; end = p.ensures.end }) (p.ensures.grown cx.tables.ranges.now (bits cx.octets.now)))
     last.ensures.did)
@@ -67,11 +67,11 @@ decode_list-returns-in-Some-true-clause-did t c =
     let a = c.args in
     let mid = c.next_bit.new.state in
     let last = c.decode_added_list in
-    let S : Bool → ℕ → Encoding FaultKind Parts = λ x at. (sequence_of_in cx a.depth a.node x a.size a.item at).encoding in
+    let S : Bool → ℕ → Encoding FaultKind Parts = λ x at. (sequence_of_in cx a.depth a.node x a.is_set a.size a.item at).encoding in
     subst (λ (x : Bool). Outcome cx (S x) a.state.now last.new.state a.parts.now last.new.parts last.result) (sym c.if-not-is_extensible.false)
-    (outcome_on cx (S true) (list.after_bit cx a.depth a.node a.item a.size true) a.state.now mid last.new.state a.parts.now a.parts.now
+    (outcome_on cx (S true) (list.after_bit cx a.depth a.node a.is_set a.item a.size true) a.state.now mid last.new.state a.parts.now a.parts.now
     last.new.parts last.result
-    (list.bit_step cx a.depth a.node a.item a.size true a.state.now mid a.parts.now c.requires.within c.next_bit.ensures.onward
+    (list.bit_step cx a.depth a.node a.is_set a.item a.size true a.state.now mid a.parts.now c.requires.within c.next_bit.ensures.onward
     (subst (λ (b : Bool). Starts (bit a.node).encodes (rest bs a.state.now) b (rest bs mid)) c.in-Some-true.field-0-test
     c.in-Some-true.ensures.read))
     last.ensures.did)
@@ -83,11 +83,11 @@ decode_list-returns-in-Some-false-clause-did t c =
     let a = c.args in
     let mid = c.next_bit.new.state in
     let last = c.decode_root_list-in-Some-false in
-    let S : Bool → ℕ → Encoding FaultKind Parts = λ x at. (sequence_of_in cx a.depth a.node x a.size a.item at).encoding in
+    let S : Bool → ℕ → Encoding FaultKind Parts = λ x at. (sequence_of_in cx a.depth a.node x a.is_set a.size a.item at).encoding in
     subst (λ (x : Bool). Outcome cx (S x) a.state.now last.new.state a.parts.now last.new.parts last.result) (sym c.if-not-is_extensible.false)
-    (outcome_on cx (S true) (list.after_bit cx a.depth a.node a.item a.size false) a.state.now mid last.new.state a.parts.now a.parts.now
+    (outcome_on cx (S true) (list.after_bit cx a.depth a.node a.is_set a.item a.size false) a.state.now mid last.new.state a.parts.now a.parts.now
     last.new.parts last.result
-    (list.bit_step cx a.depth a.node a.item a.size false a.state.now mid a.parts.now c.requires.within c.next_bit.ensures.onward
+    (list.bit_step cx a.depth a.node a.is_set a.item a.size false a.state.now mid a.parts.now c.requires.within c.next_bit.ensures.onward
     (subst (λ (b : Bool). Starts (bit a.node).encodes (rest bs a.state.now) b (rest bs mid)) c.in-Some-false.field-0-test
     c.in-Some-false.ensures.read))
     last.ensures.did)
@@ -130,3 +130,19 @@ decode_items-returns-clause-did t c =
     let l = c.loop-left in
     l.invariant.2.done l.state l.parts
     (list.no_items cx c.args.depth c.args.item l.left l.state l.parts (omega (arith, c.loop-left-test.false)))
+
+pub decode_each-returns-then-is_set-clause-did : goal.list::decode_each-returns-then-is_set-clause-did
+decode_each-returns-then-is_set-clause-did t c =
+    let cx = c.args.context.now in
+    let a = c.args in
+    let o = c.decode_set_items in
+    subst (λ (b : Bool). Outcome cx (λ at. (all_items_in cx a.depth a.node b a.item a.count at).encoding) a.state.now o.new.state
+    a.parts.now o.new.parts o.result) (sym c.if-is_set.true) o.ensures.did
+
+pub decode_each-returns-clause-did : goal.list::decode_each-returns-clause-did
+decode_each-returns-clause-did t c =
+    let cx = c.args.context.now in
+    let a = c.args in
+    let o = c.decode_items in
+    subst (λ (b : Bool). Outcome cx (λ at. (all_items_in cx a.depth a.node b a.item a.count at).encoding) a.state.now o.new.state
+    a.parts.now o.new.parts o.result) (sym c.if-is_set.false) o.ensures.did

@@ -69,6 +69,15 @@ decode_node-returns-else-not-is_counted-clause-did t c =
     c.decode_list.result)
     (omega (arith, c.if-depth-eq0.false)) (sym c.node_at.ensures ∙ k.is ∙ ap (λ (n : Node). Some n) k.field-0-is) c.decode_list.ensures.did
 
+pub decode_node-returns-else-not-is_counted-2-clause-did : goal.decoder::decode_node-returns-else-not-is_counted-2-clause-did
+decode_node-returns-else-not-is_counted-2-clause-did t c =
+    let cx = c.args.context.now in
+    let k = c.in-Some-SetOf in
+    let p = c.decode_list-in-Some-SetOf in
+    at_node cx c.args.node c.args.depth (Some (type.SetOf k.length k.is_extensible k.item))
+    (λ (B : ℕ → Encoding FaultKind Parts). Outcome cx B c.args.state.now p.new.state c.args.parts.now p.new.parts p.result)
+    (omega (arith, c.if-depth-eq0.false)) (sym c.node_at.ensures ∙ k.is ∙ ap (λ (n : Node). Some n) k.field-0-is) p.ensures.did
+
 pub decode_node-returns-in-Some-IntegerBetween-clause-did : goal.decoder::decode_node-returns-in-Some-IntegerBetween-clause-did
 decode_node-returns-in-Some-IntegerBetween-clause-did t c =
     let cx = c.args.context.now in
