@@ -12,3 +12,4 @@ pub mod PermittedLaws
 pub mod EachLaws
 pub mod FieldLaws
 pub mod ExampleLaws
+pub mod CharacterLaws

@@ -45,14 +45,13 @@ types c depth node = type_at c.is_aligned c.tables.nodes.now c.tables.members.no
 
 -- types that it does not know
 abbrev pub IsLater : Option Node → Type 0
-IsLater (Some (type.Text length is_extensible alphabet whole)) = ⊤
 IsLater (Some type.ObjectIdentifier) = ⊤
 IsLater (Some type.RelativeIdentifier) = ⊤
 IsLater (Some type.Utf8String) = ⊤
 IsLater (Some (type.SetOf length is_extensible item)) = ⊤
 IsLater o = ⊥
 
--- whether each permitted number of items is a number of the machine
+-- whether each permitted number of items or of characters is a number of the machine
 abbrev pub IsCounted : Length → Type 0
 IsCounted (AtLeast least) = ⊤
 IsCounted (Between least range) = least + range < 2 ^ 64
@@ -64,6 +63,7 @@ IsUncounted (Between least range) = 2 ^ 64 ≤ least + range
 -- types whose numbers exceed those of the machine
 abbrev pub IsTooLarge : Option Node → Type 0
 IsTooLarge (Some (type.SequenceOf size is_extensible item)) = IsUncounted size
+IsTooLarge (Some (type.Text size is_extensible alphabet whole)) = IsUncounted size
 IsTooLarge (Some (type.Choice alternatives is_extensible known)) = 2 ^ 64 ≤ alternatives.count + known.count
 IsTooLarge (Some (type.Enumerated last is_extensible known)) = 2 ^ 64 ≤ last + 1 + known
 IsTooLarge o = ⊥

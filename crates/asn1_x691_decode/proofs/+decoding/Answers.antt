@@ -31,6 +31,9 @@ decoder::decode_node-returns-else-is_none-clause-did = nodes.decode_node-returns
 pub decoder::decode_node-returns-else-not-is_counted-clause-did : goal.decoder::decode_node-returns-else-not-is_counted-clause-did
 decoder::decode_node-returns-else-not-is_counted-clause-did = nodes.decode_node-returns-else-not-is_counted-clause-did
 
+pub decoder::decode_node-returns-else-not-is_counted-2-clause-did : goal.decoder::decode_node-returns-else-not-is_counted-2-clause-did
+decoder::decode_node-returns-else-not-is_counted-2-clause-did = nodes.decode_node-returns-else-not-is_counted-2-clause-did
+
 pub decoder::decode_node-returns-in-Some-IntegerBetween-clause-did : goal.decoder::decode_node-returns-in-Some-IntegerBetween-clause-did
 decoder::decode_node-returns-in-Some-IntegerBetween-clause-did = nodes.decode_node-returns-in-Some-IntegerBetween-clause-did
 
