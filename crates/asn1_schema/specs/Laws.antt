@@ -14,3 +14,4 @@ pub mod OrderLaws
 pub mod EachLaws
 pub mod FieldLaws
 pub mod ExampleLaws
+pub mod CharacterLaws

@@ -60,13 +60,12 @@ types c depth node = type_at decoder_limits c.is_aligned c.tables.nodes.now c.ta
 
 -- types that it does not know
 abbrev pub IsLater : Option Node → Type 0
-IsLater (Some (type.Text length is_extensible alphabet whole)) = ⊤
 IsLater (Some type.ObjectIdentifier) = ⊤
 IsLater (Some type.RelativeIdentifier) = ⊤
 IsLater (Some type.Utf8String) = ⊤
 IsLater o = ⊥
 
--- whether each permitted number of items is a number of the machine
+-- whether each permitted number of items or of characters is a number of the machine
 abbrev pub IsCounted : Length → Type 0
 IsCounted (AtLeast least) = ⊤
 IsCounted (Between least range) = least + range < 2 ^ 64
@@ -79,6 +78,7 @@ IsUncounted (Between least range) = 2 ^ 64 ≤ least + range
 abbrev pub IsTooLarge : Option Node → Type 0
 IsTooLarge (Some (type.SequenceOf size is_extensible item)) = IsUncounted size
 IsTooLarge (Some (type.SetOf size is_extensible item)) = IsUncounted size
+IsTooLarge (Some (type.Text size is_extensible alphabet whole)) = IsUncounted size
 IsTooLarge (Some (type.Choice alternatives is_extensible known)) = 2 ^ 64 ≤ alternatives.count + known.count
 IsTooLarge (Some (type.Enumerated last is_extensible known)) = 2 ^ 64 ≤ last + 1 + known
 IsTooLarge o = ⊥

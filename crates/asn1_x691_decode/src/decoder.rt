@@ -20,7 +20,7 @@ use asn1_schema::{Member, Node, Part, Presence};
 use asn1_x691::FaultKind;
 use asn1_x691_fields::{
     State, fail, next_bit, next_bit_string, next_enumerated, next_integer,
-    next_integer_at_least_by, next_integer_between_by, next_octet_string,
+    next_integer_at_least_by, next_integer_between_by, next_octet_string, next_text,
 };
 
 /// Returns the type at a node.
@@ -289,12 +289,28 @@ pub(crate) fn decode_node(
         }
         Some(
             Node::Text {
-                length: _,
-                is_extensible: _,
-                alphabet: _,
-                whole: _,
+                length,
+                is_extensible,
+                alphabet,
+                whole,
             },
-        ) => unsupported(state, node),
+        ) => {
+            if !is_counted(length) {
+                return unsupported(state, node);
+            }
+            let part = next_text(
+                context.octets,
+                context.is_aligned,
+                context.tables.ranges,
+                length,
+                is_extensible,
+                alphabet,
+                whole,
+                node,
+                state,
+            );
+            keep(part, parts, state)
+        }
         Some(Node::ObjectIdentifier) => unsupported(state, node),
         Some(Node::RelativeIdentifier) => unsupported(state, node),
         Some(Node::Utf8String) => unsupported(state, node),

@@ -1,2 +1,3 @@
 -- Lemmas of the proofs.
 pub mod NumberLemmas
+pub mod AlphabetLemmas

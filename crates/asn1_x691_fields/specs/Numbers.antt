@@ -4,6 +4,8 @@ use Rattle.asn1_bits.specs.Bits.{number}
 use Rattle.asn1_schema.specs.declared.part.Span.{Span}
 use Rattle.asn1_schema.specs.declared.part.Natural.{Natural}
 use Rattle.asn1_schema.specs.declared.part.Natural.TheVariants.{Small, Large}
+use Rattle.asn1_schema.specs.declared.tables.Length.{Length}
+use Rattle.asn1_schema.specs.declared.tables.Length.TheVariants.{AtLeast, Between}
 use Rattle.asn1_schema.specs.PiecesOfParts.{bits_of}
 use Rattle.asn1_x691_fields.specs.declared.state.State.{State}
 
@@ -23,3 +25,8 @@ IsNatural list new (Large s) = AreOctets s new × (2 ^ 64 ≤ number (bits_of li
 abbrev pub distance : ℤ → ℕ
 distance (pos n) = n
 distance (negsuc n) = n
+
+-- each permitted number of units is a number of the machine
+abbrev pub IsCountable : Length → Type 0
+IsCountable (AtLeast least) = Unit {0}
+IsCountable (Between least range) = least + range < 2 ^ 64

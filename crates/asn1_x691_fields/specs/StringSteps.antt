@@ -4,12 +4,12 @@ use Rattle.std.specs.Prelude.{◌⊎◌, IfSome}
 use Rattle.std.proofs.lemmas.List.{take-append-drop, drop-take, drop-drop}
 use Rattle.asn1_bits.specs.Bits.{digits}
 use Rattle.asn1_bits.specs.NumberLaws.{digits-append}
-use Rattle.asn1_schema.specs.Encodings.{Fault, Encoding, Starts, invalid, number, constant, then, in_case, anywhere}
+use Rattle.asn1_schema.specs.Encodings.{Fault, Encoding, Starts, invalid, number, constant, then, in_turn, in_case, anywhere}
 use Rattle.asn1_x691.specs.declared.fault.FaultKind.{FaultKind}
 use Rattle.asn1_x691.specs.declared.fault.FaultKind.TheVariants.{Short, Fragment, Unsupported}
 use Rattle.asn1_x691.specs.Fields.{long_enough, on_octet}
-use Rattle.asn1_x691.specs.Fragments.{units_after, units_octets, units_next, units, all_units, string}
-use Rattle.asn1_x691.specs.Strings.{where_size, string_where}
+use Rattle.asn1_x691.specs.Fragments.{units_after, units_octets, units_next, units, all_units}
+use Rattle.asn1_x691.specs.Strings.{where_size}
 use Rattle.asn1_x691_fields.specs.declared.state.State.{State}
 use Rattle.asn1_x691_fields.specs.Outcomes.{rest, position, fault_of, IsWithin, IsOnward, IsRead}
 use Rattle.asn1_x691_fields.specs.NumberSteps.{octet_starts, octet_fault}
@@ -106,10 +106,10 @@ counted_after_start A node aligned list old mid new f None s w =
     octet_fault node A (position old) aligned (rest list old) (rest list mid) (fault_of new) s w
 
 -- units of a permitted number
-pub sized_starts : (most : ℕ) (aligned : Bool) (unit node : ℕ) (Yes No : ℕ → Type 0) (kind : FaultKind) (list : List Bool) (old mid : State)
-    → IsWithin list old → IsOnward list old mid → (v : ℕ × List Bool)
-    → Starts (string most aligned unit node (position old)).encodes (rest list old) v (rest list mid) → Yes v.0
-    → Starts (string_where most aligned unit Yes No kind node (position old)).encodes (rest list old) v.1 (rest list mid)
-sized_starts most aligned unit node Yes No kind list old mid h g v s fits =
-    turn_starts list old mid h g (string most aligned unit node) (λ v bits. bits) (λ v. where_size Yes No kind node v) v s (rest list mid) v.1
+pub sized_starts : {X : Type 0} (A : ℕ → Encoding FaultKind (ℕ × X)) (node : ℕ) (Yes No : ℕ → Type 0) (kind : FaultKind) (list : List Bool)
+    (old mid : State) → IsWithin list old → IsOnward list old mid → (v : ℕ × X)
+    → Starts (A (position old)).encodes (rest list old) v (rest list mid) → Yes v.0
+    → Starts (in_turn A (λ v x. x) (λ v. where_size Yes No kind node v) (position old)).encodes (rest list old) v.1 (rest list mid)
+sized_starts A node Yes No kind list old mid h g v s fits =
+    turn_starts list old mid h g A (λ v x. x) (λ v. where_size Yes No kind node v) v s (rest list mid) v.1
     (record { front = []; encoded = inl (fits, (refl, refl)); parts = refl })

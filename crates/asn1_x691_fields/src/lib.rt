@@ -3,8 +3,10 @@
 //! `specs/Outcomes` says what a call did to the [`State`] of a decoder.
 #![tactic(auto)]
 
+mod alphabets;
 mod bit_strings;
 mod bits;
+mod characters;
 mod enumerations;
 mod extensible_integers;
 mod heads;
@@ -14,10 +16,12 @@ mod numbers;
 mod octet_strings;
 mod signed;
 mod sized_strings;
+mod sized_texts;
 mod sizes;
 mod small;
 mod state;
 mod strings;
+mod texts;
 mod unbounded;
 
 pub use bit_strings::next_bit_string;
@@ -32,4 +36,5 @@ pub use sizes::{next_added_length, next_length_at_least};
 pub use small::next_small_number;
 pub use state::{State, fail};
 pub use strings::{next_count, next_octets, next_units};
+pub use texts::next_text;
 pub use unbounded::{next_semi_constrained, next_unconstrained};

@@ -215,3 +215,6 @@ set::decode_item-returns-clause-did = sets.decode_item-returns-clause-did
 
 pub set::decode_item-is_before-requires-clause-inside : goal.set::decode_item-is_before-requires-clause-inside
 set::decode_item-is_before-requires-clause-inside = sets.decode_item-is_before-requires-clause-inside
+
+pub decoder::decode_node-returns-else-not-is_counted-3-clause-did : goal.decoder::decode_node-returns-else-not-is_counted-3-clause-did
+decoder::decode_node-returns-else-not-is_counted-3-clause-did = nodes.decode_node-returns-else-not-is_counted-3-clause-did

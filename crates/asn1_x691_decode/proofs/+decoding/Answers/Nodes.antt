@@ -7,9 +7,10 @@ use Rattle.asn1_schema.specs.Pieces.{Null, Parts}
 use Rattle.asn1_schema.specs.Encodings.{Encoding, constant}
 use Rattle.asn1_x691.specs.declared.fault.FaultKind.{FaultKind}
 use Rattle.asn1_x691_fields.specs.Outcomes.{position}
+use Rattle.asn1_x691_fields.specs.Characters.{rows_of}
 use Rattle.asn1_x691_decode.specs.Decoding.{Outcome, IsDecoded}
 use Rattle.asn1_x691_decode.proofs.Steps.{at_node, put_step, nothing_decoded}
-use Rattle.asn1_x691.specs.Leaves.{integer_between_by, integer_at_least_by, integer, enumerated_by, bit_string, octet_string}
+use Rattle.asn1_x691.specs.Leaves.{integer_between_by, integer_at_least_by, integer, enumerated_by, bit_string, octet_string, text}
 use Rattle.asn1_x691_decode.proofs.Steps.{kept_outcome}
 use Rattle.asn1_x691_decode.proofs.+decoding.Goals as goal
 
@@ -149,3 +150,17 @@ decode_node-returns-in-Some-OctetString-clause-did t c =
     (omega (arith, c.if-depth-eq0.false)) (sym c.node_at.ensures ∙ k.is ∙ ap (λ (n : Node). Some n) k.field-0-is)
     (kept_outcome cx (λ at. (octet_string 0 cx.is_aligned a.node k.length k.is_extensible at).encoding) a.state.now c.next_octet_string.new.state p.new.state a.parts.now p.new.parts c.next_octet_string.result p.result
     c.next_octet_string.ensures.onward (c.next_octet_string.ensures.read cx.tables.ranges.now) (record { at = p.ensures.at; first = p.ensures.first; end = p.ensures.end }) p.ensures.kept)
+
+pub decode_node-returns-else-not-is_counted-3-clause-did : goal.decoder::decode_node-returns-else-not-is_counted-3-clause-did
+decode_node-returns-else-not-is_counted-3-clause-did t c =
+    let cx = c.args.context.now in
+    let a = c.args in
+    let k = c.in-Some-Text in
+    let p = c.keep-in-Some-Text in
+    at_node cx a.node a.depth (Some (type.Text k.length k.is_extensible k.alphabet k.whole))
+    (λ (B : ℕ → Encoding FaultKind Parts). Outcome cx B a.state.now p.new.state a.parts.now p.new.parts p.result)
+    (omega (arith, c.if-depth-eq0.false)) (sym c.node_at.ensures ∙ k.is ∙ ap (λ (n : Node). Some n) k.field-0-is)
+    (kept_outcome cx (λ at. (text 0 cx.is_aligned a.node k.length k.is_extensible (rows_of cx.tables.ranges.now k.alphabet)
+    (rows_of cx.tables.ranges.now k.whole) at).encoding) a.state.now c.next_text-part.new.state p.new.state a.parts.now p.new.parts
+    c.next_text-part.result p.result c.next_text-part.ensures.onward c.next_text-part.ensures.read
+    (record { at = p.ensures.at; first = p.ensures.first; end = p.ensures.end }) p.ensures.kept)

@@ -39,7 +39,7 @@ returns-clause-inside c =
 
 pub returns-clause-read : goal.returns-clause-read
 returns-clause-read c =
-    sized_starts 0 c.args.is_aligned c.args.unit c.args.node (IsAddedSize c.args.size) (IsOfRoot c.args.size) InRoot (bits c.args.octets.now)
+    sized_starts (string 0 c.args.is_aligned c.args.unit c.args.node) c.args.node (IsAddedSize c.args.size) (IsOfRoot c.args.size) InRoot (bits c.args.octets.now)
     c.args.state.now c.next_units.new.state c.requires.within c.in_ok-count.ensures.onward
     (c.in_ok-count.count, bits_at (bits c.args.octets.now) c.in_ok-count.at (c.args.unit * c.in_ok-count.count)) c.in_ok-count.ensures.read
     (c.is_of_root.ensures.added c.if-is_of_root.false)

@@ -39,7 +39,7 @@ returns-clause-inside c =
 
 pub returns-clause-read : goal.returns-clause-read
 returns-clause-read c =
-    sized_starts 0 c.args.is_aligned c.args.unit c.args.node (λ n. c.args.least ≤ n) (λ n. n < c.args.least) BelowLeast (bits c.args.octets.now)
+    sized_starts (string 0 c.args.is_aligned c.args.unit c.args.node) c.args.node (λ n. c.args.least ≤ n) (λ n. n < c.args.least) BelowLeast (bits c.args.octets.now)
     c.args.state.now c.next_units.new.state c.requires.within c.in_ok-count.ensures.onward
     (c.in_ok-count.count, bits_at (bits c.args.octets.now) c.in_ok-count.at (c.args.unit * c.in_ok-count.count)) c.in_ok-count.ensures.read
     c.if-count-least.false

@@ -1,0 +1,98 @@
+-- Alphabets: the indices of their characters, and their widths.
+use Rattle.std.proofs.Common.{◌≡◌, ℕ, ◌+◌, ◌-◌, ◌/◌, ◌^◌, max, ◌<◌, ◌≤◌, Bool, false, List, [], ◌∷◌, refl, sym, ◌∙◌, ap, subst, arith, inl, inr}
+use Rattle.std.specs.Prelude.{◌⊎◌, nat_le}
+use Rattle.std.proofs.Math.Pow.{pow_mono}
+use Rattle.std.proofs.lemmas.Bool.{cases_lt}
+use Rattle.std.proofs.lemmas.Bool.Decides.{nat_tests}
+use Rattle.asn1_characters.specs.Widths.{IsLeastWidth, ceil_log2, align, width_for}
+use Rattle.asn1_characters.specs.WidthLaws.{twice}
+use Rattle.asn1_schema.specs.declared.tables.Range.{Range}
+use Rattle.asn1_schema.specs.CharactersOfParts.{characters_below, end_of, character_at}
+use Rattle.asn1_schema.specs.Laws.CharacterLaws.{below_more, none_past, character_is}
+use Rattle.asn1_x691.specs.Fields.{width_to}
+use Rattle.asn1_x691.specs.Alphabets.{IsIn, below}
+
+-- ---- indices
+
+pub below_same : (ranges : List Range) (c : ℕ) → below ranges c ≡ characters_below ranges c
+below_same [] c = refl
+below_same (r ∷ ranges) c = ap (λ (n : ℕ). ((c - r.first) - (c - (r.last + 1))) + n) (below_same ranges c)
+
+one_more : (first last c : ℕ) → first ≤ c → c ≤ last
+    → ((c - first) - (c - (last + 1))) < ((c + 1 - first) - (c + 1 - (last + 1)))
+one_more first last c p q = omega (arith, p, q)
+
+no_fewer : (first last c : ℕ) → ((c - first) - (c - (last + 1))) ≤ ((c + 1 - first) - (c + 1 - (last + 1)))
+no_fewer first last c = omega arith
+
+pub more_in : (ranges : List Range) (c : ℕ) → IsIn ranges c → characters_below ranges c < characters_below ranges (c + 1)
+more_in [] c q = absurd q
+more_in (r ∷ ranges) c (inl q) =
+    let first = one_more r.first r.last c q.0 q.1 in
+    let others = below_more ranges c (c + 1) (omega arith) in
+    omega (arith, first, others)
+more_in (r ∷ ranges) c (inr q) =
+    let first = no_fewer r.first r.last c in
+    let others = more_in ranges c q in
+    omega (arith, first, others)
+
+-- a character of the index is the one that is defined
+pub index_in : (ranges : List Range) (i c : ℕ) → IsIn ranges c → characters_below ranges c ≡ i
+    → IsIn ranges (character_at ranges i) × (characters_below ranges (character_at ranges i) ≡ i)
+index_in ranges i c p q =
+    let more = more_in ranges c p in
+    let is = character_is ranges i c (omega (arith, q)) (omega (arith, q, more)) in
+    subst (λ (d : ℕ). IsIn ranges d × (characters_below ranges d ≡ i)) (sym is) (p, q)
+
+-- no other number is of the index
+pub no_other : (ranges : List Range) (i c d : ℕ) → characters_below ranges c ≤ i
+    → (c ≡ end_of ranges) ⊎ (i < characters_below ranges (c + 1)) → IsIn ranges d → characters_below ranges d ≡ i → d ≡ c
+no_other ranges i c d low (inl e) p q =
+    let more = more_in ranges d p in
+    elim (cases_lt d c) [
+      | inl lt ↦ let many = below_more ranges (d + 1) c (omega (arith, lt)) in absurd (omega (arith, many, more, low, q))
+      | inr le ↦ let none = none_past ranges d (d + 1) (omega (arith, e, le)) (omega arith) in absurd (omega (arith, more, none))
+    ]
+no_other ranges i c d low (inr high) p q =
+    let more = more_in ranges d p in
+    elim (cases_lt d c) [
+      | inl lt ↦ let many = below_more ranges (d + 1) c (omega (arith, lt)) in absurd (omega (arith, many, more, low, q))
+      | inr le ↦ elim (cases_lt c d) [
+        | inl lt ↦ let many = below_more ranges (c + 1) d (omega (arith, lt)) in absurd (omega (arith, many, high, q))
+        | inr ge ↦ omega (arith, le, ge)
+      ]
+    ]
+
+-- ---- widths
+
+pub width_of_many : (aligned : Bool) (count : ℕ) → 1 < count → width_for aligned count ≡ align aligned (ceil_log2 count)
+width_of_many aligned count p =
+    let e : nat_le count 1 ≡ false = grind (arith, nat_tests) in
+    rw e refl
+
+pub width_is_ceil : (count w : ℕ) → 1 < count → w ≡ width_to (count - 1) → w ≡ ceil_log2 count
+unfolding width_to
+width_is_ceil count w p e =
+    let same : count - 1 + 1 ≡ count = omega (arith, p) in
+    e ∙ ap ceil_log2 same
+
+-- the next power of two
+pub power_is_least : (w r x : ℕ) → r ≡ 2 ^ x → w ≤ r → r / 2 < max 1 w → IsLeastWidth w x
+power_is_least w r x e enough half = record {
+  enough = omega (arith, e, enough);
+  least = λ v h. elim (cases_lt v x) [
+    | inl lt ↦
+        let next : v + 1 ≤ x = omega (arith, lt) in
+        let up : 2 ^ (v + 1) ≤ 2 ^ x = pow_mono next in
+        let some : 2 ^ 0 ≤ 2 ^ v = pow_mono (let z : 0 ≤ v = omega arith in z) in
+        let double = twice v in
+        absurd (omega (arith, e, half, up, some, double, h))
+    | inr le ↦ le
+  ];
+}
+
+pub few_bits : (w r x : ℕ) → r ≡ 2 ^ x → IsLeastWidth w x → w ≤ 128 → r ≤ 128
+few_bits w r x e is few =
+    let low = is.least 7 (omega (arith, few)) in
+    let up : 2 ^ x ≤ 2 ^ 7 = pow_mono low in
+    omega (arith, e, up)

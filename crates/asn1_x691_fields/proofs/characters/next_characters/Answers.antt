@@ -1,0 +1,40 @@
+use Rattle.std.proofs.Common.{◌-◌, arith}
+use Rattle.asn1_bits.specs.Bits.{bits}
+use Rattle.asn1_x691.specs.Characters.{characters}
+use Rattle.asn1_x691_fields.specs.Characters.{characters_at}
+use Rattle.asn1_x691_fields.specs.Outcomes.{fault_of}
+use Rattle.asn1_x691_fields.specs.Steps.{moved_on, within_after}
+use Rattle.asn1_x691_fields.specs.StringSteps.{none_read}
+use Rattle.asn1_x691_fields.specs.TextSteps.{characters_go_on, characters_fault}
+use Rattle.asn1_x691_fields.proofs.characters.next_characters.Goals as goal
+
+pub loop-left-preserved : goal.loop-left-preserved
+loop-left-preserved c =
+    let list = bits c.args.octets.now in
+    let l = c.loop-left in
+    let new = c.next_character.new.state in
+    let onward = c.next_character.ensures.onward in
+    record {
+      within = within_after list l.state new l.invariant.within (moved_on list l.state new onward);
+      onward = record {
+        same_first = omega (arith, l.invariant.onward.same_first, onward.same_first);
+        same_end = omega (arith, l.invariant.onward.same_end, onward.same_end);
+        same_count = omega (arith, l.invariant.onward.same_count, onward.same_count);
+        on = omega (arith, l.invariant.onward.on, onward.on);
+        ends = onward.ends;
+        inside = onward.inside;
+      };
+      going = characters_go_on c.args.alphabet.now c.args.node list c.args.count l.left (l.left - 1) c.args.state.now l.state new
+          (omega (arith, c.loop-left-test.true)) l.invariant.going c.in_ok-next_character.ensures.at c.in_ok-next_character.ensures.read;
+    }
+
+pub returns-in_err-next_character-clause-read : goal.returns-in_err-next_character-clause-read
+returns-in_err-next_character-clause-read c =
+    let list = bits c.args.octets.now in
+    let a = c.args.alphabet.now in
+    let l = c.loop-left in
+    let new = c.next_character.new.state in
+    none_read (characters a.is_aligned a.ranges.now c.args.node c.args.count) (λ at. characters_at a list at c.args.count) list
+    c.args.state.now new c.from_residual.result c.from_residual.ensures
+    (characters_fault a c.args.node list c.args.count l.left c.args.state.now l.state (fault_of new) (omega (arith, c.loop-left-test.true))
+    l.invariant.going c.in_err-next_character.ensures.read)

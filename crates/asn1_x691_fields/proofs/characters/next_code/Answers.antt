@@ -1,0 +1,14 @@
+use Rattle.std.proofs.Common.{arith}
+use Rattle.asn1_bits.specs.Bits.{bits}
+use Rattle.asn1_bits.specs.DigitLaws.{length-bits}
+use Rattle.asn1_x691_fields.specs.Steps.{number_starts}
+use Rattle.asn1_x691_fields.proofs.characters.next_code.Goals as goal
+
+pub code_at-requires-clause-within : goal.code_at-requires-clause-within
+code_at-requires-clause-within c =
+    omega (arith, length-bits c.args.octets.now, c.requires.within.inside, c.requires.within.ends, c.if-width-state.false)
+
+pub returns-clause-read : goal.returns-clause-read
+returns-clause-read c = number_starts (bits c.args.octets.now) c.args.state.now c.args.width c.args.node
+    (omega (arith, c.requires.within.ends, c.if-width-state.false)) c.requires.within.inside
+    c.code_at.result c.code_at.ensures

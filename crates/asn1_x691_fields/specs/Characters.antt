@@ -1,0 +1,33 @@
+-- The characters that codes are.
+use Rattle.std.specs.Prelude.{◌≡◌, ℕ, ◌+◌, ◌-◌, ◌^◌, ◌≤◌, Bool, true, false, List, map, drop, slice_range}
+use Rattle.asn1_schema.specs.declared.part.Codes.{Codes}
+use Rattle.asn1_schema.specs.declared.part.Codes.TheVariants.{Numbers, Indices}
+use Rattle.asn1_schema.specs.declared.tables.Range.{Range}
+use Rattle.asn1_schema.specs.declared.tables.Rows.{Rows}
+use Rattle.asn1_schema.specs.CharactersOfParts.{character_at, numbers_in}
+use Rattle.asn1_x691.specs.Alphabets.{width_of, are_within}
+use Rattle.asn1_x691_fields.specs.declared.alphabets.Alphabet.{Alphabet}
+
+-- the ranges of rows of a table
+abbrev pub rows_of : List Range → Rows → List Range
+rows_of ranges rows = slice_range ranges rows.from (rows.from + rows.count)
+
+-- an alphabet says how its characters are encoded
+pub record IsAlphabet (a : Alphabet) : Type 0 where
+  pub width : a.width ≡ width_of a.is_aligned a.ranges.now
+  pub narrow : a.width ≤ 128
+  pub numbers : a.are_numbers ≡ are_within a.ranges.now (2 ^ width_of a.is_aligned a.ranges.now - 1)
+
+-- the character of a code, which is its number or its index
+abbrev pub character_by : Bool → List Range → ℕ → ℕ
+character_by true ranges i = i
+character_by false ranges i = character_at ranges i
+
+-- so many characters from a bit on
+abbrev pub characters_at : Alphabet → List Bool → ℕ → ℕ → List ℕ
+characters_at a list at count = map (character_by a.are_numbers a.ranges.now) (numbers_in a.width count (drop at list))
+
+-- what a part says of its codes
+abbrev pub codes_by : Bool → Rows → Codes
+codes_by true rows = Numbers
+codes_by false rows = Indices rows

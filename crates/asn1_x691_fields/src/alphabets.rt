@@ -1,0 +1,189 @@
+//! Alphabets: ranges of characters, and the codes of their characters (X.691 30.5).
+
+ghost use Rattle.std.specs.Prelude.{◌≡◌, ◌≤◌, ◌<◌, ◌^◌, ◌*◌, ◌+◌, ◌-◌, ◌⊎◌, ℕ, true, false, length};
+ghost use Rattle.asn1_schema.specs.CharactersOfParts.{characters_below, end_of as end_in, character_at};
+ghost use Rattle.asn1_x691.specs.Alphabets.{IsIn, HasCode, count_of as count_in, are_within as are_all_within, width_of as width_in};
+ghost use Rattle.asn1_x691_fields.specs.Characters.{IsAlphabet, rows_of, character_by};
+
+use crate::numbers::width_to;
+use asn1_schema::{Range, Rows};
+
+/// An alphabet, and how its characters are encoded.
+#[derive(Clone, Copy, Debug)]
+pub(crate) struct Alphabet<'s> {
+    /// The ranges of its characters.
+    pub(crate) ranges: &'s [Range],
+    /// Whether the variant is ALIGNED.
+    pub(crate) is_aligned: bool,
+    /// How many bits a code has.
+    pub(crate) width: usize,
+    /// Whether a code is the number of the character, and otherwise its index.
+    pub(crate) are_numbers: bool,
+}
+
+/// Returns the alphabet of ranges.
+pub(crate) fn alphabet_of(ranges: &[Range], is_aligned: bool) -> Alphabet<'_>
+    ensures is { IsAlphabet result }
+    ensures ranges { result.ranges.now ≡ ranges.now }
+    ensures variant { result.is_aligned ≡ is_aligned }
+{
+    let width = width_of(ranges, is_aligned);
+    let are_numbers = are_within(ranges, width);
+    Alphabet {
+        ranges,
+        is_aligned,
+        width,
+        are_numbers,
+    }
+}
+
+/// Returns rows of the table of ranges, those that it has.
+pub(crate) fn ranges_in(table: &[Range], rows: Rows) -> &[Range]
+    ensures { result.now ≡ rows_of table.now rows }
+{
+    let (_, rest) = table.split_at(rows.from.min(table.len()));
+    let (ranges, _) = rest.split_at(rows.count.min(rest.len()));
+    ranges
+}
+
+/// Returns how many characters an alphabet has.
+fn count_of(ranges: &[Range]) -> u128
+    ensures value { result ≡ count_in ranges.now }
+    ensures few { result ≤ 2 ^ 96 }
+{
+    let mut count: u128 = 0;
+    for range in ranges {
+        count += (range.last as u128 + 1).saturating_sub(range.first as u128);
+    }
+    count
+}
+
+/// Returns in how many bits a character is (X.691 30.5.2, 30.5.3).
+fn width_of(ranges: &[Range], is_aligned: bool) -> usize
+    ensures value { result ≡ width_in is_aligned ranges.now }
+    ensures most { result ≤ 128 }
+{
+    let count = count_of(ranges);
+    if count <= 1 {
+        return 0;
+    }
+    let width = width_to(count - 1);
+    if is_aligned {
+        width.next_power_of_two()
+    } else {
+        width
+    }
+}
+
+/// Returns whether no character exceeds the numbers of `width` bits, so that each is its own code
+/// (X.691 30.5.4).
+fn are_within(ranges: &[Range], width: usize) -> bool
+    requires { width ≤ 128 }
+    ensures { result ≡ are_all_within ranges.now (2 ^ width - 1) }
+{
+    are_up_to(ranges, greatest_of(width))
+}
+
+/// Returns the greatest number of `width` bits.
+fn greatest_of(width: usize) -> u128
+    requires { width ≤ 128 }
+    ensures { result ≡ 2 ^ width - 1 }
+{
+    if width >= 128 {
+        return u128::MAX;
+    }
+    (1u128 << width) - 1
+}
+
+/// Returns whether no character exceeds a number.
+fn are_up_to(ranges: &[Range], most: u128) -> bool
+    ensures { result ≡ are_all_within ranges.now most }
+{
+    for range in ranges {
+        if range.last as u128 > most {
+            return false;
+        }
+    }
+    true
+}
+
+/// Returns whether a character is in an alphabet.
+fn is_in(ranges: &[Range], character: u128) -> bool
+    ensures yes { result ≡ true → IsIn ranges.now character }
+    ensures no { result ≡ false → IsIn ranges.now character → ⊥ }
+{
+    for range in ranges {
+        if range.first as u128 <= character && character <= range.last as u128 {
+            return true;
+        }
+    }
+    false
+}
+
+/// Returns how many characters are below a number.
+fn count_below(ranges: &[Range], number: u64) -> u128
+    ensures { result ≡ characters_below ranges.now number }
+{
+    let mut count: u128 = 0;
+    for range in ranges {
+        let from = number.saturating_sub(range.first as u64);
+        let past = number.saturating_sub(range.last as u64 + 1);
+        count += from.saturating_sub(past) as u128;
+    }
+    count
+}
+
+/// Returns the first number that exceeds all characters.
+fn end_of(ranges: &[Range]) -> u64
+    ensures value { result ≡ end_in ranges.now }
+    ensures most { result ≤ 2 ^ 32 }
+{
+    let mut end: u64 = 0;
+    for range in ranges {
+        end = end.max(range.last as u64 + 1);
+    }
+    end
+}
+
+/// Returns the first number up to which there are more than so many characters, or the end of the
+/// alphabet.
+fn first_past(ranges: &[Range], index: u128) -> u64
+    ensures below { characters_below ranges.now result ≤ index }
+    ensures past { (result ≡ end_in ranges.now) ⊎ (index < characters_below ranges.now (result + 1)) }
+{
+    let mut low: u64 = 0;
+    let mut high: u64 = end_of(ranges);
+    while low < high {
+        let middle = low + (high - low) / 2;
+        if count_below(ranges, middle + 1) > index {
+            high = middle;
+        } else {
+            low = middle + 1;
+        }
+    }
+    low
+}
+
+/// Returns whether an alphabet has a character of this index in ascending order.
+fn has_index(ranges: &[Range], index: u128) -> bool
+    ensures yes { result ≡ true → IsIn ranges.now (character_at ranges.now index)
+        × (characters_below ranges.now (character_at ranges.now index) ≡ index) }
+    ensures no { result ≡ false → (c : ℕ) → IsIn ranges.now c → characters_below ranges.now c ≡ index → ⊥ }
+{
+    let character = first_past(ranges, index);
+    count_below(ranges, character) == index && is_in(ranges, character as u128)
+}
+
+/// Returns whether a code is of a character (X.691 30.5.4).
+pub(crate) fn has_code(alphabet: &Alphabet<'_>, code: u128) -> bool
+    requires { IsAlphabet alphabet.now }
+    ensures yes { result ≡ true → HasCode alphabet.now.is_aligned alphabet.now.ranges.now code
+        (character_by alphabet.now.are_numbers alphabet.now.ranges.now code) }
+    ensures no { result ≡ false → (c : ℕ) → HasCode alphabet.now.is_aligned alphabet.now.ranges.now code c → ⊥ }
+{
+    if alphabet.are_numbers {
+        is_in(alphabet.ranges, code)
+    } else {
+        has_index(alphabet.ranges, code)
+    }
+}

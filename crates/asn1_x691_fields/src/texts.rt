@@ -1,0 +1,146 @@
+//! Strings of characters of known alphabets (X.691 30.1 to 30.5).
+
+ghost use Rattle.std.specs.Prelude.{◌≡◌, ◌<◌, ◌^◌, ◌*◌, ◌∷◌, [], List, Bool, length};
+ghost use Rattle.asn1_bits.specs.Bits.{bits};
+ghost use Rattle.asn1_schema.specs.declared.tables.Range as the_range;
+ghost use Rattle.asn1_schema.specs.Pieces.{Text};
+ghost use Rattle.asn1_schema.specs.PiecesOfParts.{piece_of};
+ghost use Rattle.asn1_schema.specs.TypeEncodings.{leaf, by_bit};
+ghost use Rattle.asn1_x691.specs.Characters.{text_of, added_text};
+ghost use Rattle.asn1_x691.specs.Leaves.{text as text_in};
+ghost use Rattle.asn1_x691_fields.specs.Outcomes.{IsWithin, IsOnward, IsRead, IsPlaced};
+ghost use Rattle.asn1_x691_fields.specs.Characters.{rows_of, characters_at, codes_by};
+ghost use Rattle.asn1_x691_fields.specs.Numbers.{IsCountable};
+
+use crate::alphabets::{Alphabet, alphabet_of, ranges_in};
+use crate::heads::next_bit;
+use crate::sized_texts::{next_added_text, next_text_of};
+use crate::state::State;
+use asn1_schema::{Characters, Codes, Length, Part, Range, Rows};
+
+/// Reads a string of characters by its size constraint and its alphabet, which are rows of a table
+/// of ranges. A size that is none of the root goes with the alphabet of the whole type (X.691 30.4,
+/// 30.5).
+pub fn next_text(
+    octets: &[u8],
+    is_aligned: bool,
+    table: &[Range],
+    size: Length,
+    is_extensible: bool,
+    alphabet: Rows,
+    whole: Rows,
+    node: usize,
+    state: &mut State,
+) -> Option<Part>
+    requires size { 8 * length octets.now < 2 ^ 64 }
+    requires counted { IsCountable size }
+    requires within { IsWithin (bits octets.now) state.old }
+    requires placed { IsPlaced is_aligned state.old }
+    ensures onward { IsOnward (bits octets.now) state.old state.new }
+    ensures read { IsRead (λ at. (text_in 0 is_aligned node size is_extensible (rows_of table.now alphabet) (rows_of table.now whole) at).encoding)
+        (λ p. piece_of table.now (bits octets.now) p ∷ []) (bits octets.now) state.old state.new result }
+{
+    if !is_extensible {
+        return next_text_of_root(octets, is_aligned, table, size, alphabet, node, state);
+    }
+    let is_added = next_bit(octets, node, state)?;
+    next_text_by_bit(
+        octets, is_aligned, table, size, is_added, alphabet, whole, node, state,
+    )
+}
+
+/// Reads characters after the extension bit.
+fn next_text_by_bit(
+    octets: &[u8],
+    is_aligned: bool,
+    table: &[Range],
+    size: Length,
+    is_added: bool,
+    alphabet: Rows,
+    whole: Rows,
+    node: usize,
+    state: &mut State,
+) -> Option<Part>
+    requires size { 8 * length octets.now < 2 ^ 64 }
+    requires counted { IsCountable size }
+    requires within { IsWithin (bits octets.now) state.old }
+    requires placed { IsPlaced is_aligned state.old }
+    ensures onward { IsOnward (bits octets.now) state.old state.new }
+    ensures read { IsRead (λ at. by_bit (leaf (text_of 0 is_aligned (rows_of table.now alphabet) node size) Text node at)
+        (leaf (added_text 0 is_aligned (rows_of table.now whole) node size) Text node at) is_added)
+        (λ p. piece_of table.now (bits octets.now) p ∷ []) (bits octets.now) state.old state.new result }
+{
+    if is_added {
+        return next_text_of_addition(octets, is_aligned, table, size, whole, node, state);
+    }
+    next_text_of_root(octets, is_aligned, table, size, alphabet, node, state)
+}
+
+/// Reads characters of a number of the root.
+fn next_text_of_root(
+    octets: &[u8],
+    is_aligned: bool,
+    table: &[Range],
+    size: Length,
+    rows: Rows,
+    node: usize,
+    state: &mut State,
+) -> Option<Part>
+    requires size { 8 * length octets.now < 2 ^ 64 }
+    requires counted { IsCountable size }
+    requires within { IsWithin (bits octets.now) state.old }
+    requires placed { IsPlaced is_aligned state.old }
+    ensures onward { IsOnward (bits octets.now) state.old state.new }
+    ensures read { IsRead (λ at. (leaf (text_of 0 is_aligned (rows_of table.now rows) node size) Text node at).encoding)
+        (λ p. piece_of table.now (bits octets.now) p ∷ []) (bits octets.now) state.old state.new result }
+{
+    let alphabet = alphabet_of(ranges_in(table, rows), is_aligned);
+    let (count, at) = next_text_of(octets, &alphabet, size, node, state)?;
+    Some(part_of(&alphabet, rows, count, at))
+}
+
+/// Reads characters of a number that is none of the root (X.691 30.4).
+fn next_text_of_addition(
+    octets: &[u8],
+    is_aligned: bool,
+    table: &[Range],
+    size: Length,
+    rows: Rows,
+    node: usize,
+    state: &mut State,
+) -> Option<Part>
+    requires size { 8 * length octets.now < 2 ^ 64 }
+    requires within { IsWithin (bits octets.now) state.old }
+    requires placed { IsPlaced is_aligned state.old }
+    ensures onward { IsOnward (bits octets.now) state.old state.new }
+    ensures read { IsRead (λ at. (leaf (added_text 0 is_aligned (rows_of table.now rows) node size) Text node at).encoding)
+        (λ p. piece_of table.now (bits octets.now) p ∷ []) (bits octets.now) state.old state.new result }
+{
+    let alphabet = alphabet_of(ranges_in(table, rows), is_aligned);
+    let (count, at) = next_added_text(octets, &alphabet, size, node, state)?;
+    Some(part_of(&alphabet, rows, count, at))
+}
+
+/// Returns the part of so many characters from bit `at` on, whose alphabet is rows of a table.
+fn part_of(alphabet: &Alphabet<'_>, rows: Rows, count: usize, at: usize) -> Part
+    ensures { (table : List the_range.Range) (list : List Bool) → alphabet.now.ranges.now ≡ rows_of table rows
+        → piece_of table list result ≡ Text (characters_at alphabet.now list at count) }
+{
+    Part::Text(Characters {
+        at,
+        count,
+        width: alphabet.width,
+        codes: codes_of(alphabet.are_numbers, rows),
+    })
+}
+
+/// Returns what codes tell, that are numbers, or indices among rows of a table.
+fn codes_of(are_numbers: bool, rows: Rows) -> Codes
+    ensures { result ≡ codes_by are_numbers rows }
+{
+    if are_numbers {
+        Codes::Numbers
+    } else {
+        Codes::Indices(rows)
+    }
+}
