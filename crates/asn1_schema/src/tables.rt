@@ -8,7 +8,7 @@ pub struct Rows {
     /// The index of the first.
     pub from: usize,
     /// How many there are.
-    pub count: usize,
+    pub count: u32,
 }
 
 /// How many units a string may have, or items a list: its effective size constraint (X.680 51.5).
@@ -22,9 +22,9 @@ pub enum Length {
     /// SIZE (least..least + range), up to 65,535.
     Between {
         /// The least length.
-        least: usize,
+        least: u32,
         /// How far the greatest length is from the least.
-        range: usize,
+        range: u32,
     },
 }
 
@@ -71,11 +71,11 @@ pub enum Node {
     /// ENUMERATED: the values of its root by their order, and then those of its additions.
     Enumerated {
         /// The index of the last value of the root.
-        last: usize,
+        last: u32,
         /// Whether it has an extension marker.
         is_extensible: bool,
         /// How many additions are known.
-        additions: usize,
+        additions: u32,
     },
     /// BIT STRING, in bits.
     BitString {

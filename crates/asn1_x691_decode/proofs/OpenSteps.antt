@@ -18,7 +18,7 @@ use Rattle.asn1_x691_fields.specs.Outcomes.{rest, position, fault_of, IsWithin, 
 use Rattle.asn1_x691_fields.specs.Steps.{rest_length, step_position, turn_starts, constant_starts}
 use Rattle.asn1_x691_decode.specs.declared.context.Context.{Context}
 use Rattle.asn1_x691_decode.specs.Room.{IsGrown}
-use Rattle.asn1_x691_decode.specs.Decoding.{OutcomeOfContents, IsDecoded, IsFilled, IsEnd, IsUnsupported, IsLater, IsTooLarge}
+use Rattle.asn1_x691_decode.specs.Decoding.{OutcomeOfContents, IsDecoded, IsFilled, IsEnd, IsUnsupported, IsLater}
 
 -- ---- zeros at the end
 
@@ -91,7 +91,7 @@ module _ (c : Context) where
   pub same_unsupported : (old new : State) → new.at ≡ old.at → new.node ≡ old.node → new.kind ≡ old.kind → IsUnsupported c old
       → IsUnsupported c new
   same_unsupported old new a n k u =
-      (k ∙ u.0, subst (λ (i : ℕ). IsLater (slice_get c.tables.nodes.now i) ⊎ IsTooLarge (slice_get c.tables.nodes.now i)) (sym n) u.1)
+      (k ∙ u.0, subst (λ (i : ℕ). IsLater (slice_get c.tables.nodes.now i)) (sym n) u.1)
 
   -- ---- open types: `in` is the state before the contents, and `out` that after them
 

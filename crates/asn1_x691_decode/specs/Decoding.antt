@@ -65,27 +65,8 @@ IsLater (Some type.RelativeIdentifier) = ⊤
 IsLater (Some type.Utf8String) = ⊤
 IsLater o = ⊥
 
--- whether each permitted number of items or of characters is a number of the machine
-abbrev pub IsCounted : Length → Type 0
-IsCounted (AtLeast least) = ⊤
-IsCounted (Between least range) = least + range < 2 ^ 64
-
-abbrev pub IsUncounted : Length → Type 0
-IsUncounted (AtLeast least) = ⊥
-IsUncounted (Between least range) = 2 ^ 64 ≤ least + range
-
--- types whose numbers exceed those of the machine
-abbrev pub IsTooLarge : Option Node → Type 0
-IsTooLarge (Some (type.SequenceOf size is_extensible item)) = IsUncounted size
-IsTooLarge (Some (type.SetOf size is_extensible item)) = IsUncounted size
-IsTooLarge (Some (type.Text size is_extensible alphabet whole)) = IsUncounted size
-IsTooLarge (Some (type.Choice alternatives is_extensible known)) = 2 ^ 64 ≤ alternatives.count + known.count
-IsTooLarge (Some (type.Enumerated last is_extensible known)) = 2 ^ 64 ≤ last + 1 + known
-IsTooLarge o = ⊥
-
 abbrev pub IsUnsupported : Context → State → Type 0
-IsUnsupported c s =
-    (s.kind ≡ Unsupported) × (IsLater (slice_get c.tables.nodes.now s.node) ⊎ IsTooLarge (slice_get c.tables.nodes.now s.node))
+IsUnsupported c s = (s.kind ≡ Unsupported) × IsLater (slice_get c.tables.nodes.now s.node)
 
 -- ---- what a call did
 

@@ -11,7 +11,7 @@ use Rattle.asn1_x691_decode.specs.declared.context.Context.{Context}
 use Rattle.asn1_x691_decode.specs.declared.message.Fault.{Fault as FoundFault}
 use Rattle.asn1_x691_decode.specs.declared.message.Prefix.{Prefix}
 use Rattle.asn1_x691_decode.specs.Room.{Holds}
-use Rattle.asn1_x691_decode.specs.Decoding.{types, IsLater, IsTooLarge}
+use Rattle.asn1_x691_decode.specs.Decoding.{types, IsLater}
 
 module _ (c : Context) where
   abbrev message : List Bool
@@ -42,4 +42,4 @@ module _ (c : Context) where
   -- at the node is a type that the decoder does not read yet. That decoding the message leads there is not said.
   pub record IsNotSupported (e : FoundFault) : Type 0 where
     pub kind : e.kind ≡ Unsupported
-    pub is : IsLater (slice_get c.tables.nodes.now e.node) ⊎ IsTooLarge (slice_get c.tables.nodes.now e.node)
+    pub is : IsLater (slice_get c.tables.nodes.now e.node)

@@ -146,7 +146,7 @@ pub(crate) fn decode_addition(
     ensures did { Outcome context.now (λ at. (addition_in context.now depth node (known.count - index) (known.from + index) at).encoding)
         state.old state.new parts.old parts.new result }
 {
-    if index >= known.count {
+    if index >= known.count as usize {
         return keep_octets(context, node, state, parts);
     }
     decode_known(context, depth, node, known.from, index, state, parts)

@@ -32,7 +32,6 @@ pub(crate) fn decode_choice(
     requires size { 8 * length context.now.octets.now < 2 ^ 64 }
     requires within { IsWithin (bits context.now.octets.now) state.old }
     requires placed { IsPlaced context.now.is_aligned state.old }
-    requires fits { rows.count + known.count < 2 ^ 64 }
     ensures moved { IsMoved (bits context.now.octets.now) state.old state.new }
     ensures did { Outcome context.now (λ at. (choice_in context.now depth node is_extensible rows known at).encoding)
         state.old state.new parts.old parts.new result }
@@ -64,7 +63,7 @@ pub(crate) fn decode_alternative(
     ensures did { Outcome context.now (λ at. (alternatives_in context.now depth node rows at).encoding)
         state.old state.new parts.old parts.new result }
 {
-    let last = rows.count.saturating_sub(1);
+    let last = (rows.count as usize).saturating_sub(1);
     let index = match next_constrained(
         context.octets,
         context.is_aligned,
@@ -76,7 +75,7 @@ pub(crate) fn decode_alternative(
         Some(index) => index as usize,
     };
     push(parts, state, Part::Chosen(index));
-    if index >= rows.count {
+    if index >= rows.count as usize {
         fail(state, node, FaultKind::NoNode);
         return false;
     }
@@ -104,7 +103,6 @@ pub(crate) fn decode_added(
     requires size { 8 * length context.now.octets.now < 2 ^ 64 }
     requires within { IsWithin (bits context.now.octets.now) state.old }
     requires placed { IsPlaced context.now.is_aligned state.old }
-    requires fits { rows.count + known.count < 2 ^ 64 }
     ensures moved { IsMoved (bits context.now.octets.now) state.old state.new }
     ensures did { Outcome context.now (λ at. (choice_extension_in context.now depth node rows known at).encoding)
         state.old state.new parts.old parts.new result }
@@ -113,13 +111,13 @@ pub(crate) fn decode_added(
         None => return false,
         Some(index) => index,
     };
-    match known_index(index, known.count) {
+    match known_index(index, known.count as usize) {
         None => {
             push(parts, state, Part::UnknownChosen(index));
             keep_octets(context, node, state, parts)
         }
         Some(index) => {
-            push(parts, state, Part::Chosen(rows.count.max(1) + index));
+            push(parts, state, Part::Chosen((rows.count as usize).max(1) + index));
             decode_known(context, depth, node, known.from, index, state, parts)
         }
     }

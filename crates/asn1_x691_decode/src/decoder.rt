@@ -12,7 +12,7 @@ ghost use Rattle.asn1_x691_decode.specs.Decoding.{Outcome, types};
 
 use crate::choice::decode_choice;
 use crate::context::Context;
-use crate::list::{decode_list, is_counted};
+use crate::list::decode_list;
 use crate::open_type::decode_enclosed;
 use crate::room::{keep, push, unsupported};
 use crate::sequence::decode_sequence;
@@ -32,17 +32,6 @@ fn node_at(nodes: &[Node], node: usize) -> Option<Node>
         Some(nodes[node])
     } else {
         None
-    }
-}
-
-/// Returns whether the index of each value of an ENUMERATED is a `usize`.
-fn is_enumerable(last: usize, additions: usize) -> bool
-    ensures yes { result ≡ true → last + 1 + additions < 2 ^ 64 }
-    ensures no { result ≡ false → 2 ^ 64 ≤ last + 1 + additions }
-{
-    match last.checked_add(additions) {
-        None => false,
-        Some(sum) => sum < usize::MAX,
     }
 }
 
@@ -131,10 +120,6 @@ pub(crate) fn decode_node(
                 additions,
             },
         ) => {
-            if alternatives.count.checked_add(additions.count).is_none() {
-                fail(state, node, FaultKind::Unsupported);
-                return false;
-            }
             decode_choice(
                 context,
                 depth - 1,
@@ -153,10 +138,6 @@ pub(crate) fn decode_node(
                 item,
             },
         ) => {
-            if !is_counted(length) {
-                fail(state, node, FaultKind::Unsupported);
-                return false;
-            }
             decode_list(
                 context,
                 depth - 1,
@@ -176,10 +157,6 @@ pub(crate) fn decode_node(
                 item,
             },
         ) => {
-            if !is_counted(length) {
-                fail(state, node, FaultKind::Unsupported);
-                return false;
-            }
             decode_list(
                 context,
                 depth - 1,
@@ -236,15 +213,12 @@ pub(crate) fn decode_node(
                 additions,
             },
         ) => {
-            if !is_enumerable(last, additions) {
-                return unsupported(state, node);
-            }
             let part = next_enumerated(
                 context.octets,
                 context.is_aligned,
-                last,
+                last as usize,
                 is_extensible,
-                additions,
+                additions as usize,
                 node,
                 state,
             );
@@ -295,9 +269,6 @@ pub(crate) fn decode_node(
                 whole,
             },
         ) => {
-            if !is_counted(length) {
-                return unsupported(state, node);
-            }
             let part = next_text(
                 context.octets,
                 context.is_aligned,

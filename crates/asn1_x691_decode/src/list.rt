@@ -3,7 +3,7 @@
 ghost use Rattle.std.specs.Prelude.{◌≡◌, ◌<◌, ◌^◌, ◌*◌, ◌+◌, length, true, false};
 ghost use Rattle.asn1_bits.specs.Bits.{bits};
 ghost use Rattle.asn1_x691_fields.specs.Outcomes.{IsWithin, IsMoved, IsPlaced};
-ghost use Rattle.asn1_x691_decode.specs.Decoding.{Outcome, IsCounted, IsUncounted, sequence_of_in, root_list_in, added_list_in, all_items_in, items_in};
+ghost use Rattle.asn1_x691_decode.specs.Decoding.{Outcome, sequence_of_in, root_list_in, added_list_in, all_items_in, items_in};
 
 use crate::context::Context;
 use crate::decoder::decode_node;
@@ -30,7 +30,6 @@ pub(crate) fn decode_list(
     requires size { 8 * length context.now.octets.now < 2 ^ 64 }
     requires within { IsWithin (bits context.now.octets.now) state.old }
     requires placed { IsPlaced context.now.is_aligned state.old }
-    requires counted { IsCounted size }
     ensures moved { IsMoved (bits context.now.octets.now) state.old state.new }
     ensures did { Outcome context.now (λ at. (sequence_of_in context.now depth node is_extensible is_set size item at).encoding)
         state.old state.new parts.old parts.new result }
@@ -60,7 +59,6 @@ fn decode_root_list(
     requires size { 8 * length context.now.octets.now < 2 ^ 64 }
     requires within { IsWithin (bits context.now.octets.now) state.old }
     requires placed { IsPlaced context.now.is_aligned state.old }
-    requires counted { IsCounted size }
     ensures moved { IsMoved (bits context.now.octets.now) state.old state.new }
     ensures did { Outcome context.now (λ at. (root_list_in context.now depth node is_set size item at).encoding)
         state.old state.new parts.old parts.new result }
@@ -89,7 +87,7 @@ fn decode_root_list(
             ) {
                 None => false,
                 Some(more) => {
-                    let count = least + more as usize;
+                    let count = least as usize + more as usize;
                     push(parts, state, Part::Count(count));
                     decode_each(context, depth, node, is_set, item, count, state, parts)
                 }
@@ -176,15 +174,4 @@ fn decode_items(
         }
     }
     true
-}
-
-/// Returns whether each permitted number of items is a `usize`.
-pub(crate) fn is_counted(size: Length) -> bool
-    ensures yes { result ≡ true → IsCounted size }
-    ensures no { result ≡ false → IsUncounted size }
-{
-    match size {
-        Length::AtLeast { least: _ } => true,
-        Length::Between { least, range } => least.checked_add(range).is_some(),
-    }
 }

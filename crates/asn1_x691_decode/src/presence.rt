@@ -57,7 +57,8 @@ pub(crate) fn known_of(members: &[Member], rows: Rows) -> usize
     ensures all { result < rows.count → length members.now ≤ rows.from + result }
 {
     let left = members.len().saturating_sub(rows.from);
-    if rows.count < left { rows.count } else { left }
+    let count = rows.count as usize;
+    if count < left { count } else { left }
 }
 
 /// Returns the member of an index among those from another index on.

@@ -39,7 +39,7 @@ pub(crate) fn decode_sequence(
             parts,
             state,
             Part::Sequence {
-                count: root.count,
+                count: root.count as usize,
                 is_extended: false,
             },
         );
@@ -53,7 +53,7 @@ pub(crate) fn decode_sequence(
         parts,
         state,
         Part::Sequence {
-            count: root.count,
+            count: root.count as usize,
             is_extended,
         },
     );
@@ -135,7 +135,7 @@ pub(crate) fn decode_components(
             return false;
         }
     }
-    if known < root.count {
+    if known < root.count as usize {
         fail(state, node, FaultKind::NoNode);
         return false;
     }

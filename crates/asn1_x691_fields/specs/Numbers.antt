@@ -25,8 +25,3 @@ IsNatural list new (Large s) = AreOctets s new × (2 ^ 64 ≤ number (bits_of li
 abbrev pub distance : ℤ → ℕ
 distance (pos n) = n
 distance (negsuc n) = n
-
--- each permitted number of units is a number of the machine
-abbrev pub IsCountable : Length → Type 0
-IsCountable (AtLeast least) = Unit {0}
-IsCountable (Between least range) = least + range < 2 ^ 64

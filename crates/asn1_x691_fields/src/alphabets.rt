@@ -42,7 +42,7 @@ pub(crate) fn ranges_in(table: &[Range], rows: Rows) -> &[Range]
     ensures { result.now ≡ rows_of table.now rows }
 {
     let (_, rest) = table.split_at(rows.from.min(table.len()));
-    let (ranges, _) = rest.split_at(rows.count.min(rest.len()));
+    let (ranges, _) = rest.split_at((rows.count as usize).min(rest.len()));
     ranges
 }
 

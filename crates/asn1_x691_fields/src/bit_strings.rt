@@ -120,7 +120,7 @@ fn least_of(size: Length) -> usize
 {
     match size {
         Length::AtLeast { least } => least,
-        Length::Between { least, range: _ } => least,
+        Length::Between { least, range: _ } => least as usize,
     }
 }
 

@@ -38,7 +38,15 @@ pub(crate) fn next_string_of(
     match size {
         Length::AtLeast { least } => next_long_string(octets, is_aligned, unit, least, node, state),
         Length::Between { least, range } => {
-            next_sized_string(octets, is_aligned, unit, least, range, node, state)
+            next_sized_string(
+                octets,
+                is_aligned,
+                unit,
+                least as usize,
+                range as usize,
+                node,
+                state,
+            )
         }
     }
 }

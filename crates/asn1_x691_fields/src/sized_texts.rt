@@ -7,7 +7,6 @@ ghost use Rattle.asn1_x691.specs.Characters.{characters, sized_characters, sized
 ghost use Rattle.asn1_x691.specs.Fragments.{all_units};
 ghost use Rattle.asn1_x691_fields.specs.Outcomes.{IsWithin, IsOnward, IsRead, IsPlaced};
 ghost use Rattle.asn1_x691_fields.specs.Characters.{IsAlphabet, characters_at};
-ghost use Rattle.asn1_x691_fields.specs.Numbers.{IsCountable};
 
 use crate::alphabets::Alphabet;
 use crate::characters::next_characters;
@@ -28,7 +27,6 @@ pub(crate) fn next_text_of(
     state: &mut State,
 ) -> Option<(usize, usize)>
     requires size { 8 * length octets.now < 2 ^ 64 }
-    requires counted { IsCountable size }
     requires alphabet { IsAlphabet alphabet.now }
     requires within { IsWithin (bits octets.now) state.old }
     requires placed { IsPlaced alphabet.now.is_aligned state.old }
@@ -39,7 +37,7 @@ pub(crate) fn next_text_of(
     match size {
         Length::AtLeast { least } => next_long_text(octets, alphabet, least, node, state),
         Length::Between { least, range } => {
-            next_sized_text(octets, alphabet, least, range, node, state)
+            next_sized_text(octets, alphabet, least as usize, range as usize, node, state)
         }
     }
 }

@@ -18,7 +18,9 @@ pub(crate) fn is_of_root(size: Length, count: usize) -> bool
 {
     match size {
         Length::AtLeast { least } => count >= least,
-        Length::Between { least, range } => count >= least && count - least <= range,
+        Length::Between { least, range } => {
+            count >= least as usize && count - least as usize <= range as usize
+        }
     }
 }
 

@@ -10,7 +10,6 @@ ghost use Rattle.asn1_x691.specs.Characters.{text_of, added_text};
 ghost use Rattle.asn1_x691.specs.Leaves.{text as text_in};
 ghost use Rattle.asn1_x691_fields.specs.Outcomes.{IsWithin, IsOnward, IsRead, IsPlaced};
 ghost use Rattle.asn1_x691_fields.specs.Characters.{rows_of, characters_at, codes_by};
-ghost use Rattle.asn1_x691_fields.specs.Numbers.{IsCountable};
 
 use crate::alphabets::{Alphabet, alphabet_of, ranges_in};
 use crate::heads::next_bit;
@@ -33,7 +32,6 @@ pub fn next_text(
     state: &mut State,
 ) -> Option<Part>
     requires size { 8 * length octets.now < 2 ^ 64 }
-    requires counted { IsCountable size }
     requires within { IsWithin (bits octets.now) state.old }
     requires placed { IsPlaced is_aligned state.old }
     ensures onward { IsOnward (bits octets.now) state.old state.new }
@@ -62,7 +60,6 @@ fn next_text_by_bit(
     state: &mut State,
 ) -> Option<Part>
     requires size { 8 * length octets.now < 2 ^ 64 }
-    requires counted { IsCountable size }
     requires within { IsWithin (bits octets.now) state.old }
     requires placed { IsPlaced is_aligned state.old }
     ensures onward { IsOnward (bits octets.now) state.old state.new }
@@ -87,7 +84,6 @@ fn next_text_of_root(
     state: &mut State,
 ) -> Option<Part>
     requires size { 8 * length octets.now < 2 ^ 64 }
-    requires counted { IsCountable size }
     requires within { IsWithin (bits octets.now) state.old }
     requires placed { IsPlaced is_aligned state.old }
     ensures onward { IsOnward (bits octets.now) state.old state.new }

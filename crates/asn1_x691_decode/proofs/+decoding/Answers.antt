@@ -27,14 +27,14 @@ decoder::decode_node-returns-in-Some-Sequence-clause-did = nodes.decode_node-ret
 pub decoder::decode_node-returns-in-Some-Open-clause-did : goal.decoder::decode_node-returns-in-Some-Open-clause-did
 decoder::decode_node-returns-in-Some-Open-clause-did = nodes.decode_node-returns-in-Some-Open-clause-did
 
-pub decoder::decode_node-returns-else-is_none-clause-did : goal.decoder::decode_node-returns-else-is_none-clause-did
-decoder::decode_node-returns-else-is_none-clause-did = nodes.decode_node-returns-else-is_none-clause-did
+pub decoder::decode_node-returns-in-Some-Choice-clause-did : goal.decoder::decode_node-returns-in-Some-Choice-clause-did
+decoder::decode_node-returns-in-Some-Choice-clause-did = nodes.decode_node-returns-in-Some-Choice-clause-did
 
-pub decoder::decode_node-returns-else-not-is_counted-clause-did : goal.decoder::decode_node-returns-else-not-is_counted-clause-did
-decoder::decode_node-returns-else-not-is_counted-clause-did = nodes.decode_node-returns-else-not-is_counted-clause-did
+pub decoder::decode_node-returns-in-Some-SequenceOf-clause-did : goal.decoder::decode_node-returns-in-Some-SequenceOf-clause-did
+decoder::decode_node-returns-in-Some-SequenceOf-clause-did = nodes.decode_node-returns-in-Some-SequenceOf-clause-did
 
-pub decoder::decode_node-returns-else-not-is_counted-2-clause-did : goal.decoder::decode_node-returns-else-not-is_counted-2-clause-did
-decoder::decode_node-returns-else-not-is_counted-2-clause-did = nodes.decode_node-returns-else-not-is_counted-2-clause-did
+pub decoder::decode_node-returns-in-Some-SetOf-clause-did : goal.decoder::decode_node-returns-in-Some-SetOf-clause-did
+decoder::decode_node-returns-in-Some-SetOf-clause-did = nodes.decode_node-returns-in-Some-SetOf-clause-did
 
 pub decoder::decode_node-returns-in-Some-IntegerBetween-clause-did : goal.decoder::decode_node-returns-in-Some-IntegerBetween-clause-did
 decoder::decode_node-returns-in-Some-IntegerBetween-clause-did = nodes.decode_node-returns-in-Some-IntegerBetween-clause-did
@@ -45,8 +45,8 @@ decoder::decode_node-returns-in-Some-IntegerAtLeast-clause-did = nodes.decode_no
 pub decoder::decode_node-returns-in-Some-Integer-clause-did : goal.decoder::decode_node-returns-in-Some-Integer-clause-did
 decoder::decode_node-returns-in-Some-Integer-clause-did = nodes.decode_node-returns-in-Some-Integer-clause-did
 
-pub decoder::decode_node-returns-else-not-is_enumerable-clause-did : goal.decoder::decode_node-returns-else-not-is_enumerable-clause-did
-decoder::decode_node-returns-else-not-is_enumerable-clause-did = nodes.decode_node-returns-else-not-is_enumerable-clause-did
+pub decoder::decode_node-returns-in-Some-Enumerated-clause-did : goal.decoder::decode_node-returns-in-Some-Enumerated-clause-did
+decoder::decode_node-returns-in-Some-Enumerated-clause-did = nodes.decode_node-returns-in-Some-Enumerated-clause-did
 
 pub decoder::decode_node-returns-in-Some-BitString-clause-did : goal.decoder::decode_node-returns-in-Some-BitString-clause-did
 decoder::decode_node-returns-in-Some-BitString-clause-did = nodes.decode_node-returns-in-Some-BitString-clause-did
@@ -216,5 +216,5 @@ set::decode_item-returns-clause-did = sets.decode_item-returns-clause-did
 pub set::decode_item-is_before-requires-clause-inside : goal.set::decode_item-is_before-requires-clause-inside
 set::decode_item-is_before-requires-clause-inside = sets.decode_item-is_before-requires-clause-inside
 
-pub decoder::decode_node-returns-else-not-is_counted-3-clause-did : goal.decoder::decode_node-returns-else-not-is_counted-3-clause-did
-decoder::decode_node-returns-else-not-is_counted-3-clause-did = nodes.decode_node-returns-else-not-is_counted-3-clause-did
+pub decoder::decode_node-returns-in-Some-Text-clause-did : goal.decoder::decode_node-returns-in-Some-Text-clause-did
+decoder::decode_node-returns-in-Some-Text-clause-did = nodes.decode_node-returns-in-Some-Text-clause-did

@@ -116,7 +116,7 @@ decode_added-overflow_add-max t c =
     let k : IsIndex list c.in-Some.index c.args.known.count (Some c.in-Some-known_index.index) =
     subst (λ (r : Option ℕ). IsIndex list c.in-Some.index c.args.known.count r) c.in-Some-known_index.is
     (c.known_index.ensures list c.next_small_number.new.state c.in-Some.ensures.natural) in
-    omega (arith, c.max.ensures, c.requires.fits, k.1)
+    omega (arith, c.max.ensures, k.1)
 
 pub decode_choice-returns-in-Some-true-clause-did : goal.choice::decode_choice-returns-in-Some-true-clause-did
 decode_choice-returns-in-Some-true-clause-did t c =

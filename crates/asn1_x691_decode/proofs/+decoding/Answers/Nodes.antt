@@ -52,8 +52,8 @@ decode_node-returns-in-Some-Open-clause-did t c =
     (omega (arith, c.if-depth-eq0.false))
     (sym c.node_at.ensures ∙ c.in-Some-Open.is ∙ ap (λ (n : Node). Some n) c.in-Some-Open.field-0-is) c.decode_enclosed.ensures.did
 
-pub decode_node-returns-else-is_none-clause-did : goal.decoder::decode_node-returns-else-is_none-clause-did
-decode_node-returns-else-is_none-clause-did t c =
+pub decode_node-returns-in-Some-Choice-clause-did : goal.decoder::decode_node-returns-in-Some-Choice-clause-did
+decode_node-returns-in-Some-Choice-clause-did t c =
     let cx = c.args.context.now in
     let k = c.in-Some-Choice in
     at_node cx c.args.node c.args.depth (Some (type.Choice k.alternatives k.is_extensible k.additions))
@@ -61,8 +61,8 @@ decode_node-returns-else-is_none-clause-did t c =
     c.decode_choice.result)
     (omega (arith, c.if-depth-eq0.false)) (sym c.node_at.ensures ∙ k.is ∙ ap (λ (n : Node). Some n) k.field-0-is) c.decode_choice.ensures.did
 
-pub decode_node-returns-else-not-is_counted-clause-did : goal.decoder::decode_node-returns-else-not-is_counted-clause-did
-decode_node-returns-else-not-is_counted-clause-did t c =
+pub decode_node-returns-in-Some-SequenceOf-clause-did : goal.decoder::decode_node-returns-in-Some-SequenceOf-clause-did
+decode_node-returns-in-Some-SequenceOf-clause-did t c =
     let cx = c.args.context.now in
     let k = c.in-Some-SequenceOf in
     at_node cx c.args.node c.args.depth (Some (type.SequenceOf k.length k.is_extensible k.item))
@@ -70,8 +70,8 @@ decode_node-returns-else-not-is_counted-clause-did t c =
     c.decode_list.result)
     (omega (arith, c.if-depth-eq0.false)) (sym c.node_at.ensures ∙ k.is ∙ ap (λ (n : Node). Some n) k.field-0-is) c.decode_list.ensures.did
 
-pub decode_node-returns-else-not-is_counted-2-clause-did : goal.decoder::decode_node-returns-else-not-is_counted-2-clause-did
-decode_node-returns-else-not-is_counted-2-clause-did t c =
+pub decode_node-returns-in-Some-SetOf-clause-did : goal.decoder::decode_node-returns-in-Some-SetOf-clause-did
+decode_node-returns-in-Some-SetOf-clause-did t c =
     let cx = c.args.context.now in
     let k = c.in-Some-SetOf in
     let p = c.decode_list-in-Some-SetOf in
@@ -115,8 +115,8 @@ decode_node-returns-in-Some-Integer-clause-did t c =
     (kept_outcome cx (λ at. (integer cx.is_aligned a.node at).encoding) a.state.now c.next_integer.new.state p.new.state a.parts.now p.new.parts c.next_integer.result p.result
     c.next_integer.ensures.onward (c.next_integer.ensures.read cx.tables.ranges.now) (record { at = p.ensures.at; first = p.ensures.first; end = p.ensures.end }) p.ensures.kept)
 
-pub decode_node-returns-else-not-is_enumerable-clause-did : goal.decoder::decode_node-returns-else-not-is_enumerable-clause-did
-decode_node-returns-else-not-is_enumerable-clause-did t c =
+pub decode_node-returns-in-Some-Enumerated-clause-did : goal.decoder::decode_node-returns-in-Some-Enumerated-clause-did
+decode_node-returns-in-Some-Enumerated-clause-did t c =
     let cx = c.args.context.now in
     let a = c.args in
     let k = c.in-Some-Enumerated in
@@ -151,8 +151,8 @@ decode_node-returns-in-Some-OctetString-clause-did t c =
     (kept_outcome cx (λ at. (octet_string 0 cx.is_aligned a.node k.length k.is_extensible at).encoding) a.state.now c.next_octet_string.new.state p.new.state a.parts.now p.new.parts c.next_octet_string.result p.result
     c.next_octet_string.ensures.onward (c.next_octet_string.ensures.read cx.tables.ranges.now) (record { at = p.ensures.at; first = p.ensures.first; end = p.ensures.end }) p.ensures.kept)
 
-pub decode_node-returns-else-not-is_counted-3-clause-did : goal.decoder::decode_node-returns-else-not-is_counted-3-clause-did
-decode_node-returns-else-not-is_counted-3-clause-did t c =
+pub decode_node-returns-in-Some-Text-clause-did : goal.decoder::decode_node-returns-in-Some-Text-clause-did
+decode_node-returns-in-Some-Text-clause-did t c =
     let cx = c.args.context.now in
     let a = c.args in
     let k = c.in-Some-Text in
