@@ -7,8 +7,9 @@
 mod parts;
 mod types;
 
+use crate::parts::Source;
 use crate::types::{Schema, schema_of};
-use asn1_schema::{Part, Range, Rows, Tables};
+use asn1_schema::{Part, Tables};
 use asn1_test_rows::{Answers, RowError, octets, run, wrong};
 use asn1_x691_decode::{Context, Defaults, decode};
 use std::alloc::Global;
@@ -20,13 +21,6 @@ const ROOM: usize = 1_000;
 
 /// How deep a value of a row is nested at most.
 const DEPTH: usize = 100;
-
-/// No type of a row has an alphabet, and no component a default value.
-const NO_RANGES: [Range; 0] = [];
-
-const NO_OCTETS: [u8; 0] = [];
-
-const NO_ROWS: [Rows; 0] = [];
 
 /// Decodes octets by a schema, and returns the parts or the fault in words.
 fn decoded<'a>(
@@ -42,18 +36,24 @@ fn decoded<'a>(
         tables: Tables {
             nodes: schema.nodes.as_slice(),
             members: schema.members.as_slice(),
-            ranges: &NO_RANGES,
+            ranges: schema.ranges.as_slice(),
         },
         defaults: Defaults {
-            octets: &NO_OCTETS,
-            rows: &NO_ROWS,
+            octets: schema.default_octets.as_slice(),
+            spans: schema.default_spans.as_slice(),
         },
         octets,
         is_aligned,
     };
     let mut room = vec![in alloc; Part::Absent; ROOM]?;
     match decode(&context, DEPTH, schema.node, room.as_mut_slice()) {
-        Ok(count) => parts::text_of(alloc, octets, room.as_slice(), count),
+        Ok(count) => {
+            let source = Source {
+                octets,
+                ranges: schema.ranges.as_slice(),
+            };
+            parts::text_of(alloc, source, room.as_slice(), count)
+        }
         Err(fault) => parts::text_of_fault(alloc, fault),
     }
 }
@@ -67,12 +67,13 @@ impl Answers for Calls {
             return Err(wrong(alloc, call, "call with octets"));
         };
         let message = octets(alloc, message)?;
-        let schema = schema_of(alloc, words)?;
-        match call {
-            "uper" => decoded(alloc, false, message.as_slice(), &schema),
-            "aper" => decoded(alloc, true, message.as_slice(), &schema),
-            _ => Err(wrong(alloc, call, "variant")),
-        }
+        let is_aligned = match call {
+            "uper" => false,
+            "aper" => true,
+            _ => return Err(wrong(alloc, call, "variant")),
+        };
+        let schema = schema_of(alloc, is_aligned, words)?;
+        decoded(alloc, is_aligned, message.as_slice(), &schema)
     }
 }
 

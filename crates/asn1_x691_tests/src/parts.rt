@@ -1,15 +1,24 @@
 //! Parts and faults in words.
 
 use asn1_bits::{BitStr, read_u128};
-use asn1_schema::{Characters, Codes, Natural, Part, Span};
+use asn1_schema::{Characters, Codes, Natural, Part, Range, Span};
 use asn1_test_rows::{RowError, wrong};
 use asn1_x691_decode::Fault;
 use std::alloc::Global;
 
+/// What parts refer to.
+#[derive(Clone, Copy)]
+pub struct Source<'s> {
+    /// The message.
+    pub octets: &'s [u8],
+    /// The table of ranges.
+    pub ranges: &'s [Range],
+}
+
 /// Returns the first parts of a value in words.
 pub fn text_of(
     alloc: Global,
-    octets: &[u8],
+    source: Source<'_>,
     parts: &[Part],
     count: usize,
 ) -> Result<String, RowError> {
@@ -22,7 +31,7 @@ pub fn text_of(
         if !text.is_empty() {
             text.push(' ')?;
         }
-        text.push_str(word_of(alloc, octets, *part)?.as_str())?;
+        text.push_str(word_of(alloc, source, *part)?.as_str())?;
     }
     Ok(text)
 }
@@ -36,7 +45,8 @@ pub fn text_of_fault(alloc: Global, fault: Fault) -> Result<String, RowError> {
 }
 
 /// Returns a part in a word.
-fn word_of(alloc: Global, octets: &[u8], part: Part) -> Result<String, RowError> {
+fn word_of(alloc: Global, source: Source<'_>, part: Part) -> Result<String, RowError> {
+    let octets = source.octets;
     match part {
         Part::Absent => Ok(String::from_str(alloc, "absent")?),
         Part::Null => Ok(String::from_str(alloc, "null")?),
@@ -60,7 +70,7 @@ fn word_of(alloc: Global, octets: &[u8], part: Part) -> Result<String, RowError>
         Part::UnknownEnumerated(index) => unknown(alloc, "e", index),
         Part::Bits(span) => digits_at(alloc, "b", 1, octets, span),
         Part::Octets(span) => digits_at(alloc, "o", 4, octets, span),
-        Part::Text(text) => codes_at(alloc, octets, text),
+        Part::Text(text) => characters_at(alloc, source, text),
         Part::Sequence { count, is_extended } => {
             let mark = if is_extended { "+" } else { "" };
             Ok(format!(in alloc; "seq{count}{mark}")?)
@@ -104,26 +114,44 @@ fn signed_at(octets: &[u8], span: Span) -> Option<i128> {
     Some(high.wrapping_shr(shift))
 }
 
-/// Returns characters by their codes: `tn` is before numbers, and `ti` before indices.
-fn codes_at(alloc: Global, octets: &[u8], text: Characters) -> Result<String, RowError> {
-    let name = match text.codes {
-        Codes::Numbers => "tn",
-        Codes::Indices(_) => "ti",
-    };
-    let mut word = String::from_str(alloc, name)?;
+/// Returns the numbers of characters.
+fn characters_at(alloc: Global, source: Source<'_>, text: Characters) -> Result<String, RowError> {
+    let mut word = String::from_str(alloc, "t")?;
     let mut at = text.at;
     for _ in 0..text.count {
         let span = Span {
             at,
             count: text.width,
         };
-        match number_at(octets, span) {
-            Some(code) => word.push_str(format!(in alloc; ".{code}")?.as_str())?,
+        let character = match number_at(source.octets, span) {
+            Some(code) => character_of(source.ranges, text.codes, code),
+            None => None,
+        };
+        match character {
+            Some(number) => word.push_str(format!(in alloc; ".{number}")?.as_str())?,
             None => return Err(wrong(alloc, "the part", "part of the message")),
         }
         at = at.saturating_add(text.width);
     }
     Ok(word)
+}
+
+/// Returns the number of a character by its code.
+fn character_of(ranges: &[Range], codes: Codes, code: u128) -> Option<u128> {
+    let rows = match codes {
+        Codes::Numbers => return Some(code),
+        Codes::Indices(rows) => rows,
+    };
+    let mut left = code;
+    for index in rows.from..rows.from.saturating_add(rows.count as usize) {
+        let range = ranges.get(index)?;
+        let count = (range.last as u128 + 1).saturating_sub(range.first as u128);
+        if left < count {
+            return Some(range.first as u128 + left);
+        }
+        left -= count;
+    }
+    None
 }
 
 /// Returns bits by digits of `width` bits each after a name; `-` stands for none.

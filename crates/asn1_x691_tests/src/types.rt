@@ -2,12 +2,17 @@
 //!
 //! ```text
 //! null  bool  int  int:0..  int:0..7  intx:0..7  enum:LAST  enumx:LAST:ADDITIONS
-//! bits:0..  bits:3..3  bitsx:1..2  octets:..  of:0.. ITEM  ofx:1..2 ITEM  open TYPE
-//! seq:ROOT ..  seqx:ROOT:ADDITIONS ..   each component after ! or ?, which says that it is OPTIONAL
+//! bits:0..  bits:3..3  bitsx:1..2  octets:..  of:0.. ITEM  ofx:1..2 ITEM  setof:0.. ITEM  open TYPE
+//! text:0..4:48-57  textx:1..2:65-66:32-126   oid  relative  utf8
+//! seq:ROOT ..  seqx:ROOT:ADDITIONS ..
 //! choice:ROOT ..  choicex:ROOT:ADDITIONS ..
 //! ```
+//!
+//! Each component of a SEQUENCE is after `!`, after `?`, which says that it is OPTIONAL, or after `=` and
+//! the bits that encode its DEFAULT value: at each of the eight positions in an octet, or at all of them.
+//! A text has ranges of characters by their numbers: of its alphabet, and of its type's alphabet.
 
-use asn1_schema::{Bounds, Length, LowerBound, Member, Node, Presence, Rows};
+use asn1_schema::{Bounds, Length, LowerBound, Member, Node, Presence, Range, Rows, Span};
 use asn1_test_rows::{RowError, number, parse_word, wrong};
 use std::alloc::Global;
 
@@ -18,6 +23,12 @@ pub struct Schema {
     pub nodes: Vec<Node>,
     /// Components and alternatives.
     pub members: Vec<Member>,
+    /// Ranges of characters.
+    pub ranges: Vec<Range>,
+    /// The bits of default values, each in an octet.
+    pub default_octets: Vec<u8>,
+    /// Where the bits of each default value are.
+    pub default_spans: Vec<Span>,
     /// The node of the type.
     pub node: usize,
 }
@@ -27,6 +38,10 @@ pub struct Schema {
 struct Types {
     nodes: Vec<Node>,
     members: Vec<Member>,
+    ranges: Vec<Range>,
+    default_octets: Vec<u8>,
+    default_spans: Vec<Span>,
+    is_aligned: bool,
     left: Vec<Member>,
 }
 
@@ -57,7 +72,66 @@ impl Types {
             let member = self.take(alloc)?;
             self.members.push(member)?;
         }
-        Ok(Rows { from, count })
+        Ok(Rows {
+            from,
+            count: small(alloc, count)?,
+        })
+    }
+
+    /// Adds ranges of characters, as `32-32.48-57`.
+    fn add_ranges(&mut self, alloc: Global, text: &str) -> Result<Rows, RowError> {
+        let from = self.ranges.len();
+        let mut count = 0;
+        for range in text.split('.') {
+            let Some((first, last)) = range.split_once('-') else {
+                return Err(wrong(alloc, text, "ranges of characters"));
+            };
+            let first = parse_word::<u32>(alloc, first)?;
+            let last = parse_word::<u32>(alloc, last)?;
+            self.ranges.push(Range { first, last })?;
+            count += 1;
+        }
+        Ok(Rows {
+            from,
+            count: small(alloc, count)?,
+        })
+    }
+
+    /// Adds the bits of a word, from an octet on.
+    fn add_bits(&mut self, bits: &str) -> Result<Span, RowError> {
+        let at = self.default_octets.len().saturating_mul(8);
+        let mut count = 0;
+        let mut octet = 0_u8;
+        for bit in bits.chars() {
+            let mask = 0x80_u8.wrapping_shr(count as u32 % 8);
+            if bit == '1' {
+                octet |= mask;
+            }
+            count += 1;
+            if mask == 1 {
+                self.default_octets.push(octet)?;
+                octet = 0;
+            }
+        }
+        self.default_octets.push(octet)?;
+        Ok(Span { at, count })
+    }
+
+    /// Adds the encodings of a default value, as `101`, or eight of them with dots between.
+    fn add_default(&mut self, alloc: Global, text: &str) -> Result<usize, RowError> {
+        let value = if self.is_aligned {
+            self.default_spans.len() / 8
+        } else {
+            self.default_spans.len()
+        };
+        let times = if !self.is_aligned || text.contains('.') { 1 } else { 8 };
+        for _ in 0..times {
+            for bits in text.split('.') {
+                let span = self.add_bits(bits)?;
+                self.default_spans.push(span)?;
+            }
+        }
+        Ok(value)
     }
 
     /// Says whether the type that was read last is a component that must be present.
@@ -72,10 +146,14 @@ impl Types {
 }
 
 /// Returns the tables of the type that words name.
-pub fn schema_of(alloc: Global, words: &[&str]) -> Result<Schema, RowError> {
+pub fn schema_of(alloc: Global, is_aligned: bool, words: &[&str]) -> Result<Schema, RowError> {
     let mut types = Types {
         nodes: Vec::new(alloc),
         members: Vec::new(alloc),
+        ranges: Vec::new(alloc),
+        default_octets: Vec::new(alloc),
+        default_spans: Vec::new(alloc),
+        is_aligned,
         left: Vec::new(alloc),
     };
     for word in words.iter().rev() {
@@ -85,6 +163,9 @@ pub fn schema_of(alloc: Global, words: &[&str]) -> Result<Schema, RowError> {
     Ok(Schema {
         nodes: types.nodes,
         members: types.members,
+        ranges: types.ranges,
+        default_octets: types.default_octets,
+        default_spans: types.default_spans,
         node: member.node,
     })
 }
@@ -97,11 +178,18 @@ fn read_word(alloc: Global, types: &mut Types, word: &str) -> Result<(), RowErro
         "null" => return types.add(Node::Null),
         "bool" => return types.add(Node::Boolean),
         "int" => return types.add(Node::Integer),
+        "oid" => return types.add(Node::ObjectIdentifier),
+        "relative" => return types.add(Node::RelativeIdentifier),
+        "utf8" => return types.add(Node::Utf8String),
         "open" => {
             let inner = types.take(alloc)?;
             return types.add(Node::Open { inner: inner.node });
         }
         _ => {}
+    }
+    if let Some(bits) = word.strip_prefix('=') {
+        let value = types.add_default(alloc, bits)?;
+        return types.mark(alloc, Presence::Default { value });
     }
     let Some((name, text)) = word.split_once(':') else {
         return Err(wrong(alloc, word, "type"));
@@ -140,7 +228,50 @@ fn read_sized(
                 item: item.node,
             })
         }
+        "setof" => {
+            let length = length_of(alloc, text)?;
+            let item = types.take(alloc)?;
+            types.add(Node::SetOf {
+                length,
+                is_extensible,
+                item: item.node,
+            })
+        }
+        "text" => read_text(alloc, types, text, is_extensible),
         _ => read_counted(alloc, types, name, text, is_extensible),
+    }
+}
+
+/// Reads a word that has a size and ranges of characters.
+fn read_text(
+    alloc: Global,
+    types: &mut Types,
+    text: &str,
+    is_extensible: bool,
+) -> Result<(), RowError> {
+    let Some((size, ranges)) = text.split_once(':') else {
+        return Err(wrong(alloc, text, "size and ranges"));
+    };
+    let (ranges, whole) = match ranges.split_once(':') {
+        Some((ranges, whole)) => (ranges, whole),
+        None => (ranges, ranges),
+    };
+    let length = length_of(alloc, size)?;
+    let alphabet = types.add_ranges(alloc, ranges)?;
+    let whole = types.add_ranges(alloc, whole)?;
+    types.add(Node::Text {
+        length,
+        is_extensible,
+        alphabet,
+        whole,
+    })
+}
+
+/// Returns a count as the tables have it.
+fn small(alloc: Global, count: usize) -> Result<u32, RowError> {
+    match u32::try_from(count) {
+        Ok(count) => Ok(count),
+        Err(_) => Err(wrong(alloc, "the type", "type of so few parts")),
     }
 }
 
@@ -160,9 +291,9 @@ fn read_counted(
     let second = parse_word::<usize>(alloc, second)?;
     match name {
         "enum" => types.add(Node::Enumerated {
-            last: first,
+            last: small(alloc, first)?,
             is_extensible,
-            additions: second,
+            additions: small(alloc, second)?,
         }),
         "seq" => {
             let root = types.take_rows(alloc, first)?;
@@ -221,11 +352,12 @@ fn length_of(alloc: Global, text: &str) -> Result<Length, RowError> {
     let Some((least, greatest)) = text.split_once("..") else {
         return Err(wrong(alloc, text, "size"));
     };
-    let least = parse_word::<usize>(alloc, least)?;
     if greatest.is_empty() {
+        let least = parse_word::<usize>(alloc, least)?;
         return Ok(Length::AtLeast { least });
     }
-    let greatest = parse_word::<usize>(alloc, greatest)?;
+    let least = parse_word::<u32>(alloc, least)?;
+    let greatest = parse_word::<u32>(alloc, greatest)?;
     Ok(Length::Between {
         least,
         range: greatest.saturating_sub(least),
