@@ -45,9 +45,6 @@ types c depth node = type_at c.is_aligned c.tables.nodes.now c.tables.members.no
 
 -- types that it does not know
 abbrev pub IsLater : Option Node → Type 0
-IsLater (Some type.ObjectIdentifier) = ⊤
-IsLater (Some type.RelativeIdentifier) = ⊤
-IsLater (Some type.Utf8String) = ⊤
 IsLater (Some (type.SetOf length is_extensible item)) = ⊤
 IsLater o = ⊥
 

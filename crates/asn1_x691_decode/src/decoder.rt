@@ -20,7 +20,8 @@ use asn1_schema::{Member, Node, Part, Presence};
 use asn1_x691::FaultKind;
 use asn1_x691_fields::{
     State, fail, next_bit, next_bit_string, next_enumerated, next_integer,
-    next_integer_at_least_by, next_integer_between_by, next_octet_string, next_text,
+    next_integer_at_least_by, next_integer_between_by, next_object_identifier, next_octet_string,
+    next_relative_identifier, next_text, next_utf8_string,
 };
 
 /// Returns the type at a node.
@@ -288,9 +289,21 @@ pub(crate) fn decode_node(
             );
             keep(part, parts, state)
         }
-        Some(Node::ObjectIdentifier) => unsupported(state, node),
-        Some(Node::RelativeIdentifier) => unsupported(state, node),
-        Some(Node::Utf8String) => unsupported(state, node),
+        Some(Node::ObjectIdentifier) => keep(
+            next_object_identifier(context.octets, context.is_aligned, node, state),
+            parts,
+            state,
+        ),
+        Some(Node::RelativeIdentifier) => keep(
+            next_relative_identifier(context.octets, context.is_aligned, node, state),
+            parts,
+            state,
+        ),
+        Some(Node::Utf8String) => keep(
+            next_utf8_string(context.octets, context.is_aligned, node, state),
+            parts,
+            state,
+        ),
         Some(
             Node::SetOf {
                 length: _,

@@ -34,6 +34,15 @@ decoder::decode_node-returns-else-not-is_counted-clause-did = nodes.decode_node-
 pub decoder::decode_node-returns-else-not-is_counted-2-clause-did : goal.decoder::decode_node-returns-else-not-is_counted-2-clause-did
 decoder::decode_node-returns-else-not-is_counted-2-clause-did = nodes.decode_node-returns-else-not-is_counted-2-clause-did
 
+pub decoder::decode_node-returns-in-Some-ObjectIdentifier-clause-did : goal.decoder::decode_node-returns-in-Some-ObjectIdentifier-clause-did
+decoder::decode_node-returns-in-Some-ObjectIdentifier-clause-did = nodes.decode_node-returns-in-Some-ObjectIdentifier-clause-did
+
+pub decoder::decode_node-returns-in-Some-RelativeIdentifier-clause-did : goal.decoder::decode_node-returns-in-Some-RelativeIdentifier-clause-did
+decoder::decode_node-returns-in-Some-RelativeIdentifier-clause-did = nodes.decode_node-returns-in-Some-RelativeIdentifier-clause-did
+
+pub decoder::decode_node-returns-in-Some-Utf8String-clause-did : goal.decoder::decode_node-returns-in-Some-Utf8String-clause-did
+decoder::decode_node-returns-in-Some-Utf8String-clause-did = nodes.decode_node-returns-in-Some-Utf8String-clause-did
+
 pub decoder::decode_node-returns-in-Some-IntegerBetween-clause-did : goal.decoder::decode_node-returns-in-Some-IntegerBetween-clause-did
 decoder::decode_node-returns-in-Some-IntegerBetween-clause-did = nodes.decode_node-returns-in-Some-IntegerBetween-clause-did
 
