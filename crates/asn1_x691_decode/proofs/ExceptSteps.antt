@@ -50,9 +50,12 @@ module _ (c : Context) (C : List Bool → Type 0) (kind : FaultKind) (misfit : M
       → IsAt kind node (rest list old) (fault_of new)
       → (except_type C kind misfit node A).encoding.fault (rest list old) (fault_of new)
   other_fault old mid new was is d yet at =
-      inr (record {
-        value = (d.parts, d.starts.front);
-        rest = rest list mid;
-        starts = record { front = d.starts.front; encoded = (d.starts.encoded, refl); parts = d.starts.parts };
-        holds = yet;
-      }, at)
+      inr (
+        record {
+          value = (d.parts, d.starts.front);
+          rest = rest list mid;
+          starts = record { front = d.starts.front; encoded = (d.starts.encoded, refl); parts = d.starts.parts };
+          holds = yet;
+        },
+        at,
+      )

@@ -13,8 +13,8 @@ use Rattle.asn1_x691_fields.specs.declared.state.State.{State}
 use Rattle.asn1_x691_fields.specs.Outcomes.{rest, position, fault_of, IsWithin, IsMoved}
 use Rattle.asn1_x691_decode.specs.declared.context.Context.{Context}
 use Rattle.asn1_x691_decode.specs.Room.{Holds}
-use Rattle.asn1_x691_decode.specs.Decoding.{IsDecoded, IsFilled, IsUnsupported, types}
-use Rattle.asn1_x691_decode.specs.Messages.{named, IsComplete, IsFirstFault, IsPrefix, IsFirstFaultOfPrefix, IsNotSupported}
+use Rattle.asn1_x691_decode.specs.Decoding.{IsDecoded, IsFilled, types}
+use Rattle.asn1_x691_decode.specs.Messages.{named, IsComplete, IsFirstFault, IsPrefix, IsFirstFaultOfPrefix}
 
 pub holds_none : (ranges : List Range) (list : List Bool) (room : List Part) → Holds ranges list room 0 []
 holds_none ranges list room = record { kept = sym (take_all (length room) [] (omega arith)); many = inl refl }
@@ -43,9 +43,6 @@ module _ (c : Context) (s : State) (at : s.at ≡ 0) (first : s.first ≡ 0) (en
       let e : new.end - new.at ≡ length list - new.at = omega (arith, g.same_end, end, length-bits c.octets.now) in
       rw e refl
 
-  pub unsupported_name : (new : State) → IsUnsupported c new → IsNotSupported c (record { node = new.node; at = new.at; kind = new.kind })
-  unsupported_name new u = record { kind = u.0; is = u.1 }
-
   pub complete_message : (depth node : ℕ) (new : State) (was now : List Part) → s.count ≡ 0
       → IsFilled c.tables.ranges.now (complete node (types c depth node)).fills list s new was now → IsComplete c depth node now new.count
   complete_message depth node new was now none f = record {
@@ -55,13 +52,11 @@ module _ (c : Context) (s : State) (at : s.at ≡ 0) (first : s.first ≡ 0) (en
   }
 
   pub fault_message : (depth node : ℕ) (new : State) → IsMoved list s new
-      → (complete node (types c depth node)).fault (rest list s) (fault_of new) ⊎ IsUnsupported c new
+      → (complete node (types c depth node)).fault (rest list s) (fault_of new)
       → IsFirstFault c depth node (record { node = new.node; at = new.at; kind = new.kind })
-      ⊎ IsNotSupported c (record { node = new.node; at = new.at; kind = new.kind })
-  fault_message depth node new g (inl w) =
-      inl (subst (λ (e : Fault FaultKind). (complete node (types c depth node)).fault list e) (same_name new g)
+  fault_message depth node new g w =
+      (subst (λ (e : Fault FaultKind). (complete node (types c depth node)).fault list e) (same_name new g)
       (subst (λ (l : List Bool). (complete node (types c depth node)).fault l (fault_of new)) the_whole w))
-  fault_message depth node new g (inr u) = inr (unsupported_name new u)
 
   pub prefix_message : (depth node : ℕ) (new : State) (was now : List Part) → s.count ≡ 0 → IsMoved list s new
       → IsDecoded c.tables.ranges.now (types c depth node (position s)).encoding.encodes list s new was now
@@ -78,11 +73,9 @@ module _ (c : Context) (s : State) (at : s.at ≡ 0) (first : s.first ≡ 0) (en
       }
 
   pub prefix_fault : (depth node : ℕ) (new : State) → IsMoved list s new
-      → (types c depth node (position s)).encoding.fault (rest list s) (fault_of new) ⊎ IsUnsupported c new
+      → (types c depth node (position s)).encoding.fault (rest list s) (fault_of new)
       → IsFirstFaultOfPrefix c depth node (record { node = new.node; at = new.at; kind = new.kind })
-      ⊎ IsNotSupported c (record { node = new.node; at = new.at; kind = new.kind })
-  prefix_fault depth node new g (inl w) =
-      inl (subst (λ (e : Fault FaultKind). (types c depth node 0).encoding.fault list e) (same_name new g)
+  prefix_fault depth node new g w =
+      (subst (λ (e : Fault FaultKind). (types c depth node 0).encoding.fault list e) (same_name new g)
       (subst (λ (n : ℕ). (types c depth node n).encoding.fault list (fault_of new)) no_position
       (subst (λ (l : List Bool). (types c depth node (position s)).encoding.fault l (fault_of new)) the_whole w)))
-  prefix_fault depth node new g (inr u) = inr (unsupported_name new u)

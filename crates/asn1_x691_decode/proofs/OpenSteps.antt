@@ -18,7 +18,7 @@ use Rattle.asn1_x691_fields.specs.Outcomes.{rest, position, fault_of, IsWithin, 
 use Rattle.asn1_x691_fields.specs.Steps.{rest_length, step_position, turn_starts, constant_starts}
 use Rattle.asn1_x691_decode.specs.declared.context.Context.{Context}
 use Rattle.asn1_x691_decode.specs.Room.{IsGrown}
-use Rattle.asn1_x691_decode.specs.Decoding.{OutcomeOfContents, IsDecoded, IsFilled, IsEnd, IsUnsupported, IsLater}
+use Rattle.asn1_x691_decode.specs.Decoding.{OutcomeOfContents, IsDecoded, IsFilled, IsEnd}
 
 -- ---- zeros at the end
 
@@ -72,27 +72,21 @@ module _ (c : Context) where
       let s = d.starts in
       let size : position mid ≡ length s.front =
       omega (arith, none, step_position list old mid h g (A (position old)).encoding.encodes d.parts s) in
-      inl (inr (record {
+      inr (record {
         value = (d.parts, s.front);
         rest = rest list mid;
         starts = record { front = s.front; encoded = (subst (λ (n : ℕ). (A n).encoding.encodes d.parts s.front) none s.encoded, refl); parts = s.parts };
         holds = subst (λ (n : ℕ). (padding node n).fault (rest list mid) (fault_of new)) size e;
-      }))
+      })
 
   pub complete_fails : (A : ℕ → TypeEncoding FaultKind) (node : ℕ) (old new : State) → old.at ≡ old.first
-      → (A (position old)).encoding.fault (rest list old) (fault_of new) ⊎ IsUnsupported c new
-      → (complete node A).fault (rest list old) (fault_of new) ⊎ IsUnsupported c new
-  complete_fails A node old new begins (inl w) =
+      → (A (position old)).encoding.fault (rest list old) (fault_of new)
+      → (complete node A).fault (rest list old) (fault_of new)
+  complete_fails A node old new begins w =
       let none : position old ≡ 0 = omega (arith, begins) in
-      inl (inl (subst (λ (n : ℕ). (A n).encoding.fault (rest list old) (fault_of new)) none w))
-  complete_fails A node old new begins (inr u) = inr u
+      inl (subst (λ (n : ℕ). (A n).encoding.fault (rest list old) (fault_of new)) none w)
 
   -- only the complete encoding differs
-  pub same_unsupported : (old new : State) → new.at ≡ old.at → new.node ≡ old.node → new.kind ≡ old.kind → IsUnsupported c old
-      → IsUnsupported c new
-  same_unsupported old new a n k u =
-      (k ∙ u.0, subst (λ (i : ℕ). IsLater (slice_get c.tables.nodes.now i)) (sym n) u.1)
-
   -- ---- open types: `in` is the state before the contents, and `out` that after them
 
   module _ (A : ℕ → TypeEncoding FaultKind) (node : ℕ) (old after inside out : State) (contents : Span) (h : IsWithin list old)
@@ -143,5 +137,5 @@ module _ (c : Context) where
   contents_true F old new was is r e o = subst (λ (b : Bool). OutcomeOfContents c F old new was is b) e o
 
   pub contents_false : (F : Contents FaultKind Parts) (old new : State) (was is : List Part) (r : Bool) → r ≡ false
-      → OutcomeOfContents c F old new was is r → F.fault (rest list old) (fault_of new) ⊎ IsUnsupported c new
+      → OutcomeOfContents c F old new was is r → F.fault (rest list old) (fault_of new)
   contents_false F old new was is r e o = subst (λ (b : Bool). OutcomeOfContents c F old new was is b) e o

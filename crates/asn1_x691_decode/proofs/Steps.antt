@@ -21,7 +21,7 @@ use Rattle.asn1_x691_fields.specs.Outcomes.{rest, position, fault_of, IsWithin, 
 use Rattle.asn1_x691_fields.specs.Steps.{constant_starts, after_starts, after_fault, moved_on}
 use Rattle.asn1_x691_decode.specs.declared.context.Context.{Context}
 use Rattle.asn1_x691_decode.specs.Room.{Holds, IsGrown, IsKept}
-use Rattle.asn1_x691_decode.specs.Decoding.{Outcome, decoder_limits, defaults_in, IsDecoded, IsUnsupported, types, type_in, value_in, components_in, component_in, bits_after, bits_after_one}
+use Rattle.asn1_x691_decode.specs.Decoding.{Outcome, decoder_limits, defaults_in, IsDecoded, types, type_in, value_in, components_in, component_in, bits_after, bits_after_one}
 
 -- ---- parts that follow others
 
@@ -82,23 +82,21 @@ module _ (c : Context) where
   pub outcome_on : (A B : ℕ → Encoding FaultKind Parts) (old now new : State) (was is next : List Part) (r : Bool)
       → IsUnderway A B old now was is → Outcome c B now new is next r → Outcome c A old new was next r
   outcome_on A B old now new was is next true p d = p.done new next d
-  outcome_on A B old now new was is next false p (inl w) = inl (p.fault (fault_of new) w)
-  outcome_on A B old now new was is next false p (inr u) = inr u
+  outcome_on A B old now new was is next false p w = p.fault (fault_of new) w
 
   pub by_true : (A : ℕ → Encoding FaultKind Parts) (old new : State) (was is : List Part) (r : Bool) → r ≡ true
       → Outcome c A old new was is r → IsDecoded c.tables.ranges.now (A (position old)).encodes list old new was is
   by_true A old new was is r e o = subst (λ (b : Bool). Outcome c A old new was is b) e o
 
   pub by_false : (A : ℕ → Encoding FaultKind Parts) (old new : State) (was is : List Part) (r : Bool) → r ≡ false
-      → Outcome c A old new was is r → (A (position old)).fault (rest list old) (fault_of new) ⊎ IsUnsupported c new
+      → Outcome c A old new was is r → (A (position old)).fault (rest list old) (fault_of new)
   by_false A old new was is r e o = subst (λ (b : Bool). Outcome c A old new was is b) e o
 
   -- the same outcome for a step that went wrong
   pub fails_on : (A B : ℕ → Encoding FaultKind Parts) (old now new : State) (was is next : List Part) → IsUnderway A B old now was is
-      → (B (position now)).fault (rest list now) (fault_of new) ⊎ IsUnsupported c new
-      → (A (position old)).fault (rest list old) (fault_of new) ⊎ IsUnsupported c new
-  fails_on A B old now new was is next p (inl w) = inl (p.fault (fault_of new) w)
-  fails_on A B old now new was is next p (inr u) = inr u
+      → (B (position now)).fault (rest list now) (fault_of new)
+      → (A (position old)).fault (rest list old) (fault_of new)
+  fails_on A B old now new was is next p w = p.fault (fault_of new) w
 
   -- no bits and these parts
   pub nothing_decoded : (s : State) (was : List Part) → IsDecoded c.tables.ranges.now (constant {K = FaultKind} []).encodes list s s was was
@@ -361,7 +359,7 @@ module _ (c : Context) where
       → IsKept part mid new was is r → Outcome c A old new was is r
   kept_outcome A old mid new was is None r g t s k =
       subst (λ (b : Bool). Outcome c A old new was is b) (sym k.0)
-      (inl (subst (λ (f : Fault FaultKind). (A (position old)).fault (rest bs old) f) (sym (same_fault mid new s k.1 k.2)) t))
+      (subst (λ (f : Fault FaultKind). (A (position old)).fault (rest bs old) f) (sym (same_fault mid new s k.1 k.2)) t)
   kept_outcome A old mid new was is (Some p) r g t s k =
       subst (λ (b : Bool). Outcome c A old new was is b) (sym k.0) (record {
         parts = piece_of c.tables.ranges.now bs p ∷ [];

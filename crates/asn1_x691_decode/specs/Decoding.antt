@@ -18,7 +18,7 @@ use Rattle.asn1_schema.specs.PiecesOfParts.{bits_at, bits_of, natural_of}
 use Rattle.asn1_schema.specs.Encodings.{Encoding, Contents, Starts, constant, invalid}
 use Rattle.asn1_schema.specs.TypeEncodings.{TypeEncoding, AfterHeader, several, several_by_bits, part}
 use Rattle.asn1_x691.specs.declared.fault.FaultKind.{FaultKind}
-use Rattle.asn1_x691.specs.declared.fault.FaultKind.TheVariants.{Unsupported, NoNode}
+use Rattle.asn1_x691.specs.declared.fault.FaultKind.TheVariants.{NoNode}
 use Rattle.asn1_x691.specs.OpenTypes.{padding, complete, open_type}
 use Rattle.asn1_x691.specs.Limits.{Limits}
 use Rattle.asn1_x691.specs.Types.{type_at, type_of, value_by, components, root_of, sequence_by, extension, addition, additions_by_bits, known_addition, sequence_of_by, sequence_of, added_length, in_order, items, choice, choice_by, choice_extension}
@@ -56,18 +56,6 @@ abbrev pub types : Context → ℕ → ℕ → ℕ → TypeEncoding FaultKind
 types c depth node = type_at decoder_limits c.is_aligned c.tables.nodes.now c.tables.members.now c.tables.ranges.now
     (defaults_in c) depth node
 
--- ---- what the decoder does not read yet
-
--- types that it does not know
-abbrev pub IsLater : Option Node → Type 0
-IsLater (Some type.ObjectIdentifier) = ⊤
-IsLater (Some type.RelativeIdentifier) = ⊤
-IsLater (Some type.Utf8String) = ⊤
-IsLater o = ⊥
-
-abbrev pub IsUnsupported : Context → State → Type 0
-IsUnsupported c s = (s.kind ≡ Unsupported) × IsLater (slice_get c.tables.nodes.now s.node)
-
 -- ---- what a call did
 
 -- parts were found, of which the bits from the old index to the new one are an encoding
@@ -76,11 +64,11 @@ pub record IsDecoded (ranges : List Range) (P : Parts → List Bool → Type 0) 
   pub starts : Starts P (rest list old) parts (rest list new)
   pub grown : IsGrown ranges list was old.count now new.count parts
 
--- parts were found; or the state names the first fault, or what the decoder does not read yet
+-- parts were found; or the state names the first fault
 abbrev pub Outcome : Context → (ℕ → Encoding FaultKind Parts) → State → State → List Part → List Part → Bool → Type 0
 Outcome c A old new was now true = IsDecoded c.tables.ranges.now (A (position old)).encodes (bits c.octets.now) old new was now
 Outcome c A old new was now false =
-    (A (position old)).fault (rest (bits c.octets.now) old) (fault_of new) ⊎ IsUnsupported c new
+    (A (position old)).fault (rest (bits c.octets.now) old) (fault_of new)
 
 -- the same of contents, which end where the complete encoding does
 pub record IsFilled (ranges : List Range) (P : Parts → List Bool → Type 0) (list : List Bool) (old new : State) (was now : List Part) : Type 0 where
@@ -90,7 +78,7 @@ pub record IsFilled (ranges : List Range) (P : Parts → List Bool → Type 0) (
 
 abbrev pub OutcomeOfContents : Context → Contents FaultKind Parts → State → State → List Part → List Part → Bool → Type 0
 OutcomeOfContents c F old new was now true = IsFilled c.tables.ranges.now F.fills (bits c.octets.now) old new was now
-OutcomeOfContents c F old new was now false = F.fault (rest (bits c.octets.now) old) (fault_of new) ⊎ IsUnsupported c new
+OutcomeOfContents c F old new was now false = F.fault (rest (bits c.octets.now) old) (fault_of new)
 
 -- the zeros after a complete encoding
 abbrev pub IsEnd : List Bool → ℕ → State → State → Bool → Type 0

@@ -5,13 +5,12 @@ use Rattle.asn1_schema.specs.declared.part.Part.{Part}
 use Rattle.asn1_schema.specs.Pieces.{Parts}
 use Rattle.asn1_schema.specs.Encodings.{Fault, Starts}
 use Rattle.asn1_x691.specs.declared.fault.FaultKind.{FaultKind}
-use Rattle.asn1_x691.specs.declared.fault.FaultKind.TheVariants.{Unsupported}
 use Rattle.asn1_x691.specs.OpenTypes.{complete}
 use Rattle.asn1_x691_decode.specs.declared.context.Context.{Context}
 use Rattle.asn1_x691_decode.specs.declared.message.Fault.{Fault as FoundFault}
 use Rattle.asn1_x691_decode.specs.declared.message.Prefix.{Prefix}
 use Rattle.asn1_x691_decode.specs.Room.{Holds}
-use Rattle.asn1_x691_decode.specs.Decoding.{types, IsLater}
+use Rattle.asn1_x691_decode.specs.Decoding.{types}
 
 module _ (c : Context) where
   abbrev message : List Bool
@@ -38,8 +37,3 @@ module _ (c : Context) where
 
   abbrev pub IsFirstFaultOfPrefix : ℕ → ℕ → FoundFault → Type 0
   IsFirstFaultOfPrefix depth node e = (types c depth node 0).encoding.fault message (named e)
-
-  -- at the node is a type that the decoder does not read yet. That decoding the message leads there is not said.
-  pub record IsNotSupported (e : FoundFault) : Type 0 where
-    pub kind : e.kind ≡ Unsupported
-    pub is : IsLater (slice_get c.tables.nodes.now e.node)

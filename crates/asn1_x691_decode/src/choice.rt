@@ -117,7 +117,11 @@ pub(crate) fn decode_added(
             keep_octets(context, node, state, parts)
         }
         Some(index) => {
-            push(parts, state, Part::Chosen((rows.count as usize).max(1) + index));
+            push(
+                parts,
+                state,
+                Part::Chosen((rows.count as usize).max(1) + index),
+            );
             decode_known(context, depth, node, known.from, index, state, parts)
         }
     }

@@ -14,13 +14,14 @@ use crate::choice::decode_choice;
 use crate::context::Context;
 use crate::list::decode_list;
 use crate::open_type::decode_enclosed;
-use crate::room::{keep, push, unsupported};
+use crate::room::{keep, push};
 use crate::sequence::decode_sequence;
 use asn1_schema::{Member, Node, Part, Presence};
 use asn1_x691::FaultKind;
 use asn1_x691_fields::{
     State, fail, next_bit, next_bit_string, next_enumerated, next_integer,
-    next_integer_at_least_by, next_integer_between_by, next_octet_string, next_text,
+    next_integer_at_least_by, next_integer_between_by, next_object_identifier, next_octet_string,
+    next_relative_identifier, next_text, next_utf8_string,
 };
 
 /// Returns the type at a node.
@@ -282,8 +283,20 @@ pub(crate) fn decode_node(
             );
             keep(part, parts, state)
         }
-        Some(Node::ObjectIdentifier) => unsupported(state, node),
-        Some(Node::RelativeIdentifier) => unsupported(state, node),
-        Some(Node::Utf8String) => unsupported(state, node),
+        Some(Node::ObjectIdentifier) => keep(
+            next_object_identifier(context.octets, context.is_aligned, node, state),
+            parts,
+            state,
+        ),
+        Some(Node::RelativeIdentifier) => keep(
+            next_relative_identifier(context.octets, context.is_aligned, node, state),
+            parts,
+            state,
+        ),
+        Some(Node::Utf8String) => keep(
+            next_utf8_string(context.octets, context.is_aligned, node, state),
+            parts,
+            state,
+        ),
     }
 }

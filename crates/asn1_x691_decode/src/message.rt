@@ -1,8 +1,8 @@
 //! Decodes messages.
 
-ghost use Rattle.std.specs.Prelude.{◌≡◌, ◌<◌, ◌^◌, ◌*◌, ◌⊎◌, length, IfOk, IfErr};
+ghost use Rattle.std.specs.Prelude.{◌≡◌, ◌<◌, ◌^◌, ◌*◌, length, IfOk, IfErr};
 ghost use Rattle.asn1_bits.specs.Bits.{bits};
-ghost use Rattle.asn1_x691_decode.specs.Messages.{IsComplete, IsFirstFault, IsPrefix, IsFirstFaultOfPrefix, IsNotSupported};
+ghost use Rattle.asn1_x691_decode.specs.Messages.{IsComplete, IsFirstFault, IsPrefix, IsFirstFaultOfPrefix};
 
 use crate::context::Context;
 use crate::decoder::decode_node;
@@ -56,8 +56,9 @@ fn begin(octets: &[u8], node: usize) -> State
 ///
 /// # Errors
 ///
-/// Returns the first fault of the message. The kind [`FaultKind::Unsupported`] says that the decoder
-/// does not read the type at the node, or the length in fragments at the bit, yet.
+/// Returns the first fault of the message. The kind [`FaultKind::Unsupported`] says that a length has
+/// a fragment (X.691 11.9.3.8), or that an item of a SET OF does not begin at an octet in the ALIGNED
+/// variant.
 pub fn decode(
     context: &Context<'_>,
     depth: usize,
@@ -66,7 +67,7 @@ pub fn decode(
 ) -> Result<usize, Fault>
     requires { 8 * length context.now.octets.now < 2 ^ 64 }
     ensures accepted { IfOk result (λ count. IsComplete context.now depth node parts.new count) }
-    ensures fault { IfErr result (λ e. IsFirstFault context.now depth node e ⊎ IsNotSupported context.now e) }
+    ensures fault { IfErr result (λ e. IsFirstFault context.now depth node e) }
 {
     let mut state = begin(context.octets, node);
     let member = Member {
@@ -97,7 +98,7 @@ pub fn decode_prefix(
 ) -> Result<Prefix, Fault>
     requires { 8 * length context.now.octets.now < 2 ^ 64 }
     ensures accepted { IfOk result (λ p. IsPrefix context.now depth node parts.new p) }
-    ensures fault { IfErr result (λ e. IsFirstFaultOfPrefix context.now depth node e ⊎ IsNotSupported context.now e) }
+    ensures fault { IfErr result (λ e. IsFirstFaultOfPrefix context.now depth node e) }
 {
     let mut state = begin(context.octets, node);
     if decode_node(context, depth, node, &mut state, parts) {

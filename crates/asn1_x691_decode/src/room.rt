@@ -3,12 +3,10 @@
 ghost use Rattle.std.specs.Prelude.{◌≡◌, List, Bool, false, ◌∷◌, []};
 ghost use Rattle.asn1_schema.specs.declared.tables.Range.{Range};
 ghost use Rattle.asn1_schema.specs.PiecesOfParts.{piece_of};
-ghost use Rattle.asn1_x691.specs.declared.fault.FaultKind.TheVariants.{Unsupported};
 ghost use Rattle.asn1_x691_decode.specs.Room.{IsGrown, IsKept};
 
 use asn1_schema::Part;
-use asn1_x691::FaultKind;
-use asn1_x691_fields::{State, fail};
+use asn1_x691_fields::State;
 
 /// Counts a part, and stores it where there is room.
 #[inline(always)]
@@ -43,17 +41,4 @@ pub(crate) fn keep(part: Option<Part>, parts: &mut [Part], state: &mut State) ->
             true
         }
     }
-}
-
-/// Sets the fault that the decoder does not read a type.
-pub(crate) fn unsupported(state: &mut State, node: usize) -> bool
-    ensures no { result ≡ false }
-    ensures at { state.new.at ≡ state.old.at }
-    ensures first { state.new.first ≡ state.old.first }
-    ensures end { state.new.end ≡ state.old.end }
-    ensures node { state.new.node ≡ node }
-    ensures kind { state.new.kind ≡ Unsupported }
-{
-    fail(state, node, FaultKind::Unsupported);
-    false
 }

@@ -123,15 +123,7 @@ pub(crate) fn decode_components(
     for index in 0..known {
         let at = root.from + index;
         let member = member_in(context.tables.members, at);
-        if !decode_component(
-            context,
-            depth,
-            node,
-            member,
-            &mut presence,
-            state,
-            parts,
-        ) {
+        if !decode_component(context, depth, node, member, &mut presence, state, parts) {
             return false;
         }
     }

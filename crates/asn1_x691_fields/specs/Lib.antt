@@ -2,7 +2,9 @@
 pub mod Outcomes
 pub mod Numbers
 pub mod Characters
+pub mod Octets
 -- What follows from steps of a decoder; no contract cites these.
+pub mod ContentSteps
 pub mod FirstBits
 pub mod LeafSteps
 pub mod NumberSteps
@@ -11,3 +13,4 @@ pub mod Steps
 pub mod StringSteps
 pub mod TextSteps
 pub mod TrimmedSteps
+pub mod Utf8Steps

@@ -107,6 +107,7 @@ pub fn next_octets(message: &[u8], is_aligned: bool, node: usize, state: &mut St
     ensures onward { IsOnward (bits message.now) state.old state.new }
     ensures index { IfSome result (λ s. state.new.at ≡ s.at + s.count) }
     ensures after { IfSome result (λ s. state.old.at ≤ s.at) }
+    ensures whole { IfSome result (λ s. s.count % 8 ≡ 0) }
     ensures octet { IfSome result (λ s. is_aligned ≡ true → s.at % 8 ≡ 0) }
     ensures read { IsRead (octets 0 is_aligned node) (λ s. bits_of (bits message.now) s) (bits message.now)
         state.old state.new result }

@@ -36,6 +36,15 @@ decoder::decode_node-returns-in-Some-SequenceOf-clause-did = nodes.decode_node-r
 pub decoder::decode_node-returns-in-Some-SetOf-clause-did : goal.decoder::decode_node-returns-in-Some-SetOf-clause-did
 decoder::decode_node-returns-in-Some-SetOf-clause-did = nodes.decode_node-returns-in-Some-SetOf-clause-did
 
+pub decoder::decode_node-returns-in-Some-ObjectIdentifier-clause-did : goal.decoder::decode_node-returns-in-Some-ObjectIdentifier-clause-did
+decoder::decode_node-returns-in-Some-ObjectIdentifier-clause-did = nodes.decode_node-returns-in-Some-ObjectIdentifier-clause-did
+
+pub decoder::decode_node-returns-in-Some-RelativeIdentifier-clause-did : goal.decoder::decode_node-returns-in-Some-RelativeIdentifier-clause-did
+decoder::decode_node-returns-in-Some-RelativeIdentifier-clause-did = nodes.decode_node-returns-in-Some-RelativeIdentifier-clause-did
+
+pub decoder::decode_node-returns-in-Some-Utf8String-clause-did : goal.decoder::decode_node-returns-in-Some-Utf8String-clause-did
+decoder::decode_node-returns-in-Some-Utf8String-clause-did = nodes.decode_node-returns-in-Some-Utf8String-clause-did
+
 pub decoder::decode_node-returns-in-Some-IntegerBetween-clause-did : goal.decoder::decode_node-returns-in-Some-IntegerBetween-clause-did
 decoder::decode_node-returns-in-Some-IntegerBetween-clause-did = nodes.decode_node-returns-in-Some-IntegerBetween-clause-did
 

@@ -23,10 +23,10 @@ decode_extension-returns-in-None-next_bits-clause-did t c =
     let n = c.in-Some.count in
     let now = c.push.new in
     let new = c.next_bits.new.state in
-    inl ((count_step cx a.depth a.node a.known a.state.now c.next_small_length.new.state now.state a.parts.now now.parts n c.requires.within
+    (count_step cx a.depth a.node a.known a.state.now c.next_small_length.new.state now.state a.parts.now now.parts n c.requires.within
     c.next_small_length.ensures.onward c.in-Some.ensures.read
     (record { at = c.push.ensures.at; first = c.push.ensures.first; end = c.push.ensures.end }) (c.push.ensures.grown cx.tables.ranges.now list)).fault
-    (fault_of new) (no_bits cx a.depth a.node a.known n (position now.state) (rest list now.state) (fault_of new) c.in-None-next_bits.ensures.read))
+    (fault_of new) (no_bits cx a.depth a.node a.known n (position now.state) (rest list now.state) (fault_of new) c.in-None-next_bits.ensures.read)
 
 pub decode_extension-returns-then-not-has_one-clause-did : goal.additions::decode_extension-returns-then-not-has_one-clause-did
 decode_extension-returns-then-not-has_one-clause-did t c =
@@ -43,13 +43,13 @@ decode_extension-returns-then-not-has_one-clause-did t c =
     let within = same_within list mid now.state same
     (within_after list a.state.now mid c.requires.within (moved_on list a.state.now mid c.next_small_length.ensures.onward)) in
     let told = bits_at list c.in-Some-next_bits.at n in
-    inl ((count_step cx a.depth a.node a.known a.state.now mid now.state a.parts.now now.parts n c.requires.within
+    (count_step cx a.depth a.node a.known a.state.now mid now.state a.parts.now now.parts n c.requires.within
     c.next_small_length.ensures.onward c.in-Some.ensures.read same (c.push.ensures.grown cx.tables.ranges.now list)).fault (fault_of new)
     ((bits_step cx a.depth a.node a.known now.state later now.parts n told within c.next_bits.ensures.onward c.in-Some-next_bits.ensures.read).fault
     (fault_of new)
     (none_fault cx a.depth a.node a.known n (position later) told (rest list later) (fault_of new)
     (sym c.has_one.ensures ∙ c.if-not-has_one.true)
-    (fault_at list later new a.node NoAddition c.next_bits.ensures.onward.inside c.fail.ensures.at c.fail.ensures.end c.fail.ensures.node c.fail.ensures.kind))))
+    (fault_at list later new a.node NoAddition c.next_bits.ensures.onward.inside c.fail.ensures.at c.fail.ensures.end c.fail.ensures.node c.fail.ensures.kind)))
 
 pub decode_extension-returns-clause-did : goal.additions::decode_extension-returns-clause-did
 decode_extension-returns-clause-did t c =
@@ -104,12 +104,9 @@ decode_additions-returns-then-not-decode_optional_addition-clause-did t c =
     fails_on cx (B a.presence.left a.known.count a.known.from (told_by list a.presence))
     (B l.presence.left (a.known.count - l.index) (a.known.from + l.index) p) a.state.now l.state one.new.state a.parts.now l.parts
     one.new.parts l.invariant.4
-    (elim (by_false cx (by_presence cx a.depth a.node p A) l.state one.new.state l.parts one.new.parts one.result
-    c.if-not-decode_optional_addition.true one.ensures.did) [
-      | inl w ↦ inl (addition_fault cx a.depth a.node l.presence.left (a.known.count - l.index) (a.known.from + l.index) p (position l.state)
-          (rest list l.state) (fault_of one.new.state) (omega (arith, l.invariant.3, c.loop-index-test.true)) w)
-      | inr u ↦ inr u
-    ])
+    (addition_fault cx a.depth a.node l.presence.left (a.known.count - l.index) (a.known.from + l.index) p (position l.state)
+    (rest list l.state) (fault_of one.new.state) (omega (arith, l.invariant.3, c.loop-index-test.true)) (by_false cx (by_presence cx a.depth a.node p A) l.state one.new.state l.parts one.new.parts one.result
+    c.if-not-decode_optional_addition.true one.ensures.did))
 
 pub decode_additions-loop-index-preserved : goal.additions::decode_additions-loop-index-preserved
 decode_additions-loop-index-preserved t c =

@@ -27,14 +27,14 @@ decode_alternative-returns-then-index-rows-clause-did t c =
     let list = bits cx.octets.now in
     let a = c.args in
     let now = c.push.new in
-    inl ((index_step cx a.depth a.node a.rows c.saturating_sub-last.result a.state.now c.next_constrained.new.state now.state a.parts.now now.parts c.in-Some.index
+    (index_step cx a.depth a.node a.rows c.saturating_sub-last.result a.state.now c.next_constrained.new.state now.state a.parts.now now.parts c.in-Some.index
     c.saturating_sub-last.ensures c.requires.within c.next_constrained.ensures.onward c.in-Some.ensures.read
     (record { at = c.push.ensures.at; first = c.push.ensures.first; end = c.push.ensures.end }) (c.push.ensures.grown cx.tables.ranges.now list)).fault
     (fault_of c.fail.new.state)
     (no_index cx a.depth a.node a.rows c.in-Some.index (position now.state) (rest list now.state) (fault_of c.fail.new.state)
     (omega (arith, c.if-index-rows.true))
     (fault_at list now.state c.fail.new.state a.node NoNode
-    (omega (arith, c.push.ensures.end, c.next_constrained.ensures.onward.inside)) c.fail.ensures.at c.fail.ensures.end c.fail.ensures.node c.fail.ensures.kind)))
+    (omega (arith, c.push.ensures.end, c.next_constrained.ensures.onward.inside)) c.fail.ensures.at c.fail.ensures.end c.fail.ensures.node c.fail.ensures.kind))
 
 pub decode_alternative-returns-in-None-member_from-clause-did : goal.choice::decode_alternative-returns-in-None-member_from-clause-did
 decode_alternative-returns-in-None-member_from-clause-did t c =
@@ -43,14 +43,14 @@ decode_alternative-returns-in-None-member_from-clause-did t c =
     let a = c.args in
     let now = c.push.new in
     let f = c.fail-in-None-member_from in
-    inl ((index_step cx a.depth a.node a.rows c.saturating_sub-last.result a.state.now c.next_constrained.new.state now.state a.parts.now now.parts c.in-Some.index
+    (index_step cx a.depth a.node a.rows c.saturating_sub-last.result a.state.now c.next_constrained.new.state now.state a.parts.now now.parts c.in-Some.index
     c.saturating_sub-last.ensures c.requires.within c.next_constrained.ensures.onward c.in-Some.ensures.read
     (record { at = c.push.ensures.at; first = c.push.ensures.first; end = c.push.ensures.end }) (c.push.ensures.grown cx.tables.ranges.now list)).fault
     (fault_of f.new.state)
     (no_alternative cx a.depth a.node a.rows c.in-Some.index (position now.state) (rest list now.state) (fault_of f.new.state)
     (omega (arith, c.if-index-rows.false)) (sym c.member_from.ensures.is ∙ c.in-None-member_from.is)
     (fault_at list now.state f.new.state a.node NoNode
-    (omega (arith, c.push.ensures.end, c.next_constrained.ensures.onward.inside)) f.ensures.at f.ensures.end f.ensures.node f.ensures.kind)))
+    (omega (arith, c.push.ensures.end, c.next_constrained.ensures.onward.inside)) f.ensures.at f.ensures.end f.ensures.node f.ensures.kind))
 
 pub decode_alternative-returns-in-Some-member_from-clause-did : goal.choice::decode_alternative-returns-in-Some-member_from-clause-did
 decode_alternative-returns-in-Some-member_from-clause-did t c =

@@ -101,11 +101,8 @@ decode_items-returns-then-not-decode_node-clause-did t c =
     let V : ℕ → Encoding FaultKind Parts = λ at. (types cx a.depth a.item at).encoding in
     fails_on cx (list.I cx a.depth a.item a.count) (list.I cx a.depth a.item l.left) a.state.now l.state one.new.state a.parts.now l.parts one.new.parts
     l.invariant.2
-    (elim (by_false cx V l.state one.new.state l.parts one.new.parts one.result c.if-not-decode_node.true one.ensures.did) [
-      | inl w ↦ inl (list.item_fault cx a.depth a.item l.left (position l.state) (rest (bits cx.octets.now) l.state) (fault_of one.new.state)
-          (omega (arith, c.loop-left-test.true)) w)
-      | inr u ↦ inr u
-    ])
+    (list.item_fault cx a.depth a.item l.left (position l.state) (rest (bits cx.octets.now) l.state) (fault_of one.new.state)
+    (omega (arith, c.loop-left-test.true)) (by_false cx V l.state one.new.state l.parts one.new.parts one.result c.if-not-decode_node.true one.ensures.did))
 
 pub decode_items-loop-left-preserved : goal.list::decode_items-loop-left-preserved
 decode_items-loop-left-preserved t c =

@@ -10,7 +10,8 @@ use Rattle.asn1_x691_fields.specs.Outcomes.{position}
 use Rattle.asn1_x691_fields.specs.Characters.{rows_of}
 use Rattle.asn1_x691_decode.specs.Decoding.{Outcome, IsDecoded}
 use Rattle.asn1_x691_decode.proofs.Steps.{at_node, put_step, nothing_decoded}
-use Rattle.asn1_x691.specs.Leaves.{integer_between_by, integer_at_least_by, integer, enumerated_by, bit_string, octet_string, text}
+use Rattle.asn1_x691.specs.Contents.{IsObjectIdentifier, IsRelativeIdentifier, IsUtf8Text}
+use Rattle.asn1_x691.specs.Leaves.{integer_between_by, integer_at_least_by, integer, enumerated_by, bit_string, octet_string, text, contents}
 use Rattle.asn1_x691_decode.proofs.Steps.{kept_outcome}
 use Rattle.asn1_x691_decode.proofs.+decoding.Goals as goal
 
@@ -163,4 +164,43 @@ decode_node-returns-in-Some-Text-clause-did t c =
     (kept_outcome cx (λ at. (text 0 cx.is_aligned a.node k.length k.is_extensible (rows_of cx.tables.ranges.now k.alphabet)
     (rows_of cx.tables.ranges.now k.whole) at).encoding) a.state.now c.next_text-part.new.state p.new.state a.parts.now p.new.parts
     c.next_text-part.result p.result c.next_text-part.ensures.onward c.next_text-part.ensures.read
+    (record { at = p.ensures.at; first = p.ensures.first; end = p.ensures.end }) p.ensures.kept)
+
+pub decode_node-returns-in-Some-ObjectIdentifier-clause-did : goal.decoder::decode_node-returns-in-Some-ObjectIdentifier-clause-did
+decode_node-returns-in-Some-ObjectIdentifier-clause-did t c =
+    let cx = c.args.context.now in
+    let a = c.args in
+    let k = c.in-Some-ObjectIdentifier in
+    let p = c.keep-in-Some-ObjectIdentifier in
+    at_node cx a.node a.depth (Some type.ObjectIdentifier)
+    (λ (B : ℕ → Encoding FaultKind Parts). Outcome cx B a.state.now p.new.state a.parts.now p.new.parts p.result)
+    (omega (arith, c.if-depth-eq0.false)) (sym c.node_at.ensures ∙ k.is ∙ ap (λ (n : Node). Some n) k.field-0-is)
+    (kept_outcome cx (λ at. (contents 0 cx.is_aligned a.node IsObjectIdentifier at).encoding) a.state.now c.next_object_identifier.new.state p.new.state a.parts.now p.new.parts
+    c.next_object_identifier.result p.result c.next_object_identifier.ensures.onward (c.next_object_identifier.ensures.read cx.tables.ranges.now)
+    (record { at = p.ensures.at; first = p.ensures.first; end = p.ensures.end }) p.ensures.kept)
+
+pub decode_node-returns-in-Some-RelativeIdentifier-clause-did : goal.decoder::decode_node-returns-in-Some-RelativeIdentifier-clause-did
+decode_node-returns-in-Some-RelativeIdentifier-clause-did t c =
+    let cx = c.args.context.now in
+    let a = c.args in
+    let k = c.in-Some-RelativeIdentifier in
+    let p = c.keep-in-Some-RelativeIdentifier in
+    at_node cx a.node a.depth (Some type.RelativeIdentifier)
+    (λ (B : ℕ → Encoding FaultKind Parts). Outcome cx B a.state.now p.new.state a.parts.now p.new.parts p.result)
+    (omega (arith, c.if-depth-eq0.false)) (sym c.node_at.ensures ∙ k.is ∙ ap (λ (n : Node). Some n) k.field-0-is)
+    (kept_outcome cx (λ at. (contents 0 cx.is_aligned a.node IsRelativeIdentifier at).encoding) a.state.now c.next_relative_identifier.new.state p.new.state a.parts.now p.new.parts
+    c.next_relative_identifier.result p.result c.next_relative_identifier.ensures.onward (c.next_relative_identifier.ensures.read cx.tables.ranges.now)
+    (record { at = p.ensures.at; first = p.ensures.first; end = p.ensures.end }) p.ensures.kept)
+
+pub decode_node-returns-in-Some-Utf8String-clause-did : goal.decoder::decode_node-returns-in-Some-Utf8String-clause-did
+decode_node-returns-in-Some-Utf8String-clause-did t c =
+    let cx = c.args.context.now in
+    let a = c.args in
+    let k = c.in-Some-Utf8String in
+    let p = c.keep-in-Some-Utf8String in
+    at_node cx a.node a.depth (Some type.Utf8String)
+    (λ (B : ℕ → Encoding FaultKind Parts). Outcome cx B a.state.now p.new.state a.parts.now p.new.parts p.result)
+    (omega (arith, c.if-depth-eq0.false)) (sym c.node_at.ensures ∙ k.is ∙ ap (λ (n : Node). Some n) k.field-0-is)
+    (kept_outcome cx (λ at. (contents 0 cx.is_aligned a.node IsUtf8Text at).encoding) a.state.now c.next_utf8_string.new.state p.new.state a.parts.now p.new.parts
+    c.next_utf8_string.result p.result c.next_utf8_string.ensures.onward (c.next_utf8_string.ensures.read cx.tables.ranges.now)
     (record { at = p.ensures.at; first = p.ensures.first; end = p.ensures.end }) p.ensures.kept)

@@ -7,7 +7,7 @@ use Rattle.asn1_x691_decode.proofs.Steps.{by_true, by_false}
 use Rattle.asn1_x691.specs.OpenTypes.{complete}
 use Rattle.asn1_x691_fields.specs.declared.state.State.{State}
 use Rattle.asn1_x691_decode.specs.Room.{IsGrown}
-use Rattle.asn1_x691_decode.proofs.OpenSteps.{complete_outcome, complete_fails, enclosed_starts, enclosed_fault, same_unsupported, contents_true, contents_false}
+use Rattle.asn1_x691_decode.proofs.OpenSteps.{complete_outcome, complete_fails, enclosed_starts, enclosed_fault, contents_true, contents_false}
 use Rattle.asn1_schema.specs.declared.tables.Presence.{Presence}
 use Rattle.asn1_schema.specs.declared.tables.Presence.TheVariants as presence
 use Rattle.asn1_schema.specs.declared.misfit.MisfitKind.TheVariants as misfit
@@ -49,13 +49,10 @@ decode_enclosed-returns-then-not-is_complete-clause-did t c =
     let out = c.decode_complete-is_complete.new.state in
     let new : State =
     record { at = out.at; first = after.first; end = after.end; count = out.count; node = out.node; kind = out.kind } in
-    elim (contents_false cx (complete c.args.node V) inside out c.args.parts.now c.decode_complete-is_complete.new.parts
-    c.decode_complete-is_complete.result c.if-not-is_complete.true c.decode_complete-is_complete.ensures.did) [
-      | inl w ↦ inl (enclosed_fault cx V c.args.node c.args.state.now after inside out span c.requires.within c.next_octets.ensures.onward
-          c.in-Some.ensures.read c.in-Some.ensures.index refl refl new refl refl refl refl
-          c.decode_complete-is_complete.ensures.moved.ends c.decode_complete-is_complete.ensures.moved.same_end w)
-      | inr u ↦ inr (same_unsupported cx out new refl refl refl u)
-    ]
+    enclosed_fault cx V c.args.node c.args.state.now after inside out span c.requires.within c.next_octets.ensures.onward
+    c.in-Some.ensures.read c.in-Some.ensures.index refl refl new refl refl refl refl
+    c.decode_complete-is_complete.ensures.moved.ends c.decode_complete-is_complete.ensures.moved.same_end (contents_false cx (complete c.args.node V) inside out c.args.parts.now c.decode_complete-is_complete.new.parts
+    c.decode_complete-is_complete.result c.if-not-is_complete.true c.decode_complete-is_complete.ensures.did)
 
 pub decode_enclosed-returns-clause-did : goal.open_type::decode_enclosed-returns-clause-did
 decode_enclosed-returns-clause-did t c =
@@ -93,11 +90,8 @@ decode_other_than-returns-then-not-decode_node-clause-did t c =
     let cx = c.args.context.now in
     let a = c.args in
     let one = c.decode_node in
-    elim (by_false cx (λ at. (types cx a.depth a.inner at).encoding) a.state.now one.new.state a.parts.now one.new.parts one.result
-    c.if-not-decode_node.true one.ensures.did) [
-      | inl w ↦ inl (inl w)
-      | inr u ↦ inr u
-    ]
+    inl (by_false cx (λ at. (types cx a.depth a.inner at).encoding) a.state.now one.new.state a.parts.now one.new.parts one.result
+    c.if-not-decode_node.true one.ensures.did)
 
 pub decode_other_than-returns-then-is_default-clause-did : goal.open_type::decode_other_than-returns-then-is_default-clause-did
 decode_other_than-returns-then-is_default-clause-did t c =
@@ -108,7 +102,7 @@ decode_other_than-returns-then-is_default-clause-did t c =
     let d = by_true cx (λ at. (types cx a.depth a.inner at).encoding) a.state.now one.new.state a.parts.now one.new.parts one.result
     c.if-not-decode_node.false one.ensures.did in
     let C : List Bool → Type 0 = λ l. defaults_in cx a.value (phase cx.is_aligned (position a.state.now)) ≡ Some l in
-    inl (other_fault cx C DefaultValue misfit.DefaultValue a.node (types cx a.depth a.inner (position a.state.now)) a.state.now one.new.state
+    (other_fault cx C DefaultValue misfit.DefaultValue a.node (types cx a.depth a.inner (position a.state.now)) a.state.now one.new.state
     c.fail.new.state a.parts.now one.new.parts d
     (subst C
     (sym (front_bits list a.state.now one.new.state c.requires.within one.ensures.moved

@@ -12,7 +12,7 @@ use Rattle.asn1_x691.specs.declared.fault.FaultKind.TheVariants.{NoNode, Short}
 use Rattle.asn1_x691.specs.Types.{optional_count}
 use Rattle.asn1_x691_fields.specs.Outcomes.{rest, position, fault_of}
 use Rattle.asn1_x691_fields.specs.Steps.{within_after, moved_over, moved_on, fault_at}
-use Rattle.asn1_x691_decode.specs.Decoding.{Outcome, IsDecoded, IsUnsupported, extension_in, component_in, components_in, root_in, sequence_in, told_by}
+use Rattle.asn1_x691_decode.specs.Decoding.{Outcome, IsDecoded, extension_in, component_in, components_in, root_in, sequence_in, told_by}
 use Rattle.asn1_x691_decode.proofs.Steps.{IsSamePlace, same_within, put_step, value_step, header_step, component_step, component_fault, no_member, bits_left, no_components, over, fails_on, outcome_on, by_true, by_false, absent_of, part_decoded, told_after}
 use Rattle.asn1_schema.specs.TypeEncodings.{both}
 use Rattle.asn1_x691_decode.proofs.SequenceSteps.{after_bit, bit_step, after_false, after_true}
@@ -57,13 +57,10 @@ decode_components-returns-then-not-decode_component-clause-did t c =
     (λ at. (components_in cx c.args.depth c.args.node c.args.root.count c.args.root.from at).after (told_by list c.args.presence))
     (B (c.args.root.count - l.index) (c.args.root.from + l.index)) c.args.state.now l.state c.decode_component.new.state c.args.parts.now l.parts
     c.decode_component.new.parts l.invariant.3
-    (elim (by_false cx A l.state c.decode_component.new.state l.parts c.decode_component.new.parts c.decode_component.result
-    c.if-not-decode_component.true c.decode_component.ensures.did) [
-      | inl w ↦ inl (component_fault cx c.args.depth c.args.node c.args.root.count c.args.root.from l.index m (told_by list l.presence)
-          (position l.state) (rest list l.state) (fault_of c.decode_component.new.state)
-          (omega (arith, c.loop-index-test.true, c.known_of-known.ensures.few)) c.member_in-member.ensures w)
-      | inr u ↦ inr u
-    ])
+    (component_fault cx c.args.depth c.args.node c.args.root.count c.args.root.from l.index m (told_by list l.presence)
+    (position l.state) (rest list l.state) (fault_of c.decode_component.new.state)
+    (omega (arith, c.loop-index-test.true, c.known_of-known.ensures.few)) c.member_in-member.ensures (by_false cx A l.state c.decode_component.new.state l.parts c.decode_component.new.parts c.decode_component.result
+    c.if-not-decode_component.true c.decode_component.ensures.did))
 
 pub decode_components-loop-index-preserved : goal.sequence::decode_components-loop-index-preserved
 decode_components-loop-index-preserved t c =
@@ -97,13 +94,13 @@ decode_components-returns-then-known-root-clause-did t c =
     let cx = c.args.context.now in
     let list = bits cx.octets.now in
     let l = c.loop-index in
-    inl (l.invariant.3.fault (fault_of c.fail.new.state)
+    l.invariant.3.fault (fault_of c.fail.new.state)
     (no_member cx c.args.depth c.args.node (c.args.root.count - l.index) (c.args.root.from + l.index) (told_by list l.presence)
     (position l.state) (rest list l.state) (fault_of c.fail.new.state)
     (omega (arith, c.loop-index.auto.index-end, c.if-known-root.true))
     (omega (arith, c.known_of-known.ensures.all c.if-known-root.true, c.loop-index-test.false))
     (fault_at list l.state c.fail.new.state c.args.node NoNode l.invariant.0.inside c.fail.ensures.at c.fail.ensures.end
-    c.fail.ensures.node c.fail.ensures.kind)))
+    c.fail.ensures.node c.fail.ensures.kind))
 
 pub decode_components-returns-then-presence-gt0-clause-did : goal.sequence::decode_components-returns-then-presence-gt0-clause-did
 decode_components-returns-then-presence-gt0-clause-did t c =
@@ -111,12 +108,12 @@ decode_components-returns-then-presence-gt0-clause-did t c =
     let list = bits cx.octets.now in
     let l = c.loop-index in
     let f = c.fail-then-presence-gt0 in
-    inl (l.invariant.3.fault (fault_of f.new.state)
+    l.invariant.3.fault (fault_of f.new.state)
     (bits_left cx c.args.depth c.args.node (c.args.root.count - l.index) (c.args.root.from + l.index) (told_by list l.presence)
     (position l.state) (rest list l.state) (fault_of f.new.state)
     (omega (arith, c.loop-index-test.false, c.if-known-root.false))
     (omega (arith, told_length list l.presence (omega (arith, length-bits cx.octets.now, l.invariant.2)), c.if-presence-gt0.true))
-    (fault_at list l.state f.new.state c.args.node NoNode l.invariant.0.inside f.ensures.at f.ensures.end f.ensures.node f.ensures.kind)))
+    (fault_at list l.state f.new.state c.args.node NoNode l.invariant.0.inside f.ensures.at f.ensures.end f.ensures.node f.ensures.kind))
 
 pub decode_components-returns-clause-did : goal.sequence::decode_components-returns-clause-did
 decode_components-returns-clause-did t c =
@@ -206,13 +203,10 @@ decode_sequence-returns-then-not-decode_root-clause-did t c =
     (bit_step cx a.depth a.node a.root a.additions b a.state.now mid a.parts.now c.requires.within c.next_bit.ensures.onward c.in-Some.ensures.read)
     (after_true cx a.depth a.node a.root a.additions b mid now.state a.parts.now now.parts c.if-not-is_extended.false within same
     (c.push-2.ensures.grown cx.tables.ranges.now list)) in
-    subst (λ (x : Bool). (S x (position a.state.now)).fault (rest list a.state.now) (fault_of root.new.state) ⊎ IsUnsupported cx root.new.state)
+    subst (λ (x : Bool). (S x (position a.state.now)).fault (rest list a.state.now) (fault_of root.new.state))
     (sym c.if-not-is_extensible.false)
     (fails_on cx (S true) RX a.state.now now.state root.new.state a.parts.now now.parts root.new.parts begun
-    (elim (by_false cx R1 now.state root.new.state now.parts root.new.parts root.result c.if-not-decode_root.true root.ensures.did) [
-      | inl w ↦ inl (inl w)
-      | inr u ↦ inr u
-    ]))
+    (inl (by_false cx R1 now.state root.new.state now.parts root.new.parts root.result c.if-not-decode_root.true root.ensures.did)))
 
 pub decode_sequence-returns-clause-did : goal.sequence::decode_sequence-returns-clause-did
 decode_sequence-returns-clause-did t c =

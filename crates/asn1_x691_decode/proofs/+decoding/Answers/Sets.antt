@@ -30,11 +30,8 @@ decode_set_items-returns-then-not-decode_item-clause-did t c =
     let before : List Bool = bits_at (bits cx.octets.now) l.before (l.state.at - l.before) in
     fails_on cx (set.I cx a.depth a.node a.item [] a.count) (set.I cx a.depth a.node a.item before l.left) a.state.now l.state one.new.state
     a.parts.now l.parts one.new.parts l.invariant.3
-    (elim (by_false cx (set.O cx a.depth a.node a.item before) l.state one.new.state l.parts one.new.parts one.result c.if-not-decode_item.true one.ensures.did) [
-      | inl w ↦ inl (set.item_fault cx a.depth a.node a.item before l.left (position l.state) (rest (bits cx.octets.now) l.state) (fault_of one.new.state)
-          (omega (arith, c.loop-left-test.true)) w)
-      | inr u ↦ inr u
-    ])
+    (set.item_fault cx a.depth a.node a.item before l.left (position l.state) (rest (bits cx.octets.now) l.state) (fault_of one.new.state)
+    (omega (arith, c.loop-left-test.true)) (by_false cx (set.O cx a.depth a.node a.item before) l.state one.new.state l.parts one.new.parts one.result c.if-not-decode_item.true one.ensures.did))
 
 pub decode_set_items-loop-left-init : goal.set::decode_set_items-loop-left-init
 decode_set_items-loop-left-init t c =
@@ -88,11 +85,8 @@ decode_item-returns-then-not-decode_node-clause-did t c =
     let cx = c.args.context.now in
     let a = c.args in
     let one = c.decode_node in
-    elim (by_false cx (λ at. (types cx a.depth a.item at).encoding) a.state.now one.new.state a.parts.now one.new.parts one.result
-    c.if-not-decode_node.true one.ensures.did) [
-      | inl w ↦ inl (inl (inl w))
-      | inr u ↦ inr u
-    ]
+    inl (inl (by_false cx (λ at. (types cx a.depth a.item at).encoding) a.state.now one.new.state a.parts.now one.new.parts one.result
+    c.if-not-decode_node.true one.ensures.did))
 
 pub decode_item-returns-then-is_off_octet-clause-did : goal.set::decode_item-returns-then-is_off_octet-clause-did
 decode_item-returns-then-is_off_octet-clause-did t c =
@@ -104,7 +98,7 @@ decode_item-returns-then-is_off_octet-clause-did t c =
     let before : List Bool = bits_at list a.before (a.state.now.at - a.before) in
     let d = by_true cx (λ at. (types cx a.depth a.item at).encoding) a.state.now one.new.state a.parts.now one.new.parts one.result
     c.if-not-decode_node.false one.ensures.did in
-    inl (inl (other_fault cx (λ l. IsOffOctet true cx.is_aligned before at) Unsupported misfit.Unsupported a.node (types cx a.depth a.item at)
+    inl ((other_fault cx (λ l. IsOffOctet true cx.is_aligned before at) Unsupported misfit.Unsupported a.node (types cx a.depth a.item at)
     a.state.now one.new.state c.fail.new.state a.parts.now one.new.parts d
     ((c.is_off_octet.ensures before
     (front_length list a.before (a.state.now.at - a.before)
@@ -136,7 +130,7 @@ decode_item-returns-then-is_before-clause-did t c =
     let less : bits_cmp d.starts.front before ≡ Less =
     subst (λ (l : List Bool). bits_cmp l before ≡ Less) (sym bs) (c.is_before.ensures.0 c.if-is_before.true) in
     let Off : List Bool → Type 0 = λ l. IsOffOctet true cx.is_aligned before at in
-    inl (other_fault cx (λ l. IsMisplaced cx.is_aligned (λ n. types cx a.depth a.item n) before at l) NotAscending misfit.NotAscending a.node
+    (other_fault cx (λ l. IsMisplaced cx.is_aligned (λ n. types cx a.depth a.item n) before at l) NotAscending misfit.NotAscending a.node
     (except_type Off Unsupported misfit.Unsupported a.node A) s one.new.state c.fail-then-is_before.new.state a.parts.now one.new.parts
     (other_decoded cx Off Unsupported misfit.Unsupported a.node A s one.new.state a.parts.now one.new.parts d on)
     (set.misplaced_item cx a.depth a.item s a.before d.parts d.starts.front c.requires.within c.requires.before on d.starts.encoded less)
