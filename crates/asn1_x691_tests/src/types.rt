@@ -81,7 +81,6 @@ impl Types {
     /// Adds ranges of characters, as `32-32.48-57`.
     fn add_ranges(&mut self, alloc: Global, text: &str) -> Result<Rows, RowError> {
         let from = self.ranges.len();
-        let mut count = 0;
         for range in text.split('.') {
             let Some((first, last)) = range.split_once('-') else {
                 return Err(wrong(alloc, text, "ranges of characters"));
@@ -89,8 +88,8 @@ impl Types {
             let first = parse_word::<u32>(alloc, first)?;
             let last = parse_word::<u32>(alloc, last)?;
             self.ranges.push(Range { first, last })?;
-            count += 1;
         }
+        let count = self.ranges.len().saturating_sub(from);
         Ok(Rows {
             from,
             count: small(alloc, count)?,
@@ -100,21 +99,22 @@ impl Types {
     /// Adds the bits of a word, from an octet on.
     fn add_bits(&mut self, bits: &str) -> Result<Span, RowError> {
         let at = self.default_octets.len().saturating_mul(8);
-        let mut count = 0;
-        let mut octet = 0_u8;
+        let (mut octet, mut mask) = (0_u8, 0x80_u8);
         for bit in bits.chars() {
-            let mask = 0x80_u8.wrapping_shr(count as u32 % 8);
             if bit == '1' {
                 octet |= mask;
             }
-            count += 1;
-            if mask == 1 {
+            mask /= 2;
+            if mask == 0 {
                 self.default_octets.push(octet)?;
-                octet = 0;
+                (octet, mask) = (0, 0x80);
             }
         }
         self.default_octets.push(octet)?;
-        Ok(Span { at, count })
+        Ok(Span {
+            at,
+            count: bits.len(),
+        })
     }
 
     /// Adds the encodings of a default value, as `101`, or eight of them with dots between.
