@@ -1,0 +1,16 @@
+//! Writes the fields of the packed encoding rules (X.691): numbers, lengths and strings.
+//!
+//! `specs/Written` says what octets hold and what a call wrote.
+#![tactic(auto)]
+
+mod bits;
+mod heads;
+mod lengths;
+mod numbers;
+mod unbounded;
+
+pub use bits::{after, put_bits, put_number, put_wide};
+pub use heads::put_start;
+pub use lengths::{put_length, put_small_length};
+pub use numbers::put_constrained;
+pub use unbounded::{put_semi_constrained, put_small_number, put_unconstrained};
