@@ -1,3 +1,4 @@
 -- Lemmas of the proofs.
+pub mod FragmentLemmas
 pub mod WidthLemmas
 pub mod WordLemmas

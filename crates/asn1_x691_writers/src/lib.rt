@@ -7,10 +7,12 @@ mod bits;
 mod heads;
 mod lengths;
 mod numbers;
+mod strings;
 mod unbounded;
 
 pub use bits::{after, put_bits, put_number, put_wide};
 pub use heads::put_start;
 pub use lengths::{put_length, put_small_length};
 pub use numbers::put_constrained;
+pub use strings::put_units;
 pub use unbounded::{put_semi_constrained, put_small_number, put_unconstrained};
