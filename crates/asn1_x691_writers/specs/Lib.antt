@@ -1,10 +1,14 @@
 -- What a call wrote.
 pub mod Written
 pub mod Units
+pub mod Put
 -- What follows of what calls wrote; no contract cites it.
 pub mod FieldSteps
 pub mod GrownSteps
+pub mod LeafSteps
 pub mod LengthSteps
 pub mod NumberSteps
+pub mod PutSteps
 pub mod SignedSteps
+pub mod SizeSteps
 pub mod StringSteps

@@ -4,15 +4,25 @@
 #![tactic(auto)]
 
 mod bits;
+mod booleans;
 mod heads;
 mod lengths;
 mod numbers;
+mod octet_strings;
+mod sized_strings;
+mod spans;
+mod state;
 mod strings;
 mod unbounded;
 
 pub use bits::{after, put_bits, put_number, put_wide};
+pub use booleans::{put_bit, put_boolean};
 pub use heads::put_start;
 pub use lengths::{put_length, put_small_length};
 pub use numbers::put_constrained;
+pub use octet_strings::put_octet_string;
+pub use sized_strings::{is_of_root, put_added_string, put_string_of};
+pub use spans::clip;
+pub use state::{Rejection, Writer, reject};
 pub use strings::put_units;
 pub use unbounded::{put_semi_constrained, put_small_number, put_unconstrained};
