@@ -30,9 +30,9 @@ octets_minimal n count is =
       fewest = elim (cases_lt 1 count) [
         | inr le ↦ inl le
         | inl lt ↦ elim (cases_lt n (2 ^ (8 * (count - 1)))) [
-            | inl small ↦ absurd (let w = width_fewest n (8 * (count - 1)) small in omega (arith, w, is, lt))
-            | inr le ↦ inr le
-          ]
+          | inl small ↦ absurd (let w = width_fewest n (8 * (count - 1)) small in omega (arith, w, is, lt))
+          | inr le ↦ inr le
+        ]
       ];
     }
 
@@ -52,9 +52,9 @@ signed_octets u count is =
       fewest = elim (cases_lt 1 count) [
         | inr le ↦ inl le
         | inl lt ↦ elim (cases_lt u (2 ^ (8 * count - 9))) [
-            | inl small ↦ absurd (let w = width_fewest u (8 * count - 9) small in omega (arith, w, is, lt))
-            | inr le ↦ inr le
-          ]
+          | inl small ↦ absurd (let w = width_fewest u (8 * count - 9) small in omega (arith, w, is, lt))
+          | inr le ↦ inr le
+        ]
       ];
     }
 

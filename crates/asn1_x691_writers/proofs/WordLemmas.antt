@@ -1,12 +1,12 @@
 -- A number after the first bits of an octet, in a word.
-use Rattle.std.proofs.Common.{◌≡◌, ℕ, suc, ◌+◌, ◌-◌, ◌*◌, ◌/◌, ◌%◌, ◌^◌, ◌<◌, ◌≤◌, List, [], ◌∷◌, ◌++◌, Bool, false, length, get_or, take, drop, replicate, refl, sym, ap, ◌∙◌, arith, append_assoc}
+use Rattle.std.proofs.Common.{◌≡◌, ℕ, suc, ◌+◌, ◌-◌, ◌*◌, ◌/◌, ◌%◌, ◌^◌, ◌<◌, ◌≤◌, List, ◌∷◌, ◌++◌, Bool, false, length, get_or, take, drop, replicate, refl, sym, ap, ◌∙◌, arith, append_assoc}
 use Rattle.std.proofs.Math.Nat.{mod-eq_of_lt}
 use Rattle.std.proofs.Math.Pow.{pow_mono}
 use Rattle.std.proofs.Math.Seq.{take-add, drop-cons}
-use Rattle.std.proofs.lemmas.List.{length-append, length-take-le, take_at, append-nil}
+use Rattle.std.proofs.lemmas.List.{length-append, length-take-le, take_at}
 use Rattle.std.proofs.lemmas.Nat.{div-mul-add, mul-add-lt, shl_below, pow-add, pow_pos, div_below}
 use Rattle.asn1_bits.specs.Bits.{bits, digits, overwritten}
-use Rattle.asn1_bits.specs.DigitLaws.{length-digits, length-bits, bits-drop}
+use Rattle.asn1_bits.specs.DigitLaws.{length-digits, bits-drop}
 use Rattle.asn1_bits.specs.NumberLaws.{digits-append, digits-low}
 use Rattle.asn1_bits.proofs.WindowLemmas.{shifted-digits}
 
@@ -101,8 +101,16 @@ module _ (octet value shift width : ℕ) (few : shift < 8) (small : width ≤ 57
       let B = digits before shift in
       let C = digits value width in
       let size : length ((A ++ B) ++ C) ≡ n =
-      omega (arith, length-append (A ++ B) C, length-append A B, length-take-le whole was inside, length-digits before shift,
-      length-digits value width, is, after) in
+      omega (
+        arith,
+        length-append (A ++ B) C,
+        length-append A B,
+        length-take-le whole was inside,
+        length-digits before shift,
+        length-digits value width,
+        is,
+        after,
+      ) in
       ap (λ (l : List Bool). take n l)
       (e ∙ ap (λ (k : ℕ). overwritten was whole (digits k 64)) same
       ∙ ap (λ (l : List Bool). A ++ (l ++ rest)) word_digits

@@ -1,13 +1,12 @@
 -- What follows of fields that were written one after another.
-use Rattle.std.proofs.Common.{◌≡◌, ℕ, ◌+◌, ◌*◌, ◌-◌, ◌%◌, ◌^◌, ◌<◌, ◌≤◌, List, [], ◌++◌, Bool, true, false, length, refl, sym, ap, ◌∙◌, subst, inl, inr, arith}
-use Rattle.std.specs.Prelude.{⊤}
+use Rattle.std.proofs.Common.{◌≡◌, ℕ, ◌+◌, ◌-◌, ◌%◌, ◌^◌, ◌<◌, List, [], ◌++◌, Bool, true, false, length, refl, sym, ap, inl, inr, arith}
 use Rattle.std.proofs.lemmas.List.{append-nil}
 use Rattle.std.proofs.lemmas.Nat.{pow_pos}
 use Rattle.asn1_bits.specs.Bits.{digits}
-use Rattle.asn1_schema.specs.Encodings.{Encoding, InSequence, number, anywhere, then, in_turn, in_case}
+use Rattle.asn1_schema.specs.Encodings.{Encoding, number, anywhere, then, in_turn, in_case}
 use Rattle.asn1_x691.specs.declared.fault.FaultKind.{FaultKind}
-use Rattle.asn1_x691.specs.Fields.{zeros, to_octet, on_octet}
-use Rattle.asn1_x691_writers.specs.Written.{IsIndex, IsGrown, IsAlike, IsWritten, start_of}
+use Rattle.asn1_x691.specs.Fields.{to_octet, on_octet}
+use Rattle.asn1_x691_writers.specs.Written.{IsGrown, IsAlike, IsWritten, start_of}
 use Rattle.asn1_x691_writers.specs.GrownSteps.{index_octet, grown_both}
 
 pub number_written : (aligned : Bool) (width node : ℕ) (kind : FaultKind) (n : ℕ) (was now : List ℕ) (old new : ℕ) → n < 2 ^ width

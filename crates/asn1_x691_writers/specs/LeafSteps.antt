@@ -1,6 +1,5 @@
 -- What follows for types of one part.
-use Rattle.std.proofs.Common.{◌≡◌, ℕ, ◌+◌, List, [], ◌∷◌, ◌++◌, Bool, true, false, length, refl, sym, ap, ◌∙◌, subst, inl, inr, append-nil}
-use Rattle.asn1_schema.specs.declared.misfit.MisfitKind.{MisfitKind}
+use Rattle.std.proofs.Common.{◌≡◌, ℕ, ◌+◌, List, [], ◌∷◌, Bool, length, refl, sym, subst, inl, inr, append-nil}
 use Rattle.asn1_schema.specs.declared.misfit.MisfitKind.TheVariants.{OtherPart, NoEncoding}
 use Rattle.asn1_schema.specs.Pieces.{Piece, Parts}
 use Rattle.asn1_schema.specs.Fields.{raw_bits}

@@ -2,9 +2,13 @@
 pub mod Written
 pub mod Units
 pub mod Put
+pub mod Held
 -- What follows of what calls wrote; no contract cites it.
+pub mod DigitSteps
+pub mod EnumeratedSteps
 pub mod FieldSteps
 pub mod GrownSteps
+pub mod IntegerSteps
 pub mod LeafSteps
 pub mod LengthSteps
 pub mod NumberSteps

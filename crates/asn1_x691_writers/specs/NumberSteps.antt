@@ -1,5 +1,5 @@
 -- What follows of numbers that were written.
-use Rattle.std.proofs.Common.{◌≡◌, ◌≢◌, ℕ, ◌<◌, ◌≤◌, List, Bool, true, false, refl, arith}
+use Rattle.std.proofs.Common.{◌≡◌, ◌≢◌, ℕ, ◌<◌, ◌≤◌, List, Bool, true, false, refl}
 use Rattle.asn1_schema.specs.Encodings.{anywhere, in_case}
 use Rattle.asn1_x691.specs.Fields.{on_octet, width_to, in_bits, indefinite, constrained}
 use Rattle.asn1_x691_writers.specs.Written.{IsWritten}

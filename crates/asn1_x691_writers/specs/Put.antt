@@ -3,7 +3,7 @@ use Rattle.std.specs.Prelude.{◌≡◌, ℕ, ℤ, ◌^◌, ◌≤◌, ◌⊎◌
 use Rattle.asn1_bits.specs.Bits.{bits}
 use Rattle.asn1_schema.specs.declared.misfit.MisfitKind.{MisfitKind}
 use Rattle.asn1_schema.specs.declared.part.Part.{Part}
-use Rattle.asn1_schema.specs.Pieces.{Piece, Integer, Parts}
+use Rattle.asn1_schema.specs.Pieces.{Piece, Integer, UnknownEnumerated, Parts}
 use Rattle.asn1_schema.specs.PiecesOfParts.{piece_of}
 use Rattle.asn1_schema.specs.TypeEncodings.{TypeEncoding}
 use Rattle.asn1_x691.specs.declared.fault.FaultKind.{FaultKind}
@@ -22,13 +22,19 @@ pub record IsMisfit (T : ℕ → TypeEncoding FaultKind) (p : Piece) (new : Writ
   pub reason : new.reason ≡ Misfit kind
   pub first : (at : ℕ) (rest : Parts) → (T at).misfit (p ∷ rest) (record { node = new.node; left = length (p ∷ rest); kind = kind })
 
--- ---- what is not written yet: numbers outside -2^127 to 2^127 - 1
+-- ---- what is not written yet
+
+-- a number outside -2^127 to 2^127 - 1
+abbrev pub IsFarInteger : Piece → Type 0
+IsFarInteger p = (z : ℤ) × (p ≡ Integer z) × (2 ^ 127 ≤ distance z)
+
+-- an unknown enumeral of an index from 2^128 on
+abbrev pub IsFarIndex : Piece → Type 0
+IsFarIndex p = (n : ℕ) × (p ≡ UnknownEnumerated n) × (2 ^ 128 ≤ n)
 
 pub record IsUnsupported (p : Piece) (new : Writer) : Type 0 where
   pub reason : new.reason ≡ Unsupported
-  pub number : ℤ
-  pub is : p ≡ Integer number
-  pub far : 2 ^ 127 ≤ distance number
+  pub far : IsFarInteger p ⊎ IsFarIndex p
 
 pub record IsUnchanged (was : List ℕ) (old : Writer) (now : List ℕ) (new : Writer) : Type 0 where
   pub octets : now ≡ was

@@ -6,7 +6,7 @@ use Rattle.asn1_schema.specs.TypeEncodings.{TypeEncoding}
 use Rattle.asn1_x691.specs.declared.fault.FaultKind.{FaultKind}
 use Rattle.asn1_x691_writers.specs.declared.state.Writer.{Writer}
 use Rattle.asn1_x691_writers.specs.declared.state.Rejection.TheVariants.{Misfit}
-use Rattle.asn1_x691_writers.specs.Put.{IsPut, IsMisfit}
+use Rattle.asn1_x691_writers.specs.Put.{IsPut}
 
 pub rejected : (aligned : Bool) (T : ℕ → TypeEncoding FaultKind) (p : Piece) (octets : List ℕ) (old new : Writer) (r : Bool) (node : ℕ)
     (kind : MisfitKind) → r ≡ false → new.at ≡ old.at → new.next ≡ old.next → new.node ≡ node → new.reason ≡ Misfit kind

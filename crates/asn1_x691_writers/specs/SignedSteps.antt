@@ -4,9 +4,9 @@ use Rattle.std.specs.Prelude.{◌⊎◌}
 use Rattle.std.proofs.Math.Nat.{pow-suc}
 use Rattle.asn1_schema.specs.Encodings.{number, anywhere}
 use Rattle.asn1_x691.specs.declared.fault.FaultKind.TheVariants.{Short}
-use Rattle.asn1_x691.specs.Fields.{signed_of, signed_octets, below_minus_one, with_sign}
+use Rattle.asn1_x691.specs.Fields.{signed_of, signed_octets, below_minus_one}
 use Rattle.asn1_x691_fields.specs.Numbers.{distance}
-use Rattle.asn1_x691_writers.specs.Written.{IsGrown, IsWritten}
+use Rattle.asn1_x691_writers.specs.Written.{IsWritten}
 use Rattle.asn1_x691_writers.specs.FieldSteps.{then_constant}
 
 -- the digits of two's complement are those of the value

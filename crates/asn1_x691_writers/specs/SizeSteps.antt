@@ -1,13 +1,19 @@
 -- Which strings have no encoding.
-use Rattle.std.proofs.Common.{◌≡◌, ℕ, ◌+◌, ◌*◌, List, Bool, true, false, length, ◌∙◌, ap, inl, inr}
+use Rattle.std.proofs.Common.{◌≡◌, ℕ, ◌+◌, ◌*◌, List, Bool, true, false, length, refl, ◌∙◌, ap, inl, inr}
+use Rattle.std.specs.Prelude.{◌⊎◌}
 use Rattle.asn1_schema.specs.declared.tables.Length.{Length}
 use Rattle.asn1_schema.specs.declared.tables.Length.TheVariants.{AtLeast, Between}
-use Rattle.asn1_schema.specs.Encodings.{CanEncode}
+use Rattle.asn1_schema.specs.Encodings.{Encoding, CanEncode, anywhere, cases, constant, invalid}
 use Rattle.asn1_schema.specs.Fields.{raw_bits}
 use Rattle.asn1_schema.specs.Laws.OneEncodingLaws.{only_constant}
-use Rattle.asn1_x691.specs.declared.fault.FaultKind.TheVariants.{Short, BelowLeast}
+use Rattle.asn1_schema.specs.Laws.PermittedLaws.{permitted_is, permitted_of}
+use Rattle.asn1_x691.specs.declared.fault.FaultKind.{FaultKind}
+use Rattle.asn1_x691.specs.declared.fault.FaultKind.TheVariants.{Short, BelowLeast, NotTrimmed}
 use Rattle.asn1_x691.specs.Fragments.{most_fragments}
-use Rattle.asn1_x691.specs.Strings.{IsAddedSize, units_of, string_of}
+use Rattle.asn1_x691.specs.Strings.{IsOfRoot, IsAddedSize, units_of, string_of}
+use Rattle.asn1_x691.specs.Leaves.{AreTrimmed, bits_by}
+use Rattle.asn1_x691_writers.specs.Written.{IsWritten}
+use Rattle.asn1_x691_writers.specs.FieldSteps.{turn_constant}
 use Rattle.asn1_x691.specs.Laws.FragmentLaws.{all_held}
 use Rattle.asn1_x691.specs.Laws.OneEncodingLaws.{inner}
 use Rattle.asn1_x691.specs.Laws.StringLaws.{string_is_not_added}
@@ -32,3 +38,31 @@ module _ (aligned : Bool) (unit node : ℕ) where
   pub none_of_root : (apart : (m n : ℕ) → unit * m ≡ unit * n → m ≡ n) (size : Length) (n at : ℕ) (x : List Bool) → length x ≡ unit * n
       → IsAddedSize size n → CanEncode (string_of aligned unit size node at).encodes x → ⊥
   none_of_root apart size n at x e added p = string_is_not_added aligned unit node apart size at x p.list p.encoded (n, e, added)
+
+pub root_or_added : (size : Length) (n : ℕ) (b : Bool) → (b ≡ true → IsOfRoot size n) → (b ≡ false → IsAddedSize size n)
+    → IsOfRoot size n ⊎ IsAddedSize size n
+root_or_added size n true f g = inl (f refl)
+root_or_added size n false f g = inr (g refl)
+
+-- ---- bits that have names, or have none
+
+module _ (aligned : Bool) (node : ℕ) (size : Length) (A : ℕ → Encoding FaultKind (List Bool)) (list : List Bool) where
+  pub named_written : (names : Bool) (was now : List ℕ) (old new : ℕ) → (names ≡ true → AreTrimmed size list)
+      → IsWritten aligned A list was old now new → IsWritten aligned (bits_by aligned node names size A) list was old now new
+  named_written false was now old new is a = a
+  named_written true was now old new is a =
+      turn_constant aligned was now old new A (λ x y. y)
+      (λ x. anywhere (cases (AreTrimmed size x) (constant x) (AreTrimmed size x → ⊥) (invalid NotTrimmed node))) list list a
+      (λ p. inl (is refl, (refl, refl)))
+
+  pub named_none : (names : Bool) (at : ℕ) → (names ≡ true) × (AreTrimmed size list → ⊥)
+      → CanEncode (bits_by aligned node names size A at).encodes list → ⊥
+  named_none false at q p = let e : false ≡ true = q.0 in absurd cc
+  named_none true at q p = q.1 (permitted_is (AreTrimmed size) (λ bits. ¬ (AreTrimmed size bits)) NotTrimmed node A at list p.list p.encoded)
+
+  pub unnamed_none : (names : Bool) (at : ℕ) → (CanEncode (A at).encodes list → ⊥)
+      → CanEncode (bits_by aligned node names size A at).encodes list → ⊥
+  unnamed_none false at f p = f p
+  unnamed_none true at f p =
+      let q = permitted_of (AreTrimmed size) (λ bits. ¬ (AreTrimmed size bits)) NotTrimmed node A at list p.list p.encoded in
+      f (record { list = q.0; encoded = q.1 })

@@ -1,15 +1,13 @@
 -- What follows of units that were written, in fragments too.
-use Rattle.std.proofs.Common.{◌≡◌, ℕ, suc, ◌+◌, ◌*◌, ◌-◌, ◌^◌, ◌<◌, ◌≤◌, List, [], ◌++◌, Bool, length, take, drop, refl, sym, ap, ◌∙◌, subst, inl, inr, arith}
-use Rattle.std.specs.Prelude.{◌⊎◌}
+use Rattle.std.proofs.Common.{◌≡◌, ℕ, suc, ◌+◌, ◌<◌, ◌≤◌, List, ◌++◌, Bool, length, take, drop, refl, ap, ◌∙◌, arith}
 use Rattle.std.proofs.Math.Seq.{take-add}
 use Rattle.std.proofs.lemmas.List.{drop-drop}
-use Rattle.asn1_schema.specs.Encodings.{Encoding, constant, invalid, anywhere, in_turn, in_case}
+use Rattle.asn1_schema.specs.Encodings.{Encoding, constant, invalid, anywhere, in_case}
 use Rattle.asn1_schema.specs.Fields.{raw_bits}
 use Rattle.asn1_schema.specs.PiecesOfParts.{bits_at}
 use Rattle.asn1_x691.specs.declared.fault.FaultKind.{FaultKind}
 use Rattle.asn1_x691.specs.declared.fault.FaultKind.TheVariants.{Short, NotMinimal}
 use Rattle.asn1_x691.specs.Fragments.{units_next, bits_of_units, units, units_then, last_units, all_units}
-use Rattle.asn1_x691_fields.specs.Steps.{front_length}
 use Rattle.asn1_x691_writers.specs.Written.{IsGrown, IsWritten}
 use Rattle.asn1_x691_writers.specs.Units.{AreUnits}
 use Rattle.asn1_x691_writers.specs.FieldSteps.{turn_written, turn_constant, first_written, second_written}

@@ -100,7 +100,7 @@ pub fn put_bits(octets: &mut [u8], at: usize, source: &[u8], from: usize, count:
 }
 
 /// Returns the number of `count` bits, at most 57.
-fn read_few(source: &[u8], from: usize, count: usize) -> u64
+pub(crate) fn read_few(source: &[u8], from: usize, count: usize) -> u64
     requires count { count ≤ 57 }
     requires within { from + count ≤ 8 * length source.now }
     ensures digits { digits result count ≡ take count (drop from (bits source.now)) }

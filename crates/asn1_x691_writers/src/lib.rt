@@ -3,9 +3,13 @@
 //! `specs/Written` says what octets hold and what a call wrote.
 #![tactic(auto)]
 
+mod bit_strings;
 mod bits;
 mod booleans;
+mod enumerations;
 mod heads;
+mod held;
+mod integers;
 mod lengths;
 mod numbers;
 mod octet_strings;
@@ -15,14 +19,17 @@ mod state;
 mod strings;
 mod unbounded;
 
+pub use bit_strings::put_bit_string;
 pub use bits::{after, put_bits, put_number, put_wide};
 pub use booleans::{put_bit, put_boolean};
+pub use enumerations::put_enumerated;
 pub use heads::put_start;
+pub use integers::{put_integer, put_integer_at_least, put_integer_between};
 pub use lengths::{put_length, put_small_length};
 pub use numbers::put_constrained;
 pub use octet_strings::put_octet_string;
 pub use sized_strings::{is_of_root, put_added_string, put_string_of};
 pub use spans::clip;
-pub use state::{Rejection, Writer, reject};
+pub use state::{Rejection, Writer, leave, reject};
 pub use strings::put_units;
 pub use unbounded::{put_semi_constrained, put_small_number, put_unconstrained};

@@ -36,7 +36,13 @@ fn put_in_bits(octets: &mut [u8], at: usize, n: u128, width: usize) -> usize
 /// Writes a constrained whole number from 0 to `range`, the distance of the greatest from the least
 /// (X.691 11.5.6, 11.5.7). Returns the index after it.
 #[inline(always)]
-pub fn put_constrained(octets: &mut [u8], at: usize, is_aligned: bool, range: u128, n: u128) -> usize
+pub fn put_constrained(
+    octets: &mut [u8],
+    at: usize,
+    is_aligned: bool,
+    range: u128,
+    n: u128,
+) -> usize
     requires size { 8 * length octets.old < 2 ^ 64 }
     requires most { n ≤ range }
     ensures { (node : ℕ) → IsWritten is_aligned (constrained is_aligned range node) n octets.old at octets.new result }

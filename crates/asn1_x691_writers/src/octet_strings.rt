@@ -66,7 +66,9 @@ fn put_octets_of_root(
     if !is_of_root(size, count) {
         return reject(state, node, MisfitKind::NoEncoding);
     }
-    state.at = put_string_of(octets, state.at, is_aligned, 8, size, source, span.at, count);
+    state.at = put_string_of(
+        octets, state.at, is_aligned, 8, size, source, span.at, count,
+    );
     true
 }
 

@@ -44,10 +44,20 @@ pub fn put_string_of(
         octets.old at octets.new result }
 {
     match size {
-        Length::AtLeast { least: _ } => put_units(octets, at, is_aligned, unit, source, from, count),
+        Length::AtLeast { least: _ } => put_units(
+            octets, at, is_aligned, unit, source, from, count,
+        ),
         Length::Between { least, range } => {
-            let after = put_constrained(octets, at, is_aligned, range as u128, (count - least) as u128);
-            put_units_of(octets, after, is_aligned, unit, least, range, source, from, count)
+            let after = put_constrained(
+                octets,
+                at,
+                is_aligned,
+                range as u128,
+                (count - least) as u128,
+            );
+            put_units_of(
+                octets, after, is_aligned, unit, least, range, source, from, count,
+            )
         }
     }
 }

@@ -1,7 +1,7 @@
 //! Where an encoder is, and why it stopped.
 
 ghost use Rattle.std.specs.Prelude.{◌≡◌, false};
-ghost use Rattle.asn1_x691_writers.specs.declared.state.Rejection.TheVariants.{Misfit};
+ghost use Rattle.asn1_x691_writers.specs.declared.state.Rejection.TheVariants.{Misfit, Unsupported};
 
 use asn1_schema::MisfitKind;
 
@@ -10,7 +10,8 @@ use asn1_schema::MisfitKind;
 pub enum Rejection {
     /// The part has no encoding.
     Misfit(MisfitKind),
-    /// The part may have an encoding, which is not written yet: an INTEGER outside -2^127 to 2^127 - 1.
+    /// The part may have an encoding, which is not written yet: an INTEGER outside -2^127 to
+    /// 2^127 - 1, or an unknown value of an ENUMERATED whose index is 2^128 or more.
     Unsupported,
 }
 
@@ -39,5 +40,18 @@ pub fn reject(state: &mut Writer, node: usize, kind: MisfitKind) -> bool
 {
     state.node = node;
     state.reason = Rejection::Misfit(kind);
+    false
+}
+
+/// Leaves the next part, whose number is too large for this encoder. Returns false.
+#[cold]
+pub fn leave(state: &mut Writer, node: usize) -> bool
+    ensures result { result ≡ false }
+    ensures at { state.new.at ≡ state.old.at }
+    ensures next { state.new.next ≡ state.old.next }
+    ensures reason { state.new.reason ≡ Unsupported }
+{
+    state.node = node;
+    state.reason = Rejection::Unsupported;
     false
 }

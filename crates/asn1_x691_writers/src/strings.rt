@@ -106,7 +106,15 @@ fn put_last_units(
     }
     let after = put_fragment(octets, at, is_aligned, unit, source, from, times);
     let first = unit * (16384 * times);
-    put_few(octets, after, is_aligned, unit, source, from + first, count % 16384)
+    put_few(
+        octets,
+        after,
+        is_aligned,
+        unit,
+        source,
+        from + first,
+        count % 16384,
+    )
 }
 
 /// Writes 16,384 units and more, the largest fragments first.

@@ -1,4 +1,4 @@
-use Rattle.std.proofs.Common.{◌≡◌, ℕ, ◌+◌, ◌*◌, ◌<◌, List, length, take, drop, subst, ap, sym, ◌∙◌, arith}
+use Rattle.std.proofs.Common.{◌≡◌, ℕ, ◌+◌, ◌*◌, ◌<◌, length, take, drop, subst, ap, ◌∙◌, arith}
 use Rattle.asn1_bits.specs.Bits.{bits, overwritten}
 use Rattle.asn1_bits.specs.View.{list_of}
 use Rattle.asn1_bits.specs.DigitLaws.{length-bits}

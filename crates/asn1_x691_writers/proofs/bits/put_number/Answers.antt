@@ -1,5 +1,4 @@
-use Rattle.std.proofs.Common.{◌≡◌, ℕ, ◌+◌, ◌*◌, ◌/◌, ◌%◌, ◌^◌, ◌<◌, List, length, subst, sym, ap, ◌∙◌, arith, ◌-◌, ◌≤◌, ◌++◌, take}
-use Rattle.std.specs.Prelude.{Bool}
+use Rattle.std.proofs.Common.{◌≡◌, ℕ, ◌+◌, ◌*◌, ◌/◌, ◌%◌, ◌^◌, ◌<◌, length, subst, sym, ap, ◌∙◌, arith, ◌-◌, ◌≤◌, ◌++◌, take}
 use Rattle.asn1_bits.specs.Bits.{bits, digits}
 use Rattle.asn1_bits.specs.DigitLaws.{length-bits, length-digits}
 use Rattle.std.proofs.Math.Nat.{mod-eq_of_lt}

@@ -1,4 +1,4 @@
-use Rattle.std.proofs.Common.{◌≡◌, ◌-◌, ◌≤◌, ◌+◌, ◌/◌, arith}
+use Rattle.std.proofs.Common.{◌≡◌, ◌+◌, ◌/◌, arith}
 use Rattle.asn1_x691.specs.Fields.{width_to, octets_needed}
 use Rattle.asn1_x691_writers.proofs.WidthLemmas.{octets_minimal, octets_mono}
 use Rattle.asn1_x691_writers.proofs.numbers.octets_of.Goals as goal

@@ -1,6 +1,6 @@
-use Rattle.std.proofs.Common.{◌≡◌, ℕ, ◌^◌, ◌<◌, true, false, sym, subst, ◌∙◌, inl, inr, arith}
+use Rattle.std.proofs.Common.{◌≡◌, ℕ, ◌^◌, ◌<◌, true, false, sym, subst, ◌∙◌, inl, inr}
 use Rattle.asn1_schema.specs.Encodings.{anywhere}
-use Rattle.asn1_x691.specs.Fields.{width_to, in_bits}
+use Rattle.asn1_x691.specs.Fields.{in_bits}
 use Rattle.asn1_x691_writers.specs.Written.{IsWritten}
 use Rattle.asn1_x691_writers.specs.NumberSteps.{constrained_in_bits, constrained_on_octet}
 use Rattle.asn1_x691_writers.proofs.WidthLemmas.{width_enough}

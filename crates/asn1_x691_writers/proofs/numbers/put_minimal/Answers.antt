@@ -1,4 +1,4 @@
-use Rattle.std.proofs.Common.{◌≡◌, ◌-◌, ◌*◌, ◌^◌, ◌<◌, ◌≤◌, refl, inl, ℕ}
+use Rattle.std.proofs.Common.{◌-◌, ◌*◌, ◌^◌, ◌<◌, ◌≤◌, refl, inl, ℕ}
 use Rattle.std.specs.Prelude.{◌⊎◌}
 use Rattle.asn1_schema.specs.Encodings.{Encoding, number, constant, invalid, cases}
 use Rattle.asn1_x691.specs.declared.fault.FaultKind.{FaultKind}

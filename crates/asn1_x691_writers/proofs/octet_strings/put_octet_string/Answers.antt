@@ -1,5 +1,4 @@
-use Rattle.std.proofs.Common.{ℕ, List, Bool, true, sym, ap, ◌∙◌, subst}
-use Rattle.asn1_bits.specs.Bits.{bits}
+use Rattle.std.proofs.Common.{Bool, true, sym, ap, ◌∙◌, subst}
 use Rattle.asn1_schema.specs.Pieces.{Piece, Octets}
 use Rattle.asn1_x691.specs.Leaves.{octet_string}
 use Rattle.asn1_x691_writers.specs.Put.{IsPut, piece_in}
@@ -15,4 +14,3 @@ returns-then-is_extensible c =
     (subst
     (λ (p : Piece). IsPut c.args.is_aligned (T true) p c.args.octets.now c.args.state.now
     c.put_extensible.new.octets c.put_extensible.new.state c.put_extensible.result) (sym e) c.put_extensible.ensures)
-

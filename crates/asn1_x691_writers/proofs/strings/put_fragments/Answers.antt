@@ -1,4 +1,4 @@
-use Rattle.std.proofs.Common.{ℕ, ◌+◌, ◌*◌, ◌^◌, ◌<◌, ◌≤◌, length, arith}
+use Rattle.std.proofs.Common.{arith}
 use Rattle.asn1_bits.specs.Bits.{bits}
 use Rattle.asn1_x691_writers.proofs.FragmentLemmas.{fragmented_first, fragmented_next, fragmented_last, units_before}
 use Rattle.asn1_x691_writers.proofs.strings.put_fragments.Goals as goal

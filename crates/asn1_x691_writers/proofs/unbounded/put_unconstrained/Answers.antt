@@ -26,6 +26,6 @@ returns c node =
     (first_written aligned (0 < count) (count ≡ 0) (on_octet aligned node (signed_octets count node)) (anywhere (invalid NotMinimal node)) z
     mid now c.put_length-after.result new c.signed_octets_of-count.ensures.some
     (octet_written node (signed_octets count node) z mid next now c.put_length-after.result c.put_start-start.result new aligned
-    c.put_start-start.ensures 
+    c.put_start-start.ensures
     (subst (λ (x : ℤ). IsWritten aligned (anywhere (signed_octets count node)) x next c.put_start-start.result now new)
     (to_z-of_z w128 z c.ranges.z) (c.put_signed.ensures aligned node))))

@@ -1,10 +1,9 @@
-use Rattle.std.proofs.Common.{◌≡◌, ℕ, ◌+◌, ◌-◌, ◌*◌, ◌/◌, ◌^◌, ◌<◌, ◌≤◌, ap, sym, subst, ◌∙◌, arith}
+use Rattle.std.proofs.Common.{ℕ, ◌+◌, ◌-◌, ◌*◌, ◌/◌, ◌^◌, ◌<◌, ◌≤◌, ap, subst, ◌∙◌, arith}
 use Rattle.std.specs.Int.{w128}
 use Rattle.std.proofs.lemmas.Int.{to_z-of_z}
 use Rattle.std.specs.Prelude.{◌⊎◌}
-use Rattle.asn1_x691.specs.Fields.{width_to}
 use Rattle.asn1_x691_fields.specs.Numbers.{distance}
-use Rattle.asn1_x691_writers.proofs.WidthLemmas.{AreSigned, signed_octets, width_fewest}
+use Rattle.asn1_x691_writers.proofs.WidthLemmas.{signed_octets, width_fewest}
 use Rattle.asn1_x691_writers.proofs.unbounded.signed_octets_of.Goals as goal
 
 pub returns-clause-few : goal.returns-clause-few
