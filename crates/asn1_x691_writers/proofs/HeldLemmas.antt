@@ -4,6 +4,7 @@ use Rattle.std.specs.Int.{w128}
 use Rattle.std.specs.Prelude.{unsigned_abs, ◌+ℤ◌, ◌-ℤ◌, ◌<ℤ◌, ◌≤ℤ◌}
 use Rattle.std.proofs.lemmas.Int.{ints}
 use mathlib.Core.Bool.{not, beq}
+use Rattle.asn1_x691_fields.specs.Numbers.{distance}
 use Rattle.asn1_schema.specs.Pieces.{Integer}
 
 pub positive_far : (z : ℤ) → pos (2 ^ 127) ≤ℤ z → (u : ℕ) × (Integer z ≡ Integer (pos u)) × (2 ^ 127 ≤ u)
@@ -20,6 +21,10 @@ far_sum least n m f e h = let l = f.sfits in omega (arith, ints, l, e, h)
 pub near_sum : (least : ℤ) (n m : ℕ) → SFits w128 least → m ≡ unsigned_abs (pos (2 ^ 127 - 1) -ℤ least) → n ≤ m
     → (least +ℤ pos n) <ℤ pos (2 ^ 127)
 near_sum least n m f e h = let l = f.sfits in omega (arith, ints, l, e, h)
+
+pub not_far : (least z : ℤ) (n : ℕ) → z ≡ (least +ℤ pos n) → n ≡ 0 → SFits w128 least → 2 ^ 127 ≤ distance z → ⊥
+not_far least (pos u) n e none f far = let l = f.sfits in omega (arith, ints, e, none, l, far)
+not_far least (negsuc u) n e none f far = let l = f.sfits in omega (arith, ints, e, none, l, far)
 
 -- ---- two bits
 

@@ -41,7 +41,7 @@ one_first list at count some inside is =
 
 -- ---- two's complement
 
-same_sign : (b : Bool) (l : List Bool) → signed_number (b ∷ b ∷ l) ≡ signed_number (b ∷ l)
+pub same_sign : (b : Bool) (l : List Bool) → signed_number (b ∷ b ∷ l) ≡ signed_number (b ∷ l)
 same_sign false l =
     let e : number (false ∷ l) ≡ 0 * 2 ^ length l + number l = number-cons false l in
     ap pos (omega (arith, e))

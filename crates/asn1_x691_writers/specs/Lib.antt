@@ -6,6 +6,7 @@ pub mod Held
 -- What follows of what calls wrote; no contract cites it.
 pub mod DigitSteps
 pub mod EnumeratedSteps
+pub mod FarSteps
 pub mod FieldSteps
 pub mod GrownSteps
 pub mod IntegerSteps
@@ -15,4 +16,5 @@ pub mod NumberSteps
 pub mod PutSteps
 pub mod SignedSteps
 pub mod SizeSteps
+pub mod SpanSteps
 pub mod StringSteps

@@ -47,7 +47,7 @@ pub(crate) fn integer_of(source: &[u8], part: Part) -> Held
 }
 
 /// Returns the bit at an index.
-fn bit_at(source: &[u8], at: usize) -> bool
+pub(crate) fn bit_at(source: &[u8], at: usize) -> bool
     requires { at + 1 ≤ 8 * length source.now }
     ensures { bits_at (bits source.now) at 1 ≡ result ∷ [] }
 {
@@ -92,7 +92,7 @@ fn above_of(source: &[u8], least: i128, span: Span) -> Held
 }
 
 /// Returns a span of two's complement without the bits at its begin that repeat the sign.
-fn strip_signs(source: &[u8], span: Span) -> Span
+pub(crate) fn strip_signs(source: &[u8], span: Span) -> Span
     requires source { 8 * length source.now < 2 ^ 64 }
     requires inside { span.at + span.count ≤ 8 * length source.now }
     ensures inside { result.at + result.count ≤ 8 * length source.now }

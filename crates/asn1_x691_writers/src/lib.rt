@@ -32,4 +32,7 @@ pub use sized_strings::{is_of_root, put_added_string, put_string_of};
 pub use spans::clip;
 pub use state::{Rejection, Writer, leave, reject};
 pub use strings::put_units;
-pub use unbounded::{put_semi_constrained, put_small_number, put_unconstrained};
+pub use unbounded::{
+    put_semi_constrained, put_semi_constrained_span, put_small_number, put_unconstrained,
+    put_unconstrained_span,
+};

@@ -10,8 +10,9 @@ use asn1_schema::MisfitKind;
 pub enum Rejection {
     /// The part has no encoding.
     Misfit(MisfitKind),
-    /// The part may have an encoding, which is not written yet: an INTEGER outside -2^127 to
-    /// 2^127 - 1, or an unknown value of an ENUMERATED whose index is 2^128 or more.
+    /// The part may have an encoding, which is not written yet: an unknown value of an ENUMERATED
+    /// whose index is 2^128 or more; or an INTEGER outside -2^127 to 2^127 - 1, unless its type has
+    /// no extension marker and the part is what a decoder of that type returns.
     Unsupported,
 }
 

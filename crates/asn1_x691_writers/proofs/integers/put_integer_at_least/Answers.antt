@@ -29,3 +29,12 @@ returns-else-is_extensible c =
     (subst
     (λ (p : Piece). IsPut c.args.is_aligned (T false) p c.args.octets.now c.args.state.now c.put_at_least.new.octets c.put_at_least.new.state
     c.put_at_least.result) e c.put_at_least.ensures)
+
+pub returns-else-is_extensible-2 : goal.returns-else-is_extensible-2
+returns-else-is_extensible-2 c =
+    let T = λ (b : Bool). integer_at_least_by c.args.is_aligned c.args.node b c.args.bound.least in
+    let fits : SFits w128 c.args.bound.least = search rules in
+    subst
+    (λ (b : Bool). IsPut c.args.is_aligned (T b) (piece_in c.args.source.now c.args.part) c.args.octets.now c.args.state.now
+    c.put_far_above.new.octets c.put_far_above.new.state c.put_far_above.result) (sym c.if-is_extensible-2.false)
+    c.put_far_above.ensures
