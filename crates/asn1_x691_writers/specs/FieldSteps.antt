@@ -3,7 +3,7 @@ use Rattle.std.proofs.Common.{◌≡◌, ℕ, ◌+◌, ◌-◌, ◌%◌, ◌^◌
 use Rattle.std.proofs.lemmas.List.{append-nil}
 use Rattle.std.proofs.lemmas.Nat.{pow_pos}
 use Rattle.asn1_bits.specs.Bits.{digits}
-use Rattle.asn1_schema.specs.Encodings.{Encoding, number, anywhere, then, in_turn, in_case}
+use Rattle.asn1_schema.specs.Encodings.{Encoding, constant, invalid, cases, permitted, number, anywhere, then, in_turn, in_case}
 use Rattle.asn1_x691.specs.declared.fault.FaultKind.{FaultKind}
 use Rattle.asn1_x691.specs.Fields.{to_octet, on_octet}
 use Rattle.asn1_x691_writers.specs.Written.{IsGrown, IsAlike, IsWritten, start_of}
@@ -147,3 +147,12 @@ module _ {X : Type 0} (node : ℕ) (A : Encoding FaultKind X) (x : X) (was mid n
             };
         grown = grown_both was mid now old at new list a.list g a.grown;
       }
+
+-- ---- a value that is permitted
+
+pub permitted_written : {X : Type 0} (aligned : Bool) (Yes No : X → Type 0) (kind : FaultKind) (node : ℕ) (A : ℕ → Encoding FaultKind X) (x : X)
+    (was now : List ℕ) (old new : ℕ) → Yes x → IsWritten aligned A x was old now new
+    → IsWritten aligned (permitted Yes No kind node A) x was old now new
+permitted_written aligned Yes No kind node A x was now old new is a =
+    turn_constant aligned was now old new A (λ y z. z) (λ y. anywhere (cases (Yes y) (constant y) (No y) (invalid kind node))) x x a
+    (λ p. inl (is, (refl, refl)))

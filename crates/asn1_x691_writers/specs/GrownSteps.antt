@@ -4,7 +4,7 @@ use Rattle.std.proofs.lemmas.List.{length-append, append-nil}
 use Rattle.asn1_bits.specs.Bits.{bits}
 use Rattle.asn1_x691_writers.specs.Written.{IsIndex, Holds, IsGrown}
 
-index_least : (at n : ℕ) → IsIndex at n → at ≤ n
+pub index_least : (at n : ℕ) → IsIndex at n → at ≤ n
 index_least at n (inl e) = omega (arith, e)
 index_least at n (inr p) = p.1
 

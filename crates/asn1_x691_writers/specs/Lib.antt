@@ -14,6 +14,7 @@ pub mod LeafSteps
 pub mod LengthSteps
 pub mod NumberSteps
 pub mod PutSteps
+pub mod SetSteps
 pub mod SignedSteps
 pub mod SizeSteps
 pub mod SpanSteps

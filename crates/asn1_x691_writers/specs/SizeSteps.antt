@@ -9,7 +9,7 @@ use Rattle.asn1_schema.specs.Laws.OneEncodingLaws.{only_constant}
 use Rattle.asn1_schema.specs.Laws.PermittedLaws.{permitted_is, permitted_of}
 use Rattle.asn1_x691.specs.declared.fault.FaultKind.{FaultKind}
 use Rattle.asn1_x691.specs.declared.fault.FaultKind.TheVariants.{Short, BelowLeast, NotTrimmed}
-use Rattle.asn1_x691.specs.Fragments.{most_fragments}
+use Rattle.asn1_x691.specs.Fragments.{most_fragments, octets}
 use Rattle.asn1_x691.specs.Strings.{IsOfRoot, IsAddedSize, units_of, string_of}
 use Rattle.asn1_x691.specs.Leaves.{AreTrimmed, bits_by}
 use Rattle.asn1_x691_writers.specs.Written.{IsWritten}
@@ -66,3 +66,9 @@ module _ (aligned : Bool) (node : ℕ) (size : Length) (A : ℕ → Encoding Fau
   unnamed_none true at f p =
       let q = permitted_of (AreTrimmed size) (λ bits. ¬ (AreTrimmed size bits)) NotTrimmed node A at list p.list p.encoded in
       f (record { list = q.0; encoded = q.1 })
+
+-- ---- octets after their number
+
+pub whole_octets : (aligned : Bool) (node at : ℕ) (x k : List Bool) → (octets aligned node at).encodes x k → (n : ℕ) × (length x ≡ 8 * n)
+whole_octets aligned node at x k p =
+    (p.value.0, ap length p.is ∙ (all_held aligned 8 node most_fragments at p.value p.front p.first).size)

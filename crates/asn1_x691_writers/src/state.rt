@@ -50,6 +50,7 @@ pub fn leave(state: &mut Writer, node: usize) -> bool
     ensures result { result ≡ false }
     ensures at { state.new.at ≡ state.old.at }
     ensures next { state.new.next ≡ state.old.next }
+    ensures node { state.new.node ≡ node }
     ensures reason { state.new.reason ≡ Unsupported }
 {
     state.node = node;
