@@ -1,0 +1,66 @@
+-- What an encoder did: it wrote an encoding of the next parts, or it names the first misfit.
+use Rattle.std.specs.Prelude.{◌≡◌, ℕ, ◌⊎◌, ⊤, Bool, true, false, List, ◌++◌, length, drop, map, Option, Some, slice_get}
+use Rattle.asn1_schema.specs.declared.misfit.MisfitKind.{MisfitKind}
+use Rattle.asn1_schema.specs.declared.part.Part.{Part}
+use Rattle.asn1_schema.specs.declared.tables.Node.{Node}
+use Rattle.asn1_schema.specs.declared.tables.Node.TheVariants as type
+use Rattle.asn1_schema.specs.Pieces.{Parts}
+use Rattle.asn1_schema.specs.TypeEncodings.{TypeEncoding}
+use Rattle.asn1_x691.specs.declared.fault.FaultKind.{FaultKind}
+use Rattle.asn1_x691.specs.Types.{type_at}
+use Rattle.asn1_x691_writers.specs.declared.state.Writer.{Writer}
+use Rattle.asn1_x691_writers.specs.declared.state.Rejection.TheVariants.{Misfit, Unsupported}
+use Rattle.asn1_x691_writers.specs.Put.{piece_in, IsFarInteger, IsFarIndex}
+use Rattle.asn1_x691_writers.specs.Written.{IsAlike, IsWritten}
+use Rattle.asn1_x691_encode.specs.declared.context.Context.{Context}
+
+-- the parts from an index on
+abbrev pub tape : Context → ℕ → Parts
+tape c next = map (piece_in c.source.now) (drop next c.parts.now)
+
+-- the types of a context, whose values are nested less deep than the depth; `defaults` are the encodings of default values
+abbrev pub types : Context → (ℕ → List Bool) → ℕ → ℕ → ℕ → TypeEncoding FaultKind
+types c defaults depth node = type_at c.is_aligned c.tables.nodes.now c.tables.members.now c.tables.ranges.now defaults depth node
+
+-- bits that encode the next parts were written, up to another index
+pub record IsEncoded (c : Context) (A : ℕ → TypeEncoding FaultKind) (was : List ℕ) (old : Writer) (now : List ℕ) (new : Writer)
+    : Type 0 where
+  pub parts : Parts
+  pub written : IsWritten c.is_aligned (λ at. (A at).encoding) parts was old.at now new.at
+  pub taken : tape c old.next ≡ parts ++ tape c new.next
+
+-- the next parts begin with no value, and the state names their first misfit: it is before the next part
+pub record IsFirstMisfit (c : Context) (A : ℕ → TypeEncoding FaultKind) (old new : Writer) : Type 0 where
+  pub kind : MisfitKind
+  pub reason : new.reason ≡ Misfit kind
+  pub first : (at : ℕ) → IsAlike c.is_aligned at old.at
+      → (A at).misfit (tape c old.next) (record { node = new.node; left = length (tape c new.next); kind = kind })
+
+-- ---- what is not encoded yet
+
+-- types that have other parts than one, and types whose parts are text or identifiers
+abbrev pub IsLater : Option Node → Type 0
+IsLater (Some type.ObjectIdentifier) = ⊤
+IsLater (Some type.RelativeIdentifier) = ⊤
+IsLater (Some type.Utf8String) = ⊤
+IsLater (Some (type.Text size is_extensible alphabet whole)) = ⊤
+IsLater (Some (type.Sequence root is_extensible known)) = ⊤
+IsLater (Some (type.SequenceOf size is_extensible item)) = ⊤
+IsLater (Some (type.SetOf size is_extensible item)) = ⊤
+IsLater (Some (type.Choice alternatives is_extensible known)) = ⊤
+IsLater (Some (type.Open inner)) = ⊤
+IsLater o = ⊥
+
+-- a number that is too large for the encoder
+pub record IsFar (c : Context) (next : ℕ) : Type 0 where
+  pub part : Part
+  pub is : slice_get c.parts.now next ≡ Some part
+  pub far : IsFarInteger (piece_in c.source.now part) ⊎ IsFarIndex (piece_in c.source.now part)
+
+abbrev pub IsLeft : Context → Writer → Type 0
+IsLeft c new = (new.reason ≡ Unsupported) × (IsLater (slice_get c.tables.nodes.now new.node) ⊎ IsFar c new.next)
+
+-- the next parts were encoded, or the state tells why not
+abbrev pub Outcome : Context → (ℕ → TypeEncoding FaultKind) → List ℕ → Writer → List ℕ → Writer → Bool → Type 0
+Outcome c A was old now new true = IsEncoded c A was old now new
+Outcome c A was old now new false = IsFirstMisfit c A old new ⊎ IsLeft c new

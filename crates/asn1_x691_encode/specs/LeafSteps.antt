@@ -1,0 +1,119 @@
+-- What follows of a part that was written, or rejected.
+use Rattle.std.proofs.Common.{◌≡◌, ℕ, zero, suc, ◌+◌, ◌<◌, get_or, List, [], ◌∷◌, Bool, true, false, length, drop, map, refl, sym, ap, ◌∙◌, subst, inl, inr, Option, Some, None, arith}
+use Rattle.std.specs.Prelude.{slice_get}
+use Rattle.std.proofs.Math.Seq.{drop-cons}
+use Rattle.std.proofs.lemmas.Bool.{cases_lt}
+use Rattle.std.proofs.lemmas.List.{drop_all}
+use Rattle.std.proofs.lemmas.Option.{slice_get_within, slice_get-get_or}
+use Rattle.asn1_schema.specs.declared.misfit.MisfitKind.TheVariants.{NoPart}
+use Rattle.asn1_schema.specs.declared.part.Part.{Part}
+use Rattle.asn1_schema.specs.declared.tables.Node.{Node}
+use Rattle.asn1_x691.specs.Types.{type_of}
+use Rattle.asn1_schema.specs.Pieces.{Piece, Parts}
+use Rattle.asn1_schema.specs.TypeEncodings.{TypeEncoding}
+use Rattle.asn1_x691.specs.declared.fault.FaultKind.{FaultKind}
+use Rattle.asn1_x691_writers.specs.declared.state.Writer.{Writer}
+use Rattle.asn1_x691_writers.specs.declared.state.Rejection.TheVariants.{Misfit}
+use Rattle.asn1_x691_writers.specs.Put.{IsPut, piece_in}
+use Rattle.asn1_x691_writers.specs.Written.{IsWritten}
+use Rattle.asn1_x691_encode.specs.declared.context.Context.{Context}
+use Rattle.asn1_x691_encode.specs.Encoding.{tape, types, Outcome}
+
+get_some : {A : Type 0} (list : List A) (i : ℕ) (x : A) → slice_get list i ≡ Some x → drop i list ≡ x ∷ drop (i + 1) list
+get_some list i x e =
+    let h : i < length list = slice_get_within list i x e in
+    let is = slice_get-get_or list i x h in
+    let same : get_or list i x ≡ x = cc in
+    let one : suc i ≡ i + 1 = omega arith in
+    drop-cons list i x h ∙ ap (λ (y : _). y ∷ drop (suc i) list) same ∙ ap (λ (k : ℕ). x ∷ drop k list) one
+
+get_none : {A : Type 0} (list : List A) (i : ℕ) → slice_get list i ≡ None → drop i list ≡ []
+get_none [] i e = drop_all i [] (omega arith)
+get_none (x ∷ list) i e = elim (cases_lt i (length (x ∷ list))) [
+  | inl lt ↦ absurd (let is = slice_get-get_or (x ∷ list) i x lt in cc)
+  | inr le ↦ drop_all i (x ∷ list) le
+]
+
+module _ (c : Context) (next : ℕ) where
+  pub part_next : (p : Part) → slice_get c.parts.now next ≡ Some p → tape c next ≡ piece_in c.source.now p ∷ tape c (next + 1)
+  part_next p e = ap (λ (l : List Part). map (piece_in c.source.now) l) (get_some c.parts.now next p e)
+
+  pub part_none : slice_get c.parts.now next ≡ None → tape c next ≡ []
+  part_none e = ap (λ (l : List Part). map (piece_in c.source.now) l) (get_none c.parts.now next e)
+
+-- a part that was written or rejected, and passed
+module _ (c : Context) (A : ℕ → TypeEncoding FaultKind) (p : Part) (was now : List ℕ) (old mid new : Writer)
+    (is : slice_get c.parts.now old.next ≡ Some p) (at : new.at ≡ mid.at) (node : new.node ≡ mid.node) (reason : new.reason ≡ mid.reason) where
+  abbrev piece : Piece
+  piece = piece_in c.source.now p
+
+  after_written : IsPut c.is_aligned A piece was old now mid true → new.next ≡ mid.next + 1 → Outcome c A was old now new true
+  after_written a on = record {
+    parts = piece ∷ [];
+    written = subst (λ (n : ℕ). IsWritten c.is_aligned (λ k. (A k).encoding) (piece ∷ []) was old.at now n) (sym at) a.written;
+    taken = part_next c old.next p is
+        ∙ ap (λ (n : ℕ). piece ∷ tape c n) (let e : old.next + 1 ≡ new.next = omega (arith, on, a.next) in e);
+  }
+
+  after_rejected : IsPut c.is_aligned A piece was old now mid false → new.next ≡ mid.next → Outcome c A was old now new false
+  after_rejected (inl m, same) kept =
+      let on : new.next ≡ old.next = kept ∙ same.next in
+      inl (record {
+        kind = m.kind;
+        reason = reason ∙ m.reason;
+        first = λ n h.
+            let e = part_next c old.next p is in
+            subst
+            (λ (t : Parts). (A n).misfit t (record { node = new.node; left = length (tape c new.next); kind = m.kind })) (sym e)
+            (subst
+            (λ (k : ℕ). (A n).misfit (piece ∷ tape c (old.next + 1)) (record { node = new.node; left = k; kind = m.kind }))
+            (ap length (sym e) ∙ ap (λ (i : ℕ). length (tape c i)) (sym on))
+            (subst
+            (λ (k : ℕ). (A n).misfit (piece ∷ tape c (old.next + 1))
+            (record { node = k; left = length (piece ∷ tape c (old.next + 1)); kind = m.kind })) (sym node)
+            (m.first n (tape c (old.next + 1)))));
+      })
+  after_rejected (inr m, same) kept =
+      let on : new.next ≡ old.next = kept ∙ same.next in
+      inr (
+        reason ∙ m.reason,
+        inr (record {
+          part = p;
+          is = ap (λ (i : ℕ). slice_get c.parts.now i) on ∙ is;
+          far = m.far;
+        }),
+      )
+
+  pub after_put : (b r : Bool) → r ≡ b → IsPut c.is_aligned A piece was old now mid b → (b ≡ true → new.next ≡ mid.next + 1)
+      → (b ≡ false → new.next ≡ mid.next) → Outcome c A was old now new r
+  after_put true r e a on kept = subst (λ (d : Bool). Outcome c A was old now new d) (sym e) (after_written a (on refl))
+  after_put false r e a on kept = subst (λ (d : Bool). Outcome c A was old now new d) (sym e) (after_rejected a (kept refl))
+
+-- no part is left
+pub after_none : (c : Context) (A : ℕ → TypeEncoding FaultKind) (was now : List ℕ) (old new : Writer) (r : Bool) (node : ℕ)
+    → slice_get c.parts.now old.next ≡ None → r ≡ false → new.next ≡ old.next → new.node ≡ node → new.reason ≡ Misfit NoPart
+    → ((at : ℕ) → (A at).misfit [] (record { node = node; left = 0; kind = NoPart })) → Outcome c A was old now new r
+after_none c A was now old new r node none e on same reason m =
+    let t = part_none c old.next none in
+    let left : 0 ≡ length (tape c new.next) = sym (ap (λ (i : ℕ). length (tape c i)) on ∙ ap length t) in
+    subst (λ (d : Bool). Outcome c A was old now new d) (sym e)
+    (inl (record {
+      kind = NoPart;
+      reason = reason;
+      first = λ n h.
+          subst (λ (l : Parts). (A n).misfit l (record { node = new.node; left = length (tape c new.next); kind = NoPart })) (sym t)
+          (subst (λ (k : ℕ). (A n).misfit [] (record { node = new.node; left = k; kind = NoPart })) left
+          (subst (λ (k : ℕ). (A n).misfit [] (record { node = k; left = 0; kind = NoPart })) (sym same) (m n)));
+    }))
+
+-- ---- the type at a node
+
+pub at_node : (c : Context) (defaults : ℕ → List Bool) (node depth : ℕ) (o : Option Node) (P : (ℕ → TypeEncoding FaultKind) → Type 0)
+    → 0 < depth → slice_get c.tables.nodes.now node ≡ o
+    → ((d : ℕ) → P (type_of c.is_aligned (types c defaults d) c.tables.members.now c.tables.ranges.now defaults node o))
+    → P (types c defaults depth node)
+at_node c defaults node zero o P some e f = absurd (omega (arith, some))
+at_node c defaults node (suc d) o P some e f =
+    let Q : Option Node → Type 0 =
+    λ x. P (type_of c.is_aligned (types c defaults d) c.tables.members.now c.tables.ranges.now defaults node x) in
+    subst Q (sym e) (f d)

@@ -1,0 +1,4 @@
+-- What an encoder did.
+pub mod Encoding
+-- What follows of steps of an encoder; no contract cites it.
+pub mod LeafSteps

@@ -1,0 +1,61 @@
+//! What an encoder works on.
+
+ghost use Rattle.std.specs.Prelude.{◌≡◌, ◌+◌, ◌^◌, ◌<◌, false, true, slice_get};
+ghost use Rattle.asn1_x691_writers.specs.declared.state.Rejection.TheVariants.{Unsupported};
+
+use asn1_schema::{Part, Tables};
+use asn1_x691_writers::{Rejection, Writer};
+
+/// A schema, and the parts of a value.
+#[derive(Clone, Copy, Debug)]
+pub struct Context<'s> {
+    /// The types.
+    pub tables: Tables<'s>,
+    /// The parts.
+    pub parts: &'s [Part],
+    /// The octets in which the parts have their bits.
+    pub source: &'s [u8],
+    /// Whether the variant is ALIGNED.
+    pub is_aligned: bool,
+}
+
+/// Returns the part at an index.
+#[inline(always)]
+pub(crate) fn part_at(parts: &[Part], index: usize) -> Option<Part>
+    ensures { result ≡ slice_get parts.now index }
+{
+    if index < parts.len() {
+        Some(parts[index])
+    } else {
+        None
+    }
+}
+
+/// Moves on to the part after the next one, where that was written. Returns whether it was.
+#[inline(always)]
+pub(crate) fn pass(is_written: bool, state: &mut Writer) -> bool
+    requires { is_written ≡ true → state.old.next + 1 < 2 ^ 64 }
+    ensures result { result ≡ is_written }
+    ensures at { state.new.at ≡ state.old.at }
+    ensures node { state.new.node ≡ state.old.node }
+    ensures reason { state.new.reason ≡ state.old.reason }
+    ensures passed { is_written ≡ true → state.new.next ≡ state.old.next + 1 }
+    ensures kept { is_written ≡ false → state.new.next ≡ state.old.next }
+{
+    if is_written {
+        state.next += 1;
+    }
+    is_written
+}
+
+/// Leaves a value of a type that is not encoded yet. Returns false.
+#[cold]
+pub(crate) fn later(state: &mut Writer, node: usize) -> bool
+    ensures result { result ≡ false }
+    ensures node { state.new.node ≡ node }
+    ensures reason { state.new.reason ≡ Unsupported }
+{
+    state.node = node;
+    state.reason = Rejection::Unsupported;
+    false
+}

@@ -1,0 +1,133 @@
+//! Encodes a value of any type.
+
+ghost use Rattle.std.specs.Prelude.{◌≡◌, ℕ, Bool, List, ◌-◌, ◌*◌, ◌^◌, ◌<◌, length, slice_get};
+ghost use Rattle.asn1_x691_encode.specs.Encoding.{Outcome, types};
+
+use crate::context::{Context, later};
+use crate::leaves::{
+    encode_at_least, encode_between, encode_bits, encode_boolean, encode_enumerated,
+    encode_integer, encode_null, encode_octets,
+};
+use asn1_schema::{MisfitKind, Node};
+use asn1_x691_writers::{Writer, reject};
+
+/// Returns the type at a node.
+#[inline(always)]
+fn node_at(nodes: &[Node], node: usize) -> Option<Node>
+    ensures { result ≡ slice_get nodes.now node }
+{
+    if node < nodes.len() {
+        Some(nodes[node])
+    } else {
+        None
+    }
+}
+
+/// Encodes a value of the type at a node: writes to `octets` from the next bit of the state on, and
+/// takes its parts from the next one on. Returns whether it did. Otherwise the state has the reason,
+/// and the next part is the one that does not fit. A value may be nested less deep than `depth`.
+pub fn encode_node(
+    context: &Context<'_>,
+    depth: usize,
+    node: usize,
+    octets: &mut [u8],
+    state: &mut Writer,
+) -> bool
+    requires size { 8 * length octets.old < 2 ^ 64 }
+    requires source { 8 * length context.now.source.now < 2 ^ 64 }
+    requires parts { length context.now.parts.now < 2 ^ 64 - 1 }
+    ensures { (defaults : ℕ → List Bool) → Outcome context.now (types context.now defaults depth node) octets.old state.old
+        octets.new state.new result }
+{
+    if depth == 0 {
+        return reject(state, node, MisfitKind::TooDeep);
+    }
+    match node_at(context.tables.nodes, node) {
+        None => reject(state, node, MisfitKind::NoNode),
+        Some(Node::Null) => encode_null(context, node, octets, state),
+        Some(Node::Boolean) => encode_boolean(context, node, octets, state),
+        Some(
+            Node::IntegerBetween {
+                bounds,
+                is_extensible,
+            },
+        ) => { encode_between(context, bounds, is_extensible, node, octets, state) }
+        Some(
+            Node::IntegerAtLeast {
+                bound,
+                is_extensible,
+            },
+        ) => { encode_at_least(context, bound, is_extensible, node, octets, state) }
+        Some(Node::Integer) => encode_integer(context, node, octets, state),
+        Some(
+            Node::Enumerated {
+                last,
+                is_extensible,
+                additions,
+            },
+        ) => { encode_enumerated(context, last, is_extensible, additions, node, octets, state) }
+        Some(
+            Node::BitString {
+                length,
+                is_extensible,
+                has_names,
+            },
+        ) => {
+            encode_bits(
+                context,
+                length,
+                is_extensible,
+                has_names,
+                node,
+                octets,
+                state,
+            )
+        }
+        Some(
+            Node::OctetString {
+                length,
+                is_extensible,
+            },
+        ) => { encode_octets(context, length, is_extensible, node, octets, state) }
+        Some(
+            Node::Text {
+                length: _,
+                is_extensible: _,
+                alphabet: _,
+                whole: _,
+            },
+        ) => later(state, node),
+        Some(Node::ObjectIdentifier) => later(state, node),
+        Some(Node::RelativeIdentifier) => later(state, node),
+        Some(Node::Utf8String) => later(state, node),
+        Some(
+            Node::Sequence {
+                root: _,
+                is_extensible: _,
+                additions: _,
+            },
+        ) => later(state, node),
+        Some(
+            Node::SequenceOf {
+                length: _,
+                is_extensible: _,
+                item: _,
+            },
+        ) => later(state, node),
+        Some(
+            Node::SetOf {
+                length: _,
+                is_extensible: _,
+                item: _,
+            },
+        ) => later(state, node),
+        Some(
+            Node::Choice {
+                alternatives: _,
+                is_extensible: _,
+                additions: _,
+            },
+        ) => later(state, node),
+        Some(Node::Open { inner: _ }) => later(state, node),
+    }
+}

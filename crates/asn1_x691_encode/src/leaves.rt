@@ -1,0 +1,255 @@
+//! Encodes values of one part.
+
+ghost use Rattle.std.specs.Prelude.{◌≡◌, ℕ, Bool, List, ◌+◌, ◌-◌, ◌*◌, ◌^◌, ◌<◌, length};
+ghost use Rattle.asn1_schema.specs.Encodings.{anywhere};
+ghost use Rattle.asn1_schema.specs.Pieces.{Null, Truth};
+ghost use Rattle.asn1_schema.specs.TypeEncodings.{leaf, nothing, put};
+ghost use Rattle.asn1_x691_writers.specs.Put.{IsPut, piece_in};
+ghost use Rattle.asn1_x691.specs.Strings.{bit};
+ghost use Rattle.asn1_x691.specs.Leaves.{integer, integer_between_by, integer_at_least_by, enumerated_by, bit_string, octet_string};
+ghost use Rattle.asn1_x691_encode.specs.Encoding.{Outcome};
+
+use crate::context::{Context, part_at, pass};
+use asn1_schema::{Bounds, Length, LowerBound, MisfitKind, Part};
+use asn1_x691_writers::{
+    Writer, put_bit_string, put_boolean, put_enumerated, put_integer, put_integer_at_least,
+    put_integer_between, put_octet_string, reject,
+};
+
+/// Encodes a BOOLEAN (X.691 12).
+pub(crate) fn encode_boolean(
+    context: &Context<'_>,
+    node: usize,
+    octets: &mut [u8],
+    state: &mut Writer,
+) -> bool
+    requires size { 8 * length octets.old < 2 ^ 64 }
+    requires source { 8 * length context.now.source.now < 2 ^ 64 }
+    requires parts { length context.now.parts.now < 2 ^ 64 - 1 }
+    ensures { Outcome context.now (leaf (anywhere (bit node)) Truth node) octets.old state.old octets.new state.new result }
+{
+    match part_at(context.parts, state.next) {
+        None => reject(state, node, MisfitKind::NoPart),
+        Some(part) => pass(put_boolean(octets, part, node, state), state),
+    }
+}
+
+/// Encodes an INTEGER without bounds (X.691 13.2.4).
+pub(crate) fn encode_integer(
+    context: &Context<'_>,
+    node: usize,
+    octets: &mut [u8],
+    state: &mut Writer,
+) -> bool
+    requires size { 8 * length octets.old < 2 ^ 64 }
+    requires source { 8 * length context.now.source.now < 2 ^ 64 }
+    requires parts { length context.now.parts.now < 2 ^ 64 - 1 }
+    ensures { Outcome context.now (integer context.now.is_aligned node) octets.old state.old octets.new state.new result }
+{
+    match part_at(context.parts, state.next) {
+        None => reject(state, node, MisfitKind::NoPart),
+        Some(part) => pass(
+            put_integer(
+                octets,
+                context.is_aligned,
+                context.source,
+                part,
+                node,
+                state,
+            ),
+            state,
+        ),
+    }
+}
+
+/// Encodes an INTEGER between two bounds (X.691 13.2.2).
+pub(crate) fn encode_between(
+    context: &Context<'_>,
+    bounds: Bounds,
+    is_extensible: bool,
+    node: usize,
+    octets: &mut [u8],
+    state: &mut Writer,
+) -> bool
+    requires size { 8 * length octets.old < 2 ^ 64 }
+    requires source { 8 * length context.now.source.now < 2 ^ 64 }
+    requires parts { length context.now.parts.now < 2 ^ 64 - 1 }
+    ensures { Outcome context.now (integer_between_by context.now.is_aligned node is_extensible bounds.least bounds.range) octets.old state.old octets.new state.new result }
+{
+    match part_at(context.parts, state.next) {
+        None => reject(state, node, MisfitKind::NoPart),
+        Some(part) => pass(
+            put_integer_between(
+                octets,
+                context.is_aligned,
+                bounds,
+                is_extensible,
+                context.source,
+                part,
+                node,
+                state,
+            ),
+            state,
+        ),
+    }
+}
+
+/// Encodes an INTEGER with a least value (X.691 13.2.3).
+pub(crate) fn encode_at_least(
+    context: &Context<'_>,
+    bound: LowerBound,
+    is_extensible: bool,
+    node: usize,
+    octets: &mut [u8],
+    state: &mut Writer,
+) -> bool
+    requires size { 8 * length octets.old < 2 ^ 64 }
+    requires source { 8 * length context.now.source.now < 2 ^ 64 }
+    requires parts { length context.now.parts.now < 2 ^ 64 - 1 }
+    ensures { Outcome context.now (integer_at_least_by context.now.is_aligned node is_extensible bound.least) octets.old state.old octets.new state.new result }
+{
+    match part_at(context.parts, state.next) {
+        None => reject(state, node, MisfitKind::NoPart),
+        Some(part) => pass(
+            put_integer_at_least(
+                octets,
+                context.is_aligned,
+                bound,
+                is_extensible,
+                context.source,
+                part,
+                node,
+                state,
+            ),
+            state,
+        ),
+    }
+}
+
+/// Encodes an ENUMERATED (X.691 14).
+pub(crate) fn encode_enumerated(
+    context: &Context<'_>,
+    last: usize,
+    is_extensible: bool,
+    additions: usize,
+    node: usize,
+    octets: &mut [u8],
+    state: &mut Writer,
+) -> bool
+    requires size { 8 * length octets.old < 2 ^ 64 }
+    requires source { 8 * length context.now.source.now < 2 ^ 64 }
+    requires parts { length context.now.parts.now < 2 ^ 64 - 1 }
+    ensures { Outcome context.now (enumerated_by context.now.is_aligned node is_extensible last additions) octets.old state.old octets.new state.new result }
+{
+    match part_at(context.parts, state.next) {
+        None => reject(state, node, MisfitKind::NoPart),
+        Some(part) => pass(
+            put_enumerated(
+                octets,
+                context.is_aligned,
+                last,
+                is_extensible,
+                additions,
+                context.source,
+                part,
+                node,
+                state,
+            ),
+            state,
+        ),
+    }
+}
+
+/// Encodes a BIT STRING (X.691 16).
+pub(crate) fn encode_bits(
+    context: &Context<'_>,
+    size: Length,
+    is_extensible: bool,
+    has_names: bool,
+    node: usize,
+    octets: &mut [u8],
+    state: &mut Writer,
+) -> bool
+    requires size { 8 * length octets.old < 2 ^ 64 }
+    requires source { 8 * length context.now.source.now < 2 ^ 64 }
+    requires parts { length context.now.parts.now < 2 ^ 64 - 1 }
+    ensures { Outcome context.now (bit_string context.now.is_aligned node size is_extensible has_names) octets.old state.old octets.new state.new result }
+{
+    match part_at(context.parts, state.next) {
+        None => reject(state, node, MisfitKind::NoPart),
+        Some(part) => pass(
+            put_bit_string(
+                octets,
+                context.is_aligned,
+                size,
+                is_extensible,
+                has_names,
+                context.source,
+                part,
+                node,
+                state,
+            ),
+            state,
+        ),
+    }
+}
+
+/// Encodes an OCTET STRING (X.691 17).
+pub(crate) fn encode_octets(
+    context: &Context<'_>,
+    size: Length,
+    is_extensible: bool,
+    node: usize,
+    octets: &mut [u8],
+    state: &mut Writer,
+) -> bool
+    requires size { 8 * length octets.old < 2 ^ 64 }
+    requires source { 8 * length context.now.source.now < 2 ^ 64 }
+    requires parts { length context.now.parts.now < 2 ^ 64 - 1 }
+    ensures { Outcome context.now (octet_string context.now.is_aligned node size is_extensible) octets.old state.old octets.new state.new result }
+{
+    match part_at(context.parts, state.next) {
+        None => reject(state, node, MisfitKind::NoPart),
+        Some(part) => pass(
+            put_octet_string(
+                octets,
+                context.is_aligned,
+                size,
+                is_extensible,
+                context.source,
+                part,
+                node,
+                state,
+            ),
+            state,
+        ),
+    }
+}
+
+/// Encodes NULL, which has no bits (X.691 18).
+pub(crate) fn encode_null(
+    context: &Context<'_>,
+    node: usize,
+    octets: &mut [u8],
+    state: &mut Writer,
+) -> bool
+    requires size { 8 * length octets.old < 2 ^ 64 }
+    requires parts { length context.now.parts.now < 2 ^ 64 - 1 }
+    ensures { Outcome context.now (put Null nothing node) octets.old state.old octets.new state.new result }
+{
+    match part_at(context.parts, state.next) {
+        None => reject(state, node, MisfitKind::NoPart),
+        Some(part) => pass(is_null(octets, part, node, state), state),
+    }
+}
+
+/// Returns whether a part is that of NULL.
+fn is_null(octets: &mut [u8], part: Part, node: usize, state: &mut Writer) -> bool
+    ensures { (is_aligned : Bool) (source : List ℕ) → IsPut is_aligned (put Null nothing node) (piece_in source part) octets.old state.old
+        octets.new state.new result }
+{
+    match part {
+        Part::Null => true,
+        _ => reject(state, node, MisfitKind::OtherPart),
+    }
+}

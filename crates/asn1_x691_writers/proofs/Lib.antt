@@ -1,0 +1,5 @@
+-- Lemmas of the proofs.
+pub mod FragmentLemmas
+pub mod HeldLemmas
+pub mod WidthLemmas
+pub mod WordLemmas

@@ -1,0 +1,15 @@
+use Rattle.std.proofs.Common.{◌*◌, inl, refl}
+use Rattle.asn1_bits.specs.Bits.{bits}
+use Rattle.asn1_schema.specs.PiecesOfParts.{bits_at}
+use Rattle.asn1_x691.specs.declared.fault.FaultKind.TheVariants.{InRoot}
+use Rattle.asn1_x691.specs.Fragments.{string}
+use Rattle.asn1_x691.specs.Strings.{IsOfRoot, IsAddedSize, where_size}
+use Rattle.asn1_x691_writers.specs.FieldSteps.{turn_constant}
+use Rattle.asn1_x691_writers.proofs.sized_strings.put_added_string.Goals as goal
+
+pub returns : goal.returns
+returns c size node added =
+    let list = bits_at (bits c.args.source.now) c.args.from (c.args.unit * c.args.count) in
+    turn_constant c.args.is_aligned c.args.octets.now c.put_units.new.octets c.args.at c.put_units.result
+    (string c.args.is_aligned c.args.unit node) (λ v bits. bits) (λ v. where_size (IsAddedSize size) (IsOfRoot size) InRoot node v)
+    (c.args.count, list) list (c.put_units.ensures node) (λ p. inl (added, (refl, refl)))

@@ -1,0 +1,39 @@
+use Rattle.std.proofs.Common.{◌≡◌, ℕ, suc, ◌+◌, ◌*◌, ◌/◌, ◌%◌, ◌++◌, List, Bool, subst, ap, arith}
+use Rattle.asn1_bits.specs.Bits.{bits}
+use Rattle.asn1_schema.specs.PiecesOfParts.{bits_at}
+use Rattle.asn1_x691.specs.Fragments.{bits_of_units, all_units}
+use Rattle.asn1_x691_writers.specs.Written.{IsWritten}
+use Rattle.asn1_x691_writers.specs.StringSteps.{few_units, few_last, part_units}
+use Rattle.asn1_x691_writers.proofs.FragmentLemmas.{units_apart}
+use Rattle.asn1_x691_writers.proofs.strings.put_last_units.Goals as goal
+
+pub returns-then-times-eq0 : goal.returns-then-times-eq0
+returns-then-times-eq0 c node more =
+    few_units c.args.is_aligned c.args.unit node c.args.count (bits_at (bits c.args.source.now) c.args.from (c.args.unit * c.args.count))
+    c.args.octets.now c.put_few.new.octets c.args.at c.put_few.result (c.put_few.ensures node) more (omega (arith, c.if-times-eq0.true))
+
+pub put_few-requires-2-clause-within : goal.put_few-requires-2-clause-within
+put_few-requires-2-clause-within c =
+    let e : 16384 * (c.args.count / 16384) + c.args.count % 16384 ≡ c.args.count = omega arith in
+    omega (arith, ap (λ (k : ℕ). c.args.unit * k) e, c.requires.within)
+
+pub returns : goal.returns
+returns c node more =
+    let aligned = c.args.is_aligned in
+    let unit = c.args.unit in
+    let count = c.args.count in
+    let list = bits c.args.source.now in
+    let from = c.args.from in
+    let n = 16384 * (count / 16384) in
+    let m = count % 16384 in
+    let was = c.args.octets.now in
+    let mid = c.put_fragment-after.new.octets in
+    let now = c.put_few-2.new.octets in
+    let at = c.put_fragment-after.result in
+    let new = c.put_few-2.result in
+    let e : n + m ≡ count = omega arith in
+    subst (λ (v : ℕ × List Bool). IsWritten aligned (all_units (bits_of_units unit node) (λ a b. a ++ b) aligned node (suc more)) v was c.args.at now new)
+    (units_apart list from unit n m count e)
+    (part_units aligned unit node n (bits_at list from (unit * n)) was mid now c.args.at at new (c.put_fragment-after.ensures node) m
+    (bits_at list (from + unit * n) (unit * m)) more (omega (arith, c.if-times-eq0.false)) (omega (arith, c.requires.few))
+    (few_last aligned unit node m (bits_at list (from + unit * n) (unit * m)) mid now at new (c.put_few-2.ensures node) (omega arith)))

@@ -1,0 +1,29 @@
+use Rattle.std.proofs.Common.{◌≡◌, ◌+◌, ◌/◌, ◌<◌, ℕ, arith}
+use Rattle.asn1_bits.specs.Bits.{bits, number}
+use Rattle.asn1_schema.specs.Encodings.{Encoding, anywhere, invalid, in_case}
+use Rattle.asn1_schema.specs.PiecesOfParts.{bits_of}
+use Rattle.asn1_x691.specs.declared.fault.FaultKind.{FaultKind}
+use Rattle.asn1_x691.specs.declared.fault.FaultKind.TheVariants.{NotMinimal}
+use Rattle.asn1_x691.specs.Fields.{on_octet, length_of, minimal_octets}
+use Rattle.asn1_x691_writers.specs.FieldSteps.{turn_written, first_written, octet_written}
+use Rattle.asn1_x691_writers.proofs.unbounded.put_semi_constrained_span.Goals as goal
+
+pub returns : goal.returns
+returns c node =
+    let aligned = c.args.is_aligned in
+    let n = number (bits_of (bits c.args.source.now) c.args.span) in
+    let count = (c.args.span.count + 7) / 8 in
+    let was = c.args.octets.now in
+    let mid = c.put_length-after.new.octets in
+    let next = c.put_start-start.new.octets in
+    let now = c.put_minimal_span.new.octets in
+    let new = c.put_minimal_span.result in
+    let some : 0 < (c.args.span.count + 7) / 8 = omega (arith, c.requires.some) in
+    let S : ℕ → ℕ → Encoding FaultKind ℕ = λ count.
+    in_case (0 < count) (on_octet aligned node (minimal_octets count node)) (count ≡ 0) (anywhere (invalid NotMinimal node)) in
+    turn_written aligned (length_of aligned node) (λ count d. d) S count n was mid now c.args.at c.put_length-after.result new
+    (c.put_length-after.ensures node)
+    (first_written aligned (0 < count) (count ≡ 0) (on_octet aligned node (minimal_octets count node)) (anywhere (invalid NotMinimal node)) n
+    mid now c.put_length-after.result new some
+    (octet_written node (minimal_octets count node) n mid next now c.put_length-after.result c.put_start-start.result new aligned
+    c.put_start-start.ensures (c.put_minimal_span.ensures aligned node)))

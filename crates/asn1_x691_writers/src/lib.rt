@@ -1,0 +1,50 @@
+//! Writes the fields of the packed encoding rules (X.691), and values of one part.
+//!
+//! A call writes to octets of its caller, and allocates nothing. Where they are too few, it counts
+//! on: it returns the index that it would have reached with enough of them.
+//!
+//! Functions of fields take a value that has an encoding, and return the index after it. Functions of
+//! types take a part and the octets in which it has its bits, and move the [`Writer`]; or they set
+//! why the part has no encoding, and change nothing else.
+//!
+//! `specs/Written` says what octets hold and what a call wrote, and `specs/Put` what a call did with
+//! a part.
+#![tactic(auto)]
+
+mod bit_strings;
+mod bits;
+mod booleans;
+mod enumerations;
+mod heads;
+mod held;
+mod integers;
+mod lengths;
+mod numbers;
+mod octet_strings;
+mod reserves;
+mod sized_strings;
+mod spans;
+mod state;
+mod strings;
+mod unbounded;
+mod unknown;
+
+pub use bit_strings::put_bit_string;
+pub use bits::{after, put_bits, put_number, put_wide};
+pub use booleans::{put_bit, put_boolean};
+pub use enumerations::put_enumerated;
+pub use heads::put_start;
+pub use integers::{put_integer, put_integer_at_least, put_integer_between};
+pub use lengths::{put_length, put_small_length};
+pub use numbers::put_constrained;
+pub use octet_strings::put_octet_string;
+pub use reserves::{put_zeros, set_bit};
+pub use sized_strings::{is_of_root, put_added_string, put_string_of};
+pub use spans::clip;
+pub use state::{Rejection, Writer, leave, reject};
+pub use strings::put_units;
+pub use unbounded::{
+    put_semi_constrained, put_semi_constrained_span, put_small_number, put_unconstrained,
+    put_unconstrained_span,
+};
+pub use unknown::{put_octets, put_unknown};
