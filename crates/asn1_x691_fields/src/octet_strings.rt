@@ -11,7 +11,8 @@ ghost use Rattle.asn1_x691.specs.Leaves.{octet_string};
 ghost use Rattle.asn1_x691_fields.specs.Outcomes.{IsWithin, IsOnward, IsTaken, IsPlaced};
 
 use crate::heads::next_bit;
-use crate::sized_strings::{next_added_string, next_string_of};
+use crate::long_octets::{next_long_octets, next_other_octets, part_of};
+use crate::sized_strings::next_sized_string;
 use crate::state::State;
 use asn1_schema::{Length, Part};
 
@@ -76,8 +77,16 @@ fn next_octets_of_root(
     ensures read { (ranges : List Range) → IsTaken (λ at. (leaf (string_of is_aligned 8 size node) Octets node at).encoding)
         (λ p. piece_of ranges (bits octets.now) p ∷ []) (bits octets.now) state.old state.new result }
 {
-    let span = next_string_of(octets, is_aligned, 8, size, node, state)?;
-    Some(Part::Octets(span))
+    match size {
+        Length::AtLeast { least } => {
+            let fragments = next_long_octets(octets, is_aligned, least, node, state)?;
+            Some(part_of(fragments))
+        }
+        Length::Between { least, range } => {
+            let span = next_sized_string(octets, is_aligned, 8, least, range, node, state)?;
+            Some(Part::Octets(span))
+        }
+    }
 }
 
 /// Reads octets of a size that is none of the root (X.691 17.3).
@@ -95,6 +104,6 @@ fn next_added_octets(
     ensures read { (ranges : List Range) → IsTaken (λ at. (leaf (added_string is_aligned 8 size node) Octets node at).encoding)
         (λ p. piece_of ranges (bits octets.now) p ∷ []) (bits octets.now) state.old state.new result }
 {
-    let span = next_added_string(octets, is_aligned, 8, size, node, state)?;
-    Some(Part::Octets(span))
+    let fragments = next_other_octets(octets, is_aligned, size, node, state)?;
+    Some(part_of(fragments))
 }

@@ -60,6 +60,7 @@ fn word_of(alloc: Global, octets: &[u8], part: Part) -> Result<String, RowError>
         Part::UnknownEnumerated(index) => unknown(alloc, "e", index),
         Part::Bits(span) => digits_at(alloc, "b", 1, octets, span),
         Part::Octets(span) => digits_at(alloc, "o", 4, octets, span),
+        Part::OctetsInFragments(_) => Ok(String::from_str(alloc, "fragments")?),
         Part::Text(text) => codes_at(alloc, octets, text),
         Part::Sequence { count, is_extended } => {
             let mark = if is_extended { "+" } else { "" };
