@@ -12,5 +12,5 @@ mod tables;
 
 pub use laws::laws_of_an_example;
 pub use misfit::MisfitKind;
-pub use part::{Characters, Codes, Natural, Part, Span};
+pub use part::{Characters, Codes, Fragments, Natural, Part, Span};
 pub use tables::{Bounds, Length, LowerBound, Member, Node, Presence, Range, Rows, Tables};

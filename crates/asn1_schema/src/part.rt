@@ -20,6 +20,20 @@ pub enum Natural {
     Large(Span),
 }
 
+/// Units of a string in fragments (X.691 11.9.3.8): each of the first ones has 65,536 units, and
+/// follows the one before it after a length octet.
+#[derive(Clone, Copy, Debug, PartialEq, Eq)]
+pub struct Fragments {
+    /// The index of the first bit of the first fragment.
+    pub at: usize,
+    /// How many fragments of 65,536 units there are.
+    pub whole: usize,
+    /// The bits of a fragment of 16,384, 32,768 or 49,152 units; none where there is no such one.
+    pub middle: Span,
+    /// The bits of the units that follow, fewer than 16,384.
+    pub last: Span,
+}
+
 /// What the codes of characters tell.
 #[derive(Clone, Copy, Debug, PartialEq, Eq)]
 pub enum Codes {
@@ -73,6 +87,8 @@ pub enum Part {
     Bits(Span),
     /// OCTET STRING, or octets that are kept by their contents.
     Octets(Span),
+    /// OCTET STRING, in fragments.
+    OctetsInFragments(Fragments),
     /// A string of characters whose alphabet is known.
     Text(Characters),
     /// SEQUENCE or SET.

@@ -4,14 +4,16 @@ use Rattle.std.specs.Prelude.{ℕ, Bool, true, false, ◌%◌, ◌≡◌, ◌≢
 use Rattle.asn1_x691.specs.Fragments.{most_fragments}
 
 pub record Limits : Type 0 where
-  -- in how many fragments the units of a string may be, before the last units (11.9.3.8)
+  -- in how many fragments the octets of an OCTET STRING may be, before the last octets (11.9.3.8)
+  pub octet_fragments : ℕ
+  -- the same of all other strings, of open types and of unknown additions
   pub fragments : ℕ
   -- in the ALIGNED variant, whether the items of a SET OF must begin at octets
   pub sets_on_octets : Bool
 
 -- X.691
 abbrev pub no_limits : Limits
-no_limits = record { fragments = most_fragments; sets_on_octets = false }
+no_limits = record { octet_fragments = most_fragments; fragments = most_fragments; sets_on_octets = false }
 
 -- an item of a SET OF, or the one whose bits precede it, does not begin at an octet
 abbrev pub IsOffOctet : Bool → Bool → List Bool → ℕ → Type 0

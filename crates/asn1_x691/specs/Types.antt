@@ -237,7 +237,7 @@ module _ (limits : Limits) (aligned : Bool) (E : ℕ → ℕ → TypeEncoding Fa
   type_of (Some type.Integer) = integer aligned node
   type_of (Some (type.Enumerated last is_extensible known)) = enumerated_by aligned node is_extensible last known
   type_of (Some (type.BitString size is_extensible has_names)) = bit_string limits.fragments aligned node size is_extensible has_names
-  type_of (Some (type.OctetString size is_extensible)) = octet_string limits.fragments aligned node size is_extensible
+  type_of (Some (type.OctetString size is_extensible)) = octet_string limits.octet_fragments aligned node size is_extensible
   type_of (Some (type.Text size is_extensible alphabet whole)) =
       text limits.fragments aligned node size is_extensible (slice_range ranges alphabet.from (alphabet.from + alphabet.count))
       (slice_range ranges whole.from (whole.from + whole.count))

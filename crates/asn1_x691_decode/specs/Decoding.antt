@@ -20,6 +20,7 @@ use Rattle.asn1_schema.specs.TypeEncodings.{TypeEncoding, AfterHeader, several, 
 use Rattle.asn1_x691.specs.declared.fault.FaultKind.{FaultKind}
 use Rattle.asn1_x691.specs.declared.fault.FaultKind.TheVariants.{NoNode}
 use Rattle.asn1_x691.specs.OpenTypes.{padding, complete, open_type}
+use Rattle.asn1_x691.specs.Fragments.{most_fragments}
 use Rattle.asn1_x691.specs.Limits.{Limits}
 use Rattle.asn1_x691.specs.Types.{type_at, type_of, value_by, components, root_of, sequence_by, extension, addition, additions_by_bits, known_addition, sequence_of_by, sequence_of, added_length, in_order, items, choice, choice_by, choice_extension}
 use Rattle.asn1_x691_fields.specs.declared.state.State.{State}
@@ -30,9 +31,9 @@ use Rattle.asn1_x691_decode.specs.Room.{IsGrown}
 
 -- ---- a schema
 
--- the limits of the decoder: no fragments, and items of a SET OF that begin at octets in the ALIGNED variant
+-- the limits of the decoder: fragments of an OCTET STRING alone, and items of a SET OF that begin at octets in the ALIGNED variant
 abbrev pub decoder_limits : Limits
-decoder_limits = record { fragments = 0; sets_on_octets = true }
+decoder_limits = record { octet_fragments = most_fragments; fragments = 0; sets_on_octets = true }
 
 -- the bits that encode a default value after so many bits of an octet; none where the table has none. In the ALIGNED variant each
 -- value has eight rows of the table, and otherwise one.

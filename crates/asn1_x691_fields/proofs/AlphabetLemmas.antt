@@ -10,7 +10,8 @@ use Rattle.asn1_schema.specs.declared.tables.Range.{Range}
 use Rattle.asn1_schema.specs.CharactersOfParts.{characters_below, end_of, character_at}
 use Rattle.asn1_schema.specs.Laws.CharacterLaws.{below_more, none_past, character_is}
 use Rattle.asn1_x691.specs.Fields.{width_to}
-use Rattle.asn1_x691.specs.Alphabets.{IsIn, below}
+use Rattle.asn1_x691_fields.specs.Characters.{AreAscending}
+use Rattle.asn1_x691.specs.Alphabets.{IsIn, count_of, below}
 
 -- ---- indices
 
@@ -62,6 +63,54 @@ no_other ranges i c d low (inr high) p q =
         | inr ge ↦ omega (arith, le, ge)
       ]
     ]
+
+-- ---- ranges that ascend
+
+none_before : (ranges : List Range) (from c : ℕ) → AreAscending from ranges → c < from → characters_below ranges c ≡ 0
+none_before [] from c a h = refl
+none_before (r ∷ ranges) from c a h =
+    let others = none_before ranges (r.last + 1) c a.2 (omega (arith, h, a.0, a.1)) in
+    omega (arith, h, a.0, others)
+
+record HasAt (ranges : List Range) (from i : ℕ) : Type 0 where
+  character : ℕ
+  later : from ≤ character
+  within : IsIn ranges character
+  index : characters_below ranges character ≡ i
+
+-- each index below the count is of a character
+each_index : (ranges : List Range) (from i : ℕ) → AreAscending from ranges → i < count_of ranges → HasAt ranges from i
+each_index [] from i a h = absurd (omega (arith, h))
+each_index (r ∷ ranges) from i a h = elim (cases_lt i (r.last + 1 - r.first)) [
+  | inl lt ↦ let none = none_before ranges (r.last + 1) (r.first + i) a.2 (omega (arith, lt, a.1)) in
+      record {
+        character = r.first + i;
+        later = omega (arith, a.0);
+        within = inl (omega arith, omega (arith, lt));
+        index = omega (arith, none, lt);
+      }
+  | inr le ↦ let g = each_index ranges (r.last + 1) (i - (r.last + 1 - r.first)) a.2 (omega (arith, h, le)) in
+      record {
+        character = g.character;
+        later = omega (arith, a.0, a.1, g.later);
+        within = inr g.within;
+        index = omega (arith, a.1, g.later, g.index, le);
+      }
+]
+
+pub index_of_ascending : (ranges : List Range) (i : ℕ) → AreAscending 0 ranges → i < count_of ranges
+    → IsIn ranges (character_at ranges i) × (characters_below ranges (character_at ranges i) ≡ i)
+index_of_ascending ranges i a h = let g = each_index ranges 0 i a h in index_in ranges i g.character g.within g.index
+
+not_more : (ranges : List Range) (c : ℕ) → characters_below ranges c ≤ count_of ranges
+not_more [] c = omega arith
+not_more (r ∷ ranges) c = let others = not_more ranges c in omega (arith, others)
+
+pub no_index : (ranges : List Range) (i c : ℕ) → count_of ranges ≤ i → IsIn ranges c → characters_below ranges c ≡ i → ⊥
+no_index ranges i c h p q =
+    let more = more_in ranges c p in
+    let few = not_more ranges (c + 1) in
+    omega (arith, h, q, more, few)
 
 -- ---- widths
 

@@ -1,21 +1,28 @@
 -- The characters that codes are.
-use Rattle.std.specs.Prelude.{◌≡◌, ℕ, ◌+◌, ◌-◌, ◌^◌, ◌≤◌, Bool, true, false, List, map, drop, slice_range}
+use Rattle.std.specs.Prelude.{◌≡◌, ℕ, ◌+◌, ◌-◌, ◌^◌, ◌≤◌, Bool, true, false, List, [], ◌∷◌, map, drop, slice_range}
 use Rattle.asn1_schema.specs.declared.part.Codes.{Codes}
 use Rattle.asn1_schema.specs.declared.part.Codes.TheVariants.{Numbers, Indices}
 use Rattle.asn1_schema.specs.declared.tables.Range.{Range}
 use Rattle.asn1_schema.specs.declared.tables.Rows.{Rows}
 use Rattle.asn1_schema.specs.CharactersOfParts.{character_at, numbers_in}
-use Rattle.asn1_x691.specs.Alphabets.{width_of, are_within}
+use Rattle.asn1_x691.specs.Alphabets.{count_of, width_of, are_within}
 use Rattle.asn1_x691_fields.specs.declared.alphabets.Alphabet.{Alphabet}
 
 -- the ranges of rows of a table
 abbrev pub rows_of : List Range → Rows → List Range
 rows_of ranges rows = slice_range ranges rows.from (rows.from + rows.count)
 
+-- ranges in ascending order, none empty, from a number on
+abbrev pub AreAscending : ℕ → List Range → Type 0
+AreAscending from [] = Unit {0}
+AreAscending from (r ∷ ranges) = (from ≤ r.first) × (r.first ≤ r.last) × AreAscending (r.last + 1) ranges
+
 -- an alphabet says how its characters are encoded
 pub record IsAlphabet (a : Alphabet) : Type 0 where
   pub width : a.width ≡ width_of a.is_aligned a.ranges.now
   pub narrow : a.width ≤ 128
+  pub count : a.count ≡ count_of a.ranges.now
+  pub ascending : a.are_ascending ≡ true → AreAscending 0 a.ranges.now
   pub numbers : a.are_numbers ≡ are_within a.ranges.now (2 ^ width_of a.is_aligned a.ranges.now - 1)
 
 -- the character of a code, which is its number or its index

@@ -6,6 +6,7 @@ pub mod Octets
 -- What follows from steps of a decoder; no contract cites these.
 pub mod ContentSteps
 pub mod FirstBits
+pub mod FragmentSteps
 pub mod LeafSteps
 pub mod NumberSteps
 pub mod SignedSteps

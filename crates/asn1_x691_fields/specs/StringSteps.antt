@@ -1,5 +1,5 @@
 -- What follows from steps over units and their number.
-use Rattle.std.proofs.Common.{◌≡◌, ℕ, suc, ◌+◌, ◌-◌, ◌*◌, ◌/◌, ◌^◌, ◌<◌, ◌≤◌, List, [], ◌∷◌, ◌++◌, Bool, true, take, drop, refl, sym, ◌∙◌, ap, subst, arith, append_assoc, inl, inr, Option, Some, None}
+use Rattle.std.proofs.Common.{◌≡◌, ℕ, zero, suc, ◌+◌, ◌-◌, ◌*◌, ◌/◌, ◌^◌, ◌<◌, ◌≤◌, List, [], ◌∷◌, ◌++◌, Bool, true, take, drop, refl, sym, ◌∙◌, ap, subst, arith, append_assoc, inl, inr, Option, Some, None}
 use Rattle.std.specs.Prelude.{◌⊎◌, IfSome}
 use Rattle.std.proofs.lemmas.List.{take-append-drop, drop-take, drop-drop}
 use Rattle.asn1_bits.specs.Bits.{digits}
@@ -92,9 +92,10 @@ module _ {Y : Type 0} (U : ℕ → ℕ → Encoding FaultKind Y) (join : Y → Y
         turn_fault list old mid h g (units_next aligned node) (λ m v. v) B n s (fault_of new)
         (inr (many, fault_at list mid new node Unsupported g.inside at end place kind))
 
-  pub count_fault : (at : ℕ) (list : List Bool) (e : Fault FaultKind) → (units_next aligned node at).fault list e
-      → (all_units U join aligned node 0 at).fault list e
-  count_fault at list e w = inl w
+  pub count_fault : (most at : ℕ) (list : List Bool) (e : Fault FaultKind) → (units_next aligned node at).fault list e
+      → (all_units U join aligned node most at).fault list e
+  count_fault zero at list e w = inl w
+  count_fault (suc more) at list e w = inl w
 
 pub counted_after_start : {X T : Type 0} (A : Encoding FaultKind X) (node : ℕ) (aligned : Bool) (list : List Bool) (old mid new : State)
     (f : T → X) (r : Option T)

@@ -1,9 +1,10 @@
 //! Alphabets: ranges of characters, and the codes of their characters (X.691 30.5).
 
 ghost use Rattle.std.specs.Prelude.{◌≡◌, ◌≤◌, ◌<◌, ◌^◌, ◌*◌, ◌+◌, ◌-◌, ◌⊎◌, ℕ, true, false, length};
+ghost use Rattle.asn1_characters.specs.Widths.{width_for};
 ghost use Rattle.asn1_schema.specs.CharactersOfParts.{characters_below, end_of as end_in, character_at};
-ghost use Rattle.asn1_x691.specs.Alphabets.{IsIn, HasCode, count_of as count_in, are_within as are_all_within, width_of as width_in};
-ghost use Rattle.asn1_x691_fields.specs.Characters.{IsAlphabet, rows_of, character_by};
+ghost use Rattle.asn1_x691.specs.Alphabets.{IsIn, HasCode, count_of as count_in, are_within as are_all_within};
+ghost use Rattle.asn1_x691_fields.specs.Characters.{IsAlphabet, AreAscending, rows_of, character_by};
 
 use crate::numbers::width_to;
 use asn1_schema::{Range, Rows};
@@ -19,6 +20,10 @@ pub(crate) struct Alphabet<'s> {
     pub(crate) width: usize,
     /// Whether a code is the number of the character, and otherwise its index.
     pub(crate) are_numbers: bool,
+    /// How many characters there are.
+    pub(crate) count: u128,
+    /// Whether the ranges ascend, so that each index below the count is of a character.
+    pub(crate) are_ascending: bool,
 }
 
 /// Returns the alphabet of ranges.
@@ -27,13 +32,15 @@ pub(crate) fn alphabet_of(ranges: &[Range], is_aligned: bool) -> Alphabet<'_>
     ensures ranges { result.ranges.now ≡ ranges.now }
     ensures variant { result.is_aligned ≡ is_aligned }
 {
-    let width = width_of(ranges, is_aligned);
-    let are_numbers = are_within(ranges, width);
+    let count = count_of(ranges);
+    let width = width_of(count, is_aligned);
     Alphabet {
         ranges,
         is_aligned,
         width,
-        are_numbers,
+        are_numbers: are_within(ranges, width),
+        count,
+        are_ascending: are_ascending(ranges),
     }
 }
 
@@ -58,12 +65,11 @@ fn count_of(ranges: &[Range]) -> u128
     count
 }
 
-/// Returns in how many bits a character is (X.691 30.5.2, 30.5.3).
-fn width_of(ranges: &[Range], is_aligned: bool) -> usize
-    ensures value { result ≡ width_in is_aligned ranges.now }
+/// Returns in how many bits one of so many characters is (X.691 30.5.2, 30.5.3).
+fn width_of(count: u128, is_aligned: bool) -> usize
+    ensures value { result ≡ width_for is_aligned count }
     ensures most { result ≤ 128 }
 {
-    let count = count_of(ranges);
     if count <= 1 {
         return 0;
     }
@@ -174,6 +180,31 @@ fn has_index(ranges: &[Range], index: u128) -> bool
     count_below(ranges, character) == index && is_in(ranges, character as u128)
 }
 
+/// Returns whether ranges ascend, and none of them is empty.
+fn are_ascending(ranges: &[Range]) -> bool
+    ensures { result ≡ true → AreAscending 0 ranges.now }
+{
+    let mut end: u64 = 0;
+    for range in ranges {
+        if (range.first as u64) < end || range.last < range.first {
+            return false;
+        }
+        end = range.last as u64 + 1;
+    }
+    true
+}
+
+/// Returns whether an alphabet whose ranges ascend has a character of this index.
+fn is_index(alphabet: &Alphabet<'_>, index: u128) -> bool
+    requires is { IsAlphabet alphabet.now }
+    requires ascending { alphabet.now.are_ascending ≡ true }
+    ensures yes { result ≡ true → IsIn alphabet.now.ranges.now (character_at alphabet.now.ranges.now index)
+        × (characters_below alphabet.now.ranges.now (character_at alphabet.now.ranges.now index) ≡ index) }
+    ensures no { result ≡ false → (c : ℕ) → IsIn alphabet.now.ranges.now c → characters_below alphabet.now.ranges.now c ≡ index → ⊥ }
+{
+    index < alphabet.count
+}
+
 /// Returns whether a code is of a character (X.691 30.5.4).
 pub(crate) fn has_code(alphabet: &Alphabet<'_>, code: u128) -> bool
     requires { IsAlphabet alphabet.now }
@@ -183,6 +214,8 @@ pub(crate) fn has_code(alphabet: &Alphabet<'_>, code: u128) -> bool
 {
     if alphabet.are_numbers {
         is_in(alphabet.ranges, code)
+    } else if alphabet.are_ascending {
+        is_index(alphabet, code)
     } else {
         has_index(alphabet.ranges, code)
     }

@@ -94,6 +94,7 @@ pub fn next_start(octets: &[u8], is_aligned: bool, node: usize, state: &mut Stat
     requires placed { IsPlaced is_aligned state.old }
     ensures onward { IsOnward (bits octets.now) state.old state.new }
     ensures octet { IfSome result (λ u. is_aligned ≡ true → state.new.at % 8 ≡ 0) }
+    ensures stays { IfSome result (λ u. (is_aligned ≡ true → state.old.at % 8 ≡ 0) → state.new.at ≡ state.old.at) }
     ensures read { IsRead (on_octet is_aligned node (constant (tt {0}))) (λ u. tt) (bits octets.now) state.old state.new result }
 {
     if !is_aligned {

@@ -8,10 +8,12 @@ ghost use Rattle.asn1_schema.specs.PiecesOfParts.{piece_of};
 ghost use Rattle.asn1_schema.specs.TypeEncodings.{leaf, by_bit};
 ghost use Rattle.asn1_x691.specs.Strings.{string_of, added_string};
 ghost use Rattle.asn1_x691.specs.Leaves.{octet_string};
+ghost use Rattle.asn1_x691.specs.Fragments.{most_fragments};
 ghost use Rattle.asn1_x691_fields.specs.Outcomes.{IsWithin, IsOnward, IsRead, IsPlaced};
 
 use crate::heads::next_bit;
-use crate::sized_strings::{next_added_string, next_string_of};
+use crate::long_octets::{next_long_octets, next_other_octets, part_of};
+use crate::sized_strings::next_sized_string;
 use crate::state::State;
 use asn1_schema::{Length, Part};
 
@@ -28,7 +30,7 @@ pub fn next_octet_string(
     requires within { IsWithin (bits octets.now) state.old }
     requires placed { IsPlaced is_aligned state.old }
     ensures onward { IsOnward (bits octets.now) state.old state.new }
-    ensures read { (ranges : List Range) → IsRead (λ at. (octet_string 0 is_aligned node size is_extensible at).encoding)
+    ensures read { (ranges : List Range) → IsRead (λ at. (octet_string most_fragments is_aligned node size is_extensible at).encoding)
         (λ p. piece_of ranges (bits octets.now) p ∷ []) (bits octets.now) state.old state.new result }
 {
     if !is_extensible {
@@ -51,8 +53,8 @@ fn next_octets_by_bit(
     requires within { IsWithin (bits octets.now) state.old }
     requires placed { IsPlaced is_aligned state.old }
     ensures onward { IsOnward (bits octets.now) state.old state.new }
-    ensures read { (ranges : List Range) → IsRead (λ at. by_bit (leaf (string_of 0 is_aligned 8 size node) Octets node at)
-        (leaf (added_string 0 is_aligned 8 size node) Octets node at) is_added)
+    ensures read { (ranges : List Range) → IsRead (λ at. by_bit (leaf (string_of most_fragments is_aligned 8 size node) Octets node at)
+        (leaf (added_string most_fragments is_aligned 8 size node) Octets node at) is_added)
         (λ p. piece_of ranges (bits octets.now) p ∷ []) (bits octets.now) state.old state.new result }
 {
     if is_added {
@@ -73,11 +75,27 @@ fn next_octets_of_root(
     requires within { IsWithin (bits octets.now) state.old }
     requires placed { IsPlaced is_aligned state.old }
     ensures onward { IsOnward (bits octets.now) state.old state.new }
-    ensures read { (ranges : List Range) → IsRead (λ at. (leaf (string_of 0 is_aligned 8 size node) Octets node at).encoding)
+    ensures read { (ranges : List Range) → IsRead (λ at. (leaf (string_of most_fragments is_aligned 8 size node) Octets node at).encoding)
         (λ p. piece_of ranges (bits octets.now) p ∷ []) (bits octets.now) state.old state.new result }
 {
-    let span = next_string_of(octets, is_aligned, 8, size, node, state)?;
-    Some(Part::Octets(span))
+    match size {
+        Length::AtLeast { least } => {
+            let fragments = next_long_octets(octets, is_aligned, least, node, state)?;
+            Some(part_of(fragments))
+        }
+        Length::Between { least, range } => {
+            let span = next_sized_string(
+                octets,
+                is_aligned,
+                8,
+                least as usize,
+                range as usize,
+                node,
+                state,
+            )?;
+            Some(Part::Octets(span))
+        }
+    }
 }
 
 /// Reads octets of a size that is none of the root (X.691 17.3).
@@ -92,9 +110,9 @@ fn next_added_octets(
     requires within { IsWithin (bits octets.now) state.old }
     requires placed { IsPlaced is_aligned state.old }
     ensures onward { IsOnward (bits octets.now) state.old state.new }
-    ensures read { (ranges : List Range) → IsRead (λ at. (leaf (added_string 0 is_aligned 8 size node) Octets node at).encoding)
+    ensures read { (ranges : List Range) → IsRead (λ at. (leaf (added_string most_fragments is_aligned 8 size node) Octets node at).encoding)
         (λ p. piece_of ranges (bits octets.now) p ∷ []) (bits octets.now) state.old state.new result }
 {
-    let span = next_added_string(octets, is_aligned, 8, size, node, state)?;
-    Some(Part::Octets(span))
+    let fragments = next_other_octets(octets, is_aligned, size, node, state)?;
+    Some(part_of(fragments))
 }

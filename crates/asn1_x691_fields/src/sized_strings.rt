@@ -112,7 +112,7 @@ fn next_long_string(
 
 /// Reads units whose number has an upper bound: where the number is not fixed, it precedes them
 /// (X.691 16.8 to 16.11, 17.5 to 17.8).
-fn next_sized_string(
+pub(crate) fn next_sized_string(
     octets: &[u8],
     is_aligned: bool,
     unit: usize,

@@ -1,7 +1,7 @@
 //! Parts and faults in words.
 
 use asn1_bits::{BitStr, read_u128};
-use asn1_schema::{Characters, Codes, Natural, Part, Range, Span};
+use asn1_schema::{Characters, Codes, Fragments, Natural, Part, Range, Span};
 use asn1_test_rows::{RowError, wrong};
 use asn1_x691_decode::Fault;
 use std::alloc::Global;
@@ -71,6 +71,7 @@ fn word_of(alloc: Global, source: Source<'_>, part: Part) -> Result<String, RowE
         Part::Bits(span) => digits_at(alloc, "b", 1, octets, span),
         Part::Octets(span) => digits_at(alloc, "o", 4, octets, span),
         Part::Text(text) => characters_at(alloc, source, text),
+        Part::OctetsInFragments(fragments) => fragments_at(alloc, octets, fragments),
         Part::Sequence { count, is_extended } => {
             let mark = if is_extended { "+" } else { "" };
             Ok(format!(in alloc; "seq{count}{mark}")?)
@@ -154,6 +155,23 @@ fn character_of(ranges: &[Range], codes: Codes, code: u128) -> Option<u128> {
     None
 }
 
+/// Returns octets in fragments by digits after a name.
+fn fragments_at(alloc: Global, octets: &[u8], fragments: Fragments) -> Result<String, RowError> {
+    let mut text = String::from_str(alloc, "o")?;
+    let mut at = fragments.at;
+    for _ in 0..fragments.whole {
+        let span = Span {
+            at,
+            count: 8 * 65_536,
+        };
+        push_digits(alloc, &mut text, 4, octets, span)?;
+        at = at.saturating_add(8 * 65_537);
+    }
+    push_digits(alloc, &mut text, 4, octets, fragments.middle)?;
+    push_digits(alloc, &mut text, 4, octets, fragments.last)?;
+    Ok(text)
+}
+
 /// Returns bits by digits of `width` bits each after a name; `-` stands for none.
 fn digits_at(
     alloc: Global,
@@ -162,10 +180,25 @@ fn digits_at(
     octets: &[u8],
     span: Span,
 ) -> Result<String, RowError> {
+    let mut text = String::from_str(alloc, name)?;
+    push_digits(alloc, &mut text, width, octets, span)?;
+    if span.count == 0 {
+        text.push('-')?;
+    }
+    Ok(text)
+}
+
+/// Appends bits by digits of `width` bits each.
+fn push_digits(
+    alloc: Global,
+    text: &mut String,
+    width: usize,
+    octets: &[u8],
+    span: Span,
+) -> Result<(), RowError> {
     let Some(bits) = BitStr::new(octets, span.at, span.count) else {
         return Err(wrong(alloc, "the part", "part of the message"));
     };
-    let mut text = String::from_str(alloc, name)?;
     let mut digit = 0u32;
     let mut more = 0usize;
     for index in 0..bits.len() {
@@ -182,8 +215,5 @@ fn digits_at(
             more = 0;
         }
     }
-    if bits.is_empty() {
-        text.push('-')?;
-    }
-    Ok(text)
+    Ok(())
 }

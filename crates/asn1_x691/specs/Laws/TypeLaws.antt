@@ -233,7 +233,7 @@ module _ (limits : Limits) (aligned : Bool) (E : ℕ → ℕ → TypeEncoding Fa
   type_of_type (Some type.Integer) = integer_type aligned node
   type_of_type (Some (type.Enumerated last is_extensible known)) = enumerated_by_type aligned node is_extensible last known
   type_of_type (Some (type.BitString size is_extensible has_names)) = bit_string_type limits.fragments aligned node size is_extensible has_names
-  type_of_type (Some (type.OctetString size is_extensible)) = octet_string_type limits.fragments aligned node size is_extensible
+  type_of_type (Some (type.OctetString size is_extensible)) = octet_string_type limits.octet_fragments aligned node size is_extensible
   type_of_type (Some (type.Text size is_extensible alphabet whole)) =
       text_type limits.fragments aligned node size is_extensible (slice_range ranges alphabet.from (alphabet.from + alphabet.count))
       (slice_range ranges whole.from (whole.from + whole.count))

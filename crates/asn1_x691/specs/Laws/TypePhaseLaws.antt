@@ -305,7 +305,7 @@ module _ (limits : Limits) (aligned : Bool) (E : ℕ → ℕ → TypeEncoding Fa
       leaf_agrees Ph (unconstrained aligned node) Integer node (unconstrained_follows aligned node)
   type_of_follows (Some (type.Enumerated last b known)) = enumerated_by_follows aligned node b last known
   type_of_follows (Some (type.BitString size b has_names)) = bit_string_follows aligned node limits.fragments size b has_names
-  type_of_follows (Some (type.OctetString size b)) = octet_string_follows aligned node limits.fragments size b
+  type_of_follows (Some (type.OctetString size b)) = octet_string_follows aligned node limits.octet_fragments size b
   type_of_follows (Some (type.Text size b alphabet whole)) =
       text_follows aligned node limits.fragments size b (slice_range ranges alphabet.from (alphabet.from + alphabet.count))
       (slice_range ranges whole.from (whole.from + whole.count))

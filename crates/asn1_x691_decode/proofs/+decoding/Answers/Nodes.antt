@@ -8,6 +8,7 @@ use Rattle.asn1_schema.specs.Encodings.{Encoding, constant}
 use Rattle.asn1_x691.specs.declared.fault.FaultKind.{FaultKind}
 use Rattle.asn1_x691_fields.specs.Outcomes.{position}
 use Rattle.asn1_x691_fields.specs.Characters.{rows_of}
+use Rattle.asn1_x691.specs.Fragments.{most_fragments}
 use Rattle.asn1_x691_decode.specs.Decoding.{Outcome, IsDecoded}
 use Rattle.asn1_x691_decode.proofs.Steps.{at_node, put_step, nothing_decoded}
 use Rattle.asn1_x691.specs.Contents.{IsObjectIdentifier, IsRelativeIdentifier, IsUtf8Text}
@@ -149,7 +150,7 @@ decode_node-returns-in-Some-OctetString-clause-did t c =
     at_node cx a.node a.depth (Some (type.OctetString k.length k.is_extensible))
     (λ (B : ℕ → Encoding FaultKind Parts). Outcome cx B a.state.now p.new.state a.parts.now p.new.parts p.result)
     (omega (arith, c.if-depth-eq0.false)) (sym c.node_at.ensures ∙ k.is ∙ ap (λ (n : Node). Some n) k.field-0-is)
-    (kept_outcome cx (λ at. (octet_string 0 cx.is_aligned a.node k.length k.is_extensible at).encoding) a.state.now c.next_octet_string.new.state p.new.state a.parts.now p.new.parts c.next_octet_string.result p.result
+    (kept_outcome cx (λ at. (octet_string most_fragments cx.is_aligned a.node k.length k.is_extensible at).encoding) a.state.now c.next_octet_string.new.state p.new.state a.parts.now p.new.parts c.next_octet_string.result p.result
     c.next_octet_string.ensures.onward (c.next_octet_string.ensures.read cx.tables.ranges.now) (record { at = p.ensures.at; first = p.ensures.first; end = p.ensures.end }) p.ensures.kept)
 
 pub decode_node-returns-in-Some-Text-clause-did : goal.decoder::decode_node-returns-in-Some-Text-clause-did

@@ -5,6 +5,7 @@ use Rattle.asn1_schema.specs.PiecesOfParts.{piece_of}
 use Rattle.asn1_schema.specs.TypeEncodings.{leaf}
 use Rattle.asn1_x691.specs.Strings.{string_of, added_string}
 use Rattle.asn1_x691.specs.Leaves.{AreAddedOctets, octet_string}
+use Rattle.asn1_x691.specs.Fragments.{most_fragments}
 use Rattle.asn1_x691_fields.specs.Outcomes.{IsRead}
 use Rattle.asn1_x691_fields.specs.LeafSteps.{bit_taken}
 use Rattle.asn1_x691_fields.proofs.octet_strings.next_octet_string.Goals as goal
@@ -15,11 +16,11 @@ returns-clause-read c ranges =
     let node = c.args.node in
     let size = c.args.size in
     let new = c.next_octets_by_bit.new.state in
-    let taken = bit_taken node (AreAddedOctets size) (leaf (string_of 0 c.args.is_aligned 8 size node) Octets node)
-    (leaf (added_string 0 c.args.is_aligned 8 size node) Octets node) ranges list c.args.state.now c.next_bit.new.state new
+    let taken = bit_taken node (AreAddedOctets size) (leaf (string_of most_fragments c.args.is_aligned 8 size node) Octets node)
+    (leaf (added_string most_fragments c.args.is_aligned 8 size node) Octets node) ranges list c.args.state.now c.next_bit.new.state new
     c.in_ok-is_added.is_added c.next_octets_by_bit.result c.requires.within c.in_ok-is_added.ensures.onward
     c.in_ok-is_added.ensures.read (c.next_octets_by_bit.ensures.read ranges) in
-    subst (λ (b : Bool). IsRead (λ at. (octet_string 0 c.args.is_aligned node size b at).encoding) (λ p. piece_of ranges list p ∷ []) list
+    subst (λ (b : Bool). IsRead (λ at. (octet_string most_fragments c.args.is_aligned node size b at).encoding) (λ p. piece_of ranges list p ∷ []) list
     c.args.state.now new c.next_octets_by_bit.result) (sym c.if-not-is_extensible.false) taken
 
 pub returns-then-not-is_extensible-clause-read : goal.returns-then-not-is_extensible-clause-read

@@ -14,7 +14,7 @@ returns-in_err-count-clause-read c =
     let U = characters a.is_aligned a.ranges.now c.args.node in
     none_read (all_units U (λ x y. x ++ y) a.is_aligned c.args.node 0) (λ (p : ℕ × ℕ). (p.0, characters_at a list p.1 p.0)) list
     c.args.state.now c.next_count.new.state c.from_residual.result c.from_residual.ensures
-    (count_fault U (λ x y. x ++ y) a.is_aligned c.args.node (position c.args.state.now) (rest list c.args.state.now)
+    (count_fault U (λ x y. x ++ y) a.is_aligned c.args.node 0 (position c.args.state.now) (rest list c.args.state.now)
     (fault_of c.next_count.new.state) c.in_err-count.ensures.read)
 
 pub returns-then-count-ge16384-clause-read : goal.returns-then-count-ge16384-clause-read

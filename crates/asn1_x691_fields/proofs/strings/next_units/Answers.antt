@@ -11,7 +11,7 @@ returns-in_err-count-clause-read c =
     let list = bits c.args.octets.now in
     none_read (string 0 c.args.is_aligned c.args.unit c.args.node) (λ (p : ℕ × ℕ). (p.0, bits_at list p.1 (c.args.unit * p.0))) list
     c.args.state.now c.next_count.new.state c.from_residual.result c.from_residual.ensures
-    (count_fault (bits_of_units c.args.unit c.args.node) (λ a b. a ++ b) c.args.is_aligned c.args.node (position c.args.state.now)
+    (count_fault (bits_of_units c.args.unit c.args.node) (λ a b. a ++ b) c.args.is_aligned c.args.node 0 (position c.args.state.now)
     (rest list c.args.state.now) (fault_of c.next_count.new.state) c.in_err-count.ensures.read)
 
 pub returns-then-count-ge16384-clause-read : goal.returns-then-count-ge16384-clause-read
