@@ -8,7 +8,7 @@ ghost use Rattle.asn1_schema.specs.PiecesOfParts.{piece_of};
 ghost use Rattle.asn1_schema.specs.TypeEncodings.{leaf, by_bit};
 ghost use Rattle.asn1_x691.specs.Strings.{string_of, added_string};
 ghost use Rattle.asn1_x691.specs.Leaves.{octet_string};
-ghost use Rattle.asn1_x691_fields.specs.Outcomes.{IsWithin, IsOnward, IsTaken, IsPlaced};
+ghost use Rattle.asn1_x691_fields.specs.Outcomes.{IsWithin, IsOnward, IsRead, IsPlaced};
 
 use crate::heads::next_bit;
 use crate::long_octets::{next_long_octets, next_other_octets, part_of};
@@ -29,7 +29,7 @@ pub fn next_octet_string(
     requires within { IsWithin (bits octets.now) state.old }
     requires placed { IsPlaced is_aligned state.old }
     ensures onward { IsOnward (bits octets.now) state.old state.new }
-    ensures read { (ranges : List Range) → IsTaken (λ at. (octet_string is_aligned node size is_extensible at).encoding)
+    ensures read { (ranges : List Range) → IsRead (λ at. (octet_string is_aligned node size is_extensible at).encoding)
         (λ p. piece_of ranges (bits octets.now) p ∷ []) (bits octets.now) state.old state.new result }
 {
     if !is_extensible {
@@ -52,7 +52,7 @@ fn next_octets_by_bit(
     requires within { IsWithin (bits octets.now) state.old }
     requires placed { IsPlaced is_aligned state.old }
     ensures onward { IsOnward (bits octets.now) state.old state.new }
-    ensures read { (ranges : List Range) → IsTaken (λ at. by_bit (leaf (string_of is_aligned 8 size node) Octets node at)
+    ensures read { (ranges : List Range) → IsRead (λ at. by_bit (leaf (string_of is_aligned 8 size node) Octets node at)
         (leaf (added_string is_aligned 8 size node) Octets node at) is_added)
         (λ p. piece_of ranges (bits octets.now) p ∷ []) (bits octets.now) state.old state.new result }
 {
@@ -74,7 +74,7 @@ fn next_octets_of_root(
     requires within { IsWithin (bits octets.now) state.old }
     requires placed { IsPlaced is_aligned state.old }
     ensures onward { IsOnward (bits octets.now) state.old state.new }
-    ensures read { (ranges : List Range) → IsTaken (λ at. (leaf (string_of is_aligned 8 size node) Octets node at).encoding)
+    ensures read { (ranges : List Range) → IsRead (λ at. (leaf (string_of is_aligned 8 size node) Octets node at).encoding)
         (λ p. piece_of ranges (bits octets.now) p ∷ []) (bits octets.now) state.old state.new result }
 {
     match size {
@@ -101,7 +101,7 @@ fn next_added_octets(
     requires within { IsWithin (bits octets.now) state.old }
     requires placed { IsPlaced is_aligned state.old }
     ensures onward { IsOnward (bits octets.now) state.old state.new }
-    ensures read { (ranges : List Range) → IsTaken (λ at. (leaf (added_string is_aligned 8 size node) Octets node at).encoding)
+    ensures read { (ranges : List Range) → IsRead (λ at. (leaf (added_string is_aligned 8 size node) Octets node at).encoding)
         (λ p. piece_of ranges (bits octets.now) p ∷ []) (bits octets.now) state.old state.new result }
 {
     let fragments = next_other_octets(octets, is_aligned, size, node, state)?;

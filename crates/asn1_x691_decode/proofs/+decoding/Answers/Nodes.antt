@@ -1,5 +1,5 @@
 -- Answers for the decoders of src/decoder.rt.
-use Rattle.std.proofs.Common.{ℕ, [], sym, ◌∙◌, ap, arith, Some}
+use Rattle.std.proofs.Common.{ℕ, [], ◌∷◌, sym, ◌∙◌, ap, arith, Some}
 use Rattle.asn1_bits.specs.Bits.{bits}
 use Rattle.asn1_schema.specs.declared.tables.Node.{Node}
 use Rattle.asn1_schema.specs.declared.tables.Node.TheVariants as type
@@ -7,6 +7,8 @@ use Rattle.asn1_schema.specs.Pieces.{Null, Parts}
 use Rattle.asn1_schema.specs.Encodings.{Encoding, constant}
 use Rattle.asn1_x691.specs.declared.fault.FaultKind.{FaultKind}
 use Rattle.asn1_x691_fields.specs.Outcomes.{position}
+use Rattle.asn1_schema.specs.PiecesOfParts.{piece_of}
+use Rattle.asn1_x691_fields.specs.LeafSteps.{as_taken}
 use Rattle.asn1_x691_fields.specs.Characters.{rows_of}
 use Rattle.asn1_x691_decode.specs.Decoding.{Outcome, IsDecoded}
 use Rattle.asn1_x691_decode.proofs.Steps.{at_node, put_step, nothing_decoded}
@@ -141,7 +143,9 @@ decode_node-returns-in-Some-OctetString-clause-did t c =
     (λ (B : ℕ → Encoding FaultKind Parts). Outcome cx B a.state.now p.new.state a.parts.now p.new.parts p.result)
     (omega (arith, c.if-depth-eq0.false)) (sym c.node_at.ensures ∙ k.is ∙ ap (λ (n : Node). Some n) k.field-0-is)
     (kept_outcome cx (λ at. (octet_string cx.is_aligned a.node k.length k.is_extensible at).encoding) a.state.now c.next_octet_string.new.state p.new.state a.parts.now p.new.parts c.next_octet_string.result p.result
-    c.next_octet_string.ensures.onward (c.next_octet_string.ensures.read cx.tables.ranges.now) (record { at = p.ensures.at; first = p.ensures.first; end = p.ensures.end }) p.ensures.kept)
+    c.next_octet_string.ensures.onward (as_taken (λ at. (octet_string cx.is_aligned a.node k.length k.is_extensible at).encoding)
+    (λ q. piece_of cx.tables.ranges.now (bits cx.octets.now) q ∷ []) (bits cx.octets.now) a.state.now c.next_octet_string.new.state
+    c.next_octet_string.result (c.next_octet_string.ensures.read cx.tables.ranges.now)) (record { at = p.ensures.at; first = p.ensures.first; end = p.ensures.end }) p.ensures.kept)
 
 pub decode_node-returns-else-not-is_counted-2-clause-did : goal.decoder::decode_node-returns-else-not-is_counted-2-clause-did
 decode_node-returns-else-not-is_counted-2-clause-did t c =
