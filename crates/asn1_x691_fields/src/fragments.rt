@@ -25,6 +25,7 @@ struct Tail {
 }
 
 /// Reads the number of the units that follow: fewer than 16,384, or those of a fragment.
+#[inline(always)]
 fn next_number_octets(octets: &[u8], node: usize, state: &mut State) -> Option<usize>
     requires size { 8 * length octets.now < 2 ^ 64 }
     requires within { IsWithin (bits octets.now) state.old }
@@ -56,6 +57,7 @@ fn next_number_octets(octets: &[u8], node: usize, state: &mut State) -> Option<u
 }
 
 /// Reads the same at an octet in the ALIGNED variant.
+#[inline(always)]
 fn next_number_of_units(
     octets: &[u8],
     is_aligned: bool,
