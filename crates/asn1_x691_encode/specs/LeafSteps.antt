@@ -110,10 +110,10 @@ after_none c A was now old new r node none e on same reason m =
 
 pub at_node : (c : Context) (defaults : ℕ → List Bool) (node depth : ℕ) (o : Option Node) (P : (ℕ → TypeEncoding FaultKind) → Type 0)
     → 0 < depth → slice_get c.tables.nodes.now node ≡ o
-    → ((d : ℕ) → P (type_of c.is_aligned (types c defaults d) c.tables.members.now c.tables.ranges.now defaults node o))
+    → ((d : ℕ) → depth ≡ suc d → P (type_of c.is_aligned (types c defaults d) c.tables.members.now c.tables.ranges.now defaults node o))
     → P (types c defaults depth node)
 at_node c defaults node zero o P some e f = absurd (omega (arith, some))
 at_node c defaults node (suc d) o P some e f =
     let Q : Option Node → Type 0 =
     λ x. P (type_of c.is_aligned (types c defaults d) c.tables.members.now c.tables.ranges.now defaults node x) in
-    subst Q (sym e) (f d)
+    subst Q (sym e) (f d refl)

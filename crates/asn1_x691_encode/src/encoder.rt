@@ -8,6 +8,7 @@ use crate::leaves::{
     encode_at_least, encode_between, encode_bits, encode_boolean, encode_enumerated,
     encode_integer, encode_null, encode_octets,
 };
+use crate::list::encode_list;
 use asn1_schema::{MisfitKind, Node};
 use asn1_x691_writers::{Writer, reject};
 
@@ -26,6 +27,7 @@ fn node_at(nodes: &[Node], node: usize) -> Option<Node>
 /// Encodes a value of the type at a node: writes to `octets` from the next bit of the state on, and
 /// takes its parts from the next one on. Returns whether it did. Otherwise the state has the reason,
 /// and the next part is the one that does not fit. A value may be nested less deep than `depth`.
+#[cycle(encoding)]
 pub fn encode_node(
     context: &Context<'_>,
     depth: usize,
@@ -109,11 +111,16 @@ pub fn encode_node(
         ) => later(state, node),
         Some(
             Node::SequenceOf {
-                length: _,
-                is_extensible: _,
-                item: _,
+                length,
+                is_extensible,
+                item,
             },
-        ) => later(state, node),
+        ) => {
+            if is_extensible {
+                return later(state, node);
+            }
+            encode_list(context, depth - 1, node, length, item, octets, state)
+        }
         Some(
             Node::SetOf {
                 length: _,
