@@ -1,16 +1,18 @@
 -- What an encoder did: it wrote an encoding of the next parts, or it names the first misfit.
+use Rattle.asn1_x691.specs.Limits.{no_limits}
 use Rattle.std.specs.Prelude.{◌≡◌, ℕ, ◌⊎◌, ⊤, Bool, true, false, List, ◌++◌, length, drop, map, Option, Some, slice_get}
 use Rattle.asn1_schema.specs.declared.misfit.MisfitKind.{MisfitKind}
 use Rattle.asn1_schema.specs.declared.part.Part.{Part}
+use Rattle.asn1_schema.specs.declared.tables.Length.{Length}
 use Rattle.asn1_schema.specs.declared.tables.Node.{Node}
 use Rattle.asn1_schema.specs.declared.tables.Node.TheVariants as type
 use Rattle.asn1_schema.specs.Pieces.{Parts}
 use Rattle.asn1_schema.specs.TypeEncodings.{TypeEncoding}
 use Rattle.asn1_x691.specs.declared.fault.FaultKind.{FaultKind}
-use Rattle.asn1_x691.specs.Types.{type_at}
+use Rattle.asn1_x691.specs.Types.{type_at, sequence_of}
 use Rattle.asn1_x691_writers.specs.declared.state.Writer.{Writer}
 use Rattle.asn1_x691_writers.specs.declared.state.Rejection.TheVariants.{Misfit, Unsupported}
-use Rattle.asn1_x691_writers.specs.Put.{piece_in, IsFarInteger, IsFarIndex}
+use Rattle.asn1_x691_writers.specs.Put.{piece_in, IsFarInteger, IsFarIndex, IsInFragments}
 use Rattle.asn1_x691_writers.specs.Written.{IsAlike, IsWritten}
 use Rattle.asn1_x691_encode.specs.declared.context.Context.{Context}
 
@@ -19,8 +21,13 @@ abbrev pub tape : Context → ℕ → Parts
 tape c next = map (piece_in c.source.now) (drop next c.parts.now)
 
 -- the types of a context, whose values are nested less deep than the depth; `defaults` are the encodings of default values
-abbrev pub types : Context → (ℕ → List Bool) → ℕ → ℕ → ℕ → TypeEncoding FaultKind
-types c defaults depth node = type_at c.is_aligned c.tables.nodes.now c.tables.members.now c.tables.ranges.now defaults depth node
+abbrev pub types : Context → (ℕ → ℕ → Option (List Bool)) → ℕ → ℕ → ℕ → TypeEncoding FaultKind
+types c defaults depth node = type_at no_limits c.is_aligned c.tables.nodes.now c.tables.members.now c.tables.ranges.now defaults depth node
+
+-- a list of values that are nested less deep than the depth
+abbrev pub list_in : Context → (ℕ → ℕ → Option (List Bool)) → ℕ → ℕ → Length → ℕ → ℕ → TypeEncoding FaultKind
+list_in c defaults depth node size item =
+    sequence_of no_limits c.is_aligned (types c defaults depth) c.tables.members.now c.tables.ranges.now defaults node false size item
 
 -- bits that encode the next parts were written, up to another index
 pub record IsEncoded (c : Context) (A : ℕ → TypeEncoding FaultKind) (was : List ℕ) (old : Writer) (now : List ℕ) (new : Writer)
@@ -38,24 +45,24 @@ pub record IsFirstMisfit (c : Context) (A : ℕ → TypeEncoding FaultKind) (old
 
 -- ---- what is not encoded yet
 
--- types that have other parts than one, and types whose parts are text or identifiers
+-- types that have other parts than one, but for lists without an extension marker, and types whose parts are text or identifiers
 abbrev pub IsLater : Option Node → Type 0
 IsLater (Some type.ObjectIdentifier) = ⊤
 IsLater (Some type.RelativeIdentifier) = ⊤
 IsLater (Some type.Utf8String) = ⊤
 IsLater (Some (type.Text size is_extensible alphabet whole)) = ⊤
 IsLater (Some (type.Sequence root is_extensible known)) = ⊤
-IsLater (Some (type.SequenceOf size is_extensible item)) = ⊤
+IsLater (Some (type.SequenceOf size true item)) = ⊤
 IsLater (Some (type.SetOf size is_extensible item)) = ⊤
 IsLater (Some (type.Choice alternatives is_extensible known)) = ⊤
 IsLater (Some (type.Open inner)) = ⊤
 IsLater o = ⊥
 
--- a number that is too large for the encoder
+-- a number that is too large for the encoder, or octets in fragments
 pub record IsFar (c : Context) (next : ℕ) : Type 0 where
   pub part : Part
   pub is : slice_get c.parts.now next ≡ Some part
-  pub far : IsFarInteger (piece_in c.source.now part) ⊎ IsFarIndex (piece_in c.source.now part)
+  pub far : (IsFarInteger (piece_in c.source.now part) ⊎ IsFarIndex (piece_in c.source.now part)) ⊎ IsInFragments part
 
 abbrev pub IsLeft : Context → Writer → Type 0
 IsLeft c new = (new.reason ≡ Unsupported) × (IsLater (slice_get c.tables.nodes.now new.node) ⊎ IsFar c new.next)

@@ -1,4 +1,5 @@
 -- What follows of a part that was written, or rejected.
+use Rattle.asn1_x691.specs.Limits.{no_limits}
 use Rattle.std.proofs.Common.{◌≡◌, ℕ, zero, suc, ◌+◌, ◌<◌, get_or, List, [], ◌∷◌, Bool, true, false, length, drop, map, refl, sym, ap, ◌∙◌, subst, inl, inr, Option, Some, None, arith}
 use Rattle.std.specs.Prelude.{slice_get}
 use Rattle.std.proofs.Math.Seq.{drop-cons}
@@ -80,7 +81,7 @@ module _ (c : Context) (A : ℕ → TypeEncoding FaultKind) (p : Part) (was now 
         inr (record {
           part = p;
           is = ap (λ (i : ℕ). slice_get c.parts.now i) on ∙ is;
-          far = m.far;
+          far = inl m.far;
         }),
       )
 
@@ -108,12 +109,12 @@ after_none c A was now old new r node none e on same reason m =
 
 -- ---- the type at a node
 
-pub at_node : (c : Context) (defaults : ℕ → List Bool) (node depth : ℕ) (o : Option Node) (P : (ℕ → TypeEncoding FaultKind) → Type 0)
+pub at_node : (c : Context) (defaults : ℕ → ℕ → Option (List Bool)) (node depth : ℕ) (o : Option Node) (P : (ℕ → TypeEncoding FaultKind) → Type 0)
     → 0 < depth → slice_get c.tables.nodes.now node ≡ o
-    → ((d : ℕ) → P (type_of c.is_aligned (types c defaults d) c.tables.members.now c.tables.ranges.now defaults node o))
+    → ((d : ℕ) → depth ≡ suc d → P (type_of no_limits c.is_aligned (types c defaults d) c.tables.members.now c.tables.ranges.now defaults node o))
     → P (types c defaults depth node)
 at_node c defaults node zero o P some e f = absurd (omega (arith, some))
 at_node c defaults node (suc d) o P some e f =
     let Q : Option Node → Type 0 =
-    λ x. P (type_of c.is_aligned (types c defaults d) c.tables.members.now c.tables.ranges.now defaults node x) in
-    subst Q (sym e) (f d)
+    λ x. P (type_of no_limits c.is_aligned (types c defaults d) c.tables.members.now c.tables.ranges.now defaults node x) in
+    subst Q (sym e) (f d refl)

@@ -2,3 +2,4 @@
 pub mod Encoding
 -- What follows of steps of an encoder; no contract cites it.
 pub mod LeafSteps
+pub mod ListSteps

@@ -1,6 +1,6 @@
 //! Encodes a value of any type.
 
-ghost use Rattle.std.specs.Prelude.{◌≡◌, ℕ, Bool, List, ◌-◌, ◌*◌, ◌^◌, ◌<◌, length, slice_get};
+ghost use Rattle.std.specs.Prelude.{Option, ◌≡◌, ℕ, Bool, List, ◌-◌, ◌*◌, ◌^◌, ◌<◌, length, slice_get};
 ghost use Rattle.asn1_x691_encode.specs.Encoding.{Outcome, types};
 
 use crate::context::{Context, later};
@@ -8,6 +8,7 @@ use crate::leaves::{
     encode_at_least, encode_between, encode_bits, encode_boolean, encode_enumerated,
     encode_integer, encode_null, encode_octets,
 };
+use crate::list::encode_list;
 use asn1_schema::{MisfitKind, Node};
 use asn1_x691_writers::{Writer, reject};
 
@@ -26,6 +27,7 @@ fn node_at(nodes: &[Node], node: usize) -> Option<Node>
 /// Encodes a value of the type at a node: writes to `octets` from the next bit of the state on, and
 /// takes its parts from the next one on. Returns whether it did. Otherwise the state has the reason,
 /// and the next part is the one that does not fit. A value may be nested less deep than `depth`.
+#[cycle(encoding)]
 pub fn encode_node(
     context: &Context<'_>,
     depth: usize,
@@ -36,7 +38,7 @@ pub fn encode_node(
     requires size { 8 * length octets.old < 2 ^ 64 }
     requires source { 8 * length context.now.source.now < 2 ^ 64 }
     requires parts { length context.now.parts.now < 2 ^ 64 - 1 }
-    ensures { (defaults : ℕ → List Bool) → Outcome context.now (types context.now defaults depth node) octets.old state.old
+    ensures { (defaults : ℕ → ℕ → Option (List Bool)) → Outcome context.now (types context.now defaults depth node) octets.old state.old
         octets.new state.new result }
 {
     if depth == 0 {
@@ -65,7 +67,17 @@ pub fn encode_node(
                 is_extensible,
                 additions,
             },
-        ) => { encode_enumerated(context, last, is_extensible, additions, node, octets, state) }
+        ) => {
+            encode_enumerated(
+                context,
+                last as usize,
+                is_extensible,
+                additions as usize,
+                node,
+                octets,
+                state,
+            )
+        }
         Some(
             Node::BitString {
                 length,
@@ -109,11 +121,16 @@ pub fn encode_node(
         ) => later(state, node),
         Some(
             Node::SequenceOf {
-                length: _,
-                is_extensible: _,
-                item: _,
+                length,
+                is_extensible,
+                item,
             },
-        ) => later(state, node),
+        ) => {
+            if is_extensible {
+                return later(state, node);
+            }
+            encode_list(context, depth - 1, node, length, item, octets, state)
+        }
         Some(
             Node::SetOf {
                 length: _,

@@ -1,5 +1,6 @@
 //! Encodes values of one part.
 
+ghost use Rattle.asn1_x691.specs.Fragments.{most_fragments};
 ghost use Rattle.std.specs.Prelude.{◌≡◌, ℕ, Bool, List, ◌+◌, ◌-◌, ◌*◌, ◌^◌, ◌<◌, length};
 ghost use Rattle.asn1_schema.specs.Encodings.{anywhere};
 ghost use Rattle.asn1_schema.specs.Pieces.{Null, Truth};
@@ -12,7 +13,7 @@ ghost use Rattle.asn1_x691_encode.specs.Encoding.{Outcome};
 use crate::context::{Context, part_at, pass};
 use asn1_schema::{Bounds, Length, LowerBound, MisfitKind, Part};
 use asn1_x691_writers::{
-    Writer, put_bit_string, put_boolean, put_enumerated, put_integer, put_integer_at_least,
+    Writer, leave, put_bit_string, put_boolean, put_enumerated, put_integer, put_integer_at_least,
     put_integer_between, put_octet_string, reject,
 };
 
@@ -173,7 +174,7 @@ pub(crate) fn encode_bits(
     requires size { 8 * length octets.old < 2 ^ 64 }
     requires source { 8 * length context.now.source.now < 2 ^ 64 }
     requires parts { length context.now.parts.now < 2 ^ 64 - 1 }
-    ensures { Outcome context.now (bit_string context.now.is_aligned node size is_extensible has_names) octets.old state.old octets.new state.new result }
+    ensures { Outcome context.now (bit_string most_fragments context.now.is_aligned node size is_extensible has_names) octets.old state.old octets.new state.new result }
 {
     match part_at(context.parts, state.next) {
         None => reject(state, node, MisfitKind::NoPart),
@@ -206,10 +207,11 @@ pub(crate) fn encode_octets(
     requires size { 8 * length octets.old < 2 ^ 64 }
     requires source { 8 * length context.now.source.now < 2 ^ 64 }
     requires parts { length context.now.parts.now < 2 ^ 64 - 1 }
-    ensures { Outcome context.now (octet_string context.now.is_aligned node size is_extensible) octets.old state.old octets.new state.new result }
+    ensures { Outcome context.now (octet_string most_fragments context.now.is_aligned node size is_extensible) octets.old state.old octets.new state.new result }
 {
     match part_at(context.parts, state.next) {
         None => reject(state, node, MisfitKind::NoPart),
+        Some(Part::OctetsInFragments(_)) => leave(state, node),
         Some(part) => pass(
             put_octet_string(
                 octets,

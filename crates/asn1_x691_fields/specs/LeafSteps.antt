@@ -13,7 +13,6 @@ use Rattle.asn1_x691.specs.Leaves.{by_extension_bit}
 use Rattle.asn1_x691_fields.specs.declared.state.State.{State}
 use Rattle.asn1_x691_fields.specs.Outcomes.{rest, position, fault_of, IsWithin, IsOnward, IsRead}
 use Rattle.asn1_x691_fields.specs.Steps.{turn_starts, turn_fault}
-use Rattle.asn1_x691_fields.specs.NumberSteps.{turn_read}
 
 -- ---- one part, and its bits
 
@@ -55,21 +54,6 @@ pub bit_taken : (node : ℕ) (Added : Piece → Type 0) (root extension : ℕ �
 bit_taken node Added root extension ranges list old mid new b r h o s p =
     turn_read list old mid new b (λ (t : Part). piece_of ranges list t ∷ []) (λ at. bit node) (λ x ts. ts)
     (λ x at. by_bit (root at) (extension at) x) r h o s p
-
--- the same where no bits are in fragments
-pub bit_read : (node : ℕ) (Added : Piece → Type 0) (root extension : ℕ → TypeEncoding FaultKind) (ranges : List Range) (list : List Bool) (old mid new : State)
-    (b : Bool) (r : Option Part) → IsWithin list old → IsOnward list old mid
-    → Starts (bit node).encodes (rest list old) b (rest list mid)
-    → IsRead (λ at. by_bit (root at) (extension at) b) (λ p. piece_of ranges list p ∷ []) list mid new r
-    → IsRead (λ at. (by_extension_bit node Added root extension at).encoding) (λ p. piece_of ranges list p ∷ []) list old new r
-bit_read node Added root extension ranges list old mid new b r h o s p =
-    turn_read list old mid new b (λ (t : Part). piece_of ranges list t ∷ []) (λ at. bit node) (λ x ts. ts)
-    (λ x at. by_bit (root at) (extension at) x) r h o s p
-
-pub as_taken : {X T : Type 0} (A : ℕ → Encoding FaultKind X) (f : T → X) (list : List Bool) (old new : State) (r : Option T)
-    → IsRead A f list old new r → IsTaken A f list old new r
-as_taken A f list old new (Some t) p = p
-as_taken A f list old new None w = inl w
 
 -- ---- a value that is permitted
 

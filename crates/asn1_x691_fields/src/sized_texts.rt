@@ -37,7 +37,14 @@ pub(crate) fn next_text_of(
     match size {
         Length::AtLeast { least } => next_long_text(octets, alphabet, least, node, state),
         Length::Between { least, range } => {
-            next_sized_text(octets, alphabet, least as usize, range as usize, node, state)
+            next_sized_text(
+                octets,
+                alphabet,
+                least as usize,
+                range as usize,
+                node,
+                state,
+            )
         }
     }
 }

@@ -124,7 +124,11 @@ impl Types {
         } else {
             self.default_spans.len()
         };
-        let times = if !self.is_aligned || text.contains('.') { 1 } else { 8 };
+        let times = if !self.is_aligned || text.contains('.') {
+            1
+        } else {
+            8
+        };
         for _ in 0..times {
             for bits in text.split('.') {
                 let span = self.add_bits(bits)?;

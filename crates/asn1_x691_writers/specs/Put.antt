@@ -3,6 +3,8 @@ use Rattle.std.specs.Prelude.{◌≡◌, ℕ, ℤ, ◌^◌, ◌≤◌, ◌⊎◌
 use Rattle.asn1_bits.specs.Bits.{bits}
 use Rattle.asn1_schema.specs.declared.misfit.MisfitKind.{MisfitKind}
 use Rattle.asn1_schema.specs.declared.part.Part.{Part}
+use Rattle.asn1_schema.specs.declared.part.Part.TheVariants.{OctetsInFragments}
+use Rattle.asn1_schema.specs.declared.part.Fragments.{Fragments}
 use Rattle.asn1_schema.specs.Pieces.{Piece, Integer, UnknownEnumerated, Parts}
 use Rattle.asn1_schema.specs.PiecesOfParts.{piece_of}
 use Rattle.asn1_schema.specs.TypeEncodings.{TypeEncoding}
@@ -12,9 +14,14 @@ use Rattle.asn1_x691_writers.specs.declared.state.Writer.{Writer}
 use Rattle.asn1_x691_writers.specs.declared.state.Rejection.TheVariants.{Misfit, Unsupported}
 use Rattle.asn1_x691_writers.specs.Written.{IsWritten}
 
--- the piece that a part is, whose spans are bits of these octets
+-- the part is a string whose octets are in fragments
+abbrev pub IsInFragments : Part → Type 0
+IsInFragments p = (f : Fragments) × (p ≡ OctetsInFragments f)
+
+-- The piece that a part is, whose spans are bits of these octets. Strings of characters are not written yet, so that no table of
+-- ranges is needed.
 abbrev pub piece_in : List ℕ → Part → Piece
-piece_in source p = piece_of (bits source) p
+piece_in source p = piece_of [] (bits source) p
 
 -- parts that begin with this one begin with no value, and the state names their first misfit
 pub record IsMisfit (T : ℕ → TypeEncoding FaultKind) (p : Piece) (new : Writer) : Type 0 where

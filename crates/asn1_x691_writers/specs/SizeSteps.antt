@@ -26,7 +26,7 @@ module _ (aligned : Bool) (unit node : ℕ) where
       ap length q.1.1 ∙ q.1.0
 
   -- a string is whole units
-  pub whole_units : (size : Length) (at : ℕ) (x k : List Bool) → (string_of aligned unit size node at).encodes x k
+  pub whole_units : (size : Length) (at : ℕ) (x k : List Bool) → (string_of most_fragments aligned unit size node at).encodes x k
       → (n : ℕ) × (length x ≡ unit * n)
   whole_units (AtLeast least) at x k p =
       let g = only_constant _ _ p.value.1 p.after BelowLeast node p.rest p.second in
@@ -36,8 +36,8 @@ module _ (aligned : Bool) (unit node : ℕ) where
 
   -- of a size that is none of the root it has no encoding in the root
   pub none_of_root : (apart : (m n : ℕ) → unit * m ≡ unit * n → m ≡ n) (size : Length) (n at : ℕ) (x : List Bool) → length x ≡ unit * n
-      → IsAddedSize size n → CanEncode (string_of aligned unit size node at).encodes x → ⊥
-  none_of_root apart size n at x e added p = string_is_not_added aligned unit node apart size at x p.list p.encoded (n, e, added)
+      → IsAddedSize size n → CanEncode (string_of most_fragments aligned unit size node at).encodes x → ⊥
+  none_of_root apart size n at x e added p = string_is_not_added most_fragments aligned unit node apart size at x p.list p.encoded (n, e, added)
 
 pub root_or_added : (size : Length) (n : ℕ) (b : Bool) → (b ≡ true → IsOfRoot size n) → (b ≡ false → IsAddedSize size n)
     → IsOfRoot size n ⊎ IsAddedSize size n
@@ -69,6 +69,6 @@ module _ (aligned : Bool) (node : ℕ) (size : Length) (A : ℕ → Encoding Fau
 
 -- ---- octets after their number
 
-pub whole_octets : (aligned : Bool) (node at : ℕ) (x k : List Bool) → (octets aligned node at).encodes x k → (n : ℕ) × (length x ≡ 8 * n)
+pub whole_octets : (aligned : Bool) (node at : ℕ) (x k : List Bool) → (octets most_fragments aligned node at).encodes x k → (n : ℕ) × (length x ≡ 8 * n)
 whole_octets aligned node at x k p =
     (p.value.0, ap length p.is ∙ (all_held aligned 8 node most_fragments at p.value p.front p.first).size)

@@ -1,5 +1,6 @@
 //! BIT STRING (X.691 16).
 
+ghost use Rattle.asn1_x691.specs.Fragments.{most_fragments};
 ghost use Rattle.std.specs.Prelude.{◌≡◌, ◌+◌, ◌-◌, ◌*◌, ◌^◌, ◌<◌, ◌≤◌, true, false, length};
 ghost use Rattle.asn1_bits.specs.Bits.{bits, number};
 ghost use Rattle.asn1_schema.specs.Pieces.{Bits};
@@ -30,7 +31,7 @@ pub fn put_bit_string(
 ) -> bool
     requires size { 8 * length octets.old < 2 ^ 64 }
     requires source { 8 * length source.now < 2 ^ 64 }
-    ensures { IsPut is_aligned (bit_string is_aligned node size is_extensible has_names) (piece_in source.now part) octets.old state.old
+    ensures { IsPut is_aligned (bit_string most_fragments is_aligned node size is_extensible has_names) (piece_in source.now part) octets.old state.old
         octets.new state.new result }
 {
     match part {
@@ -63,7 +64,7 @@ fn put_bits_of_root(
     requires size { 8 * length octets.old < 2 ^ 64 }
     requires source { 8 * length source.now < 2 ^ 64 }
     requires inside { span.at + span.count ≤ 8 * length source.now }
-    ensures { IsPut is_aligned (leaf (bits_by is_aligned node has_names size (string_of is_aligned 1 size node)) Bits node)
+    ensures { IsPut is_aligned (leaf (bits_by is_aligned node has_names size (string_of most_fragments is_aligned 1 size node)) Bits node)
         (Bits (bits_of (bits source.now) span)) octets.old state.old octets.new state.new result }
 {
     if !is_of_root(size, span.count) {
@@ -92,7 +93,7 @@ fn put_extensible(
     requires size { 8 * length octets.old < 2 ^ 64 }
     requires source { 8 * length source.now < 2 ^ 64 }
     requires inside { span.at + span.count ≤ 8 * length source.now }
-    ensures { IsPut is_aligned (bit_string is_aligned node size true has_names) (Bits (bits_of (bits source.now) span)) octets.old
+    ensures { IsPut is_aligned (bit_string most_fragments is_aligned node size true has_names) (Bits (bits_of (bits source.now) span)) octets.old
         state.old octets.new state.new result }
 {
     let is_root = is_of_root(size, span.count);
@@ -117,7 +118,7 @@ fn least_of(size: Length) -> usize
 {
     match size {
         Length::AtLeast { least } => least,
-        Length::Between { least, range: _ } => least,
+        Length::Between { least, range: _ } => least as usize,
     }
 }
 

@@ -1,5 +1,6 @@
 //! OCTET STRING (X.691 17).
 
+ghost use Rattle.asn1_x691.specs.Fragments.{most_fragments};
 ghost use Rattle.std.specs.Prelude.{◌≡◌, ◌+◌, ◌*◌, ◌^◌, ◌<◌, ◌≤◌, true, length};
 ghost use Rattle.asn1_bits.specs.Bits.{bits};
 ghost use Rattle.asn1_schema.specs.Pieces.{Octets};
@@ -7,15 +8,16 @@ ghost use Rattle.asn1_schema.specs.PiecesOfParts.{bits_of};
 ghost use Rattle.asn1_schema.specs.TypeEncodings.{leaf};
 ghost use Rattle.asn1_x691.specs.Leaves.{octet_string};
 ghost use Rattle.asn1_x691.specs.Strings.{string_of};
-ghost use Rattle.asn1_x691_writers.specs.Put.{IsPut, piece_in};
+ghost use Rattle.asn1_x691_writers.specs.Put.{IsInFragments, IsPut, piece_in};
 
 use crate::booleans::put_bit;
 use crate::sized_strings::{is_of_root, put_added_string, put_string_of};
 use crate::spans::clip;
-use crate::state::{Writer, reject};
+use crate::state::{Writer, leave, reject};
 use asn1_schema::{Length, MisfitKind, Part, Span};
 
-/// Writes an OCTET STRING by its size constraint (X.691 17.2 to 17.8).
+/// Writes an OCTET STRING by its size constraint (X.691 17.2 to 17.8). The part must not be one in
+/// fragments: its octets are not written yet.
 pub fn put_octet_string(
     octets: &mut [u8],
     is_aligned: bool,
@@ -28,7 +30,8 @@ pub fn put_octet_string(
 ) -> bool
     requires size { 8 * length octets.old < 2 ^ 64 }
     requires source { 8 * length source.now < 2 ^ 64 }
-    ensures { IsPut is_aligned (octet_string is_aligned node size is_extensible) (piece_in source.now part) octets.old state.old octets.new
+    requires whole { IsInFragments part → ⊥ }
+    ensures { IsPut is_aligned (octet_string most_fragments is_aligned node size is_extensible) (piece_in source.now part) octets.old state.old octets.new
         state.new result }
 {
     match part {
@@ -39,6 +42,7 @@ pub fn put_octet_string(
             }
             put_octets_of_root(octets, is_aligned, size, source, inside, node, state)
         }
+        Part::OctetsInFragments(_) => leave(state, node),
         _ => reject(state, node, MisfitKind::OtherPart),
     }
 }
@@ -56,7 +60,7 @@ fn put_octets_of_root(
     requires size { 8 * length octets.old < 2 ^ 64 }
     requires source { 8 * length source.now < 2 ^ 64 }
     requires inside { span.at + span.count ≤ 8 * length source.now }
-    ensures { IsPut is_aligned (leaf (string_of is_aligned 8 size node) Octets node) (Octets (bits_of (bits source.now) span)) octets.old
+    ensures { IsPut is_aligned (leaf (string_of most_fragments is_aligned 8 size node) Octets node) (Octets (bits_of (bits source.now) span)) octets.old
         state.old octets.new state.new result }
 {
     if span.count % 8 > 0 {
@@ -85,7 +89,7 @@ fn put_extensible(
     requires size { 8 * length octets.old < 2 ^ 64 }
     requires source { 8 * length source.now < 2 ^ 64 }
     requires inside { span.at + span.count ≤ 8 * length source.now }
-    ensures { IsPut is_aligned (octet_string is_aligned node size true) (Octets (bits_of (bits source.now) span)) octets.old
+    ensures { IsPut is_aligned (octet_string most_fragments is_aligned node size true) (Octets (bits_of (bits source.now) span)) octets.old
         state.old octets.new state.new result }
 {
     if span.count % 8 > 0 {

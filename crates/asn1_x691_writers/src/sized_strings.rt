@@ -1,5 +1,6 @@
 //! Strings by their size constraints (X.691 16, 17).
 
+ghost use Rattle.asn1_x691.specs.Fragments.{most_fragments};
 ghost use Rattle.std.specs.Prelude.{◌≡◌, ℕ, ◌+◌, ◌*◌, ◌^◌, ◌<◌, ◌≤◌, true, false, length};
 ghost use Rattle.asn1_bits.specs.Bits.{bits};
 ghost use Rattle.asn1_schema.specs.PiecesOfParts.{bits_at};
@@ -19,7 +20,9 @@ pub fn is_of_root(size: Length, count: usize) -> bool
 {
     match size {
         Length::AtLeast { least } => count >= least,
-        Length::Between { least, range } => count >= least && count - least <= range,
+        Length::Between { least, range } => {
+            count >= least as usize && count - least as usize <= range as usize
+        }
     }
 }
 
@@ -40,7 +43,7 @@ pub fn put_string_of(
     requires some { 0 < unit }
     requires within { from + unit * count ≤ 8 * length source.now }
     requires root { IsOfRoot size count }
-    ensures { (node : ℕ) → IsWritten is_aligned (string_of is_aligned unit size node) (bits_at (bits source.now) from (unit * count))
+    ensures { (node : ℕ) → IsWritten is_aligned (string_of most_fragments is_aligned unit size node) (bits_at (bits source.now) from (unit * count))
         octets.old at octets.new result }
 {
     match size {
@@ -53,10 +56,18 @@ pub fn put_string_of(
                 at,
                 is_aligned,
                 range as u128,
-                (count - least) as u128,
+                (count - least as usize) as u128,
             );
             put_units_of(
-                octets, after, is_aligned, unit, least, range, source, from, count,
+                octets,
+                after,
+                is_aligned,
+                unit,
+                least as usize,
+                range as usize,
+                source,
+                from,
+                count,
             )
         }
     }
@@ -77,7 +88,7 @@ pub fn put_added_string(
     requires source { 8 * length source.now < 2 ^ 64 }
     requires some { 0 < unit }
     requires within { from + unit * count ≤ 8 * length source.now }
-    ensures { (size : Length) (node : ℕ) → IsAddedSize size count → IsWritten is_aligned (added_string is_aligned unit size node)
+    ensures { (size : Length) (node : ℕ) → IsAddedSize size count → IsWritten is_aligned (added_string most_fragments is_aligned unit size node)
         (bits_at (bits source.now) from (unit * count)) octets.old at octets.new result }
 {
     put_units(octets, at, is_aligned, unit, source, from, count)

@@ -1,5 +1,6 @@
 //! Units after their number, in fragments where there are many (X.691 11.9.3.5 to 11.9.3.8).
 
+ghost use Rattle.asn1_x691.specs.Fragments.{most_fragments};
 ghost use Rattle.std.specs.Prelude.{◌≡◌, ℕ, suc, ◌++◌, ◌+◌, ◌*◌, ◌^◌, ◌<◌, ◌≤◌, length};
 ghost use Rattle.asn1_bits.specs.Bits.{bits};
 ghost use Rattle.asn1_schema.specs.PiecesOfParts.{bits_at};
@@ -27,7 +28,7 @@ pub fn put_units(
     requires source { 8 * length source.now < 2 ^ 64 }
     requires some { 0 < unit }
     requires within { from + unit * count ≤ 8 * length source.now }
-    ensures { (node : ℕ) → IsWritten is_aligned (string is_aligned unit node) (count, bits_at (bits source.now) from (unit * count))
+    ensures { (node : ℕ) → IsWritten is_aligned (string most_fragments is_aligned unit node) (count, bits_at (bits source.now) from (unit * count))
         octets.old at octets.new result }
 {
     if count < 16384 {
@@ -133,7 +134,7 @@ fn put_fragments(
     requires source { 8 * length source.now < 2 ^ 64 }
     requires some { 0 < unit }
     requires within { from + unit * count ≤ 8 * length source.now }
-    ensures { (node : ℕ) → IsWritten is_aligned (string is_aligned unit node) (count, bits_at (bits source.now) from (unit * count))
+    ensures { (node : ℕ) → IsWritten is_aligned (string most_fragments is_aligned unit node) (count, bits_at (bits source.now) from (unit * count))
         octets.old at octets.new result }
 {
     let mut next = at;

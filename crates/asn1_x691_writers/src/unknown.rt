@@ -1,5 +1,6 @@
 //! Octets after their number (X.691 17.8), and values that the schema does not know (19.9, 23.8).
 
+ghost use Rattle.asn1_x691.specs.Fragments.{most_fragments};
 ghost use Rattle.std.specs.Prelude.{ℕ, ◌+◌, ◌*◌, ◌^◌, ◌<◌, ◌≤◌, length};
 ghost use Rattle.asn1_bits.specs.Bits.{bits};
 ghost use Rattle.asn1_schema.specs.Pieces.{Unknown};
@@ -27,7 +28,7 @@ pub fn put_octets(
     requires size { 8 * length octets.old < 2 ^ 64 }
     requires source { 8 * length source.now < 2 ^ 64 }
     requires within { from + 8 * count ≤ 8 * length source.now }
-    ensures { (node : ℕ) → IsWritten is_aligned (octets_in is_aligned node) (bits_at (bits source.now) from (8 * count))
+    ensures { (node : ℕ) → IsWritten is_aligned (octets_in most_fragments is_aligned node) (bits_at (bits source.now) from (8 * count))
         octets.old at octets.new result }
 {
     put_units(octets, at, is_aligned, 8, source, from, count)
@@ -44,7 +45,7 @@ pub fn put_unknown(
 ) -> bool
     requires size { 8 * length octets.old < 2 ^ 64 }
     requires source { 8 * length source.now < 2 ^ 64 }
-    ensures { IsPut is_aligned (leaf (octets_in is_aligned node) Unknown node) (piece_in source.now part) octets.old state.old
+    ensures { IsPut is_aligned (leaf (octets_in most_fragments is_aligned node) Unknown node) (piece_in source.now part) octets.old state.old
         octets.new state.new result }
 {
     match part {

@@ -1,5 +1,5 @@
 -- Answers for the decoders of src/decoder.rt.
-use Rattle.std.proofs.Common.{ℕ, [], ◌∷◌, sym, ◌∙◌, ap, arith, Some}
+use Rattle.std.proofs.Common.{ℕ, [], sym, ◌∙◌, ap, arith, Some}
 use Rattle.asn1_bits.specs.Bits.{bits}
 use Rattle.asn1_schema.specs.declared.tables.Node.{Node}
 use Rattle.asn1_schema.specs.declared.tables.Node.TheVariants as type
@@ -7,8 +7,6 @@ use Rattle.asn1_schema.specs.Pieces.{Null, Parts}
 use Rattle.asn1_schema.specs.Encodings.{Encoding, constant}
 use Rattle.asn1_x691.specs.declared.fault.FaultKind.{FaultKind}
 use Rattle.asn1_x691_fields.specs.Outcomes.{position}
-use Rattle.asn1_schema.specs.PiecesOfParts.{piece_of}
-use Rattle.asn1_x691_fields.specs.LeafSteps.{as_taken}
 use Rattle.asn1_x691_fields.specs.Characters.{rows_of}
 use Rattle.asn1_x691.specs.Fragments.{most_fragments}
 use Rattle.asn1_x691_decode.specs.Decoding.{Outcome, IsDecoded}

@@ -1,3 +1,4 @@
+use Rattle.asn1_x691.specs.Fragments.{most_fragments}
 use Rattle.std.proofs.Common.{Bool, true, sym, ap, ◌∙◌, subst}
 use Rattle.asn1_schema.specs.Pieces.{Piece, Bits}
 use Rattle.asn1_x691.specs.Leaves.{bit_string}
@@ -6,7 +7,7 @@ use Rattle.asn1_x691_writers.proofs.bit_strings.put_bit_string.Goals as goal
 
 pub returns-then-is_extensible : goal.returns-then-is_extensible
 returns-then-is_extensible c =
-    let T = λ (b : Bool). bit_string c.args.is_aligned c.args.node c.args.size b c.args.has_names in
+    let T = λ (b : Bool). bit_string most_fragments c.args.is_aligned c.args.node c.args.size b c.args.has_names in
     let e = ap (piece_in c.args.source.now) c.in-Bits.is ∙ ap Bits (sym c.clip-inside.ensures.same) in
     subst
     (λ (b : Bool). IsPut c.args.is_aligned (T b) (piece_in c.args.source.now c.args.part) c.args.octets.now c.args.state.now

@@ -1,3 +1,4 @@
+use Rattle.asn1_x691.specs.Fragments.{most_fragments}
 use Rattle.std.proofs.Common.{◌≡◌, ℕ, ◌*◌, refl, subst, arith}
 use Rattle.asn1_bits.specs.Bits.{bits}
 use Rattle.asn1_bits.specs.DigitLaws.{length-bits}
@@ -22,7 +23,7 @@ returns-then-not-is_of_root c =
     let size = c.args.size in
     let names = c.args.has_names in
     let count = c.args.span.count in
-    let A = string_of aligned 1 size node in
+    let A = string_of most_fragments aligned 1 size node in
     let list = bits_at (bits c.args.source.now) c.args.span.at count in
     let n = front_length (bits c.args.source.now) c.args.span.at count (omega (arith, c.requires.inside, length-bits c.args.source.now)) in
     rejected aligned (leaf (bits_by aligned node names size A) Bits node) (Bits list) c.args.octets.now c.args.state.now c.reject.new.state
@@ -39,7 +40,7 @@ returns-then-not-are_permitted c =
     let node = c.args.node in
     let size = c.args.size in
     let names = c.args.has_names in
-    let A = string_of aligned 1 size node in
+    let A = string_of most_fragments aligned 1 size node in
     let list = bits_at (bits c.args.source.now) c.args.span.at c.args.span.count in
     rejected aligned (leaf (bits_by aligned node names size A) Bits node) (Bits list) c.args.octets.now c.args.state.now
     c.reject-then-not-are_permitted.new.state c.reject-then-not-are_permitted.result node NoEncoding
@@ -56,7 +57,7 @@ returns c =
     let names = c.args.has_names in
     let count = c.args.span.count in
     let source = bits c.args.source.now in
-    let A = string_of aligned 1 size node in
+    let A = string_of most_fragments aligned 1 size node in
     let was = c.args.octets.now in
     let now = c.put_string_of-state.new.octets in
     let old = c.args.state.now.at in
@@ -66,7 +67,7 @@ returns c =
     record {
       written = leaf_written (bits_by aligned node names size A) Bits node aligned list (Bits list) was now old new refl
           (named_written aligned node size A list names was now old new (c.are_permitted.ensures.permitted c.if-not-are_permitted.false)
-          (subst (λ (k : ℕ). IsWritten aligned (string_of aligned 1 size node) (bits_at source c.args.span.at k) was old now new) e
+          (subst (λ (k : ℕ). IsWritten aligned (string_of most_fragments aligned 1 size node) (bits_at source c.args.span.at k) was old now new) e
           (c.put_string_of-state.ensures node)));
       next = refl;
     }

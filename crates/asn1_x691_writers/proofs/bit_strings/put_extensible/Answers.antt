@@ -1,3 +1,4 @@
+use Rattle.asn1_x691.specs.Fragments.{most_fragments}
 use Rattle.std.proofs.Common.{◌≡◌, ℕ, ◌*◌, ◌∷◌, true, false, length, refl, subst, inl, inr, arith}
 use Rattle.asn1_bits.specs.Bits.{bits}
 use Rattle.asn1_bits.specs.DigitLaws.{length-bits}
@@ -22,14 +23,14 @@ returns-then-not-are_permitted c =
     let size = c.args.size in
     let names = c.args.has_names in
     let count = c.args.span.count in
-    let A = string_of aligned 1 size node in
-    let B = added_string aligned 1 size node in
+    let A = string_of most_fragments aligned 1 size node in
+    let B = added_string most_fragments aligned 1 size node in
     let root = leaf (bits_by aligned node names size A) Bits node in
     let extension = leaf (bits_by aligned node names size B) Bits node in
     let list = bits_at (bits c.args.source.now) c.args.span.at count in
     let n = front_length (bits c.args.source.now) c.args.span.at count (omega (arith, c.requires.inside, length-bits c.args.source.now)) in
     let forbidden = c.are_permitted.ensures.forbidden c.if-not-are_permitted.true in
-    let T = bit_string aligned node size true names in
+    let T = bit_string most_fragments aligned node size true names in
     let e : Parts → Misfit = λ rest. record { node = node; left = length (Bits list ∷ rest); kind = NoEncoding } in
     let first : (at : ℕ) (rest : Parts) → (T at).misfit (Bits list ∷ rest) (e rest) =
     elim (root_or_added size count c.is_of_root-is_root.result c.is_of_root-is_root.ensures.of_root c.is_of_root-is_root.ensures.added) [
@@ -55,8 +56,8 @@ returns-then-is_root c =
     let size = c.args.size in
     let names = c.args.has_names in
     let count = c.args.span.count in
-    let A = string_of aligned 1 size node in
-    let B = added_string aligned 1 size node in
+    let A = string_of most_fragments aligned 1 size node in
+    let B = added_string most_fragments aligned 1 size node in
     let source = bits c.args.source.now in
     let list = bits_at source c.args.span.at count in
     let was = c.args.octets.now in
@@ -71,7 +72,7 @@ returns-then-is_root c =
           (c.put_bit-root.ensures aligned node)
           (leaf_written (bits_by aligned node names size A) Bits node aligned list (Bits list) mid now at new refl
           (named_written aligned node size A list names mid now at new (c.are_permitted.ensures.permitted c.if-not-are_permitted.false)
-          (subst (λ (k : ℕ). IsWritten aligned (string_of aligned 1 size node) (bits_at source c.args.span.at k) mid at now new) e
+          (subst (λ (k : ℕ). IsWritten aligned (string_of most_fragments aligned 1 size node) (bits_at source c.args.span.at k) mid at now new) e
           (c.put_string_of-state.ensures node))));
       next = refl;
     }
@@ -83,8 +84,8 @@ returns c =
     let size = c.args.size in
     let names = c.args.has_names in
     let count = c.args.span.count in
-    let A = string_of aligned 1 size node in
-    let B = added_string aligned 1 size node in
+    let A = string_of most_fragments aligned 1 size node in
+    let B = added_string most_fragments aligned 1 size node in
     let source = bits c.args.source.now in
     let list = bits_at source c.args.span.at count in
     let was = c.args.octets.now in
@@ -99,7 +100,7 @@ returns c =
           (c.put_bit-added.ensures aligned node)
           (leaf_written (bits_by aligned node names size B) Bits node aligned list (Bits list) mid now at new refl
           (named_written aligned node size B list names mid now at new (c.are_permitted.ensures.permitted c.if-not-are_permitted.false)
-          (subst (λ (k : ℕ). IsWritten aligned (added_string aligned 1 size node) (bits_at source c.args.span.at k) mid at now new) e
+          (subst (λ (k : ℕ). IsWritten aligned (added_string most_fragments aligned 1 size node) (bits_at source c.args.span.at k) mid at now new) e
           (c.put_added_string-state.ensures size node (c.is_of_root-is_root.ensures.added c.if-is_root.false)))));
       next = refl;
     }

@@ -1,3 +1,4 @@
+use Rattle.asn1_x691.specs.Fragments.{most_fragments}
 use Rattle.std.proofs.Common.{◌≡◌, ℕ, ◌*◌, ◌/◌, ◌∷◌, true, false, length, refl, subst, arith}
 use Rattle.asn1_bits.specs.Bits.{bits}
 use Rattle.asn1_bits.specs.DigitLaws.{length-bits}
@@ -22,14 +23,14 @@ returns-then-span-gt0 c =
     let count = c.args.span.count in
     let list = bits_at (bits c.args.source.now) c.args.span.at count in
     let n = front_length (bits c.args.source.now) c.args.span.at count (omega (arith, c.requires.inside, length-bits c.args.source.now)) in
-    rejected aligned (octet_string aligned node size true) (Octets list) c.args.octets.now c.args.state.now c.reject.new.state
+    rejected aligned (octet_string most_fragments aligned node size true) (Octets list) c.args.octets.now c.args.state.now c.reject.new.state
     c.reject.result node NoEncoding c.reject.ensures.result c.reject.ensures.at c.reject.ensures.next c.reject.ensures.node
     c.reject.ensures.reason
-    (root_misfit node (AreAddedOctets size) (leaf (string_of aligned 8 size node) Octets node)
-    (leaf (added_string aligned 8 size node) Octets node) (Octets list)
+    (root_misfit node (AreAddedOctets size) (leaf (string_of most_fragments aligned 8 size node) Octets node)
+    (leaf (added_string most_fragments aligned 8 size node) Octets node) (Octets list)
     (λ rest. record { node = node; left = length (Octets list ∷ rest); kind = NoEncoding })
     (λ q. omega (arith, q.1, n, c.if-span-gt0.true))
-    (leaf_none (string_of aligned 8 size node) Octets node (Octets list) list refl
+    (leaf_none (string_of most_fragments aligned 8 size node) Octets node (Octets list) list refl
     (λ at p. let e = whole_units aligned 8 node size at list p.list p.encoded in omega (arith, e.1, n, c.if-span-gt0.true))))
 
 pub returns-then-is_of_root : goal.returns-then-is_of_root
@@ -47,11 +48,11 @@ returns-then-is_of_root c =
     let new = c.put_string_of-state.result in
     let e : 8 * (count / 8) ≡ count = omega (arith, c.if-span-gt0.false) in
     record {
-      written = bit_written node (AreAddedOctets size) (leaf (string_of aligned 8 size node) Octets node)
-          (leaf (added_string aligned 8 size node) Octets node) (Octets list) aligned false was mid now c.args.state.now.at at new
+      written = bit_written node (AreAddedOctets size) (leaf (string_of most_fragments aligned 8 size node) Octets node)
+          (leaf (added_string most_fragments aligned 8 size node) Octets node) (Octets list) aligned false was mid now c.args.state.now.at at new
           (c.put_bit-root.ensures aligned node)
-          (leaf_written (string_of aligned 8 size node) Octets node aligned list (Octets list) mid now at new refl
-          (subst (λ (k : ℕ). IsWritten aligned (string_of aligned 8 size node) (bits_at source c.args.span.at k) mid at now new) e
+          (leaf_written (string_of most_fragments aligned 8 size node) Octets node aligned list (Octets list) mid now at new refl
+          (subst (λ (k : ℕ). IsWritten aligned (string_of most_fragments aligned 8 size node) (bits_at source c.args.span.at k) mid at now new) e
           (c.put_string_of-state.ensures node)));
       next = refl;
     }
@@ -71,11 +72,11 @@ returns c =
     let new = c.put_added_string-state.result in
     let e : 8 * (count / 8) ≡ count = omega (arith, c.if-span-gt0.false) in
     record {
-      written = bit_written node (AreAddedOctets size) (leaf (string_of aligned 8 size node) Octets node)
-          (leaf (added_string aligned 8 size node) Octets node) (Octets list) aligned true was mid now c.args.state.now.at at new
+      written = bit_written node (AreAddedOctets size) (leaf (string_of most_fragments aligned 8 size node) Octets node)
+          (leaf (added_string most_fragments aligned 8 size node) Octets node) (Octets list) aligned true was mid now c.args.state.now.at at new
           (c.put_bit-added.ensures aligned node)
-          (leaf_written (added_string aligned 8 size node) Octets node aligned list (Octets list) mid now at new refl
-          (subst (λ (k : ℕ). IsWritten aligned (added_string aligned 8 size node) (bits_at source c.args.span.at k) mid at now new) e
+          (leaf_written (added_string most_fragments aligned 8 size node) Octets node aligned list (Octets list) mid now at new refl
+          (subst (λ (k : ℕ). IsWritten aligned (added_string most_fragments aligned 8 size node) (bits_at source c.args.span.at k) mid at now new) e
           (c.put_added_string-state.ensures size node (c.is_of_root.ensures.added c.if-is_of_root.false))));
       next = refl;
     }

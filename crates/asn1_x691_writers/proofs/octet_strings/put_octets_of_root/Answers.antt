@@ -1,3 +1,4 @@
+use Rattle.asn1_x691.specs.Fragments.{most_fragments}
 use Rattle.std.proofs.Common.{◌≡◌, ℕ, ◌*◌, ◌/◌, refl, subst, arith}
 use Rattle.asn1_bits.specs.Bits.{bits}
 use Rattle.asn1_bits.specs.DigitLaws.{length-bits}
@@ -22,10 +23,10 @@ returns-then-span-gt0 c =
     let count = c.args.span.count in
     let list = bits_at (bits c.args.source.now) c.args.span.at count in
     let n = front_length (bits c.args.source.now) c.args.span.at count (omega (arith, c.requires.inside, length-bits c.args.source.now)) in
-    rejected aligned (leaf (string_of aligned 8 size node) Octets node) (Octets list) c.args.octets.now c.args.state.now c.reject.new.state
+    rejected aligned (leaf (string_of most_fragments aligned 8 size node) Octets node) (Octets list) c.args.octets.now c.args.state.now c.reject.new.state
     c.reject.result node NoEncoding c.reject.ensures.result c.reject.ensures.at c.reject.ensures.next c.reject.ensures.node
     c.reject.ensures.reason
-    (leaf_none (string_of aligned 8 size node) Octets node (Octets list) list refl
+    (leaf_none (string_of most_fragments aligned 8 size node) Octets node (Octets list) list refl
     (λ at p. let e = whole_units aligned 8 node size at list p.list p.encoded in omega (arith, e.1, n, c.if-span-gt0.true)))
 
 pub returns-then-not-is_of_root : goal.returns-then-not-is_of_root
@@ -36,10 +37,10 @@ returns-then-not-is_of_root c =
     let count = c.args.span.count in
     let list = bits_at (bits c.args.source.now) c.args.span.at count in
     let n = front_length (bits c.args.source.now) c.args.span.at count (omega (arith, c.requires.inside, length-bits c.args.source.now)) in
-    rejected aligned (leaf (string_of aligned 8 size node) Octets node) (Octets list) c.args.octets.now c.args.state.now c.reject-then-not-is_of_root.new.state
+    rejected aligned (leaf (string_of most_fragments aligned 8 size node) Octets node) (Octets list) c.args.octets.now c.args.state.now c.reject-then-not-is_of_root.new.state
     c.reject-then-not-is_of_root.result node NoEncoding c.reject-then-not-is_of_root.ensures.result c.reject-then-not-is_of_root.ensures.at c.reject-then-not-is_of_root.ensures.next c.reject-then-not-is_of_root.ensures.node
     c.reject-then-not-is_of_root.ensures.reason
-    (leaf_none (string_of aligned 8 size node) Octets node (Octets list) list refl
+    (leaf_none (string_of most_fragments aligned 8 size node) Octets node (Octets list) list refl
     (λ at p.
     none_of_root aligned 8 node eight_apart size (count / 8) at list (omega (arith, n, c.if-span-gt0.false))
     (c.is_of_root.ensures.added c.if-not-is_of_root.true) p))
@@ -57,9 +58,9 @@ returns c =
     let new = c.put_string_of-state.result in
     let e : 8 * (count / 8) ≡ count = omega (arith, c.if-span-gt0.false) in
     record {
-      written = leaf_written (string_of aligned 8 size node) Octets node aligned (bits_at source c.args.span.at count)
+      written = leaf_written (string_of most_fragments aligned 8 size node) Octets node aligned (bits_at source c.args.span.at count)
           (Octets (bits_at source c.args.span.at count)) was now old new refl
-          (subst (λ (k : ℕ). IsWritten aligned (string_of aligned 8 size node) (bits_at source c.args.span.at k) was old now new) e
+          (subst (λ (k : ℕ). IsWritten aligned (string_of most_fragments aligned 8 size node) (bits_at source c.args.span.at k) was old now new) e
           (c.put_string_of-state.ensures node));
       next = refl;
     }

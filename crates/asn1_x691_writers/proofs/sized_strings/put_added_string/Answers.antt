@@ -1,3 +1,4 @@
+use Rattle.asn1_x691.specs.Fragments.{most_fragments}
 use Rattle.std.proofs.Common.{◌*◌, inl, refl}
 use Rattle.asn1_bits.specs.Bits.{bits}
 use Rattle.asn1_schema.specs.PiecesOfParts.{bits_at}
@@ -11,5 +12,5 @@ pub returns : goal.returns
 returns c size node added =
     let list = bits_at (bits c.args.source.now) c.args.from (c.args.unit * c.args.count) in
     turn_constant c.args.is_aligned c.args.octets.now c.put_units.new.octets c.args.at c.put_units.result
-    (string c.args.is_aligned c.args.unit node) (λ v bits. bits) (λ v. where_size (IsAddedSize size) (IsOfRoot size) InRoot node v)
+    (string most_fragments c.args.is_aligned c.args.unit node) (λ v bits. bits) (λ v. where_size (IsAddedSize size) (IsOfRoot size) InRoot node v)
     (c.args.count, list) list (c.put_units.ensures node) (λ p. inl (added, (refl, refl)))

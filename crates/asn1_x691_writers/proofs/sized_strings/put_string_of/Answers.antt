@@ -1,3 +1,4 @@
+use Rattle.asn1_x691.specs.Fragments.{most_fragments}
 use Rattle.std.proofs.Common.{◌≡◌, ℕ, ◌+◌, ◌*◌, ◌-◌, ◌<◌, ◌≤◌, inl, refl, sym, subst, arith}
 use Rattle.asn1_bits.specs.Bits.{bits}
 use Rattle.asn1_schema.specs.declared.tables.Length.{Length}
@@ -22,8 +23,8 @@ returns-in-AtLeast c node =
     let list = bits_at (bits c.args.source.now) c.args.from (unit * count) in
     let least = c.in-AtLeast.least in
     let enough : IsOfRoot (AtLeast least) count = subst (λ (s : Length). IsOfRoot s count) c.in-AtLeast.is c.requires.root in
-    subst (λ (s : Length). IsWritten aligned (string_of aligned unit s node) list was c.args.at now new) (sym c.in-AtLeast.is)
-    (turn_constant aligned was now c.args.at new (string aligned unit node) (λ v bits. bits)
+    subst (λ (s : Length). IsWritten aligned (string_of most_fragments aligned unit s node) list was c.args.at now new) (sym c.in-AtLeast.is)
+    (turn_constant aligned was now c.args.at new (string most_fragments aligned unit node) (λ v bits. bits)
     (λ v. where_size (λ n. least ≤ n) (λ n. n < least) BelowLeast node v) (count, list) list (c.put_units.ensures node)
     (λ p. inl (enough, (refl, refl))))
 
@@ -41,7 +42,7 @@ returns-in-Between c node =
     let range = c.in-Between.range in
     let within : IsOfRoot (Between least range) count = subst (λ (s : Length). IsOfRoot s count) c.in-Between.is c.requires.root in
     let e : count ≡ least + (count - least) = omega (arith, within.0) in
-    subst (λ (s : Length). IsWritten aligned (string_of aligned unit s node) list was c.args.at now new) (sym c.in-Between.is)
+    subst (λ (s : Length). IsWritten aligned (string_of most_fragments aligned unit s node) list was c.args.at now new) (sym c.in-Between.is)
     (turn_written aligned (constrained aligned range node) (λ d bits. bits) (λ d. units_of aligned unit least range node (least + d))
     (count - least) list was mid now c.args.at c.put_constrained-after.result new (c.put_constrained-after.ensures node)
     (subst (λ (n : ℕ). IsWritten aligned (units_of aligned unit least range node n) list mid c.put_constrained-after.result now new) e

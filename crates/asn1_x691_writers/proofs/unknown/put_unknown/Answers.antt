@@ -1,3 +1,4 @@
+use Rattle.asn1_x691.specs.Fragments.{most_fragments}
 use Rattle.std.proofs.Common.{◌≡◌, ℕ, ◌*◌, ◌/◌, refl, sym, ap, ◌∙◌, subst, arith}
 use Rattle.asn1_bits.specs.Bits.{bits}
 use Rattle.asn1_bits.specs.DigitLaws.{length-bits}
@@ -22,10 +23,10 @@ returns-then-inside-gt0 c =
     let list = bits_of (bits c.args.source.now) span in
     let e = ap (piece_in c.args.source.now) c.in-Unknown.is ∙ ap Unknown (sym c.clip-inside.ensures.same) in
     let n = front_length (bits c.args.source.now) span.at span.count (omega (arith, c.clip-inside.ensures.inside, length-bits c.args.source.now)) in
-    rejected aligned (leaf (octets aligned node) Unknown node) (piece_in c.args.source.now c.args.part) c.args.octets.now c.args.state.now
+    rejected aligned (leaf (octets most_fragments aligned node) Unknown node) (piece_in c.args.source.now c.args.part) c.args.octets.now c.args.state.now
     c.reject.new.state c.reject.result node NoEncoding c.reject.ensures.result c.reject.ensures.at c.reject.ensures.next
     c.reject.ensures.node c.reject.ensures.reason
-    (leaf_none (octets aligned node) Unknown node (piece_in c.args.source.now c.args.part) list e
+    (leaf_none (octets most_fragments aligned node) Unknown node (piece_in c.args.source.now c.args.part) list e
     (λ at p. let w = whole_octets aligned node at list p.list p.encoded in omega (arith, w.1, n, c.if-inside-gt0.true)))
 
 pub returns-else-inside-gt0 : goal.returns-else-inside-gt0
@@ -41,9 +42,9 @@ returns-else-inside-gt0 c =
     let is = ap (piece_in c.args.source.now) c.in-Unknown.is ∙ ap Unknown (sym c.clip-inside.ensures.same) in
     let e : 8 * (span.count / 8) ≡ span.count = omega (arith, c.if-inside-gt0.false) in
     record {
-      written = leaf_written (octets aligned node) Unknown node aligned list (piece_in c.args.source.now c.args.part) was now c.args.state.now.at
+      written = leaf_written (octets most_fragments aligned node) Unknown node aligned list (piece_in c.args.source.now c.args.part) was now c.args.state.now.at
           new is
-          (subst (λ (k : ℕ). IsWritten aligned (octets aligned node) (bits_at source span.at k) was c.args.state.now.at now new) e
+          (subst (λ (k : ℕ). IsWritten aligned (octets most_fragments aligned node) (bits_at source span.at k) was c.args.state.now.at now new) e
           (c.put_octets-state.ensures node));
       next = refl;
     }

@@ -1,0 +1,179 @@
+//! SEQUENCE OF without an extension marker (X.691 20).
+
+ghost use Rattle.std.specs.Prelude.{Option, ◌≡◌, ℕ, Bool, List, ◌+◌, ◌-◌, ◌*◌, ◌^◌, ◌<◌, ◌≤◌, length, slice_get, Some, MatchOption};
+ghost use Rattle.asn1_schema.specs.Pieces.{Count};
+ghost use Rattle.asn1_x691_writers.specs.Put.{piece_in};
+ghost use Rattle.asn1_schema.specs.declared.part.Part.TheVariants.{Count as CountPart};
+ghost use Rattle.asn1_schema.specs.declared.tables.Length.TheVariants.{AtLeast, Between};
+ghost use Rattle.asn1_schema.specs.TypeEncodings.{several};
+ghost use Rattle.asn1_x691_encode.specs.Encoding.{Outcome, types, list_in};
+
+use crate::context::{Context, part_at};
+use crate::encoder::encode_node;
+use asn1_schema::{Length, MisfitKind, Part};
+use asn1_x691_writers::{Writer, put_constrained, put_length, reject};
+
+/// Encodes a SEQUENCE OF (X.691 20.5, 20.6).
+#[cycle(encoding)]
+pub(crate) fn encode_list(
+    context: &Context<'_>,
+    depth: usize,
+    node: usize,
+    size: Length,
+    item: usize,
+    octets: &mut [u8],
+    state: &mut Writer,
+) -> bool
+    requires size { 8 * length octets.old < 2 ^ 64 }
+    requires source { 8 * length context.now.source.now < 2 ^ 64 }
+    requires parts { length context.now.parts.now < 2 ^ 64 - 1 }
+    ensures { (defaults : ℕ → ℕ → Option (List Bool)) → Outcome context.now (list_in context.now defaults depth node size item) octets.old state.old
+        octets.new state.new result }
+{
+    match part_at(context.parts, state.next) {
+        None => reject(state, node, MisfitKind::NoPart),
+        Some(part) => encode_list_of(context, depth, node, size, item, part, octets, state),
+    }
+}
+
+/// Encodes a SEQUENCE OF, whose first part this is.
+#[cycle(encoding)]
+fn encode_list_of(
+    context: &Context<'_>,
+    depth: usize,
+    node: usize,
+    size: Length,
+    item: usize,
+    part: Part,
+    octets: &mut [u8],
+    state: &mut Writer,
+) -> bool
+    requires size { 8 * length octets.old < 2 ^ 64 }
+    requires source { 8 * length context.now.source.now < 2 ^ 64 }
+    requires parts { length context.now.parts.now < 2 ^ 64 - 1 }
+    requires next { slice_get context.now.parts.now state.old.next ≡ Some part }
+    ensures { (defaults : ℕ → ℕ → Option (List Bool)) → Outcome context.now (list_in context.now defaults depth node size item) octets.old state.old
+        octets.new state.new result }
+{
+    match count_of(part) {
+        None => reject(state, node, MisfitKind::OtherPart),
+        Some(count) => match size {
+            Length::AtLeast { least } => encode_at_least(
+                context, depth, node, least, item, count, octets, state,
+            ),
+            Length::Between { least, range } => {
+                encode_between(
+                    context,
+                    depth,
+                    node,
+                    least as usize,
+                    range as usize,
+                    item,
+                    count,
+                    octets,
+                    state,
+                )
+            }
+        },
+    }
+}
+
+/// Returns how many items follow a part.
+fn count_of(part: Part) -> Option<usize>
+    ensures { MatchOption result ((source : List ℕ) (n : ℕ) → piece_in source part ≡ Count n → ⊥) (λ n. part ≡ CountPart n) }
+{
+    match part {
+        Part::Count(count) => Some(count),
+        _ => None,
+    }
+}
+
+/// Encodes a list after its length.
+#[cycle(encoding)]
+fn encode_at_least(
+    context: &Context<'_>,
+    depth: usize,
+    node: usize,
+    least: usize,
+    item: usize,
+    count: usize,
+    octets: &mut [u8],
+    state: &mut Writer,
+) -> bool
+    requires size { 8 * length octets.old < 2 ^ 64 }
+    requires source { 8 * length context.now.source.now < 2 ^ 64 }
+    requires parts { length context.now.parts.now < 2 ^ 64 - 1 }
+    requires next { slice_get context.now.parts.now state.old.next ≡ Some (CountPart count) }
+    ensures { (defaults : ℕ → ℕ → Option (List Bool)) → Outcome context.now (list_in context.now defaults depth node (AtLeast least) item) octets.old
+        state.old octets.new state.new result }
+{
+    if count < least || count >= 16384 {
+        return reject(state, node, MisfitKind::NoEncoding);
+    }
+    state.at = put_length(octets, state.at, context.is_aligned, count);
+    state.next += 1;
+    encode_items(context, depth, item, count, octets, state)
+}
+
+/// Encodes a list after its number of items, which is bounded.
+#[cycle(encoding)]
+fn encode_between(
+    context: &Context<'_>,
+    depth: usize,
+    node: usize,
+    least: usize,
+    range: usize,
+    item: usize,
+    count: usize,
+    octets: &mut [u8],
+    state: &mut Writer,
+) -> bool
+    requires size { 8 * length octets.old < 2 ^ 64 }
+    requires source { 8 * length context.now.source.now < 2 ^ 64 }
+    requires parts { length context.now.parts.now < 2 ^ 64 - 1 }
+    requires next { slice_get context.now.parts.now state.old.next ≡ Some (CountPart count) }
+    ensures { (defaults : ℕ → ℕ → Option (List Bool)) → Outcome context.now (list_in context.now defaults depth node (Between least range) item)
+        octets.old state.old octets.new state.new result }
+{
+    if count < least {
+        return reject(state, node, MisfitKind::OtherPart);
+    }
+    if count - least > range {
+        return reject(state, node, MisfitKind::NoEncoding);
+    }
+    state.at = put_constrained(
+        octets,
+        state.at,
+        context.is_aligned,
+        range as u128,
+        (count - least) as u128,
+    );
+    state.next += 1;
+    encode_items(context, depth, item, count, octets, state)
+}
+
+/// Encodes so many items.
+#[cycle(encoding)]
+fn encode_items(
+    context: &Context<'_>,
+    depth: usize,
+    item: usize,
+    count: usize,
+    octets: &mut [u8],
+    state: &mut Writer,
+) -> bool
+    requires size { 8 * length octets.old < 2 ^ 64 }
+    requires source { 8 * length context.now.source.now < 2 ^ 64 }
+    requires parts { length context.now.parts.now < 2 ^ 64 - 1 }
+    ensures { (defaults : ℕ → ℕ → Option (List Bool)) → Outcome context.now (several (types context.now defaults depth item) count) octets.old state.old
+        octets.new state.new result }
+{
+    let mut left = count;
+    while left > 0 {
+        left -= 1;
+        if !encode_node(context, depth, item, octets, state) {
+            return false;
+        }
+    }
+    true
+}
