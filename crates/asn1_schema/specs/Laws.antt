@@ -11,6 +11,7 @@ pub mod OneEncodingLaws
 pub mod PermittedLaws
 pub mod PhaseLaws
 pub mod OrderLaws
+pub mod NarrowLaws
 pub mod EachLaws
 pub mod FieldLaws
 pub mod ExampleLaws

@@ -7,4 +7,5 @@ pub mod PiecesOfParts
 pub mod Fields
 pub mod TypeEncodings
 pub mod Example
+pub mod Narrow
 pub mod Laws

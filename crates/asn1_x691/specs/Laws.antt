@@ -15,4 +15,6 @@ pub mod ItemLaws
 pub mod TypeLaws
 pub mod PhaseLaws
 pub mod TypePhaseLaws
+pub mod LimitLaws
+pub mod TypeLimitLaws
 pub mod ExampleLaws

@@ -1,6 +1,8 @@
 -- What a decoder or an encoder leaves out of X.691. Where a value exceeds a limit, the fault is `Unsupported`, and the limits are part
 -- of the definition, so that it is known exactly where that fault is. More than these it does not leave out.
-use Rattle.std.specs.Prelude.{ℕ, Bool, true, false, ◌%◌, ◌≡◌, ◌≢◌, ◌+◌, ◌<◌, ◌⊎◌, List, length}
+use Rattle.std.specs.Prelude.{ℕ, Bool, true, false, ◌%◌, ◌≡◌, ◌≢◌, ◌+◌, ◌<◌, ◌≤◌, ◌⊎◌, List, length}
+use Rattle.asn1_x691.specs.declared.fault.FaultKind.{FaultKind}
+use Rattle.asn1_x691.specs.declared.fault.FaultKind.TheVariants.{Unsupported}
 use Rattle.asn1_x691.specs.Fragments.{most_fragments}
 
 pub record Limits : Type 0 where
@@ -20,3 +22,13 @@ abbrev pub IsOffOctet : Bool → Bool → List Bool → ℕ → Type 0
 IsOffOctet false aligned before at = ⊥
 IsOffOctet true false before at = ⊥
 IsOffOctet true true before at = (0 < length before) × ((at % 8 ≢ 0) ⊎ (length before % 8 ≢ 0))
+
+-- limits that the laws compare with X.691: there are no more fragments, and a SET OF is limited to octets
+pub record AreWithin (limits : Limits) : Type 0 where
+  pub octet_fragments : limits.octet_fragments ≤ most_fragments
+  pub fragments : limits.fragments ≤ most_fragments
+  pub sets_on_octets : limits.sets_on_octets ≡ true
+
+-- a fault that does not say that a limit was exceeded
+abbrev pub IsNoLimit : FaultKind → Type 0
+IsNoLimit kind = kind ≢ Unsupported

@@ -8,7 +8,8 @@ ghost use Rattle.asn1_x691.specs.Fragments.{string, octets};
 ghost use Rattle.asn1_schema.specs.declared.tables.Node as node;
 ghost use Rattle.asn1_schema.specs.declared.tables.Member as member;
 ghost use Rattle.asn1_schema.specs.declared.tables.Range as range;
-ghost use Rattle.asn1_x691.specs.Limits.{Limits, no_limits};
+ghost use Rattle.asn1_x691.specs.Limits.{Limits, no_limits, AreWithin, IsNoLimit};
+ghost use Rattle.asn1_schema.specs.Narrow.{RejectsMore};
 ghost use Rattle.asn1_x691.specs.Types.{type_at};
 ghost use Rattle.asn1_x691.specs.Example.{integer, opened, opened_five, example_nodes, example_members, no_defaults, example_parts, example_bits};
 ghost use Rattle.asn1_x691.specs.Fields.{phase, constrained, length_of, small_length, semi_constrained, small_number, unconstrained};
@@ -135,6 +136,12 @@ pub fn laws_of_types()
         → phase aligned p ≡ phase aligned q → (parts : Parts) (list : List Bool)
         → (type_at limits aligned nodes members ranges defaults depth place p).encoding.encodes parts list
         → (type_at limits aligned nodes members ranges defaults depth place q).encoding.encodes parts list }
+    // Within limits nothing is decoded that X.691 does not decode so, and each first fault is that of
+    // X.691, other than `Unsupported`, which says that a limit was exceeded.
+    ensures limits { (limits : Limits) → AreWithin limits → (aligned : Bool) (nodes : List node.Node)
+        (members : List member.Member) (ranges : List range.Range) (defaults : ℕ → ℕ → Option (List Bool)) (depth place at : ℕ)
+        → RejectsMore IsNoLimit (type_at limits aligned nodes members ranges defaults depth place at).encoding
+        (type_at no_limits aligned nodes members ranges defaults depth place at).encoding }
     // There are values: 01 encodes SEQUENCE { a ENUMERATED OPTIONAL, b BOOLEAN } without `a`,
     // where `b` is true.
     ensures is { (type_at no_limits false example_nodes example_members [] no_defaults 2 0 0).encoding.encodes

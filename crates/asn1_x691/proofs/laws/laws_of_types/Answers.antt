@@ -3,6 +3,7 @@ use Rattle.asn1_schema.specs.Pieces.{Absent, Truth}
 use Rattle.asn1_x691.specs.Example.{example_bits}
 use Rattle.asn1_x691.specs.Laws.TypeLaws.{type_at_type}
 use Rattle.asn1_x691.specs.Laws.TypePhaseLaws.{type_at_follows}
+use Rattle.asn1_x691.specs.Laws.TypeLimitLaws.{type_at_narrow}
 use Rattle.asn1_x691.proofs.laws.laws_of_types.Goals as goal
 
 pub returns-clause-decodes_one : goal.returns-clause-decodes_one
@@ -20,6 +21,10 @@ returns-clause-misfit c limits aligned nodes members ranges defaults depth place
 pub returns-clause-positions : goal.returns-clause-positions
 returns-clause-positions c limits aligned nodes members ranges defaults depth place p q =
     (type_at_follows limits aligned nodes members ranges defaults depth place).same p q
+
+pub returns-clause-limits : goal.returns-clause-limits
+returns-clause-limits c limits within aligned nodes members ranges defaults depth place at =
+    type_at_narrow limits within aligned nodes members ranges defaults depth place at
 
 pub returns-clause-is : goal.returns-clause-is
 returns-clause-is c = record {
