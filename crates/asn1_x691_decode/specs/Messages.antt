@@ -5,12 +5,15 @@ use Rattle.asn1_schema.specs.declared.part.Part.{Part}
 use Rattle.asn1_schema.specs.Pieces.{Parts}
 use Rattle.asn1_schema.specs.Encodings.{Fault, Starts}
 use Rattle.asn1_x691.specs.declared.fault.FaultKind.{FaultKind}
+use Rattle.asn1_schema.specs.TypeEncodings.{TypeEncoding}
 use Rattle.asn1_x691.specs.OpenTypes.{complete}
+use Rattle.asn1_x691.specs.Limits.{no_limits}
+use Rattle.asn1_x691.specs.Types.{type_at}
 use Rattle.asn1_x691_decode.specs.declared.context.Context.{Context}
 use Rattle.asn1_x691_decode.specs.declared.message.Fault.{Fault as FoundFault}
 use Rattle.asn1_x691_decode.specs.declared.message.Prefix.{Prefix}
 use Rattle.asn1_x691_decode.specs.Room.{Holds}
-use Rattle.asn1_x691_decode.specs.Decoding.{types}
+use Rattle.asn1_x691_decode.specs.Decoding.{defaults_in, types}
 
 module _ (c : Context) where
   abbrev message : List Bool
@@ -37,3 +40,8 @@ module _ (c : Context) where
 
   abbrev pub IsFirstFaultOfPrefix : ℕ → ℕ → FoundFault → Type 0
   IsFirstFaultOfPrefix depth node e = (types c depth node 0).encoding.fault message (named e)
+
+-- the types of a context in X.691, which has no limits
+abbrev pub unlimited_types : Context → ℕ → ℕ → ℕ → TypeEncoding FaultKind
+unlimited_types c depth node = type_at no_limits c.is_aligned c.tables.nodes.now c.tables.members.now c.tables.ranges.now
+    (defaults_in c) depth node

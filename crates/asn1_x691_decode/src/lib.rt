@@ -7,6 +7,7 @@ mod compare;
 mod complete;
 mod context;
 mod decoder;
+mod laws;
 mod list;
 mod message;
 mod open_type;
@@ -16,4 +17,5 @@ mod sequence;
 mod set;
 
 pub use context::{Context, Defaults};
+pub use laws::laws_of_limits;
 pub use message::{Fault, Prefix, decode, decode_prefix};

@@ -8,7 +8,7 @@ use Rattle.asn1_schema.specs.declared.tables.Range.{Range}
 use Rattle.asn1_schema.specs.Pieces.{Piece, Bits, Octets, Text, Unknown}
 use Rattle.asn1_schema.specs.Encodings.{Encoding, constant, invalid, anywhere, permitted, in_case, with_bits}
 use Rattle.asn1_schema.specs.TypeEncodings.{TypeEncoding, leaf, either_by_bit}
-use Rattle.asn1_schema.specs.Laws.NarrowLaws.{AreNarrow, TypesAreNarrow, same_narrow, limit_narrow, cases_narrow, in_turn_narrow, permitted_narrow, with_bits_narrow, leaf_narrow, header_narrow, either_by_bit_narrow, then_contents_narrow, enclosed_narrow}
+use Rattle.asn1_schema.specs.Laws.NarrowLaws.{AreNarrow, TypesAreNarrow, same_narrow, limit_narrow, cases_narrow, in_turn_narrow, permitted_narrow, with_bits_narrow, leaf_narrow, header_narrow, either_by_bit_narrow, ContentsAreNarrow, then_contents_narrow, enclosed_narrow}
 use Rattle.asn1_x691.specs.declared.fault.FaultKind.{FaultKind}
 use Rattle.asn1_x691.specs.declared.fault.FaultKind.TheVariants.{Unsupported, BelowLeast, InRoot, NotTrimmed, Contents}
 use Rattle.asn1_x691.specs.Fragments.{units, units_then, units_below, last_units, units_next, all_units, bits_of_units, string, octets}
@@ -78,6 +78,14 @@ module _ {Y : Type 0} (U : ℕ → ℕ → Encoding FaultKind Y) (join : Y → Y
       in_turn_narrow IsNoLimit N N (λ n v. v) (Next (Long most)) (Next (Long more)) at (same_narrow IsNoLimit (N at))
       (λ n front w. next_narrow (Long most) (Long more) (long_narrow most more (all_narrow most more (omega (arith, h)))) n
       (at + length front))
+
+-- ---- complete encodings
+
+pub complete_narrow : (node : ℕ) (A B : ℕ → TypeEncoding FaultKind) → NarrowTypes A B
+    → ContentsAreNarrow IsNoLimit (complete node A) (complete node B)
+complete_narrow node A B a =
+    then_contents_narrow IsNoLimit (with_bits (A 0).encoding) (with_bits (B 0).encoding) (λ v u. v.0) (λ v. padding node (length v.1))
+    (with_bits_narrow IsNoLimit (A 0).encoding (B 0).encoding (a 0))
 
 -- ---- strings
 
@@ -184,6 +192,4 @@ module _ (most more : ℕ) (h : most ≤ more) (aligned : Bool) (node : ℕ) whe
       → NarrowTypes (open_type most aligned node A) (open_type more aligned node B)
   open_type_narrow A B a =
       enclosed_narrow IsNoLimit (enclosing most aligned node) (enclosing more aligned node) (complete node A) (complete node B)
-      (A 0).misfit (B 0).misfit node enclosing_narrow
-      (then_contents_narrow IsNoLimit (with_bits (A 0).encoding) (with_bits (B 0).encoding) (λ v u. v.0) (λ v. padding node (length v.1))
-      (with_bits_narrow IsNoLimit (A 0).encoding (B 0).encoding (a 0)))
+      (A 0).misfit (B 0).misfit node enclosing_narrow (complete_narrow node A B a)
