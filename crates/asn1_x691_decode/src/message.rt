@@ -56,9 +56,9 @@ fn begin(octets: &[u8], node: usize) -> State
 ///
 /// # Errors
 ///
-/// Returns the first fault of the message. The kind [`FaultKind::Unsupported`] says that a length has
-/// a fragment (X.691 11.9.3.8), or that an item of a SET OF does not begin at an octet in the ALIGNED
-/// variant.
+/// Returns the first fault of the message. The kind [`FaultKind::Unsupported`] says that a length,
+/// other than that of an OCTET STRING, has a fragment (X.691 11.9.3.8), or that an item of a SET OF
+/// does not begin at an octet in the ALIGNED variant.
 pub fn decode(
     context: &Context<'_>,
     depth: usize,
