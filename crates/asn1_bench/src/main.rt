@@ -9,6 +9,7 @@ mod formats;
 mod identifiers;
 mod numbers;
 mod row;
+mod schema;
 mod strings;
 
 use crate::alphabets::{Codes, Set};
@@ -17,6 +18,7 @@ use crate::fields::Fields;
 use crate::identifiers::{Read, Size, Way, Written};
 use crate::numbers::Octets;
 use crate::row::show;
+use crate::schema::Decoded;
 use crate::strings::{Bits, Kind, Text};
 use asn1_formats::Format;
 use std::env;
@@ -31,7 +33,9 @@ fn main(rt: HostRuntime) -> anyhow::Result<()> {
     show_alphabets(&rt, rounds)?;
     show_strings(&rt, rounds)?;
     show_fields(&rt, rounds)?;
-    show_formats(&rt, rounds)
+    show_formats(&rt, rounds)?;
+    show(&rt, Ok(Decoded::numbers()), rounds)?;
+    show(&rt, Ok(Decoded::letters()), rounds)
 }
 
 /// The rows of bits and of whole numbers.

@@ -10,9 +10,11 @@ use crate::open_type::decode_complete;
 use asn1_schema::{Member, Part, Presence};
 use asn1_x691::FaultKind;
 use asn1_x691_fields::State;
+use thiserror::Error;
 
 /// The first fault of a message.
-#[derive(Clone, Copy, Debug, PartialEq, Eq)]
+#[derive(Clone, Copy, Debug, PartialEq, Eq, Error)]
+#[error("bit {at}, type {node}: {kind}")]
 pub struct Fault {
     /// The node of the schema.
     pub node: usize,

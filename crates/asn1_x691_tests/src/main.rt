@@ -1,7 +1,8 @@
 //! Tests of PER: a program that answers the rows of its stored input.
 //!
 //! A row is a variant, octets and a type, as `uper 20 seq:2 ? int:0..7 ! bool = seq2 absent true`. The
-//! rows are made by `scripts/x691-vectors`, with another compiler, and by `scripts/x691-model`.
+//! rows are made by `scripts/x691-vectors`, with another compiler, and by `scripts/x691-model`. A row of
+//! `uper-error` has the text of the fault.
 #![tactic(auto)]
 
 mod parts;
@@ -22,10 +23,12 @@ const ROOM: usize = 1_000;
 /// How deep a value of a row is nested at most.
 const DEPTH: usize = 100;
 
-/// Decodes octets by a schema, and returns the parts or the fault in words.
+/// Decodes octets by a schema, and returns the parts or the fault; the fault by its text, if so
+/// asked.
 fn decoded<'a>(
     alloc: Global,
     is_aligned: bool,
+    in_words: bool,
     octets: &'a [u8],
     schema: &'a Schema,
 ) -> Result<String, RowError> {
@@ -54,6 +57,7 @@ fn decoded<'a>(
             };
             parts::text_of(alloc, source, room.as_slice(), count)
         }
+        Err(fault) if in_words => Ok(format!(in alloc; "{fault}")?),
         Err(fault) => parts::text_of_fault(alloc, fault),
     }
 }
@@ -67,13 +71,14 @@ impl Answers for Calls {
             return Err(wrong(alloc, call, "call with octets"));
         };
         let message = octets(alloc, message)?;
-        let is_aligned = match call {
-            "uper" => false,
-            "aper" => true,
+        let (is_aligned, in_words) = match call {
+            "uper" => (false, false),
+            "aper" => (true, false),
+            "uper-error" => (false, true),
             _ => return Err(wrong(alloc, call, "variant")),
         };
         let schema = schema_of(alloc, is_aligned, words)?;
-        decoded(alloc, is_aligned, message.as_slice(), &schema)
+        decoded(alloc, is_aligned, in_words, message.as_slice(), &schema)
     }
 }
 
