@@ -1,5 +1,5 @@
 -- The order of encodings (X.690 11.6, X.691 22.1).
-use Rattle.std.specs.Prelude.{ℕ, ◌*◌, ◌^◌, ◌<◌, Bool, List, length}
+use Rattle.std.specs.Prelude.{◌*◌, ◌^◌, ◌<◌, Bool, List, length}
 use Rattle.asn1_bits.specs.Bits.{number}
 
 -- one list is before another: with zeros after it, to as many bits, it is the lesser number

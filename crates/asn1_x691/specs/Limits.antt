@@ -1,6 +1,6 @@
 -- What a decoder or an encoder leaves out of X.691. Where a value exceeds a limit, the fault is `Unsupported`, and the limits are part
 -- of the definition, so that it is known exactly where that fault is. More than these it does not leave out.
-use Rattle.std.specs.Prelude.{ℕ, Bool, true, false, ◌%◌, ◌≡◌, ◌≢◌, ◌+◌, ◌<◌, ◌≤◌, ◌⊎◌, List, length}
+use Rattle.std.specs.Prelude.{ℕ, Bool, true, false, ◌%◌, ◌≡◌, ◌≢◌, ◌<◌, ◌≤◌, ◌⊎◌, List, length}
 use Rattle.asn1_x691.specs.declared.fault.FaultKind.{FaultKind}
 use Rattle.asn1_x691.specs.declared.fault.FaultKind.TheVariants.{Unsupported}
 use Rattle.asn1_x691.specs.Fragments.{most_fragments}

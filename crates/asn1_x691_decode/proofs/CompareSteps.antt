@@ -1,5 +1,5 @@
 -- What comparing bits tells.
-use Rattle.std.proofs.Common.{◌≡◌, ℕ, ◌+◌, ◌*◌, ◌≤◌, nat_le, List, Bool, true, length, sym, ◌∙◌, ap, Some}
+use Rattle.std.proofs.Common.{◌≡◌, ℕ, ◌+◌, ◌*◌, nat_le, List, Bool, true, length, sym, ◌∙◌, ap, Some}
 use Rattle.std.specs.Bool.{Decides}
 use Rattle.asn1_bits.specs.Bits.{bits}
 use Rattle.asn1_bits.specs.View.{View, list_of}

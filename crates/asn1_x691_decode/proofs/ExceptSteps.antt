@@ -1,16 +1,15 @@
 -- Steps over a value of whose bits a condition must not hold.
-use Rattle.std.proofs.Common.{◌≡◌, ℕ, ◌+◌, ◌-◌, ◌≤◌, List, ◌++◌, Bool, length, take, drop, refl, sym, ◌∙◌, ap, subst, arith, inr}
+use Rattle.std.proofs.Common.{◌≡◌, ℕ, ◌+◌, ◌-◌, List, ◌++◌, Bool, length, take, drop, refl, sym, ◌∙◌, ap, arith, inr}
 use Rattle.asn1_bits.specs.Bits.{bits}
 use Rattle.asn1_schema.specs.declared.misfit.MisfitKind.{MisfitKind}
 use Rattle.asn1_schema.specs.declared.part.Part.{Part}
 use Rattle.asn1_schema.specs.PiecesOfParts.{bits_at}
-use Rattle.asn1_schema.specs.Pieces.{Parts}
-use Rattle.asn1_schema.specs.Encodings.{Fault, Encoding, Starts, IsAt}
+use Rattle.asn1_schema.specs.Encodings.{Starts, IsAt}
 use Rattle.asn1_schema.specs.TypeEncodings.{TypeEncoding, except_type}
 use Rattle.asn1_schema.specs.Laws.EncodingLaws.{same_fronts}
 use Rattle.asn1_x691.specs.declared.fault.FaultKind.{FaultKind}
 use Rattle.asn1_x691_fields.specs.declared.state.State.{State}
-use Rattle.asn1_x691_fields.specs.Outcomes.{rest, position, fault_of, IsWithin, IsMoved}
+use Rattle.asn1_x691_fields.specs.Outcomes.{rest, fault_of, IsWithin, IsMoved}
 use Rattle.asn1_x691_fields.specs.Steps.{split, front_length, step_position}
 use Rattle.asn1_x691_decode.specs.declared.context.Context.{Context}
 use Rattle.asn1_x691_decode.specs.Decoding.{IsDecoded}

@@ -1,16 +1,14 @@
 -- Steps over a SET OF, whose items are in ascending order.
-use Rattle.std.proofs.Common.{◌≡◌, ◌≢◌, ℕ, zero, suc, ◌+◌, ◌-◌, ◌*◌, ◌^◌, ◌<◌, ◌≤◌, ◌%◌, List, [], ◌∷◌, ◌++◌, Bool, true, false, length, take, drop, refl, sym, ◌∙◌, ap, subst, arith, inl, inr}
-use Rattle.std.specs.Prelude.{◌⊎◌}
+use Rattle.std.proofs.Common.{◌≡◌, ◌≢◌, ℕ, zero, suc, ◌+◌, ◌-◌, ◌<◌, ◌%◌, List, [], ◌∷◌, ◌++◌, Bool, true, false, length, take, drop, refl, sym, ap, subst, arith, inl, inr}
 use Rattle.std.specs.declared.cmp.Ordering.TheVariants.{Less}
 use Rattle.std.proofs.lemmas.List.{append-nil}
 use Rattle.asn1_bits.specs.Bits.{bits}
 use Rattle.asn1_bits.specs.BitLists.{bits_cmp}
-use Rattle.asn1_bits.specs.DigitLaws.{length-bits}
 use Rattle.asn1_schema.specs.declared.part.Part.{Part}
 use Rattle.asn1_schema.specs.Pieces.{Parts}
 use Rattle.asn1_schema.specs.PiecesOfParts.{bits_at}
 use Rattle.asn1_schema.specs.Order.{IsBefore}
-use Rattle.asn1_schema.specs.Encodings.{Fault, Encoding, Starts, with_bits, in_turn}
+use Rattle.asn1_schema.specs.Encodings.{Fault, Encoding, Starts, with_bits}
 use Rattle.asn1_schema.specs.Laws.OrderLaws.{IsNoFront, is_before, puts_first}
 use Rattle.asn1_x691.specs.declared.fault.FaultKind.{FaultKind}
 use Rattle.asn1_x691.specs.Fields.{phase}
@@ -22,7 +20,7 @@ use Rattle.asn1_x691_fields.specs.declared.state.State.{State}
 use Rattle.asn1_x691_fields.specs.Outcomes.{rest, position, IsWithin, IsMoved}
 use Rattle.asn1_x691_fields.specs.Steps.{after_starts, after_fault, front_length}
 use Rattle.asn1_x691_decode.specs.declared.context.Context.{Context}
-use Rattle.asn1_x691_decode.specs.Decoding.{IsDecoded, decoder_limits, defaults_in, types, in_order_in, set_items_in, IsItem, IsItemBefore}
+use Rattle.asn1_x691_decode.specs.Decoding.{IsDecoded, decoder_limits, defaults_in, types, in_order_in, set_items_in, IsItemBefore}
 use Rattle.asn1_x691_decode.proofs.Steps.{IsUnderway, grown_over, nothing_decoded}
 use Rattle.asn1_x691_decode.proofs.ExceptSteps.{front_bits}
 

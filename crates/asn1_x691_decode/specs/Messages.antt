@@ -1,5 +1,5 @@
 -- What a decoder says of a message.
-use Rattle.std.specs.Prelude.{◌≡◌, ℕ, ◌-◌, ◌⊎◌, List, Bool, length, drop, slice_get}
+use Rattle.std.specs.Prelude.{ℕ, ◌-◌, List, Bool, length, drop}
 use Rattle.asn1_bits.specs.Bits.{bits}
 use Rattle.asn1_schema.specs.declared.part.Part.{Part}
 use Rattle.asn1_schema.specs.Pieces.{Parts}

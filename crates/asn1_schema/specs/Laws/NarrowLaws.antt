@@ -1,11 +1,11 @@
 -- Laws of limits: two encodings of which the first rejects more. What it decodes the second decodes too, and its first fault is that of
 -- the second, unless the fault is of the kind that says that a limit was exceeded.
 use Rattle.std.proofs.Common.{◌≡◌, ℕ, zero, suc, ◌+◌, inl, inr, Bool, true, false, List, [], ◌∷◌, ◌++◌, length, subst, ap}
-use Rattle.std.specs.Prelude.{◌⊎◌, ⊤}
+use Rattle.std.specs.Prelude.{⊤}
 use Rattle.asn1_schema.specs.Pieces.{Piece, Absent, Parts}
-use Rattle.asn1_schema.specs.Encodings.{Fault, Encoding, Contents, Then, constant, invalid, cases, anywhere, with_bits, within, then_contents, in_turn, in_case, permitted}
+use Rattle.asn1_schema.specs.Encodings.{Fault, Encoding, Contents, constant, invalid, cases, anywhere, with_bits, within, then_contents, in_turn, permitted}
 use Rattle.asn1_schema.specs.Narrow.{RejectsMore}
-use Rattle.asn1_schema.specs.TypeEncodings.{TypeEncoding, AfterHeader, nothing, both, several, both_by_bits, several_by_bits, part, leaf, put, header, except_type, end_of_components, mandatory, optional, only_where, either_by_bit, enclosed}
+use Rattle.asn1_schema.specs.TypeEncodings.{TypeEncoding, AfterHeader, nothing, both, several, several_by_bits, part, leaf, put, header, except_type, end_of_components, mandatory, optional, only_where, either_by_bit, enclosed}
 
 module _ {K : Type 0} (Free : K → Type 0) where
   abbrev pub IsNarrow : {X : Type 0} → Encoding K X → Encoding K X → Type 0

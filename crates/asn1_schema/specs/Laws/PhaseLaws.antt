@@ -1,10 +1,10 @@
 -- Laws of positions: encodings that depend on a phase of their position alone, such as how many bits of an octet precede it. A value
 -- has the same encodings at two positions of one phase.
-use Rattle.std.proofs.Common.{◌≡◌, ℕ, zero, suc, ◌+◌, ◌⊎◌, inl, inr, Bool, true, false, List, [], ◌∷◌, ◌++◌, length, sym}
+use Rattle.std.proofs.Common.{◌≡◌, ℕ, zero, suc, ◌+◌, inl, inr, Bool, true, false, List, [], ◌∷◌, ◌++◌, length, sym}
 use Rattle.std.specs.Prelude.{⊤}
 use Rattle.asn1_schema.specs.Pieces.{Piece, Absent, Parts}
-use Rattle.asn1_schema.specs.Encodings.{Encoding, Contents, InTurn, constant, invalid, cases, anywhere, with_bits, within, in_turn, in_case, permitted}
-use Rattle.asn1_schema.specs.TypeEncodings.{TypeEncoding, AfterHeader, nothing, invalid_type, both, several, part, leaf, put, header, except_type, both_by_bits, several_by_bits, no_bits_left, end_of_components, mandatory, by_first_bit, optional, only_where, by_bit, either_by_bit, enclosed}
+use Rattle.asn1_schema.specs.Encodings.{Encoding, Contents, constant, invalid, cases, anywhere, with_bits, in_turn, in_case, permitted}
+use Rattle.asn1_schema.specs.TypeEncodings.{TypeEncoding, AfterHeader, nothing, both, several, part, leaf, put, header, except_type, both_by_bits, several_by_bits, end_of_components, mandatory, optional, only_where, either_by_bit, enclosed}
 
 -- so many bits more keep two positions of one phase
 pub record Shifts (phase : ℕ → ℕ) : Type 0 where

@@ -1,16 +1,16 @@
 -- Laws of positions: an encoding depends on how many bits of an octet precede it in the ALIGNED variant, and on nothing in the
 -- UNALIGNED one.
-use Rattle.std.proofs.Common.{◌≡◌, ℕ, zero, suc, ◌+◌, ◌-◌, ◌*◌, ◌%◌, ◌<◌, ◌≤◌, Bool, true, false, List, ◌++◌, length, refl, subst, arith}
+use Rattle.std.proofs.Common.{◌≡◌, ℕ, zero, suc, ◌+◌, ◌-◌, ◌*◌, ◌%◌, ◌<◌, ◌≤◌, Bool, true, false, List, ◌++◌, refl, subst, arith}
 use Rattle.std.specs.Prelude.{◌≢◌}
 use Rattle.asn1_schema.specs.declared.tables.Length.{Length}
 use Rattle.asn1_schema.specs.declared.tables.Length.TheVariants.{AtLeast, Between}
 use Rattle.asn1_schema.specs.declared.tables.Range.{Range}
-use Rattle.asn1_schema.specs.Encodings.{Encoding, constant, invalid, then, cases, number, each, anywhere, in_case, permitted}
+use Rattle.asn1_schema.specs.Encodings.{Encoding, constant, invalid, then, cases, number, each, anywhere, in_case}
 use Rattle.asn1_schema.specs.Fields.{raw_bits}
-use Rattle.asn1_schema.specs.Laws.PhaseLaws.{Shifts, Agree, anywhere_agrees, in_turn_agrees, in_case_agrees, permitted_agrees}
+use Rattle.asn1_schema.specs.Laws.PhaseLaws.{Shifts, Agree, anywhere_agrees, in_turn_agrees, in_case_agrees}
 use Rattle.asn1_x691.specs.declared.fault.FaultKind.{FaultKind}
-use Rattle.asn1_x691.specs.declared.fault.FaultKind.TheVariants.{Short, AboveMost, NotMinimal, BelowLeast, InRoot, Unsupported}
-use Rattle.asn1_x691.specs.Fields.{phase, to_octet, zeros, on_octet, in_bits, width_to, octets_needed, octet_count, minimal_octets, minimal_up_to, indefinite, constrained, length_octets, length_of, distance_from_one, above_64, large_length, small_length, semi_constrained, at_least_64, large_number, small_number, signed_octets, unconstrained}
+use Rattle.asn1_x691.specs.declared.fault.FaultKind.TheVariants.{Short, NotMinimal, BelowLeast, InRoot, Unsupported}
+use Rattle.asn1_x691.specs.Fields.{phase, zeros, on_octet, in_bits, width_to, octets_needed, octet_count, minimal_octets, minimal_up_to, indefinite, constrained, length_octets, length_of, distance_from_one, above_64, large_length, small_length, semi_constrained, at_least_64, large_number, small_number, signed_octets, unconstrained}
 use Rattle.asn1_x691.specs.Fragments.{units_octets, units_next, units, units_then, units_below, last_units, all_units, bits_of_units, string, octets}
 use Rattle.asn1_x691.specs.Strings.{IsInline, IsOnOctet, IsOfRoot, IsAddedSize, units_of, sized_string, where_size, string_where, string_of, added_string}
 use Rattle.asn1_x691.specs.Alphabets.{width_of}

@@ -1,5 +1,5 @@
 -- A type within limits only rejects more than the type of X.691.
-use Rattle.std.proofs.Common.{◌≡◌, ◌≢◌, ℕ, zero, suc, ◌+◌, ◌-◌, ◌*◌, ◌<◌, ◌≤◌, ◌%◌, nat_lt, inl, inr, Bool, true, false, List, [], length, refl, sym, ◌∙◌, ap, subst, arith, Option, Some, None}
+use Rattle.std.proofs.Common.{◌≡◌, ◌≢◌, ℕ, zero, suc, ◌+◌, ◌-◌, ◌<◌, ◌%◌, nat_lt, inl, inr, Bool, true, false, List, [], length, refl, sym, ap, subst, arith, Option, Some, None}
 use Rattle.std.proofs.lemmas.List.{append-nil}
 use Rattle.std.specs.Prelude.{◌⊎◌, slice_get, slice_range}
 use Rattle.asn1_schema.specs.declared.tables.Presence.{Presence}
@@ -12,13 +12,13 @@ use Rattle.asn1_schema.specs.declared.tables.Rows.{Rows}
 use Rattle.asn1_schema.specs.declared.tables.Node.{Node}
 use Rattle.asn1_schema.specs.declared.tables.Node.TheVariants as type
 use Rattle.asn1_schema.specs.declared.misfit.MisfitKind.TheVariants as misfit
-use Rattle.asn1_schema.specs.Pieces.{Parts, Null, Truth, Integer, Sequence, Count, Chosen, Additions}
+use Rattle.asn1_schema.specs.Pieces.{Parts, Sequence, Count, Chosen, Additions}
 use Rattle.asn1_schema.specs.Order.{IsBefore}
 use Rattle.asn1_schema.specs.Fields.{raw_bits}
 use Rattle.asn1_schema.specs.TypeEncodings.{TypeEncoding, AfterHeader, part, header, both, put, except_type}
 use Rattle.asn1_schema.specs.Narrow.{RejectsMore}
 use Rattle.asn1_schema.specs.Laws.PhaseLaws.{TypesAgree}
-use Rattle.asn1_schema.specs.Laws.NarrowLaws.{AreNarrow, TypesAreNarrow, AfterIsNarrow, same_narrow, both_narrow, several_narrow, several_by_bits_narrow, part_narrow, put_narrow, header_narrow, except_narrow, end_narrow, mandatory_narrow, optional_narrow, only_where_narrow}
+use Rattle.asn1_schema.specs.Laws.NarrowLaws.{AfterIsNarrow, same_narrow, both_narrow, several_narrow, several_by_bits_narrow, part_narrow, put_narrow, header_narrow, except_narrow, end_narrow, mandatory_narrow, optional_narrow, only_where_narrow}
 use Rattle.asn1_x691.specs.declared.fault.FaultKind.{FaultKind}
 use Rattle.asn1_x691.specs.declared.fault.FaultKind.TheVariants.{Short, NoNode, NoAddition, DefaultValue, NotAscending, Unsupported}
 use Rattle.asn1_x691.specs.Fields.{phase, constrained, small_length, small_number}

@@ -1,7 +1,7 @@
 -- A value of a type has the same encodings at two positions of one phase: at each position in the UNALIGNED variant, and where as
 -- many bits of an octet precede it in the ALIGNED variant.
-use Rattle.std.proofs.Common.{◌≡◌, ℤ, ◌+ℤ◌, ◌<ℤ◌, ◌≤ℤ◌, pos, ℕ, zero, suc, ◌+◌, ◌-◌, ◌<◌, ◌≤◌, nat_lt, inl, inr, Bool, true, false, List, [], length, sym, ◌∙◌, ap, subst, arith, Option, Some, None}
-use Rattle.std.specs.Prelude.{slice_get, slice_range, ⊤}
+use Rattle.std.proofs.Common.{◌≡◌, ℤ, ◌<ℤ◌, ◌≤ℤ◌, ℕ, zero, suc, ◌+◌, ◌-◌, ◌<◌, ◌≤◌, nat_lt, inl, inr, Bool, true, false, List, [], sym, ◌∙◌, ap, Option, Some, None}
+use Rattle.std.specs.Prelude.{slice_get, slice_range}
 use Rattle.asn1_schema.specs.declared.tables.Presence.{Presence}
 use Rattle.asn1_schema.specs.declared.tables.Presence.TheVariants as presence
 use Rattle.asn1_schema.specs.declared.tables.Length.{Length}
@@ -13,9 +13,9 @@ use Rattle.asn1_schema.specs.declared.tables.Node.{Node}
 use Rattle.asn1_schema.specs.declared.tables.Node.TheVariants as type
 use Rattle.asn1_schema.specs.declared.misfit.MisfitKind.TheVariants as misfit
 use Rattle.asn1_schema.specs.Pieces.{Piece, Null, Truth, Integer, Enumerated, Bits, Octets, Text, Sequence, Count, Chosen, Additions, Unknown}
-use Rattle.asn1_schema.specs.Encodings.{Encoding, constant, invalid, anywhere, permitted}
+use Rattle.asn1_schema.specs.Encodings.{Encoding, constant, anywhere, permitted}
 use Rattle.asn1_schema.specs.Fields.{raw_bits}
-use Rattle.asn1_schema.specs.TypeEncodings.{TypeEncoding, AfterHeader, nothing, leaf, part, header, both, put, except_type, either_by_bit, several}
+use Rattle.asn1_schema.specs.TypeEncodings.{TypeEncoding, AfterHeader, nothing, leaf, part, header, both, put, except_type, either_by_bit}
 use Rattle.asn1_schema.specs.Laws.PhaseLaws.{Shifts, Agree, TypesAgree, AfterAgree, anywhere_agrees, in_turn_agrees, permitted_agrees, nothing_agrees, both_agree, several_agree, part_agrees, leaf_agrees, put_agrees, header_agrees, except_type_agrees, several_by_bits_agree, end_agrees, mandatory_agrees, optional_agrees, only_where_agrees, either_by_bit_agrees, enclosed_agrees}
 use Rattle.asn1_x691.specs.declared.fault.FaultKind.{FaultKind}
 use Rattle.asn1_x691.specs.declared.fault.FaultKind.TheVariants.{Short, NoNode, NoAddition, BelowLeast, InRoot, NotTrimmed, Contents, DefaultValue, NotAscending, Unsupported}
@@ -26,8 +26,8 @@ use Rattle.asn1_x691.specs.Characters.{text_of, added_text, IsAddedText}
 use Rattle.asn1_x691.specs.Contents.{IsObjectIdentifier, IsRelativeIdentifier, IsUtf8Text}
 use Rattle.asn1_x691.specs.OpenTypes.{complete, enclosing, open_type}
 use Rattle.asn1_x691.specs.Limits.{Limits, IsOffOctet}
-use Rattle.asn1_x691.specs.Leaves.{by_extension_bit, from_least, IsBetween, IsOutside, IsAddedInteger, value_of_addition, IsAddedValue, AreAddedBits, AreAddedOctets, AreTrimmed, integer_between, integer_at_least, integer, extensible_integer, integer_between_by, integer_at_least_by, enumerated, enumerated_by, string_by, bits_by, bit_string, octet_string, text, contents}
-use Rattle.asn1_x691.specs.Types.{no_node, alternative_of_addition, IsAddedAlternative, IsMisplaced, optional_count, count_from, IsAddedCount, length_at_least, added_length, any_true, value_by, component_by, no_component, component, components, root_of, sequence, known_addition, addition, additions_by_bits, some_additions, extension, IsExtended, extensible_sequence, sequence_by, in_order, items, sequence_of, sequence_of_by, alternative, alternative_if, choice, added, choice_extension, choice_by, type_of, type_at}
+use Rattle.asn1_x691.specs.Leaves.{by_extension_bit, from_least, IsBetween, IsOutside, IsAddedInteger, value_of_addition, IsAddedValue, AreAddedBits, AreAddedOctets, AreTrimmed, integer_between, integer_at_least, extensible_integer, integer_between_by, integer_at_least_by, enumerated, enumerated_by, string_by, bits_by, bit_string, octet_string, text, contents}
+use Rattle.asn1_x691.specs.Types.{no_node, alternative_of_addition, IsAddedAlternative, IsMisplaced, optional_count, count_from, IsAddedCount, length_at_least, added_length, any_true, value_by, component_by, component, components, root_of, sequence, known_addition, addition, additions_by_bits, some_additions, extension, IsExtended, sequence_by, in_order, items, sequence_of, sequence_of_by, alternative_if, choice, added, choice_extension, choice_by, type_of, type_at}
 use Rattle.asn1_x691.specs.Laws.PhaseLaws.{shifts, constrained_follows, length_follows, small_length_follows, semi_constrained_follows, unconstrained_follows, small_number_follows, octets_follow, string_of_follows, added_string_follows, text_of_follows, added_text_follows}
 
 abbrev pub TypeFollows : Bool → (ℕ → TypeEncoding FaultKind) → Type 0

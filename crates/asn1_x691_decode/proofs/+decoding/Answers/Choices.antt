@@ -1,5 +1,5 @@
 -- Answers for the decoders of src/choice.rt.
-use Rattle.std.proofs.Common.{ℕ, ◌+◌, Bool, true, false, sym, ◌∙◌, subst, arith, Option, Some, None, inl}
+use Rattle.std.proofs.Common.{ℕ, ◌+◌, Bool, true, false, sym, ◌∙◌, subst, arith, Option, Some, None}
 use Rattle.std.specs.Prelude.{slice_get}
 use Rattle.asn1_bits.specs.Bits.{bits}
 use Rattle.asn1_schema.specs.Pieces.{Parts}

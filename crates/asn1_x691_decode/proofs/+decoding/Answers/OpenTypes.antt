@@ -1,6 +1,5 @@
 -- Answers for the decoders of src/open_type.rt.
-use Rattle.std.proofs.Common.{◌≡◌, ℕ, ◌+◌, Bool, true, false, List, arith, refl, sym, ◌∙◌, ap, subst, Some, inl, inr}
-use Rattle.std.specs.Prelude.{slice_get, ◌⊎◌}
+use Rattle.std.proofs.Common.{◌≡◌, ℕ, ◌+◌, Bool, true, false, List, arith, refl, sym, ◌∙◌, subst, Some, inl}
 use Rattle.asn1_bits.specs.Bits.{bits}
 use Rattle.asn1_x691_decode.specs.Decoding.{Outcome, value_in}
 use Rattle.asn1_x691_decode.proofs.Steps.{by_true, by_false}
@@ -9,7 +8,6 @@ use Rattle.asn1_x691_fields.specs.declared.state.State.{State}
 use Rattle.asn1_x691_decode.specs.Room.{IsGrown}
 use Rattle.asn1_x691_decode.proofs.OpenSteps.{complete_outcome, complete_fails, enclosed_starts, enclosed_fault, contents_true, contents_false}
 use Rattle.asn1_schema.specs.declared.tables.Presence.{Presence}
-use Rattle.asn1_schema.specs.declared.tables.Presence.TheVariants as presence
 use Rattle.asn1_schema.specs.declared.misfit.MisfitKind.TheVariants as misfit
 use Rattle.asn1_bits.specs.DigitLaws.{length-bits}
 use Rattle.asn1_x691.specs.declared.fault.FaultKind.TheVariants.{DefaultValue}

@@ -1,5 +1,5 @@
 -- Answers for the decoders of src/set.rt.
-use Rattle.std.proofs.Common.{◌≡◌, ℕ, ◌+◌, ◌-◌, Bool, true, false, List, [], refl, sym, ◌∙◌, subst, arith, inl, inr}
+use Rattle.std.proofs.Common.{◌≡◌, ℕ, ◌-◌, Bool, true, false, List, [], refl, sym, ◌∙◌, subst, arith, inl}
 use Rattle.asn1_bits.specs.Bits.{bits}
 use Rattle.std.specs.declared.cmp.Ordering.TheVariants.{Less}
 use Rattle.asn1_bits.specs.BitLists.{bits_cmp}

@@ -1,4 +1,4 @@
-use Rattle.std.proofs.Common.{ℕ, ◌≤◌, true, refl, arith}
+use Rattle.std.proofs.Common.{ℕ, refl, arith}
 use Rattle.asn1_schema.specs.Laws.NarrowLaws.{ContentsAreNarrow}
 use Rattle.asn1_x691.specs.Limits.{AreWithin, IsNoLimit}
 use Rattle.asn1_x691.specs.OpenTypes.{complete}
