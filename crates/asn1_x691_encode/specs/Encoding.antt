@@ -1,15 +1,16 @@
 -- What an encoder did: it wrote an encoding of the next parts, or it names the first misfit.
 use Rattle.asn1_x691.specs.Limits.{no_limits}
-use Rattle.std.specs.Prelude.{◌≡◌, ℕ, ◌⊎◌, ⊤, Bool, true, false, List, ◌++◌, length, drop, map, Option, Some, slice_get}
+use Rattle.std.specs.Prelude.{◌≡◌, ℕ, ◌+◌, ◌⊎◌, nat_lt, ⊤, Bool, true, false, List, ◌++◌, length, drop, map, Option, Some, slice_get}
 use Rattle.asn1_schema.specs.declared.misfit.MisfitKind.{MisfitKind}
 use Rattle.asn1_schema.specs.declared.part.Part.{Part}
 use Rattle.asn1_schema.specs.declared.tables.Length.{Length}
 use Rattle.asn1_schema.specs.declared.tables.Node.{Node}
 use Rattle.asn1_schema.specs.declared.tables.Node.TheVariants as type
+use Rattle.asn1_schema.specs.declared.tables.Rows.{Rows}
 use Rattle.asn1_schema.specs.Pieces.{Parts}
 use Rattle.asn1_schema.specs.TypeEncodings.{TypeEncoding}
 use Rattle.asn1_x691.specs.declared.fault.FaultKind.{FaultKind}
-use Rattle.asn1_x691.specs.Types.{type_at, sequence_of}
+use Rattle.asn1_x691.specs.Types.{type_at, sequence_of, alternative_if, choice}
 use Rattle.asn1_x691_writers.specs.declared.state.Writer.{Writer}
 use Rattle.asn1_x691_writers.specs.declared.state.Rejection.TheVariants.{Misfit, Unsupported}
 use Rattle.asn1_x691_writers.specs.Put.{piece_in, IsFarInteger, IsFarIndex, IsInFragments}
@@ -29,6 +30,16 @@ abbrev pub list_in : Context → (ℕ → ℕ → Option (List Bool)) → ℕ �
 list_in c defaults depth node size item =
     sequence_of no_limits c.is_aligned (types c defaults depth) c.tables.members.now c.tables.ranges.now defaults node false size item
 
+-- a choice of alternatives that are nested less deep than the depth, and the alternative of an index
+abbrev pub choice_in : Context → (ℕ → ℕ → Option (List Bool)) → ℕ → ℕ → Rows → ℕ → TypeEncoding FaultKind
+choice_in c defaults depth node rows =
+    choice no_limits c.is_aligned (types c defaults depth) c.tables.members.now c.tables.ranges.now defaults node rows
+
+abbrev pub alternative_in : Context → (ℕ → ℕ → Option (List Bool)) → ℕ → ℕ → Rows → ℕ → ℕ → TypeEncoding FaultKind
+alternative_in c defaults depth node rows i =
+    alternative_if no_limits c.is_aligned (types c defaults depth) c.tables.members.now c.tables.ranges.now defaults node
+    (nat_lt i rows.count) (slice_get c.tables.members.now (rows.from + i))
+
 -- bits that encode the next parts were written, up to another index
 pub record IsEncoded (c : Context) (A : ℕ → TypeEncoding FaultKind) (was : List ℕ) (old : Writer) (now : List ℕ) (new : Writer)
     : Type 0 where
@@ -45,7 +56,8 @@ pub record IsFirstMisfit (c : Context) (A : ℕ → TypeEncoding FaultKind) (old
 
 -- ---- what is not encoded yet
 
--- types that have other parts than one, but for lists without an extension marker, and types whose parts are text or identifiers
+-- types that have other parts than one, but for lists and choices without an extension marker, and types whose parts are text or
+-- identifiers
 abbrev pub IsLater : Option Node → Type 0
 IsLater (Some type.ObjectIdentifier) = ⊤
 IsLater (Some type.RelativeIdentifier) = ⊤
@@ -54,7 +66,7 @@ IsLater (Some (type.Text size is_extensible alphabet whole)) = ⊤
 IsLater (Some (type.Sequence root is_extensible known)) = ⊤
 IsLater (Some (type.SequenceOf size true item)) = ⊤
 IsLater (Some (type.SetOf size is_extensible item)) = ⊤
-IsLater (Some (type.Choice alternatives is_extensible known)) = ⊤
+IsLater (Some (type.Choice alternatives true known)) = ⊤
 IsLater (Some (type.Open inner)) = ⊤
 IsLater o = ⊥
 

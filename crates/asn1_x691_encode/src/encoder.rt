@@ -3,6 +3,7 @@
 ghost use Rattle.std.specs.Prelude.{Option, ◌≡◌, ℕ, Bool, List, ◌-◌, ◌*◌, ◌^◌, ◌<◌, length, slice_get};
 ghost use Rattle.asn1_x691_encode.specs.Encoding.{Outcome, types};
 
+use crate::choice::encode_choice;
 use crate::context::{Context, later};
 use crate::leaves::{
     encode_at_least, encode_between, encode_bits, encode_boolean, encode_enumerated,
@@ -140,11 +141,16 @@ pub fn encode_node(
         ) => later(state, node),
         Some(
             Node::Choice {
-                alternatives: _,
-                is_extensible: _,
+                alternatives,
+                is_extensible,
                 additions: _,
             },
-        ) => later(state, node),
+        ) => {
+            if is_extensible {
+                return later(state, node);
+            }
+            encode_choice(context, depth - 1, node, alternatives, octets, state)
+        }
         Some(Node::Open { inner: _ }) => later(state, node),
     }
 }

@@ -1,9 +1,11 @@
 //! Encodes values by a schema, by the packed encoding rules (X.691).
 //!
 //! `specs/Encoding` says what a call did: it wrote an encoding of the next parts, or it names the
-//! first misfit. Types of one part and lists of them are encoded so far.
+//! first misfit. Types of one part are encoded so far, and lists and choices without an extension
+//! marker.
 #![tactic(auto)]
 
+mod choice;
 mod context;
 mod encoder;
 mod leaves;

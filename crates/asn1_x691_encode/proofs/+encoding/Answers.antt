@@ -1,9 +1,10 @@
+mod Choices
 use Rattle.std.proofs.Common.{◌≡◌, ℕ, ◌+◌, ◌-◌, ◌<◌, ◌≤◌, ◌∷◌, Bool, true, false, refl, sym, ◌∙◌, ap, subst, inl, inr, arith, Some}
 use Rattle.asn1_schema.specs.declared.tables.Node.{Node}
 use Rattle.asn1_schema.specs.declared.tables.Node.TheVariants as type
 use Rattle.asn1_schema.specs.TypeEncodings.{TypeEncoding}
 use Rattle.asn1_x691.specs.declared.fault.FaultKind.{FaultKind}
-use Rattle.asn1_x691_encode.specs.Encoding.{Outcome}
+use Rattle.asn1_x691_encode.specs.Encoding.{Outcome, choice_in}
 use Rattle.asn1_x691_encode.specs.LeafSteps.{at_node}
 use Rattle.std.proofs.lemmas.Option.{slice_get_within}
 use Rattle.asn1_schema.specs.declared.misfit.MisfitKind.TheVariants.{OtherPart, NoEncoding}
@@ -25,6 +26,7 @@ use Rattle.asn1_x691_writers.specs.PutSteps.{rejected}
 use Rattle.asn1_x691_encode.specs.Encoding.{tape, types, list_in}
 use Rattle.asn1_x691_encode.specs.LeafSteps.{after_put, part_next}
 use Rattle.asn1_x691_encode.specs.ListSteps.{list_other, item_step, item_fails, items_done, part_step}
+use Rattle.asn1_x691_encode.proofs.+encoding.Answers.Choices as choices
 use Rattle.asn1_x691_encode.proofs.+encoding.Goals as goal
 use Rattle.asn1_x691_encode.proofs.+encoding.Goals.{list::encode_at_least-then-count-least-via-then-count-least, list::encode_at_least-then-count-least-via-else-count-least+then-count-ge16384}
 
@@ -116,6 +118,22 @@ encoder::encode_node-returns-else-is_extensible t c defaults =
     subst
     (λ (n : ℕ). Outcome cx (list_in cx defaults n c.args.node k.length k.item) c.args.octets.now c.args.state.now c.encode_list.new.octets
     c.encode_list.new.state c.encode_list.result) e (c.encode_list.ensures defaults))
+
+pub encoder::encode_node-returns-else-is_extensible-2 : goal.encoder::encode_node-returns-else-is_extensible-2
+encoder::encode_node-returns-else-is_extensible-2 t c defaults =
+    let cx = c.args.context.now in
+    let k = c.in-Some-Choice in
+    at_node cx defaults c.args.node c.args.depth (Some (type.Choice k.alternatives false k.field-0-2))
+    (λ (A : ℕ → TypeEncoding FaultKind). Outcome cx A c.args.octets.now c.args.state.now c.encode_choice.new.octets c.encode_choice.new.state
+    c.encode_choice.result)
+    (omega (arith, c.if-depth-eq0.false))
+    (sym c.node_at.ensures ∙ c.in-Some-Choice.is ∙ ap (λ (n : Node). Some n) c.in-Some-Choice.field-0-is
+    ∙ ap (λ (b : Bool). Some (type.Choice k.alternatives b k.field-0-2)) c.if-is_extensible-2.false)
+    (λ d r.
+    let e : c.args.depth - 1 ≡ d = omega (arith, r) in
+    subst
+    (λ (n : ℕ). Outcome cx (choice_in cx defaults n c.args.node k.alternatives) c.args.octets.now c.args.state.now c.encode_choice.new.octets
+    c.encode_choice.new.state c.encode_choice.result) e (c.encode_choice.ensures defaults))
 
 pub list::encode_at_least-returns-then-count-least : goal.list::encode_at_least-returns-then-count-least
 list::encode_at_least-returns-then-count-least t c defaults =
@@ -277,3 +295,18 @@ list::encode_list_of-returns-in-None t c defaults =
     c.reject.ensures.at c.reject.ensures.next c.reject.ensures.node c.reject.ensures.reason
     (list_other cx defaults c.args.depth node c.args.item c.args.size p (c.in-None.ensures cx.source.now)))
     (λ q. absurd (let e : true ≡ false = sym q ∙ c.reject.ensures.result in cc)) (λ q. refl)
+
+pub choice::encode_choice-returns-in-None-index_of : goal.choice::encode_choice-returns-in-None-index_of
+choice::encode_choice-returns-in-None-index_of = choices.encode_choice-returns-in-None-index_of
+
+pub choice::encode_index-returns-then-index-last : goal.choice::encode_index-returns-then-index-last
+choice::encode_index-returns-then-index-last = choices.encode_index-returns-then-index-last
+
+pub choice::encode_index-overflow_add-state : goal.choice::encode_index-overflow_add-state
+choice::encode_index-overflow_add-state = choices.encode_index-overflow_add-state
+
+pub choice::encode_index-returns : goal.choice::encode_index-returns
+choice::encode_index-returns = choices.encode_index-returns
+
+pub choice::encode_alternative-returns-in-Some : goal.choice::encode_alternative-returns-in-Some
+choice::encode_alternative-returns-in-Some = choices.encode_alternative-returns-in-Some
