@@ -7,10 +7,10 @@ use Rattle.asn1_schema.specs.declared.tables.Length.{Length}
 use Rattle.asn1_schema.specs.declared.tables.Node.{Node}
 use Rattle.asn1_schema.specs.declared.tables.Node.TheVariants as type
 use Rattle.asn1_schema.specs.declared.tables.Rows.{Rows}
-use Rattle.asn1_schema.specs.Pieces.{Parts}
-use Rattle.asn1_schema.specs.TypeEncodings.{TypeEncoding}
+use Rattle.asn1_schema.specs.Pieces.{Parts, Count}
+use Rattle.asn1_schema.specs.TypeEncodings.{TypeEncoding, part, several}
 use Rattle.asn1_x691.specs.declared.fault.FaultKind.{FaultKind}
-use Rattle.asn1_x691.specs.Types.{type_at, sequence_of, alternative_if, choice}
+use Rattle.asn1_x691.specs.Types.{type_at, added_length, sequence_of, sequence_of_by, alternative_if, choice}
 use Rattle.asn1_x691_writers.specs.declared.state.Writer.{Writer}
 use Rattle.asn1_x691_writers.specs.declared.state.Rejection.TheVariants.{Misfit, Unsupported}
 use Rattle.asn1_x691_writers.specs.Put.{piece_in, IsFarInteger, IsFarIndex, IsInFragments}
@@ -29,6 +29,15 @@ types c defaults depth node = type_at no_limits c.is_aligned c.tables.nodes.now 
 abbrev pub list_in : Context → (ℕ → ℕ → Option (List Bool)) → ℕ → ℕ → Length → ℕ → ℕ → TypeEncoding FaultKind
 list_in c defaults depth node size item =
     sequence_of no_limits c.is_aligned (types c defaults depth) c.tables.members.now c.tables.ranges.now defaults node false size item
+
+-- one that has an extension marker, and one whose number of items is none of the root
+abbrev pub extensible_list_in : Context → (ℕ → ℕ → Option (List Bool)) → ℕ → ℕ → Length → ℕ → ℕ → TypeEncoding FaultKind
+extensible_list_in c defaults depth node size item =
+    sequence_of_by no_limits c.is_aligned (types c defaults depth) c.tables.members.now c.tables.ranges.now defaults node true false size item
+
+abbrev pub added_list_in : Context → (ℕ → ℕ → Option (List Bool)) → ℕ → ℕ → Length → ℕ → ℕ → TypeEncoding FaultKind
+added_list_in c defaults depth node size item =
+    part (added_length c.is_aligned size node) Count (λ n. several (types c defaults depth item) n) node
 
 -- a choice of alternatives that are nested less deep than the depth, and the alternative of an index
 abbrev pub choice_in : Context → (ℕ → ℕ → Option (List Bool)) → ℕ → ℕ → Rows → ℕ → TypeEncoding FaultKind
@@ -56,15 +65,13 @@ pub record IsFirstMisfit (c : Context) (A : ℕ → TypeEncoding FaultKind) (old
 
 -- ---- what is not encoded yet
 
--- types that have other parts than one, but for lists and choices without an extension marker, and types whose parts are text or
--- identifiers
+-- text, identifiers, and types that have other parts than one, but for SEQUENCE OF, and CHOICE without an extension marker
 abbrev pub IsLater : Option Node → Type 0
 IsLater (Some type.ObjectIdentifier) = ⊤
 IsLater (Some type.RelativeIdentifier) = ⊤
 IsLater (Some type.Utf8String) = ⊤
 IsLater (Some (type.Text size is_extensible alphabet whole)) = ⊤
 IsLater (Some (type.Sequence root is_extensible known)) = ⊤
-IsLater (Some (type.SequenceOf size true item)) = ⊤
 IsLater (Some (type.SetOf size is_extensible item)) = ⊤
 IsLater (Some (type.Choice alternatives true known)) = ⊤
 IsLater (Some (type.Open inner)) = ⊤

@@ -9,7 +9,7 @@ use crate::leaves::{
     encode_at_least, encode_between, encode_bits, encode_boolean, encode_enumerated,
     encode_integer, encode_null, encode_octets,
 };
-use crate::list::encode_list;
+use crate::list::{encode_extensible_list, encode_list};
 use asn1_schema::{MisfitKind, Node};
 use asn1_x691_writers::{Writer, reject};
 
@@ -128,7 +128,15 @@ pub fn encode_node(
             },
         ) => {
             if is_extensible {
-                return later(state, node);
+                return encode_extensible_list(
+                    context,
+                    depth - 1,
+                    node,
+                    length,
+                    item,
+                    octets,
+                    state,
+                );
             }
             encode_list(context, depth - 1, node, length, item, octets, state)
         }

@@ -22,6 +22,12 @@ decreases-list::encode_list_of l = 8 * l.depth + 3
 abbrev pub decreases-list::encode_list : goal.decreases-list::encode_list
 decreases-list::encode_list l = 8 * l.depth + 4
 
+abbrev pub decreases-list::encode_added_list : goal.decreases-list::encode_added_list
+decreases-list::encode_added_list l = 8 * l.depth + 2
+
+abbrev pub decreases-list::encode_extensible_list : goal.decreases-list::encode_extensible_list
+decreases-list::encode_extensible_list l = 8 * l.depth + 4
+
 abbrev pub decreases-choice::encode_alternative : goal.decreases-choice::encode_alternative
 decreases-choice::encode_alternative l = 8 * l.depth + 1
 
