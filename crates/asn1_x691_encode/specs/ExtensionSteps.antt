@@ -26,7 +26,7 @@ module _ (c : Context) (node : ℕ) (Added : Piece → Type 0) (root extension :
   abbrev mid : Writer
   mid = record old { at = at }
 
-  -- of one bit, so that what follows it is one further
+  -- the bit was written: what follows it is at the next position
   abbrev IsBit : Bool → Type 0
   IsBit b = IsWritten c.is_aligned (anywhere (bit node)) b was old.at now at
 

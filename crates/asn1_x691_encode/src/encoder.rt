@@ -3,7 +3,7 @@
 ghost use Rattle.std.specs.Prelude.{Option, ◌≡◌, ℕ, Bool, List, ◌-◌, ◌*◌, ◌^◌, ◌<◌, length, slice_get};
 ghost use Rattle.asn1_x691_encode.specs.Encoding.{Outcome, types};
 
-use crate::choice::encode_choice;
+use crate::choice::{encode_choice, encode_extensible_choice};
 use crate::context::{Context, later};
 use crate::leaves::{
     encode_at_least, encode_between, encode_bits, encode_boolean, encode_enumerated,
@@ -151,11 +151,19 @@ pub fn encode_node(
             Node::Choice {
                 alternatives,
                 is_extensible,
-                additions: _,
+                additions,
             },
         ) => {
             if is_extensible {
-                return later(state, node);
+                return encode_extensible_choice(
+                    context,
+                    depth - 1,
+                    node,
+                    alternatives,
+                    additions,
+                    octets,
+                    state,
+                );
             }
             encode_choice(context, depth - 1, node, alternatives, octets, state)
         }

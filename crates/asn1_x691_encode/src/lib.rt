@@ -1,8 +1,7 @@
 //! Encodes values by a schema, by the packed encoding rules (X.691).
 //!
 //! `specs/Encoding` says what a call did: it wrote an encoding of the next parts, or it names the
-//! first misfit. Types of one part are encoded so far, SEQUENCE OF, and CHOICE without an extension
-//! marker.
+//! first misfit. Types of one part are encoded so far, SEQUENCE OF, and CHOICE but for additions.
 #![tactic(auto)]
 
 mod choice;

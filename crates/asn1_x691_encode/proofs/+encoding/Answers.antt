@@ -76,8 +76,8 @@ list::encode_list_of-returns-in-Between = lists.encode_list_of-returns-in-Betwee
 pub list::encode_list_of-returns-in-None : goal.list::encode_list_of-returns-in-None
 list::encode_list_of-returns-in-None = lists.encode_list_of-returns-in-None
 
-pub choice::encode_choice-returns-in-None-index_of : goal.choice::encode_choice-returns-in-None-index_of
-choice::encode_choice-returns-in-None-index_of = choices.encode_choice-returns-in-None-index_of
+pub choice::encode_choice_of-returns-in-None : goal.choice::encode_choice_of-returns-in-None
+choice::encode_choice_of-returns-in-None = choices.encode_choice_of-returns-in-None
 
 pub choice::encode_index-returns-then-index-last : goal.choice::encode_index-returns-then-index-last
 choice::encode_index-returns-then-index-last = choices.encode_index-returns-then-index-last
@@ -108,3 +108,12 @@ list::encode_extensible_list-returns-in-Some-added_count = lists.encode_extensib
 
 pub encoder::encode_node-returns-then-is_extensible : goal.encoder::encode_node-returns-then-is_extensible
 encoder::encode_node-returns-then-is_extensible = nodes.encode_node-returns-then-is_extensible
+
+pub choice::encode_extensible_choice-returns-then-is_addition : goal.choice::encode_extensible_choice-returns-then-is_addition
+choice::encode_extensible_choice-returns-then-is_addition = choices.encode_extensible_choice-returns-then-is_addition
+
+pub choice::encode_extensible_choice-returns-else-is_addition : goal.choice::encode_extensible_choice-returns-else-is_addition
+choice::encode_extensible_choice-returns-else-is_addition = choices.encode_extensible_choice-returns-else-is_addition
+
+pub encoder::encode_node-returns-then-is_extensible-2 : goal.encoder::encode_node-returns-then-is_extensible-2
+encoder::encode_node-returns-then-is_extensible-2 = nodes.encode_node-returns-then-is_extensible-2

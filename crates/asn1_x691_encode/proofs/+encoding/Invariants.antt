@@ -34,8 +34,14 @@ decreases-choice::encode_alternative l = 8 * l.depth + 1
 abbrev pub decreases-choice::encode_index : goal.decreases-choice::encode_index
 decreases-choice::encode_index l = 8 * l.depth + 2
 
+abbrev pub decreases-choice::encode_choice_of : goal.decreases-choice::encode_choice_of
+decreases-choice::encode_choice_of l = 8 * l.depth + 3
+
 abbrev pub decreases-choice::encode_choice : goal.decreases-choice::encode_choice
-decreases-choice::encode_choice l = 8 * l.depth + 3
+decreases-choice::encode_choice l = 8 * l.depth + 4
+
+abbrev pub decreases-choice::encode_extensible_choice : goal.decreases-choice::encode_extensible_choice
+decreases-choice::encode_extensible_choice l = 8 * l.depth + 4
 
 abbrev pub invariant-list::encode_items-loop-left : goal.invariant-list::encode_items-loop-left
 invariant-list::encode_items-loop-left l =
