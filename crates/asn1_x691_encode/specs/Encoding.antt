@@ -1,15 +1,16 @@
 -- What an encoder did: it wrote an encoding of the next parts, or it names the first misfit.
 use Rattle.asn1_x691.specs.Limits.{no_limits}
-use Rattle.std.specs.Prelude.{◌≡◌, ℕ, ◌⊎◌, ⊤, Bool, true, false, List, ◌++◌, length, drop, map, Option, Some, slice_get}
+use Rattle.std.specs.Prelude.{◌≡◌, ℕ, ◌+◌, ◌-◌, ◌⊎◌, nat_lt, ⊤, Bool, true, false, List, ◌++◌, length, drop, map, Option, Some, slice_get}
 use Rattle.asn1_schema.specs.declared.misfit.MisfitKind.{MisfitKind}
 use Rattle.asn1_schema.specs.declared.part.Part.{Part}
 use Rattle.asn1_schema.specs.declared.tables.Length.{Length}
 use Rattle.asn1_schema.specs.declared.tables.Node.{Node}
 use Rattle.asn1_schema.specs.declared.tables.Node.TheVariants as type
-use Rattle.asn1_schema.specs.Pieces.{Parts}
-use Rattle.asn1_schema.specs.TypeEncodings.{TypeEncoding}
+use Rattle.asn1_schema.specs.declared.tables.Rows.{Rows}
+use Rattle.asn1_schema.specs.Pieces.{Parts, Count}
+use Rattle.asn1_schema.specs.TypeEncodings.{TypeEncoding, part, several}
 use Rattle.asn1_x691.specs.declared.fault.FaultKind.{FaultKind}
-use Rattle.asn1_x691.specs.Types.{type_at, sequence_of}
+use Rattle.asn1_x691.specs.Types.{type_at, added_length, sequence_of, sequence_of_by, alternative_if, choice, choice_by, IsAddedAlternative}
 use Rattle.asn1_x691_writers.specs.declared.state.Writer.{Writer}
 use Rattle.asn1_x691_writers.specs.declared.state.Rejection.TheVariants.{Misfit, Unsupported}
 use Rattle.asn1_x691_writers.specs.Put.{piece_in, IsFarInteger, IsFarIndex, IsInFragments}
@@ -29,6 +30,29 @@ abbrev pub list_in : Context → (ℕ → ℕ → Option (List Bool)) → ℕ �
 list_in c defaults depth node size item =
     sequence_of no_limits c.is_aligned (types c defaults depth) c.tables.members.now c.tables.ranges.now defaults node false size item
 
+-- one that has an extension marker, and one whose number of items is none of the root
+abbrev pub extensible_list_in : Context → (ℕ → ℕ → Option (List Bool)) → ℕ → ℕ → Length → ℕ → ℕ → TypeEncoding FaultKind
+extensible_list_in c defaults depth node size item =
+    sequence_of_by no_limits c.is_aligned (types c defaults depth) c.tables.members.now c.tables.ranges.now defaults node true false size item
+
+abbrev pub added_list_in : Context → (ℕ → ℕ → Option (List Bool)) → ℕ → ℕ → Length → ℕ → ℕ → TypeEncoding FaultKind
+added_list_in c defaults depth node size item =
+    part (added_length c.is_aligned size node) Count (λ n. several (types c defaults depth item) n) node
+
+-- a choice of alternatives that are nested less deep than the depth, one that has an extension marker, and the alternative of an index
+abbrev pub choice_in : Context → (ℕ → ℕ → Option (List Bool)) → ℕ → ℕ → Rows → ℕ → TypeEncoding FaultKind
+choice_in c defaults depth node rows =
+    choice no_limits c.is_aligned (types c defaults depth) c.tables.members.now c.tables.ranges.now defaults node rows
+
+abbrev pub extensible_choice_in : Context → (ℕ → ℕ → Option (List Bool)) → ℕ → ℕ → Rows → Rows → ℕ → TypeEncoding FaultKind
+extensible_choice_in c defaults depth node rows known =
+    choice_by no_limits c.is_aligned (types c defaults depth) c.tables.members.now c.tables.ranges.now defaults node true rows known
+
+abbrev pub alternative_in : Context → (ℕ → ℕ → Option (List Bool)) → ℕ → ℕ → Rows → ℕ → ℕ → TypeEncoding FaultKind
+alternative_in c defaults depth node rows i =
+    alternative_if no_limits c.is_aligned (types c defaults depth) c.tables.members.now c.tables.ranges.now defaults node
+    (nat_lt i rows.count) (slice_get c.tables.members.now (rows.from + i))
+
 -- bits that encode the next parts were written, up to another index
 pub record IsEncoded (c : Context) (A : ℕ → TypeEncoding FaultKind) (was : List ℕ) (old : Writer) (now : List ℕ) (new : Writer)
     : Type 0 where
@@ -45,18 +69,23 @@ pub record IsFirstMisfit (c : Context) (A : ℕ → TypeEncoding FaultKind) (old
 
 -- ---- what is not encoded yet
 
--- types that have other parts than one, but for lists without an extension marker, and types whose parts are text or identifiers
-abbrev pub IsLater : Option Node → Type 0
-IsLater (Some type.ObjectIdentifier) = ⊤
-IsLater (Some type.RelativeIdentifier) = ⊤
-IsLater (Some type.Utf8String) = ⊤
-IsLater (Some (type.Text size is_extensible alphabet whole)) = ⊤
-IsLater (Some (type.Sequence root is_extensible known)) = ⊤
-IsLater (Some (type.SequenceOf size true item)) = ⊤
-IsLater (Some (type.SetOf size is_extensible item)) = ⊤
-IsLater (Some (type.Choice alternatives is_extensible known)) = ⊤
-IsLater (Some (type.Open inner)) = ⊤
-IsLater o = ⊥
+-- the next part tells an alternative of a CHOICE that is none of the root
+pub record IsAddition (c : Context) (last next : ℕ) : Type 0 where
+  pub part : Part
+  pub is : slice_get c.parts.now next ≡ Some part
+  pub added : IsAddedAlternative last (piece_in c.source.now part)
+
+-- text, identifiers, and types that have other parts than one, but for SEQUENCE OF, and CHOICE without additions
+abbrev pub IsLater : Context → ℕ → Option Node → Type 0
+IsLater c next (Some type.ObjectIdentifier) = ⊤
+IsLater c next (Some type.RelativeIdentifier) = ⊤
+IsLater c next (Some type.Utf8String) = ⊤
+IsLater c next (Some (type.Text size is_extensible alphabet whole)) = ⊤
+IsLater c next (Some (type.Sequence root is_extensible known)) = ⊤
+IsLater c next (Some (type.SetOf size is_extensible item)) = ⊤
+IsLater c next (Some (type.Choice alternatives true known)) = IsAddition c (alternatives.count - 1) next
+IsLater c next (Some (type.Open inner)) = ⊤
+IsLater c next o = ⊥
 
 -- a number that is too large for the encoder, or octets in fragments
 pub record IsFar (c : Context) (next : ℕ) : Type 0 where
@@ -65,7 +94,7 @@ pub record IsFar (c : Context) (next : ℕ) : Type 0 where
   pub far : (IsFarInteger (piece_in c.source.now part) ⊎ IsFarIndex (piece_in c.source.now part)) ⊎ IsInFragments part
 
 abbrev pub IsLeft : Context → Writer → Type 0
-IsLeft c new = (new.reason ≡ Unsupported) × (IsLater (slice_get c.tables.nodes.now new.node) ⊎ IsFar c new.next)
+IsLeft c new = (new.reason ≡ Unsupported) × (IsLater c new.next (slice_get c.tables.nodes.now new.node) ⊎ IsFar c new.next)
 
 -- the next parts were encoded, or the state tells why not
 abbrev pub Outcome : Context → (ℕ → TypeEncoding FaultKind) → List ℕ → Writer → List ℕ → Writer → Bool → Type 0

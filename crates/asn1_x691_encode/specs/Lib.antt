@@ -3,3 +3,5 @@ pub mod Encoding
 -- What follows of steps of an encoder; no contract cites it.
 pub mod LeafSteps
 pub mod ListSteps
+pub mod ExtensionSteps
+pub mod ChoiceSteps

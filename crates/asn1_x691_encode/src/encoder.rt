@@ -3,12 +3,13 @@
 ghost use Rattle.std.specs.Prelude.{Option, ◌≡◌, ℕ, Bool, List, ◌-◌, ◌*◌, ◌^◌, ◌<◌, length, slice_get};
 ghost use Rattle.asn1_x691_encode.specs.Encoding.{Outcome, types};
 
+use crate::choice::{encode_choice, encode_extensible_choice};
 use crate::context::{Context, later};
 use crate::leaves::{
     encode_at_least, encode_between, encode_bits, encode_boolean, encode_enumerated,
     encode_integer, encode_null, encode_octets,
 };
-use crate::list::encode_list;
+use crate::list::{encode_extensible_list, encode_list};
 use asn1_schema::{MisfitKind, Node};
 use asn1_x691_writers::{Writer, reject};
 
@@ -127,7 +128,15 @@ pub fn encode_node(
             },
         ) => {
             if is_extensible {
-                return later(state, node);
+                return encode_extensible_list(
+                    context,
+                    depth - 1,
+                    node,
+                    length,
+                    item,
+                    octets,
+                    state,
+                );
             }
             encode_list(context, depth - 1, node, length, item, octets, state)
         }
@@ -140,11 +149,24 @@ pub fn encode_node(
         ) => later(state, node),
         Some(
             Node::Choice {
-                alternatives: _,
-                is_extensible: _,
-                additions: _,
+                alternatives,
+                is_extensible,
+                additions,
             },
-        ) => later(state, node),
+        ) => {
+            if is_extensible {
+                return encode_extensible_choice(
+                    context,
+                    depth - 1,
+                    node,
+                    alternatives,
+                    additions,
+                    octets,
+                    state,
+                );
+            }
+            encode_choice(context, depth - 1, node, alternatives, octets, state)
+        }
         Some(Node::Open { inner: _ }) => later(state, node),
     }
 }

@@ -1,9 +1,10 @@
 //! Encodes values by a schema, by the packed encoding rules (X.691).
 //!
 //! `specs/Encoding` says what a call did: it wrote an encoding of the next parts, or it names the
-//! first misfit. Types of one part and lists of them are encoded so far.
+//! first misfit. Types of one part are encoded so far, SEQUENCE OF, and CHOICE but for additions.
 #![tactic(auto)]
 
+mod choice;
 mod context;
 mod encoder;
 mod leaves;

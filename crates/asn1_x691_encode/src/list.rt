@@ -1,19 +1,21 @@
-//! SEQUENCE OF without an extension marker (X.691 20).
+//! SEQUENCE OF (X.691 20).
 
 ghost use Rattle.std.specs.Prelude.{Option, ◌≡◌, ℕ, Bool, List, ◌+◌, ◌-◌, ◌*◌, ◌^◌, ◌<◌, ◌≤◌, length, slice_get, Some, MatchOption};
 ghost use Rattle.asn1_schema.specs.Pieces.{Count};
 ghost use Rattle.asn1_x691_writers.specs.Put.{piece_in};
+ghost use Rattle.asn1_x691.specs.Strings.{IsAddedSize};
+ghost use Rattle.asn1_x691.specs.Types.{IsAddedCount};
 ghost use Rattle.asn1_schema.specs.declared.part.Part.TheVariants.{Count as CountPart};
 ghost use Rattle.asn1_schema.specs.declared.tables.Length.TheVariants.{AtLeast, Between};
 ghost use Rattle.asn1_schema.specs.TypeEncodings.{several};
-ghost use Rattle.asn1_x691_encode.specs.Encoding.{Outcome, types, list_in};
+ghost use Rattle.asn1_x691_encode.specs.Encoding.{Outcome, types, list_in, added_list_in, extensible_list_in};
 
 use crate::context::{Context, part_at};
 use crate::encoder::encode_node;
 use asn1_schema::{Length, MisfitKind, Part};
-use asn1_x691_writers::{Writer, put_constrained, put_length, reject};
+use asn1_x691_writers::{Writer, is_of_root, put_bit, put_constrained, put_length, reject};
 
-/// Encodes a SEQUENCE OF (X.691 20.5, 20.6).
+/// Encodes a SEQUENCE OF without an extension marker (X.691 20.5, 20.6).
 #[cycle(encoding)]
 pub(crate) fn encode_list(
     context: &Context<'_>,
@@ -75,6 +77,82 @@ fn encode_list_of(
                 )
             }
         },
+    }
+}
+
+/// Encodes a SEQUENCE OF that has an extension marker (X.691 20.4).
+#[cycle(encoding)]
+pub(crate) fn encode_extensible_list(
+    context: &Context<'_>,
+    depth: usize,
+    node: usize,
+    size: Length,
+    item: usize,
+    octets: &mut [u8],
+    state: &mut Writer,
+) -> bool
+    requires size { 8 * length octets.old < 2 ^ 64 }
+    requires source { 8 * length context.now.source.now < 2 ^ 64 }
+    requires parts { length context.now.parts.now < 2 ^ 64 - 1 }
+    ensures { (defaults : ℕ → ℕ → Option (List Bool)) → Outcome context.now (extensible_list_in context.now defaults depth node size item)
+        octets.old state.old octets.new state.new result }
+{
+    match part_at(context.parts, state.next) {
+        None => reject(state, node, MisfitKind::NoPart),
+        Some(part) => match added_count(size, part) {
+            None => {
+                state.at = put_bit(octets, state.at, false);
+                encode_list_of(context, depth, node, size, item, part, octets, state)
+            }
+            Some(count) => {
+                state.at = put_bit(octets, state.at, true);
+                encode_added_list(context, depth, node, size, item, count, octets, state)
+            }
+        },
+    }
+}
+
+/// Encodes a list whose number of items is none of the root, after the extension bit.
+#[cycle(encoding)]
+fn encode_added_list(
+    context: &Context<'_>,
+    depth: usize,
+    node: usize,
+    size: Length,
+    item: usize,
+    count: usize,
+    octets: &mut [u8],
+    state: &mut Writer,
+) -> bool
+    requires size { 8 * length octets.old < 2 ^ 64 }
+    requires source { 8 * length context.now.source.now < 2 ^ 64 }
+    requires parts { length context.now.parts.now < 2 ^ 64 - 1 }
+    requires next { slice_get context.now.parts.now state.old.next ≡ Some (CountPart count) }
+    requires added { IsAddedSize size count }
+    ensures { (defaults : ℕ → ℕ → Option (List Bool)) → Outcome context.now (added_list_in context.now defaults depth node size item) octets.old
+        state.old octets.new state.new result }
+{
+    if count >= 16384 {
+        return reject(state, node, MisfitKind::NoEncoding);
+    }
+    state.at = put_length(octets, state.at, context.is_aligned, count);
+    state.next += 1;
+    encode_items(context, depth, item, count, octets, state)
+}
+
+/// Returns how many items follow a part, where the number is none of the root.
+fn added_count(size: Length, part: Part) -> Option<usize>
+    ensures { MatchOption result ((source : List ℕ) → IsAddedCount size (piece_in source part) → ⊥)
+        (λ n. (part ≡ CountPart n) × IsAddedSize size n) }
+{
+    match part {
+        Part::Count(count) => {
+            if is_of_root(size, count) {
+                return None;
+            }
+            Some(count)
+        }
+        _ => None,
     }
 }
 

@@ -22,6 +22,27 @@ decreases-list::encode_list_of l = 8 * l.depth + 3
 abbrev pub decreases-list::encode_list : goal.decreases-list::encode_list
 decreases-list::encode_list l = 8 * l.depth + 4
 
+abbrev pub decreases-list::encode_added_list : goal.decreases-list::encode_added_list
+decreases-list::encode_added_list l = 8 * l.depth + 2
+
+abbrev pub decreases-list::encode_extensible_list : goal.decreases-list::encode_extensible_list
+decreases-list::encode_extensible_list l = 8 * l.depth + 4
+
+abbrev pub decreases-choice::encode_alternative : goal.decreases-choice::encode_alternative
+decreases-choice::encode_alternative l = 8 * l.depth + 1
+
+abbrev pub decreases-choice::encode_index : goal.decreases-choice::encode_index
+decreases-choice::encode_index l = 8 * l.depth + 2
+
+abbrev pub decreases-choice::encode_choice_of : goal.decreases-choice::encode_choice_of
+decreases-choice::encode_choice_of l = 8 * l.depth + 3
+
+abbrev pub decreases-choice::encode_choice : goal.decreases-choice::encode_choice
+decreases-choice::encode_choice l = 8 * l.depth + 4
+
+abbrev pub decreases-choice::encode_extensible_choice : goal.decreases-choice::encode_extensible_choice
+decreases-choice::encode_extensible_choice l = 8 * l.depth + 4
+
 abbrev pub invariant-list::encode_items-loop-left : goal.invariant-list::encode_items-loop-left
 invariant-list::encode_items-loop-left l =
     (defaults : ℕ → ℕ → Option (List Bool))

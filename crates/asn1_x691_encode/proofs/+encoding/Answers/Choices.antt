@@ -1,0 +1,108 @@
+-- Answers for the encoders of src/choice.rt.
+use Rattle.std.proofs.Common.{Bool, ◌≡◌, ℕ, ◌+◌, ◌-◌, true, false, refl, sym, ◌∙◌, ap, subst, inl, inr, arith, Option, Some}
+use Rattle.std.proofs.lemmas.Option.{slice_get_within}
+use Rattle.asn1_schema.specs.declared.misfit.MisfitKind.TheVariants.{OtherPart, NoEncoding}
+use Rattle.asn1_schema.specs.declared.part.Part.TheVariants as item
+use Rattle.asn1_schema.specs.Encodings.{CanEncode}
+use Rattle.asn1_schema.specs.Pieces.{Chosen}
+use Rattle.asn1_schema.specs.TypeEncodings.{TypeEncoding}
+use Rattle.asn1_x691.specs.declared.fault.FaultKind.{FaultKind}
+use Rattle.asn1_x691.specs.Fields.{constrained}
+use Rattle.asn1_x691.specs.Laws.RangeLaws.{constrained_within}
+use Rattle.asn1_x691_writers.specs.Put.{piece_in}
+use Rattle.asn1_x691_writers.specs.PutSteps.{rejected}
+use Rattle.asn1_x691.specs.Limits.{no_limits}
+use Rattle.asn1_x691.specs.Types.{IsAddedAlternative, choice_extension}
+use Rattle.asn1_schema.specs.declared.tables.Node.{Node}
+use Rattle.asn1_schema.specs.declared.tables.Node.TheVariants.{Choice}
+use Rattle.std.specs.Prelude.{slice_get}
+use Rattle.asn1_x691_encode.specs.Encoding.{Outcome, IsLater, types, choice_in, extensible_choice_in}
+use Rattle.asn1_x691_encode.specs.ExtensionSteps.{root_step}
+use Rattle.asn1_x691_encode.specs.LeafSteps.{after_put, part_next}
+use Rattle.asn1_x691_encode.specs.ChoiceSteps.{choice_other, choice_none, index_step, the_alternative}
+use Rattle.asn1_x691_encode.proofs.+encoding.Goals as goal
+
+pub encode_choice_of-returns-in-None : goal.choice::encode_choice_of-returns-in-None
+encode_choice_of-returns-in-None t c defaults =
+    let cx = c.args.context.now in
+    let a = c.args in
+    let k = c.reject in
+    let s = k.new.state in
+    let T = choice_in cx defaults a.depth a.node a.rows in
+    let p = piece_in cx.source.now a.part in
+    after_put cx T a.part a.octets.now a.octets.now a.state.now s s c.requires.next refl refl refl k.result k.result refl
+    (rejected cx.is_aligned T p a.octets.now a.state.now s k.result a.node OtherPart k.ensures.result k.ensures.at k.ensures.next
+    k.ensures.node k.ensures.reason (choice_other cx defaults a.depth a.node a.rows p (c.in-None.ensures cx.source.now)))
+    (λ q. absurd (let e : true ≡ false = sym q ∙ k.ensures.result in cc)) (λ q. refl)
+
+pub encode_index-returns-then-index-last : goal.choice::encode_index-returns-then-index-last
+encode_index-returns-then-index-last t c defaults =
+    let cx = c.args.context.now in
+    let a = c.args in
+    let k = c.reject in
+    let s = k.new.state in
+    let T = choice_in cx defaults a.depth a.node a.rows in
+    let none : (at : ℕ) → CanEncode (constrained cx.is_aligned (a.rows.count - 1) a.node at).encodes a.index → ⊥ =
+    λ at p.
+    let most = constrained_within cx.is_aligned (a.rows.count - 1) a.node at a.index p.list p.encoded in
+    omega (arith, most, c.if-index-last.true, c.saturating_sub-last.ensures) in
+    after_put cx T (item.Chosen a.index) a.octets.now a.octets.now a.state.now s s c.requires.next refl refl refl k.result k.result refl
+    (rejected cx.is_aligned T (Chosen a.index) a.octets.now a.state.now s k.result a.node NoEncoding k.ensures.result k.ensures.at
+    k.ensures.next k.ensures.node k.ensures.reason (choice_none cx defaults a.depth a.node a.rows a.index none))
+    (λ q. absurd (let e : true ≡ false = sym q ∙ k.ensures.result in cc)) (λ q. refl)
+
+pub encode_index-overflow_add-state : goal.choice::encode_index-overflow_add-state
+encode_index-overflow_add-state t c =
+    let within = slice_get_within c.args.context.now.parts.now c.args.state.now.next (item.Chosen c.args.index) c.requires.next in
+    omega (arith, within, c.requires.parts)
+
+pub encode_index-returns : goal.choice::encode_index-returns
+encode_index-returns t c defaults =
+    let cx = c.args.context.now in
+    let a = c.args in
+    let old = a.state.now in
+    let mid = record old { at = c.put_constrained-state.result; next = old.next + 1 } in
+    (index_step cx defaults a.depth a.node a.rows c.saturating_sub-last.result a.index a.octets.now c.put_constrained-state.new.octets old mid
+    c.saturating_sub-last.ensures (c.put_constrained-state.ensures a.node) (part_next cx old.next (item.Chosen a.index) c.requires.next)).onward
+    c.encode_alternative.new.octets c.encode_alternative.new.state c.encode_alternative.result (c.encode_alternative.ensures defaults)
+
+pub encode_alternative-returns-in-Some : goal.choice::encode_alternative-returns-in-Some
+encode_alternative-returns-in-Some t c defaults =
+    let cx = c.args.context.now in
+    let a = c.args in
+    let last = c.encode_node in
+    the_alternative cx defaults a.depth a.node a.rows a.index c.in-Some.member
+    (λ (A : ℕ → TypeEncoding FaultKind). Outcome cx A a.octets.now a.state.now last.new.octets last.new.state last.result)
+    (omega (arith, c.if-index-rows.false)) (sym c.member_from.ensures ∙ c.in-Some.is) (last.ensures defaults)
+
+pub encode_extensible_choice-returns-then-is_addition : goal.choice::encode_extensible_choice-returns-then-is_addition
+encode_extensible_choice-returns-then-is_addition t c defaults =
+    let cx = c.args.context.now in
+    let a = c.args in
+    let k = c.leave in
+    let s = k.new.state in
+    let is : slice_get cx.parts.now s.next ≡ Some c.in-Some.part =
+    ap (λ (n : ℕ). slice_get cx.parts.now n) k.ensures.next ∙ sym c.part_at.ensures ∙ c.in-Some.is in
+    let type : slice_get cx.tables.nodes.now s.node ≡ Some (Choice a.rows true a.known) =
+    ap (λ (n : ℕ). slice_get cx.tables.nodes.now n) k.ensures.node ∙ c.requires.choice in
+    subst (λ (b : Bool). Outcome cx (extensible_choice_in cx defaults a.depth a.node a.rows a.known) a.octets.now a.state.now a.octets.now s b)
+    (sym k.ensures.result)
+    (inr (
+      k.ensures.reason,
+      inl (subst (λ (o : Option Node). IsLater cx s.next o) (sym type) (record {
+        part = c.in-Some.part;
+        is = is;
+        added = c.is_addition.ensures.added cx.source.now c.if-is_addition.true;
+      })),
+    ))
+
+pub encode_extensible_choice-returns-else-is_addition : goal.choice::encode_extensible_choice-returns-else-is_addition
+encode_extensible_choice-returns-else-is_addition t c defaults =
+    let cx = c.args.context.now in
+    let a = c.args in
+    let last = c.encode_choice_of in
+    (root_step cx a.node (IsAddedAlternative (a.rows.count - 1)) (choice_in cx defaults a.depth a.node a.rows)
+    (choice_extension no_limits cx.is_aligned (types cx defaults a.depth) cx.tables.members.now cx.tables.ranges.now defaults a.node a.rows a.known)
+    c.in-Some.part a.octets.now c.put_bit-state.new.octets a.state.now c.put_bit-state.result (sym c.part_at.ensures ∙ c.in-Some.is)
+    (c.put_bit-state.ensures cx.is_aligned a.node) (c.is_addition.ensures.root cx.source.now c.if-is_addition.false)).onward
+    last.new.octets last.new.state last.result (last.ensures defaults)
