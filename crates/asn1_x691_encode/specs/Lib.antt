@@ -1,5 +1,7 @@
 -- What an encoder did.
 pub mod Encoding
+-- What it says of a message.
+pub mod Messages
 -- What follows of steps of an encoder; no contract cites it.
 pub mod LeafSteps
 pub mod ListSteps

@@ -9,6 +9,8 @@ mod context;
 mod encoder;
 mod leaves;
 mod list;
+mod message;
 
 pub use context::Context;
 pub use encoder::encode_node;
+pub use message::{Encoded, Misfit, encode};

@@ -1,0 +1,86 @@
+//! Encodes messages.
+
+ghost use Rattle.std.specs.Prelude.{ℕ, Bool, List, Option, ◌≡◌, ◌-◌, ◌*◌, ◌^◌, ◌<◌, ◌≤◌, length, IfOk, IfErr};
+ghost use Rattle.asn1_x691.specs.OpenTypes.{padding_of};
+ghost use Rattle.asn1_x691_writers.specs.Written.{IsIndex};
+ghost use Rattle.asn1_x691_encode.specs.Messages.{IsMessage, IsRejected};
+
+use crate::context::Context;
+use crate::encoder::encode_node;
+use asn1_x691_writers::{Rejection, Writer, put_zeros};
+use thiserror::Error;
+
+/// What was encoded.
+#[derive(Clone, Copy, Debug, PartialEq, Eq)]
+pub struct Encoded {
+    /// How many octets the message has, also where there was no room for them; 2^61 - 1 where it has
+    /// so many or more.
+    pub octets: usize,
+    /// How many parts the value has.
+    pub parts: usize,
+}
+
+/// Why parts were not encoded.
+#[derive(Clone, Copy, Debug, PartialEq, Eq, Error)]
+#[error("part {part}, type {node}: {reason:?}")]
+pub struct Misfit {
+    /// The node of the schema.
+    pub node: usize,
+    /// The index of the part.
+    pub part: usize,
+    /// Why the part has no encoding, or is not encoded.
+    pub reason: Rejection,
+}
+
+/// Encodes a message: the complete encoding (X.691 11.1) of the value of the type at a node that the
+/// first parts of a context are. A value may be nested less deep than `depth`. `octets` receives the
+/// message; where it has too few octets for it, the result still tells how many are needed, and the
+/// octets have no meaning. There are fewer than 2^61 octets, in `octets` and in the source.
+///
+/// # Errors
+///
+/// Returns the first misfit: the part that does not fit the type at a node, and why. The reason
+/// [`Rejection::Unsupported`] says that the part is not encoded yet. The octets have no meaning then.
+pub fn encode(
+    context: &Context<'_>,
+    depth: usize,
+    node: usize,
+    octets: &mut [u8],
+) -> Result<Encoded, Misfit>
+    requires size { 8 * length octets.old < 2 ^ 64 }
+    requires source { 8 * length context.now.source.now < 2 ^ 64 }
+    requires parts { length context.now.parts.now < 2 ^ 64 - 1 }
+    ensures encoded { (defaults : ℕ → ℕ → Option (List Bool))
+        → IfOk result (λ e. IsMessage context.now defaults depth node octets.new e) }
+    ensures misfit { (defaults : ℕ → ℕ → Option (List Bool)) → IfErr result (λ e. IsRejected context.now defaults depth node e) }
+{
+    let mut state = Writer {
+        at: 0,
+        next: 0,
+        node,
+        reason: Rejection::Unsupported,
+    };
+    if !encode_node(context, depth, node, octets, &mut state) {
+        return Err(Misfit {
+            node: state.node,
+            part: state.next,
+            reason: state.reason,
+        });
+    }
+    let end = put_zeros(octets, state.at, zeros_after(state.at));
+    Ok(Encoded {
+        octets: end / 8,
+        parts: state.next,
+    })
+}
+
+/// Returns how many zeros follow a value that ends at an index: to whole octets, of which there is
+/// one at least (X.691 11.1.3).
+fn zeros_after(at: usize) -> usize
+    ensures { (n : ℕ) → IsIndex at n → result ≡ padding_of n }
+{
+    if at == 0 {
+        return 8;
+    }
+    (8 - at % 8) % 8
+}
