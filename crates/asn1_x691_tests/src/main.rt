@@ -1,5 +1,7 @@
 //! Tests of PER: a program that answers the rows of its stored input.
 //!
+//! A value that is decoded is encoded again, where its type is encoded.
+//!
 //! A row is a variant, octets and a type, as `uper 20 seq:2 ? int:0..7 ! bool = seq2 absent true`. The
 //! rows are made by `scripts/x691-vectors`, with another compiler, and by `scripts/x691-model`. A row of
 //! `uper-error` has the text of the fault.
@@ -13,6 +15,8 @@ use crate::types::{Schema, schema_of};
 use asn1_schema::{Part, Tables};
 use asn1_test_rows::{Answers, RowError, octets, run, wrong};
 use asn1_x691_decode::{Context, Defaults, decode};
+use asn1_x691_encode::{Context as Value, encode};
+use asn1_x691_writers::Rejection;
 use std::alloc::Global;
 use std::io::BufReader;
 use std::process::ExitCode;
@@ -51,6 +55,11 @@ fn decoded<'a>(
     let mut room = vec![in alloc; Part::Absent; ROOM]?;
     match decode(&context, DEPTH, schema.node, room.as_mut_slice()) {
         Ok(count) => {
+            if let Some(parts) = room.as_slice().get(..count)
+                && !is_encoded_again(alloc, &context, schema.node, parts)?
+            {
+                return Err(wrong(alloc, "the value", "value that is encoded as the message"));
+            }
             let source = Source {
                 octets,
                 ranges: schema.ranges.as_slice(),
@@ -59,6 +68,31 @@ fn decoded<'a>(
         }
         Err(fault) if in_words => Ok(format!(in alloc; "{fault}")?),
         Err(fault) => parts::text_of_fault(alloc, fault),
+    }
+}
+
+/// Encodes the parts of a message, and returns whether that makes the message again, or the type is
+/// not encoded yet.
+fn is_encoded_again(
+    alloc: Global,
+    context: &Context<'_>,
+    node: usize,
+    parts: &[Part],
+) -> Result<bool, RowError> {
+    let octets = context.octets;
+    if parts.len() > ROOM || octets.len() > 1_000_000 {
+        return Ok(false);
+    }
+    let value = Value {
+        tables: context.tables,
+        parts,
+        source: octets,
+        is_aligned: context.is_aligned,
+    };
+    let mut room = vec![in alloc; 0u8; octets.len() + 8]?;
+    match encode(&value, DEPTH, node, room.as_mut_slice()) {
+        Ok(encoded) => Ok(room.as_slice().get(..encoded.octets) == Some(octets)),
+        Err(misfit) => Ok(misfit.reason == Rejection::Unsupported),
     }
 }
 
