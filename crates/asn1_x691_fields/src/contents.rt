@@ -60,8 +60,8 @@ pub fn next_relative_identifier(
 }
 
 /// Returns whether octets of a message, which may begin at any bit, are subidentifiers one after
-/// another, of which there is one at least.
-fn are_subidentifiers(message: &[u8], span: Span) -> bool
+/// another, of which there is one at least (X.690 8.19.2, 8.20.2).
+pub fn are_subidentifiers(message: &[u8], span: Span) -> bool
     requires size { 8 * length message.now < 2 ^ 64 }
     requires inside { span.at + span.count ≤ 8 * length message.now }
     requires whole { span.count % 8 ≡ 0 }

@@ -29,7 +29,7 @@ mod unbounded;
 mod utf8_texts;
 
 pub use bit_strings::next_bit_string;
-pub use contents::{next_object_identifier, next_relative_identifier};
+pub use contents::{are_subidentifiers, next_object_identifier, next_relative_identifier};
 pub use enumerations::next_enumerated;
 pub use extensible_integers::{next_integer_at_least_by, next_integer_between_by};
 pub use heads::{next_bit, next_bits, next_start, next_word};
@@ -43,4 +43,4 @@ pub use state::{State, fail};
 pub use strings::{next_count, next_octets, next_units};
 pub use texts::next_text;
 pub use unbounded::{next_semi_constrained, next_unconstrained};
-pub use utf8_texts::next_utf8_string;
+pub use utf8_texts::{is_utf8, next_utf8_string};

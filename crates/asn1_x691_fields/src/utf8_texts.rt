@@ -42,7 +42,7 @@ pub fn next_utf8_string(
 }
 
 /// Returns whether octets of a message, which may begin at any bit, are UTF-8.
-fn is_utf8(message: &[u8], span: Span) -> bool
+pub fn is_utf8(message: &[u8], span: Span) -> bool
     requires size { 8 * length message.now < 2 ^ 64 }
     requires inside { span.at + span.count ≤ 8 * length message.now }
     requires whole { span.count % 8 ≡ 0 }

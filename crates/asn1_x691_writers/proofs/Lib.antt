@@ -3,3 +3,4 @@ pub mod FragmentLemmas
 pub mod HeldLemmas
 pub mod WidthLemmas
 pub mod WordLemmas
+pub mod ContentsLemmas

@@ -3,6 +3,7 @@ pub mod Written
 pub mod Units
 pub mod Put
 pub mod Held
+pub mod Validity
 -- What follows of what calls wrote; no contract cites it.
 pub mod DigitSteps
 pub mod EnumeratedSteps

@@ -14,6 +14,7 @@
 mod bit_strings;
 mod bits;
 mod booleans;
+mod contents;
 mod enumerations;
 mod heads;
 mod held;
@@ -32,6 +33,7 @@ mod unknown;
 pub use bit_strings::put_bit_string;
 pub use bits::{after, put_bits, put_number, put_wide};
 pub use booleans::{put_bit, put_boolean};
+pub use contents::{ContentsKind, put_contents};
 pub use enumerations::put_enumerated;
 pub use heads::put_start;
 pub use integers::{put_integer, put_integer_at_least, put_integer_between};

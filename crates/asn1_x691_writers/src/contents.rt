@@ -1,0 +1,82 @@
+//! Octets that are kept by their contents: identifiers and UTF-8 (X.691 24, 25, 30.6).
+
+ghost use Rattle.asn1_x691.specs.Fragments.{most_fragments};
+ghost use Rattle.std.specs.Prelude.{◌≡◌, ◌+◌, ◌*◌, ◌%◌, ◌^◌, ◌<◌, ◌≤◌, true, false, length};
+ghost use Rattle.asn1_bits.specs.Bits.{bits};
+ghost use Rattle.asn1_schema.specs.PiecesOfParts.{bits_of};
+ghost use Rattle.asn1_x691.specs.Leaves.{contents};
+ghost use Rattle.asn1_x691_writers.specs.Put.{IsInFragments, IsPut, piece_in};
+ghost use Rattle.asn1_x691_writers.specs.Validity.{IsValid};
+
+use crate::spans::clip;
+use crate::state::{Writer, leave, reject};
+use crate::unknown::put_octets;
+use asn1_schema::{MisfitKind, Part, Span};
+use asn1_x691_fields::{are_subidentifiers, is_utf8};
+
+/// What octets hold.
+#[derive(Clone, Copy, Debug, PartialEq, Eq)]
+pub enum ContentsKind {
+    /// The contents octets of an OBJECT IDENTIFIER (X.690 8.19).
+    ObjectIdentifier,
+    /// The contents octets of a RELATIVE-OID (X.690 8.20).
+    RelativeIdentifier,
+    /// UTF-8 (X.690 8.23.10).
+    Utf8,
+}
+
+/// Writes octets of this kind after their number. The part must not be one in fragments: its octets
+/// are not written yet.
+pub fn put_contents(
+    octets: &mut [u8],
+    is_aligned: bool,
+    kind: ContentsKind,
+    source: &[u8],
+    part: Part,
+    node: usize,
+    state: &mut Writer,
+) -> bool
+    requires size { 8 * length octets.old < 2 ^ 64 }
+    requires source { 8 * length source.now < 2 ^ 64 }
+    requires whole { IsInFragments part → ⊥ }
+    ensures { IsPut is_aligned (contents most_fragments is_aligned node (IsValid kind)) (piece_in source.now part) octets.old state.old octets.new
+        state.new result }
+{
+    match part {
+        Part::Octets(span) => {
+            let inside = clip(source, span);
+            if !is_valid(kind, source, inside) {
+                return reject(state, node, MisfitKind::NoEncoding);
+            }
+            state.at = put_octets(
+                octets,
+                state.at,
+                is_aligned,
+                source,
+                inside.at,
+                inside.count / 8,
+            );
+            true
+        }
+        Part::OctetsInFragments(_) => leave(state, node),
+        _ => reject(state, node, MisfitKind::OtherPart),
+    }
+}
+
+/// Returns whether bits of a source are octets of this kind.
+fn is_valid(kind: ContentsKind, source: &[u8], span: Span) -> bool
+    requires source { 8 * length source.now < 2 ^ 64 }
+    requires inside { span.at + span.count ≤ 8 * length source.now }
+    ensures whole { result ≡ true → span.count % 8 ≡ 0 }
+    ensures yes { result ≡ true → IsValid kind (bits_of (bits source.now) span) }
+    ensures no { result ≡ false → IsValid kind (bits_of (bits source.now) span) → ⊥ }
+{
+    if span.count % 8 > 0 {
+        return false;
+    }
+    match kind {
+        ContentsKind::ObjectIdentifier => are_subidentifiers(source, span),
+        ContentsKind::RelativeIdentifier => are_subidentifiers(source, span),
+        ContentsKind::Utf8 => is_utf8(source, span),
+    }
+}
