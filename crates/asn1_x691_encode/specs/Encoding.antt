@@ -75,11 +75,8 @@ pub record IsAddition (c : Context) (last next : ℕ) : Type 0 where
   pub is : slice_get c.parts.now next ≡ Some part
   pub added : IsAddedAlternative last (piece_in c.source.now part)
 
--- text, identifiers, and types that have other parts than one, but for SEQUENCE OF, and CHOICE without additions
+-- strings of characters, and types that have other parts than one, but for SEQUENCE OF, and CHOICE without additions
 abbrev pub IsLater : Context → ℕ → Option Node → Type 0
-IsLater c next (Some type.ObjectIdentifier) = ⊤
-IsLater c next (Some type.RelativeIdentifier) = ⊤
-IsLater c next (Some type.Utf8String) = ⊤
 IsLater c next (Some (type.Text size is_extensible alphabet whole)) = ⊤
 IsLater c next (Some (type.Sequence root is_extensible known)) = ⊤
 IsLater c next (Some (type.SetOf size is_extensible item)) = ⊤

@@ -4,6 +4,7 @@ ghost use Rattle.std.specs.Prelude.{Option, ◌≡◌, ℕ, Bool, List, ◌-◌,
 ghost use Rattle.asn1_x691_encode.specs.Encoding.{Outcome, types};
 
 use crate::choice::{encode_choice, encode_extensible_choice};
+use crate::contents::encode_contents;
 use crate::context::{Context, later};
 use crate::leaves::{
     encode_at_least, encode_between, encode_bits, encode_boolean, encode_enumerated,
@@ -11,7 +12,7 @@ use crate::leaves::{
 };
 use crate::list::{encode_extensible_list, encode_list};
 use asn1_schema::{MisfitKind, Node};
-use asn1_x691_writers::{Writer, reject};
+use asn1_x691_writers::{ContentsKind, Writer, reject};
 
 /// Returns the type at a node.
 #[inline(always)]
@@ -110,9 +111,15 @@ pub fn encode_node(
                 whole: _,
             },
         ) => later(state, node),
-        Some(Node::ObjectIdentifier) => later(state, node),
-        Some(Node::RelativeIdentifier) => later(state, node),
-        Some(Node::Utf8String) => later(state, node),
+        Some(Node::ObjectIdentifier) => {
+            encode_contents(context, ContentsKind::ObjectIdentifier, node, octets, state)
+        }
+        Some(Node::RelativeIdentifier) => {
+            encode_contents(context, ContentsKind::RelativeIdentifier, node, octets, state)
+        }
+        Some(Node::Utf8String) => {
+            encode_contents(context, ContentsKind::Utf8, node, octets, state)
+        }
         Some(
             Node::Sequence {
                 root: _,

@@ -5,6 +5,7 @@
 #![tactic(auto)]
 
 mod choice;
+mod contents;
 mod context;
 mod encoder;
 mod leaves;

@@ -2,9 +2,11 @@
 mod Nodes
 mod Lists
 mod Choices
+mod Contents
 use Rattle.asn1_x691_encode.proofs.+encoding.Answers.Nodes as nodes
 use Rattle.asn1_x691_encode.proofs.+encoding.Answers.Lists as lists
 use Rattle.asn1_x691_encode.proofs.+encoding.Answers.Choices as choices
+use Rattle.asn1_x691_encode.proofs.+encoding.Answers.Contents as contents
 use Rattle.asn1_x691_encode.proofs.+encoding.Goals as goal
 
 pub encoder::encode_node-returns-in-Some-Null : goal.encoder::encode_node-returns-in-Some-Null
@@ -30,6 +32,15 @@ encoder::encode_node-returns-in-Some-BitString = nodes.encode_node-returns-in-So
 
 pub encoder::encode_node-returns-in-Some-OctetString : goal.encoder::encode_node-returns-in-Some-OctetString
 encoder::encode_node-returns-in-Some-OctetString = nodes.encode_node-returns-in-Some-OctetString
+
+pub encoder::encode_node-returns-in-Some-ObjectIdentifier : goal.encoder::encode_node-returns-in-Some-ObjectIdentifier
+encoder::encode_node-returns-in-Some-ObjectIdentifier = contents.encode_node-returns-in-Some-ObjectIdentifier
+
+pub encoder::encode_node-returns-in-Some-RelativeIdentifier : goal.encoder::encode_node-returns-in-Some-RelativeIdentifier
+encoder::encode_node-returns-in-Some-RelativeIdentifier = contents.encode_node-returns-in-Some-RelativeIdentifier
+
+pub encoder::encode_node-returns-in-Some-Utf8String : goal.encoder::encode_node-returns-in-Some-Utf8String
+encoder::encode_node-returns-in-Some-Utf8String = contents.encode_node-returns-in-Some-Utf8String
 
 pub encoder::encode_node-returns-else-is_extensible : goal.encoder::encode_node-returns-else-is_extensible
 encoder::encode_node-returns-else-is_extensible = nodes.encode_node-returns-else-is_extensible

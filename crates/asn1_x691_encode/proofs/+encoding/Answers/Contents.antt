@@ -1,0 +1,36 @@
+-- Answers for octets that are kept by their contents.
+use Rattle.std.proofs.Common.{ℕ, sym, ◌∙◌, ap, arith, Some}
+use Rattle.asn1_schema.specs.declared.tables.Node.{Node}
+use Rattle.asn1_schema.specs.declared.tables.Node.TheVariants as type
+use Rattle.asn1_schema.specs.TypeEncodings.{TypeEncoding}
+use Rattle.asn1_x691.specs.declared.fault.FaultKind.{FaultKind}
+use Rattle.asn1_x691_encode.specs.Encoding.{Outcome}
+use Rattle.asn1_x691_encode.specs.LeafSteps.{at_node}
+use Rattle.asn1_x691_encode.proofs.+encoding.Goals as goal
+
+pub encode_node-returns-in-Some-ObjectIdentifier : goal.encoder::encode_node-returns-in-Some-ObjectIdentifier
+encode_node-returns-in-Some-ObjectIdentifier t c defaults =
+    let cx = c.args.context.now in
+    at_node cx defaults c.args.node c.args.depth (Some type.ObjectIdentifier)
+    (λ (A : ℕ → TypeEncoding FaultKind). Outcome cx A c.args.octets.now c.args.state.now c.encode_contents.new.octets
+    c.encode_contents.new.state c.encode_contents.result)
+    (omega (arith, c.if-depth-eq0.false)) (sym c.node_at.ensures ∙ c.in-Some-ObjectIdentifier.is ∙ ap (λ (n : Node). Some n) c.in-Some-ObjectIdentifier.field-0-is)
+    (λ d r. c.encode_contents.ensures)
+
+pub encode_node-returns-in-Some-RelativeIdentifier : goal.encoder::encode_node-returns-in-Some-RelativeIdentifier
+encode_node-returns-in-Some-RelativeIdentifier t c defaults =
+    let cx = c.args.context.now in
+    at_node cx defaults c.args.node c.args.depth (Some type.RelativeIdentifier)
+    (λ (A : ℕ → TypeEncoding FaultKind). Outcome cx A c.args.octets.now c.args.state.now c.encode_contents-in-Some-RelativeIdentifier.new.octets
+    c.encode_contents-in-Some-RelativeIdentifier.new.state c.encode_contents-in-Some-RelativeIdentifier.result)
+    (omega (arith, c.if-depth-eq0.false)) (sym c.node_at.ensures ∙ c.in-Some-RelativeIdentifier.is ∙ ap (λ (n : Node). Some n) c.in-Some-RelativeIdentifier.field-0-is)
+    (λ d r. c.encode_contents-in-Some-RelativeIdentifier.ensures)
+
+pub encode_node-returns-in-Some-Utf8String : goal.encoder::encode_node-returns-in-Some-Utf8String
+encode_node-returns-in-Some-Utf8String t c defaults =
+    let cx = c.args.context.now in
+    at_node cx defaults c.args.node c.args.depth (Some type.Utf8String)
+    (λ (A : ℕ → TypeEncoding FaultKind). Outcome cx A c.args.octets.now c.args.state.now c.encode_contents-in-Some-Utf8String.new.octets
+    c.encode_contents-in-Some-Utf8String.new.state c.encode_contents-in-Some-Utf8String.result)
+    (omega (arith, c.if-depth-eq0.false)) (sym c.node_at.ensures ∙ c.in-Some-Utf8String.is ∙ ap (λ (n : Node). Some n) c.in-Some-Utf8String.field-0-is)
+    (λ d r. c.encode_contents-in-Some-Utf8String.ensures)
