@@ -1,16 +1,18 @@
 -- What an encoder did: it wrote an encoding of the next parts, or it names the first misfit.
 use Rattle.asn1_x691.specs.Limits.{no_limits}
-use Rattle.std.specs.Prelude.{◌≡◌, ℕ, ◌+◌, ◌-◌, ◌⊎◌, nat_lt, ⊤, Bool, true, false, List, ◌++◌, length, drop, map, Option, Some, slice_get}
+use Rattle.std.specs.Prelude.{◌≡◌, ℕ, ◌+◌, ◌-◌, ◌⊎◌, ◌<◌, nat_lt, ⊤, Bool, true, false, List, ◌++◌, length, drop, map, Option, Some, slice_get}
 use Rattle.asn1_schema.specs.declared.misfit.MisfitKind.{MisfitKind}
 use Rattle.asn1_schema.specs.declared.part.Part.{Part}
 use Rattle.asn1_schema.specs.declared.tables.Length.{Length}
+use Rattle.asn1_schema.specs.declared.tables.Member.{Member}
+use Rattle.asn1_schema.specs.declared.tables.Presence.TheVariants as presence
 use Rattle.asn1_schema.specs.declared.tables.Node.{Node}
 use Rattle.asn1_schema.specs.declared.tables.Node.TheVariants as type
 use Rattle.asn1_schema.specs.declared.tables.Rows.{Rows}
 use Rattle.asn1_schema.specs.Pieces.{Parts, Count}
-use Rattle.asn1_schema.specs.TypeEncodings.{TypeEncoding, part, several}
+use Rattle.asn1_schema.specs.TypeEncodings.{TypeEncoding, AfterHeader, part, several}
 use Rattle.asn1_x691.specs.declared.fault.FaultKind.{FaultKind}
-use Rattle.asn1_x691.specs.Types.{type_at, added_length, sequence_of, sequence_of_by, alternative_if, choice, choice_by, IsAddedAlternative}
+use Rattle.asn1_x691.specs.Types.{type_at, added_length, sequence_of, sequence_of_by, alternative_if, choice, choice_by, IsAddedAlternative, sequence, root_of, components}
 use Rattle.asn1_x691_writers.specs.declared.state.Writer.{Writer}
 use Rattle.asn1_x691_writers.specs.declared.state.Rejection.TheVariants.{Misfit, Unsupported}
 use Rattle.asn1_x691_writers.specs.Put.{piece_in, IsFarInteger, IsFarIndex, IsInFragments}
@@ -53,6 +55,24 @@ alternative_in c defaults depth node rows i =
     alternative_if no_limits c.is_aligned (types c defaults depth) c.tables.members.now c.tables.ranges.now defaults node
     (nat_lt i rows.count) (slice_get c.tables.members.now (rows.from + i))
 
+-- a SEQUENCE without an extension marker, of components that are nested less deep than the depth, what follows its first part, and so
+-- many components, which are members from an index on
+abbrev pub sequence_in : Context → (ℕ → ℕ → Option (List Bool)) → ℕ → ℕ → Rows → ℕ → TypeEncoding FaultKind
+sequence_in c defaults depth node root =
+    sequence no_limits c.is_aligned (types c defaults depth) c.tables.members.now c.tables.ranges.now defaults node root
+
+abbrev pub root_in : Context → (ℕ → ℕ → Option (List Bool)) → ℕ → ℕ → Rows → ℕ → TypeEncoding FaultKind
+root_in c defaults depth node root =
+    root_of no_limits c.is_aligned (types c defaults depth) c.tables.members.now c.tables.ranges.now defaults node root
+
+abbrev pub components_in : Context → (ℕ → ℕ → Option (List Bool)) → ℕ → ℕ → ℕ → ℕ → ℕ → AfterHeader FaultKind (List Bool)
+components_in c defaults depth node count from =
+    components no_limits c.is_aligned (types c defaults depth) c.tables.members.now c.tables.ranges.now defaults node count from
+
+-- the type at a node is a SEQUENCE of this root without an extension marker
+abbrev pub IsSequence : Context → ℕ → Rows → Type 0
+IsSequence c node root = (known : Rows) × (slice_get c.tables.nodes.now node ≡ Some (type.Sequence root false known))
+
 -- bits that encode the next parts were written, up to another index
 pub record IsEncoded (c : Context) (A : ℕ → TypeEncoding FaultKind) (was : List ℕ) (old : Writer) (now : List ℕ) (new : Writer)
     : Type 0 where
@@ -75,10 +95,21 @@ pub record IsAddition (c : Context) (last next : ℕ) : Type 0 where
   pub is : slice_get c.parts.now next ≡ Some part
   pub added : IsAddedAlternative last (piece_in c.source.now part)
 
--- strings of characters, and types that have other parts than one, but for SEQUENCE OF, and CHOICE without additions
+-- a component of a root has a DEFAULT
+pub record HasDefault (c : Context) (root : Rows) : Type 0 where
+  pub index : ℕ
+  pub within : index < root.count
+  pub member : Member
+  pub is : slice_get c.tables.members.now (root.from + index) ≡ Some member
+  pub value : ℕ
+  pub default : member.presence ≡ presence.Default value
+
+-- strings of characters, and types that have other parts than one, but for SEQUENCE OF, CHOICE without additions, and SEQUENCE without an
+-- extension marker and DEFAULT
 abbrev pub IsLater : Context → ℕ → Option Node → Type 0
 IsLater c next (Some (type.Text size is_extensible alphabet whole)) = ⊤
-IsLater c next (Some (type.Sequence root is_extensible known)) = ⊤
+IsLater c next (Some (type.Sequence root true known)) = ⊤
+IsLater c next (Some (type.Sequence root false known)) = HasDefault c root
 IsLater c next (Some (type.SetOf size is_extensible item)) = ⊤
 IsLater c next (Some (type.Choice alternatives true known)) = IsAddition c (alternatives.count - 1) next
 IsLater c next (Some (type.Open inner)) = ⊤

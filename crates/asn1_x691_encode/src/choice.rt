@@ -8,9 +8,9 @@ ghost use Rattle.asn1_x691.specs.Types.{IsAddedAlternative};
 ghost use Rattle.asn1_x691_writers.specs.Put.{piece_in};
 ghost use Rattle.asn1_x691_encode.specs.Encoding.{Outcome, choice_in, extensible_choice_in, alternative_in};
 
-use crate::context::{Context, part_at};
+use crate::context::{Context, member_from, part_at};
 use crate::encoder::encode_node;
-use asn1_schema::{Member, MisfitKind, Part, Rows};
+use asn1_schema::{MisfitKind, Part, Rows};
 use asn1_x691_writers::{Writer, leave, put_bit, put_constrained, reject};
 
 /// Encodes a CHOICE without an extension marker (X.691 23.6).
@@ -169,15 +169,4 @@ fn encode_alternative(
         None => reject(state, node, MisfitKind::NoNode),
         Some(member) => encode_node(context, depth, member.node, octets, state),
     }
-}
-
-/// Returns the member of an index among those from another index on.
-#[inline(always)]
-fn member_from(members: &[Member], from: usize, index: usize) -> Option<Member>
-    ensures { result ≡ slice_get members.now (from + index) }
-{
-    if index < members.len().saturating_sub(from) {
-        return Some(members[from + index]);
-    }
-    None
 }

@@ -3,7 +3,7 @@
 ghost use Rattle.std.specs.Prelude.{◌≡◌, ◌+◌, ◌^◌, ◌<◌, false, true, slice_get};
 ghost use Rattle.asn1_x691_writers.specs.declared.state.Rejection.TheVariants.{Unsupported};
 
-use asn1_schema::{Part, Tables};
+use asn1_schema::{Member, Part, Tables};
 use asn1_x691_writers::{Rejection, Writer};
 
 /// A schema, and the parts of a value.
@@ -29,6 +29,17 @@ pub(crate) fn part_at(parts: &[Part], index: usize) -> Option<Part>
     } else {
         None
     }
+}
+
+/// Returns the member of an index among those from another index on.
+#[inline(always)]
+pub(crate) fn member_from(members: &[Member], from: usize, index: usize) -> Option<Member>
+    ensures { result ≡ slice_get members.now (from + index) }
+{
+    if index < members.len().saturating_sub(from) {
+        return Some(members[from + index]);
+    }
+    None
 }
 
 /// Moves on to the part after the next one, where that was written. Returns whether it was.

@@ -11,6 +11,7 @@ use crate::leaves::{
     encode_integer, encode_null, encode_octets,
 };
 use crate::list::{encode_extensible_list, encode_list};
+use crate::sequence::encode_sequence;
 use asn1_schema::{MisfitKind, Node};
 use asn1_x691_writers::{ContentsKind, Writer, reject};
 
@@ -122,11 +123,16 @@ pub fn encode_node(
         }
         Some(
             Node::Sequence {
-                root: _,
-                is_extensible: _,
+                root,
+                is_extensible,
                 additions: _,
             },
-        ) => later(state, node),
+        ) => {
+            if is_extensible {
+                return later(state, node);
+            }
+            encode_sequence(context, depth - 1, node, root, octets, state)
+        }
         Some(
             Node::SequenceOf {
                 length,

@@ -3,10 +3,12 @@ mod Nodes
 mod Lists
 mod Choices
 mod Contents
+mod Sequences
 use Rattle.asn1_x691_encode.proofs.+encoding.Answers.Nodes as nodes
 use Rattle.asn1_x691_encode.proofs.+encoding.Answers.Lists as lists
 use Rattle.asn1_x691_encode.proofs.+encoding.Answers.Choices as choices
 use Rattle.asn1_x691_encode.proofs.+encoding.Answers.Contents as contents
+use Rattle.asn1_x691_encode.proofs.+encoding.Answers.Sequences as sequences
 use Rattle.asn1_x691_encode.proofs.+encoding.Goals as goal
 
 pub encoder::encode_node-returns-in-Some-Null : goal.encoder::encode_node-returns-in-Some-Null
@@ -117,9 +119,6 @@ list::encode_extensible_list-returns-in-None-added_count = lists.encode_extensib
 pub list::encode_extensible_list-returns-in-Some-added_count : goal.list::encode_extensible_list-returns-in-Some-added_count
 list::encode_extensible_list-returns-in-Some-added_count = lists.encode_extensible_list-returns-in-Some-added_count
 
-pub encoder::encode_node-returns-then-is_extensible : goal.encoder::encode_node-returns-then-is_extensible
-encoder::encode_node-returns-then-is_extensible = nodes.encode_node-returns-then-is_extensible
-
 pub choice::encode_extensible_choice-returns-then-is_addition : goal.choice::encode_extensible_choice-returns-then-is_addition
 choice::encode_extensible_choice-returns-then-is_addition = choices.encode_extensible_choice-returns-then-is_addition
 
@@ -128,3 +127,45 @@ choice::encode_extensible_choice-returns-else-is_addition = choices.encode_exten
 
 pub encoder::encode_node-returns-then-is_extensible-2 : goal.encoder::encode_node-returns-then-is_extensible-2
 encoder::encode_node-returns-then-is_extensible-2 = nodes.encode_node-returns-then-is_extensible-2
+
+pub sequence::encode_component-returns-in-Mandatory : goal.sequence::encode_component-returns-in-Mandatory
+sequence::encode_component-returns-in-Mandatory = sequences.encode_component-returns-in-Mandatory
+
+pub sequence::encode_component-returns-in-Optional : goal.sequence::encode_component-returns-in-Optional
+sequence::encode_component-returns-in-Optional = sequences.encode_component-returns-in-Optional
+
+pub sequence::encode_optional-returns : goal.sequence::encode_optional-returns
+sequence::encode_optional-returns = sequences.encode_optional-returns
+
+pub sequence::encode_root-loop-index-init : goal.sequence::encode_root-loop-index-init
+sequence::encode_root-loop-index-init = sequences.encode_root-loop-index-init
+
+pub sequence::encode_root-returns-in_default : goal.sequence::encode_root-returns-in_default
+sequence::encode_root-returns-in_default = sequences.encode_root-returns-in_default
+
+pub sequence::encode_root-returns-then-not-encode_component : goal.sequence::encode_root-returns-then-not-encode_component
+sequence::encode_root-returns-then-not-encode_component = sequences.encode_root-returns-then-not-encode_component
+
+pub sequence::encode_root-loop-index-preserved : goal.sequence::encode_root-loop-index-preserved
+sequence::encode_root-loop-index-preserved = sequences.encode_root-loop-index-preserved
+
+pub sequence::encode_root-returns : goal.sequence::encode_root-returns
+sequence::encode_root-returns = sequences.encode_root-returns
+
+pub sequence::encode_sequence-returns-in-None : goal.sequence::encode_sequence-returns-in-None
+sequence::encode_sequence-returns-in-None = sequences.encode_sequence-returns-in-None
+
+pub sequence::encode_sequence-returns-then-not-is_sequence : goal.sequence::encode_sequence-returns-then-not-is_sequence
+sequence::encode_sequence-returns-then-not-is_sequence = sequences.encode_sequence-returns-then-not-is_sequence
+
+pub sequence::encode_sequence-overflow_add-state : goal.sequence::encode_sequence-overflow_add-state
+sequence::encode_sequence-overflow_add-state = sequences.encode_sequence-overflow_add-state
+
+pub sequence::encode_sequence-returns-else-not-is_sequence : goal.sequence::encode_sequence-returns-else-not-is_sequence
+sequence::encode_sequence-returns-else-not-is_sequence = sequences.encode_sequence-returns-else-not-is_sequence
+
+pub encoder::encode_node-returns-then-is_extensible-3 : goal.encoder::encode_node-returns-then-is_extensible-3
+encoder::encode_node-returns-then-is_extensible-3 = nodes.encode_node-returns-then-is_extensible-3
+
+pub encoder::encode_node-returns-else-is_extensible-3 : goal.encoder::encode_node-returns-else-is_extensible-3
+encoder::encode_node-returns-else-is_extensible-3 = nodes.encode_node-returns-else-is_extensible-3

@@ -1,6 +1,8 @@
-use Rattle.std.proofs.Common.{Option, ℕ, ◌+◌, ◌*◌, Bool, List}
+use Rattle.std.proofs.Common.{Option, ℕ, ◌+◌, ◌-◌, ◌*◌, ◌≤◌, Bool, List}
 use Rattle.asn1_schema.specs.TypeEncodings.{several}
-use Rattle.asn1_x691_encode.specs.Encoding.{types}
+use Rattle.asn1_x691.specs.Types.{optional_count}
+use Rattle.asn1_x691_encode.specs.Encoding.{types, components_in}
+use Rattle.asn1_x691_encode.specs.Components.{AreUnderway}
 use Rattle.asn1_x691_encode.specs.ListSteps.{IsUnderway}
 use Rattle.asn1_x691_encode.proofs.+encoding.Given as goal
 
@@ -51,3 +53,29 @@ invariant-list::encode_items-loop-left l =
 
 abbrev pub decreases-list::encode_items-loop-left : goal.decreases-list::encode_items-loop-left
 decreases-list::encode_items-loop-left l = l.left
+
+abbrev pub decreases-sequence::encode_optional : goal.decreases-sequence::encode_optional
+decreases-sequence::encode_optional l = 8 * l.depth + 1
+
+abbrev pub decreases-sequence::encode_component : goal.decreases-sequence::encode_component
+decreases-sequence::encode_component l = 8 * l.depth + 2
+
+abbrev pub decreases-sequence::encode_root : goal.decreases-sequence::encode_root
+decreases-sequence::encode_root l = 8 * l.depth + 3
+
+abbrev pub decreases-sequence::encode_sequence : goal.decreases-sequence::encode_sequence
+decreases-sequence::encode_sequence l = 8 * l.depth + 4
+
+abbrev pub invariant-sequence::encode_root-loop-index : goal.invariant-sequence::encode_root-loop-index
+invariant-sequence::encode_root-loop-index l =
+    let members = l.context.tables.members.now in
+    let left = l.root.count - l.index in
+    let from = l.root.from + l.index in
+    (l.index ≤ l.root.count)
+    × ((defaults : ℕ → ℕ → Option (List Bool))
+    → AreUnderway l.context (components_in l.context defaults l.depth l.node l.root.count l.root.from)
+    (components_in l.context defaults l.depth l.node left from) (optional_count members l.root.count l.root.from)
+    (optional_count members left from) l.fn.octets l.fn.state.at l.initial.state l.octets l.state l.head)
+
+abbrev pub decreases-sequence::encode_root-loop-index : goal.decreases-sequence::encode_root-loop-index
+decreases-sequence::encode_root-loop-index l = l.root.count - l.index

@@ -4,7 +4,7 @@ use Rattle.asn1_schema.specs.declared.tables.Node.{Node}
 use Rattle.asn1_schema.specs.declared.tables.Node.TheVariants as type
 use Rattle.asn1_schema.specs.TypeEncodings.{TypeEncoding}
 use Rattle.asn1_x691.specs.declared.fault.FaultKind.{FaultKind}
-use Rattle.asn1_x691_encode.specs.Encoding.{extensible_choice_in, Outcome, choice_in, extensible_list_in, list_in}
+use Rattle.asn1_x691_encode.specs.Encoding.{extensible_choice_in, Outcome, choice_in, extensible_list_in, list_in, sequence_in}
 use Rattle.asn1_x691_encode.specs.LeafSteps.{at_node}
 use Rattle.asn1_x691_encode.proofs.+encoding.Goals as goal
 
@@ -80,8 +80,8 @@ encode_node-returns-in-Some-OctetString t c defaults =
     (omega (arith, c.if-depth-eq0.false)) (sym c.node_at.ensures ∙ c.in-Some-OctetString.is ∙ ap (λ (n : Node). Some n) c.in-Some-OctetString.field-0-is)
     (λ d r. c.encode_octets.ensures)
 
-pub encode_node-returns-then-is_extensible : goal.encoder::encode_node-returns-then-is_extensible
-encode_node-returns-then-is_extensible t c defaults =
+pub encode_node-returns-then-is_extensible-2 : goal.encoder::encode_node-returns-then-is_extensible-2
+encode_node-returns-then-is_extensible-2 t c defaults =
     let cx = c.args.context.now in
     let k = c.in-Some-SequenceOf in
     let last = c.encode_extensible_list in
@@ -89,15 +89,15 @@ encode_node-returns-then-is_extensible t c defaults =
     (λ (A : ℕ → TypeEncoding FaultKind). Outcome cx A c.args.octets.now c.args.state.now last.new.octets last.new.state last.result)
     (omega (arith, c.if-depth-eq0.false))
     (sym c.node_at.ensures ∙ c.in-Some-SequenceOf.is ∙ ap (λ (n : Node). Some n) c.in-Some-SequenceOf.field-0-is
-    ∙ ap (λ (b : Bool). Some (type.SequenceOf k.length b k.item)) c.if-is_extensible.true)
+    ∙ ap (λ (b : Bool). Some (type.SequenceOf k.length b k.item)) c.if-is_extensible-2.true)
     (λ d r.
     let e : c.args.depth - 1 ≡ d = omega (arith, r) in
     subst
     (λ (n : ℕ). Outcome cx (extensible_list_in cx defaults n c.args.node k.length k.item) c.args.octets.now c.args.state.now last.new.octets
     last.new.state last.result) e (last.ensures defaults))
 
-pub encode_node-returns-else-is_extensible : goal.encoder::encode_node-returns-else-is_extensible
-encode_node-returns-else-is_extensible t c defaults =
+pub encode_node-returns-else-is_extensible-2 : goal.encoder::encode_node-returns-else-is_extensible-2
+encode_node-returns-else-is_extensible-2 t c defaults =
     let cx = c.args.context.now in
     let k = c.in-Some-SequenceOf in
     let size = k.length in
@@ -106,15 +106,15 @@ encode_node-returns-else-is_extensible t c defaults =
     c.encode_list.result)
     (omega (arith, c.if-depth-eq0.false))
     (sym c.node_at.ensures ∙ c.in-Some-SequenceOf.is ∙ ap (λ (n : Node). Some n) c.in-Some-SequenceOf.field-0-is
-    ∙ ap (λ (b : Bool). Some (type.SequenceOf k.length b k.item)) c.if-is_extensible.false)
+    ∙ ap (λ (b : Bool). Some (type.SequenceOf k.length b k.item)) c.if-is_extensible-2.false)
     (λ d r.
     let e : c.args.depth - 1 ≡ d = omega (arith, r) in
     subst
     (λ (n : ℕ). Outcome cx (list_in cx defaults n c.args.node k.length k.item) c.args.octets.now c.args.state.now c.encode_list.new.octets
     c.encode_list.new.state c.encode_list.result) e (c.encode_list.ensures defaults))
 
-pub encode_node-returns-else-is_extensible-2 : goal.encoder::encode_node-returns-else-is_extensible-2
-encode_node-returns-else-is_extensible-2 t c defaults =
+pub encode_node-returns-else-is_extensible-3 : goal.encoder::encode_node-returns-else-is_extensible-3
+encode_node-returns-else-is_extensible-3 t c defaults =
     let cx = c.args.context.now in
     let k = c.in-Some-Choice in
     at_node cx defaults c.args.node c.args.depth (Some (type.Choice k.alternatives false k.additions))
@@ -122,15 +122,15 @@ encode_node-returns-else-is_extensible-2 t c defaults =
     c.encode_choice.result)
     (omega (arith, c.if-depth-eq0.false))
     (sym c.node_at.ensures ∙ c.in-Some-Choice.is ∙ ap (λ (n : Node). Some n) c.in-Some-Choice.field-0-is
-    ∙ ap (λ (b : Bool). Some (type.Choice k.alternatives b k.additions)) c.if-is_extensible-2.false)
+    ∙ ap (λ (b : Bool). Some (type.Choice k.alternatives b k.additions)) c.if-is_extensible-3.false)
     (λ d r.
     let e : c.args.depth - 1 ≡ d = omega (arith, r) in
     subst
     (λ (n : ℕ). Outcome cx (choice_in cx defaults n c.args.node k.alternatives) c.args.octets.now c.args.state.now c.encode_choice.new.octets
     c.encode_choice.new.state c.encode_choice.result) e (c.encode_choice.ensures defaults))
 
-pub encode_node-returns-then-is_extensible-2 : goal.encoder::encode_node-returns-then-is_extensible-2
-encode_node-returns-then-is_extensible-2 t c defaults =
+pub encode_node-returns-then-is_extensible-3 : goal.encoder::encode_node-returns-then-is_extensible-3
+encode_node-returns-then-is_extensible-3 t c defaults =
     let cx = c.args.context.now in
     let k = c.in-Some-Choice in
     let last = c.encode_extensible_choice in
@@ -138,9 +138,25 @@ encode_node-returns-then-is_extensible-2 t c defaults =
     (λ (A : ℕ → TypeEncoding FaultKind). Outcome cx A c.args.octets.now c.args.state.now last.new.octets last.new.state last.result)
     (omega (arith, c.if-depth-eq0.false))
     (sym c.node_at.ensures ∙ c.in-Some-Choice.is ∙ ap (λ (n : Node). Some n) c.in-Some-Choice.field-0-is
-    ∙ ap (λ (b : Bool). Some (type.Choice k.alternatives b k.additions)) c.if-is_extensible-2.true)
+    ∙ ap (λ (b : Bool). Some (type.Choice k.alternatives b k.additions)) c.if-is_extensible-3.true)
     (λ d r.
     let e : c.args.depth - 1 ≡ d = omega (arith, r) in
     subst
     (λ (n : ℕ). Outcome cx (extensible_choice_in cx defaults n c.args.node k.alternatives k.additions) c.args.octets.now c.args.state.now
     last.new.octets last.new.state last.result) e (last.ensures defaults))
+
+pub encode_node-returns-else-is_extensible : goal.encoder::encode_node-returns-else-is_extensible
+encode_node-returns-else-is_extensible t c defaults =
+    let cx = c.args.context.now in
+    let k = c.in-Some-Sequence in
+    let last = c.encode_sequence in
+    at_node cx defaults c.args.node c.args.depth (Some (type.Sequence k.root false k.field-0-2))
+    (λ (A : ℕ → TypeEncoding FaultKind). Outcome cx A c.args.octets.now c.args.state.now last.new.octets last.new.state last.result)
+    (omega (arith, c.if-depth-eq0.false))
+    (sym c.node_at.ensures ∙ c.in-Some-Sequence.is ∙ ap (λ (n : Node). Some n) c.in-Some-Sequence.field-0-is
+    ∙ ap (λ (b : Bool). Some (type.Sequence k.root b k.field-0-2)) c.if-is_extensible.false)
+    (λ d r.
+    let e : c.args.depth - 1 ≡ d = omega (arith, r) in
+    subst
+    (λ (n : ℕ). Outcome cx (sequence_in cx defaults n c.args.node k.root) c.args.octets.now c.args.state.now last.new.octets last.new.state
+    last.result) e (last.ensures defaults))

@@ -1,0 +1,52 @@
+//! Bits that tell which components are present (X.691 19.2, 19.3).
+
+ghost use Rattle.std.specs.Prelude.{◌≡◌, ◌+◌, ◌-◌, ◌≤◌, ◌<◌, length, slice_get, Some};
+ghost use Rattle.asn1_x691.specs.Types.{optional_count, presence_bits};
+
+use asn1_schema::{Member, Presence, Rows};
+
+/// Returns how many of so many members from an index on there are.
+fn known_of(members: &[Member], rows: Rows) -> usize
+    ensures few { result ≤ rows.count }
+    ensures inside { result ≤ length members.now - rows.from }
+    ensures all { result < rows.count → length members.now ≤ rows.from + result }
+{
+    let left = members.len().saturating_sub(rows.from);
+    let count = rows.count as usize;
+    if count < left { count } else { left }
+}
+
+/// Returns the member at an index.
+#[inline(always)]
+fn member_in(members: &[Member], index: usize) -> Member
+    requires { index < length members.now }
+    ensures { slice_get members.now index ≡ Some result }
+{
+    members[index]
+}
+
+/// Returns 1 for a component that is OPTIONAL or has a DEFAULT, and otherwise 0.
+#[inline(always)]
+pub(crate) fn presence_bits(presence: Presence) -> usize
+    ensures value { result ≡ presence_bits presence }
+    ensures few { result ≤ 1 }
+{
+    match presence {
+        Presence::Mandatory => 0,
+        Presence::Optional => 1,
+        Presence::Default { value: _ } => 1,
+    }
+}
+
+/// Returns how many of the members of rows are OPTIONAL or have a DEFAULT.
+pub(crate) fn count_optional(members: &[Member], rows: Rows) -> usize
+    ensures { result ≡ optional_count members.now rows.count rows.from }
+{
+    let known = known_of(members, rows);
+    let mut count = 0;
+    for index in 0..known {
+        let member = member_in(members, rows.from + index);
+        count += presence_bits(member.presence);
+    }
+    count
+}

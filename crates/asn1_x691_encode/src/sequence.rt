@@ -1,0 +1,164 @@
+//! SEQUENCE without an extension marker (X.691 19). Components with DEFAULT are not encoded yet.
+
+ghost use Rattle.std.specs.Prelude.{Option, ◌≡◌, ℕ, Bool, List, ◌∷◌, ◌+◌, ◌-◌, ◌*◌, ◌^◌, ◌<◌, true, false, length, slice_get, Some};
+ghost use Rattle.asn1_schema.specs.Pieces.{Absent, Sequence};
+ghost use Rattle.asn1_schema.specs.TypeEncodings.{IsAbsent};
+ghost use Rattle.asn1_schema.specs.declared.part.Part.TheVariants.{Sequence as SequencePart};
+ghost use Rattle.asn1_x691_writers.specs.Put.{piece_in};
+ghost use Rattle.asn1_x691_encode.specs.Encoding.{Outcome, IsSequence, tape, types, sequence_in, root_in};
+ghost use Rattle.asn1_x691_encode.specs.Components.{OptionalOutcome, ComponentOutcome};
+
+use crate::context::{Context, member_from, part_at};
+use crate::encoder::encode_node;
+use crate::presence::{count_optional, presence_bits};
+use asn1_schema::{Member, MisfitKind, Part, Presence, Rows};
+use asn1_x691_writers::{Writer, after, leave, put_zeros, reject, set_bit};
+
+/// Encodes a SEQUENCE without an extension marker (X.691 19.2 to 19.4).
+#[cycle(encoding)]
+pub(crate) fn encode_sequence(
+    context: &Context<'_>,
+    depth: usize,
+    node: usize,
+    root: Rows,
+    octets: &mut [u8],
+    state: &mut Writer,
+) -> bool
+    requires size { 8 * length octets.old < 2 ^ 64 }
+    requires source { 8 * length context.now.source.now < 2 ^ 64 }
+    requires parts { length context.now.parts.now < 2 ^ 64 - 1 }
+    requires sequence { IsSequence context.now node root }
+    ensures { (defaults : ℕ → ℕ → Option (List Bool)) → Outcome context.now (sequence_in context.now defaults depth node root) octets.old state.old
+        octets.new state.new result }
+{
+    match part_at(context.parts, state.next) {
+        None => reject(state, node, MisfitKind::NoPart),
+        Some(part) => {
+            if !is_sequence(part, root.count as usize) {
+                return reject(state, node, MisfitKind::OtherPart);
+            }
+            state.next += 1;
+            encode_root(context, depth, node, root, octets, state)
+        }
+    }
+}
+
+/// Returns whether so many components follow a part, and no additions.
+fn is_sequence(part: Part, count: usize) -> bool
+    ensures is { result ≡ true → part ≡ SequencePart count false }
+    ensures other { (source : List ℕ) → result ≡ false → piece_in source part ≡ Sequence count false → ⊥ }
+{
+    match part {
+        Part::Sequence {
+            count: many,
+            is_extended,
+        } => { many == count && !is_extended }
+        _ => false,
+    }
+}
+
+/// Encodes the components of a root after their presence bits. A bit is written as 0, and set where
+/// its component is present.
+#[cycle(encoding)]
+fn encode_root(
+    context: &Context<'_>,
+    depth: usize,
+    node: usize,
+    root: Rows,
+    octets: &mut [u8],
+    state: &mut Writer,
+) -> bool
+    requires size { 8 * length octets.old < 2 ^ 64 }
+    requires source { 8 * length context.now.source.now < 2 ^ 64 }
+    requires parts { length context.now.parts.now < 2 ^ 64 - 1 }
+    requires sequence { IsSequence context.now node root }
+    ensures { (defaults : ℕ → ℕ → Option (List Bool)) → Outcome context.now (root_in context.now defaults depth node root) octets.old state.old
+        octets.new state.new result }
+{
+    let members = context.tables.members;
+    let mut head = state.at;
+    state.at = put_zeros(octets, head, count_optional(members, root));
+    let mut index = 0;
+    while index < root.count as usize {
+        let Some(member) = member_from(members, root.from, index) else {
+            return reject(state, node, MisfitKind::NoNode);
+        };
+        if !encode_component(context, depth, node, member, head, octets, state) {
+            return false;
+        }
+        head = after(head, presence_bits(member.presence));
+        index += 1;
+    }
+    true
+}
+
+/// Encodes a component, whose presence bit is at `head` where it has one.
+#[cycle(encoding)]
+fn encode_component(
+    context: &Context<'_>,
+    depth: usize,
+    node: usize,
+    member: Member,
+    head: usize,
+    octets: &mut [u8],
+    state: &mut Writer,
+) -> bool
+    requires size { 8 * length octets.old < 2 ^ 64 }
+    requires source { 8 * length context.now.source.now < 2 ^ 64 }
+    requires parts { length context.now.parts.now < 2 ^ 64 - 1 }
+    ensures { (defaults : ℕ → ℕ → Option (List Bool)) → ComponentOutcome context.now (types context.now defaults depth member.node) node
+        member.presence head octets.old state.old octets.new state.new result }
+{
+    match member.presence {
+        Presence::Mandatory => encode_node(context, depth, member.node, octets, state),
+        Presence::Optional => encode_optional(context, depth, member.node, head, octets, state),
+        Presence::Default { value: _ } => leave(state, node),
+    }
+}
+
+/// Encodes an optional component, whose presence bit is at `head`.
+#[cycle(encoding)]
+fn encode_optional(
+    context: &Context<'_>,
+    depth: usize,
+    node: usize,
+    head: usize,
+    octets: &mut [u8],
+    state: &mut Writer,
+) -> bool
+    requires size { 8 * length octets.old < 2 ^ 64 }
+    requires source { 8 * length context.now.source.now < 2 ^ 64 }
+    requires parts { length context.now.parts.now < 2 ^ 64 - 1 }
+    ensures { (defaults : ℕ → ℕ → Option (List Bool)) → OptionalOutcome context.now (types context.now defaults depth node) head octets.old state.old
+        octets.new state.new result }
+{
+    if is_absent(context, state.next) {
+        state.next += 1;
+        return true;
+    }
+    set_bit(octets, head);
+    encode_node(context, depth, node, octets, state)
+}
+
+/// Returns whether a part says that a component is absent.
+fn is_absent(context: &Context<'_>, next: usize) -> bool
+    ensures within { result ≡ true → next < length context.now.parts.now }
+    ensures absent { result ≡ true → tape context.now next ≡ Absent ∷ tape context.now (next + 1) }
+    ensures present { result ≡ false → IsAbsent (tape context.now next) → ⊥ }
+{
+    match part_at(context.parts, next) {
+        Some(part) => is_absent_part(part),
+        None => false,
+    }
+}
+
+/// Returns whether a part is that of an absent component.
+fn is_absent_part(part: Part) -> bool
+    ensures absent { (source : List ℕ) → result ≡ true → piece_in source part ≡ Absent }
+    ensures present { (source : List ℕ) → result ≡ false → piece_in source part ≡ Absent → ⊥ }
+{
+    match part {
+        Part::Absent => true,
+        _ => false,
+    }
+}
