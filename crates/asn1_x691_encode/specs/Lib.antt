@@ -8,4 +8,5 @@ pub mod LeafSteps
 pub mod ListSteps
 pub mod ExtensionSteps
 pub mod ChoiceSteps
+pub mod ComponentSteps
 pub mod SequenceSteps

@@ -19,7 +19,8 @@ use Rattle.asn1_x691_encode.specs.Encoding.{Outcome, IsLater, tape, types, seque
 use Rattle.asn1_x691_encode.specs.Components.{ComponentOutcome, AreUnderway}
 use Rattle.asn1_x691_encode.specs.LeafSteps.{after_none, after_put, part_next}
 use Rattle.asn1_x691_encode.specs.ListSteps.{part_step}
-use Rattle.asn1_x691_encode.specs.SequenceSteps.{included, components_first, misfit_on, component_first, component_on, component_fails, misfit_first, misfit_none, root_misfit, root_encoded}
+use Rattle.asn1_x691_encode.specs.ComponentSteps.{included, components_first, misfit_on}
+use Rattle.asn1_x691_encode.specs.SequenceSteps.{component_first, component_on, component_fails, misfit_first, misfit_none, root_misfit, root_encoded}
 use Rattle.asn1_x691_encode.proofs.+encoding.Goals as goal
 
 pub encode_component-returns-in-Mandatory : goal.sequence::encode_component-returns-in-Mandatory
