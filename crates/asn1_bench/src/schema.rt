@@ -33,7 +33,14 @@ fn types() -> [Node; 6] {
         alphabet: Rows { from: 0, count: 3 },
         whole: Rows { from: 0, count: 3 },
     };
-    [numbers, up_to(7), up_to(8191), up_to(u32::MAX), up_to(127), name]
+    [
+        numbers,
+        up_to(7),
+        up_to(8191),
+        up_to(u32::MAX),
+        up_to(127),
+        name,
+    ]
 }
 
 /// The components of the SEQUENCE.
@@ -83,6 +90,7 @@ static LETTERS: [u8; 49] = [
 ];
 
 static NO_OCTETS: [u8; 0] = [];
+
 static NO_SPANS: [Span; 0] = [];
 
 /// A value, decoded a hundred times in the UNALIGNED variant.

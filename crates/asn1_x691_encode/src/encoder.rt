@@ -116,7 +116,13 @@ pub fn encode_node(
             encode_contents(context, ContentsKind::ObjectIdentifier, node, octets, state)
         }
         Some(Node::RelativeIdentifier) => {
-            encode_contents(context, ContentsKind::RelativeIdentifier, node, octets, state)
+            encode_contents(
+                context,
+                ContentsKind::RelativeIdentifier,
+                node,
+                octets,
+                state,
+            )
         }
         Some(Node::Utf8String) => {
             encode_contents(context, ContentsKind::Utf8, node, octets, state)

@@ -140,16 +140,19 @@ module _ {K : Type 0} (Free : K → Type 0) where
           let is : Free kind = subst Free (ap (λ (i : Fault K). i.kind) w.1) free in
           let first : A.encoding.encodes v.value.0 v.value.1 =
           subst (λ (l : List Bool). A.encoding.encodes v.value.0 l) v.starts.encoded.1 v.starts.encoded.0 in
-          inr (record {
-            value = v.value;
-            rest = v.rest;
-            starts = record {
-              front = v.starts.front;
-              encoded = (a.encodes v.value.0 v.starts.front v.starts.encoded.0, v.starts.encoded.1);
-              parts = v.starts.parts;
-            };
-            holds = up is v.value.0 v.value.1 first v.holds;
-          }, w.1)
+          inr (
+            record {
+              value = v.value;
+              rest = v.rest;
+              starts = record {
+                front = v.starts.front;
+                encoded = (a.encodes v.value.0 v.starts.front v.starts.encoded.0, v.starts.encoded.1);
+                parts = v.starts.parts;
+              };
+              holds = up is v.value.0 v.value.1 first v.holds;
+            },
+            w.1,
+          )
 
   -- items that depend on the bits of the one before them, of which Is holds
   pub several_by_bits_narrow : (Is : List Bool → ℕ → Type 0) (A P : List Bool → ℕ → TypeEncoding K)
