@@ -87,7 +87,7 @@ module _ (c : Context) where
           subst (λ (o : Option Member). AreMisfit c (of_member o (run n (at + 1))) old new) (sym is)
           (subst (λ (k : ℕ). AreMisfit c (by m.presence (types c defaults depth m.node) (run k (at + 1))) old new) e a)
 
-    -- no member is there
+    -- no such member is in the table
     pub misfit_none : (at : ℕ) → slice_get c.tables.members.now at ≡ None → (old new : Writer) → new.next ≡ old.next → new.node ≡ node
         → new.reason ≡ RejectedAs misfit.NoNode → (n : ℕ) → 0 < n → AreMisfit c (run n at) old new
     misfit_none at none old new next same reason zero some = absurd (omega (arith, some))

@@ -85,7 +85,7 @@ fn put_indefinite(octets: &mut [u8], at: usize, range: u128, n: u128) -> usize
     put_minimal(octets, start, n, count)
 }
 
-/// Writes a number in `count` octets, the fewest that it needs (X.691 11.3.6). Returns the index
+/// Writes a number in `count` octets, the minimal number (X.691 11.3.6). Returns the index
 /// after it.
 #[inline(always)]
 pub(crate) fn put_minimal(octets: &mut [u8], at: usize, n: u128, count: usize) -> usize

@@ -16,8 +16,8 @@ use crate::numbers::{octets_of, put_minimal};
 use asn1_schema::Span;
 use asn1_x691_fields::width_to;
 
-/// Writes a whole number from 0 on, in the fewest octets after their number (X.691 11.7). Returns
-/// the index after it.
+/// Writes a whole number from 0 on, in the minimal number of octets after their number (X.691
+/// 11.7). Returns the index after it.
 pub fn put_semi_constrained(octets: &mut [u8], at: usize, is_aligned: bool, n: u128) -> usize
     requires size { 8 * length octets.old < 2 ^ 64 }
     ensures { (node : ℕ) → IsWritten is_aligned (semi_constrained is_aligned node) n octets.old at octets.new result }
@@ -29,7 +29,7 @@ pub fn put_semi_constrained(octets: &mut [u8], at: usize, is_aligned: bool, n: u
 }
 
 /// Writes a whole number from 0 on, whose digits are those of a span that begins with a 1, in the
-/// fewest octets after their number (X.691 11.7). Returns the index after it.
+/// minimal number of octets after their number (X.691 11.7). Returns the index after it.
 pub fn put_semi_constrained_span(
     octets: &mut [u8],
     at: usize,
@@ -51,7 +51,8 @@ pub fn put_semi_constrained_span(
     put_minimal_span(octets, start, source, span, count)
 }
 
-/// Writes a number, whose digits are those of a span that begins with a 1, in the fewest octets.
+/// Writes a number, whose digits are those of a span that begins with a 1, in the minimal number of
+/// octets.
 fn put_minimal_span(octets: &mut [u8], at: usize, source: &[u8], span: Span, count: usize) -> usize
     requires size { 8 * length octets.old < 2 ^ 64 }
     requires inside { span.at + span.count ≤ 8 * length source.now }
@@ -114,7 +115,7 @@ fn signed_digits(z: i128, count: usize) -> u128
     z as u128
 }
 
-/// Writes a number in `count` octets of two's complement, the fewest that it needs.
+/// Writes a number in `count` octets of two's complement, the minimal number.
 fn put_signed(octets: &mut [u8], at: usize, z: i128, count: usize) -> usize
     requires size { 8 * length octets.old < 2 ^ 64 }
     requires some { 0 < count }
@@ -127,8 +128,8 @@ fn put_signed(octets: &mut [u8], at: usize, z: i128, count: usize) -> usize
     put_wide(octets, at, signed_digits(z, count), 8 * count)
 }
 
-/// Writes a whole number in the fewest octets of two's complement, after their number (X.691 11.8).
-/// Returns the index after it.
+/// Writes a whole number in the minimal number of octets of two's complement, after their number
+/// (X.691 11.8). Returns the index after it.
 pub fn put_unconstrained(octets: &mut [u8], at: usize, is_aligned: bool, z: i128) -> usize
     requires size { 8 * length octets.old < 2 ^ 64 }
     ensures { (node : ℕ) → IsWritten is_aligned (unconstrained is_aligned node) z octets.old at octets.new result }
@@ -140,7 +141,8 @@ pub fn put_unconstrained(octets: &mut [u8], at: usize, is_aligned: bool, z: i128
 }
 
 /// Writes a whole number, whose octets of two's complement are those of a span that begins with two
-/// different bits, in the fewest octets after their number (X.691 11.8). Returns the index after it.
+/// different bits, in the minimal number of octets after their number (X.691 11.8). Returns the
+/// index after it.
 pub fn put_unconstrained_span(
     octets: &mut [u8],
     at: usize,
@@ -162,7 +164,8 @@ pub fn put_unconstrained_span(
     put_signed_span(octets, start, source, span, count)
 }
 
-/// Writes a number of two's complement, whose first two bits differ, in the fewest octets.
+/// Writes a number of two's complement, whose first two bits differ, in the minimal number of
+/// octets.
 fn put_signed_span(octets: &mut [u8], at: usize, source: &[u8], span: Span, count: usize) -> usize
     requires size { 8 * length octets.old < 2 ^ 64 }
     requires inside { span.at + span.count ≤ 8 * length source.now }
