@@ -83,7 +83,7 @@ impl<'a> Oid<'a> {
         ensures bound { IfSome result (λ len. len ≤ 5 * length (arcs_of self.now)) }
     {
         let (number, arcs) = self.subidentifiers()?;
-        Some(u128::from(octet_count(number)) + octets_of_arcs(arcs))
+        Some(u128::from(octet_count(number)) + octets_of_arcs(arcs) as u128)
     }
 
     // The first subidentifier, of the first two arcs, and the arcs behind these.

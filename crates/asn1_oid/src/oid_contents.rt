@@ -75,13 +75,13 @@ fn octets_in_word(number: u64) -> (u64, u32)
 }
 
 /// How many octets the subidentifiers of further arcs have.
-pub(crate) fn octets_of_arcs(arcs: &[u32]) -> u128
+pub(crate) fn octets_of_arcs(arcs: &[u32]) -> usize
     ensures len { result ≡ length (flat_map subidentifier_octets arcs.now) }
     ensures few { result ≤ 5 * length arcs.now }
 {
-    let mut len = 0u128;
+    let mut len = 0;
     for arc in arcs {
-        len += u128::from(octet_count(u64::from(*arc)));
+        len += octet_count(u64::from(*arc)) as usize;
     }
     len
 }
@@ -94,6 +94,13 @@ impl<'a> OidContents<'a> {
     {
         let (octets, left) = octets_in_word(number);
         OidContents { octets, left, arcs }
+    }
+
+    /// Returns how many octets are left.
+    fn count_left(&self) -> usize
+        ensures { result ≡ length self.now }
+    {
+        self.left as usize + octets_of_arcs(self.arcs)
     }
 
     /// Appends the octets that are left to the vector, faster than pushing each. It reserves once,
@@ -164,16 +171,21 @@ impl<'a> Iterator for OidContents<'a> {
         self.left -= 1;
         Some(octet)
     }
-    /// How many octets are left: twice that number, unless it passes `usize::MAX`.
+
+    /// Returns how many octets are left, twice.
     fn size_hint(&self) -> (usize, Option<usize>)
         ensures lower { IsWithinCount result.0 (item_count (λ s. s) self.now) }
         ensures upper { IfSome result.1 (UpTo (item_count (λ s. s) self.now)) }
         ensures exact { IsExactHint result (length self.now) }
     {
-        let left = u128::from(self.left) + octets_of_arcs(self.arcs);
-        match usize::try_from(left) {
-            Ok(left) => (left, Some(left)),
-            Err(_) => (usize::MAX, None),
-        }
+        let count = self.count_left();
+        (count, Some(count))
+    }
+}
+
+impl<'a> ExactSizeIterator for OidContents<'a> {
+    /// Returns how many octets are left. It goes over the arcs that are left.
+    fn len(&self) -> usize {
+        self.count_left()
     }
 }

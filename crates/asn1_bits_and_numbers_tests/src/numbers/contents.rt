@@ -84,6 +84,7 @@ fn of_arcs(
     };
     match name {
         "size_hint" => hint_of(alloc, contents, count),
+        "len" => len_of(alloc, contents, count),
         "append_to" => append_contents(alloc, contents, count, octets),
         "has_room_of_at_most" => has_room(alloc, contents, count, octets),
         _ => Err(wrong(alloc, name, "function of arcs and octets")),
@@ -132,6 +133,13 @@ fn hint_of(alloc: Global, mut contents: OidContents<'_>, count: usize) -> Result
     let most = most.unwrap_or(usize::MAX);
     let more = contents.next().is_some();
     Ok(format!(in alloc; "{taken} {least} {most} {more}")?)
+}
+
+/// How many octets are left after the first ones.
+fn len_of(alloc: Global, mut contents: OidContents<'_>, count: usize) -> Result<String, RowError> {
+    let _taken = take(alloc, &mut contents, count)?;
+    let len = contents.len();
+    Ok(format!(in alloc; "{len}")?)
 }
 
 /// The octets that were taken first, and the octets with the rest of the contents behind them.
