@@ -1,0 +1,4 @@
+-- Lemmas.
+mod ExtentLemmas
+mod ValueLemmas
+mod ComponentLemmas
