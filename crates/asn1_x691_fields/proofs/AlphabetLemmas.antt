@@ -1,17 +1,18 @@
 -- Alphabets: the indices of their characters, and their widths.
-use Rattle.std.proofs.Common.{◌≡◌, ℕ, ◌+◌, ◌-◌, ◌/◌, ◌^◌, max, ◌<◌, ◌≤◌, Bool, false, List, [], ◌∷◌, refl, sym, ◌∙◌, ap, subst, arith, inl, inr}
-use Rattle.std.specs.Prelude.{◌⊎◌, nat_le}
+use Rattle.std.proofs.Common.{◌≡◌, ℕ, zero, suc, ◌+◌, ◌-◌, ◌/◌, ◌^◌, min, max, ◌<◌, ◌≤◌, Bool, true, false, List, [], ◌∷◌, refl, sym, ◌∙◌, ap, subst, arith, inl, inr}
+use Rattle.std.specs.Prelude.{◌⊎◌, nat_le, nat_lt}
 use Rattle.std.proofs.Math.Pow.{pow_mono}
-use Rattle.std.proofs.lemmas.Bool.{cases_lt}
+use Rattle.std.proofs.lemmas.Bool.{cases_lt, le-ltb, ltb-false}
 use Rattle.std.proofs.lemmas.Bool.Decides.{nat_tests}
+use Rattle.std.proofs.lemmas.Nat.{pow_pos}
 use Rattle.asn1_characters.specs.Widths.{IsLeastWidth, ceil_log2, align, width_for}
-use Rattle.asn1_characters.specs.WidthLaws.{twice}
+use Rattle.asn1_characters.specs.WidthLaws.{twice, ceil_log2_is_least}
 use Rattle.asn1_schema.specs.declared.tables.Range.{Range}
-use Rattle.asn1_schema.specs.CharactersOfParts.{characters_below, end_of, character_at}
+use Rattle.asn1_schema.specs.CharactersOfParts.{characters_below, end_of, first_past, character_at}
 use Rattle.asn1_schema.specs.Laws.CharacterLaws.{below_more, none_past, character_is}
 use Rattle.asn1_x691.specs.Fields.{width_to}
 use Rattle.asn1_x691_fields.specs.Characters.{AreAscending}
-use Rattle.asn1_x691.specs.Alphabets.{IsIn, count_of, below}
+use Rattle.asn1_x691.specs.Alphabets.{IsIn, count_of, below, are_within, width_of}
 
 -- ---- indices
 
@@ -47,7 +48,8 @@ index_in ranges i c p q =
 
 -- no other number is of the index
 pub no_other : (ranges : List Range) (i c d : ℕ) → characters_below ranges c ≤ i
-    → (c ≡ end_of ranges) ⊎ (i < characters_below ranges (c + 1)) → IsIn ranges d → characters_below ranges d ≡ i → d ≡ c
+    → (c ≡ end_of ranges) ⊎ ((i < characters_below ranges (c + 1)) × (characters_below ranges (c + 1) < 2 ^ 128)) → IsIn ranges d
+    → characters_below ranges d ≡ i → d ≡ c
 no_other ranges i c d low (inl e) p q =
     let more = more_in ranges d p in
     elim (cases_lt d c) [
@@ -59,7 +61,7 @@ no_other ranges i c d low (inr high) p q =
     elim (cases_lt d c) [
       | inl lt ↦ let many = below_more ranges (d + 1) c (omega (arith, lt)) in absurd (omega (arith, many, more, low, q))
       | inr le ↦ elim (cases_lt c d) [
-        | inl lt ↦ let many = below_more ranges (c + 1) d (omega (arith, lt)) in absurd (omega (arith, many, high, q))
+        | inl lt ↦ let many = below_more ranges (c + 1) d (omega (arith, lt)) in absurd (omega (arith, many, high.0, q))
         | inr ge ↦ omega (arith, le, ge)
       ]
     ]
@@ -145,3 +147,82 @@ few_bits w r x e is few =
     let low = is.least 7 (omega (arith, few)) in
     let up : 2 ^ x ≤ 2 ^ 7 = pow_mono low in
     omega (arith, e, up)
+
+few_width : (aligned : Bool) (count : ℕ) → count ≤ 1 → width_for aligned count ≡ 0
+few_width aligned count p =
+    let e : nat_le count 1 ≡ true = grind (arith, nat_tests) in
+    rw e refl
+
+align_enough : (aligned : Bool) (count w : ℕ) → count ≤ 2 ^ w → count ≤ 2 ^ align aligned w
+align_enough false count w h = h
+align_enough true count w h =
+    let up : 2 ^ w ≤ 2 ^ (2 ^ ceil_log2 w) = pow_mono (ceil_log2_is_least w).enough in
+    omega (arith, up, h)
+
+-- so many characters have codes of their own in their width
+count_enough : (aligned : Bool) (count : ℕ) → count ≤ 2 ^ width_for aligned count
+count_enough aligned count = elim (cases_lt 1 count) [
+  | inl lt ↦ rw (width_of_many aligned count lt) (align_enough aligned count (ceil_log2 count) (ceil_log2_is_least count).enough)
+  | inr le ↦ rw (few_width aligned count le) le
+]
+
+-- ---- codes of characters
+
+pub index_below : (aligned : Bool) (ranges : List Range) (c : ℕ) → IsIn ranges c → characters_below ranges c < 2 ^ width_of aligned ranges
+index_below aligned ranges c p =
+    let more = more_in ranges c p in
+    let few = not_more ranges (c + 1) in
+    let enough = count_enough aligned (count_of ranges) in
+    omega (arith, more, few, enough)
+
+of_test : (b rest : Bool) → ◌≡◌ {A = Bool} (elim b as (λ x. Bool) [ true ↦ false | false ↦ rest ]) true → (b ≡ false) × (rest ≡ true)
+of_test true rest e = absurd cc
+of_test false rest e = (refl, e)
+
+within_most : (ranges : List Range) (most c : ℕ) → are_within ranges most ≡ true → IsIn ranges c → c ≤ most
+within_most [] most c e p = absurd p
+within_most (r ∷ ranges) most c e (inl p) =
+    let t = of_test (nat_lt most r.last) (are_within ranges most) e in
+    let le : r.last ≤ most = ltb-false most r.last t.0 in
+    omega (arith, le, p.1)
+within_most (r ∷ ranges) most c e (inr p) =
+    within_most ranges most c (of_test (nat_lt most r.last) (are_within ranges most) e).1 p
+
+pub number_below : (ranges : List Range) (width c : ℕ) → are_within ranges (2 ^ width - 1) ≡ true → IsIn ranges c → c < 2 ^ width
+number_below ranges width c e p =
+    let few = within_most ranges (2 ^ width - 1) c e p in
+    let some : 0 < 2 ^ width = pow_pos width in
+    omega (arith, few, some)
+
+-- ---- the character of an index, and of one that is past all
+
+not_yet : (ranges : List Range) (i from : ℕ) → characters_below ranges (end_of ranges) ≤ i → from < end_of ranges
+    → nat_lt i (characters_below ranges (from + 1)) ≡ false
+not_yet ranges i from none p =
+    let few = below_more ranges (from + 1) (end_of ranges) (omega (arith, p)) in
+    le-ltb i (characters_below ranges (from + 1)) (omega (arith, few, none))
+
+not_here : (b : Bool) (here next goal : ℕ) → b ≡ false → next ≡ goal
+    → ◌≡◌ {A = ℕ} (elim b as (λ x. ℕ) [ true ↦ here | false ↦ next ]) goal
+not_here true here next goal e f = absurd cc
+not_here false here next goal e f = f
+
+past_all : (ranges : List Range) (i count from : ℕ) → characters_below ranges (end_of ranges) ≤ i → from + count ≡ end_of ranges
+    → first_past ranges i from count ≡ end_of ranges
+past_all ranges i zero from none e = omega (arith, e)
+past_all ranges i (suc count) from none e =
+    not_here (nat_lt i (characters_below ranges (from + 1))) from (first_past ranges i (from + 1) count) (end_of ranges)
+    (not_yet ranges i from none (omega (arith, e))) (past_all ranges i count (from + 1) none (omega (arith, e)))
+
+character_past : (ranges : List Range) (i : ℕ) → characters_below ranges (end_of ranges) ≤ i → character_at ranges i ≡ end_of ranges
+unfolding character_at
+character_past ranges i none = past_all ranges i (end_of ranges) 0 none (omega arith)
+
+pub found_at : (ranges : List Range) (index i c : ℕ) → characters_below ranges c ≤ index
+    → (c ≡ end_of ranges) ⊎ ((index < characters_below ranges (c + 1)) × (characters_below ranges (c + 1) < 2 ^ 128))
+    → index ≡ min i (2 ^ 128 - 1) → c ≡ character_at ranges i
+found_at ranges index i c low (inl e) same =
+    let few = ap (characters_below ranges) e in
+    e ∙ sym (character_past ranges i (omega (arith, few, low, same)))
+found_at ranges index i c low (inr p) same =
+    sym (character_is ranges i c (omega (arith, low, same)) (omega (arith, p.0, p.1, same)))

@@ -1,11 +1,11 @@
 -- The characters that codes are.
-use Rattle.std.specs.Prelude.{◌≡◌, ℕ, ◌+◌, ◌-◌, ◌^◌, ◌≤◌, Bool, true, false, List, [], ◌∷◌, map, drop, slice_range}
+use Rattle.std.specs.Prelude.{◌≡◌, ℕ, ◌+◌, ◌-◌, ◌^◌, ◌<◌, ◌≤◌, Bool, true, false, List, [], ◌∷◌, map, drop, slice_range}
 use Rattle.asn1_schema.specs.declared.part.Codes.{Codes}
 use Rattle.asn1_schema.specs.declared.part.Codes.TheVariants.{Numbers, Indices}
 use Rattle.asn1_schema.specs.declared.tables.Range.{Range}
 use Rattle.asn1_schema.specs.declared.tables.Rows.{Rows}
 use Rattle.asn1_schema.specs.CharactersOfParts.{character_at, numbers_in}
-use Rattle.asn1_x691.specs.Alphabets.{count_of, width_of, are_within}
+use Rattle.asn1_x691.specs.Alphabets.{IsIn, count_of, width_of, are_within}
 use Rattle.asn1_x691_fields.specs.declared.alphabets.Alphabet.{Alphabet}
 
 -- the ranges of rows of a table
@@ -21,6 +21,7 @@ AreAscending from (r ∷ ranges) = (from ≤ r.first) × (r.first ≤ r.last) ×
 pub record IsAlphabet (a : Alphabet) : Type 0 where
   pub width : a.width ≡ width_of a.is_aligned a.ranges.now
   pub narrow : a.width ≤ 128
+  pub small : (c : ℕ) → IsIn a.ranges.now c → c < 2 ^ 32
   pub count : a.count ≡ count_of a.ranges.now
   pub ascending : a.are_ascending ≡ true → AreAscending 0 a.ranges.now
   pub numbers : a.are_numbers ≡ are_within a.ranges.now (2 ^ width_of a.is_aligned a.ranges.now - 1)

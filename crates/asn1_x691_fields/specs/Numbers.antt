@@ -4,8 +4,6 @@ use Rattle.asn1_bits.specs.Bits.{number}
 use Rattle.asn1_schema.specs.declared.part.Span.{Span}
 use Rattle.asn1_schema.specs.declared.part.Natural.{Natural}
 use Rattle.asn1_schema.specs.declared.part.Natural.TheVariants.{Small, Large}
-use Rattle.asn1_schema.specs.declared.tables.Length.{Length}
-use Rattle.asn1_schema.specs.declared.tables.Length.TheVariants.{AtLeast, Between}
 use Rattle.asn1_schema.specs.PiecesOfParts.{bits_of}
 use Rattle.asn1_x691_fields.specs.declared.state.State.{State}
 

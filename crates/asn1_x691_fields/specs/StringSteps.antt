@@ -1,9 +1,6 @@
 -- What follows from steps over units and their number.
-use Rattle.std.proofs.Common.{◌≡◌, ℕ, zero, suc, ◌+◌, ◌-◌, ◌*◌, ◌/◌, ◌^◌, ◌<◌, ◌≤◌, List, [], ◌∷◌, ◌++◌, Bool, true, take, drop, refl, sym, ◌∙◌, ap, subst, arith, append_assoc, inl, inr, Option, Some, None}
+use Rattle.std.proofs.Common.{◌≡◌, ℕ, zero, suc, ◌+◌, ◌-◌, ◌*◌, ◌<◌, ◌≤◌, List, [], Bool, take, drop, refl, sym, ◌∙◌, ap, subst, arith, inl, inr, Option, Some, None}
 use Rattle.std.specs.Prelude.{◌⊎◌, IfSome}
-use Rattle.std.proofs.lemmas.List.{take-append-drop, drop-take, drop-drop}
-use Rattle.asn1_bits.specs.Bits.{digits}
-use Rattle.asn1_bits.specs.NumberLaws.{digits-append}
 use Rattle.asn1_schema.specs.Encodings.{Fault, Encoding, Starts, invalid, number, constant, then, in_turn, in_case, anywhere}
 use Rattle.asn1_x691.specs.declared.fault.FaultKind.{FaultKind}
 use Rattle.asn1_x691.specs.declared.fault.FaultKind.TheVariants.{Short, Fragment, Unsupported}

@@ -1,5 +1,5 @@
 -- What follows from steps over characters.
-use Rattle.std.proofs.Common.{◌≡◌, ℕ, zero, suc, ◌+◌, ◌<◌, List, [], ◌∷◌, Bool, true, false, map, take, drop, refl, sym, ap, subst, arith, inl, Option, None}
+use Rattle.std.proofs.Common.{◌≡◌, ℕ, zero, suc, ◌+◌, ◌<◌, List, [], ◌∷◌, Bool, true, false, map, take, drop, refl, sym, ap, subst, arith, inl}
 use Rattle.std.proofs.lemmas.List.{drop-drop}
 use Rattle.asn1_bits.specs.Bits.{number}
 use Rattle.asn1_schema.specs.declared.tables.Range.{Range}
@@ -12,7 +12,7 @@ use Rattle.asn1_x691.specs.Alphabets.{width_of, HasCode}
 use Rattle.asn1_x691.specs.Characters.{character}
 use Rattle.asn1_x691_fields.specs.declared.alphabets.Alphabet.{Alphabet}
 use Rattle.asn1_x691_fields.specs.declared.state.State.{State}
-use Rattle.asn1_x691_fields.specs.Outcomes.{rest, position, fault_of, IsRead}
+use Rattle.asn1_x691_fields.specs.Outcomes.{rest}
 use Rattle.asn1_x691_fields.specs.Characters.{rows_of, character_by, characters_at, codes_by}
 use Rattle.asn1_x691_fields.specs.Steps.{then_starts, then_fault, constant_starts}
 

@@ -11,23 +11,23 @@ use asn1_schema::{Range, Rows};
 
 /// An alphabet, and how its characters are encoded.
 #[derive(Clone, Copy, Debug)]
-pub(crate) struct Alphabet<'s> {
+pub struct Alphabet<'s> {
     /// The ranges of its characters.
-    pub(crate) ranges: &'s [Range],
+    pub ranges: &'s [Range],
     /// Whether the variant is ALIGNED.
-    pub(crate) is_aligned: bool,
+    pub is_aligned: bool,
     /// How many bits a code has.
-    pub(crate) width: usize,
+    pub width: usize,
     /// Whether a code is the number of the character, and otherwise its index.
-    pub(crate) are_numbers: bool,
+    pub are_numbers: bool,
     /// How many characters there are.
-    pub(crate) count: u128,
+    pub count: u128,
     /// Whether the ranges ascend, so that each index below the count is of a character.
-    pub(crate) are_ascending: bool,
+    pub are_ascending: bool,
 }
 
 /// Returns the alphabet of ranges.
-pub(crate) fn alphabet_of(ranges: &[Range], is_aligned: bool) -> Alphabet<'_>
+pub fn alphabet_of(ranges: &[Range], is_aligned: bool) -> Alphabet<'_>
     ensures is { IsAlphabet result }
     ensures ranges { result.ranges.now ≡ ranges.now }
     ensures variant { result.is_aligned ≡ is_aligned }
@@ -45,7 +45,7 @@ pub(crate) fn alphabet_of(ranges: &[Range], is_aligned: bool) -> Alphabet<'_>
 }
 
 /// Returns rows of the table of ranges, those that it has.
-pub(crate) fn ranges_in(table: &[Range], rows: Rows) -> &[Range]
+pub fn ranges_in(table: &[Range], rows: Rows) -> &[Range]
     ensures { result.now ≡ rows_of table.now rows }
 {
     let (_, rest) = table.split_at(rows.from.min(table.len()));
@@ -53,10 +53,11 @@ pub(crate) fn ranges_in(table: &[Range], rows: Rows) -> &[Range]
     ranges
 }
 
-/// Returns how many characters an alphabet has.
+/// Returns how many characters an alphabet has. Each is below 2^32.
 fn count_of(ranges: &[Range]) -> u128
     ensures value { result ≡ count_in ranges.now }
     ensures few { result ≤ 2 ^ 96 }
+    ensures small { (c : ℕ) → IsIn ranges.now c → c < 2 ^ 32 }
 {
     let mut count: u128 = 0;
     for range in ranges {
@@ -114,7 +115,7 @@ fn are_up_to(ranges: &[Range], most: u128) -> bool
 }
 
 /// Returns whether a character is in an alphabet.
-fn is_in(ranges: &[Range], character: u128) -> bool
+pub fn is_in(ranges: &[Range], character: u128) -> bool
     ensures yes { result ≡ true → IsIn ranges.now character }
     ensures no { result ≡ false → IsIn ranges.now character → ⊥ }
 {
@@ -127,7 +128,7 @@ fn is_in(ranges: &[Range], character: u128) -> bool
 }
 
 /// Returns how many characters are below a number.
-fn count_below(ranges: &[Range], number: u64) -> u128
+pub(crate) fn count_below(ranges: &[Range], number: u64) -> u128
     ensures { result ≡ characters_below ranges.now number }
 {
     let mut count: u128 = 0;
@@ -153,9 +154,11 @@ fn end_of(ranges: &[Range]) -> u64
 
 /// Returns the first number up to which there are more than so many characters, or the end of the
 /// alphabet.
-fn first_past(ranges: &[Range], index: u128) -> u64
+pub(crate) fn first_past(ranges: &[Range], index: u128) -> u64
     ensures below { characters_below ranges.now result ≤ index }
-    ensures past { (result ≡ end_in ranges.now) ⊎ (index < characters_below ranges.now (result + 1)) }
+    ensures past { (result ≡ end_in ranges.now) ⊎ ((index < characters_below ranges.now (result + 1))
+        × (characters_below ranges.now (result + 1) < 2 ^ 128)) }
+    ensures most { result ≤ 2 ^ 32 }
 {
     let mut low: u64 = 0;
     let mut high: u64 = end_of(ranges);

@@ -167,15 +167,16 @@ fn next_characters_of(
     ensures read { IsRead (sized_characters alphabet.now.is_aligned alphabet.now.ranges.now node least range count)
         (λ at. characters_at alphabet.now (bits octets.now) at count) (bits octets.now) state.old state.new result }
 {
-    if is_inline(alphabet.width, least, range, count) {
+    if is_inline_text(alphabet.width, least, range, count) {
         return next_characters(octets, alphabet, count, node, state);
     }
     next_start(octets, alphabet.is_aligned, node, state)?;
     next_characters(octets, alphabet, count, node, state)
 }
 
-/// Returns whether so many characters begin where they are.
-fn is_inline(width: usize, least: usize, range: usize, count: usize) -> bool
+/// Returns whether so many characters of `width` bits, of a size from `least` to `least + range`, begin
+/// where they are, and not at an octet in the ALIGNED variant (X.691 30.5.6, 30.5.7).
+pub fn is_inline_text(width: usize, least: usize, range: usize, count: usize) -> bool
     requires width { width ≤ 128 }
     ensures is { result ≡ true → IsInlineText width least range count }
     ensures not { result ≡ false → IsOnOctetText width least range count }

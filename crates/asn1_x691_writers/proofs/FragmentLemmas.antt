@@ -61,7 +61,7 @@ module _ (aligned : Bool) (unit : ℕ) (list : List Bool) (was : List ℕ) (old 
               (λ (v : ℕ × List Bool).
               IsWritten aligned (all_units (bits_of_units unit node) (λ a b. a ++ b) aligned node (suc more)) v now at end new)
               (units_apart list first unit 65536 (left - 65536) left e)
-              (full_units aligned unit node 65536 (bits_at list first (unit * 65536)) now mid end at next new (a node) (left - 65536)
+              (full_units (bits_of_units unit node) (λ a b. a ++ b) aligned node 65536 (bits_at list first (unit * 65536)) now mid end at next new (a node) (left - 65536)
               (bits_at list (first + unit * 65536) (unit * (left - 65536))) more (omega arith) b));
         }
 

@@ -4,3 +4,6 @@ pub mod HeldLemmas
 pub mod WidthLemmas
 pub mod WordLemmas
 pub mod ContentsLemmas
+pub mod CharacterLemmas
+pub mod TextLemmas
+pub mod JoinedLemmas

@@ -7,7 +7,7 @@ use Rattle.asn1_schema.specs.Encodings.{CanEncode}
 use Rattle.asn1_schema.specs.Laws.OneEncodingLaws.{only_constant}
 use Rattle.asn1_schema.specs.PiecesOfParts.{signed_number}
 use Rattle.asn1_x691.specs.declared.fault.FaultKind.TheVariants.{NotMinimal}
-use Rattle.asn1_x691.specs.Fields.{length_octets, length_after, length_of, minimal_octets, semi_constrained, below_minus_one, signed_of, signed_octets, unconstrained}
+use Rattle.asn1_x691.specs.Fields.{length_octets, length_after, length_of, distance_from_one, large_length, small_length, minimal_octets, semi_constrained, below_minus_one, signed_of, signed_octets, unconstrained}
 use Rattle.asn1_x691.specs.Laws.OneEncodingLaws.{inner}
 use Rattle.asn1_x691_fields.specs.Numbers.{distance}
 
@@ -25,6 +25,29 @@ pub length_few : (aligned : Bool) (node at n : ℕ) (k : List Bool) → (length_
 length_few aligned node at n k p =
     let q = (inner aligned node at (length_octets node) n k p).1 in
     subst (λ (m : ℕ). m < 16384) (sym q.is) (after_few node q.value q.after q.rest q.second)
+
+-- ---- lengths that are mostly small
+
+six_within : (node m : ℕ) (k : List Bool) → (distance_from_one node).encodes m k → (0 < m) × (m < 16384)
+six_within node m k p =
+    let e : m ≡ p.value + 1 = p.is ∙ p.second.0 in
+    (omega (arith, e), omega (arith, e, p.first.0))
+
+large_within : (aligned : Bool) (node at m : ℕ) (k : List Bool) → (large_length aligned node at).encodes m k → (0 < m) × (m < 16384)
+large_within aligned node at m k p =
+    let few = length_few aligned node at p.value p.front p.first in
+    let g = only_constant _ _ p.value p.after NotMinimal node p.rest p.second in
+    let e : m ≡ p.value = p.is ∙ g.1 in
+    (omega (arith, e, g.0), omega (arith, e, few))
+
+pub small_length_within : (aligned : Bool) (node at n : ℕ) (k : List Bool) → (small_length aligned node at).encodes n k
+    → (0 < n) × (n < 16384)
+small_length_within aligned node at n k p =
+    let h : (0 < p.after) × (p.after < 16384) = elim p.second [
+      | inl q ↦ six_within node p.after p.rest q.1
+      | inr q ↦ large_within aligned node (at + length p.front) p.after p.rest q.1
+    ] in
+    (omega (arith, h.0, p.is), omega (arith, h.1, p.is))
 
 -- ---- from 0 on
 

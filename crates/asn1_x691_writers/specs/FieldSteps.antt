@@ -114,39 +114,40 @@ module _ {X : Type 0} (aligned : Bool) (C D : Type 0) (A B : ℕ → Encoding Fa
 same_start : (at old : ℕ) → at % 8 ≡ old % 8 → to_octet old ≡ to_octet at
 same_start at old e = ap (λ (n : ℕ). (8 - n) % 8) (sym e)
 
-module _ {X : Type 0} (node : ℕ) (A : Encoding FaultKind X) (x : X) (was mid now : List ℕ) (old at new : ℕ) where
-  pub octet_written : (aligned : Bool) → IsGrown was old mid at (start_of aligned old) → IsWritten aligned (anywhere A) x mid at now new
-      → IsWritten aligned (on_octet aligned node A) x was old now new
-  octet_written false g a = record {
-    list = a.list;
-    encodes = λ p h. a.encodes at (λ e. refl);
-    grown = grown_both was mid now old at new [] a.list g a.grown;
-  }
-  octet_written true g a =
-      let list = digits 0 (to_octet old) in record {
-        list = list ++ a.list;
-        encodes = λ p h.
-            let e = same_start p old (h refl) in record {
-              value = tt;
-              after = x;
-              front = list;
-              rest = a.list;
-              first = record {
-                value = 0;
-                after = tt;
-                front = list;
-                rest = [];
-                first = (pow_pos (to_octet p), ap (λ (n : ℕ). digits 0 n) e);
-                second = inl (refl, (refl, refl));
-                is = refl;
-                parts = sym (append-nil list);
-              };
-              second = a.encodes at (λ e. refl);
-              is = refl;
-              parts = refl;
-            };
-        grown = grown_both was mid now old at new list a.list g a.grown;
-      }
+-- the zeros and the field are one encoding
+pub octet_encodes : {X : Type 0} (node : ℕ) (A : Encoding FaultKind X) (x : X) (old : ℕ) (list : List Bool) (aligned : Bool) → A.encodes x list
+    → (at : ℕ) → IsAlike aligned at old → (on_octet aligned node A at).encodes x (start_of aligned old ++ list)
+octet_encodes node A x old list false a at h = a
+octet_encodes node A x old list true a at h =
+    let zeros = digits 0 (to_octet old) in
+    let e = same_start at old (h refl) in record {
+      value = tt;
+      after = x;
+      front = zeros;
+      rest = list;
+      first = record {
+        value = 0;
+        after = tt;
+        front = zeros;
+        rest = [];
+        first = (pow_pos (to_octet at), ap (λ (n : ℕ). digits 0 n) e);
+        second = inl (refl, (refl, refl));
+        is = refl;
+        parts = sym (append-nil zeros);
+      };
+      second = a;
+      is = refl;
+      parts = refl;
+    }
+
+pub octet_written : {X : Type 0} (node : ℕ) (A : Encoding FaultKind X) (x : X) (was mid now : List ℕ) (old at new : ℕ) (aligned : Bool)
+    → IsGrown was old mid at (start_of aligned old) → IsWritten aligned (anywhere A) x mid at now new
+    → IsWritten aligned (on_octet aligned node A) x was old now new
+octet_written node A x was mid now old at new aligned g a = record {
+  list = start_of aligned old ++ a.list;
+  encodes = octet_encodes node A x old a.list aligned (a.encodes at (λ e. refl));
+  grown = grown_both was mid now old at new (start_of aligned old) a.list g a.grown;
+}
 
 -- ---- a value that is permitted
 

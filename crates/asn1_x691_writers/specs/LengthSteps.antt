@@ -8,7 +8,7 @@ use Rattle.asn1_x691.specs.declared.fault.FaultKind.{FaultKind}
 use Rattle.asn1_x691.specs.declared.fault.FaultKind.TheVariants.{Short}
 use Rattle.asn1_x691.specs.Fields.{long_enough, distance_from_one, above_64, length_of, large_length, small_length, at_least_64, semi_constrained, large_number, small_number}
 use Rattle.asn1_x691_writers.specs.Written.{IsGrown, IsWritten}
-use Rattle.asn1_x691_writers.specs.FieldSteps.{number_written, turn_written, turn_constant, then_constant, second_written}
+use Rattle.asn1_x691_writers.specs.FieldSteps.{number_written, turn_written, turn_constant, second_written}
 
 -- ---- one octet, or two
 
@@ -19,15 +19,18 @@ counted node L = then (number 8 Short node) (λ first n. n) (λ first.
     (cases (first < 192) (then (number 8 Short node) (λ second n. n) (λ second. long_enough node (256 * (first - 128) + second)))
     (192 ≤ first) (L first)))
 
-module _ (aligned : Bool) (node n : ℕ) (L : ℕ → Encoding FaultKind ℕ) (was now : List ℕ) (old new : ℕ) where
-  pub one_octet : n < 128 → IsGrown was old now new (digits n 8) → IsWritten aligned (anywhere (counted node L)) n was old now new
-  one_octet few g =
-      let after : ℕ → Encoding FaultKind ℕ = λ first.
-      cases (first < 128) (constant first) (128 ≤ first)
-      (cases (first < 192) (then (number 8 Short node) (λ second n. n) (λ second. long_enough node (256 * (first - 128) + second)))
-      (192 ≤ first) (L first)) in
-      then_constant aligned was now old new (number 8 Short node) (λ first n. n) after n n
-      (number_written aligned 8 node Short n was now old new (omega (arith, few)) g) (inl (few, (refl, refl)))
+module _ (node n : ℕ) (L : ℕ → Encoding FaultKind ℕ) where
+  pub one_octet_encodes : n < 128 → (counted node L).encodes n (digits n 8)
+  one_octet_encodes few = record {
+    value = n;
+    after = n;
+    front = digits n 8;
+    rest = [];
+    first = (omega (arith, few), refl);
+    second = inl (few, (refl, refl));
+    is = refl;
+    parts = sym (append-nil (digits n 8));
+  }
 
   two_digits : 128 ≤ n → n < 16384 → digits (32768 + n) 16 ≡ digits (128 + n / 256) 8 ++ digits (n % 256) 8
   two_digits many few =
@@ -39,37 +42,40 @@ module _ (aligned : Bool) (node n : ℕ) (L : ℕ → Encoding FaultKind ℕ) (w
       ∙ ap (λ (l : List Bool). digits (128 + n / 256) 8 ++ l)
       (ap (λ (k : ℕ). digits k 8) low ∙ digits-low (128 + n / 256) (n % 256) 8)
 
-  pub two_octets : 128 ≤ n → n < 16384 → IsGrown was old now new (digits (32768 + n) 16)
-      → IsWritten aligned (anywhere (counted node L)) n was old now new
-  two_octets many few g = record {
-    list = digits (32768 + n) 16;
-    encodes = λ at h. record {
-      value = 128 + n / 256;
-      after = n;
-      front = digits (128 + n / 256) 8;
-      rest = digits (n % 256) 8;
-      first = (omega (arith, few), refl);
-      second = inr (
-        omega arith,
-        inl (
-          omega (arith, few),
-          record {
-            value = n % 256;
-            after = n;
-            front = digits (n % 256) 8;
-            rest = [];
-            first = (omega arith, refl);
-            second = inl (omega (arith, many), (omega arith, refl));
-            is = refl;
-            parts = sym (append-nil (digits (n % 256) 8));
-          },
-        ),
-      );
-      is = refl;
-      parts = two_digits many few;
-    };
-    grown = g;
+  pub two_octets_encode : 128 ≤ n → n < 16384 → (counted node L).encodes n (digits (32768 + n) 16)
+  two_octets_encode many few = record {
+    value = 128 + n / 256;
+    after = n;
+    front = digits (128 + n / 256) 8;
+    rest = digits (n % 256) 8;
+    first = (omega (arith, few), refl);
+    second = inr (
+      omega arith,
+      inl (
+        omega (arith, few),
+        record {
+          value = n % 256;
+          after = n;
+          front = digits (n % 256) 8;
+          rest = [];
+          first = (omega arith, refl);
+          second = inl (omega (arith, many), (omega arith, refl));
+          is = refl;
+          parts = sym (append-nil (digits (n % 256) 8));
+        },
+      ),
+    );
+    is = refl;
+    parts = two_digits many few;
   }
+
+  module _ (aligned : Bool) (was now : List ℕ) (old new : ℕ) where
+    pub one_octet : n < 128 → IsGrown was old now new (digits n 8) → IsWritten aligned (anywhere (counted node L)) n was old now new
+    one_octet few g = record { list = digits n 8; encodes = λ at h. one_octet_encodes few; grown = g }
+
+    pub two_octets : 128 ≤ n → n < 16384 → IsGrown was old now new (digits (32768 + n) 16)
+        → IsWritten aligned (anywhere (counted node L)) n was old now new
+    two_octets many few g = record { list = digits (32768 + n) 16; encodes = λ at h. two_octets_encode many few; grown = g }
 
 -- ---- a bit 0 and six bits, or a bit 1 and more
 

@@ -5,6 +5,7 @@ use Rattle.asn1_schema.specs.declared.misfit.MisfitKind.{MisfitKind}
 use Rattle.asn1_schema.specs.declared.part.Part.{Part}
 use Rattle.asn1_schema.specs.declared.part.Part.TheVariants.{OctetsInFragments}
 use Rattle.asn1_schema.specs.declared.part.Fragments.{Fragments}
+use Rattle.asn1_schema.specs.declared.tables.Range.{Range}
 use Rattle.asn1_schema.specs.Pieces.{Piece, Integer, UnknownEnumerated, Parts}
 use Rattle.asn1_schema.specs.PiecesOfParts.{piece_of}
 use Rattle.asn1_schema.specs.TypeEncodings.{TypeEncoding}
@@ -18,10 +19,9 @@ use Rattle.asn1_x691_writers.specs.Written.{IsWritten}
 abbrev pub IsInFragments : Part → Type 0
 IsInFragments p = (f : Fragments) × (p ≡ OctetsInFragments f)
 
--- The piece that a part is, whose spans are bits of these octets. Strings of characters are not written yet, so that no table of
--- ranges is needed.
-abbrev pub piece_in : List ℕ → Part → Piece
-piece_in source p = piece_of [] (bits source) p
+-- the piece that a part is, whose spans are bits of these octets, by a table of ranges
+abbrev pub piece_in : List Range → List ℕ → Part → Piece
+piece_in ranges source p = piece_of ranges (bits source) p
 
 -- parts that begin with this one begin with no value, and the state names their first misfit
 pub record IsMisfit (T : ℕ → TypeEncoding FaultKind) (p : Piece) (new : Writer) : Type 0 where

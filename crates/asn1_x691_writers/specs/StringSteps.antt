@@ -7,9 +7,9 @@ use Rattle.asn1_schema.specs.Fields.{raw_bits}
 use Rattle.asn1_schema.specs.PiecesOfParts.{bits_at}
 use Rattle.asn1_x691.specs.declared.fault.FaultKind.{FaultKind}
 use Rattle.asn1_x691.specs.declared.fault.FaultKind.TheVariants.{Short, NotMinimal}
-use Rattle.asn1_x691.specs.Fragments.{units_next, bits_of_units, units, units_then, last_units, all_units}
+use Rattle.asn1_x691.specs.Fragments.{units_next, units, units_then, last_units, all_units}
 use Rattle.asn1_x691_writers.specs.Written.{IsGrown, IsWritten}
-use Rattle.asn1_x691_writers.specs.Units.{AreUnits}
+use Rattle.asn1_x691_writers.specs.Units.{AreUnitsOf}
 use Rattle.asn1_x691_writers.specs.FieldSteps.{turn_written, turn_constant, first_written, second_written}
 
 -- bits as they are
@@ -24,22 +24,17 @@ bits_apart list at m n =
 
 -- ---- units with their number
 
-module _ (aligned : Bool) (unit node : ℕ) where
-  abbrev U : ℕ → ℕ → Encoding FaultKind (List Bool)
-  U = bits_of_units unit node
-
-  abbrev J : List Bool → List Bool → List Bool
-  J a b = a ++ b
-
-  abbrev Last : ℕ → ℕ → Encoding FaultKind (ℕ × List Bool)
+-- U says of so many units how they are encoded, and J joins what two fragments hold
+module _ {Y : Type 0} (U : ℕ → ℕ → Encoding FaultKind Y) (J : Y → Y → Y) (aligned : Bool) (node : ℕ) where
+  abbrev Last : ℕ → ℕ → Encoding FaultKind (ℕ × Y)
   Last n = in_case (n < 16384) (units U J aligned node n) (16384 ≤ n) (anywhere (invalid NotMinimal node))
 
-  abbrev More : ℕ → ℕ → ℕ → Encoding FaultKind (ℕ × List Bool)
+  abbrev More : ℕ → ℕ → ℕ → Encoding FaultKind (ℕ × Y)
   More more n = in_case (n < 16384) (units U J aligned node n) (16384 ≤ n)
       (in_case (n < 65536) (units_then U J aligned node n (last_units U J aligned node)) (65536 ≤ n)
       (units_then U J aligned node n (all_units U J aligned node more)))
 
-  module _ (n : ℕ) (list : List Bool) (was now : List ℕ) (old new : ℕ) (a : AreUnits aligned unit node n list was old now new) where
+  module _ (n : ℕ) (list : Y) (was now : List ℕ) (old new : ℕ) (a : AreUnitsOf U aligned node n list was old now new) where
     only_units : IsWritten aligned (units U J aligned node n) (n, list) a.between a.at now new
     only_units = turn_constant aligned a.between now a.at new (U n) (λ y u. (n, y)) (λ y. anywhere (constant (tt {0}))) list tt a.units (λ p. (refl, refl))
 
@@ -57,29 +52,29 @@ module _ (aligned : Bool) (unit node : ℕ) where
         (units_then U J aligned node n (all_units U J aligned node more))) (n, list) a.between now a.at new few only_units)
 
   -- a fragment, and what follows it
-  module _ (n : ℕ) (list : List Bool) (was mid now : List ℕ) (old at new : ℕ) (a : AreUnits aligned unit node n list was old mid at)
-      (m : ℕ) (others : List Bool) (more : ℕ) where
+  module _ (n : ℕ) (list : Y) (was mid now : List ℕ) (old at new : ℕ) (a : AreUnitsOf U aligned node n list was old mid at)
+      (m : ℕ) (others : Y) (more : ℕ) where
     pub part_units : 16384 ≤ n → n < 65536 → IsWritten aligned (last_units U J aligned node) (m, others) mid at now new
-        → IsWritten aligned (all_units U J aligned node (suc more)) (n + m, list ++ others) was old now new
+        → IsWritten aligned (all_units U J aligned node (suc more)) (n + m, J list others) was old now new
     part_units many few b =
-        turn_written aligned (units_next aligned node) (λ n v. v) (More more) n (n + m, list ++ others) was a.between now old a.at new a.count
+        turn_written aligned (units_next aligned node) (λ n v. v) (More more) n (n + m, J list others) was a.between now old a.at new a.count
         (second_written aligned (n < 16384) (16384 ≤ n) (units U J aligned node n)
         (in_case (n < 65536) (units_then U J aligned node n (last_units U J aligned node)) (65536 ≤ n)
-        (units_then U J aligned node n (all_units U J aligned node more))) (n + m, list ++ others) a.between now a.at new many
+        (units_then U J aligned node n (all_units U J aligned node more))) (n + m, J list others) a.between now a.at new many
         (first_written aligned (n < 65536) (65536 ≤ n) (units_then U J aligned node n (last_units U J aligned node))
-        (units_then U J aligned node n (all_units U J aligned node more)) (n + m, list ++ others) a.between now a.at new few
-        (turn_written aligned (U n) (λ y v. (n + v.0, y ++ v.1)) (λ y. last_units U J aligned node) list (m, others) a.between mid now a.at at new
+        (units_then U J aligned node n (all_units U J aligned node more)) (n + m, J list others) a.between now a.at new few
+        (turn_written aligned (U n) (λ y v. (n + v.0, J y v.1)) (λ y. last_units U J aligned node) list (m, others) a.between mid now a.at at new
         a.units b)))
 
     pub full_units : 65536 ≤ n → IsWritten aligned (all_units U J aligned node more) (m, others) mid at now new
-        → IsWritten aligned (all_units U J aligned node (suc more)) (n + m, list ++ others) was old now new
+        → IsWritten aligned (all_units U J aligned node (suc more)) (n + m, J list others) was old now new
     full_units many b =
-        turn_written aligned (units_next aligned node) (λ n v. v) (More more) n (n + m, list ++ others) was a.between now old a.at new a.count
+        turn_written aligned (units_next aligned node) (λ n v. v) (More more) n (n + m, J list others) was a.between now old a.at new a.count
         (second_written aligned (n < 16384) (16384 ≤ n) (units U J aligned node n)
         (in_case (n < 65536) (units_then U J aligned node n (last_units U J aligned node)) (65536 ≤ n)
-        (units_then U J aligned node n (all_units U J aligned node more))) (n + m, list ++ others) a.between now a.at new
+        (units_then U J aligned node n (all_units U J aligned node more))) (n + m, J list others) a.between now a.at new
         (omega (arith, many))
         (second_written aligned (n < 65536) (65536 ≤ n) (units_then U J aligned node n (last_units U J aligned node))
-        (units_then U J aligned node n (all_units U J aligned node more)) (n + m, list ++ others) a.between now a.at new many
-        (turn_written aligned (U n) (λ y v. (n + v.0, y ++ v.1)) (λ y. all_units U J aligned node more) list (m, others) a.between mid now a.at at
+        (units_then U J aligned node n (all_units U J aligned node more)) (n + m, J list others) a.between now a.at new many
+        (turn_written aligned (U n) (λ y v. (n + v.0, J y v.1)) (λ y. all_units U J aligned node more) list (m, others) a.between mid now a.at at
         new a.units b)))

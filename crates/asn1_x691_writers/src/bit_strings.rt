@@ -1,8 +1,9 @@
 //! BIT STRING (X.691 16).
 
 ghost use Rattle.asn1_x691.specs.Fragments.{most_fragments};
-ghost use Rattle.std.specs.Prelude.{◌≡◌, ◌+◌, ◌-◌, ◌*◌, ◌^◌, ◌<◌, ◌≤◌, true, false, length};
+ghost use Rattle.std.specs.Prelude.{◌≡◌, ◌+◌, ◌-◌, ◌*◌, ◌^◌, ◌<◌, ◌≤◌, true, false, length, List};
 ghost use Rattle.asn1_bits.specs.Bits.{bits, number};
+ghost use Rattle.asn1_schema.specs.declared.tables.Range.{Range};
 ghost use Rattle.asn1_schema.specs.Pieces.{Bits};
 ghost use Rattle.asn1_schema.specs.PiecesOfParts.{bits_of, bits_at};
 ghost use Rattle.asn1_schema.specs.TypeEncodings.{leaf};
@@ -31,7 +32,7 @@ pub fn put_bit_string(
 ) -> bool
     requires size { 8 * length octets.old < 2 ^ 64 }
     requires source { 8 * length source.now < 2 ^ 64 }
-    ensures { IsPut is_aligned (bit_string most_fragments is_aligned node size is_extensible has_names) (piece_in source.now part) octets.old state.old
+    ensures { (ranges : List Range) → IsPut is_aligned (bit_string most_fragments is_aligned node size is_extensible has_names) (piece_in ranges source.now part) octets.old state.old
         octets.new state.new result }
 {
     match part {

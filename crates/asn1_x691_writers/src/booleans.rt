@@ -1,6 +1,7 @@
 //! BOOLEAN (X.691 12), and bits.
 
 ghost use Rattle.std.specs.Prelude.{◌≡◌, ℕ, Bool, List, ◌*◌, ◌^◌, ◌<◌, length};
+ghost use Rattle.asn1_schema.specs.declared.tables.Range.{Range};
 ghost use Rattle.asn1_schema.specs.Encodings.{anywhere};
 ghost use Rattle.asn1_schema.specs.Pieces.{Truth};
 ghost use Rattle.asn1_schema.specs.TypeEncodings.{leaf};
@@ -27,7 +28,7 @@ pub fn put_bit(octets: &mut [u8], at: usize, is_one: bool) -> usize
 /// Writes a BOOLEAN.
 pub fn put_boolean(octets: &mut [u8], part: Part, node: usize, state: &mut Writer) -> bool
     requires size { 8 * length octets.old < 2 ^ 64 }
-    ensures { (is_aligned : Bool) (source : List ℕ) → IsPut is_aligned (leaf (anywhere (bit node)) Truth node) (piece_in source part)
+    ensures { (is_aligned : Bool) (ranges : List Range) (source : List ℕ) → IsPut is_aligned (leaf (anywhere (bit node)) Truth node) (piece_in ranges source part)
         octets.old state.old octets.new state.new result }
 {
     match part {

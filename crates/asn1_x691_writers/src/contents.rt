@@ -1,8 +1,9 @@
 //! Octets that are kept by their contents: identifiers and UTF-8 (X.691 24, 25, 30.6).
 
 ghost use Rattle.asn1_x691.specs.Fragments.{most_fragments};
-ghost use Rattle.std.specs.Prelude.{◌≡◌, ◌+◌, ◌*◌, ◌%◌, ◌^◌, ◌<◌, ◌≤◌, true, false, length};
+ghost use Rattle.std.specs.Prelude.{◌≡◌, ◌+◌, ◌*◌, ◌%◌, ◌^◌, ◌<◌, ◌≤◌, true, false, length, List};
 ghost use Rattle.asn1_bits.specs.Bits.{bits};
+ghost use Rattle.asn1_schema.specs.declared.tables.Range.{Range};
 ghost use Rattle.asn1_schema.specs.PiecesOfParts.{bits_of};
 ghost use Rattle.asn1_x691.specs.Leaves.{contents};
 ghost use Rattle.asn1_x691_writers.specs.Put.{IsInFragments, IsPut, piece_in};
@@ -39,7 +40,7 @@ pub fn put_contents(
     requires size { 8 * length octets.old < 2 ^ 64 }
     requires source { 8 * length source.now < 2 ^ 64 }
     requires whole { IsInFragments part → ⊥ }
-    ensures { IsPut is_aligned (contents most_fragments is_aligned node (IsValid kind)) (piece_in source.now part) octets.old state.old octets.new
+    ensures { (ranges : List Range) → IsPut is_aligned (contents most_fragments is_aligned node (IsValid kind)) (piece_in ranges source.now part) octets.old state.old octets.new
         state.new result }
 {
     match part {

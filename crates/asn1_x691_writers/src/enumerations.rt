@@ -1,7 +1,8 @@
 //! ENUMERATED (X.691 14).
 
-ghost use Rattle.std.specs.Prelude.{◌≡◌, ◌+◌, ◌*◌, ◌^◌, ◌<◌, ◌≤◌, true, length, MatchOption};
+ghost use Rattle.std.specs.Prelude.{◌≡◌, ◌+◌, ◌*◌, ◌^◌, ◌<◌, ◌≤◌, true, length, MatchOption, List};
 ghost use Rattle.asn1_bits.specs.Bits.{bits};
+ghost use Rattle.asn1_schema.specs.declared.tables.Range.{Range};
 ghost use Rattle.asn1_schema.specs.Pieces.{Enumerated, UnknownEnumerated};
 ghost use Rattle.asn1_schema.specs.PiecesOfParts.{natural_of};
 ghost use Rattle.asn1_x691.specs.Leaves.{enumerated, enumerated_by};
@@ -31,7 +32,7 @@ pub fn put_enumerated(
 ) -> bool
     requires size { 8 * length octets.old < 2 ^ 64 }
     requires source { 8 * length source.now < 2 ^ 64 }
-    ensures { IsPut is_aligned (enumerated_by is_aligned node is_extensible last additions) (piece_in source.now part) octets.old state.old
+    ensures { (ranges : List Range) → IsPut is_aligned (enumerated_by is_aligned node is_extensible last additions) (piece_in ranges source.now part) octets.old state.old
         octets.new state.new result }
 {
     match part {
@@ -55,7 +56,7 @@ pub fn put_enumerated(
 }
 
 /// Returns a number, or nothing where it is 2^128 or more.
-pub(crate) fn natural(source: &[u8], n: Natural) -> Option<u128>
+pub fn natural(source: &[u8], n: Natural) -> Option<u128>
     requires { 8 * length source.now < 2 ^ 64 }
     ensures { MatchOption result (2 ^ 128 ≤ natural_of (bits source.now) n) (λ m. m ≡ natural_of (bits source.now) n) }
 {

@@ -1,7 +1,8 @@
 //! The number that a part holds.
 
-ghost use Rattle.std.specs.Prelude.{◌≡◌, pos, negsuc, ◌+ℤ◌, ◌≤ℤ◌, ◌∷◌, [], ◌+◌, ◌-◌, ◌*◌, ◌^◌, ◌<◌, ◌≤◌, length};
+ghost use Rattle.std.specs.Prelude.{◌≡◌, pos, negsuc, ◌+ℤ◌, ◌≤ℤ◌, ◌∷◌, [], ◌+◌, ◌-◌, ◌*◌, ◌^◌, ◌<◌, ◌≤◌, length, List};
 ghost use Rattle.asn1_bits.specs.Bits.{bits, number};
+ghost use Rattle.asn1_schema.specs.declared.tables.Range.{Range};
 ghost use Rattle.asn1_schema.specs.Pieces.{Integer};
 ghost use Rattle.asn1_schema.specs.PiecesOfParts.{bits_of, bits_at, signed_number};
 ghost use Rattle.asn1_x691_fields.specs.Numbers.{distance};
@@ -30,7 +31,7 @@ pub(crate) enum Held {
 /// Returns the number that a part holds.
 pub(crate) fn integer_of(source: &[u8], part: Part) -> Held
     requires { 8 * length source.now < 2 ^ 64 }
-    ensures { IsHeld (piece_in source.now part) result }
+    ensures { (ranges : List Range) → IsHeld (piece_in ranges source.now part) result }
 {
     match part {
         Part::Integer(z) => Held::Number(z),

@@ -1,7 +1,8 @@
 //! INTEGER (X.691 13).
 
-ghost use Rattle.std.specs.Prelude.{◌≡◌, pos, ◌+ℤ◌, ◌<ℤ◌, ◌≤ℤ◌, ◌+◌, ◌-◌, ◌*◌, ◌^◌, ◌<◌, ◌≤◌, true, length};
+ghost use Rattle.std.specs.Prelude.{◌≡◌, pos, ◌+ℤ◌, ◌<ℤ◌, ◌≤ℤ◌, ◌+◌, ◌-◌, ◌*◌, ◌^◌, ◌<◌, ◌≤◌, true, length, List};
 ghost use Rattle.asn1_bits.specs.Bits.{bits, number};
+ghost use Rattle.asn1_schema.specs.declared.tables.Range.{Range};
 ghost use Rattle.asn1_schema.specs.Pieces.{Integer};
 ghost use Rattle.asn1_schema.specs.PiecesOfParts.{bits_of, signed_number};
 ghost use Rattle.asn1_x691_fields.specs.Numbers.{distance};
@@ -39,7 +40,7 @@ pub fn put_integer(
 ) -> bool
     requires size { 8 * length octets.old < 2 ^ 64 }
     requires source { 8 * length source.now < 2 ^ 64 }
-    ensures { IsPut is_aligned (integer is_aligned node) (piece_in source.now part) octets.old state.old octets.new state.new result }
+    ensures { (ranges : List Range) → IsPut is_aligned (integer is_aligned node) (piece_in ranges source.now part) octets.old state.old octets.new state.new result }
 {
     match integer_of(source, part) {
         Held::Number(z) => {
@@ -63,8 +64,8 @@ fn put_far(
 ) -> bool
     requires size { 8 * length octets.old < 2 ^ 64 }
     requires source { 8 * length source.now < 2 ^ 64 }
-    requires far { IsFarInteger (piece_in source.now part) }
-    ensures { IsPut is_aligned (integer is_aligned node) (piece_in source.now part) octets.old state.old octets.new state.new result }
+    requires far { (ranges : List Range) → IsFarInteger (piece_in ranges source.now part) }
+    ensures { (ranges : List Range) → IsPut is_aligned (integer is_aligned node) (piece_in ranges source.now part) octets.old state.old octets.new state.new result }
 {
     match part {
         Part::Signed(span) => {
@@ -111,7 +112,7 @@ pub fn put_integer_between(
 ) -> bool
     requires size { 8 * length octets.old < 2 ^ 64 }
     requires source { 8 * length source.now < 2 ^ 64 }
-    ensures { IsPut is_aligned (integer_between_by is_aligned node is_extensible bounds.least bounds.range) (piece_in source.now part)
+    ensures { (ranges : List Range) → IsPut is_aligned (integer_between_by is_aligned node is_extensible bounds.least bounds.range) (piece_in ranges source.now part)
         octets.old state.old octets.new state.new result }
 {
     match integer_of(source, part) {
@@ -204,7 +205,7 @@ pub fn put_integer_at_least(
 ) -> bool
     requires size { 8 * length octets.old < 2 ^ 64 }
     requires source { 8 * length source.now < 2 ^ 64 }
-    ensures { IsPut is_aligned (integer_at_least_by is_aligned node is_extensible bound.least) (piece_in source.now part)
+    ensures { (ranges : List Range) → IsPut is_aligned (integer_at_least_by is_aligned node is_extensible bound.least) (piece_in ranges source.now part)
         octets.old state.old octets.new state.new result }
 {
     match integer_of(source, part) {
@@ -242,8 +243,8 @@ fn put_far_above(
 ) -> bool
     requires size { 8 * length octets.old < 2 ^ 64 }
     requires source { 8 * length source.now < 2 ^ 64 }
-    requires far { IsFarInteger (piece_in source.now part) }
-    ensures { IsPut is_aligned (integer_at_least is_aligned node bound.least) (piece_in source.now part) octets.old state.old octets.new
+    requires far { (ranges : List Range) → IsFarInteger (piece_in ranges source.now part) }
+    ensures { (ranges : List Range) → IsPut is_aligned (integer_at_least is_aligned node bound.least) (piece_in ranges source.now part) octets.old state.old octets.new
         state.new result }
 {
     match part {

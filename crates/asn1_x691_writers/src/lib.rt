@@ -14,19 +14,26 @@
 mod bit_strings;
 mod bits;
 mod booleans;
+mod characters;
 mod contents;
+mod enclosed;
 mod enumerations;
 mod heads;
 mod held;
 mod integers;
+mod joined;
+mod joined_strings;
 mod lengths;
+mod long_texts;
 mod numbers;
 mod octet_strings;
 mod reserves;
 mod sized_strings;
+mod sized_texts;
 mod spans;
 mod state;
 mod strings;
+mod texts;
 mod unbounded;
 mod unknown;
 
@@ -34,7 +41,8 @@ pub use bit_strings::put_bit_string;
 pub use bits::{after, put_bits, put_number, put_wide};
 pub use booleans::{put_bit, put_boolean};
 pub use contents::{ContentsKind, put_contents};
-pub use enumerations::put_enumerated;
+pub use enclosed::put_length_before;
+pub use enumerations::{natural, put_enumerated};
 pub use heads::put_start;
 pub use integers::{put_integer, put_integer_at_least, put_integer_between};
 pub use lengths::{put_length, put_small_length};
@@ -45,6 +53,7 @@ pub use sized_strings::{is_of_root, put_added_string, put_string_of};
 pub use spans::clip;
 pub use state::{Rejection, Writer, leave, reject};
 pub use strings::put_units;
+pub use texts::put_text;
 pub use unbounded::{
     put_semi_constrained, put_semi_constrained_span, put_small_number, put_unconstrained,
     put_unconstrained_span,

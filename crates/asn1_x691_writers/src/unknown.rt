@@ -1,8 +1,9 @@
 //! Octets after their number (X.691 17.8), and values that the schema does not know (19.9, 23.8).
 
 ghost use Rattle.asn1_x691.specs.Fragments.{most_fragments};
-ghost use Rattle.std.specs.Prelude.{ℕ, ◌+◌, ◌*◌, ◌^◌, ◌<◌, ◌≤◌, length};
+ghost use Rattle.std.specs.Prelude.{ℕ, ◌+◌, ◌*◌, ◌^◌, ◌<◌, ◌≤◌, length, List};
 ghost use Rattle.asn1_bits.specs.Bits.{bits};
+ghost use Rattle.asn1_schema.specs.declared.tables.Range.{Range};
 ghost use Rattle.asn1_schema.specs.Pieces.{Unknown};
 ghost use Rattle.asn1_schema.specs.PiecesOfParts.{bits_at};
 ghost use Rattle.asn1_schema.specs.TypeEncodings.{leaf};
@@ -45,7 +46,7 @@ pub fn put_unknown(
 ) -> bool
     requires size { 8 * length octets.old < 2 ^ 64 }
     requires source { 8 * length source.now < 2 ^ 64 }
-    ensures { IsPut is_aligned (leaf (octets_in most_fragments is_aligned node) Unknown node) (piece_in source.now part) octets.old state.old
+    ensures { (ranges : List Range) → IsPut is_aligned (leaf (octets_in most_fragments is_aligned node) Unknown node) (piece_in ranges source.now part) octets.old state.old
         octets.new state.new result }
 {
     match part {

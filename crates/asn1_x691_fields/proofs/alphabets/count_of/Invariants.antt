@@ -1,9 +1,10 @@
-use Rattle.std.proofs.Common.{◌≡◌, ◌+◌, ◌*◌, ◌^◌, ◌≤◌, drop}
-use Rattle.asn1_x691.specs.Alphabets.{count_of}
+use Rattle.std.proofs.Common.{◌≡◌, ℕ, ◌+◌, ◌*◌, ◌^◌, ◌<◌, ◌≤◌, ◌⊎◌, drop}
+use Rattle.asn1_x691.specs.Alphabets.{IsIn, count_of}
 use Rattle.asn1_x691_fields.proofs.alphabets.count_of.Given as goal
 
 abbrev pub invariant-loop-range : goal.invariant-loop-range
 invariant-loop-range l = record {
   sum : l.count + count_of (drop l.range-index l.ranges) ≡ count_of l.ranges;
   few : l.count ≤ l.range-index * 2 ^ 32;
+  small : (c : ℕ) → IsIn l.ranges c → (c < 2 ^ 32) ⊎ IsIn (drop l.range-index l.ranges) c;
 }

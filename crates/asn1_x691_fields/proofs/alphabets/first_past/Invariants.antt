@@ -7,7 +7,8 @@ invariant-loop-low l = record {
   ordered : l.low ≤ l.high;
   few : l.high ≤ 2 ^ 32;
   below : characters_below l.ranges l.low ≤ l.index;
-  past : (l.high ≡ end_of l.ranges) ⊎ (l.index < characters_below l.ranges (l.high + 1));
+  past : (l.high ≡ end_of l.ranges)
+      ⊎ ((l.index < characters_below l.ranges (l.high + 1)) × (characters_below l.ranges (l.high + 1) < 2 ^ 128));
 }
 
 abbrev pub decreases-loop-low : goal.decreases-loop-low

@@ -1,4 +1,4 @@
-use Rattle.std.proofs.Common.{◌++◌, inl, inr}
+use Rattle.std.proofs.Common.{◌++◌, inr}
 use Rattle.asn1_bits.specs.Bits.{bits}
 use Rattle.asn1_x691.specs.declared.fault.FaultKind.TheVariants.{InRoot}
 use Rattle.asn1_x691.specs.Characters.{characters}

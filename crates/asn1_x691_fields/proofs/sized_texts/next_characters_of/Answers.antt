@@ -7,8 +7,8 @@ use Rattle.asn1_x691_fields.specs.Characters.{characters_at}
 use Rattle.asn1_x691_fields.specs.NumberSteps.{first_read, octet_read, second_read}
 use Rattle.asn1_x691_fields.proofs.sized_texts.next_characters_of.Goals as goal
 
-pub returns-then-is_inline-clause-read : goal.returns-then-is_inline-clause-read
-returns-then-is_inline-clause-read c =
+pub returns-then-is_inline_text-clause-read : goal.returns-then-is_inline_text-clause-read
+returns-then-is_inline_text-clause-read c =
     let list = bits c.args.octets.now in
     let a = c.args.alphabet.now in
     let node = c.args.node in
@@ -19,7 +19,7 @@ returns-then-is_inline-clause-read c =
     first_read list c.args.state.now new (λ at. characters_at a list at count) (IsInlineText w c.args.least c.args.range count)
     (IsOnOctetText w c.args.least c.args.range count) (anywhere field) (on_octet a.is_aligned node field)
     c.next_characters.result
-    (rw c.requires.alphabet.width at (c.is_inline.ensures.is c.if-is_inline.true)) c.next_characters.ensures.read
+    (rw c.requires.alphabet.width at (c.is_inline_text.ensures.is c.if-is_inline_text.true)) c.next_characters.ensures.read
 
 pub returns-clause-read : goal.returns-clause-read
 returns-clause-read c =
@@ -33,6 +33,6 @@ returns-clause-read c =
     second_read list c.args.state.now new (λ at. characters_at a list at count) (IsInlineText w c.args.least c.args.range count)
     (IsOnOctetText w c.args.least c.args.range count) (anywhere field) (on_octet a.is_aligned node field)
     c.next_characters-2.result
-    (rw c.requires.alphabet.width at (c.is_inline.ensures.not c.if-is_inline.false))
+    (rw c.requires.alphabet.width at (c.is_inline_text.ensures.not c.if-is_inline_text.false))
     (octet_read list c.args.state.now c.next_start.new.state new (λ at. characters_at a list at count) a.is_aligned node field
     c.next_characters-2.result c.in_ok-next_start.ensures.read c.next_characters-2.ensures.read)

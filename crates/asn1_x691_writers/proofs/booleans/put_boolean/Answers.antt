@@ -7,9 +7,9 @@ use Rattle.asn1_x691_writers.specs.LeafSteps.{leaf_written}
 use Rattle.asn1_x691_writers.proofs.booleans.put_boolean.Goals as goal
 
 pub returns-in-Truth : goal.returns-in-Truth
-returns-in-Truth c aligned source = record {
-  written = leaf_written (anywhere (bit c.args.node)) Truth c.args.node aligned c.in-Truth.is_one (piece_in source c.args.part) c.args.octets.now
-      c.put_bit-state.new.octets c.args.state.now.at c.put_bit-state.result (ap (piece_in source) c.in-Truth.is)
+returns-in-Truth c aligned ranges source = record {
+  written = leaf_written (anywhere (bit c.args.node)) Truth c.args.node aligned c.in-Truth.is_one (piece_in ranges source c.args.part) c.args.octets.now
+      c.put_bit-state.new.octets c.args.state.now.at c.put_bit-state.result (ap (piece_in ranges source) c.in-Truth.is)
       (c.put_bit-state.ensures aligned c.args.node);
   next = refl;
 }

@@ -19,22 +19,22 @@ use Rattle.asn1_x691_writers.specs.Validity.{IsValid}
 use Rattle.asn1_x691_writers.proofs.contents.put_contents.Goals as goal
 
 pub returns-then-not-is_valid : goal.returns-then-not-is_valid
-returns-then-not-is_valid c =
+returns-then-not-is_valid c ranges =
     let aligned = c.args.is_aligned in
     let node = c.args.node in
     let V = IsValid c.args.kind in
     let N = λ (l : List Bool). ¬ (V l) in
     let A : ℕ → Encoding FaultKind (List Bool) = octets most_fragments aligned node in
     let list = bits_of (bits c.args.source.now) c.clip-inside.result in
-    let e = ap (piece_in c.args.source.now) c.in-Octets.is ∙ ap Octets (sym c.clip-inside.ensures.same) in
-    rejected aligned (contents most_fragments aligned node V) (piece_in c.args.source.now c.args.part) c.args.octets.now c.args.state.now
+    let e = ap (piece_in ranges c.args.source.now) c.in-Octets.is ∙ ap Octets (sym c.clip-inside.ensures.same) in
+    rejected aligned (contents most_fragments aligned node V) (piece_in ranges c.args.source.now c.args.part) c.args.octets.now c.args.state.now
     c.reject.new.state c.reject.result node NoEncoding c.reject.ensures.result c.reject.ensures.at c.reject.ensures.next
     c.reject.ensures.node c.reject.ensures.reason
-    (leaf_none (permitted V N Contents node A) Octets node (piece_in c.args.source.now c.args.part) list e
+    (leaf_none (permitted V N Contents node A) Octets node (piece_in ranges c.args.source.now c.args.part) list e
     (λ at p. c.is_valid.ensures.no c.if-not-is_valid.true (permitted_is V N Contents node A at list p.list p.encoded)))
 
 pub returns-else-not-is_valid : goal.returns-else-not-is_valid
-returns-else-not-is_valid c =
+returns-else-not-is_valid c ranges =
     let aligned = c.args.is_aligned in
     let node = c.args.node in
     let V = IsValid c.args.kind in
@@ -47,12 +47,12 @@ returns-else-not-is_valid c =
     let now = c.put_octets-state.new.octets in
     let old = c.args.state.now.at in
     let new = c.put_octets-state.result in
-    let is = ap (piece_in c.args.source.now) c.in-Octets.is ∙ ap Octets (sym c.clip-inside.ensures.same) in
+    let is = ap (piece_in ranges c.args.source.now) c.in-Octets.is ∙ ap Octets (sym c.clip-inside.ensures.same) in
     let e : 8 * (span.count / 8) ≡ span.count = omega (arith, c.is_valid.ensures.whole c.if-not-is_valid.false) in
     let w : IsWritten aligned A list was old now new =
     subst (λ (k : ℕ). IsWritten aligned A (bits_at source span.at k) was old now new) e (c.put_octets-state.ensures node) in
     record {
-      written = leaf_written (permitted V N Contents node A) Octets node aligned list (piece_in c.args.source.now c.args.part) was now old new is
+      written = leaf_written (permitted V N Contents node A) Octets node aligned list (piece_in ranges c.args.source.now c.args.part) was now old new is
           (permitted_written aligned V N Contents node A list was now old new (c.is_valid.ensures.yes c.if-not-is_valid.false) w);
       next = refl;
     }

@@ -1,4 +1,4 @@
-use Rattle.std.proofs.Common.{◌≡◌, sym, ap, ◌∙◌, subst, inl, inr, arith}
+use Rattle.std.proofs.Common.{◌≡◌, [], sym, ap, ◌∙◌, subst, inl, inr, arith}
 use Rattle.std.proofs.lemmas.Bool.{cases_lt}
 use Rattle.asn1_bits.specs.Bits.{bits}
 use Rattle.asn1_bits.specs.DigitLaws.{length-bits}
@@ -15,8 +15,8 @@ pub put_far_span-requires-clause-some : goal.put_far_span-requires-clause-some
 put_far_span-requires-clause-some c =
     let source = bits c.args.source.now in
     let digits = c.strip_signs-digits.result in
-    let far = c.requires.far in
-    let e : Integer (far.0) ≡ Integer (signed_number (bits_of source c.in-Signed.span)) = sym far.1 ∙ ap (piece_in c.args.source.now) c.in-Signed.is in
+    let far = c.requires.far [] in
+    let e : Integer (far.0) ≡ Integer (signed_number (bits_of source c.in-Signed.span)) = sym far.1 ∙ ap (piece_in [] c.args.source.now) c.in-Signed.is in
     let f : far.0 ≡ signed_number (bits_of source c.in-Signed.span) = cc in
     let g : far.0 ≡ signed_number (bits_of source c.strip_signs-digits.result) =
     f ∙ ap signed_number (sym c.clip.ensures.same) ∙ sym c.strip_signs-digits.ensures.same in
@@ -29,9 +29,12 @@ put_far_span-requires-clause-some c =
           )
     ]
 
+pub put_far_span-requires-clause-first : goal.put_far_span-requires-clause-first
+put_far_span-requires-clause-first c = c.strip_signs-digits.ensures.first (put_far_span-requires-clause-some c)
+
 pub returns-in-Signed : goal.returns-in-Signed
-returns-in-Signed c =
-    let e = ap (piece_in c.args.source.now) c.in-Signed.is
+returns-in-Signed c ranges =
+    let e = ap (piece_in ranges c.args.source.now) c.in-Signed.is
     ∙ ap Integer (ap signed_number (sym c.clip.ensures.same) ∙ sym c.strip_signs-digits.ensures.same) in
     subst
     (λ (p : Piece). IsPut c.args.is_aligned (integer c.args.is_aligned c.args.node) p c.args.octets.now c.args.state.now

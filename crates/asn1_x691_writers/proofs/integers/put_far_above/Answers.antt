@@ -1,4 +1,4 @@
-use Rattle.std.proofs.Common.{◌≡◌, ℕ, ℤ, pos, sym, ap, ◌∙◌, subst, inl, inr, rules, arith, SFits}
+use Rattle.std.proofs.Common.{◌≡◌, ℕ, ℤ, pos, [], sym, ap, ◌∙◌, subst, inl, inr, rules, arith, SFits}
 use Rattle.std.specs.Int.{w128}
 use Rattle.std.specs.Prelude.{◌+ℤ◌}
 use Rattle.std.proofs.lemmas.Bool.{cases_lt}
@@ -16,11 +16,11 @@ pub put_above_span-requires-clause-some : goal.put_above_span-requires-clause-so
 put_above_span-requires-clause-some c =
     let source = bits c.args.source.now in
     let digits = c.strip_zeros-digits.result in
-    let far = c.requires.far in
+    let far = c.requires.far [] in
     let least : ℤ = c.in-Above.least in
     let fits : SFits w128 c.in-Above.least = search rules in
     let n = number (bits_at source c.in-Above.at c.in-Above.count) in
-    let e : Integer (far.0) ≡ Integer (least +ℤ pos n) = sym far.1 ∙ ap (piece_in c.args.source.now) c.in-Above.is in
+    let e : Integer (far.0) ≡ Integer (least +ℤ pos n) = sym far.1 ∙ ap (piece_in [] c.args.source.now) c.in-Above.is in
     let f : far.0 ≡ (least +ℤ pos n) = cc in
     let same = c.strip_zeros-digits.ensures.same ∙ ap number c.clip.ensures.same in
     elim (cases_lt 0 c.strip_zeros-digits.result.count) [
@@ -33,17 +33,20 @@ put_above_span-requires-clause-some c =
           )
     ]
 
+pub put_above_span-requires-clause-first : goal.put_above_span-requires-clause-first
+put_above_span-requires-clause-first c = c.strip_zeros-digits.ensures.first (put_above_span-requires-clause-some c)
+
 pub returns-else-least-bound : goal.returns-else-least-bound
-returns-else-least-bound c =
+returns-else-least-bound c ranges =
     let source = bits c.args.source.now in
     let fits : SFits w128 c.in-Above.least = search rules in
     let same : c.in-Above.least ≡ c.args.bound.least = search rules in
     let is = to_z-of_z w128 c.in-Above.least fits in
     let number_is = c.strip_zeros-digits.ensures.same ∙ ap number c.clip.ensures.same in
-    let e : Integer (c.in-Above.least +ℤ pos (number (bits_of source c.strip_zeros-digits.result))) ≡ piece_in c.args.source.now c.args.part =
-    ap (λ (k : ℕ). Integer (c.in-Above.least +ℤ pos k)) number_is ∙ sym (ap (piece_in c.args.source.now) c.in-Above.is) in
+    let e : Integer (c.in-Above.least +ℤ pos (number (bits_of source c.strip_zeros-digits.result))) ≡ piece_in ranges c.args.source.now c.args.part =
+    ap (λ (k : ℕ). Integer (c.in-Above.least +ℤ pos k)) number_is ∙ sym (ap (piece_in ranges c.args.source.now) c.in-Above.is) in
     subst
-    (λ (z : ℤ). IsPut c.args.is_aligned (integer_at_least c.args.is_aligned c.args.node z) (piece_in c.args.source.now c.args.part)
+    (λ (z : ℤ). IsPut c.args.is_aligned (integer_at_least c.args.is_aligned c.args.node z) (piece_in ranges c.args.source.now c.args.part)
     c.args.octets.now c.args.state.now c.put_above_span.new.octets c.put_above_span.new.state c.put_above_span.result) same
     (subst
     (λ (p : Piece). IsPut c.args.is_aligned (integer_at_least c.args.is_aligned c.args.node c.in-Above.least) p c.args.octets.now

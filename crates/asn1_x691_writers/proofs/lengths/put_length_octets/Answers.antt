@@ -7,10 +7,10 @@ use Rattle.asn1_x691_writers.proofs.lengths.put_length_octets.Goals as goal
 
 pub returns-clause-length : goal.returns-clause-length
 returns-clause-length c aligned node =
-    two_octets aligned node c.args.n (λ first. invalid Fragment node) c.args.octets.now c.put_number-2.new.octets c.args.at
+    two_octets node c.args.n (λ first. invalid Fragment node) aligned c.args.octets.now c.put_number-2.new.octets c.args.at
     c.put_number-2.result c.if-n-lt128.false c.requires.few c.put_number-2.ensures
 
 pub returns-clause-units : goal.returns-clause-units
 returns-clause-units c aligned node =
-    two_octets aligned node c.args.n (λ first. fragment node (first - 192)) c.args.octets.now c.put_number-2.new.octets c.args.at
+    two_octets node c.args.n (λ first. fragment node (first - 192)) aligned c.args.octets.now c.put_number-2.new.octets c.args.at
     c.put_number-2.result c.if-n-lt128.false c.requires.few c.put_number-2.ensures

@@ -9,7 +9,7 @@ use Rattle.asn1_x691_writers.proofs.strings.put_last_units.Goals as goal
 
 pub returns-then-times-eq0 : goal.returns-then-times-eq0
 returns-then-times-eq0 c node more =
-    few_units c.args.is_aligned c.args.unit node c.args.count (bits_at (bits c.args.source.now) c.args.from (c.args.unit * c.args.count))
+    few_units (bits_of_units c.args.unit node) (λ a b. a ++ b) c.args.is_aligned node c.args.count (bits_at (bits c.args.source.now) c.args.from (c.args.unit * c.args.count))
     c.args.octets.now c.put_few.new.octets c.args.at c.put_few.result (c.put_few.ensures node) more (omega (arith, c.if-times-eq0.true))
 
 pub put_few-requires-2-clause-within : goal.put_few-requires-2-clause-within
@@ -34,6 +34,6 @@ returns c node more =
     let e : n + m ≡ count = omega arith in
     subst (λ (v : ℕ × List Bool). IsWritten aligned (all_units (bits_of_units unit node) (λ a b. a ++ b) aligned node (suc more)) v was c.args.at now new)
     (units_apart list from unit n m count e)
-    (part_units aligned unit node n (bits_at list from (unit * n)) was mid now c.args.at at new (c.put_fragment-after.ensures node) m
+    (part_units (bits_of_units unit node) (λ a b. a ++ b) aligned node n (bits_at list from (unit * n)) was mid now c.args.at at new (c.put_fragment-after.ensures node) m
     (bits_at list (from + unit * n) (unit * m)) more (omega (arith, c.if-times-eq0.false)) (omega (arith, c.requires.few))
-    (few_last aligned unit node m (bits_at list (from + unit * n) (unit * m)) mid now at new (c.put_few-2.ensures node) (omega arith)))
+    (few_last (bits_of_units unit node) (λ a b. a ++ b) aligned node m (bits_at list (from + unit * n) (unit * m)) mid now at new (c.put_few-2.ensures node) (omega arith)))

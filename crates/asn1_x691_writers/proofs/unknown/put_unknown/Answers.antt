@@ -16,21 +16,21 @@ use Rattle.asn1_x691_writers.specs.SizeSteps.{whole_octets}
 use Rattle.asn1_x691_writers.proofs.unknown.put_unknown.Goals as goal
 
 pub returns-then-inside-gt0 : goal.returns-then-inside-gt0
-returns-then-inside-gt0 c =
+returns-then-inside-gt0 c ranges =
     let aligned = c.args.is_aligned in
     let node = c.args.node in
     let span = c.clip-inside.result in
     let list = bits_of (bits c.args.source.now) span in
-    let e = ap (piece_in c.args.source.now) c.in-Unknown.is ∙ ap Unknown (sym c.clip-inside.ensures.same) in
+    let e = ap (piece_in ranges c.args.source.now) c.in-Unknown.is ∙ ap Unknown (sym c.clip-inside.ensures.same) in
     let n = front_length (bits c.args.source.now) span.at span.count (omega (arith, c.clip-inside.ensures.inside, length-bits c.args.source.now)) in
-    rejected aligned (leaf (octets most_fragments aligned node) Unknown node) (piece_in c.args.source.now c.args.part) c.args.octets.now c.args.state.now
+    rejected aligned (leaf (octets most_fragments aligned node) Unknown node) (piece_in ranges c.args.source.now c.args.part) c.args.octets.now c.args.state.now
     c.reject.new.state c.reject.result node NoEncoding c.reject.ensures.result c.reject.ensures.at c.reject.ensures.next
     c.reject.ensures.node c.reject.ensures.reason
-    (leaf_none (octets most_fragments aligned node) Unknown node (piece_in c.args.source.now c.args.part) list e
+    (leaf_none (octets most_fragments aligned node) Unknown node (piece_in ranges c.args.source.now c.args.part) list e
     (λ at p. let w = whole_octets aligned node at list p.list p.encoded in omega (arith, w.1, n, c.if-inside-gt0.true)))
 
 pub returns-else-inside-gt0 : goal.returns-else-inside-gt0
-returns-else-inside-gt0 c =
+returns-else-inside-gt0 c ranges =
     let aligned = c.args.is_aligned in
     let node = c.args.node in
     let span = c.clip-inside.result in
@@ -39,10 +39,10 @@ returns-else-inside-gt0 c =
     let was = c.args.octets.now in
     let now = c.put_octets-state.new.octets in
     let new = c.put_octets-state.result in
-    let is = ap (piece_in c.args.source.now) c.in-Unknown.is ∙ ap Unknown (sym c.clip-inside.ensures.same) in
+    let is = ap (piece_in ranges c.args.source.now) c.in-Unknown.is ∙ ap Unknown (sym c.clip-inside.ensures.same) in
     let e : 8 * (span.count / 8) ≡ span.count = omega (arith, c.if-inside-gt0.false) in
     record {
-      written = leaf_written (octets most_fragments aligned node) Unknown node aligned list (piece_in c.args.source.now c.args.part) was now c.args.state.now.at
+      written = leaf_written (octets most_fragments aligned node) Unknown node aligned list (piece_in ranges c.args.source.now c.args.part) was now c.args.state.now.at
           new is
           (subst (λ (k : ℕ). IsWritten aligned (octets most_fragments aligned node) (bits_at source span.at k) was c.args.state.now.at now new) e
           (c.put_octets-state.ensures node));

@@ -1,0 +1,45 @@
+use Rattle.std.proofs.Common.{◌*◌, arith}
+use Rattle.asn1_bits.specs.Bits.{bits}
+use Rattle.asn1_schema.specs.Encodings.{anywhere}
+use Rattle.asn1_schema.specs.Fields.{raw_bits}
+use Rattle.asn1_schema.specs.PiecesOfParts.{bits_at}
+use Rattle.asn1_x691.specs.declared.fault.FaultKind.TheVariants.{Short}
+use Rattle.asn1_x691.specs.Fields.{on_octet}
+use Rattle.asn1_x691.specs.Strings.{IsInline, IsOnOctet}
+use Rattle.asn1_x691_fields.specs.Steps.{front_length}
+use Rattle.asn1_x691_writers.specs.Joined.{bits_in}
+use Rattle.asn1_x691_writers.specs.FieldSteps.{first_written, second_written, octet_written}
+use Rattle.asn1_x691_writers.specs.StringSteps.{raw_written}
+use Rattle.asn1_x691_writers.proofs.joined_strings.put_joined_inline.Goals as goal
+
+pub returns-then-are_inline : goal.returns-then-are_inline
+returns-then-are_inline c node =
+    let aligned = c.args.is_aligned in
+    let n = c.args.count in
+    let source = bits_in (bits c.args.source.now) c.args.joined.now in
+    let list = bits_at source 0 (8 * n) in
+    let was = c.args.octets.now in
+    let now = c.put_joined.new.octets in
+    let new = c.put_joined.result in
+    let size = front_length source 0 (8 * n) (omega (arith, c.requires.all)) in
+    first_written aligned (IsInline 8 c.args.least c.args.range n) (IsOnOctet 8 c.args.least c.args.range n)
+    (anywhere (raw_bits (8 * n) Short node)) (on_octet aligned node (raw_bits (8 * n) Short node)) list was now c.args.at new
+    (c.are_inline.ensures.is c.args.least c.requires.least c.requires.most c.if-are_inline.true)
+    (raw_written aligned (8 * n) node list was now c.args.at new size c.put_joined.ensures)
+
+pub returns : goal.returns
+returns c node =
+    let aligned = c.args.is_aligned in
+    let n = c.args.count in
+    let source = bits_in (bits c.args.source.now) c.args.joined.now in
+    let list = bits_at source 0 (8 * n) in
+    let was = c.args.octets.now in
+    let mid = c.put_start-start.new.octets in
+    let now = c.put_joined-2.new.octets in
+    let new = c.put_joined-2.result in
+    let size = front_length source 0 (8 * n) (omega (arith, c.requires.all)) in
+    second_written aligned (IsInline 8 c.args.least c.args.range n) (IsOnOctet 8 c.args.least c.args.range n)
+    (anywhere (raw_bits (8 * n) Short node)) (on_octet aligned node (raw_bits (8 * n) Short node)) list was now c.args.at new
+    (c.are_inline.ensures.not c.args.least c.requires.least c.requires.most c.if-are_inline.false)
+    (octet_written node (raw_bits (8 * n) Short node) list was mid now c.args.at c.put_start-start.result new aligned
+    c.put_start-start.ensures (raw_written aligned (8 * n) node list mid now c.put_start-start.result new size c.put_joined-2.ensures))
