@@ -1,5 +1,5 @@
 -- What follows of a value that was encoded at the beginning of a message, and of the zeros after it.
-use Rattle.std.proofs.Common.{◌≡◌, ℕ, zero, suc, ◌+◌, ◌*◌, ◌/◌, ◌%◌, List, [], ◌++◌, Bool, length, refl, sym, ap, ◌∙◌, subst, inl, inr, arith, Option}
+use Rattle.std.proofs.Common.{◌≡◌, ℕ, ◌+◌, ◌*◌, ◌/◌, ◌%◌, List, [], ◌++◌, Bool, length, refl, sym, ap, ◌∙◌, subst, inl, inr, arith, Option}
 use Rattle.std.specs.Prelude.{◌⊎◌}
 use Rattle.std.proofs.lemmas.List.{length-append}
 use Rattle.asn1_bits.specs.Bits.{digits}
@@ -10,15 +10,12 @@ use Rattle.asn1_x691_writers.specs.Written.{IsIndex, Holds, IsGrown}
 use Rattle.asn1_x691_encode.specs.declared.context.Context.{Context}
 use Rattle.asn1_x691_encode.specs.Encoding.{tape, types, IsEncoded, IsFirstMisfit, IsLeft}
 use Rattle.asn1_x691_encode.specs.Messages.{IsMessage, IsRejected}
+use Rattle.asn1_x691_encode.specs.CompleteSteps.{padded_whole}
 
 -- an index after whole octets
 whole_octets : (end total : ℕ) → IsIndex end total → total % 8 ≡ 0 → IsIndex (8 * (end / 8)) total
 whole_octets end total (inl e) z = inl (omega (arith, e, z))
 whole_octets end total (inr p) z = inr (omega (arith, p.0, p.2, z), omega (arith, p.1), omega (arith, z))
-
-padded : (n : ℕ) → (n + padding_of n) % 8 ≡ 0
-padded zero = refl
-padded (suc n) = omega arith
 
 module _ (c : Context) (defaults : ℕ → ℕ → Option (List Bool)) (depth node : ℕ) (was mid now : List ℕ) (old new : Writer) (end zeros : ℕ)
     (begins : old.at ≡ 0) (first : old.next ≡ 0) (a : IsEncoded c (types c defaults depth node) was old mid new)
@@ -44,7 +41,7 @@ module _ (c : Context) (defaults : ℕ → ℕ → Option (List Bool)) (depth no
   total : length (value ++ digits 0 zeros) % 8 ≡ 0
   total =
       ap (λ (n : ℕ). n % 8) (length-append value (digits 0 zeros) ∙ ap (λ (n : ℕ). length value + n) (size ∙ padding_is))
-      ∙ padded (length value)
+      ∙ padded_whole (length value)
 
   pub message_is : IsMessage c defaults depth node now (record { octets = end / 8; parts = new.next })
   message_is = record {

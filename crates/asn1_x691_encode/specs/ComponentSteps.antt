@@ -3,7 +3,7 @@ use Rattle.std.proofs.Common.{◌≡◌, ℕ, ◌+◌, ◌%◌, List, [], ◌∷
 use Rattle.std.proofs.lemmas.List.{length-append, append-nil}
 use Rattle.asn1_bits.specs.Bits.{digits}
 use Rattle.asn1_schema.specs.Pieces.{Absent, Parts}
-use Rattle.asn1_schema.specs.TypeEncodings.{TypeEncoding, AfterHeader, IsAbsent, Misfit, mandatory, optional}
+use Rattle.asn1_schema.specs.TypeEncodings.{TypeEncoding, AfterHeader, IsAbsent, Misfit, mandatory, optional, end_of_components}
 use Rattle.asn1_x691.specs.declared.fault.FaultKind.{FaultKind}
 use Rattle.asn1_x691.specs.declared.fault.FaultKind.TheVariants.{NoNode}
 use Rattle.asn1_x691_writers.specs.declared.state.Writer.{Writer}
@@ -137,6 +137,16 @@ module _ (c : Context) where
           inl (tape c new.next, taken, subst (λ (j : ℕ). (F j).misfit (tape c new.next) e) k p);
     }
 
+  -- after all components
+  pub all_passed : (W : ℕ → AfterHeader FaultKind (List Bool)) (node : ℕ) (bits list : List Bool) (old new : Writer)
+      (p : ArePassed c W (end_of_components NoNode node) bits list old new) → (n : ℕ) → IsAlike c.is_aligned n old.at
+      → Encodes (W n) bits p.parts list
+  all_passed W node bits list old new p n h =
+      subst (λ (l : List Bool). Encodes (W n) l p.parts list) (append-nil bits)
+      (subst (λ (l : Parts). Encodes (W n) (bits ++ []) l list) (append-nil p.parts)
+      (subst (λ (l : List Bool). Encodes (W n) (bits ++ []) (p.parts ++ []) l) (append-nil list)
+      (p.encodes n h [] [] [] (refl, refl))))
+
   -- the bit of a component was set before its value was encoded
   pub included : (A : ℕ → TypeEncoding FaultKind) (head : ℕ) (was mid : List ℕ) (old : Writer) (now : List ℕ) (new : Writer) (r : Bool)
       → (IsAbsent (tape c old.next) → ⊥) → IsSet was head mid → Outcome c A mid old now new r → OptionalOutcome c A head was old now new r
@@ -158,6 +168,10 @@ module _ (c : Context) where
       grown = subst (λ (l : List Bool). IsGrown first start now mid.at l) (sym (append-nil (digits 0 width))) g;
       index = λ n h. subst (λ (k : ℕ). IsIndex start k) (omega arith) h;
     }
+
+    pub first_bits : (now : List ℕ) (g : IsGrown first start now mid.at (digits 0 width)) → (components_first now g).bits ≡ []
+    unfolding components_first
+    first_bits now g = refl
 
     module _ (F : ℕ → AfterHeader FaultKind (List Bool)) (k : ℕ) (now next : List ℕ) (old new : Writer) (head last : ℕ) where
       on : (R : ℕ → AfterHeader FaultKind (List Bool)) (left : ℕ) (ys list : List Bool) → left ≡ length ys + k → (u : Underway R left now old head)
@@ -219,6 +233,19 @@ module _ (c : Context) where
           on (optional NoNode node A F) (1 + k) (true ∷ []) item refl u (present_passed A F node a.mid next old new a.present a.encoded)
           (grown_on a.mid (u.bits ++ (true ∷ [])) (digits 0 k) u.list item
           (subst (λ (l : List Bool). IsGrown first start a.mid old.at l) e h) a.encoded.written.grown) move
+
+      -- the bits that the last component adds
+      pub absent_bits : (node : ℕ) (A : ℕ → TypeEncoding FaultKind) (u : Underway (optional NoNode node A F) (1 + k) now old head)
+          (a : IsPassedOver c now old next new) (move : (n : ℕ) → IsIndex head n → IsIndex last (n + 1))
+          → (absent_on node A u a move).bits ≡ u.bits ++ (false ∷ [])
+      unfolding absent_on on
+      absent_bits node A u a move = refl
+
+      pub present_bits : (node : ℕ) (A : ℕ → TypeEncoding FaultKind) (u : Underway (optional NoNode node A F) (1 + k) now old head)
+          (a : IsIncluded c A head now old next new) (move : (n : ℕ) → IsIndex head n → IsIndex last (n + 1))
+          → (present_on node A u a move).bits ≡ u.bits ++ (true ∷ [])
+      unfolding present_on on
+      present_bits node A u a move = refl
 
     -- a misfit of the rest is one of the whole
     pub misfit_on : (R : ℕ → AfterHeader FaultKind (List Bool)) (left : ℕ) (now : List ℕ) (old new : Writer) (head : ℕ)

@@ -1,6 +1,6 @@
 -- What an encoder did: it wrote an encoding of the next parts, or it names the first misfit.
 use Rattle.asn1_x691.specs.Limits.{no_limits}
-use Rattle.std.specs.Prelude.{◌≡◌, ℕ, ◌+◌, ◌-◌, ◌⊎◌, ◌<◌, nat_lt, ⊤, Bool, true, false, List, ◌++◌, length, drop, map, Option, Some, slice_get}
+use Rattle.std.specs.Prelude.{◌≡◌, ℕ, ◌+◌, ◌^◌, ◌⊎◌, ◌<◌, ◌≤◌, nat_lt, ⊤, Bool, true, false, List, ◌++◌, length, drop, map, Option, Some, slice_get}
 use Rattle.asn1_schema.specs.declared.misfit.MisfitKind.{MisfitKind}
 use Rattle.asn1_schema.specs.declared.part.Part.{Part}
 use Rattle.asn1_schema.specs.declared.tables.Length.{Length}
@@ -9,10 +9,16 @@ use Rattle.asn1_schema.specs.declared.tables.Presence.TheVariants as presence
 use Rattle.asn1_schema.specs.declared.tables.Node.{Node}
 use Rattle.asn1_schema.specs.declared.tables.Node.TheVariants as type
 use Rattle.asn1_schema.specs.declared.tables.Rows.{Rows}
-use Rattle.asn1_schema.specs.Pieces.{Parts, Count}
-use Rattle.asn1_schema.specs.TypeEncodings.{TypeEncoding, AfterHeader, part, several}
+use Rattle.asn1_schema.specs.Pieces.{Piece, Parts, Count, UnknownChosen}
+use Rattle.asn1_schema.specs.TypeEncodings.{TypeEncoding, AfterHeader, both, header, part, several}
+use Rattle.asn1_x691.specs.Fragments.{most_fragments}
+use Rattle.asn1_x691.specs.OpenTypes.{complete, open_type}
+use Rattle.asn1_schema.specs.Fields.{raw_bits}
 use Rattle.asn1_x691.specs.declared.fault.FaultKind.{FaultKind}
-use Rattle.asn1_x691.specs.Types.{type_at, added_length, sequence_of, sequence_of_by, alternative_if, choice, choice_by, IsAddedAlternative, sequence, root_of, components}
+use Rattle.asn1_x691.specs.declared.fault.FaultKind.TheVariants.{Short}
+use Rattle.asn1_x691.specs.Types.{type_at, added_length, sequence_of, sequence_of_by, alternative_if, choice, choice_by, choice_extension, sequence, sequence_by, root_of, components, known_addition, addition, additions_by_bits, some_additions, extension}
+use Rattle.asn1_x691_writers.specs.declared.contents.ContentsKind.{ContentsKind}
+use Rattle.asn1_x691_writers.specs.declared.contents.ContentsKind.TheVariants as kind
 use Rattle.asn1_x691_writers.specs.declared.state.Writer.{Writer}
 use Rattle.asn1_x691_writers.specs.declared.state.Rejection.TheVariants.{Misfit, Unsupported}
 use Rattle.asn1_x691_writers.specs.Put.{piece_in, IsFarInteger, IsFarIndex, IsInFragments}
@@ -21,7 +27,7 @@ use Rattle.asn1_x691_encode.specs.declared.context.Context.{Context}
 
 -- the parts from an index on
 abbrev pub tape : Context → ℕ → Parts
-tape c next = map (piece_in c.source.now) (drop next c.parts.now)
+tape c next = map (piece_in c.tables.ranges.now c.source.now) (drop next c.parts.now)
 
 -- the types of a context, whose values are nested less deep than the depth; `defaults` are the encodings of default values
 abbrev pub types : Context → (ℕ → ℕ → Option (List Bool)) → ℕ → ℕ → ℕ → TypeEncoding FaultKind
@@ -50,6 +56,10 @@ abbrev pub extensible_choice_in : Context → (ℕ → ℕ → Option (List Bool
 extensible_choice_in c defaults depth node rows known =
     choice_by no_limits c.is_aligned (types c defaults depth) c.tables.members.now c.tables.ranges.now defaults node true rows known
 
+abbrev pub choice_extension_in : Context → (ℕ → ℕ → Option (List Bool)) → ℕ → ℕ → Rows → Rows → ℕ → TypeEncoding FaultKind
+choice_extension_in c defaults depth node rows known =
+    choice_extension no_limits c.is_aligned (types c defaults depth) c.tables.members.now c.tables.ranges.now defaults node rows known
+
 abbrev pub alternative_in : Context → (ℕ → ℕ → Option (List Bool)) → ℕ → ℕ → Rows → ℕ → ℕ → TypeEncoding FaultKind
 alternative_in c defaults depth node rows i =
     alternative_if no_limits c.is_aligned (types c defaults depth) c.tables.members.now c.tables.ranges.now defaults node
@@ -69,9 +79,46 @@ abbrev pub components_in : Context → (ℕ → ℕ → Option (List Bool)) → 
 components_in c defaults depth node count from =
     components no_limits c.is_aligned (types c defaults depth) c.tables.members.now c.tables.ranges.now defaults node count from
 
--- the type at a node is a SEQUENCE of this root without an extension marker
+-- a SEQUENCE that has an extension marker, its root with additions, what follows the root, and so many additions, which are members from
+-- an index on
+abbrev pub extensible_sequence_in : Context → (ℕ → ℕ → Option (List Bool)) → ℕ → ℕ → Rows → Rows → ℕ → TypeEncoding FaultKind
+extensible_sequence_in c defaults depth node root known =
+    sequence_by no_limits c.is_aligned (types c defaults depth) c.tables.members.now c.tables.ranges.now defaults node true root known
+
+abbrev pub extension_in : Context → (ℕ → ℕ → Option (List Bool)) → ℕ → ℕ → Rows → ℕ → TypeEncoding FaultKind
+extension_in c defaults depth node known =
+    extension no_limits c.is_aligned (types c defaults depth) c.tables.members.now c.tables.ranges.now defaults node known
+
+abbrev pub extended_in : Context → (ℕ → ℕ → Option (List Bool)) → ℕ → ℕ → Rows → Rows → ℕ → TypeEncoding FaultKind
+extended_in c defaults depth node root known = both (root_in c defaults depth node root) (extension_in c defaults depth node known)
+
+-- so many additions after the bits that tell which of them are present
+abbrev pub present_additions_in : Context → (ℕ → ℕ → Option (List Bool)) → ℕ → ℕ → Rows → ℕ → ℕ → TypeEncoding FaultKind
+present_additions_in c defaults depth node known count =
+    header (raw_bits count Short node) count
+    (some_additions no_limits c.is_aligned (types c defaults depth) c.tables.members.now c.tables.ranges.now defaults node count known) node
+
+abbrev pub additions_in : Context → (ℕ → ℕ → Option (List Bool)) → ℕ → ℕ → ℕ → ℕ → ℕ → ℕ → AfterHeader FaultKind (List Bool)
+additions_in c defaults depth node count known from =
+    additions_by_bits no_limits c.is_aligned (types c defaults depth) c.tables.members.now c.tables.ranges.now defaults node count known from
+
+-- an addition, which is known where so many are; and a known one
+abbrev pub addition_in : Context → (ℕ → ℕ → Option (List Bool)) → ℕ → ℕ → ℕ → ℕ → ℕ → TypeEncoding FaultKind
+addition_in c defaults depth node known from =
+    addition no_limits c.is_aligned (types c defaults depth) c.tables.members.now c.tables.ranges.now defaults node known from
+
+abbrev pub known_in : Context → (ℕ → ℕ → Option (List Bool)) → ℕ → ℕ → Option Member → ℕ → TypeEncoding FaultKind
+known_in c defaults depth node m =
+    known_addition no_limits c.is_aligned (types c defaults depth) c.tables.members.now c.tables.ranges.now defaults node m
+
+-- an open type of a value that is nested less deep than the depth
+abbrev pub open_in : Context → (ℕ → ℕ → Option (List Bool)) → ℕ → ℕ → ℕ → ℕ → TypeEncoding FaultKind
+open_in c defaults depth node inner = open_type most_fragments c.is_aligned node (types c defaults depth inner)
+
+-- the type at a node is a SEQUENCE of this root
 abbrev pub IsSequence : Context → ℕ → Rows → Type 0
-IsSequence c node root = (known : Rows) × (slice_get c.tables.nodes.now node ≡ Some (type.Sequence root false known))
+IsSequence c node root =
+    (is_extensible : Bool) × (known : Rows) × (slice_get c.tables.nodes.now node ≡ Some (type.Sequence root is_extensible known))
 
 -- bits that encode the next parts were written, up to another index
 pub record IsEncoded (c : Context) (A : ℕ → TypeEncoding FaultKind) (was : List ℕ) (old : Writer) (now : List ℕ) (new : Writer)
@@ -89,40 +136,64 @@ pub record IsFirstMisfit (c : Context) (A : ℕ → TypeEncoding FaultKind) (old
 
 -- ---- what is not encoded yet
 
--- the next part tells an alternative of a CHOICE that is none of the root
-pub record IsAddition (c : Context) (last next : ℕ) : Type 0 where
-  pub part : Part
-  pub is : slice_get c.parts.now next ≡ Some part
-  pub added : IsAddedAlternative last (piece_in c.source.now part)
-
--- a component of a root has a DEFAULT
-pub record HasDefault (c : Context) (root : Rows) : Type 0 where
+-- a component of these has a DEFAULT
+pub record HasDefault (c : Context) (rows : Rows) : Type 0 where
   pub index : ℕ
-  pub within : index < root.count
+  pub within : index < rows.count
   pub member : Member
-  pub is : slice_get c.tables.members.now (root.from + index) ≡ Some member
+  pub is : slice_get c.tables.members.now (rows.from + index) ≡ Some member
   pub value : ℕ
   pub default : member.presence ≡ presence.Default value
 
--- strings of characters, and types that have other parts than one, but for SEQUENCE OF, CHOICE without additions, and SEQUENCE without an
--- extension marker and DEFAULT
+-- the next part is octets in fragments
+pub record IsFragmented (c : Context) (next : ℕ) : Type 0 where
+  pub part : Part
+  pub is : slice_get c.parts.now next ≡ Some part
+  pub in_fragments : IsInFragments part
+
+-- SET OF, components with a DEFAULT, and identifiers and UTF-8 in fragments
 abbrev pub IsLater : Context → ℕ → Option Node → Type 0
-IsLater c next (Some (type.Text size is_extensible alphabet whole)) = ⊤
-IsLater c next (Some (type.Sequence root true known)) = ⊤
+IsLater c next (Some type.ObjectIdentifier) = IsFragmented c next
+IsLater c next (Some type.RelativeIdentifier) = IsFragmented c next
+IsLater c next (Some type.Utf8String) = IsFragmented c next
+IsLater c next (Some (type.Sequence root true known)) = HasDefault c root ⊎ HasDefault c known
 IsLater c next (Some (type.Sequence root false known)) = HasDefault c root
 IsLater c next (Some (type.SetOf size is_extensible item)) = ⊤
-IsLater c next (Some (type.Choice alternatives true known)) = IsAddition c (alternatives.count - 1) next
-IsLater c next (Some (type.Open inner)) = ⊤
+IsLater c next (Some (type.Choice alternatives true known)) = HasDefault c known
 IsLater c next o = ⊥
 
--- a number that is too large for the encoder, or octets in fragments
+-- the type of octets of a kind
+abbrev pub node_of : ContentsKind → Node
+node_of kind.ObjectIdentifier = type.ObjectIdentifier
+node_of kind.RelativeIdentifier = type.RelativeIdentifier
+node_of kind.Utf8 = type.Utf8String
+
+-- an unknown alternative of an index from 2^128 on
+abbrev pub IsFarAlternative : Piece → Type 0
+IsFarAlternative p = (n : ℕ) × (p ≡ UnknownChosen n) × (2 ^ 128 ≤ n)
+
+-- a number that is too large for the encoder, or octets in fragments that are kept by their contents
 pub record IsFar (c : Context) (next : ℕ) : Type 0 where
   pub part : Part
   pub is : slice_get c.parts.now next ≡ Some part
-  pub far : (IsFarInteger (piece_in c.source.now part) ⊎ IsFarIndex (piece_in c.source.now part)) ⊎ IsInFragments part
+  pub far : (IsFarInteger (piece_in c.tables.ranges.now c.source.now part) ⊎ IsFarIndex (piece_in c.tables.ranges.now c.source.now part))
+      ⊎ IsFarAlternative (piece_in c.tables.ranges.now c.source.now part)
+
+-- the next parts have a complete encoding of 16,384 octets or more: an open type of it is in fragments
+pub record IsLong (c : Context) (next : ℕ) : Type 0 where
+  pub defaults : ℕ → ℕ → Option (List Bool)
+  pub depth : ℕ
+  pub node : ℕ
+  pub parts : Parts
+  pub list : List Bool
+  pub rest : Parts
+  pub encodes : (complete node (types c defaults depth node)).fills parts list
+  pub are : tape c next ≡ parts ++ rest
+  pub many : 131072 ≤ length list
 
 abbrev pub IsLeft : Context → Writer → Type 0
-IsLeft c new = (new.reason ≡ Unsupported) × (IsLater c new.next (slice_get c.tables.nodes.now new.node) ⊎ IsFar c new.next)
+IsLeft c new = (new.reason ≡ Unsupported)
+    × (IsLater c new.next (slice_get c.tables.nodes.now new.node) ⊎ (IsFar c new.next ⊎ IsLong c new.next))
 
 -- the next parts were encoded, or the state tells why not
 abbrev pub Outcome : Context → (ℕ → TypeEncoding FaultKind) → List ℕ → Writer → List ℕ → Writer → Bool → Type 0

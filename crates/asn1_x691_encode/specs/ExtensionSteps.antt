@@ -45,7 +45,7 @@ module _ (c : Context) (node : ℕ) (Added : Piece → Type 0) (root extension :
     taken = b.taken;
   }
 
-  root_misfit : IsBit false → (Added (piece_in c.source.now part) → ⊥) → (new : Writer) → IsFirstMisfit c root mid new
+  root_misfit : IsBit false → (Added (piece_in c.tables.ranges.now c.source.now part) → ⊥) → (new : Writer) → IsFirstMisfit c root mid new
       → IsFirstMisfit c whole old new
   root_misfit w none new m =
       let e = part_next c old.next part is in
@@ -61,13 +61,13 @@ module _ (c : Context) (node : ℕ) (Added : Piece → Type 0) (root extension :
             )));
       }
 
-  root_on : IsBit false → (Added (piece_in c.source.now part) → ⊥) → (end : List ℕ) (new : Writer) (r : Bool)
+  root_on : IsBit false → (Added (piece_in c.tables.ranges.now c.source.now part) → ⊥) → (end : List ℕ) (new : Writer) (r : Bool)
       → Outcome c root now mid end new r → Outcome c whole was old end new r
   root_on w none end new true b = root_encoded w end new b
   root_on w none end new false (inl m) = inl (root_misfit w none new m)
   root_on w none end new false (inr u) = inr u
 
-  pub root_step : IsBit false → (Added (piece_in c.source.now part) → ⊥) → IsUnderway c whole root was old now mid
+  pub root_step : IsBit false → (Added (piece_in c.tables.ranges.now c.source.now part) → ⊥) → IsUnderway c whole root was old now mid
   root_step w none = record { onward = root_on w none }
 
   -- ---- an addition after a bit 1
@@ -80,7 +80,7 @@ module _ (c : Context) (node : ℕ) (Added : Piece → Type 0) (root extension :
     taken = b.taken;
   }
 
-  added_misfit : IsBit true → Added (piece_in c.source.now part) → (new : Writer) → IsFirstMisfit c extension mid new
+  added_misfit : IsBit true → Added (piece_in c.tables.ranges.now c.source.now part) → (new : Writer) → IsFirstMisfit c extension mid new
       → IsFirstMisfit c whole old new
   added_misfit w added new m =
       let e = part_next c old.next part is in
@@ -97,11 +97,11 @@ module _ (c : Context) (node : ℕ) (Added : Piece → Type 0) (root extension :
             )));
       }
 
-  added_on : IsBit true → Added (piece_in c.source.now part) → (end : List ℕ) (new : Writer) (r : Bool)
+  added_on : IsBit true → Added (piece_in c.tables.ranges.now c.source.now part) → (end : List ℕ) (new : Writer) (r : Bool)
       → Outcome c extension now mid end new r → Outcome c whole was old end new r
   added_on w added end new true b = added_encoded w end new b
   added_on w added end new false (inl m) = inl (added_misfit w added new m)
   added_on w added end new false (inr u) = inr u
 
-  pub added_step : IsBit true → Added (piece_in c.source.now part) → IsUnderway c whole extension was old now mid
+  pub added_step : IsBit true → Added (piece_in c.tables.ranges.now c.source.now part) → IsUnderway c whole extension was old now mid
   added_step w added = record { onward = added_on w added }

@@ -1,6 +1,6 @@
 -- What follows of a part that was written, or rejected.
 use Rattle.asn1_x691.specs.Limits.{no_limits}
-use Rattle.std.proofs.Common.{◌≡◌, ℕ, zero, suc, ◌+◌, ◌<◌, get_or, List, [], ◌∷◌, Bool, true, false, length, drop, map, refl, sym, ap, ◌∙◌, subst, inl, inr, Option, Some, None, arith}
+use Rattle.std.proofs.Common.{◌≡◌, ℕ, zero, suc, ◌+◌, ◌-◌, ◌^◌, ◌<◌, get_or, List, [], ◌∷◌, Bool, true, false, length, drop, map, refl, sym, ap, ◌∙◌, subst, inl, inr, Option, Some, None, arith}
 use Rattle.std.specs.Prelude.{slice_get}
 use Rattle.std.proofs.Math.Seq.{drop-cons}
 use Rattle.std.proofs.lemmas.Bool.{cases_lt}
@@ -36,17 +36,17 @@ get_none (x ∷ list) i e = elim (cases_lt i (length (x ∷ list))) [
 ]
 
 module _ (c : Context) (next : ℕ) where
-  pub part_next : (p : Part) → slice_get c.parts.now next ≡ Some p → tape c next ≡ piece_in c.source.now p ∷ tape c (next + 1)
-  part_next p e = ap (λ (l : List Part). map (piece_in c.source.now) l) (get_some c.parts.now next p e)
+  pub part_next : (p : Part) → slice_get c.parts.now next ≡ Some p → tape c next ≡ piece_in c.tables.ranges.now c.source.now p ∷ tape c (next + 1)
+  part_next p e = ap (λ (l : List Part). map (piece_in c.tables.ranges.now c.source.now) l) (get_some c.parts.now next p e)
 
   pub part_none : slice_get c.parts.now next ≡ None → tape c next ≡ []
-  part_none e = ap (λ (l : List Part). map (piece_in c.source.now) l) (get_none c.parts.now next e)
+  part_none e = ap (λ (l : List Part). map (piece_in c.tables.ranges.now c.source.now) l) (get_none c.parts.now next e)
 
 -- a part that was written or rejected, and passed
 module _ (c : Context) (A : ℕ → TypeEncoding FaultKind) (p : Part) (was now : List ℕ) (old mid new : Writer)
     (is : slice_get c.parts.now old.next ≡ Some p) (at : new.at ≡ mid.at) (node : new.node ≡ mid.node) (reason : new.reason ≡ mid.reason) where
   abbrev piece : Piece
-  piece = piece_in c.source.now p
+  piece = piece_in c.tables.ranges.now c.source.now p
 
   after_written : IsPut c.is_aligned A piece was old now mid true → new.next ≡ mid.next + 1 → Outcome c A was old now new true
   after_written a on = record {
@@ -78,17 +78,26 @@ module _ (c : Context) (A : ℕ → TypeEncoding FaultKind) (p : Part) (was now 
       let on : new.next ≡ old.next = kept ∙ same.next in
       inr (
         reason ∙ m.reason,
-        inr (record {
+        inr (inl (record {
           part = p;
           is = ap (λ (i : ℕ). slice_get c.parts.now i) on ∙ is;
           far = inl m.far;
-        }),
+        })),
       )
 
   pub after_put : (b r : Bool) → r ≡ b → IsPut c.is_aligned A piece was old now mid b → (b ≡ true → new.next ≡ mid.next + 1)
       → (b ≡ false → new.next ≡ mid.next) → Outcome c A was old now new r
   after_put true r e a on kept = subst (λ (d : Bool). Outcome c A was old now new d) (sym e) (after_written a (on refl))
   after_put false r e a on kept = subst (λ (d : Bool). Outcome c A was old now new d) (sym e) (after_rejected a (kept refl))
+
+-- the index after a part that was written
+pub next_fits : (c : Context) (A : ℕ → TypeEncoding FaultKind) (p : Part) (was now : List ℕ) (old mid : Writer) (r : Bool)
+    → slice_get c.parts.now old.next ≡ Some p → length c.parts.now < 2 ^ 64 - 1
+    → IsPut c.is_aligned A (piece_in c.tables.ranges.now c.source.now p) was old now mid r → r ≡ true → mid.next + 1 < 2 ^ 64
+next_fits c A p was now old mid r is few a e =
+    let b = subst (λ (x : Bool). IsPut c.is_aligned A (piece_in c.tables.ranges.now c.source.now p) was old now mid x) e a in
+    let within = slice_get_within c.parts.now old.next p is in
+    omega (arith, b.next, within, few)
 
 -- no part is left
 pub after_none : (c : Context) (A : ℕ → TypeEncoding FaultKind) (was now : List ℕ) (old new : Writer) (r : Bool) (node : ℕ)

@@ -9,7 +9,7 @@ use Rattle.asn1_x691_writers.specs.Written.{IsIndex}
 use Rattle.asn1_x691_encode.specs.declared.context.Context.{Context}
 use Rattle.asn1_x691_encode.specs.declared.message.Encoded.{Encoded}
 use Rattle.asn1_x691_encode.specs.declared.message.Misfit.{Misfit}
-use Rattle.asn1_x691_encode.specs.Encoding.{tape, types, IsLater, IsFar}
+use Rattle.asn1_x691_encode.specs.Encoding.{tape, types, IsLater, IsFar, IsLong}
 
 module _ (c : Context) (defaults : ℕ → ℕ → Option (List Bool)) (depth node : ℕ) where
   -- so many first parts have a complete encoding of so many octets, which the first octets are, unless there are too few
@@ -29,7 +29,8 @@ module _ (c : Context) (defaults : ℕ → ℕ → Option (List Bool)) (depth no
 
   -- the parts have a value that is not encoded yet
   abbrev pub IsNotYet : Misfit → Type 0
-  IsNotYet m = (m.reason ≡ Unsupported) × (IsLater c m.part (slice_get c.tables.nodes.now m.node) ⊎ IsFar c m.part)
+  IsNotYet m = (m.reason ≡ Unsupported)
+      × (IsLater c m.part (slice_get c.tables.nodes.now m.node) ⊎ (IsFar c m.part ⊎ IsLong c m.part))
 
   abbrev pub IsRejected : Misfit → Type 0
   IsRejected m = IsFirst m ⊎ IsNotYet m

@@ -1,15 +1,14 @@
 -- What follows of the components of a SEQUENCE.
-use Rattle.std.proofs.Common.{Option, Some, None, ◌≡◌, ℕ, zero, suc, ◌+◌, ◌-◌, ◌<◌, ◌⊎◌, List, [], ◌++◌, Bool, true, false, length, refl, sym, ap, ◌∙◌, subst, inl, inr, arith}
+use Rattle.std.proofs.Common.{Option, Some, None, ◌≡◌, ℕ, zero, suc, ◌+◌, ◌-◌, ◌<◌, ◌⊎◌, List, ◌++◌, Bool, true, false, length, refl, sym, ap, ◌∙◌, subst, inl, inr, arith}
 use Rattle.std.specs.Prelude.{slice_get}
-use Rattle.std.proofs.lemmas.List.{append-nil}
 use Rattle.asn1_bits.specs.Bits.{digits}
 use Rattle.asn1_bits.specs.DigitLaws.{length-digits}
 use Rattle.asn1_schema.specs.declared.misfit.MisfitKind.TheVariants as misfit
 use Rattle.asn1_schema.specs.declared.tables.Member.{Member}
 use Rattle.asn1_schema.specs.declared.tables.Presence.{Presence}
 use Rattle.asn1_schema.specs.declared.tables.Presence.TheVariants as presence
+use Rattle.asn1_schema.specs.declared.tables.Node.TheVariants as type
 use Rattle.asn1_schema.specs.declared.tables.Rows.{Rows}
-use Rattle.asn1_schema.specs.Pieces.{Parts}
 use Rattle.asn1_schema.specs.TypeEncodings.{TypeEncoding, AfterHeader, Misfit}
 use Rattle.asn1_x691.specs.declared.fault.FaultKind.{FaultKind}
 use Rattle.asn1_x691.specs.Limits.{no_limits}
@@ -18,10 +17,16 @@ use Rattle.asn1_x691_writers.specs.declared.state.Writer.{Writer}
 use Rattle.asn1_x691_writers.specs.declared.state.Rejection.TheVariants.{Misfit as RejectedAs, Unsupported}
 use Rattle.asn1_x691_writers.specs.FieldSteps.{alike_after}
 use Rattle.asn1_x691_writers.specs.Written.{IsAlike, IsIndex, IsGrown}
-use Rattle.asn1_x691_encode.specs.Encoding.{tape, types, root_in, components_in, IsEncoded, IsFirstMisfit, IsLeft}
+use Rattle.asn1_x691_encode.specs.Encoding.{tape, types, root_in, components_in, HasDefault, IsLater, IsEncoded, IsFirstMisfit, IsLeft}
 use Rattle.asn1_x691_encode.specs.Components.{ComponentOutcome, AreUnderway, AreMisfit}
 use Rattle.asn1_x691_encode.specs.declared.context.Context.{Context}
-use Rattle.asn1_x691_encode.specs.ComponentSteps.{Encodes, mandatory_on, absent_on, present_on}
+use Rattle.asn1_x691_encode.specs.ComponentSteps.{mandatory_on, absent_on, present_on, all_passed}
+
+-- a component of a root with a DEFAULT is not encoded yet
+pub root_left : (c : Context) (next : ℕ) (root known : Rows) → HasDefault c root → (is_extensible : Bool)
+    → IsLater c next (Some (type.Sequence root is_extensible known))
+root_left c next root known h true = inl h
+root_left c next root known h false = h
 
 module _ (c : Context) where
   module _ (defaults : ℕ → ℕ → Option (List Bool)) (depth node : ℕ) where
@@ -130,13 +135,6 @@ module _ (c : Context) where
       root_encoded at zero end new head none u =
           let parts = u.passed.parts in
           let size : width ≡ length u.bits = omega (arith, u.size) in
-          let W = run root.count root.from in
-          let whole : (n : ℕ) → IsAlike c.is_aligned n mid.at → Encodes c (W n) u.bits parts u.list =
-          λ n h.
-          subst (λ (l : List Bool). Encodes c (W n) l parts u.list) (append-nil u.bits)
-          (subst (λ (l : Parts). Encodes c (W n) (u.bits ++ []) l u.list) (append-nil parts)
-          (subst (λ (l : List Bool). Encodes c (W n) (u.bits ++ []) (parts ++ []) l) (append-nil u.list)
-          (u.passed.encodes n h [] [] [] (refl, refl)))) in
           record {
             parts = parts;
             written = record {
@@ -147,7 +145,7 @@ module _ (c : Context) where
                 front = u.bits;
                 rest = u.list;
                 first = (sym size, refl);
-                second = whole (n + length u.bits)
+                second = all_passed c (run root.count root.from) node u.bits u.list mid new u.passed (n + length u.bits)
                     (subst (λ (k : ℕ). IsAlike c.is_aligned (n + k) mid.at) size (alike_mid n h));
                 is = refl;
                 parts = refl;

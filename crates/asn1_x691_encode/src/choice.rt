@@ -1,6 +1,7 @@
-//! CHOICE (X.691 23). Additions are not encoded yet.
+//! CHOICE (X.691 23).
 
 ghost use Rattle.std.specs.Prelude.{Option, ◌≡◌, ℕ, Bool, List, ◌+◌, ◌-◌, ◌*◌, ◌^◌, ◌<◌, true, false, length, slice_get, Some, MatchOption};
+ghost use Rattle.asn1_schema.specs.declared.tables.Range.{Range};
 ghost use Rattle.asn1_schema.specs.Pieces.{Chosen};
 ghost use Rattle.asn1_schema.specs.declared.part.Part.TheVariants.{Chosen as ChosenPart};
 ghost use Rattle.asn1_schema.specs.declared.tables.Node.TheVariants.{Choice};
@@ -8,10 +9,11 @@ ghost use Rattle.asn1_x691.specs.Types.{IsAddedAlternative};
 ghost use Rattle.asn1_x691_writers.specs.Put.{piece_in};
 ghost use Rattle.asn1_x691_encode.specs.Encoding.{Outcome, choice_in, extensible_choice_in, alternative_in};
 
+use crate::added_choice::encode_added;
 use crate::context::{Context, member_from, part_at};
 use crate::encoder::encode_node;
 use asn1_schema::{MisfitKind, Part, Rows};
-use asn1_x691_writers::{Writer, leave, put_bit, put_constrained, reject};
+use asn1_x691_writers::{Writer, put_bit, put_constrained, reject};
 
 /// Encodes a CHOICE without an extension marker (X.691 23.6).
 #[cycle(encoding)]
@@ -35,8 +37,7 @@ pub(crate) fn encode_choice(
     }
 }
 
-/// Encodes a CHOICE that has an extension marker, where its alternative is of the root (X.691 23.5,
-/// 23.6).
+/// Encodes a CHOICE that has an extension marker (X.691 23.5 to 23.8).
 #[cycle(encoding)]
 pub(crate) fn encode_extensible_choice(
     context: &Context<'_>,
@@ -58,7 +59,8 @@ pub(crate) fn encode_extensible_choice(
         None => reject(state, node, MisfitKind::NoPart),
         Some(part) => {
             if is_addition(rows, part) {
-                return leave(state, node);
+                state.at = put_bit(octets, state.at, true);
+                return encode_added(context, depth, node, rows, known, part, octets, state);
             }
             state.at = put_bit(octets, state.at, false);
             encode_choice_of(context, depth, node, rows, part, octets, state)
@@ -68,8 +70,8 @@ pub(crate) fn encode_extensible_choice(
 
 /// Returns whether an addition follows a part.
 fn is_addition(rows: Rows, part: Part) -> bool
-    ensures added { (source : List ℕ) → result ≡ true → IsAddedAlternative (rows.count - 1) (piece_in source part) }
-    ensures root { (source : List ℕ) → result ≡ false → IsAddedAlternative (rows.count - 1) (piece_in source part) → ⊥ }
+    ensures added { (ranges : List Range) (source : List ℕ) → result ≡ true → IsAddedAlternative (rows.count - 1) (piece_in ranges source part) }
+    ensures root { (ranges : List Range) (source : List ℕ) → result ≡ false → IsAddedAlternative (rows.count - 1) (piece_in ranges source part) → ⊥ }
 {
     match part {
         Part::Chosen(index) => index > (rows.count as usize).saturating_sub(1),
@@ -104,7 +106,7 @@ fn encode_choice_of(
 
 /// Returns the index of the alternative that follows a part.
 fn index_of(part: Part) -> Option<usize>
-    ensures { MatchOption result ((source : List ℕ) (n : ℕ) → piece_in source part ≡ Chosen n → ⊥) (λ n. part ≡ ChosenPart n) }
+    ensures { MatchOption result ((ranges : List Range) (source : List ℕ) (n : ℕ) → piece_in ranges source part ≡ Chosen n → ⊥) (λ n. part ≡ ChosenPart n) }
 {
     match part {
         Part::Chosen(index) => Some(index),

@@ -1,10 +1,10 @@
 //! Encodes octets that are kept by their contents: identifiers and UTF-8.
 
 ghost use Rattle.asn1_x691.specs.Fragments.{most_fragments};
-ghost use Rattle.std.specs.Prelude.{◌-◌, ◌*◌, ◌^◌, ◌<◌, length};
+ghost use Rattle.std.specs.Prelude.{◌≡◌, ◌-◌, ◌*◌, ◌^◌, ◌<◌, Some, length, slice_get};
 ghost use Rattle.asn1_x691.specs.Leaves.{contents};
 ghost use Rattle.asn1_x691_writers.specs.Validity.{IsValid};
-ghost use Rattle.asn1_x691_encode.specs.Encoding.{Outcome};
+ghost use Rattle.asn1_x691_encode.specs.Encoding.{Outcome, node_of};
 
 use crate::context::{Context, part_at, pass};
 use asn1_schema::{MisfitKind, Part};
@@ -21,6 +21,7 @@ pub(crate) fn encode_contents(
     requires size { 8 * length octets.old < 2 ^ 64 }
     requires source { 8 * length context.now.source.now < 2 ^ 64 }
     requires parts { length context.now.parts.now < 2 ^ 64 - 1 }
+    requires kind { slice_get context.now.tables.nodes.now node ≡ Some (node_of kind) }
     ensures { Outcome context.now (contents most_fragments context.now.is_aligned node (IsValid kind)) octets.old state.old octets.new
         state.new result }
 {

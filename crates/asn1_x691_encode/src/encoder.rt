@@ -11,7 +11,9 @@ use crate::leaves::{
     encode_integer, encode_null, encode_octets,
 };
 use crate::list::{encode_extensible_list, encode_list};
-use crate::sequence::encode_sequence;
+use crate::open_type::encode_open_type;
+use crate::sequence::{encode_extensible_sequence, encode_sequence};
+use crate::texts::encode_text;
 use asn1_schema::{MisfitKind, Node};
 use asn1_x691_writers::{ContentsKind, Writer, reject};
 
@@ -106,12 +108,23 @@ pub fn encode_node(
         ) => { encode_octets(context, length, is_extensible, node, octets, state) }
         Some(
             Node::Text {
-                length: _,
-                is_extensible: _,
-                alphabet: _,
-                whole: _,
+                length,
+                is_extensible,
+                alphabet,
+                whole,
             },
-        ) => later(state, node),
+        ) => {
+            encode_text(
+                context,
+                length,
+                is_extensible,
+                alphabet,
+                whole,
+                node,
+                octets,
+                state,
+            )
+        }
         Some(Node::ObjectIdentifier) => {
             encode_contents(context, ContentsKind::ObjectIdentifier, node, octets, state)
         }
@@ -131,11 +144,19 @@ pub fn encode_node(
             Node::Sequence {
                 root,
                 is_extensible,
-                additions: _,
+                additions,
             },
         ) => {
             if is_extensible {
-                return later(state, node);
+                return encode_extensible_sequence(
+                    context,
+                    depth - 1,
+                    node,
+                    root,
+                    additions,
+                    octets,
+                    state,
+                );
             }
             encode_sequence(context, depth - 1, node, root, octets, state)
         }
@@ -186,6 +207,8 @@ pub fn encode_node(
             }
             encode_choice(context, depth - 1, node, alternatives, octets, state)
         }
-        Some(Node::Open { inner: _ }) => later(state, node),
+        Some(Node::Open { inner }) => {
+            encode_open_type(context, depth - 1, node, inner, octets, state)
+        }
     }
 }

@@ -1,9 +1,10 @@
 //! Encodes values of one part.
 
-ghost use Rattle.asn1_x691.specs.Fragments.{most_fragments};
+ghost use Rattle.asn1_x691.specs.Fragments.{most_fragments, octets as octets_in};
 ghost use Rattle.std.specs.Prelude.{◌≡◌, ℕ, Bool, List, ◌+◌, ◌-◌, ◌*◌, ◌^◌, ◌<◌, length};
+ghost use Rattle.asn1_schema.specs.declared.tables.Range.{Range};
 ghost use Rattle.asn1_schema.specs.Encodings.{anywhere};
-ghost use Rattle.asn1_schema.specs.Pieces.{Null, Truth};
+ghost use Rattle.asn1_schema.specs.Pieces.{Null, Truth, Unknown};
 ghost use Rattle.asn1_schema.specs.TypeEncodings.{leaf, nothing, put};
 ghost use Rattle.asn1_x691_writers.specs.Put.{IsPut, piece_in};
 ghost use Rattle.asn1_x691.specs.Strings.{bit};
@@ -13,8 +14,8 @@ ghost use Rattle.asn1_x691_encode.specs.Encoding.{Outcome};
 use crate::context::{Context, part_at, pass};
 use asn1_schema::{Bounds, Length, LowerBound, MisfitKind, Part};
 use asn1_x691_writers::{
-    Writer, leave, put_bit_string, put_boolean, put_enumerated, put_integer, put_integer_at_least,
-    put_integer_between, put_octet_string, reject,
+    Writer, put_bit_string, put_boolean, put_enumerated, put_integer, put_integer_at_least,
+    put_integer_between, put_octet_string, put_unknown, reject,
 };
 
 /// Encodes a BOOLEAN (X.691 12).
@@ -211,7 +212,6 @@ pub(crate) fn encode_octets(
 {
     match part_at(context.parts, state.next) {
         None => reject(state, node, MisfitKind::NoPart),
-        Some(Part::OctetsInFragments(_)) => leave(state, node),
         Some(part) => pass(
             put_octet_string(
                 octets,
@@ -247,11 +247,40 @@ pub(crate) fn encode_null(
 
 /// Returns whether a part is that of NULL.
 fn is_null(octets: &mut [u8], part: Part, node: usize, state: &mut Writer) -> bool
-    ensures { (is_aligned : Bool) (source : List ℕ) → IsPut is_aligned (put Null nothing node) (piece_in source part) octets.old state.old
+    ensures { (is_aligned : Bool) (ranges : List Range) (source : List ℕ) → IsPut is_aligned (put Null nothing node) (piece_in ranges source part) octets.old state.old
         octets.new state.new result }
 {
     match part {
         Part::Null => true,
         _ => reject(state, node, MisfitKind::OtherPart),
+    }
+}
+
+/// Encodes the octets of a value that the schema does not know (X.691 19.9, 23.8).
+pub(crate) fn encode_unknown(
+    context: &Context<'_>,
+    node: usize,
+    octets: &mut [u8],
+    state: &mut Writer,
+) -> bool
+    requires size { 8 * length octets.old < 2 ^ 64 }
+    requires source { 8 * length context.now.source.now < 2 ^ 64 }
+    requires parts { length context.now.parts.now < 2 ^ 64 - 1 }
+    ensures { Outcome context.now (leaf (octets_in most_fragments context.now.is_aligned node) Unknown node) octets.old state.old octets.new
+        state.new result }
+{
+    match part_at(context.parts, state.next) {
+        None => reject(state, node, MisfitKind::NoPart),
+        Some(part) => pass(
+            put_unknown(
+                octets,
+                context.is_aligned,
+                context.source,
+                part,
+                node,
+                state,
+            ),
+            state,
+        ),
     }
 }

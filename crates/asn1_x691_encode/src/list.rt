@@ -1,6 +1,7 @@
 //! SEQUENCE OF (X.691 20).
 
 ghost use Rattle.std.specs.Prelude.{Option, ◌≡◌, ℕ, Bool, List, ◌+◌, ◌-◌, ◌*◌, ◌^◌, ◌<◌, ◌≤◌, length, slice_get, Some, MatchOption};
+ghost use Rattle.asn1_schema.specs.declared.tables.Range.{Range};
 ghost use Rattle.asn1_schema.specs.Pieces.{Count};
 ghost use Rattle.asn1_x691_writers.specs.Put.{piece_in};
 ghost use Rattle.asn1_x691.specs.Strings.{IsAddedSize};
@@ -142,7 +143,7 @@ fn encode_added_list(
 
 /// Returns how many items follow a part, where the number is none of the root.
 fn added_count(size: Length, part: Part) -> Option<usize>
-    ensures { MatchOption result ((source : List ℕ) → IsAddedCount size (piece_in source part) → ⊥)
+    ensures { MatchOption result ((ranges : List Range) (source : List ℕ) → IsAddedCount size (piece_in ranges source part) → ⊥)
         (λ n. (part ≡ CountPart n) × IsAddedSize size n) }
 {
     match part {
@@ -158,7 +159,7 @@ fn added_count(size: Length, part: Part) -> Option<usize>
 
 /// Returns how many items follow a part.
 fn count_of(part: Part) -> Option<usize>
-    ensures { MatchOption result ((source : List ℕ) (n : ℕ) → piece_in source part ≡ Count n → ⊥) (λ n. part ≡ CountPart n) }
+    ensures { MatchOption result ((ranges : List Range) (source : List ℕ) (n : ℕ) → piece_in ranges source part ≡ Count n → ⊥) (λ n. part ≡ CountPart n) }
 {
     match part {
         Part::Count(count) => Some(count),

@@ -1,12 +1,11 @@
 //! Encodes messages.
 
 ghost use Rattle.std.specs.Prelude.{ℕ, Bool, List, Option, ◌≡◌, ◌-◌, ◌*◌, ◌^◌, ◌<◌, ◌≤◌, length, IfOk, IfErr};
-ghost use Rattle.asn1_x691.specs.OpenTypes.{padding_of};
-ghost use Rattle.asn1_x691_writers.specs.Written.{IsIndex};
 ghost use Rattle.asn1_x691_encode.specs.Messages.{IsMessage, IsRejected};
 
 use crate::context::Context;
 use crate::encoder::encode_node;
+use crate::padding::zeros_after;
 use asn1_x691_writers::{Rejection, Writer, put_zeros};
 use thiserror::Error;
 
@@ -72,15 +71,4 @@ pub fn encode(
         octets: end / 8,
         parts: state.next,
     })
-}
-
-/// Returns how many zeros follow a value that ends at an index: to whole octets, of which there is
-/// one at least (X.691 11.1.3).
-fn zeros_after(at: usize) -> usize
-    ensures { (n : ℕ) → IsIndex at n → result ≡ padding_of n }
-{
-    if at == 0 {
-        return 8;
-    }
-    (8 - at % 8) % 8
 }

@@ -1,18 +1,21 @@
-//! SEQUENCE without an extension marker (X.691 19). Components with DEFAULT are not encoded yet.
+//! SEQUENCE (X.691 19). Components with DEFAULT are not encoded yet.
 
 ghost use Rattle.std.specs.Prelude.{Option, ◌≡◌, ℕ, Bool, List, ◌∷◌, ◌+◌, ◌-◌, ◌*◌, ◌^◌, ◌<◌, true, false, length, slice_get, Some};
+ghost use Rattle.asn1_schema.specs.declared.tables.Range.{Range};
 ghost use Rattle.asn1_schema.specs.Pieces.{Absent, Sequence};
 ghost use Rattle.asn1_schema.specs.TypeEncodings.{IsAbsent};
 ghost use Rattle.asn1_schema.specs.declared.part.Part.TheVariants.{Sequence as SequencePart};
 ghost use Rattle.asn1_x691_writers.specs.Put.{piece_in};
-ghost use Rattle.asn1_x691_encode.specs.Encoding.{Outcome, IsSequence, tape, types, sequence_in, root_in};
+ghost use Rattle.asn1_x691_encode.specs.Encoding.{Outcome, IsSequence, tape, types, sequence_in, extensible_sequence_in, extended_in, root_in};
 ghost use Rattle.asn1_x691_encode.specs.Components.{OptionalOutcome, ComponentOutcome};
+ghost use Rattle.asn1_schema.specs.declared.tables.Node.TheVariants.{Sequence as SequenceNode};
 
+use crate::additions::encode_extension;
 use crate::context::{Context, member_from, part_at};
 use crate::encoder::encode_node;
 use crate::presence::{count_optional, presence_bits};
 use asn1_schema::{Member, MisfitKind, Part, Presence, Rows};
-use asn1_x691_writers::{Writer, after, leave, put_zeros, reject, set_bit};
+use asn1_x691_writers::{Writer, after, leave, put_bit, put_zeros, reject, set_bit};
 
 /// Encodes a SEQUENCE without an extension marker (X.691 19.2 to 19.4).
 #[cycle(encoding)]
@@ -34,7 +37,7 @@ pub(crate) fn encode_sequence(
     match part_at(context.parts, state.next) {
         None => reject(state, node, MisfitKind::NoPart),
         Some(part) => {
-            if !is_sequence(part, root.count as usize) {
+            if !is_sequence(part, root.count as usize, false) {
                 return reject(state, node, MisfitKind::OtherPart);
             }
             state.next += 1;
@@ -43,16 +46,73 @@ pub(crate) fn encode_sequence(
     }
 }
 
-/// Returns whether so many components follow a part, and no additions.
-fn is_sequence(part: Part, count: usize) -> bool
-    ensures is { result ≡ true → part ≡ SequencePart count false }
-    ensures other { (source : List ℕ) → result ≡ false → piece_in source part ≡ Sequence count false → ⊥ }
+/// Encodes a SEQUENCE that has an extension marker (X.691 19.1).
+#[cycle(encoding)]
+pub(crate) fn encode_extensible_sequence(
+    context: &Context<'_>,
+    depth: usize,
+    node: usize,
+    root: Rows,
+    known: Rows,
+    octets: &mut [u8],
+    state: &mut Writer,
+) -> bool
+    requires size { 8 * length octets.old < 2 ^ 64 }
+    requires source { 8 * length context.now.source.now < 2 ^ 64 }
+    requires parts { length context.now.parts.now < 2 ^ 64 - 1 }
+    requires sequence { slice_get context.now.tables.nodes.now node ≡ Some (SequenceNode root true known) }
+    ensures { (defaults : ℕ → ℕ → Option (List Bool)) → Outcome context.now (extensible_sequence_in context.now defaults depth node root known)
+        octets.old state.old octets.new state.new result }
+{
+    match part_at(context.parts, state.next) {
+        None => reject(state, node, MisfitKind::NoPart),
+        Some(part) => {
+            if is_sequence(part, root.count as usize, true) {
+                state.at = put_bit(octets, state.at, true);
+                state.next += 1;
+                return encode_extended(context, depth, node, root, known, octets, state);
+            }
+            state.at = put_bit(octets, state.at, false);
+            encode_sequence(context, depth, node, root, octets, state)
+        }
+    }
+}
+
+/// Encodes the components of a root, and additions (X.691 19.7).
+#[cycle(encoding)]
+fn encode_extended(
+    context: &Context<'_>,
+    depth: usize,
+    node: usize,
+    root: Rows,
+    known: Rows,
+    octets: &mut [u8],
+    state: &mut Writer,
+) -> bool
+    requires size { 8 * length octets.old < 2 ^ 64 }
+    requires source { 8 * length context.now.source.now < 2 ^ 64 }
+    requires parts { length context.now.parts.now < 2 ^ 64 - 1 }
+    requires sequence { slice_get context.now.tables.nodes.now node ≡ Some (SequenceNode root true known) }
+    ensures { (defaults : ℕ → ℕ → Option (List Bool)) → Outcome context.now (extended_in context.now defaults depth node root known)
+        octets.old state.old octets.new state.new result }
+{
+    if !encode_root(context, depth, node, root, octets, state) {
+        return false;
+    }
+    encode_extension(context, depth, node, root, known, octets, state)
+}
+
+/// Returns whether so many components of a root follow a part, and whether additions follow them as
+/// asked.
+fn is_sequence(part: Part, count: usize, is_extended: bool) -> bool
+    ensures is { result ≡ true → part ≡ SequencePart count is_extended }
+    ensures other { (ranges : List Range) (source : List ℕ) → result ≡ false → piece_in ranges source part ≡ Sequence count is_extended → ⊥ }
 {
     match part {
         Part::Sequence {
             count: many,
-            is_extended,
-        } => { many == count && !is_extended }
+            is_extended: has_additions,
+        } => { many == count && has_additions == is_extended }
         _ => false,
     }
 }
@@ -141,7 +201,7 @@ fn encode_optional(
 }
 
 /// Returns whether a part says that a component is absent.
-fn is_absent(context: &Context<'_>, next: usize) -> bool
+pub(crate) fn is_absent(context: &Context<'_>, next: usize) -> bool
     ensures within { result ≡ true → next < length context.now.parts.now }
     ensures absent { result ≡ true → tape context.now next ≡ Absent ∷ tape context.now (next + 1) }
     ensures present { result ≡ false → IsAbsent (tape context.now next) → ⊥ }
@@ -154,8 +214,8 @@ fn is_absent(context: &Context<'_>, next: usize) -> bool
 
 /// Returns whether a part is that of an absent component.
 fn is_absent_part(part: Part) -> bool
-    ensures absent { (source : List ℕ) → result ≡ true → piece_in source part ≡ Absent }
-    ensures present { (source : List ℕ) → result ≡ false → piece_in source part ≡ Absent → ⊥ }
+    ensures absent { (ranges : List Range) (source : List ℕ) → result ≡ true → piece_in ranges source part ≡ Absent }
+    ensures present { (ranges : List Range) (source : List ℕ) → result ≡ false → piece_in ranges source part ≡ Absent → ⊥ }
 {
     match part {
         Part::Absent => true,

@@ -4,11 +4,21 @@ mod Lists
 mod Choices
 mod Contents
 mod Sequences
+mod ExtensibleSequences
+mod OpenTypes
+mod MoreNodes
+mod Additions
+mod AddedChoices
 use Rattle.asn1_x691_encode.proofs.+encoding.Answers.Nodes as nodes
 use Rattle.asn1_x691_encode.proofs.+encoding.Answers.Lists as lists
 use Rattle.asn1_x691_encode.proofs.+encoding.Answers.Choices as choices
 use Rattle.asn1_x691_encode.proofs.+encoding.Answers.Contents as contents
 use Rattle.asn1_x691_encode.proofs.+encoding.Answers.Sequences as sequences
+use Rattle.asn1_x691_encode.proofs.+encoding.Answers.ExtensibleSequences as extensiblesequences
+use Rattle.asn1_x691_encode.proofs.+encoding.Answers.OpenTypes as opentypes
+use Rattle.asn1_x691_encode.proofs.+encoding.Answers.MoreNodes as morenodes
+use Rattle.asn1_x691_encode.proofs.+encoding.Answers.Additions as additions
+use Rattle.asn1_x691_encode.proofs.+encoding.Answers.AddedChoices as addedchoices
 use Rattle.asn1_x691_encode.proofs.+encoding.Goals as goal
 
 pub encoder::encode_node-returns-in-Some-Null : goal.encoder::encode_node-returns-in-Some-Null
@@ -43,6 +53,9 @@ encoder::encode_node-returns-in-Some-RelativeIdentifier = contents.encode_node-r
 
 pub encoder::encode_node-returns-in-Some-Utf8String : goal.encoder::encode_node-returns-in-Some-Utf8String
 encoder::encode_node-returns-in-Some-Utf8String = contents.encode_node-returns-in-Some-Utf8String
+
+pub encoder::encode_node-returns-in-Some-Text : goal.encoder::encode_node-returns-in-Some-Text
+encoder::encode_node-returns-in-Some-Text = contents.encode_node-returns-in-Some-Text
 
 pub encoder::encode_node-returns-else-is_extensible : goal.encoder::encode_node-returns-else-is_extensible
 encoder::encode_node-returns-else-is_extensible = nodes.encode_node-returns-else-is_extensible
@@ -169,3 +182,99 @@ encoder::encode_node-returns-then-is_extensible-3 = nodes.encode_node-returns-th
 
 pub encoder::encode_node-returns-else-is_extensible-3 : goal.encoder::encode_node-returns-else-is_extensible-3
 encoder::encode_node-returns-else-is_extensible-3 = nodes.encode_node-returns-else-is_extensible-3
+
+pub added_choice::encode_added-returns-in-Far : goal.added_choice::encode_added-returns-in-Far
+added_choice::encode_added-returns-in-Far = addedchoices.encode_added-returns-in-Far
+
+pub added_choice::encode_added-returns-in-Known : goal.added_choice::encode_added-returns-in-Known
+added_choice::encode_added-returns-in-Known = addedchoices.encode_added-returns-in-Known
+
+pub added_choice::encode_added-returns-in-Other : goal.added_choice::encode_added-returns-in-Other
+added_choice::encode_added-returns-in-Other = addedchoices.encode_added-returns-in-Other
+
+pub added_choice::encode_added-returns-in-Unknown : goal.added_choice::encode_added-returns-in-Unknown
+added_choice::encode_added-returns-in-Unknown = addedchoices.encode_added-returns-in-Unknown
+
+pub additions::encode_addition-returns : goal.additions::encode_addition-returns
+additions::encode_addition-returns = additions.encode_addition-returns
+
+pub additions::encode_addition-returns-then-index-known : goal.additions::encode_addition-returns-then-index-known
+additions::encode_addition-returns-then-index-known = additions.encode_addition-returns-then-index-known
+
+pub additions::encode_counted-overflow_add-state : goal.additions::encode_counted-overflow_add-state
+additions::encode_counted-overflow_add-state = additions.encode_counted-overflow_add-state
+
+pub additions::encode_counted-returns : goal.additions::encode_counted-returns
+additions::encode_counted-returns = additions.encode_counted-returns
+
+pub additions::encode_counted-returns-then-count-eq0 : goal.additions::encode_counted-returns-then-count-eq0
+additions::encode_counted-returns-then-count-eq0 = additions.encode_counted-returns-then-count-eq0
+
+pub additions::encode_extension-returns-in-None-additions_of : goal.additions::encode_extension-returns-in-None-additions_of
+additions::encode_extension-returns-in-None-additions_of = additions.encode_extension-returns-in-None-additions_of
+
+pub additions::encode_known-returns-in-Mandatory : goal.additions::encode_known-returns-in-Mandatory
+additions::encode_known-returns-in-Mandatory = additions.encode_known-returns-in-Mandatory
+
+pub additions::encode_known-returns-in-Optional : goal.additions::encode_known-returns-in-Optional
+additions::encode_known-returns-in-Optional = additions.encode_known-returns-in-Optional
+
+pub additions::encode_optional_addition-returns : goal.additions::encode_optional_addition-returns
+additions::encode_optional_addition-returns = additions.encode_optional_addition-returns
+
+pub additions::encode_optional_addition-returns-then-not-is_present : goal.additions::encode_optional_addition-returns-then-not-is_present
+additions::encode_optional_addition-returns-then-not-is_present = additions.encode_optional_addition-returns-then-not-is_present
+
+pub additions::encode_present-loop-index-init : goal.additions::encode_present-loop-index-init
+additions::encode_present-loop-index-init = additions.encode_present-loop-index-init
+
+pub additions::encode_present-loop-index-preserved : goal.additions::encode_present-loop-index-preserved
+additions::encode_present-loop-index-preserved = additions.encode_present-loop-index-preserved
+
+pub additions::encode_present-returns : goal.additions::encode_present-returns
+additions::encode_present-returns = additions.encode_present-returns
+
+pub additions::encode_present-returns-then-not-encode_optional_addition : goal.additions::encode_present-returns-then-not-encode_optional_addition
+additions::encode_present-returns-then-not-encode_optional_addition = additions.encode_present-returns-then-not-encode_optional_addition
+
+pub additions::encode_present-returns-then-not-has_one : goal.additions::encode_present-returns-then-not-has_one
+additions::encode_present-returns-then-not-has_one = additions.encode_present-returns-then-not-has_one
+
+pub encoder::encode_node-returns-in-Some-Open : goal.encoder::encode_node-returns-in-Some-Open
+encoder::encode_node-returns-in-Some-Open = morenodes.encode_node-returns-in-Some-Open
+
+pub encoder::encode_node-returns-then-is_extensible : goal.encoder::encode_node-returns-then-is_extensible
+encoder::encode_node-returns-then-is_extensible = morenodes.encode_node-returns-then-is_extensible
+
+pub open_type::encode_octets-put_length_before-state-requires-clause-few : goal.open_type::encode_octets-put_length_before-state-requires-clause-few
+open_type::encode_octets-put_length_before-state-requires-clause-few = opentypes.encode_octets-put_length_before-state-requires-clause-few
+
+pub open_type::encode_octets-returns-in-None : goal.open_type::encode_octets-returns-in-None
+open_type::encode_octets-returns-in-None = opentypes.encode_octets-returns-in-None
+
+pub open_type::encode_octets-returns-in-Some : goal.open_type::encode_octets-returns-in-Some
+open_type::encode_octets-returns-in-Some = opentypes.encode_octets-returns-in-Some
+
+pub open_type::encode_octets-returns-then-not-encode_node : goal.open_type::encode_octets-returns-then-not-encode_node
+open_type::encode_octets-returns-then-not-encode_node = opentypes.encode_octets-returns-then-not-encode_node
+
+pub open_type::encode_open_type-returns : goal.open_type::encode_open_type-returns
+open_type::encode_open_type-returns = opentypes.encode_open_type-returns
+
+pub open_type::encode_open_type-returns-then-not-encode_octets : goal.open_type::encode_open_type-returns-then-not-encode_octets
+open_type::encode_open_type-returns-then-not-encode_octets = opentypes.encode_open_type-returns-then-not-encode_octets
+
+pub sequence::encode_extended-returns : goal.sequence::encode_extended-returns
+sequence::encode_extended-returns = extensiblesequences.encode_extended-returns
+
+pub sequence::encode_extended-returns-then-not-encode_root : goal.sequence::encode_extended-returns-then-not-encode_root
+sequence::encode_extended-returns-then-not-encode_root = extensiblesequences.encode_extended-returns-then-not-encode_root
+
+pub sequence::encode_extensible_sequence-returns-else-is_sequence : goal.sequence::encode_extensible_sequence-returns-else-is_sequence
+sequence::encode_extensible_sequence-returns-else-is_sequence = extensiblesequences.encode_extensible_sequence-returns-else-is_sequence
+
+pub sequence::encode_extensible_sequence-returns-in-None : goal.sequence::encode_extensible_sequence-returns-in-None
+sequence::encode_extensible_sequence-returns-in-None = extensiblesequences.encode_extensible_sequence-returns-in-None
+
+pub sequence::encode_extensible_sequence-returns-then-is_sequence : goal.sequence::encode_extensible_sequence-returns-then-is_sequence
+sequence::encode_extensible_sequence-returns-then-is_sequence = extensiblesequences.encode_extensible_sequence-returns-then-is_sequence

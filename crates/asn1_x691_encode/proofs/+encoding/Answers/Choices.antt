@@ -1,5 +1,5 @@
 -- Answers for the encoders of src/choice.rt.
-use Rattle.std.proofs.Common.{Bool, ◌≡◌, ℕ, ◌+◌, ◌-◌, true, false, refl, sym, ◌∙◌, ap, subst, inl, inr, arith, Option, Some}
+use Rattle.std.proofs.Common.{◌≡◌, ℕ, ◌+◌, ◌-◌, true, false, refl, sym, ◌∙◌, arith}
 use Rattle.std.proofs.lemmas.Option.{slice_get_within}
 use Rattle.asn1_schema.specs.declared.misfit.MisfitKind.TheVariants.{OtherPart, NoEncoding}
 use Rattle.asn1_schema.specs.declared.part.Part.TheVariants as item
@@ -11,13 +11,9 @@ use Rattle.asn1_x691.specs.Fields.{constrained}
 use Rattle.asn1_x691.specs.Laws.RangeLaws.{constrained_within}
 use Rattle.asn1_x691_writers.specs.Put.{piece_in}
 use Rattle.asn1_x691_writers.specs.PutSteps.{rejected}
-use Rattle.asn1_x691.specs.Limits.{no_limits}
-use Rattle.asn1_x691.specs.Types.{IsAddedAlternative, choice_extension}
-use Rattle.asn1_schema.specs.declared.tables.Node.{Node}
-use Rattle.asn1_schema.specs.declared.tables.Node.TheVariants.{Choice}
-use Rattle.std.specs.Prelude.{slice_get}
-use Rattle.asn1_x691_encode.specs.Encoding.{Outcome, IsLater, types, choice_in, extensible_choice_in}
-use Rattle.asn1_x691_encode.specs.ExtensionSteps.{root_step}
+use Rattle.asn1_x691.specs.Types.{IsAddedAlternative}
+use Rattle.asn1_x691_encode.specs.Encoding.{Outcome, choice_in, choice_extension_in}
+use Rattle.asn1_x691_encode.specs.ExtensionSteps.{root_step, added_step}
 use Rattle.asn1_x691_encode.specs.LeafSteps.{after_put, part_next}
 use Rattle.asn1_x691_encode.specs.ChoiceSteps.{choice_other, choice_none, index_step, the_alternative}
 use Rattle.asn1_x691_encode.proofs.+encoding.Goals as goal
@@ -29,10 +25,10 @@ encode_choice_of-returns-in-None t c defaults =
     let k = c.reject in
     let s = k.new.state in
     let T = choice_in cx defaults a.depth a.node a.rows in
-    let p = piece_in cx.source.now a.part in
+    let p = piece_in cx.tables.ranges.now cx.source.now a.part in
     after_put cx T a.part a.octets.now a.octets.now a.state.now s s c.requires.next refl refl refl k.result k.result refl
     (rejected cx.is_aligned T p a.octets.now a.state.now s k.result a.node OtherPart k.ensures.result k.ensures.at k.ensures.next
-    k.ensures.node k.ensures.reason (choice_other cx defaults a.depth a.node a.rows p (c.in-None.ensures cx.source.now)))
+    k.ensures.node k.ensures.reason (choice_other cx defaults a.depth a.node a.rows p (c.in-None.ensures cx.tables.ranges.now cx.source.now)))
     (λ q. absurd (let e : true ≡ false = sym q ∙ k.ensures.result in cc)) (λ q. refl)
 
 pub encode_index-returns-then-index-last : goal.choice::encode_index-returns-then-index-last
@@ -79,22 +75,12 @@ pub encode_extensible_choice-returns-then-is_addition : goal.choice::encode_exte
 encode_extensible_choice-returns-then-is_addition t c defaults =
     let cx = c.args.context.now in
     let a = c.args in
-    let k = c.leave in
-    let s = k.new.state in
-    let is : slice_get cx.parts.now s.next ≡ Some c.in-Some.part =
-    ap (λ (n : ℕ). slice_get cx.parts.now n) k.ensures.next ∙ sym c.part_at.ensures ∙ c.in-Some.is in
-    let type : slice_get cx.tables.nodes.now s.node ≡ Some (Choice a.rows true a.known) =
-    ap (λ (n : ℕ). slice_get cx.tables.nodes.now n) k.ensures.node ∙ c.requires.choice in
-    subst (λ (b : Bool). Outcome cx (extensible_choice_in cx defaults a.depth a.node a.rows a.known) a.octets.now a.state.now a.octets.now s b)
-    (sym k.ensures.result)
-    (inr (
-      k.ensures.reason,
-      inl (subst (λ (o : Option Node). IsLater cx s.next o) (sym type) (record {
-        part = c.in-Some.part;
-        is = is;
-        added = c.is_addition.ensures.added cx.source.now c.if-is_addition.true;
-      })),
-    ))
+    let last = c.encode_added in
+    (added_step cx a.node (IsAddedAlternative (a.rows.count - 1)) (choice_in cx defaults a.depth a.node a.rows)
+    (choice_extension_in cx defaults a.depth a.node a.rows a.known) c.in-Some.part a.octets.now c.put_bit-state.new.octets a.state.now
+    c.put_bit-state.result (sym c.part_at.ensures ∙ c.in-Some.is) (c.put_bit-state.ensures cx.is_aligned a.node)
+    (c.is_addition.ensures.added cx.tables.ranges.now cx.source.now c.if-is_addition.true)).onward
+    last.new.octets last.new.state last.result (last.ensures defaults)
 
 pub encode_extensible_choice-returns-else-is_addition : goal.choice::encode_extensible_choice-returns-else-is_addition
 encode_extensible_choice-returns-else-is_addition t c defaults =
@@ -102,7 +88,7 @@ encode_extensible_choice-returns-else-is_addition t c defaults =
     let a = c.args in
     let last = c.encode_choice_of in
     (root_step cx a.node (IsAddedAlternative (a.rows.count - 1)) (choice_in cx defaults a.depth a.node a.rows)
-    (choice_extension no_limits cx.is_aligned (types cx defaults a.depth) cx.tables.members.now cx.tables.ranges.now defaults a.node a.rows a.known)
-    c.in-Some.part a.octets.now c.put_bit-state.new.octets a.state.now c.put_bit-state.result (sym c.part_at.ensures ∙ c.in-Some.is)
-    (c.put_bit-state.ensures cx.is_aligned a.node) (c.is_addition.ensures.root cx.source.now c.if-is_addition.false)).onward
+    (choice_extension_in cx defaults a.depth a.node a.rows a.known)
+    c.in-Some.part a.octets.now c.put_bit-state-in-Some.new.octets a.state.now c.put_bit-state-in-Some.result (sym c.part_at.ensures ∙ c.in-Some.is)
+    (c.put_bit-state-in-Some.ensures cx.is_aligned a.node) (c.is_addition.ensures.root cx.tables.ranges.now cx.source.now c.if-is_addition.false)).onward
     last.new.octets last.new.state last.result (last.ensures defaults)

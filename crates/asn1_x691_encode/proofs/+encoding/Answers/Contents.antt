@@ -1,4 +1,4 @@
--- Answers for octets that are kept by their contents.
+-- Answers for octets that are kept by their contents, and for characters.
 use Rattle.std.proofs.Common.{ℕ, sym, ◌∙◌, ap, arith, Some}
 use Rattle.asn1_schema.specs.declared.tables.Node.{Node}
 use Rattle.asn1_schema.specs.declared.tables.Node.TheVariants as type
@@ -34,3 +34,13 @@ encode_node-returns-in-Some-Utf8String t c defaults =
     c.encode_contents-in-Some-Utf8String.new.state c.encode_contents-in-Some-Utf8String.result)
     (omega (arith, c.if-depth-eq0.false)) (sym c.node_at.ensures ∙ c.in-Some-Utf8String.is ∙ ap (λ (n : Node). Some n) c.in-Some-Utf8String.field-0-is)
     (λ d r. c.encode_contents-in-Some-Utf8String.ensures)
+
+pub encode_node-returns-in-Some-Text : goal.encoder::encode_node-returns-in-Some-Text
+encode_node-returns-in-Some-Text t c defaults =
+    let cx = c.args.context.now in
+    let k = c.in-Some-Text in
+    at_node cx defaults c.args.node c.args.depth (Some (type.Text k.length k.is_extensible k.alphabet k.whole))
+    (λ (A : ℕ → TypeEncoding FaultKind). Outcome cx A c.args.octets.now c.args.state.now c.encode_text.new.octets
+    c.encode_text.new.state c.encode_text.result)
+    (omega (arith, c.if-depth-eq0.false)) (sym c.node_at.ensures ∙ c.in-Some-Text.is ∙ ap (λ (n : Node). Some n) c.in-Some-Text.field-0-is)
+    (λ d r. c.encode_text.ensures)

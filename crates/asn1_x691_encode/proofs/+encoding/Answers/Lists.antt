@@ -179,12 +179,12 @@ encode_list_of-returns-in-None t c defaults =
     let node = c.args.node in
     let s = c.reject.new.state in
     let T = list_in cx defaults c.args.depth node c.args.size c.args.item in
-    let p = piece_in cx.source.now c.args.part in
+    let p = piece_in cx.tables.ranges.now cx.source.now c.args.part in
     after_put cx T c.args.part c.args.octets.now c.args.octets.now c.args.state.now s s c.requires.next refl refl refl c.reject.result
     c.reject.result refl
     (rejected cx.is_aligned T p c.args.octets.now c.args.state.now s c.reject.result node OtherPart c.reject.ensures.result
     c.reject.ensures.at c.reject.ensures.next c.reject.ensures.node c.reject.ensures.reason
-    (list_other cx defaults c.args.depth node c.args.item c.args.size p (c.in-None.ensures cx.source.now)))
+    (list_other cx defaults c.args.depth node c.args.item c.args.size p (c.in-None.ensures cx.tables.ranges.now cx.source.now)))
     (λ q. absurd (let e : true ≡ false = sym q ∙ c.reject.ensures.result in cc)) (λ q. refl)
 
 pub encode_added_list-returns-then-count-ge16384 : goal.list::encode_added_list-returns-then-count-ge16384
@@ -232,7 +232,7 @@ encode_extensible_list-returns-in-None-added_count t c defaults =
     let last = c.encode_list_of in
     (root_step cx a.node (IsAddedCount a.size) (list_in cx defaults a.depth a.node a.size a.item)
     (added_list_in cx defaults a.depth a.node a.size a.item) c.in-Some.part a.octets.now bit.new.octets a.state.now bit.result
-    (sym c.part_at.ensures ∙ c.in-Some.is) (bit.ensures cx.is_aligned a.node) (c.in-None-added_count.ensures cx.source.now)).onward
+    (sym c.part_at.ensures ∙ c.in-Some.is) (bit.ensures cx.is_aligned a.node) (c.in-None-added_count.ensures cx.tables.ranges.now cx.source.now)).onward
     last.new.octets last.new.state last.result (last.ensures defaults)
 
 pub encode_extensible_list-returns-in-Some-added_count : goal.list::encode_extensible_list-returns-in-Some-added_count
@@ -245,5 +245,5 @@ encode_extensible_list-returns-in-Some-added_count t c defaults =
     (added_step cx a.node (IsAddedCount a.size) (list_in cx defaults a.depth a.node a.size a.item)
     (added_list_in cx defaults a.depth a.node a.size a.item) c.in-Some.part a.octets.now bit.new.octets a.state.now bit.result
     (sym c.part_at.ensures ∙ c.in-Some.is) (bit.ensures cx.is_aligned a.node)
-    (subst (λ (p : Part). IsAddedCount a.size (piece_in cx.source.now p)) (sym e.0) e.1)).onward
+    (subst (λ (p : Part). IsAddedCount a.size (piece_in cx.tables.ranges.now cx.source.now p)) (sym e.0) e.1)).onward
     last.new.octets last.new.state last.result (last.ensures defaults)

@@ -150,11 +150,11 @@ encode_node-returns-else-is_extensible t c defaults =
     let cx = c.args.context.now in
     let k = c.in-Some-Sequence in
     let last = c.encode_sequence in
-    at_node cx defaults c.args.node c.args.depth (Some (type.Sequence k.root false k.field-0-2))
+    at_node cx defaults c.args.node c.args.depth (Some (type.Sequence k.root false k.additions))
     (λ (A : ℕ → TypeEncoding FaultKind). Outcome cx A c.args.octets.now c.args.state.now last.new.octets last.new.state last.result)
     (omega (arith, c.if-depth-eq0.false))
     (sym c.node_at.ensures ∙ c.in-Some-Sequence.is ∙ ap (λ (n : Node). Some n) c.in-Some-Sequence.field-0-is
-    ∙ ap (λ (b : Bool). Some (type.Sequence k.root b k.field-0-2)) c.if-is_extensible.false)
+    ∙ ap (λ (b : Bool). Some (type.Sequence k.root b k.additions)) c.if-is_extensible.false)
     (λ d r.
     let e : c.args.depth - 1 ≡ d = omega (arith, r) in
     subst

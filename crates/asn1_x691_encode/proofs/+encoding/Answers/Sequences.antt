@@ -15,12 +15,12 @@ use Rattle.asn1_x691_writers.specs.GrownSteps.{grown_none}
 use Rattle.asn1_x691_writers.specs.Put.{piece_in}
 use Rattle.asn1_x691_writers.specs.PutSteps.{rejected}
 use Rattle.asn1_x691_writers.specs.Written.{IsIndex, IsGrown}
-use Rattle.asn1_x691_encode.specs.Encoding.{Outcome, IsLater, tape, types, sequence_in, root_in, components_in}
+use Rattle.asn1_x691_encode.specs.Encoding.{Outcome, HasDefault, IsLater, tape, types, sequence_in, root_in, components_in}
 use Rattle.asn1_x691_encode.specs.Components.{ComponentOutcome, AreUnderway}
 use Rattle.asn1_x691_encode.specs.LeafSteps.{after_none, after_put, part_next}
 use Rattle.asn1_x691_encode.specs.ListSteps.{part_step}
 use Rattle.asn1_x691_encode.specs.ComponentSteps.{included, components_first, misfit_on}
-use Rattle.asn1_x691_encode.specs.SequenceSteps.{component_first, component_on, component_fails, misfit_first, misfit_none, root_misfit, root_encoded}
+use Rattle.asn1_x691_encode.specs.SequenceSteps.{component_first, component_on, component_fails, misfit_first, misfit_none, root_left, root_misfit, root_encoded}
 use Rattle.asn1_x691_encode.proofs.+encoding.Goals as goal
 
 pub encode_component-returns-in-Mandatory : goal.sequence::encode_component-returns-in-Mandatory
@@ -127,18 +127,14 @@ encode_root-returns-then-not-encode_component t c defaults =
           l.octets l.state new l.head (l.invariant.1 defaults) v))
       | inr (inl u) ↦ inr u
       | inr (inr d) ↦
-          let type : slice_get cx.tables.nodes.now new.node ≡ Some (type.Sequence a.root false c.requires.sequence.0) =
-          ap (λ (n : ℕ). slice_get cx.tables.nodes.now n) d.3 ∙ c.requires.sequence.1 in
+          let q = c.requires.sequence in
+          let type : slice_get cx.tables.nodes.now new.node ≡ Some (type.Sequence a.root q.0 q.1) =
+          ap (λ (n : ℕ). slice_get cx.tables.nodes.now n) d.3 ∙ q.2 in
+          let row : HasDefault cx a.root =
+          record { index = l.index; within = c.loop-index-test.true; member = m; is = is; value = d.0; default = d.1 } in
           inr (
             d.2,
-            inl (subst (λ (o : Option Node). IsLater cx new.next o) (sym type) (record {
-              index = l.index;
-              within = c.loop-index-test.true;
-              member = m;
-              is = is;
-              value = d.0;
-              default = d.1;
-            })),
+            inl (subst (λ (o : Option Node). IsLater cx new.next o) (sym type) (root_left cx new.next a.root q.1 row q.0)),
           )
     ]
 
@@ -211,11 +207,11 @@ encode_sequence-returns-then-not-is_sequence t c defaults =
     let s = k.new.state in
     let T = sequence_in cx defaults a.depth a.node a.root in
     let part = c.in-Some.part in
-    let p = piece_in cx.source.now part in
+    let p = piece_in cx.tables.ranges.now cx.source.now part in
     after_put cx T part a.octets.now a.octets.now a.state.now s s (sym c.part_at.ensures ∙ c.in-Some.is) refl refl refl k.result k.result refl
     (rejected cx.is_aligned T p a.octets.now a.state.now s k.result a.node OtherPart k.ensures.result k.ensures.at k.ensures.next
     k.ensures.node k.ensures.reason
-    (λ at rest. inr (λ u. c.is_sequence.ensures.other cx.source.now c.if-not-is_sequence.true, refl)))
+    (λ at rest. inr (λ u. c.is_sequence.ensures.other cx.tables.ranges.now cx.source.now c.if-not-is_sequence.true, refl)))
     (λ q. absurd (let e : true ≡ false = sym q ∙ k.ensures.result in cc)) (λ q. refl)
 
 pub encode_sequence-overflow_add-state : goal.sequence::encode_sequence-overflow_add-state
@@ -236,5 +232,5 @@ encode_sequence-returns-else-not-is_sequence t c defaults =
     (part_step cx (λ at. constant tt) (λ u. Sequence a.root.count false) (λ u. root_in cx defaults a.depth a.node a.root) a.node tt
     a.octets.now a.octets.now old mid
     (record { list = []; encodes = λ at h. (refl, refl); grown = grown_none a.octets.now old.at })
-    (part_next cx old.next c.in-Some.part is ∙ ap (λ (p : Part). piece_in cx.source.now p ∷ tape cx (old.next + 1)) e)).onward
+    (part_next cx old.next c.in-Some.part is ∙ ap (λ (p : Part). piece_in cx.tables.ranges.now cx.source.now p ∷ tape cx (old.next + 1)) e)).onward
     last.new.octets last.new.state last.result (last.ensures defaults)

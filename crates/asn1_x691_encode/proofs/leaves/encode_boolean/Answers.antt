@@ -12,7 +12,7 @@ pub returns-in-Some : goal.returns-in-Some
 returns-in-Some c =
     after_put c.args.context.now (leaf (anywhere (bit c.args.node)) Truth c.args.node) c.in-Some.part c.args.octets.now c.put_boolean.new.octets c.args.state.now c.put_boolean.new.state c.pass.new.state
     (sym c.in-Some.ensures) c.pass.ensures.at c.pass.ensures.node c.pass.ensures.reason c.put_boolean.result c.pass.result c.pass.ensures.result
-    (c.put_boolean.ensures c.args.context.now.is_aligned c.args.context.now.source.now) c.pass.ensures.passed c.pass.ensures.kept
+    (c.put_boolean.ensures c.args.context.now.is_aligned c.args.context.now.tables.ranges.now c.args.context.now.source.now) c.pass.ensures.passed c.pass.ensures.kept
 
 pub returns-in-None : goal.returns-in-None
 returns-in-None c =
@@ -24,7 +24,7 @@ pub pass-requires : goal.pass-requires
 pass-requires c e =
     let a = subst
     (λ (b : Bool). IsPut c.args.context.now.is_aligned (leaf (anywhere (bit c.args.node)) Truth c.args.node)
-    (piece_in c.args.context.now.source.now c.in-Some.part) c.args.octets.now c.args.state.now c.put_boolean.new.octets
-    c.put_boolean.new.state b) e (c.put_boolean.ensures c.args.context.now.is_aligned c.args.context.now.source.now) in
+    (piece_in c.args.context.now.tables.ranges.now c.args.context.now.source.now c.in-Some.part) c.args.octets.now c.args.state.now c.put_boolean.new.octets
+    c.put_boolean.new.state b) e (c.put_boolean.ensures c.args.context.now.is_aligned c.args.context.now.tables.ranges.now c.args.context.now.source.now) in
     let within = slice_get_within c.args.context.now.parts.now c.args.state.now.next c.in-Some.part (sym c.in-Some.ensures) in
     omega (arith, a.next, within, c.requires.parts)

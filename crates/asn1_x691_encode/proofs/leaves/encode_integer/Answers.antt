@@ -1,10 +1,22 @@
-use Rattle.std.proofs.Common.{sym}
+use Rattle.std.proofs.Common.{sym, refl}
 use Rattle.asn1_x691.specs.Leaves.{integer}
-use Rattle.asn1_x691_encode.specs.LeafSteps.{after_put}
+use Rattle.asn1_x691_encode.specs.LeafSteps.{after_put, after_none, next_fits}
 use Rattle.asn1_x691_encode.proofs.leaves.encode_integer.Goals as goal
 
 pub returns-in-Some : goal.returns-in-Some
 returns-in-Some c =
     after_put c.args.context.now (integer c.args.context.now.is_aligned c.args.node) c.in-Some.part c.args.octets.now c.put_integer.new.octets c.args.state.now c.put_integer.new.state c.pass.new.state
     (sym c.in-Some.ensures) c.pass.ensures.at c.pass.ensures.node c.pass.ensures.reason c.put_integer.result c.pass.result c.pass.ensures.result
-    (c.put_integer.ensures) c.pass.ensures.passed c.pass.ensures.kept
+    (c.put_integer.ensures c.args.context.now.tables.ranges.now) c.pass.ensures.passed c.pass.ensures.kept
+
+pub returns-in-None : goal.returns-in-None
+returns-in-None c =
+    after_none c.args.context.now (integer c.args.context.now.is_aligned c.args.node) c.args.octets.now c.args.octets.now
+    c.args.state.now c.reject.new.state c.reject.result c.args.node (sym c.in-None.ensures) c.reject.ensures.result c.reject.ensures.next
+    c.reject.ensures.node c.reject.ensures.reason (λ at. refl)
+
+pub pass-requires : goal.pass-requires
+pass-requires c =
+    next_fits c.args.context.now (integer c.args.context.now.is_aligned c.args.node) c.in-Some.part c.args.octets.now c.put_integer.new.octets
+    c.args.state.now c.put_integer.new.state c.put_integer.result (sym c.in-Some.ensures) c.requires.parts
+    (c.put_integer.ensures c.args.context.now.tables.ranges.now)

@@ -11,4 +11,4 @@ pub returns-clause-encoded : goal.returns-clause-encoded
 returns-clause-encoded c defaults =
     message_is c.args.context.now defaults c.args.depth c.args.node c.args.octets.now c.encode_node.new.octets c.put_zeros-end.new.octets _
     c.encode_node.new.state c.put_zeros-end.result c.zeros_after.result refl refl (c.if-not-encode_node.ensures defaults)
-    c.zeros_after.ensures c.put_zeros-end.ensures
+    c.zeros_after.ensures.value c.put_zeros-end.ensures
