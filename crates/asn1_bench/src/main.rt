@@ -8,6 +8,7 @@ mod fields;
 mod formats;
 mod identifiers;
 mod numbers;
+mod records;
 mod row;
 mod schema;
 mod strings;
@@ -17,6 +18,7 @@ use crate::bits::{Appended, Copied, Numbers};
 use crate::fields::Fields;
 use crate::identifiers::{Read, Size, Way, Written};
 use crate::numbers::Octets;
+use crate::records::Record;
 use crate::row::show;
 use crate::schema::Decoded;
 use crate::strings::{Bits, Kind, Text};
@@ -35,7 +37,20 @@ fn main(rt: HostRuntime) -> anyhow::Result<()> {
     show_fields(&rt, rounds)?;
     show_formats(&rt, rounds)?;
     show(&rt, Ok(Decoded::numbers()), rounds)?;
-    show(&rt, Ok(Decoded::letters()), rounds)
+    show(&rt, Ok(Decoded::letters()), rounds)?;
+    show_records(&rt, rounds)
+}
+
+/// The rows of the records of X.691, annex A.
+fn show_records(rt: &HostRuntime, rounds: u32) -> anyhow::Result<()> {
+    for record in [
+        Record::SecondDecoded,
+        Record::ThirdDecoded,
+        Record::ThirdEncoded,
+    ] {
+        show(rt, Ok(record), rounds)?;
+    }
+    Ok(())
 }
 
 /// The rows of bits and of whole numbers.

@@ -2,7 +2,7 @@
 //!
 //! ```text
 //! null  bool  int  int:0..  int:0..7  intx:0..7  enum:LAST  enumx:LAST:ADDITIONS
-//! bits:0..  bits:3..3  bitsx:1..2  octets:..  of:0.. ITEM  ofx:1..2 ITEM  setof:0.. ITEM  open TYPE
+//! bits:0..  bits:3..3  bitsx:1..2  named:0..  octets:..  of:0.. ITEM  ofx:1..2 ITEM  setof:0.. ITEM  open TYPE
 //! text:0..4:48-57  textx:1..2:65-66:32-126   oid  relative  utf8
 //! seq:ROOT ..  seqx:ROOT:ADDITIONS ..
 //! choice:ROOT ..  choicex:ROOT:ADDITIONS ..
@@ -10,7 +10,8 @@
 //!
 //! Each component of a SEQUENCE is after `!`, after `?`, which says that it is OPTIONAL, or after `=` and
 //! the bits that encode its DEFAULT value: at each of the eight positions in an octet, or at all of them.
-//! A text has ranges of characters by their numbers: of its alphabet, and of its type's alphabet.
+//! The bits of `named` have names. A text has ranges of characters by their numbers: of its alphabet, and
+//! of its type's alphabet.
 
 use asn1_schema::{Bounds, Length, LowerBound, Member, Node, Presence, Range, Rows, Span};
 use asn1_test_rows::{RowError, number, parse_word, wrong};
@@ -218,6 +219,11 @@ fn read_sized(
             length: length_of(alloc, text)?,
             is_extensible,
             has_names: false,
+        }),
+        "named" => types.add(Node::BitString {
+            length: length_of(alloc, text)?,
+            is_extensible,
+            has_names: true,
         }),
         "octets" => types.add(Node::OctetString {
             length: length_of(alloc, text)?,
