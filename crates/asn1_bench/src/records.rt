@@ -273,6 +273,10 @@ fn encode_one<'m>(
             members,
             ranges: &RANGES,
         },
+        defaults: Defaults {
+            octets: &[],
+            spans: &[],
+        },
         parts,
         source,
         is_aligned: false,

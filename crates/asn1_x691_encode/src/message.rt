@@ -49,9 +49,8 @@ pub fn encode(
     requires size { 8 * length octets.old < 2 ^ 64 }
     requires source { 8 * length context.now.source.now < 2 ^ 64 }
     requires parts { length context.now.parts.now < 2 ^ 64 - 1 }
-    ensures encoded { (defaults : ℕ → ℕ → Option (List Bool))
-        → IfOk result (λ e. IsMessage context.now defaults depth node octets.new e) }
-    ensures misfit { (defaults : ℕ → ℕ → Option (List Bool)) → IfErr result (λ e. IsRejected context.now defaults depth node e) }
+    ensures encoded { IfOk result (λ e. IsMessage context.now depth node octets.new e) }
+    ensures misfit { IfErr result (λ e. IsRejected context.now depth node e) }
 {
     let mut state = Writer {
         at: 0,

@@ -1,6 +1,6 @@
 //! Tests of PER: a program that answers the rows of its stored input.
 //!
-//! A value that is decoded is encoded again, where its type is encoded.
+//! A value that is decoded is encoded again, and its message is measured.
 //!
 //! A row is a variant, octets and a type, as `uper 20 seq:2 ? int:0..7 ! bool = seq2 absent true`. The
 //! rows are made by `scripts/x691-vectors`, with another compiler, and by `scripts/x691-model`. A row of
@@ -71,8 +71,8 @@ fn decoded<'a>(
     }
 }
 
-/// Encodes the parts of a message, and returns whether that makes the message again, or the type is
-/// not encoded yet.
+/// Encodes the parts of a message, and returns whether that makes the message again. Without room the
+/// same number of octets is needed, unless a value of more than 504 bits must be compared.
 fn is_encoded_again(
     alloc: Global,
     context: &Context<'_>,
@@ -85,14 +85,21 @@ fn is_encoded_again(
     }
     let value = Value {
         tables: context.tables,
+        defaults: context.defaults,
         parts,
         source: octets,
         is_aligned: context.is_aligned,
     };
+    let is_measured = match encode(&value, DEPTH, node, &mut []) {
+        Ok(encoded) => encoded.octets == octets.len(),
+        Err(misfit) => misfit.reason == Rejection::NoRoom && octets.len() > 63,
+    };
     let mut room = vec![in alloc; 0u8; octets.len() + 8]?;
     match encode(&value, DEPTH, node, room.as_mut_slice()) {
-        Ok(encoded) => Ok(room.as_slice().get(..encoded.octets) == Some(octets)),
-        Err(misfit) => Ok(misfit.reason == Rejection::Unsupported),
+        Ok(encoded) => {
+            Ok(is_measured && room.as_slice().get(..encoded.octets) == Some(octets))
+        }
+        Err(_) => Ok(false),
     }
 }
 
