@@ -11,10 +11,11 @@ use Rattle.asn1_schema.specs.TypeEncodings.{TypeEncoding}
 use Rattle.asn1_x691.specs.declared.fault.FaultKind.{FaultKind}
 use Rattle.asn1_x691.specs.Fields.{constrained}
 use Rattle.asn1_x691.specs.Types.{alternative_if}
+use Rattle.asn1_x691.specs.Limits.{no_limits}
 use Rattle.asn1_x691_writers.specs.declared.state.Writer.{Writer}
 use Rattle.asn1_x691_writers.specs.Written.{IsWritten}
 use Rattle.asn1_x691_encode.specs.declared.context.Context.{Context}
-use Rattle.asn1_x691_encode.specs.Encoding.{encoder_limits, defaults_in, tape, types, choice_in, alternative_in}
+use Rattle.asn1_x691_encode.specs.Encoding.{defaults_in, tape, types, choice_in, alternative_in}
 use Rattle.asn1_x691_encode.specs.ListSteps.{IsUnderway, part_step}
 
 module _ (c : Context) (depth node : ℕ) (rows : Rows) where
@@ -41,7 +42,7 @@ module _ (c : Context) (depth node : ℕ) (rows : Rows) where
   -- what holds of the type of a member holds of the alternative
   abbrev alternative_by : Bool → Option Member → ℕ → TypeEncoding FaultKind
   alternative_by b o =
-      alternative_if encoder_limits c.is_aligned (types c depth) c.tables.members.now c.tables.ranges.now (defaults_in c) node b o
+      alternative_if no_limits c.is_aligned (types c depth) c.tables.members.now c.tables.ranges.now (defaults_in c) node b o
 
   pub the_alternative : (i : ℕ) (m : Member) (P : (ℕ → TypeEncoding FaultKind) → Type 0) → i < rows.count
       → slice_get c.tables.members.now (rows.from + i) ≡ Some m → P (types c depth m.node)

@@ -100,7 +100,7 @@ module _ (c : Context) (depth node : ℕ) (p : Presence) (inner : ℕ) (was mid 
         → 131072 ≤ length list + padding_of (length list) → IsLeft c last
     octets_long last back reason many = inl (
       reason,
-      inr (inr (record {
+      inr (inr (inl (record {
         depth = depth;
         node = node;
         presence = p;
@@ -111,7 +111,7 @@ module _ (c : Context) (depth node : ℕ) (p : Presence) (inner : ℕ) (was mid 
         encodes = complete_fills node (value_in c depth node p inner) a.parts list (a.written.encodes 0 alike);
         are = ap (λ (i : ℕ). tape c i) back ∙ taken;
         many = omega (arith, many, padded_size list);
-      })),
+      }))),
     )
 
     module _ (padded_octets last : List ℕ) (count end : ℕ) (q : IsPadded now (old.at + 8) new.at (length list) padded_octets count)

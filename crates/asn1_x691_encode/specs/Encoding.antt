@@ -11,7 +11,7 @@ use Rattle.asn1_schema.specs.declared.tables.Rows.{Rows}
 use Rattle.asn1_schema.specs.Pieces.{Piece, Parts, Count, UnknownChosen}
 use Rattle.asn1_schema.specs.TypeEncodings.{TypeEncoding, AfterHeader, both, header, part}
 use Rattle.asn1_x691.specs.Fragments.{most_fragments}
-use Rattle.asn1_x691.specs.Limits.{Limits}
+use Rattle.asn1_x691.specs.Limits.{no_limits, IsOffOctet}
 use Rattle.asn1_x691.specs.OpenTypes.{complete, open_type}
 use Rattle.asn1_schema.specs.Fields.{raw_bits}
 use Rattle.asn1_x691.specs.declared.fault.FaultKind.{FaultKind}
@@ -30,35 +30,31 @@ use Rattle.asn1_x691_encode.specs.declared.context.Context.{Context}
 abbrev pub tape : Context → ℕ → Parts
 tape c next = map (piece_in c.tables.ranges.now c.source.now) (drop next c.parts.now)
 
--- the limit of the encoder: in the ALIGNED variant the items of a SET OF must begin at octets
-abbrev pub encoder_limits : Limits
-encoder_limits = record { octet_fragments = most_fragments; fragments = most_fragments; sets_on_octets = true }
-
 -- the bits that encode a default value after so many bits of an octet
 abbrev pub defaults_in : Context → ℕ → ℕ → Option (List Bool)
 defaults_in c = default_in c.defaults c.is_aligned
 
 -- the types of a context, whose values are nested less deep than the depth
 abbrev pub types : Context → ℕ → ℕ → ℕ → TypeEncoding FaultKind
-types c depth node = type_at encoder_limits c.is_aligned c.tables.nodes.now c.tables.members.now c.tables.ranges.now (defaults_in c) depth node
+types c depth node = type_at no_limits c.is_aligned c.tables.nodes.now c.tables.members.now c.tables.ranges.now (defaults_in c) depth node
 
 -- so many items that are nested less deep than the depth, those of a SET OF in ascending order; and an item after the bits of another
 abbrev pub items_in : Context → ℕ → ℕ → Bool → ℕ → ℕ → ℕ → TypeEncoding FaultKind
 items_in c depth node is_set item n =
-    items encoder_limits c.is_aligned (types c depth) c.tables.members.now c.tables.ranges.now (defaults_in c) node is_set item n
+    items no_limits c.is_aligned (types c depth) c.tables.members.now c.tables.ranges.now (defaults_in c) node is_set item n
 
 abbrev pub in_order_in : Context → ℕ → ℕ → ℕ → List Bool → ℕ → TypeEncoding FaultKind
 in_order_in c depth node item before =
-    in_order encoder_limits c.is_aligned (types c depth) c.tables.members.now c.tables.ranges.now (defaults_in c) node item before
+    in_order no_limits c.is_aligned (types c depth) c.tables.members.now c.tables.ranges.now (defaults_in c) node item before
 
 -- a SEQUENCE OF or a SET OF without an extension marker, one that has one, one whose number of items is none of the root, and each
 abbrev pub list_in : Context → ℕ → ℕ → Bool → Length → ℕ → ℕ → TypeEncoding FaultKind
 list_in c depth node is_set size item =
-    sequence_of encoder_limits c.is_aligned (types c depth) c.tables.members.now c.tables.ranges.now (defaults_in c) node is_set size item
+    sequence_of no_limits c.is_aligned (types c depth) c.tables.members.now c.tables.ranges.now (defaults_in c) node is_set size item
 
 abbrev pub list_by : Context → ℕ → ℕ → Bool → Bool → Length → ℕ → ℕ → TypeEncoding FaultKind
 list_by c depth node is_extensible is_set size item =
-    sequence_of_by encoder_limits c.is_aligned (types c depth) c.tables.members.now c.tables.ranges.now (defaults_in c) node is_extensible is_set
+    sequence_of_by no_limits c.is_aligned (types c depth) c.tables.members.now c.tables.ranges.now (defaults_in c) node is_extensible is_set
     size item
 
 abbrev pub extensible_list_in : Context → ℕ → ℕ → Bool → Length → ℕ → ℕ → TypeEncoding FaultKind
@@ -70,44 +66,44 @@ added_list_in c depth node is_set size item = part (added_length c.is_aligned si
 -- a choice of alternatives that are nested less deep than the depth, one that has an extension marker, and the alternative of an index
 abbrev pub choice_in : Context → ℕ → ℕ → Rows → ℕ → TypeEncoding FaultKind
 choice_in c depth node rows =
-    choice encoder_limits c.is_aligned (types c depth) c.tables.members.now c.tables.ranges.now (defaults_in c) node rows
+    choice no_limits c.is_aligned (types c depth) c.tables.members.now c.tables.ranges.now (defaults_in c) node rows
 
 abbrev pub extensible_choice_in : Context → ℕ → ℕ → Rows → Rows → ℕ → TypeEncoding FaultKind
 extensible_choice_in c depth node rows known =
-    choice_by encoder_limits c.is_aligned (types c depth) c.tables.members.now c.tables.ranges.now (defaults_in c) node true rows known
+    choice_by no_limits c.is_aligned (types c depth) c.tables.members.now c.tables.ranges.now (defaults_in c) node true rows known
 
 abbrev pub choice_extension_in : Context → ℕ → ℕ → Rows → Rows → ℕ → TypeEncoding FaultKind
 choice_extension_in c depth node rows known =
-    choice_extension encoder_limits c.is_aligned (types c depth) c.tables.members.now c.tables.ranges.now (defaults_in c) node rows known
+    choice_extension no_limits c.is_aligned (types c depth) c.tables.members.now c.tables.ranges.now (defaults_in c) node rows known
 
 abbrev pub alternative_in : Context → ℕ → ℕ → Rows → ℕ → ℕ → TypeEncoding FaultKind
 alternative_in c depth node rows i =
-    alternative_if encoder_limits c.is_aligned (types c depth) c.tables.members.now c.tables.ranges.now (defaults_in c) node
+    alternative_if no_limits c.is_aligned (types c depth) c.tables.members.now c.tables.ranges.now (defaults_in c) node
     (nat_lt i rows.count) (slice_get c.tables.members.now (rows.from + i))
 
 -- a SEQUENCE without an extension marker, of components that are nested less deep than the depth, what follows its first part, and so
 -- many components, which are members from an index on
 abbrev pub sequence_in : Context → ℕ → ℕ → Rows → ℕ → TypeEncoding FaultKind
 sequence_in c depth node root =
-    sequence encoder_limits c.is_aligned (types c depth) c.tables.members.now c.tables.ranges.now (defaults_in c) node root
+    sequence no_limits c.is_aligned (types c depth) c.tables.members.now c.tables.ranges.now (defaults_in c) node root
 
 abbrev pub root_in : Context → ℕ → ℕ → Rows → ℕ → TypeEncoding FaultKind
 root_in c depth node root =
-    root_of encoder_limits c.is_aligned (types c depth) c.tables.members.now c.tables.ranges.now (defaults_in c) node root
+    root_of no_limits c.is_aligned (types c depth) c.tables.members.now c.tables.ranges.now (defaults_in c) node root
 
 abbrev pub components_in : Context → ℕ → ℕ → ℕ → ℕ → ℕ → AfterHeader FaultKind (List Bool)
 components_in c depth node count from =
-    components encoder_limits c.is_aligned (types c depth) c.tables.members.now c.tables.ranges.now (defaults_in c) node count from
+    components no_limits c.is_aligned (types c depth) c.tables.members.now c.tables.ranges.now (defaults_in c) node count from
 
 -- a SEQUENCE that has an extension marker, its root with additions, what follows the root, and so many additions, which are members from
 -- an index on
 abbrev pub extensible_sequence_in : Context → ℕ → ℕ → Rows → Rows → ℕ → TypeEncoding FaultKind
 extensible_sequence_in c depth node root known =
-    sequence_by encoder_limits c.is_aligned (types c depth) c.tables.members.now c.tables.ranges.now (defaults_in c) node true root known
+    sequence_by no_limits c.is_aligned (types c depth) c.tables.members.now c.tables.ranges.now (defaults_in c) node true root known
 
 abbrev pub extension_in : Context → ℕ → ℕ → Rows → ℕ → TypeEncoding FaultKind
 extension_in c depth node known =
-    extension encoder_limits c.is_aligned (types c depth) c.tables.members.now c.tables.ranges.now (defaults_in c) node known
+    extension no_limits c.is_aligned (types c depth) c.tables.members.now c.tables.ranges.now (defaults_in c) node known
 
 abbrev pub extended_in : Context → ℕ → ℕ → Rows → Rows → ℕ → TypeEncoding FaultKind
 extended_in c depth node root known = both (root_in c depth node root) (extension_in c depth node known)
@@ -116,25 +112,25 @@ extended_in c depth node root known = both (root_in c depth node root) (extensio
 abbrev pub present_additions_in : Context → ℕ → ℕ → Rows → ℕ → ℕ → TypeEncoding FaultKind
 present_additions_in c depth node known count =
     header (raw_bits count Short node) count
-    (some_additions encoder_limits c.is_aligned (types c depth) c.tables.members.now c.tables.ranges.now (defaults_in c) node count known) node
+    (some_additions no_limits c.is_aligned (types c depth) c.tables.members.now c.tables.ranges.now (defaults_in c) node count known) node
 
 abbrev pub additions_in : Context → ℕ → ℕ → ℕ → ℕ → ℕ → ℕ → AfterHeader FaultKind (List Bool)
 additions_in c depth node count known from =
-    additions_by_bits encoder_limits c.is_aligned (types c depth) c.tables.members.now c.tables.ranges.now (defaults_in c) node count known from
+    additions_by_bits no_limits c.is_aligned (types c depth) c.tables.members.now c.tables.ranges.now (defaults_in c) node count known from
 
 -- an addition, which is known where so many are; and a known one
 abbrev pub addition_in : Context → ℕ → ℕ → ℕ → ℕ → ℕ → TypeEncoding FaultKind
 addition_in c depth node known from =
-    addition encoder_limits c.is_aligned (types c depth) c.tables.members.now c.tables.ranges.now (defaults_in c) node known from
+    addition no_limits c.is_aligned (types c depth) c.tables.members.now c.tables.ranges.now (defaults_in c) node known from
 
 abbrev pub known_in : Context → ℕ → ℕ → Option Member → ℕ → TypeEncoding FaultKind
 known_in c depth node m =
-    known_addition encoder_limits c.is_aligned (types c depth) c.tables.members.now c.tables.ranges.now (defaults_in c) node m
+    known_addition no_limits c.is_aligned (types c depth) c.tables.members.now c.tables.ranges.now (defaults_in c) node m
 
 -- a value that is not the default, and an open type of it
 abbrev pub value_in : Context → ℕ → ℕ → Presence → ℕ → ℕ → TypeEncoding FaultKind
 value_in c depth node p inner =
-    value_by encoder_limits c.is_aligned (types c depth) c.tables.members.now c.tables.ranges.now (defaults_in c) node p (types c depth inner)
+    value_by no_limits c.is_aligned (types c depth) c.tables.members.now c.tables.ranges.now (defaults_in c) node p (types c depth inner)
 
 abbrev pub open_in : Context → ℕ → ℕ → Presence → ℕ → ℕ → TypeEncoding FaultKind
 open_in c depth node p inner = open_type most_fragments c.is_aligned node (value_in c depth node p inner)
@@ -226,10 +222,23 @@ pub record AreWide (c : Context) (next : ℕ) : Type 0 where
   pub are : tape c next ≡ xs ++ (ys ++ rest)
   pub many : 504 < length before + length list
 
+-- the next parts are an item of a SET OF in the ALIGNED variant, which does not begin at an octet, or follows one that does not
+pub record IsOff (c : Context) (next : ℕ) : Type 0 where
+  pub depth : ℕ
+  pub item : ℕ
+  pub at : ℕ
+  pub parts : Parts
+  pub list : List Bool
+  pub rest : Parts
+  pub encodes : (types c depth item at).encoding.encodes parts list
+  pub are : tape c next ≡ parts ++ rest
+  pub before : List Bool
+  pub off : IsOffOctet true c.is_aligned before at
+
 -- The next parts are left: they are not encoded yet, or they were to be compared in octets that are too few for them.
 abbrev pub IsLeft : Context → Writer → Type 0
 IsLeft c new = ((new.reason ≡ Unsupported)
-    × (IsLater c new.next (slice_get c.tables.nodes.now new.node) ⊎ (IsFar c new.next ⊎ IsLong c new.next)))
+    × (IsLater c new.next (slice_get c.tables.nodes.now new.node) ⊎ (IsFar c new.next ⊎ (IsLong c new.next ⊎ IsOff c new.next))))
     ⊎ ((new.reason ≡ NoRoom) × (IsWide c new.next ⊎ AreWide c new.next))
 
 -- the next parts were encoded, or the state tells why not

@@ -12,12 +12,13 @@ use Rattle.asn1_x691.specs.Types.{type_of}
 use Rattle.asn1_schema.specs.Pieces.{Piece, Parts}
 use Rattle.asn1_schema.specs.TypeEncodings.{TypeEncoding}
 use Rattle.asn1_x691.specs.declared.fault.FaultKind.{FaultKind}
+use Rattle.asn1_x691.specs.Limits.{no_limits}
 use Rattle.asn1_x691_writers.specs.declared.state.Writer.{Writer}
 use Rattle.asn1_x691_writers.specs.declared.state.Rejection.TheVariants.{Misfit}
 use Rattle.asn1_x691_writers.specs.Put.{IsPut, piece_in}
 use Rattle.asn1_x691_writers.specs.Written.{IsWritten}
 use Rattle.asn1_x691_encode.specs.declared.context.Context.{Context}
-use Rattle.asn1_x691_encode.specs.Encoding.{encoder_limits, defaults_in, tape, types, Outcome}
+use Rattle.asn1_x691_encode.specs.Encoding.{defaults_in, tape, types, Outcome}
 
 get_some : {A : Type 0} (list : List A) (i : ℕ) (x : A) → slice_get list i ≡ Some x → drop i list ≡ x ∷ drop (i + 1) list
 get_some list i x e =
@@ -119,10 +120,10 @@ after_none c A was now old new r node none e on same reason m =
 
 pub at_node : (c : Context) (node depth : ℕ) (o : Option Node) (P : (ℕ → TypeEncoding FaultKind) → Type 0)
     → 0 < depth → slice_get c.tables.nodes.now node ≡ o
-    → ((d : ℕ) → depth ≡ suc d → P (type_of encoder_limits c.is_aligned (types c d) c.tables.members.now c.tables.ranges.now (defaults_in c) node o))
+    → ((d : ℕ) → depth ≡ suc d → P (type_of no_limits c.is_aligned (types c d) c.tables.members.now c.tables.ranges.now (defaults_in c) node o))
     → P (types c depth node)
 at_node c node zero o P some e f = absurd (omega (arith, some))
 at_node c node (suc d) o P some e f =
     let Q : Option Node → Type 0 =
-    λ x. P (type_of encoder_limits c.is_aligned (types c d) c.tables.members.now c.tables.ranges.now (defaults_in c) node x) in
+    λ x. P (type_of no_limits c.is_aligned (types c d) c.tables.members.now c.tables.ranges.now (defaults_in c) node x) in
     subst Q (sym e) (f d refl)

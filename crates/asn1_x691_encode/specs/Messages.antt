@@ -9,7 +9,7 @@ use Rattle.asn1_x691_writers.specs.Written.{IsIndex}
 use Rattle.asn1_x691_encode.specs.declared.context.Context.{Context}
 use Rattle.asn1_x691_encode.specs.declared.message.Encoded.{Encoded}
 use Rattle.asn1_x691_encode.specs.declared.message.Misfit.{Misfit}
-use Rattle.asn1_x691_encode.specs.Encoding.{tape, types, IsLater, IsFar, IsLong, IsWide, AreWide}
+use Rattle.asn1_x691_encode.specs.Encoding.{tape, types, IsLater, IsFar, IsLong, IsOff, IsWide, AreWide}
 
 module _ (c : Context) (depth node : ℕ) where
   -- so many first parts have a complete encoding of so many octets, which the first octets are, unless there are too few
@@ -30,7 +30,7 @@ module _ (c : Context) (depth node : ℕ) where
   -- the parts have a value that is left: it is not encoded yet, or it was to be compared in octets that are too few for it
   abbrev pub IsNotYet : Misfit → Type 0
   IsNotYet m = ((m.reason ≡ Unsupported)
-      × (IsLater c m.part (slice_get c.tables.nodes.now m.node) ⊎ (IsFar c m.part ⊎ IsLong c m.part)))
+      × (IsLater c m.part (slice_get c.tables.nodes.now m.node) ⊎ (IsFar c m.part ⊎ (IsLong c m.part ⊎ IsOff c m.part))))
       ⊎ ((m.reason ≡ NoRoom) × (IsWide c m.part ⊎ AreWide c m.part))
 
   abbrev pub IsRejected : Misfit → Type 0

@@ -8,13 +8,14 @@ use Rattle.asn1_schema.specs.TypeEncodings.{TypeEncoding}
 use Rattle.asn1_x691.specs.declared.fault.FaultKind.{FaultKind}
 use Rattle.asn1_x691.specs.Fields.{phase}
 use Rattle.asn1_x691.specs.Laws.TypeLaws.{type_at_type}
+use Rattle.asn1_x691.specs.Limits.{no_limits}
 use Rattle.asn1_x691_writers.specs.declared.state.Writer.{Writer}
 use Rattle.asn1_x691_writers.specs.declared.state.Rejection.TheVariants.{Misfit}
 use Rattle.asn1_x691_writers.specs.GrownSteps.{index_octet}
 use Rattle.asn1_x691_writers.specs.Written.{IsAlike, IsIndex}
 use Rattle.asn1_x691_encode.specs.declared.context.Context.{Context}
 use Rattle.asn1_x691_encode.specs.Compared.{IsIn, IsDefaultAt, IsCompared}
-use Rattle.asn1_x691_encode.specs.Encoding.{tape, types, value_in, encoder_limits, defaults_in, IsEncoded, IsFirstMisfit, IsLeft, Outcome}
+use Rattle.asn1_x691_encode.specs.Encoding.{tape, types, value_in, defaults_in, IsEncoded, IsFirstMisfit, IsLeft, Outcome}
 
 pub phase_alike : (aligned : Bool) (n at : ℕ) → IsAlike aligned n at → phase aligned n ≡ phase aligned at
 phase_alike false n at h = refl
@@ -51,13 +52,13 @@ module _ (c : Context) where
     pub one_value : (t xs ys rest other : Parts) (a b : List Bool) → P xs a → P ys b → t ≡ xs ++ rest → t ≡ ys ++ other
         → (xs ≡ ys) × (rest ≡ other) × (a ≡ b)
     one_value =
-        ((type_at_type encoder_limits c.is_aligned c.tables.nodes.now c.tables.members.now c.tables.ranges.now (defaults_in c) depth inner).good
+        ((type_at_type no_limits c.is_aligned c.tables.nodes.now c.tables.members.now c.tables.ranges.now (defaults_in c) depth inner).good
         at).encodes.one
 
     -- parts that begin with a value have no misfit
     pub no_misfit : (t xs rest : Parts) (a : List Bool) (e : _) → P xs a → t ≡ xs ++ rest → (types c depth inner at).misfit t e → ⊥
     no_misfit t xs rest a e p is m =
-        ((type_at_type encoder_limits c.is_aligned c.tables.nodes.now c.tables.members.now c.tables.ranges.now (defaults_in c) depth inner).good
+        ((type_at_type no_limits c.is_aligned c.tables.nodes.now c.tables.members.now c.tables.ranges.now (defaults_in c) depth inner).good
         at).encodes.excludes t e m xs rest a p is
 
   -- ---- a value that is encoded once more, in octets of its own

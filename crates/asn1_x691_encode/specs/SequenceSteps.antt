@@ -12,11 +12,12 @@ use Rattle.asn1_schema.specs.TypeEncodings.{TypeEncoding, AfterHeader, Misfit, o
 use Rattle.asn1_x691.specs.declared.fault.FaultKind.{FaultKind}
 use Rattle.asn1_x691.specs.declared.fault.FaultKind.TheVariants.{NoNode}
 use Rattle.asn1_x691.specs.Types.{component, component_by, value_by, presence_bits, is_optional, optional_count}
+use Rattle.asn1_x691.specs.Limits.{no_limits}
 use Rattle.asn1_x691_writers.specs.declared.state.Writer.{Writer}
 use Rattle.asn1_x691_writers.specs.declared.state.Rejection.TheVariants.{Misfit as RejectedAs}
 use Rattle.asn1_x691_writers.specs.FieldSteps.{alike_after}
 use Rattle.asn1_x691_writers.specs.Written.{IsAlike, IsIndex, IsGrown}
-use Rattle.asn1_x691_encode.specs.Encoding.{tape, encoder_limits, defaults_in, types, root_in, components_in, IsEncoded, IsFirstMisfit, IsLeft}
+use Rattle.asn1_x691_encode.specs.Encoding.{tape, defaults_in, types, root_in, components_in, IsEncoded, IsFirstMisfit, IsLeft}
 use Rattle.asn1_x691_encode.specs.Components.{OptionalOutcome, ComponentOutcome, AreUnderway, AreMisfit}
 use Rattle.asn1_x691_encode.specs.declared.context.Context.{Context}
 use Rattle.asn1_x691_encode.specs.ComponentSteps.{mandatory_on, absent_on, present_on, all_passed}
@@ -31,13 +32,13 @@ module _ (c : Context) where
 
   module _ (depth node : ℕ) where
     abbrev V : Presence → (ℕ → TypeEncoding FaultKind) → ℕ → TypeEncoding FaultKind
-    V p A = value_by encoder_limits c.is_aligned (types c depth) c.tables.members.now c.tables.ranges.now (defaults_in c) node p A
+    V p A = value_by no_limits c.is_aligned (types c depth) c.tables.members.now c.tables.ranges.now (defaults_in c) node p A
 
     abbrev by : Presence → (ℕ → TypeEncoding FaultKind) → (ℕ → AfterHeader FaultKind (List Bool)) → ℕ → AfterHeader FaultKind (List Bool)
-    by p A F = component_by encoder_limits c.is_aligned (types c depth) c.tables.members.now c.tables.ranges.now (defaults_in c) node p (V p A) F
+    by p A F = component_by no_limits c.is_aligned (types c depth) c.tables.members.now c.tables.ranges.now (defaults_in c) node p (V p A) F
 
     abbrev of_member : Option Member → (ℕ → AfterHeader FaultKind (List Bool)) → ℕ → AfterHeader FaultKind (List Bool)
-    of_member o F = component encoder_limits c.is_aligned (types c depth) c.tables.members.now c.tables.ranges.now (defaults_in c) node o F
+    of_member o F = component no_limits c.is_aligned (types c depth) c.tables.members.now c.tables.ranges.now (defaults_in c) node o F
 
     abbrev run : ℕ → ℕ → ℕ → AfterHeader FaultKind (List Bool)
     run n at = components_in c depth node n at

@@ -9,7 +9,7 @@ use Rattle.asn1_schema.specs.Encodings.{with_bits}
 use Rattle.asn1_schema.specs.TypeEncodings.{TypeEncoding, several_by_bits}
 use Rattle.asn1_x691.specs.declared.fault.FaultKind.{FaultKind}
 use Rattle.asn1_x691.specs.Fields.{phase}
-use Rattle.asn1_x691.specs.Limits.{IsOffOctet}
+use Rattle.asn1_x691.specs.Limits.{no_limits, IsOffOctet}
 use Rattle.asn1_x691.specs.Laws.SetLaws as laws
 use Rattle.asn1_x691_writers.specs.declared.state.Writer.{Writer}
 use Rattle.asn1_x691_writers.specs.FieldSteps.{turn_written, alike_after}
@@ -18,7 +18,7 @@ use Rattle.asn1_x691_writers.specs.Written.{IsAlike, IsGrown, IsIndex}
 use Rattle.asn1_x691_encode.specs.declared.context.Context.{Context}
 use Rattle.asn1_x691_encode.specs.declared.set.Place.{Place}
 use Rattle.asn1_x691_encode.specs.Compared.{IsIn}
-use Rattle.asn1_x691_encode.specs.Encoding.{tape, types, in_order_in, encoder_limits, defaults_in, IsEncoded, Outcome}
+use Rattle.asn1_x691_encode.specs.Encoding.{tape, types, in_order_in, defaults_in, IsEncoded, Outcome}
 use Rattle.asn1_x691_encode.specs.ListSteps.{IsUnderway, underway_first, underway_on}
 use Rattle.asn1_x691_encode.specs.OtherSteps.{phase_alike}
 use Rattle.asn1_x691_encode.specs.PlaceSteps.{placed, placed_first, placed_second, found, ends_after}
@@ -44,10 +44,6 @@ ordered_alike aligned node first before list n at new false h (same, next, inl (
 ordered_alike aligned node first before list n at new false h (same, next, inr (reason, off, less)) =
     (same, next, inr (reason, λ p. off (off_alike aligned before at n (alike_back aligned n at h) p), less))
 
-none_off : (aligned : Bool) (at : ℕ) → IsOffOctet true aligned [] at → ⊥
-none_off false at p = p
-none_off true at p = omega (arith, p.0)
-
 module _ (c : Context) (depth node item : ℕ) where
   abbrev A : ℕ → TypeEncoding FaultKind
   A = types c depth item
@@ -64,7 +60,7 @@ module _ (c : Context) (depth node item : ℕ) where
         parts = a.parts;
         written = record {
           list = a.written.list;
-          encodes = λ n h. ((a.written.encodes n h, none_off c.is_aligned n), λ w. omega (arith, w.some));
+          encodes = λ n h. ((a.written.encodes n h, λ o. o), λ w. omega (arith, w.some));
           grown = a.written.grown;
         };
         taken = a.taken;
@@ -96,31 +92,29 @@ module _ (c : Context) (depth node item : ℕ) where
           written = record {
             list = a.written.list;
             encodes = λ n h. (
-              (a.written.encodes n h, no_off n h off),
-              λ w. less (laws.in_place encoder_limits c.is_aligned c.tables.nodes.now c.tables.members.now c.tables.ranges.now (defaults_in c)
+              (a.written.encodes n h, λ o. o),
+              λ w. less (laws.in_place no_limits c.is_aligned c.tables.nodes.now c.tables.members.now c.tables.ranges.now (defaults_in c)
                   depth item before n a.written.list (no_off n h off) w),
             );
             grown = a.written.grown;
           };
           taken = a.taken;
         })
-    ordered_on false kept (same, next, inl (reason, off)) = inl (record {
-      kind = misfit.Unsupported;
-      reason = reason;
-      first = λ n h.
-          inl (inr (
-            record {
-              parts = a.parts;
-              list = a.written.list;
-              rest = tape c mid.next;
-              encodes = a.written.encodes n h;
-              are = a.taken;
-              holds = off_alike c.is_aligned before n old.at h off;
-            },
-            ap (λ (k : ℕ). record { node = k; left = length (tape c new.next); kind = misfit.Unsupported }) same
-                ∙ ap (λ (i : ℕ). record { node = node; left = length (tape c i); kind = misfit.Unsupported }) next,
-          ));
-    })
+    ordered_on false kept (same, next, inl (reason, off)) = inr (inl (
+      reason,
+      inr (inr (inr (record {
+        depth = depth;
+        item = item;
+        at = old.at;
+        parts = a.parts;
+        list = a.written.list;
+        rest = tape c mid.next;
+        encodes = a.written.encodes old.at (λ q. refl);
+        are = ap (λ (i : ℕ). tape c i) next ∙ a.taken;
+        before = before;
+        off = off;
+      }))),
+    ))
     ordered_on false kept (same, next, inr (reason, off, less)) = inl (record {
       kind = misfit.NotAscending;
       reason = reason;
@@ -130,9 +124,9 @@ module _ (c : Context) (depth node item : ℕ) where
               parts = a.parts;
               list = a.written.list;
               rest = tape c mid.next;
-              encodes = (a.written.encodes n h, no_off n h off);
+              encodes = (a.written.encodes n h, λ o. o);
               are = a.taken;
-              holds = laws.misplaced encoder_limits c.is_aligned c.tables.nodes.now c.tables.members.now c.tables.ranges.now (defaults_in c)
+              holds = laws.misplaced no_limits c.is_aligned c.tables.nodes.now c.tables.members.now c.tables.ranges.now (defaults_in c)
                   depth item before n began xs a.parts a.written.list (no_off n h off) (ended n h) p (a.written.encodes n h) less;
             },
             ap (λ (k : ℕ). record { node = k; left = length (tape c new.next); kind = misfit.NotAscending }) same

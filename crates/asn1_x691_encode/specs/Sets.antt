@@ -5,7 +5,7 @@ use Rattle.asn1_bits.specs.BitLists.{bits_cmp}
 use Rattle.asn1_schema.specs.declared.misfit.MisfitKind.TheVariants as misfit
 use Rattle.asn1_x691.specs.Limits.{IsOffOctet}
 use Rattle.asn1_x691_writers.specs.declared.state.Writer.{Writer}
-use Rattle.asn1_x691_writers.specs.declared.state.Rejection.TheVariants.{Misfit}
+use Rattle.asn1_x691_writers.specs.declared.state.Rejection.TheVariants.{Misfit, Unsupported}
 use Rattle.asn1_x691_encode.specs.declared.context.Context.{Context}
 use Rattle.asn1_x691_encode.specs.declared.set.Place.{Place}
 use Rattle.asn1_x691_encode.specs.Encoding.{types, IsEncoded, IsLeft}
@@ -28,7 +28,7 @@ IsPreviousIn c depth item (Some place) before now new = IsPrevious c depth item 
 -- why an item at a position, which follows one with the bits before it, is not in order
 abbrev pub IsUnordered : Bool → List Bool → ℕ → List Bool → Writer → Type 0
 IsUnordered aligned before at list new =
-    ((new.reason ≡ Misfit misfit.Unsupported) × IsOffOctet true aligned before at)
+    ((new.reason ≡ Unsupported) × IsOffOctet true aligned before at)
     ⊎ ((new.reason ≡ Misfit misfit.NotAscending) × ¬ (IsOffOctet true aligned before at) × (bits_cmp list before ≡ Less))
 
 -- the item is in order, or the state says why not

@@ -16,7 +16,7 @@ use crate::encoder::encode_node;
 use crate::within::{WINDOW, is_in, leave_unread, stop};
 use asn1_schema::MisfitKind;
 use asn1_x691_fields::is_before;
-use asn1_x691_writers::{Rejection, Writer, reject};
+use asn1_x691_writers::{Rejection, Writer, leave, reject};
 
 /// Where an item begins: the indexes of its first bit and of its first part.
 #[derive(Clone, Copy, Debug)]
@@ -202,7 +202,7 @@ fn is_ordered(
 {
     if is_off_octet(is_aligned, from - before, from) {
         state.next = first;
-        return reject(state, node, MisfitKind::Unsupported);
+        return leave(state, node);
     }
     if is_before(octets, before, from, to) {
         state.next = first;
@@ -212,7 +212,7 @@ fn is_ordered(
 }
 
 /// Returns whether an item at a position, or the one of so many bits that it follows, does not begin
-/// at an octet, which exceeds the limit of the encoder in the ALIGNED variant.
+/// at an octet in the ALIGNED variant, where its bits in place do not tell the order.
 fn is_off_octet(is_aligned: bool, count: usize, position: usize) -> bool
     ensures { (list : List Bool) → length list ≡ count → Decides result (IsOffOctet true is_aligned list position) }
 {

@@ -8,9 +8,10 @@ use Rattle.asn1_schema.specs.TypeEncodings.{TypeEncoding}
 use Rattle.asn1_x691.specs.declared.fault.FaultKind.{FaultKind}
 use Rattle.asn1_x691.specs.Fields.{small_number}
 use Rattle.asn1_x691.specs.Types.{added, alternative_of_addition}
+use Rattle.asn1_x691.specs.Limits.{no_limits}
 use Rattle.asn1_x691_writers.specs.Put.{piece_in}
 use Rattle.asn1_x691_writers.specs.PutSteps.{rejected}
-use Rattle.asn1_x691_encode.specs.Encoding.{Outcome, encoder_limits, defaults_in, tape, types, choice_extension_in}
+use Rattle.asn1_x691_encode.specs.Encoding.{Outcome, defaults_in, tape, types, choice_extension_in}
 use Rattle.asn1_x691_encode.specs.AlternativeSteps.{known_alternative, unknown_alternative}
 use Rattle.asn1_x691_encode.specs.LeafSteps.{after_put, part_next}
 use Rattle.asn1_x691_encode.specs.ListSteps.{part_step}
@@ -59,9 +60,9 @@ encode_added-returns-in-Known t c =
     let h = c.in-Known.ensures cx.tables.ranges.now in
     let last = a.rows.count - 1 in
     let is = subst (λ (n : ℕ). piece_in cx.tables.ranges.now cx.source.now a.part ≡ Chosen (n + 1 + i)) c.saturating_sub-last.ensures h.1 in
-    let B : Bool → ℕ → TypeEncoding FaultKind = λ (b : Bool). added encoder_limits cx.is_aligned (types cx a.depth) cx.tables.members.now cx.tables.ranges.now (defaults_in cx) a.node a.known b i in
+    let B : Bool → ℕ → TypeEncoding FaultKind = λ (b : Bool). added no_limits cx.is_aligned (types cx a.depth) cx.tables.members.now cx.tables.ranges.now (defaults_in cx) a.node a.known b i in
     (part_step cx (small_number cx.is_aligned a.node) (alternative_of_addition last a.known.count)
-    (λ n. added encoder_limits cx.is_aligned (types cx a.depth) cx.tables.members.now cx.tables.ranges.now (defaults_in cx) a.node a.known
+    (λ n. added no_limits cx.is_aligned (types cx a.depth) cx.tables.members.now cx.tables.ranges.now (defaults_in cx) a.node a.known
     (nat_lt n a.known.count) n) a.node i a.octets.now put.new.octets old mid (put.ensures a.node)
     (part_next cx old.next a.part c.requires.next
     ∙ ap (λ (q : Piece). q ∷ tape cx (old.next + 1)) (is ∙ known_alternative last a.known.count i h.0))).onward
@@ -79,9 +80,9 @@ encode_added-returns-in-Unknown t c =
     let i = c.in-Unknown.index in
     let h = c.in-Unknown.ensures cx.tables.ranges.now in
     let last = a.rows.count - 1 in
-    let B : Bool → ℕ → TypeEncoding FaultKind = λ (b : Bool). added encoder_limits cx.is_aligned (types cx a.depth) cx.tables.members.now cx.tables.ranges.now (defaults_in cx) a.node a.known b i in
+    let B : Bool → ℕ → TypeEncoding FaultKind = λ (b : Bool). added no_limits cx.is_aligned (types cx a.depth) cx.tables.members.now cx.tables.ranges.now (defaults_in cx) a.node a.known b i in
     (part_step cx (small_number cx.is_aligned a.node) (alternative_of_addition last a.known.count)
-    (λ n. added encoder_limits cx.is_aligned (types cx a.depth) cx.tables.members.now cx.tables.ranges.now (defaults_in cx) a.node a.known
+    (λ n. added no_limits cx.is_aligned (types cx a.depth) cx.tables.members.now cx.tables.ranges.now (defaults_in cx) a.node a.known
     (nat_lt n a.known.count) n) a.node i a.octets.now put.new.octets old mid (put.ensures a.node)
     (part_next cx old.next a.part c.requires.next
     ∙ ap (λ (q : Piece). q ∷ tape cx (old.next + 1)) (h.1 ∙ unknown_alternative last a.known.count i h.0))).onward

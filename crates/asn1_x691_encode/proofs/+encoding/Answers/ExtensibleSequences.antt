@@ -5,9 +5,10 @@ use Rattle.asn1_schema.specs.Encodings.{constant}
 use Rattle.asn1_schema.specs.Pieces.{Sequence}
 use Rattle.asn1_schema.specs.TypeEncodings.{put}
 use Rattle.asn1_x691.specs.Types.{IsExtended}
+use Rattle.asn1_x691.specs.Limits.{no_limits}
 use Rattle.asn1_x691_writers.specs.GrownSteps.{grown_none}
 use Rattle.asn1_x691_writers.specs.Put.{piece_in}
-use Rattle.asn1_x691_encode.specs.Encoding.{encoder_limits, defaults_in, tape, types, sequence_in, extensible_sequence_in, extended_in, extension_in, root_in}
+use Rattle.asn1_x691_encode.specs.Encoding.{defaults_in, tape, types, sequence_in, extensible_sequence_in, extended_in, extension_in, root_in}
 use Rattle.asn1_x691_encode.specs.ExtensionSteps.{root_step, added_step}
 use Rattle.asn1_x691_encode.specs.LeafSteps.{after_none, part_next}
 use Rattle.asn1_x691_encode.specs.ListSteps.{both_step, both_fails, part_step, underway_on}
@@ -44,7 +45,7 @@ encode_extensible_sequence-returns-else-is_sequence t c =
     let bit = c.put_bit-state-in-Some in
     let last = c.encode_sequence in
     (root_step cx a.node
-    (IsExtended encoder_limits cx.is_aligned (types cx a.depth) cx.tables.members.now cx.tables.ranges.now (defaults_in cx) a.node a.root)
+    (IsExtended no_limits cx.is_aligned (types cx a.depth) cx.tables.members.now cx.tables.ranges.now (defaults_in cx) a.node a.root)
     (sequence_in cx a.depth a.node a.root) (put (Sequence a.root.count true) (extended_in cx a.depth a.node a.root a.known) a.node)
     c.in-Some.part a.octets.now bit.new.octets a.state.now bit.result (sym c.part_at.ensures ∙ c.in-Some.is)
     (bit.ensures cx.is_aligned a.node)
@@ -67,7 +68,7 @@ encode_extensible_sequence-returns-then-is_sequence t c =
     let X = extended_in cx a.depth a.node a.root a.known in
     (underway_on cx W (put p X a.node) X a.octets.now bit.new.octets bit.new.octets old mid begun
     (added_step cx a.node
-    (IsExtended encoder_limits cx.is_aligned (types cx a.depth) cx.tables.members.now cx.tables.ranges.now (defaults_in cx) a.node a.root)
+    (IsExtended no_limits cx.is_aligned (types cx a.depth) cx.tables.members.now cx.tables.ranges.now (defaults_in cx) a.node a.root)
     (sequence_in cx a.depth a.node a.root) (put p X a.node) c.in-Some.part a.octets.now bit.new.octets old bit.result is
     (bit.ensures cx.is_aligned a.node) (ap (piece_in cx.tables.ranges.now cx.source.now) e))
     (part_step cx (λ at. constant tt) (λ u. p) (λ u. X) a.node tt bit.new.octets bit.new.octets mid begun

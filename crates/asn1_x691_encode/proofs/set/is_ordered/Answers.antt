@@ -17,7 +17,7 @@ size octets before from to a b c = front_length (bits octets) before (from - bef
 pub returns-then-is_off_octet-clause-ordered : goal.returns-then-is_off_octet-clause-ordered
 returns-then-is_off_octet-clause-ordered c =
     let a = c.args in
-    let k = c.reject in
+    let k = c.leave in
     let list = bits a.octets.now in
     let xs = bits_at list a.before (a.from - a.before) in
     let width = size a.octets.now a.before a.from a.to c.requires.begins c.requires.order c.requires.inside in
@@ -28,7 +28,7 @@ returns-then-is_off_octet-clause-ordered c =
 pub returns-then-is_before-clause-ordered : goal.returns-then-is_before-clause-ordered
 returns-then-is_before-clause-ordered c =
     let a = c.args in
-    let k = c.reject-then-is_before in
+    let k = c.reject in
     let list = bits a.octets.now in
     let xs = bits_at list a.before (a.from - a.before) in
     let width = size a.octets.now a.before a.from a.to c.requires.begins c.requires.order c.requires.inside in
