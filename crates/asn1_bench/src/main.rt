@@ -46,6 +46,7 @@ fn show_records(rt: &HostRuntime, rounds: u32) -> anyhow::Result<()> {
     for record in [
         Record::SecondDecoded,
         Record::ThirdDecoded,
+        Record::SecondEncoded,
         Record::ThirdEncoded,
     ] {
         show(rt, Ok(record), rounds)?;

@@ -174,6 +174,8 @@ pub enum Record {
     SecondDecoded,
     /// That of A.3, decoded.
     ThirdDecoded,
+    /// That of A.2, encoded.
+    SecondEncoded,
     /// That of A.3, encoded.
     ThirdEncoded,
 }
@@ -183,6 +185,7 @@ impl Row for Record {
         let name = match self {
             Record::SecondDecoded => "the record of X.691 A.2 decoded by a schema",
             Record::ThirdDecoded => "the record of X.691 A.3 decoded by a schema",
+            Record::SecondEncoded => "the record of X.691 A.2 encoded by a schema",
             Record::ThirdEncoded => "the record of X.691 A.3 encoded by a schema",
         };
         Work {
@@ -196,7 +199,8 @@ impl Row for Record {
         match self {
             Record::SecondDecoded => decode_hundred(false, &SECOND),
             Record::ThirdDecoded => decode_hundred(true, &THIRD),
-            Record::ThirdEncoded => encode_hundred(&THIRD),
+            Record::SecondEncoded => encode_hundred(false, &SECOND),
+            Record::ThirdEncoded => encode_hundred(true, &THIRD),
         }
     }
 }
@@ -243,8 +247,8 @@ fn decode_one<'m>(
 
 /// Encodes the record that these octets are a hundred times, and returns the sum of the numbers of
 /// its octets.
-fn encode_hundred(source: &[u8]) -> Result<u64, AllocError> {
-    let (nodes, members) = (types(true), components(true));
+fn encode_hundred(is_extensible: bool, source: &[u8]) -> Result<u64, AllocError> {
+    let (nodes, members) = (types(is_extensible), components(is_extensible));
     let mut parts = [Part::Absent; ROOM];
     let count = decode_one(&nodes, &members, source, &mut parts)?;
     let Some(parts) = parts.get(..count) else {
@@ -272,6 +276,10 @@ fn encode_one<'m>(
             nodes,
             members,
             ranges: &RANGES,
+        },
+        defaults: Defaults {
+            octets: &NO_CHILDREN,
+            spans: &SPANS,
         },
         parts,
         source,

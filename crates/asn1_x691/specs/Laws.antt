@@ -15,6 +15,7 @@ pub mod ItemLaws
 pub mod TypeLaws
 pub mod PhaseLaws
 pub mod TypePhaseLaws
+pub mod SetLaws
 pub mod LimitLaws
 pub mod TypeLimitLaws
 pub mod ExampleLaws

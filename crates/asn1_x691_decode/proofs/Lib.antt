@@ -1,6 +1,5 @@
 mod PresenceSteps
 mod Steps
-mod CompareSteps
 mod ExceptSteps
 pub mod OpenSteps
 mod SequenceSteps

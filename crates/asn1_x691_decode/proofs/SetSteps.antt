@@ -1,21 +1,18 @@
 -- Steps over a SET OF, whose items are in ascending order.
 use Rattle.std.proofs.Common.{◌≡◌, ◌≢◌, ℕ, zero, suc, ◌+◌, ◌-◌, ◌<◌, ◌%◌, List, [], ◌∷◌, ◌++◌, Bool, true, false, length, take, drop, refl, sym, ap, subst, arith, inl, inr}
 use Rattle.std.specs.declared.cmp.Ordering.TheVariants.{Less}
-use Rattle.std.proofs.lemmas.List.{append-nil}
 use Rattle.asn1_bits.specs.Bits.{bits}
 use Rattle.asn1_bits.specs.BitLists.{bits_cmp}
 use Rattle.asn1_schema.specs.declared.part.Part.{Part}
 use Rattle.asn1_schema.specs.Pieces.{Parts}
 use Rattle.asn1_schema.specs.PiecesOfParts.{bits_at}
-use Rattle.asn1_schema.specs.Order.{IsBefore}
 use Rattle.asn1_schema.specs.Encodings.{Fault, Encoding, Starts, with_bits}
-use Rattle.asn1_schema.specs.Laws.OrderLaws.{IsNoFront, is_before, puts_first}
 use Rattle.asn1_x691.specs.declared.fault.FaultKind.{FaultKind}
 use Rattle.asn1_x691.specs.Fields.{phase}
 use Rattle.asn1_x691.specs.Limits.{IsOffOctet}
 use Rattle.asn1_x691.specs.Types.{IsMisplaced}
-use Rattle.asn1_x691.specs.Laws.TypeLaws.{type_at_type}
-use Rattle.asn1_x691.specs.Laws.TypePhaseLaws.{type_at_follows}
+use Rattle.asn1_x691.specs.Laws.SetLaws as laws
+use Rattle.asn1_x691.specs.Laws.SetLaws.{some_before}
 use Rattle.asn1_x691_fields.specs.declared.state.State.{State}
 use Rattle.asn1_x691_fields.specs.Outcomes.{rest, position, IsWithin, IsMoved}
 use Rattle.asn1_x691_fields.specs.Steps.{after_starts, after_fault, front_length}
@@ -26,19 +23,6 @@ use Rattle.asn1_x691_decode.proofs.ExceptSteps.{front_bits}
 
 -- ---- the order of two items
 
--- in the ALIGNED variant both begin at octets
-on_octets : (aligned : Bool) (before : List Bool) (at : ℕ) → 0 < length before → (IsOffOctet true aligned before at → ⊥)
-    → (phase aligned at ≡ phase aligned 0) × ((n : ℕ) → phase aligned (n + length before) ≡ phase aligned at → phase aligned n ≡ phase aligned 0)
-on_octets false before at some f = (refl, λ n e. refl)
-on_octets true before at some f =
-    let a : at % 8 ≡ 0 = not_not (at % 8) (λ h. f (some, inl h)) in
-    let b : length before % 8 ≡ 0 = not_not (length before % 8) (λ h. f (some, inr h)) in
-    (a, λ n e. omega (arith, a, b, e))
-  where
-    not_not : (n : ℕ) → (n ≢ 0 → ⊥) → n ≡ 0
-    not_not zero f = refl
-    not_not (suc n) f = absurd (f (λ e. omega (arith, e)))
-
 module _ (c : Context) (depth item : ℕ) where
   abbrev list : List Bool
   list = bits c.octets.now
@@ -46,68 +30,10 @@ module _ (c : Context) (depth item : ℕ) where
   abbrev P : ℕ → Parts → List Bool → Type 0
   P at = (types c depth item at).encoding.encodes
 
-  same : (p q : ℕ) → phase c.is_aligned p ≡ phase c.is_aligned q → (x : Parts) (l : List Bool) → P p x l → P q x l
-  same = (type_at_follows decoder_limits c.is_aligned c.tables.nodes.now c.tables.members.now c.tables.ranges.now (defaults_in c) depth item).same
-
-  one_encoding : (x : Parts) (a b : List Bool) → P 0 x a → P 0 x b → a ≡ b
-  one_encoding x a b p q =
-      (((type_at_type decoder_limits c.is_aligned c.tables.nodes.now c.tables.members.now c.tables.ranges.now (defaults_in c) depth item).good 0).encodes.one
-      x x x [] [] a b p q (sym (append-nil x)) (sym (append-nil x))).2
-
-  no_front : (x y : Parts) (a b : List Bool) → P 0 x a → P 0 y b → IsNoFront a b
-  no_front x y a b p q more e =
-      let d = ((type_at_type decoder_limits c.is_aligned c.tables.nodes.now c.tables.members.now c.tables.ranges.now (defaults_in c) depth item).good 0).decodes.one.one
-      b x y more [] (record { front = a; encoded = p; parts = e }) (record { front = b; encoded = q; parts = sym (append-nil b) }) in
-      ap length d.1
-
-  module _ (before : List Bool) (at began : ℕ) (x y : Parts) (l : List Bool) (some : 0 < length before)
-      (on : IsOffOctet true c.is_aligned before at → ⊥) (ends : began + length before ≡ at) (p : P began x before) (q : P at y l) where
-    place : (phase c.is_aligned at ≡ phase c.is_aligned 0)
-        × ((n : ℕ) → phase c.is_aligned (n + length before) ≡ phase c.is_aligned at → phase c.is_aligned n ≡ phase c.is_aligned 0)
-    place = on_octets c.is_aligned before at some on
-
-    first_alone : P 0 x before
-    first_alone = same began 0 (place.1 began (ap (λ (n : ℕ). phase c.is_aligned n) ends)) x before p
-
-    second_alone : P 0 y l
-    second_alone = same at 0 place.0 y l q
-
-    pub misplaced : bits_cmp l before ≡ Less → IsMisplaced c.is_aligned (λ n. types c depth item n) before at l
-    misplaced e = record {
-      first = x;
-      second = y;
-      first_bits = before;
-      second_bits = l;
-      some = some;
-      began = began;
-      ended = ap (λ (n : ℕ). phase c.is_aligned n) ends;
-      first_here = p;
-      second_here = q;
-      first_alone = first_alone;
-      second_alone = second_alone;
-      are_before = is_before l before (no_front y x l before second_alone first_alone) e;
-    }
-
   pub in_place : (before : List Bool) (at : ℕ) (l : List Bool) → (IsOffOctet true c.is_aligned before at → ⊥)
       → IsMisplaced c.is_aligned (λ n. types c depth item n) before at l → bits_cmp l before ≡ Less
-  in_place before at l on w =
-      let place = on_octets c.is_aligned before at w.some on in
-      let a = one_encoding w.first before w.first_bits (same w.began 0 (place.1 w.began w.ended) w.first before w.first_here) w.first_alone in
-      let b = one_encoding w.second l w.second_bits (same at 0 place.0 w.second l w.second_here) w.second_alone in
-      puts_first l before (subst (λ (i : List Bool). IsBefore l i) (sym a) (subst (λ (i : List Bool). IsBefore i w.first_bits) (sym b) w.are_before))
-
-  -- no list is put before that of no bits
-  not_below_nothing : (l : List Bool) → bits_cmp l [] ≡ Less → ⊥
-  not_below_nothing [] e = cc
-  not_below_nothing (b ∷ l) e = cc
-
-  no_bits : (l : List Bool) → length l ≡ 0 → l ≡ []
-  no_bits [] e = refl
-  no_bits (b ∷ l) e = absurd (omega (arith, e))
-
-  some_before : (l before : List Bool) → bits_cmp l before ≡ Less → 0 < length before
-  some_before l [] e = absurd (not_below_nothing l e)
-  some_before l (b ∷ before) e = omega arith
+  in_place =
+      laws.in_place decoder_limits c.is_aligned c.tables.nodes.now c.tables.members.now c.tables.ranges.now (defaults_in c) depth item
 
   pub misplaced_item : (s : State) (from : ℕ) (y : Parts) (l : List Bool) → IsWithin list s → IsItemBefore c depth item from s
       → (IsOffOctet true c.is_aligned (bits_at list from (s.at - from)) (position s) → ⊥) → P (position s) y l
@@ -119,7 +45,10 @@ module _ (c : Context) (depth item : ℕ) where
       let some = some_before l before e in
       elim b.is [
         | inl same ↦ absurd (omega (arith, same, size, some))
-        | inr i ↦ misplaced before (position s) (from - s.first) i.parts y l some on (omega (arith, size, b.begins, b.ends, h.begins)) i.encodes q e
+        | inr i ↦
+            let ends : from - s.first + length before ≡ position s = omega (arith, size, b.begins, b.ends, h.begins) in
+            laws.misplaced decoder_limits c.is_aligned c.tables.nodes.now c.tables.members.now c.tables.ranges.now (defaults_in c) depth item
+            before (position s) (from - s.first) i.parts y l on (ap (λ (n : ℕ). phase c.is_aligned n) ends) i.encodes q e
       ]
 
 -- ---- items, each of which depends on the bits of the one before it

@@ -1,5 +1,5 @@
 -- What a decoder did: the parts that it found, or the first fault.
-use Rattle.std.specs.Prelude.{◌≡◌, ℕ, ◌+◌, ◌-◌, ◌*◌, ◌<◌, ◌≤◌, ◌⊎◌, nat_le, Bool, true, false, List, [], ◌∷◌, length, Option, Some, None, slice_get}
+use Rattle.std.specs.Prelude.{◌≡◌, ℕ, ◌+◌, ◌-◌, ◌*◌, ◌<◌, ◌≤◌, ◌⊎◌, Bool, true, false, List, [], ◌∷◌, length, Option, Some, None}
 use Rattle.asn1_bits.specs.Bits.{bits}
 use Rattle.asn1_schema.specs.declared.part.Natural.{Natural}
 use Rattle.asn1_schema.specs.declared.part.Span.{Span}
@@ -22,6 +22,7 @@ use Rattle.asn1_x691.specs.Fragments.{most_fragments}
 use Rattle.asn1_x691.specs.Limits.{Limits}
 use Rattle.asn1_x691.specs.Types.{type_at, type_of, value_by, components, root_of, sequence_by, extension, addition, additions_by_bits, known_addition, sequence_of_by, sequence_of, added_length, in_order, items, choice, choice_by, choice_extension}
 use Rattle.asn1_x691_fields.specs.declared.state.State.{State}
+use Rattle.asn1_x691_fields.specs.Defaults.{default_in}
 use Rattle.asn1_x691_fields.specs.Outcomes.{rest, position, fault_of}
 use Rattle.asn1_x691_decode.specs.declared.context.Context.{Context}
 use Rattle.asn1_x691_decode.specs.declared.presence.PresenceBits.{PresenceBits}
@@ -33,22 +34,9 @@ use Rattle.asn1_x691_decode.specs.Room.{IsGrown}
 abbrev pub decoder_limits : Limits
 decoder_limits = record { octet_fragments = most_fragments; fragments = 0; sets_on_octets = true }
 
--- the bits that encode a default value after so many bits of an octet; none where the table has none. In the ALIGNED variant each
--- value has eight rows of the table, and otherwise one.
-abbrev pub row_of : Bool → ℕ → ℕ → ℕ
-row_of false value phase = value
-row_of true value phase = 8 * value + phase
-
-abbrev pub bits_if : Bool → List ℕ → Span → Option (List Bool)
-bits_if false octets s = None
-bits_if true octets s = Some (bits_of (bits octets) s)
-
-abbrev pub default_at : List ℕ → Option Span → Option (List Bool)
-default_at octets None = None
-default_at octets (Some s) = bits_if (nat_le (s.at + s.count) (8 * length octets)) octets s
-
+-- the bits that encode a default value after so many bits of an octet
 abbrev pub defaults_in : Context → ℕ → ℕ → Option (List Bool)
-defaults_in c value phase = default_at c.defaults.octets.now (slice_get c.defaults.spans.now (row_of c.is_aligned value phase))
+defaults_in c = default_in c.defaults c.is_aligned
 
 -- the types of a context, whose values are nested less deep than the depth
 abbrev pub types : Context → ℕ → ℕ → ℕ → TypeEncoding FaultKind

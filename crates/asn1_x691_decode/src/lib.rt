@@ -16,6 +16,7 @@ mod room;
 mod sequence;
 mod set;
 
-pub use context::{Context, Defaults};
+pub use asn1_x691_fields::Defaults;
+pub use context::Context;
 pub use laws::laws_of_limits;
 pub use message::{Fault, Prefix, decode, decode_prefix};

@@ -8,12 +8,11 @@ ghost use Rattle.asn1_x691.specs.Limits.{IsOffOctet};
 ghost use Rattle.asn1_x691_fields.specs.Outcomes.{IsWithin, IsMoved, IsPlaced, position};
 ghost use Rattle.asn1_x691_decode.specs.Decoding.{Outcome, set_items_in, in_order_in, IsItemBefore};
 
-use crate::compare::is_before;
 use crate::context::Context;
 use crate::decoder::decode_node;
 use asn1_schema::Part;
 use asn1_x691::FaultKind;
-use asn1_x691_fields::{State, fail};
+use asn1_x691_fields::{State, fail, is_before};
 
 /// Decodes so many items, each of which is not before the one that it follows.
 #[cycle(decoding)]

@@ -1,5 +1,5 @@
 -- What follows of a value that was encoded at the beginning of a message, and of the zeros after it.
-use Rattle.std.proofs.Common.{◌≡◌, ℕ, ◌+◌, ◌*◌, ◌/◌, ◌%◌, List, [], ◌++◌, Bool, length, refl, sym, ap, ◌∙◌, subst, inl, inr, arith, Option}
+use Rattle.std.proofs.Common.{◌≡◌, ℕ, ◌+◌, ◌*◌, ◌/◌, ◌%◌, List, [], ◌++◌, Bool, length, refl, sym, ap, ◌∙◌, subst, inl, inr, arith}
 use Rattle.std.specs.Prelude.{◌⊎◌}
 use Rattle.std.proofs.lemmas.List.{length-append}
 use Rattle.asn1_bits.specs.Bits.{digits}
@@ -17,8 +17,8 @@ whole_octets : (end total : ℕ) → IsIndex end total → total % 8 ≡ 0 → I
 whole_octets end total (inl e) z = inl (omega (arith, e, z))
 whole_octets end total (inr p) z = inr (omega (arith, p.0, p.2, z), omega (arith, p.1), omega (arith, z))
 
-module _ (c : Context) (defaults : ℕ → ℕ → Option (List Bool)) (depth node : ℕ) (was mid now : List ℕ) (old new : Writer) (end zeros : ℕ)
-    (begins : old.at ≡ 0) (first : old.next ≡ 0) (a : IsEncoded c (types c defaults depth node) was old mid new)
+module _ (c : Context) (depth node : ℕ) (was mid now : List ℕ) (old new : Writer) (end zeros : ℕ)
+    (begins : old.at ≡ 0) (first : old.next ≡ 0) (a : IsEncoded c (types c depth node) was old mid new)
     (pad : (n : ℕ) → IsIndex new.at n → zeros ≡ padding_of n) (g : IsGrown mid new.at now end (digits 0 zeros)) where
   abbrev value : List Bool
   value = a.written.list
@@ -43,7 +43,7 @@ module _ (c : Context) (defaults : ℕ → ℕ → Option (List Bool)) (depth no
       ap (λ (n : ℕ). n % 8) (length-append value (digits 0 zeros) ∙ ap (λ (n : ℕ). length value + n) (size ∙ padding_is))
       ∙ padded_whole (length value)
 
-  pub message_is : IsMessage c defaults depth node now (record { octets = end / 8; parts = new.next })
+  pub message_is : IsMessage c depth node now (record { octets = end / 8; parts = new.next })
   message_is = record {
     parts = a.parts;
     list = value ++ digits 0 zeros;
@@ -63,15 +63,15 @@ module _ (c : Context) (defaults : ℕ → ℕ → Option (List Bool)) (depth no
   }
 
 -- the reason why nothing was encoded
-pub rejected_is : (c : Context) (defaults : ℕ → ℕ → Option (List Bool)) (depth node : ℕ) (old new : Writer) → old.at ≡ 0 → old.next ≡ 0
-    → IsFirstMisfit c (types c defaults depth node) old new ⊎ IsLeft c new
-    → IsRejected c defaults depth node (record { node = new.node; part = new.next; reason = new.reason })
-rejected_is c defaults depth node old new begins first (inl m) = inl (record {
+pub rejected_is : (c : Context) (depth node : ℕ) (old new : Writer) → old.at ≡ 0 → old.next ≡ 0
+    → IsFirstMisfit c (types c depth node) old new ⊎ IsLeft c new
+    → IsRejected c depth node (record { node = new.node; part = new.next; reason = new.reason })
+rejected_is c depth node old new begins first (inl m) = inl (record {
   kind = m.kind;
   reason = m.reason;
   first =
       subst
-      (λ (i : ℕ). (types c defaults depth node 0).misfit (tape c i) (record { node = new.node; left = length (tape c new.next); kind = m.kind }))
+      (λ (i : ℕ). (types c depth node 0).misfit (tape c i) (record { node = new.node; left = length (tape c new.next); kind = m.kind }))
       first (m.first 0 (λ h. ap (λ (n : ℕ). n % 8) (sym begins)));
 })
-rejected_is c defaults depth node old new begins first (inr u) = inr u
+rejected_is c depth node old new begins first (inr u) = inr u

@@ -5,23 +5,18 @@ use Rattle.asn1_bits.specs.Bits.{digits}
 use Rattle.asn1_bits.specs.DigitLaws.{length-digits}
 use Rattle.asn1_schema.specs.declared.misfit.MisfitKind.TheVariants as misfit
 use Rattle.asn1_schema.specs.declared.tables.Member.{Member}
-use Rattle.asn1_schema.specs.declared.tables.Presence.{Presence}
-use Rattle.asn1_schema.specs.declared.tables.Presence.TheVariants as presence
 use Rattle.asn1_schema.specs.declared.tables.Rows.{Rows}
 use Rattle.asn1_schema.specs.TypeEncodings.{TypeEncoding, AfterHeader, IsAbsent, Misfit}
 use Rattle.asn1_x691.specs.declared.fault.FaultKind.{FaultKind}
-use Rattle.asn1_x691.specs.Fragments.{most_fragments}
-use Rattle.asn1_x691.specs.Limits.{no_limits}
-use Rattle.asn1_x691.specs.OpenTypes.{open_type}
-use Rattle.asn1_x691.specs.Types.{any_true, value_by}
+use Rattle.asn1_x691.specs.Types.{any_true}
 use Rattle.asn1_x691_writers.specs.declared.state.Writer.{Writer}
-use Rattle.asn1_x691_writers.specs.declared.state.Rejection.TheVariants.{Misfit as RejectedAs, Unsupported}
+use Rattle.asn1_x691_writers.specs.declared.state.Rejection.TheVariants.{Misfit as RejectedAs}
 use Rattle.asn1_x691_writers.specs.FieldSteps.{alike_after}
 use Rattle.asn1_x691_writers.specs.Written.{IsAlike, IsIndex, IsGrown}
 use Rattle.asn1_x691_encode.specs.declared.context.Context.{Context}
-use Rattle.asn1_x691_encode.specs.Encoding.{tape, types, open_in, known_in, addition_in, additions_in, present_additions_in, IsEncoded, IsFirstMisfit, Outcome}
+use Rattle.asn1_x691_encode.specs.Encoding.{tape, open_in, known_in, addition_in, additions_in, present_additions_in, IsEncoded, IsFirstMisfit, Outcome}
 use Rattle.asn1_x691_encode.specs.Components.{IsSet, AreUnderway, AreMisfit}
-use Rattle.asn1_x691_encode.specs.Additions.{IsDefaultLeft, IsRowLeft, KnownOutcome, AdditionOutcome, AdditionStep}
+use Rattle.asn1_x691_encode.specs.Additions.{AdditionStep}
 use Rattle.asn1_x691_encode.specs.ComponentSteps.{components_first, first_bits, absent_on, absent_bits, present_on, present_bits, misfit_on, all_passed}
 
 -- components with the bits before them, and whether one of these is 1
@@ -41,95 +36,66 @@ any_push (false ∷ xs) b = any_push xs b
 
 -- ---- a known addition
 
--- one that has no DEFAULT is an open type
-module _ (c : Context) (defaults : ℕ → ℕ → Option (List Bool)) (depth node : ℕ) (was now : List ℕ) (old new : Writer) (r : Bool) where
-  abbrev known_by : Presence → ℕ → ℕ → TypeEncoding FaultKind
-  known_by p inner = open_type most_fragments c.is_aligned node
-      (value_by no_limits c.is_aligned (types c defaults depth) c.tables.members.now c.tables.ranges.now defaults node p (types c defaults depth inner))
-
-  by_presence : (p : Presence) (inner : ℕ) → ((value : ℕ) → p ≡ presence.Default value → ⊥)
-      → Outcome c (open_in c defaults depth node inner) was old now new r → Outcome c (known_by p inner) was old now new r
-  by_presence presence.Mandatory inner none o = o
-  by_presence presence.Optional inner none o = o
-  by_presence (presence.Default value) inner none o = absurd (none value refl)
-
-  pub known_done : (at : ℕ) (m : Member) → slice_get c.tables.members.now at ≡ Some m → ((value : ℕ) → m.presence ≡ presence.Default value → ⊥)
-      → Outcome c (open_in c defaults depth node m.node) was old now new r
-      → KnownOutcome c defaults depth node (slice_get c.tables.members.now at) was old now new r
-  known_done at m is none o =
-      subst (λ (x : Option Member). KnownOutcome c defaults depth node x was old now new r) (sym is)
-      (inl (by_presence m.presence m.node none o))
-
-  pub known_left : (at : ℕ) (m : Member) (value : ℕ) → slice_get c.tables.members.now at ≡ Some m → m.presence ≡ presence.Default value
-      → r ≡ false → new.reason ≡ Unsupported → new.node ≡ node
-      → KnownOutcome c defaults depth node (slice_get c.tables.members.now at) was old now new r
-  known_left at m value is default e reason node_is =
-      inr (e, record { member = m; is = is; value = value; default = default; reason = reason; node_is = node_is })
+module _ (c : Context) (depth node : ℕ) (was now : List ℕ) (old new : Writer) (r : Bool) where
+  pub known_done : (at : ℕ) (m : Member) → slice_get c.tables.members.now at ≡ Some m
+      → Outcome c (open_in c depth node m.presence m.node) was old now new r
+      → Outcome c (known_in c depth node (slice_get c.tables.members.now at)) was old now new r
+  known_done at m is o = subst (λ (x : Option Member). Outcome c (known_in c depth node x) was old now new r) (sym is) o
 
   pub known_none : (at : ℕ) → slice_get c.tables.members.now at ≡ None → r ≡ false → new.next ≡ old.next → new.node ≡ node
-      → new.reason ≡ RejectedAs misfit.NoNode → KnownOutcome c defaults depth node (slice_get c.tables.members.now at) was old now new r
+      → new.reason ≡ RejectedAs misfit.NoNode → Outcome c (known_in c depth node (slice_get c.tables.members.now at)) was old now new r
   known_none at none e next same reason =
-      subst (λ (x : Option Member). KnownOutcome c defaults depth node x was old now new r) (sym none)
-      (inl (subst (λ (b : Bool). Outcome c (known_in c defaults depth node None) was old now new b) (sym e)
+      subst (λ (x : Option Member). Outcome c (known_in c depth node x) was old now new r) (sym none)
+      (subst (λ (b : Bool). Outcome c (known_in c depth node None) was old now new b) (sym e)
       (inl (record {
         kind = misfit.NoNode;
         reason = reason;
         first = λ k h.
             ap (λ (j : ℕ). record { node = j; left = length (tape c new.next); kind = misfit.NoNode }) same
             ∙ ap (λ (i : ℕ). record { node = node; left = length (tape c i); kind = misfit.NoNode }) next;
-      }))))
-
-  -- the member of a known addition is one of the rows
-  pub row_left : (rows : Rows) (index : ℕ) → index < rows.count
-      → IsDefaultLeft node (slice_get c.tables.members.now (rows.from + index)) new → IsRowLeft c node rows new
-  row_left rows index few d = record {
-    row = record { index = index; within = few; member = d.member; is = d.is; value = d.value; default = d.default };
-    reason = d.reason;
-    node_is = d.node_is;
-  }
+      })))
 
 -- ---- the addition of an index
 
-module _ (c : Context) (defaults : ℕ → ℕ → Option (List Bool)) (depth node : ℕ) (known : Rows) (index : ℕ) (was now : List ℕ)
+module _ (c : Context) (depth node : ℕ) (known : Rows) (index : ℕ) (was now : List ℕ)
     (old new : Writer) (r : Bool) where
   -- what holds of the addition that so many known ones begin with
   first_known : (n : ℕ) (P : (ℕ → TypeEncoding FaultKind) → Type 0) → 0 < n
-      → P (known_in c defaults depth node (slice_get c.tables.members.now (known.from + index)))
-      → P (addition_in c defaults depth node n (known.from + index))
+      → P (known_in c depth node (slice_get c.tables.members.now (known.from + index)))
+      → P (addition_in c depth node n (known.from + index))
   first_known zero P some p = absurd (omega (arith, some))
   first_known (suc n) P some p = p
 
   pub addition_known : index < known.count
-      → KnownOutcome c defaults depth node (slice_get c.tables.members.now (known.from + index)) was old now new r
-      → AdditionOutcome c defaults depth node known index was old now new r
-  addition_known few (inl o) =
+      → Outcome c (known_in c depth node (slice_get c.tables.members.now (known.from + index))) was old now new r
+      → Outcome c (addition_in c depth node (known.count - index) (known.from + index)) was old now new r
+  addition_known few o =
       let P : (ℕ → TypeEncoding FaultKind) → Type 0 = λ A. Outcome c A was old now new r in
-      inl (first_known (known.count - index) P (omega (arith, few)) o)
-  addition_known few (inr (e, d)) = inr (e, row_left c defaults depth node was now old new r known index few d)
+      first_known (known.count - index) P (omega (arith, few)) o
 
-  pub addition_unknown : known.count ≤ index → Outcome c (addition_in c defaults depth node 0 (known.from + index)) was old now new r
-      → AdditionOutcome c defaults depth node known index was old now new r
+  pub addition_unknown : known.count ≤ index → Outcome c (addition_in c depth node 0 (known.from + index)) was old now new r
+      → Outcome c (addition_in c depth node (known.count - index) (known.from + index)) was old now new r
   addition_unknown many o =
       let e : 0 ≡ known.count - index = omega (arith, many) in
-      inl (subst (λ (n : ℕ). Outcome c (addition_in c defaults depth node n (known.from + index)) was old now new r) e o)
+      subst (λ (n : ℕ). Outcome c (addition_in c depth node n (known.from + index)) was old now new r) e o
 
 -- ---- so many additions
 
-module _ (c : Context) (defaults : ℕ → ℕ → Option (List Bool)) (depth node : ℕ) (W : ℕ → AfterHeader FaultKind (List Bool)) (width : ℕ)
+module _ (c : Context) (depth node : ℕ) (W : ℕ → AfterHeader FaultKind (List Bool)) (width : ℕ)
     (first : List ℕ) (start : ℕ) (mid : Writer) where
   abbrev run : ℕ → ℕ → ℕ → ℕ → AfterHeader FaultKind (List Bool)
-  run n known from = additions_in c defaults depth node n known from
+  run n known from = additions_in c depth node n known from
 
   abbrev Has : (ℕ → AfterHeader FaultKind (List Bool)) → ℕ → List ℕ → Writer → ℕ → Bool → Type 0
   Has R left now new head b = HasAdditions c W R width left first start mid now new head b
 
   -- after one more
   on_step : (n known from : ℕ) (now next : List ℕ) (old new : Writer) (head last : ℕ) (here b : Bool)
-      → AdditionStep c (addition_in c defaults depth node known from) head here now old next new true
+      → AdditionStep c (addition_in c depth node known from) head here now old next new true
       → Has (run (suc n) known from) (1 + n) now old head b → ((k : ℕ) → IsIndex head k → IsIndex last (k + 1))
       → Has (run n (known - 1) (from + 1)) n next new last (b || here)
   on_step n known from now next old new head last false b a h move =
-      let A = addition_in c defaults depth node known from in
+      let A = addition_in c depth node known from in
       let F = run n (known - 1) (from + 1) in record {
         underway = absent_on c W width first start mid F n now next old new head last node A h.underway a.1 move;
         has =
@@ -138,7 +104,7 @@ module _ (c : Context) (defaults : ℕ → ℕ → Option (List Bool)) (depth no
             ∙ ap (λ (x : Bool). x || false) h.has;
       }
   on_step n known from now next old new head last true b a h move =
-      let A = addition_in c defaults depth node known from in
+      let A = addition_in c depth node known from in
       let F = run n (known - 1) (from + 1) in record {
         underway = present_on c W width first start mid F n now next old new head last node A h.underway a move;
         has =
@@ -148,7 +114,7 @@ module _ (c : Context) (defaults : ℕ → ℕ → Option (List Bool)) (depth no
       }
 
   pub additions_on : (left known from : ℕ) (now next : List ℕ) (old new : Writer) (head last : ℕ) (here b : Bool) → 0 < left
-      → AdditionStep c (addition_in c defaults depth node known from) head here now old next new true
+      → AdditionStep c (addition_in c depth node known from) head here now old next new true
       → Has (run left known from) left now old head b → ((k : ℕ) → IsIndex head k → IsIndex last (k + 1))
       → Has (run (left - 1) (known - 1) (from + 1)) (left - 1) next new last (b || here)
   additions_on zero known from now next old new head last here b some a h move = absurd (omega (arith, some))
@@ -162,7 +128,7 @@ module _ (c : Context) (defaults : ℕ → ℕ → Option (List Bool)) (depth no
   -- one that does not fit
   pub addition_misfit : (left known from : ℕ) (now next : List ℕ) (old new : Writer) (head : ℕ) (b : Bool) → 0 < left
       → (IsAbsent (tape c old.next) → ⊥)
-      → IsFirstMisfit c (addition_in c defaults depth node known from) old new
+      → IsFirstMisfit c (addition_in c depth node known from) old new
       → Has (run left known from) left now old head b → AreMisfit c W mid new
   addition_misfit zero known from now next old new head b some present m h = absurd (omega (arith, some))
   addition_misfit (suc n) known from now next old new head b some present m h =
@@ -189,20 +155,20 @@ step_fails c A head was old now new false a = absurd (let e = a.0 in cc)
 
 -- ---- additions after their presence bits
 
-module _ (c : Context) (defaults : ℕ → ℕ → Option (List Bool)) (depth node : ℕ) (known : Rows) (count : ℕ) (was now : List ℕ)
+module _ (c : Context) (depth node : ℕ) (known : Rows) (count : ℕ) (was now : List ℕ)
     (old mid : Writer) (next : mid.next ≡ old.next) (g : IsGrown was old.at now mid.at (digits 0 count)) where
   abbrev all : ℕ → AfterHeader FaultKind (List Bool)
-  all = additions_in c defaults depth node count known.count known.from
+  all = additions_in c depth node count known.count known.from
 
   abbrev left_of : ℕ → ℕ → ℕ → ℕ → AfterHeader FaultKind (List Bool)
-  left_of n k from = additions_in c defaults depth node n k from
+  left_of n k from = additions_in c depth node n k from
 
   alike_mid : (n : ℕ) → IsAlike c.is_aligned n old.at → IsAlike c.is_aligned (n + count) mid.at
   alike_mid n h =
       subst (λ (k : ℕ). IsAlike c.is_aligned (n + k) mid.at) (length-digits 0 count)
       (alike_after c.is_aligned was now old.at mid.at n (digits 0 count) g h)
 
-  pub present_misfit : (new : Writer) → AreMisfit c all mid new → IsFirstMisfit c (present_additions_in c defaults depth node known count) old new
+  pub present_misfit : (new : Writer) → AreMisfit c all mid new → IsFirstMisfit c (present_additions_in c depth node known count) old new
   present_misfit new m = record {
     kind = m.kind;
     reason = m.reason;
@@ -214,7 +180,7 @@ module _ (c : Context) (defaults : ℕ → ℕ → Option (List Bool)) (depth no
   -- all additions were encoded
   pub present_done : (left k from : ℕ) (end : List ℕ) (new : Writer) (head : ℕ) → left ≡ 0
       → HasAdditions c all (left_of left k from) count left was old.at mid end new head true
-      → IsEncoded c (present_additions_in c defaults depth node known count) was old end new
+      → IsEncoded c (present_additions_in c depth node known count) was old end new
   unfolding digits
   present_done zero k from end new head none h =
       let u = h.underway in
@@ -247,7 +213,7 @@ module _ (c : Context) (defaults : ℕ → ℕ → Option (List Bool)) (depth no
   pub present_none : (left k from : ℕ) (end : List ℕ) (new last : Writer) (head : ℕ) → left ≡ 0
       → HasAdditions c all (left_of left k from) count left was old.at mid end new head false
       → last.next ≡ old.next → last.node ≡ node → last.reason ≡ RejectedAs misfit.NoAddition
-      → IsFirstMisfit c (present_additions_in c defaults depth node known count) old last
+      → IsFirstMisfit c (present_additions_in c depth node known count) old last
   present_none zero k from end new last head none h back same reason =
       let u = h.underway in record {
         kind = misfit.NoAddition;

@@ -1,9 +1,10 @@
 -- What follows of a value that was encoded at the beginning of octets of its own, and of the zeros after it.
-use Rattle.std.proofs.Common.{◌≡◌, ℕ, zero, suc, ◌+◌, ◌*◌, ◌%◌, ◌<◌, ◌≤◌, List, ◌++◌, Bool, false, length, refl, sym, ap, ◌∙◌, subst, inl, inr, arith, Option}
+use Rattle.std.proofs.Common.{◌≡◌, ℕ, zero, suc, ◌+◌, ◌*◌, ◌%◌, ◌<◌, ◌≤◌, List, ◌++◌, Bool, false, length, refl, sym, ap, ◌∙◌, subst, inl, inr, arith}
 use Rattle.std.specs.Prelude.{◌⊎◌}
 use Rattle.std.proofs.lemmas.List.{length-append}
 use Rattle.asn1_bits.specs.Bits.{digits}
 use Rattle.asn1_bits.specs.DigitLaws.{length-digits}
+use Rattle.asn1_schema.specs.declared.tables.Presence.{Presence}
 use Rattle.asn1_schema.specs.Pieces.{Parts}
 use Rattle.asn1_schema.specs.TypeEncodings.{TypeEncoding}
 use Rattle.asn1_x691.specs.declared.fault.FaultKind.{FaultKind}
@@ -14,7 +15,7 @@ use Rattle.asn1_x691_writers.specs.Enclosed.{length_bits}
 use Rattle.asn1_x691_writers.specs.GrownSteps.{grown_both}
 use Rattle.asn1_x691_writers.specs.Written.{IsIndex, IsGrown, IsAlike}
 use Rattle.asn1_x691_encode.specs.declared.context.Context.{Context}
-use Rattle.asn1_x691_encode.specs.Encoding.{tape, types, IsEncoded, IsFirstMisfit, IsLeft}
+use Rattle.asn1_x691_encode.specs.Encoding.{tape, value_in, IsEncoded, IsFirstMisfit, IsLeft}
 use Rattle.asn1_x691_encode.specs.Enclosed.{IsEnclosed, EnclosedOutcome}
 use Rattle.asn1_x691_encode.specs.Padding.{IsPadded}
 
@@ -48,7 +49,7 @@ padded_size list =
 
 -- ---- octets of an open type, from a bit of the first octet on
 
-module _ (c : Context) (defaults : ℕ → ℕ → Option (List Bool)) (depth node inner : ℕ) (was mid now : List ℕ) (old begun new : Writer)
+module _ (c : Context) (depth node : ℕ) (p : Presence) (inner : ℕ) (was mid now : List ℕ) (old begun new : Writer)
     (low : old.at < 8) (begins : IsAlike c.is_aligned 0 old.at) (next : begun.next ≡ old.next)
     (zeros : IsGrown was old.at mid begun.at (digits 0 8)) where
   eight : length (digits 0 8) ≡ 8
@@ -63,32 +64,32 @@ module _ (c : Context) (defaults : ℕ → ℕ → Option (List Bool)) (depth no
     where
       exact : (at : ℕ) → IsIndex at (old.at + 8) → at ≡ old.at + 8
       exact at (inl e) = e
-      exact at (inr p) = absurd (omega (arith, p.0, p.1, low))
+      exact at (inr h) = absurd (omega (arith, h.0, h.1, low))
 
   alike : IsAlike c.is_aligned 0 begun.at
   alike e = omega (arith, begun_at, begins e)
 
-  pub octets_fail : IsFirstMisfit c (types c defaults depth inner) begun new ⊎ IsLeft c new
-      → EnclosedOutcome c defaults depth node inner was old now new false
+  pub octets_fail : IsFirstMisfit c (value_in c depth node p inner) begun new ⊎ IsLeft c new
+      → EnclosedOutcome c depth node p inner was old now new false
   octets_fail (inl m) = inl (record {
     kind = m.kind;
     reason = m.reason;
     first =
         subst
-        (λ (i : ℕ). (types c defaults depth inner 0).misfit (tape c i) (record { node = new.node; left = length (tape c new.next); kind = m.kind }))
+        (λ (i : ℕ). (value_in c depth node p inner 0).misfit (tape c i) (record { node = new.node; left = length (tape c new.next); kind = m.kind }))
         next (m.first 0 alike);
   })
   octets_fail (inr u) = inr u
 
-  module _ (a : IsEncoded c (types c defaults depth inner) mid begun now new) where
+  module _ (a : IsEncoded c (value_in c depth node p inner) mid begun now new) where
     abbrev list : List Bool
     list = a.written.list
 
     taken : tape c old.next ≡ a.parts ++ tape c new.next
     taken = ap (λ (i : ℕ). tape c i) (sym next) ∙ a.taken
 
-    fills : (complete node (types c defaults depth inner)).fills a.parts (padded list)
-    fills = complete_fills node (types c defaults depth inner) a.parts list (a.written.encodes 0 alike)
+    fills : (complete node (value_in c depth node p inner)).fills a.parts (padded list)
+    fills = complete_fills node (value_in c depth node p inner) a.parts list (a.written.encodes 0 alike)
 
     -- the index after the value
     pub value_index : IsIndex new.at (old.at + 8 + length list)
@@ -97,41 +98,42 @@ module _ (c : Context) (defaults : ℕ → ℕ → Option (List Bool)) (depth no
     -- there are too many octets
     pub octets_long : (last : Writer) → last.next ≡ old.next → last.reason ≡ Unsupported
         → 131072 ≤ length list + padding_of (length list) → IsLeft c last
-    octets_long last back reason many = (
+    octets_long last back reason many = inl (
       reason,
-      inr (inr (record {
-        defaults = defaults;
+      inr (inr (inl (record {
         depth = depth;
-        node = inner;
+        node = node;
+        presence = p;
+        inner = inner;
         parts = a.parts;
         list = padded list;
         rest = tape c new.next;
-        encodes = complete_fills inner (types c defaults depth inner) a.parts list (a.written.encodes 0 alike);
+        encodes = complete_fills node (value_in c depth node p inner) a.parts list (a.written.encodes 0 alike);
         are = ap (λ (i : ℕ). tape c i) back ∙ taken;
         many = omega (arith, many, padded_size list);
-      })),
+      }))),
     )
 
-    module _ (padded_octets last : List ℕ) (count end : ℕ) (p : IsPadded now (old.at + 8) new.at (length list) padded_octets count)
+    module _ (padded_octets last : List ℕ) (count end : ℕ) (q : IsPadded now (old.at + 8) new.at (length list) padded_octets count)
         (end_is : end ≡ old.at + length (length_bits count) + 8 * count)
         (before : (contents : List Bool) → length contents ≡ 8 * count
         → IsGrown was old.at padded_octets (old.at + 8 + 8 * count) (digits 0 8 ++ contents)
         → IsGrown was old.at last end (length_bits count ++ contents)) where
       size : length (padded list) ≡ 8 * count
-      size = padded_size list ∙ p.size
+      size = padded_size list ∙ q.size
 
       grown : IsGrown was old.at padded_octets (old.at + 8 + 8 * count) (digits 0 8 ++ padded list)
       grown =
           grown_both was mid padded_octets old.at begun.at (old.at + 8 + 8 * count) (digits 0 8) (padded list) zeros
           (grown_both mid now padded_octets begun.at new.at (old.at + 8 + 8 * count) list (digits 0 (padding_of (length list)))
-          a.written.grown p.grown)
+          a.written.grown q.grown)
 
-      pub octets_done : IsEnclosed c defaults depth node inner was old last (record new { at = end })
+      pub octets_done : IsEnclosed c depth node p inner was old last (record new { at = end })
       octets_done = record {
         parts = a.parts;
         contents = padded list;
         count = count;
-        few = p.few;
+        few = q.few;
         size = size;
         fills = fills;
         grown = before (padded list) size grown;

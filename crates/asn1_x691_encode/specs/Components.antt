@@ -39,12 +39,11 @@ abbrev pub OptionalOutcome : Context → (ℕ → TypeEncoding FaultKind) → �
 OptionalOutcome c A head was old now new true = IsPassedOver c was old now new ⊎ IsIncluded c A head was old now new
 OptionalOutcome c A head was old now new false = (IsAbsent (tape c old.next) → ⊥) × Outcome c A was old now new false
 
--- a component of a SEQUENCE at a node
-abbrev pub ComponentOutcome : Context → (ℕ → TypeEncoding FaultKind) → ℕ → Presence → ℕ → List ℕ → Writer → List ℕ → Writer → Bool → Type 0
-ComponentOutcome c A node presence.Mandatory head was old now new r = Outcome c A was old now new r
-ComponentOutcome c A node presence.Optional head was old now new r = OptionalOutcome c A head was old now new r
-ComponentOutcome c A node (presence.Default value) head was old now new r =
-    (r ≡ false) × (new.reason ≡ rejection.Unsupported) × (new.node ≡ node)
+-- a component of a SEQUENCE
+abbrev pub ComponentOutcome : Context → (ℕ → TypeEncoding FaultKind) → Presence → ℕ → List ℕ → Writer → List ℕ → Writer → Bool → Type 0
+ComponentOutcome c A presence.Mandatory head was old now new r = Outcome c A was old now new r
+ComponentOutcome c A presence.Optional head was old now new r = OptionalOutcome c A head was old now new r
+ComponentOutcome c A (presence.Default value) head was old now new r = OptionalOutcome c A head was old now new r
 
 -- ---- a run of components
 

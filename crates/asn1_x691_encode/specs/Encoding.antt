@@ -1,26 +1,27 @@
 -- What an encoder did: it wrote an encoding of the next parts, or it names the first misfit.
-use Rattle.asn1_x691.specs.Limits.{no_limits}
-use Rattle.std.specs.Prelude.{◌≡◌, ℕ, ◌+◌, ◌^◌, ◌⊎◌, ◌<◌, ◌≤◌, nat_lt, ⊤, Bool, true, false, List, ◌++◌, length, drop, map, Option, Some, slice_get}
+use Rattle.std.specs.Prelude.{◌≡◌, ℕ, ◌+◌, ◌^◌, ◌⊎◌, ◌<◌, ◌≤◌, nat_lt, Bool, true, false, List, ◌++◌, length, drop, map, Option, Some, slice_get}
 use Rattle.asn1_schema.specs.declared.misfit.MisfitKind.{MisfitKind}
 use Rattle.asn1_schema.specs.declared.part.Part.{Part}
 use Rattle.asn1_schema.specs.declared.tables.Length.{Length}
 use Rattle.asn1_schema.specs.declared.tables.Member.{Member}
-use Rattle.asn1_schema.specs.declared.tables.Presence.TheVariants as presence
+use Rattle.asn1_schema.specs.declared.tables.Presence.{Presence}
 use Rattle.asn1_schema.specs.declared.tables.Node.{Node}
 use Rattle.asn1_schema.specs.declared.tables.Node.TheVariants as type
 use Rattle.asn1_schema.specs.declared.tables.Rows.{Rows}
 use Rattle.asn1_schema.specs.Pieces.{Piece, Parts, Count, UnknownChosen}
-use Rattle.asn1_schema.specs.TypeEncodings.{TypeEncoding, AfterHeader, both, header, part, several}
+use Rattle.asn1_schema.specs.TypeEncodings.{TypeEncoding, AfterHeader, both, header, part}
 use Rattle.asn1_x691.specs.Fragments.{most_fragments}
+use Rattle.asn1_x691.specs.Limits.{no_limits, IsOffOctet}
 use Rattle.asn1_x691.specs.OpenTypes.{complete, open_type}
 use Rattle.asn1_schema.specs.Fields.{raw_bits}
 use Rattle.asn1_x691.specs.declared.fault.FaultKind.{FaultKind}
 use Rattle.asn1_x691.specs.declared.fault.FaultKind.TheVariants.{Short}
-use Rattle.asn1_x691.specs.Types.{type_at, added_length, sequence_of, sequence_of_by, alternative_if, choice, choice_by, choice_extension, sequence, sequence_by, root_of, components, known_addition, addition, additions_by_bits, some_additions, extension}
+use Rattle.asn1_x691.specs.Types.{type_at, value_by, added_length, items, in_order, sequence_of, sequence_of_by, alternative_if, choice, choice_by, choice_extension, sequence, sequence_by, root_of, components, known_addition, addition, additions_by_bits, some_additions, extension}
+use Rattle.asn1_x691_fields.specs.Defaults.{default_in}
 use Rattle.asn1_x691_writers.specs.declared.contents.ContentsKind.{ContentsKind}
 use Rattle.asn1_x691_writers.specs.declared.contents.ContentsKind.TheVariants as kind
 use Rattle.asn1_x691_writers.specs.declared.state.Writer.{Writer}
-use Rattle.asn1_x691_writers.specs.declared.state.Rejection.TheVariants.{Misfit, Unsupported}
+use Rattle.asn1_x691_writers.specs.declared.state.Rejection.TheVariants.{Misfit, Unsupported, NoRoom}
 use Rattle.asn1_x691_writers.specs.Put.{piece_in, IsFarInteger, IsFarIndex, IsInFragments}
 use Rattle.asn1_x691_writers.specs.Written.{IsAlike, IsWritten}
 use Rattle.asn1_x691_encode.specs.declared.context.Context.{Context}
@@ -29,96 +30,110 @@ use Rattle.asn1_x691_encode.specs.declared.context.Context.{Context}
 abbrev pub tape : Context → ℕ → Parts
 tape c next = map (piece_in c.tables.ranges.now c.source.now) (drop next c.parts.now)
 
--- the types of a context, whose values are nested less deep than the depth; `defaults` are the encodings of default values
-abbrev pub types : Context → (ℕ → ℕ → Option (List Bool)) → ℕ → ℕ → ℕ → TypeEncoding FaultKind
-types c defaults depth node = type_at no_limits c.is_aligned c.tables.nodes.now c.tables.members.now c.tables.ranges.now defaults depth node
+-- the bits that encode a default value after so many bits of an octet
+abbrev pub defaults_in : Context → ℕ → ℕ → Option (List Bool)
+defaults_in c = default_in c.defaults c.is_aligned
 
--- a list of values that are nested less deep than the depth
-abbrev pub list_in : Context → (ℕ → ℕ → Option (List Bool)) → ℕ → ℕ → Length → ℕ → ℕ → TypeEncoding FaultKind
-list_in c defaults depth node size item =
-    sequence_of no_limits c.is_aligned (types c defaults depth) c.tables.members.now c.tables.ranges.now defaults node false size item
+-- the types of a context, whose values are nested less deep than the depth
+abbrev pub types : Context → ℕ → ℕ → ℕ → TypeEncoding FaultKind
+types c depth node = type_at no_limits c.is_aligned c.tables.nodes.now c.tables.members.now c.tables.ranges.now (defaults_in c) depth node
 
--- one that has an extension marker, and one whose number of items is none of the root
-abbrev pub extensible_list_in : Context → (ℕ → ℕ → Option (List Bool)) → ℕ → ℕ → Length → ℕ → ℕ → TypeEncoding FaultKind
-extensible_list_in c defaults depth node size item =
-    sequence_of_by no_limits c.is_aligned (types c defaults depth) c.tables.members.now c.tables.ranges.now defaults node true false size item
+-- so many items that are nested less deep than the depth, those of a SET OF in ascending order; and an item after the bits of another
+abbrev pub items_in : Context → ℕ → ℕ → Bool → ℕ → ℕ → ℕ → TypeEncoding FaultKind
+items_in c depth node is_set item n =
+    items no_limits c.is_aligned (types c depth) c.tables.members.now c.tables.ranges.now (defaults_in c) node is_set item n
 
-abbrev pub added_list_in : Context → (ℕ → ℕ → Option (List Bool)) → ℕ → ℕ → Length → ℕ → ℕ → TypeEncoding FaultKind
-added_list_in c defaults depth node size item =
-    part (added_length c.is_aligned size node) Count (λ n. several (types c defaults depth item) n) node
+abbrev pub in_order_in : Context → ℕ → ℕ → ℕ → List Bool → ℕ → TypeEncoding FaultKind
+in_order_in c depth node item before =
+    in_order no_limits c.is_aligned (types c depth) c.tables.members.now c.tables.ranges.now (defaults_in c) node item before
+
+-- a SEQUENCE OF or a SET OF without an extension marker, one that has one, one whose number of items is none of the root, and each
+abbrev pub list_in : Context → ℕ → ℕ → Bool → Length → ℕ → ℕ → TypeEncoding FaultKind
+list_in c depth node is_set size item =
+    sequence_of no_limits c.is_aligned (types c depth) c.tables.members.now c.tables.ranges.now (defaults_in c) node is_set size item
+
+abbrev pub list_by : Context → ℕ → ℕ → Bool → Bool → Length → ℕ → ℕ → TypeEncoding FaultKind
+list_by c depth node is_extensible is_set size item =
+    sequence_of_by no_limits c.is_aligned (types c depth) c.tables.members.now c.tables.ranges.now (defaults_in c) node is_extensible is_set
+    size item
+
+abbrev pub extensible_list_in : Context → ℕ → ℕ → Bool → Length → ℕ → ℕ → TypeEncoding FaultKind
+extensible_list_in c depth node is_set size item = list_by c depth node true is_set size item
+
+abbrev pub added_list_in : Context → ℕ → ℕ → Bool → Length → ℕ → ℕ → TypeEncoding FaultKind
+added_list_in c depth node is_set size item = part (added_length c.is_aligned size node) Count (λ n. items_in c depth node is_set item n) node
 
 -- a choice of alternatives that are nested less deep than the depth, one that has an extension marker, and the alternative of an index
-abbrev pub choice_in : Context → (ℕ → ℕ → Option (List Bool)) → ℕ → ℕ → Rows → ℕ → TypeEncoding FaultKind
-choice_in c defaults depth node rows =
-    choice no_limits c.is_aligned (types c defaults depth) c.tables.members.now c.tables.ranges.now defaults node rows
+abbrev pub choice_in : Context → ℕ → ℕ → Rows → ℕ → TypeEncoding FaultKind
+choice_in c depth node rows =
+    choice no_limits c.is_aligned (types c depth) c.tables.members.now c.tables.ranges.now (defaults_in c) node rows
 
-abbrev pub extensible_choice_in : Context → (ℕ → ℕ → Option (List Bool)) → ℕ → ℕ → Rows → Rows → ℕ → TypeEncoding FaultKind
-extensible_choice_in c defaults depth node rows known =
-    choice_by no_limits c.is_aligned (types c defaults depth) c.tables.members.now c.tables.ranges.now defaults node true rows known
+abbrev pub extensible_choice_in : Context → ℕ → ℕ → Rows → Rows → ℕ → TypeEncoding FaultKind
+extensible_choice_in c depth node rows known =
+    choice_by no_limits c.is_aligned (types c depth) c.tables.members.now c.tables.ranges.now (defaults_in c) node true rows known
 
-abbrev pub choice_extension_in : Context → (ℕ → ℕ → Option (List Bool)) → ℕ → ℕ → Rows → Rows → ℕ → TypeEncoding FaultKind
-choice_extension_in c defaults depth node rows known =
-    choice_extension no_limits c.is_aligned (types c defaults depth) c.tables.members.now c.tables.ranges.now defaults node rows known
+abbrev pub choice_extension_in : Context → ℕ → ℕ → Rows → Rows → ℕ → TypeEncoding FaultKind
+choice_extension_in c depth node rows known =
+    choice_extension no_limits c.is_aligned (types c depth) c.tables.members.now c.tables.ranges.now (defaults_in c) node rows known
 
-abbrev pub alternative_in : Context → (ℕ → ℕ → Option (List Bool)) → ℕ → ℕ → Rows → ℕ → ℕ → TypeEncoding FaultKind
-alternative_in c defaults depth node rows i =
-    alternative_if no_limits c.is_aligned (types c defaults depth) c.tables.members.now c.tables.ranges.now defaults node
+abbrev pub alternative_in : Context → ℕ → ℕ → Rows → ℕ → ℕ → TypeEncoding FaultKind
+alternative_in c depth node rows i =
+    alternative_if no_limits c.is_aligned (types c depth) c.tables.members.now c.tables.ranges.now (defaults_in c) node
     (nat_lt i rows.count) (slice_get c.tables.members.now (rows.from + i))
 
 -- a SEQUENCE without an extension marker, of components that are nested less deep than the depth, what follows its first part, and so
 -- many components, which are members from an index on
-abbrev pub sequence_in : Context → (ℕ → ℕ → Option (List Bool)) → ℕ → ℕ → Rows → ℕ → TypeEncoding FaultKind
-sequence_in c defaults depth node root =
-    sequence no_limits c.is_aligned (types c defaults depth) c.tables.members.now c.tables.ranges.now defaults node root
+abbrev pub sequence_in : Context → ℕ → ℕ → Rows → ℕ → TypeEncoding FaultKind
+sequence_in c depth node root =
+    sequence no_limits c.is_aligned (types c depth) c.tables.members.now c.tables.ranges.now (defaults_in c) node root
 
-abbrev pub root_in : Context → (ℕ → ℕ → Option (List Bool)) → ℕ → ℕ → Rows → ℕ → TypeEncoding FaultKind
-root_in c defaults depth node root =
-    root_of no_limits c.is_aligned (types c defaults depth) c.tables.members.now c.tables.ranges.now defaults node root
+abbrev pub root_in : Context → ℕ → ℕ → Rows → ℕ → TypeEncoding FaultKind
+root_in c depth node root =
+    root_of no_limits c.is_aligned (types c depth) c.tables.members.now c.tables.ranges.now (defaults_in c) node root
 
-abbrev pub components_in : Context → (ℕ → ℕ → Option (List Bool)) → ℕ → ℕ → ℕ → ℕ → ℕ → AfterHeader FaultKind (List Bool)
-components_in c defaults depth node count from =
-    components no_limits c.is_aligned (types c defaults depth) c.tables.members.now c.tables.ranges.now defaults node count from
+abbrev pub components_in : Context → ℕ → ℕ → ℕ → ℕ → ℕ → AfterHeader FaultKind (List Bool)
+components_in c depth node count from =
+    components no_limits c.is_aligned (types c depth) c.tables.members.now c.tables.ranges.now (defaults_in c) node count from
 
 -- a SEQUENCE that has an extension marker, its root with additions, what follows the root, and so many additions, which are members from
 -- an index on
-abbrev pub extensible_sequence_in : Context → (ℕ → ℕ → Option (List Bool)) → ℕ → ℕ → Rows → Rows → ℕ → TypeEncoding FaultKind
-extensible_sequence_in c defaults depth node root known =
-    sequence_by no_limits c.is_aligned (types c defaults depth) c.tables.members.now c.tables.ranges.now defaults node true root known
+abbrev pub extensible_sequence_in : Context → ℕ → ℕ → Rows → Rows → ℕ → TypeEncoding FaultKind
+extensible_sequence_in c depth node root known =
+    sequence_by no_limits c.is_aligned (types c depth) c.tables.members.now c.tables.ranges.now (defaults_in c) node true root known
 
-abbrev pub extension_in : Context → (ℕ → ℕ → Option (List Bool)) → ℕ → ℕ → Rows → ℕ → TypeEncoding FaultKind
-extension_in c defaults depth node known =
-    extension no_limits c.is_aligned (types c defaults depth) c.tables.members.now c.tables.ranges.now defaults node known
+abbrev pub extension_in : Context → ℕ → ℕ → Rows → ℕ → TypeEncoding FaultKind
+extension_in c depth node known =
+    extension no_limits c.is_aligned (types c depth) c.tables.members.now c.tables.ranges.now (defaults_in c) node known
 
-abbrev pub extended_in : Context → (ℕ → ℕ → Option (List Bool)) → ℕ → ℕ → Rows → Rows → ℕ → TypeEncoding FaultKind
-extended_in c defaults depth node root known = both (root_in c defaults depth node root) (extension_in c defaults depth node known)
+abbrev pub extended_in : Context → ℕ → ℕ → Rows → Rows → ℕ → TypeEncoding FaultKind
+extended_in c depth node root known = both (root_in c depth node root) (extension_in c depth node known)
 
 -- so many additions after the bits that tell which of them are present
-abbrev pub present_additions_in : Context → (ℕ → ℕ → Option (List Bool)) → ℕ → ℕ → Rows → ℕ → ℕ → TypeEncoding FaultKind
-present_additions_in c defaults depth node known count =
+abbrev pub present_additions_in : Context → ℕ → ℕ → Rows → ℕ → ℕ → TypeEncoding FaultKind
+present_additions_in c depth node known count =
     header (raw_bits count Short node) count
-    (some_additions no_limits c.is_aligned (types c defaults depth) c.tables.members.now c.tables.ranges.now defaults node count known) node
+    (some_additions no_limits c.is_aligned (types c depth) c.tables.members.now c.tables.ranges.now (defaults_in c) node count known) node
 
-abbrev pub additions_in : Context → (ℕ → ℕ → Option (List Bool)) → ℕ → ℕ → ℕ → ℕ → ℕ → ℕ → AfterHeader FaultKind (List Bool)
-additions_in c defaults depth node count known from =
-    additions_by_bits no_limits c.is_aligned (types c defaults depth) c.tables.members.now c.tables.ranges.now defaults node count known from
+abbrev pub additions_in : Context → ℕ → ℕ → ℕ → ℕ → ℕ → ℕ → AfterHeader FaultKind (List Bool)
+additions_in c depth node count known from =
+    additions_by_bits no_limits c.is_aligned (types c depth) c.tables.members.now c.tables.ranges.now (defaults_in c) node count known from
 
 -- an addition, which is known where so many are; and a known one
-abbrev pub addition_in : Context → (ℕ → ℕ → Option (List Bool)) → ℕ → ℕ → ℕ → ℕ → ℕ → TypeEncoding FaultKind
-addition_in c defaults depth node known from =
-    addition no_limits c.is_aligned (types c defaults depth) c.tables.members.now c.tables.ranges.now defaults node known from
+abbrev pub addition_in : Context → ℕ → ℕ → ℕ → ℕ → ℕ → TypeEncoding FaultKind
+addition_in c depth node known from =
+    addition no_limits c.is_aligned (types c depth) c.tables.members.now c.tables.ranges.now (defaults_in c) node known from
 
-abbrev pub known_in : Context → (ℕ → ℕ → Option (List Bool)) → ℕ → ℕ → Option Member → ℕ → TypeEncoding FaultKind
-known_in c defaults depth node m =
-    known_addition no_limits c.is_aligned (types c defaults depth) c.tables.members.now c.tables.ranges.now defaults node m
+abbrev pub known_in : Context → ℕ → ℕ → Option Member → ℕ → TypeEncoding FaultKind
+known_in c depth node m =
+    known_addition no_limits c.is_aligned (types c depth) c.tables.members.now c.tables.ranges.now (defaults_in c) node m
 
--- an open type of a value that is nested less deep than the depth
-abbrev pub open_in : Context → (ℕ → ℕ → Option (List Bool)) → ℕ → ℕ → ℕ → ℕ → TypeEncoding FaultKind
-open_in c defaults depth node inner = open_type most_fragments c.is_aligned node (types c defaults depth inner)
+-- a value that is not the default, and an open type of it
+abbrev pub value_in : Context → ℕ → ℕ → Presence → ℕ → ℕ → TypeEncoding FaultKind
+value_in c depth node p inner =
+    value_by no_limits c.is_aligned (types c depth) c.tables.members.now c.tables.ranges.now (defaults_in c) node p (types c depth inner)
 
--- the type at a node is a SEQUENCE of this root
-abbrev pub IsSequence : Context → ℕ → Rows → Type 0
-IsSequence c node root =
-    (is_extensible : Bool) × (known : Rows) × (slice_get c.tables.nodes.now node ≡ Some (type.Sequence root is_extensible known))
+abbrev pub open_in : Context → ℕ → ℕ → Presence → ℕ → ℕ → TypeEncoding FaultKind
+open_in c depth node p inner = open_type most_fragments c.is_aligned node (value_in c depth node p inner)
 
 -- bits that encode the next parts were written, up to another index
 pub record IsEncoded (c : Context) (A : ℕ → TypeEncoding FaultKind) (was : List ℕ) (old : Writer) (now : List ℕ) (new : Writer)
@@ -136,30 +151,17 @@ pub record IsFirstMisfit (c : Context) (A : ℕ → TypeEncoding FaultKind) (old
 
 -- ---- what is not encoded yet
 
--- a component of these has a DEFAULT
-pub record HasDefault (c : Context) (rows : Rows) : Type 0 where
-  pub index : ℕ
-  pub within : index < rows.count
-  pub member : Member
-  pub is : slice_get c.tables.members.now (rows.from + index) ≡ Some member
-  pub value : ℕ
-  pub default : member.presence ≡ presence.Default value
-
 -- the next part is octets in fragments
 pub record IsFragmented (c : Context) (next : ℕ) : Type 0 where
   pub part : Part
   pub is : slice_get c.parts.now next ≡ Some part
   pub in_fragments : IsInFragments part
 
--- SET OF, components with a DEFAULT, and identifiers and UTF-8 in fragments
+-- identifiers and UTF-8 in fragments
 abbrev pub IsLater : Context → ℕ → Option Node → Type 0
 IsLater c next (Some type.ObjectIdentifier) = IsFragmented c next
 IsLater c next (Some type.RelativeIdentifier) = IsFragmented c next
 IsLater c next (Some type.Utf8String) = IsFragmented c next
-IsLater c next (Some (type.Sequence root true known)) = HasDefault c root ⊎ HasDefault c known
-IsLater c next (Some (type.Sequence root false known)) = HasDefault c root
-IsLater c next (Some (type.SetOf size is_extensible item)) = ⊤
-IsLater c next (Some (type.Choice alternatives true known)) = HasDefault c known
 IsLater c next o = ⊥
 
 -- the type of octets of a kind
@@ -181,19 +183,63 @@ pub record IsFar (c : Context) (next : ℕ) : Type 0 where
 
 -- the next parts have a complete encoding of 16,384 octets or more: an open type of it is in fragments
 pub record IsLong (c : Context) (next : ℕ) : Type 0 where
-  pub defaults : ℕ → ℕ → Option (List Bool)
   pub depth : ℕ
   pub node : ℕ
+  pub presence : Presence
+  pub inner : ℕ
   pub parts : Parts
   pub list : List Bool
   pub rest : Parts
-  pub encodes : (complete node (types c defaults depth node)).fills parts list
+  pub encodes : (complete node (value_in c depth node presence inner)).fills parts list
   pub are : tape c next ≡ parts ++ rest
   pub many : 131072 ≤ length list
 
+-- the next parts have an encoding of more than 504 bits
+pub record IsWide (c : Context) (next : ℕ) : Type 0 where
+  pub depth : ℕ
+  pub inner : ℕ
+  pub at : ℕ
+  pub parts : Parts
+  pub list : List Bool
+  pub rest : Parts
+  pub encodes : (types c depth inner at).encoding.encodes parts list
+  pub are : tape c next ≡ parts ++ rest
+  pub many : 504 < length list
+
+-- the next parts are two values of a type whose encodings have more than 504 bits
+pub record AreWide (c : Context) (next : ℕ) : Type 0 where
+  pub depth : ℕ
+  pub item : ℕ
+  pub began : ℕ
+  pub at : ℕ
+  pub xs : Parts
+  pub ys : Parts
+  pub before : List Bool
+  pub list : List Bool
+  pub rest : Parts
+  pub first : (types c depth item began).encoding.encodes xs before
+  pub second : (types c depth item at).encoding.encodes ys list
+  pub are : tape c next ≡ xs ++ (ys ++ rest)
+  pub many : 504 < length before + length list
+
+-- the next parts are an item of a SET OF in the ALIGNED variant, which does not begin at an octet, or follows one that does not
+pub record IsOff (c : Context) (next : ℕ) : Type 0 where
+  pub depth : ℕ
+  pub item : ℕ
+  pub at : ℕ
+  pub parts : Parts
+  pub list : List Bool
+  pub rest : Parts
+  pub encodes : (types c depth item at).encoding.encodes parts list
+  pub are : tape c next ≡ parts ++ rest
+  pub before : List Bool
+  pub off : IsOffOctet true c.is_aligned before at
+
+-- The next parts are left: they are not encoded yet, or they were to be compared in octets that are too few for them.
 abbrev pub IsLeft : Context → Writer → Type 0
-IsLeft c new = (new.reason ≡ Unsupported)
-    × (IsLater c new.next (slice_get c.tables.nodes.now new.node) ⊎ (IsFar c new.next ⊎ IsLong c new.next))
+IsLeft c new = ((new.reason ≡ Unsupported)
+    × (IsLater c new.next (slice_get c.tables.nodes.now new.node) ⊎ (IsFar c new.next ⊎ (IsLong c new.next ⊎ IsOff c new.next))))
+    ⊎ ((new.reason ≡ NoRoom) × (IsWide c new.next ⊎ AreWide c new.next))
 
 -- the next parts were encoded, or the state tells why not
 abbrev pub Outcome : Context → (ℕ → TypeEncoding FaultKind) → List ℕ → Writer → List ℕ → Writer → Bool → Type 0

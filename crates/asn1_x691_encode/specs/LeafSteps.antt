@@ -1,5 +1,4 @@
 -- What follows of a part that was written, or rejected.
-use Rattle.asn1_x691.specs.Limits.{no_limits}
 use Rattle.std.proofs.Common.{◌≡◌, ℕ, zero, suc, ◌+◌, ◌-◌, ◌^◌, ◌<◌, get_or, List, [], ◌∷◌, Bool, true, false, length, drop, map, refl, sym, ap, ◌∙◌, subst, inl, inr, Option, Some, None, arith}
 use Rattle.std.specs.Prelude.{slice_get}
 use Rattle.std.proofs.Math.Seq.{drop-cons}
@@ -13,12 +12,13 @@ use Rattle.asn1_x691.specs.Types.{type_of}
 use Rattle.asn1_schema.specs.Pieces.{Piece, Parts}
 use Rattle.asn1_schema.specs.TypeEncodings.{TypeEncoding}
 use Rattle.asn1_x691.specs.declared.fault.FaultKind.{FaultKind}
+use Rattle.asn1_x691.specs.Limits.{no_limits}
 use Rattle.asn1_x691_writers.specs.declared.state.Writer.{Writer}
 use Rattle.asn1_x691_writers.specs.declared.state.Rejection.TheVariants.{Misfit}
 use Rattle.asn1_x691_writers.specs.Put.{IsPut, piece_in}
 use Rattle.asn1_x691_writers.specs.Written.{IsWritten}
 use Rattle.asn1_x691_encode.specs.declared.context.Context.{Context}
-use Rattle.asn1_x691_encode.specs.Encoding.{tape, types, Outcome}
+use Rattle.asn1_x691_encode.specs.Encoding.{defaults_in, tape, types, Outcome}
 
 get_some : {A : Type 0} (list : List A) (i : ℕ) (x : A) → slice_get list i ≡ Some x → drop i list ≡ x ∷ drop (i + 1) list
 get_some list i x e =
@@ -76,14 +76,14 @@ module _ (c : Context) (A : ℕ → TypeEncoding FaultKind) (p : Part) (was now 
       })
   after_rejected (inr m, same) kept =
       let on : new.next ≡ old.next = kept ∙ same.next in
-      inr (
+      inr (inl (
         reason ∙ m.reason,
         inr (inl (record {
           part = p;
           is = ap (λ (i : ℕ). slice_get c.parts.now i) on ∙ is;
           far = inl m.far;
         })),
-      )
+      ))
 
   pub after_put : (b r : Bool) → r ≡ b → IsPut c.is_aligned A piece was old now mid b → (b ≡ true → new.next ≡ mid.next + 1)
       → (b ≡ false → new.next ≡ mid.next) → Outcome c A was old now new r
@@ -118,12 +118,12 @@ after_none c A was now old new r node none e on same reason m =
 
 -- ---- the type at a node
 
-pub at_node : (c : Context) (defaults : ℕ → ℕ → Option (List Bool)) (node depth : ℕ) (o : Option Node) (P : (ℕ → TypeEncoding FaultKind) → Type 0)
+pub at_node : (c : Context) (node depth : ℕ) (o : Option Node) (P : (ℕ → TypeEncoding FaultKind) → Type 0)
     → 0 < depth → slice_get c.tables.nodes.now node ≡ o
-    → ((d : ℕ) → depth ≡ suc d → P (type_of no_limits c.is_aligned (types c defaults d) c.tables.members.now c.tables.ranges.now defaults node o))
-    → P (types c defaults depth node)
-at_node c defaults node zero o P some e f = absurd (omega (arith, some))
-at_node c defaults node (suc d) o P some e f =
+    → ((d : ℕ) → depth ≡ suc d → P (type_of no_limits c.is_aligned (types c d) c.tables.members.now c.tables.ranges.now (defaults_in c) node o))
+    → P (types c depth node)
+at_node c node zero o P some e f = absurd (omega (arith, some))
+at_node c node (suc d) o P some e f =
     let Q : Option Node → Type 0 =
-    λ x. P (type_of no_limits c.is_aligned (types c defaults d) c.tables.members.now c.tables.ranges.now defaults node x) in
+    λ x. P (type_of no_limits c.is_aligned (types c d) c.tables.members.now c.tables.ranges.now (defaults_in c) node x) in
     subst Q (sym e) (f d refl)

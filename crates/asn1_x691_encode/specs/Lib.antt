@@ -5,6 +5,8 @@ pub mod Additions
 pub mod Alternatives
 pub mod Padding
 pub mod Enclosed
+pub mod Compared
+pub mod Sets
 -- What it says of a message.
 pub mod Messages
 -- What follows of steps of an encoder; no contract cites it.
@@ -18,3 +20,6 @@ pub mod AlternativeSteps
 pub mod OpenSteps
 pub mod ComponentSteps
 pub mod SequenceSteps
+pub mod PlaceSteps
+pub mod OtherSteps
+pub mod SetSteps

@@ -1,5 +1,5 @@
 -- What follows of values that were encoded one after another.
-use Rattle.std.proofs.Common.{Option, ◌≡◌, ℕ, zero, suc, ◌+◌, ◌-◌, ◌<◌, List, [], ◌∷◌, ◌++◌, Bool, true, false, length, refl, sym, ap, ◌∙◌, subst, inl, inr, arith, append_assoc}
+use Rattle.std.proofs.Common.{◌≡◌, ℕ, zero, suc, ◌+◌, ◌-◌, ◌<◌, List, [], ◌∷◌, ◌++◌, Bool, true, false, length, refl, sym, ap, ◌∙◌, subst, inl, inr, arith, append_assoc}
 use Rattle.asn1_schema.specs.declared.misfit.MisfitKind.TheVariants.{OtherPart}
 use Rattle.asn1_schema.specs.declared.tables.Length.{Length}
 use Rattle.asn1_schema.specs.declared.tables.Length.TheVariants.{AtLeast, Between}
@@ -131,8 +131,8 @@ module _ (c : Context) where
     part_step = record { onward = part_on }
 
 -- a part that is no number of items
-pub list_other : (c : Context) (defaults : ℕ → ℕ → Option (List Bool)) (depth node item : ℕ) (size : Length) (p : Piece) → ((n : ℕ) → p ≡ Count n → ⊥)
+pub list_other : (c : Context) (depth node item : ℕ) (is_set : Bool) (size : Length) (p : Piece) → ((n : ℕ) → p ≡ Count n → ⊥)
     → (at : ℕ) (rest : Parts)
-    → (list_in c defaults depth node size item at).misfit (p ∷ rest) (record { node = node; left = length (p ∷ rest); kind = OtherPart })
-list_other c defaults depth node item (AtLeast least) p f at rest = inr (f, refl)
-list_other c defaults depth node item (Between least range) p f at rest = inr (λ d e. f (least + d) e, refl)
+    → (list_in c depth node is_set size item at).misfit (p ∷ rest) (record { node = node; left = length (p ∷ rest); kind = OtherPart })
+list_other c depth node item is_set (AtLeast least) p f at rest = inr (f, refl)
+list_other c depth node item is_set (Between least range) p f at rest = inr (λ d e. f (least + d) e, refl)

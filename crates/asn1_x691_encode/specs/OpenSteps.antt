@@ -1,9 +1,10 @@
 -- What follows of an open type that was encoded in the octets from that of its first bit on.
-use Rattle.std.proofs.Common.{◌≡◌, ℕ, ◌+◌, ◌-◌, ◌*◌, ◌/◌, ◌%◌, ◌^◌, ◌<◌, List, ◌++◌, Bool, true, false, length, refl, sym, subst, inl, inr, arith, append_assoc, Option}
+use Rattle.std.proofs.Common.{◌≡◌, ℕ, ◌+◌, ◌-◌, ◌*◌, ◌/◌, ◌%◌, ◌^◌, ◌<◌, List, ◌++◌, Bool, true, false, length, refl, sym, subst, inl, inr, arith, append_assoc}
 use Rattle.std.specs.Prelude.{◌⊎◌}
 use Rattle.std.proofs.lemmas.List.{length-append}
 use Rattle.asn1_bits.specs.Bits.{digits}
 use Rattle.asn1_bits.specs.DigitLaws.{length-digits}
+use Rattle.asn1_schema.specs.declared.tables.Presence.{Presence}
 use Rattle.asn1_x691.specs.Fields.{to_octet}
 use Rattle.asn1_x691_writers.specs.declared.state.Writer.{Writer}
 use Rattle.asn1_x691_writers.specs.Enclosed.{length_bits}
@@ -24,10 +25,10 @@ starts_on_octet true was mid at start g e =
     let h = index_octet start (at + length zeros) (g.index at (inl refl)) in
     omega (arith, h, length-digits 0 (to_octet at))
 
-module _ (c : Context) (defaults : ℕ → ℕ → Option (List Bool)) (depth node inner : ℕ) (was : List ℕ) (old : Writer) where
+module _ (c : Context) (depth node : ℕ) (p : Presence) (inner : ℕ) (was : List ℕ) (old : Writer) where
   pub open_fails : (tail now end : List ℕ) (start : ℕ) (new : Writer)
-      → EnclosedOutcome c defaults depth node inner tail (record old { at = start }) now new false
-      → Outcome c (open_in c defaults depth node inner) was old end new false
+      → EnclosedOutcome c depth node p inner tail (record old { at = start }) now new false
+      → Outcome c (open_in c depth node p inner) was old end new false
   open_fails tail now end start new (inl m) = inl (record { kind = m.kind; reason = m.reason; first = λ n h. inl m.first })
   open_fails tail now end start new (inr u) = inr u
 
@@ -35,7 +36,7 @@ module _ (c : Context) (defaults : ℕ → ℕ → Option (List Bool)) (depth no
       (same : length now ≡ length tail)
       (inside : (length front ≡ start / 8) ⊎ (length (front ++ tail) < start / 8))
       (zeros : IsGrown was old.at (front ++ tail) start (start_of c.is_aligned old.at))
-      (e : IsEnclosed c defaults depth node inner tail (record old { at = start % 8 }) now last)
+      (e : IsEnclosed c depth node p inner tail (record old { at = start % 8 }) now last)
       (index : (n : ℕ) → IsIndex start n → IsIndex at (n + (last.at - start % 8))) where
     abbrev more : List Bool
     more = length_bits e.count ++ e.contents
@@ -48,7 +49,7 @@ module _ (c : Context) (defaults : ℕ → ℕ → Option (List Bool)) (depth no
         tail_grown front tail now (start / 8) (start % 8) start last.at at more few same (omega arith) e.grown
         (λ n h. subst (λ (k : ℕ). IsIndex at (n + k)) more_size (index n h)) inside
 
-    pub open_done : IsEncoded c (open_in c defaults depth node inner) was old (front ++ now) (record last { at = at })
+    pub open_done : IsEncoded c (open_in c depth node p inner) was old (front ++ now) (record last { at = at })
     open_done = record {
       parts = e.parts;
       written = record {

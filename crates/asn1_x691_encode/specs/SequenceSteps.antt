@@ -7,38 +7,41 @@ use Rattle.asn1_schema.specs.declared.misfit.MisfitKind.TheVariants as misfit
 use Rattle.asn1_schema.specs.declared.tables.Member.{Member}
 use Rattle.asn1_schema.specs.declared.tables.Presence.{Presence}
 use Rattle.asn1_schema.specs.declared.tables.Presence.TheVariants as presence
-use Rattle.asn1_schema.specs.declared.tables.Node.TheVariants as type
 use Rattle.asn1_schema.specs.declared.tables.Rows.{Rows}
-use Rattle.asn1_schema.specs.TypeEncodings.{TypeEncoding, AfterHeader, Misfit}
+use Rattle.asn1_schema.specs.TypeEncodings.{TypeEncoding, AfterHeader, Misfit, optional}
 use Rattle.asn1_x691.specs.declared.fault.FaultKind.{FaultKind}
-use Rattle.asn1_x691.specs.Limits.{no_limits}
+use Rattle.asn1_x691.specs.declared.fault.FaultKind.TheVariants.{NoNode}
 use Rattle.asn1_x691.specs.Types.{component, component_by, value_by, presence_bits, is_optional, optional_count}
+use Rattle.asn1_x691.specs.Limits.{no_limits}
 use Rattle.asn1_x691_writers.specs.declared.state.Writer.{Writer}
-use Rattle.asn1_x691_writers.specs.declared.state.Rejection.TheVariants.{Misfit as RejectedAs, Unsupported}
+use Rattle.asn1_x691_writers.specs.declared.state.Rejection.TheVariants.{Misfit as RejectedAs}
 use Rattle.asn1_x691_writers.specs.FieldSteps.{alike_after}
 use Rattle.asn1_x691_writers.specs.Written.{IsAlike, IsIndex, IsGrown}
-use Rattle.asn1_x691_encode.specs.Encoding.{tape, types, root_in, components_in, HasDefault, IsLater, IsEncoded, IsFirstMisfit, IsLeft}
-use Rattle.asn1_x691_encode.specs.Components.{ComponentOutcome, AreUnderway, AreMisfit}
+use Rattle.asn1_x691_encode.specs.Encoding.{tape, defaults_in, types, root_in, components_in, IsEncoded, IsFirstMisfit, IsLeft}
+use Rattle.asn1_x691_encode.specs.Components.{OptionalOutcome, ComponentOutcome, AreUnderway, AreMisfit}
 use Rattle.asn1_x691_encode.specs.declared.context.Context.{Context}
 use Rattle.asn1_x691_encode.specs.ComponentSteps.{mandatory_on, absent_on, present_on, all_passed}
 
--- a component of a root with a DEFAULT is not encoded yet
-pub root_left : (c : Context) (next : ℕ) (root known : Rows) → HasDefault c root → (is_extensible : Bool)
-    → IsLater c next (Some (type.Sequence root is_extensible known))
-root_left c next root known h true = inl h
-root_left c next root known h false = h
-
 module _ (c : Context) where
-  module _ (defaults : ℕ → ℕ → Option (List Bool)) (depth node : ℕ) where
+  -- a component that may be absent
+  pub optional_component : (B : ℕ → TypeEncoding FaultKind) (p : Presence) (head : ℕ) (was : List ℕ) (old : Writer) (now : List ℕ) (new : Writer)
+      (r : Bool) → (p ≡ presence.Mandatory → ⊥) → OptionalOutcome c B head was old now new r → ComponentOutcome c B p head was old now new r
+  optional_component B presence.Mandatory head was old now new r f o = absurd (f refl)
+  optional_component B presence.Optional head was old now new r f o = o
+  optional_component B (presence.Default value) head was old now new r f o = o
+
+  module _ (depth node : ℕ) where
+    abbrev V : Presence → (ℕ → TypeEncoding FaultKind) → ℕ → TypeEncoding FaultKind
+    V p A = value_by no_limits c.is_aligned (types c depth) c.tables.members.now c.tables.ranges.now (defaults_in c) node p A
+
     abbrev by : Presence → (ℕ → TypeEncoding FaultKind) → (ℕ → AfterHeader FaultKind (List Bool)) → ℕ → AfterHeader FaultKind (List Bool)
-    by p A F = component_by no_limits c.is_aligned (types c defaults depth) c.tables.members.now c.tables.ranges.now defaults node p
-        (value_by no_limits c.is_aligned (types c defaults depth) c.tables.members.now c.tables.ranges.now defaults node p A) F
+    by p A F = component_by no_limits c.is_aligned (types c depth) c.tables.members.now c.tables.ranges.now (defaults_in c) node p (V p A) F
 
     abbrev of_member : Option Member → (ℕ → AfterHeader FaultKind (List Bool)) → ℕ → AfterHeader FaultKind (List Bool)
-    of_member o F = component no_limits c.is_aligned (types c defaults depth) c.tables.members.now c.tables.ranges.now defaults node o F
+    of_member o F = component no_limits c.is_aligned (types c depth) c.tables.members.now c.tables.ranges.now (defaults_in c) node o F
 
     abbrev run : ℕ → ℕ → ℕ → AfterHeader FaultKind (List Bool)
-    run n at = components_in c defaults depth node n at
+    run n at = components_in c depth node n at
 
     abbrev bits_of : ℕ → ℕ → ℕ
     bits_of n at = optional_count c.tables.members.now n at
@@ -47,13 +50,13 @@ module _ (c : Context) where
         (is : slice_get c.tables.members.now at ≡ Some m) (now : List ℕ) (old : Writer) (head : ℕ) where
       -- the first of so many components
       pub component_first : (n : ℕ) → 0 < n → AreUnderway c W (run n at) width (bits_of n at) first start mid now old head
-          → AreUnderway c W (by m.presence (types c defaults depth m.node) (run (n - 1) (at + 1))) width
+          → AreUnderway c W (by m.presence (types c depth m.node) (run (n - 1) (at + 1))) width
           (presence_bits m.presence + bits_of (n - 1) (at + 1)) first start mid now old head
       component_first zero some u = absurd (omega (arith, some))
       component_first (suc n) some u =
           let e : n ≡ suc n - 1 = omega arith in
           subst
-          (λ (k : ℕ). AreUnderway c W (by m.presence (types c defaults depth m.node) (run k (at + 1))) width
+          (λ (k : ℕ). AreUnderway c W (by m.presence (types c depth m.node) (run k (at + 1))) width
           (presence_bits m.presence + bits_of k (at + 1)) first start mid now old head) e
           (subst
           (λ (o : Option Member). AreUnderway c W (of_member o (run n (at + 1))) width (is_optional o + bits_of n (at + 1)) first start mid now
@@ -62,35 +65,44 @@ module _ (c : Context) where
     module _ (W : ℕ → AfterHeader FaultKind (List Bool)) (width : ℕ) (first : List ℕ) (start : ℕ) (mid : Writer)
         (A : ℕ → TypeEncoding FaultKind) (F : ℕ → AfterHeader FaultKind (List Bool)) (k : ℕ) (now next : List ℕ) (old new : Writer)
         (head last : ℕ) where
-      pub component_on : (p : Presence) → AreUnderway c W (by p A F) width (presence_bits p + k) first start mid now old head
-          → ComponentOutcome c A node p head now old next new true → ((n : ℕ) → IsIndex head n → IsIndex last (n + presence_bits p))
+      optional_on : (B : ℕ → TypeEncoding FaultKind) → AreUnderway c W (optional NoNode node B F) width (1 + k) first start mid now old head
+          → OptionalOutcome c B head now old next new true → ((n : ℕ) → IsIndex head n → IsIndex last (n + 1))
           → AreUnderway c W F width k first start mid next new last
-      component_on presence.Mandatory u a move = mandatory_on c W width first start mid F k now next old new head last A u a move
-      component_on presence.Optional u (inl a) move = absent_on c W width first start mid F k now next old new head last node A u a move
-      component_on presence.Optional u (inr a) move = present_on c W width first start mid F k now next old new head last node A u a move
-      component_on (presence.Default value) u a move = absurd (let e = a.0 in cc)
+      optional_on B u (inl a) move = absent_on c W width first start mid F k now next old new head last node B u a move
+      optional_on B u (inr a) move = present_on c W width first start mid F k now next old new head last node B u a move
+
+      pub component_on : (p : Presence) → AreUnderway c W (by p A F) width (presence_bits p + k) first start mid now old head
+          → ComponentOutcome c (V p A) p head now old next new true → ((n : ℕ) → IsIndex head n → IsIndex last (n + presence_bits p))
+          → AreUnderway c W F width k first start mid next new last
+      component_on presence.Mandatory u a move =
+          mandatory_on c W width first start mid F k now next old new head last (V presence.Mandatory A) u a move
+      component_on presence.Optional u a move = optional_on (V presence.Optional A) u a move
+      component_on (presence.Default value) u a move = optional_on (V (presence.Default value) A) u a move
 
     -- why a component was not encoded
+    optional_fails : (B : ℕ → TypeEncoding FaultKind) (F : ℕ → AfterHeader FaultKind (List Bool)) (now next : List ℕ) (old new : Writer)
+        (head : ℕ) → OptionalOutcome c B head now old next new false → AreMisfit c (optional NoNode node B F) old new ⊎ IsLeft c new
+    optional_fails B F now next old new head (some, inl m) =
+        inl (record { kind = m.kind; reason = m.reason; first = λ n h. inr (some, inl (m.first n h)) })
+    optional_fails B F now next old new head (some, inr u) = inr u
+
     pub component_fails : (A : ℕ → TypeEncoding FaultKind) (F : ℕ → AfterHeader FaultKind (List Bool)) (now next : List ℕ) (old new : Writer)
-        (head : ℕ) (p : Presence) → ComponentOutcome c A node p head now old next new false
-        → AreMisfit c (by p A F) old new
-        ⊎ (IsLeft c new ⊎ ((value : ℕ) × (p ≡ presence.Default value) × (new.reason ≡ Unsupported) × (new.node ≡ node)))
+        (head : ℕ) (p : Presence) → ComponentOutcome c (V p A) p head now old next new false → AreMisfit c (by p A F) old new ⊎ IsLeft c new
     component_fails A F now next old new head presence.Mandatory (inl m) =
         inl (record { kind = m.kind; reason = m.reason; first = λ n h. inl (m.first n h) })
-    component_fails A F now next old new head presence.Mandatory (inr u) = inr (inl u)
-    component_fails A F now next old new head presence.Optional (some, inl m) =
-        inl (record { kind = m.kind; reason = m.reason; first = λ n h. inr (some, inl (m.first n h)) })
-    component_fails A F now next old new head presence.Optional (some, inr u) = inr (inl u)
-    component_fails A F now next old new head (presence.Default value) a = inr (inr (value, refl, a.1, a.2))
+    component_fails A F now next old new head presence.Mandatory (inr u) = inr u
+    component_fails A F now next old new head presence.Optional a = optional_fails (V presence.Optional A) F now next old new head a
+    component_fails A F now next old new head (presence.Default value) a =
+        optional_fails (V (presence.Default value) A) F now next old new head a
 
     module _ (m : Member) (at : ℕ) (is : slice_get c.tables.members.now at ≡ Some m) (old new : Writer) where
-      pub misfit_first : (n : ℕ) → 0 < n → AreMisfit c (by m.presence (types c defaults depth m.node) (run (n - 1) (at + 1))) old new
+      pub misfit_first : (n : ℕ) → 0 < n → AreMisfit c (by m.presence (types c depth m.node) (run (n - 1) (at + 1))) old new
           → AreMisfit c (run n at) old new
       misfit_first zero some a = absurd (omega (arith, some))
       misfit_first (suc n) some a =
           let e : suc n - 1 ≡ n = omega arith in
           subst (λ (o : Option Member). AreMisfit c (of_member o (run n (at + 1))) old new) (sym is)
-          (subst (λ (k : ℕ). AreMisfit c (by m.presence (types c defaults depth m.node) (run k (at + 1))) old new) e a)
+          (subst (λ (k : ℕ). AreMisfit c (by m.presence (types c depth m.node) (run k (at + 1))) old new) e a)
 
     -- no such member is in the table
     pub misfit_none : (at : ℕ) → slice_get c.tables.members.now at ≡ None → (old new : Writer) → new.next ≡ old.next → new.node ≡ node
@@ -118,7 +130,7 @@ module _ (c : Context) where
           (alike_after c.is_aligned was now old.at mid.at n (digits 0 width) g h)
 
       pub root_misfit : (new : Writer) → AreMisfit c (run root.count root.from) mid new
-          → IsFirstMisfit c (root_in c defaults depth node root) old new
+          → IsFirstMisfit c (root_in c depth node root) old new
       root_misfit new m = record {
         kind = m.kind;
         reason = m.reason;
@@ -130,7 +142,7 @@ module _ (c : Context) where
       -- all components were encoded
       pub root_encoded : (at left : ℕ) (end : List ℕ) (new : Writer) (head : ℕ) → left ≡ 0
           → AreUnderway c (run root.count root.from) (run left at) width (bits_of left at) was old.at mid end new head
-          → IsEncoded c (root_in c defaults depth node root) was old end new
+          → IsEncoded c (root_in c depth node root) was old end new
       unfolding digits
       root_encoded at zero end new head none u =
           let parts = u.passed.parts in

@@ -2,7 +2,6 @@
 
 ghost use Rattle.std.specs.Prelude.{Option, ◌≡◌, ℕ, Bool, List, ◌+◌, ◌-◌, ◌*◌, ◌^◌, ◌<◌, true, length, slice_get, Some};
 ghost use Rattle.asn1_schema.specs.declared.tables.Range.{Range};
-ghost use Rattle.asn1_schema.specs.declared.tables.Node.TheVariants.{Choice};
 ghost use Rattle.asn1_bits.specs.Bits.{bits};
 ghost use Rattle.asn1_schema.specs.Pieces.{Chosen, UnknownChosen};
 ghost use Rattle.asn1_schema.specs.PiecesOfParts.{natural_of};
@@ -87,9 +86,8 @@ pub(crate) fn encode_added(
     requires size { 8 * length octets.old < 2 ^ 64 }
     requires source { 8 * length context.now.source.now < 2 ^ 64 }
     requires parts { length context.now.parts.now < 2 ^ 64 - 1 }
-    requires choice { slice_get context.now.tables.nodes.now node ≡ Some (Choice rows true known) }
     requires next { slice_get context.now.parts.now state.old.next ≡ Some part }
-    ensures { (defaults : ℕ → ℕ → Option (List Bool)) → Outcome context.now (choice_extension_in context.now defaults depth node rows known)
+    ensures { Outcome context.now (choice_extension_in context.now depth node rows known)
         octets.old state.old octets.new state.new result }
 {
     let last = (rows.count as usize).saturating_sub(1);

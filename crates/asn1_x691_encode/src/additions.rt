@@ -4,17 +4,16 @@ ghost use Rattle.std.specs.Prelude.{Option, ◌≡◌, ℕ, Bool, List, ◌+◌,
 ghost use Rattle.asn1_schema.specs.declared.tables.Range.{Range};
 ghost use Rattle.asn1_schema.specs.Pieces.{Additions};
 ghost use Rattle.asn1_schema.specs.declared.part.Part.TheVariants.{Additions as AdditionsPart};
-ghost use Rattle.asn1_schema.specs.declared.tables.Node.TheVariants.{Sequence as SequenceNode};
 ghost use Rattle.asn1_x691_writers.specs.Put.{piece_in};
-ghost use Rattle.asn1_x691_encode.specs.Encoding.{Outcome, extension_in, present_additions_in};
-ghost use Rattle.asn1_x691_encode.specs.Additions.{IsPresence, KnownOutcome, OptionalAdditionOutcome, AdditionOutcome};
+ghost use Rattle.asn1_x691_encode.specs.Encoding.{Outcome, extension_in, present_additions_in, addition_in, known_in};
+ghost use Rattle.asn1_x691_encode.specs.Additions.{IsPresence, AdditionStep};
 
 use crate::context::{Context, member_from, part_at};
 use crate::leaves::encode_unknown;
 use crate::open_type::encode_open_type;
 use crate::sequence::is_absent;
-use asn1_schema::{MisfitKind, Part, Presence, Rows};
-use asn1_x691_writers::{Writer, after, leave, put_small_length, put_zeros, reject, set_bit};
+use asn1_schema::{MisfitKind, Part, Rows};
+use asn1_x691_writers::{Writer, after, put_small_length, put_zeros, reject, set_bit};
 
 /// Encodes the additions of a SEQUENCE: their number, the bits that tell which of them are present,
 /// and these (X.691 19.7 to 19.9).
@@ -23,7 +22,6 @@ pub(crate) fn encode_extension(
     context: &Context<'_>,
     depth: usize,
     node: usize,
-    root: Rows,
     known: Rows,
     octets: &mut [u8],
     state: &mut Writer,
@@ -31,17 +29,14 @@ pub(crate) fn encode_extension(
     requires size { 8 * length octets.old < 2 ^ 64 }
     requires source { 8 * length context.now.source.now < 2 ^ 64 }
     requires parts { length context.now.parts.now < 2 ^ 64 - 1 }
-    requires sequence { slice_get context.now.tables.nodes.now node ≡ Some (SequenceNode root true known) }
-    ensures { (defaults : ℕ → ℕ → Option (List Bool)) → Outcome context.now (extension_in context.now defaults depth node known)
+    ensures { Outcome context.now (extension_in context.now depth node known)
         octets.old state.old octets.new state.new result }
 {
     match part_at(context.parts, state.next) {
         None => reject(state, node, MisfitKind::NoPart),
         Some(part) => match additions_of(part) {
             None => reject(state, node, MisfitKind::OtherPart),
-            Some(count) => {
-                encode_counted(context, depth, node, root, known, count, octets, state)
-            }
+            Some(count) => { encode_counted(context, depth, node, known, count, octets, state) }
         },
     }
 }
@@ -63,7 +58,6 @@ fn encode_counted(
     context: &Context<'_>,
     depth: usize,
     node: usize,
-    root: Rows,
     known: Rows,
     count: usize,
     octets: &mut [u8],
@@ -72,9 +66,8 @@ fn encode_counted(
     requires size { 8 * length octets.old < 2 ^ 64 }
     requires source { 8 * length context.now.source.now < 2 ^ 64 }
     requires parts { length context.now.parts.now < 2 ^ 64 - 1 }
-    requires sequence { slice_get context.now.tables.nodes.now node ≡ Some (SequenceNode root true known) }
     requires next { slice_get context.now.parts.now state.old.next ≡ Some (AdditionsPart count) }
-    ensures { (defaults : ℕ → ℕ → Option (List Bool)) → Outcome context.now (extension_in context.now defaults depth node known)
+    ensures { Outcome context.now (extension_in context.now depth node known)
         octets.old state.old octets.new state.new result }
 {
     if count == 0 || count >= 16384 {
@@ -82,7 +75,7 @@ fn encode_counted(
     }
     state.at = put_small_length(octets, state.at, context.is_aligned, count);
     state.next += 1;
-    encode_present(context, depth, node, root, known, count, octets, state)
+    encode_present(context, depth, node, known, count, octets, state)
 }
 
 /// Encodes so many additions after the bits that tell which of them are present, of which there is
@@ -92,7 +85,6 @@ fn encode_present(
     context: &Context<'_>,
     depth: usize,
     node: usize,
-    root: Rows,
     known: Rows,
     count: usize,
     octets: &mut [u8],
@@ -101,8 +93,7 @@ fn encode_present(
     requires size { 8 * length octets.old < 2 ^ 64 }
     requires source { 8 * length context.now.source.now < 2 ^ 64 }
     requires parts { length context.now.parts.now < 2 ^ 64 - 1 }
-    requires sequence { slice_get context.now.tables.nodes.now node ≡ Some (SequenceNode root true known) }
-    ensures { (defaults : ℕ → ℕ → Option (List Bool)) → Outcome context.now (present_additions_in context.now defaults depth node known count)
+    ensures { Outcome context.now (present_additions_in context.now depth node known count)
         octets.old state.old octets.new state.new result }
 {
     let first = state.next;
@@ -160,8 +151,8 @@ fn encode_optional_addition(
     requires source { 8 * length context.now.source.now < 2 ^ 64 }
     requires parts { length context.now.parts.now < 2 ^ 64 - 1 }
     requires present { IsPresence context.now state.old.next is_present }
-    ensures { (defaults : ℕ → ℕ → Option (List Bool)) → OptionalAdditionOutcome context.now defaults depth node known index is_present head
-        octets.old state.old octets.new state.new result }
+    ensures { AdditionStep context.now
+        (addition_in context.now depth node (known.count - index) (known.from + index)) head is_present octets.old state.old octets.new state.new result }
 {
     if !is_present {
         state.next += 1;
@@ -185,7 +176,7 @@ fn encode_addition(
     requires size { 8 * length octets.old < 2 ^ 64 }
     requires source { 8 * length context.now.source.now < 2 ^ 64 }
     requires parts { length context.now.parts.now < 2 ^ 64 - 1 }
-    ensures { (defaults : ℕ → ℕ → Option (List Bool)) → AdditionOutcome context.now defaults depth node known index
+    ensures { Outcome context.now (addition_in context.now depth node (known.count - index) (known.from + index))
         octets.old state.old octets.new state.new result }
 {
     if index >= known.count as usize {
@@ -209,29 +200,21 @@ pub(crate) fn encode_known(
     requires size { 8 * length octets.old < 2 ^ 64 }
     requires source { 8 * length context.now.source.now < 2 ^ 64 }
     requires parts { length context.now.parts.now < 2 ^ 64 - 1 }
-    ensures { (defaults : ℕ → ℕ → Option (List Bool)) → KnownOutcome context.now defaults depth node
-        (slice_get context.now.tables.members.now (from + index)) octets.old state.old octets.new state.new result }
+    ensures { Outcome context.now (known_in context.now depth node
+        (slice_get context.now.tables.members.now (from + index))) octets.old state.old octets.new state.new result }
 {
     match member_from(context.tables.members, from, index) {
         None => reject(state, node, MisfitKind::NoNode),
-        Some(member) => match member.presence {
-            Presence::Default { value: _ } => leave(state, node),
-            Presence::Mandatory => encode_open_type(
+        Some(member) => {
+            encode_open_type(
                 context,
                 depth,
                 node,
+                member.presence,
                 member.node,
                 octets,
                 state,
-            ),
-            Presence::Optional => encode_open_type(
-                context,
-                depth,
-                node,
-                member.node,
-                octets,
-                state,
-            ),
-        },
+            )
+        }
     }
 }

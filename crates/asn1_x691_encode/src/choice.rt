@@ -28,7 +28,7 @@ pub(crate) fn encode_choice(
     requires size { 8 * length octets.old < 2 ^ 64 }
     requires source { 8 * length context.now.source.now < 2 ^ 64 }
     requires parts { length context.now.parts.now < 2 ^ 64 - 1 }
-    ensures { (defaults : ℕ → ℕ → Option (List Bool)) → Outcome context.now (choice_in context.now defaults depth node rows) octets.old state.old
+    ensures { Outcome context.now (choice_in context.now depth node rows) octets.old state.old
         octets.new state.new result }
 {
     match part_at(context.parts, state.next) {
@@ -51,8 +51,7 @@ pub(crate) fn encode_extensible_choice(
     requires size { 8 * length octets.old < 2 ^ 64 }
     requires source { 8 * length context.now.source.now < 2 ^ 64 }
     requires parts { length context.now.parts.now < 2 ^ 64 - 1 }
-    requires choice { slice_get context.now.tables.nodes.now node ≡ Some (Choice rows true known) }
-    ensures { (defaults : ℕ → ℕ → Option (List Bool)) → Outcome context.now (extensible_choice_in context.now defaults depth node rows known)
+    ensures { Outcome context.now (extensible_choice_in context.now depth node rows known)
         octets.old state.old octets.new state.new result }
 {
     match part_at(context.parts, state.next) {
@@ -95,7 +94,7 @@ fn encode_choice_of(
     requires source { 8 * length context.now.source.now < 2 ^ 64 }
     requires parts { length context.now.parts.now < 2 ^ 64 - 1 }
     requires next { slice_get context.now.parts.now state.old.next ≡ Some part }
-    ensures { (defaults : ℕ → ℕ → Option (List Bool)) → Outcome context.now (choice_in context.now defaults depth node rows) octets.old state.old
+    ensures { Outcome context.now (choice_in context.now depth node rows) octets.old state.old
         octets.new state.new result }
 {
     match index_of(part) {
@@ -129,7 +128,7 @@ fn encode_index(
     requires source { 8 * length context.now.source.now < 2 ^ 64 }
     requires parts { length context.now.parts.now < 2 ^ 64 - 1 }
     requires next { slice_get context.now.parts.now state.old.next ≡ Some (ChosenPart index) }
-    ensures { (defaults : ℕ → ℕ → Option (List Bool)) → Outcome context.now (choice_in context.now defaults depth node rows) octets.old state.old
+    ensures { Outcome context.now (choice_in context.now depth node rows) octets.old state.old
         octets.new state.new result }
 {
     let last = (rows.count as usize).saturating_sub(1);
@@ -161,7 +160,7 @@ fn encode_alternative(
     requires size { 8 * length octets.old < 2 ^ 64 }
     requires source { 8 * length context.now.source.now < 2 ^ 64 }
     requires parts { length context.now.parts.now < 2 ^ 64 - 1 }
-    ensures { (defaults : ℕ → ℕ → Option (List Bool)) → Outcome context.now (alternative_in context.now defaults depth node rows index) octets.old
+    ensures { Outcome context.now (alternative_in context.now depth node rows index) octets.old
         state.old octets.new state.new result }
 {
     if index >= rows.count as usize {

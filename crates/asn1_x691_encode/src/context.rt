@@ -1,16 +1,18 @@
 //! What an encoder works on.
 
 ghost use Rattle.std.specs.Prelude.{◌≡◌, ◌+◌, ◌^◌, ◌<◌, false, true, slice_get};
-ghost use Rattle.asn1_x691_writers.specs.declared.state.Rejection.TheVariants.{Unsupported};
 
 use asn1_schema::{Member, Part, Tables};
-use asn1_x691_writers::{Rejection, Writer};
+use asn1_x691_fields::Defaults;
+use asn1_x691_writers::Writer;
 
 /// A schema, and the parts of a value.
 #[derive(Clone, Copy, Debug)]
 pub struct Context<'s> {
     /// The types.
     pub tables: Tables<'s>,
+    /// The encodings of default values.
+    pub defaults: Defaults<'s>,
     /// The parts.
     pub parts: &'s [Part],
     /// The octets in which the parts have their bits.
@@ -57,16 +59,4 @@ pub(crate) fn pass(is_written: bool, state: &mut Writer) -> bool
         state.next += 1;
     }
     is_written
-}
-
-/// Leaves a value of a type that is not encoded yet. Returns false.
-#[cold]
-pub(crate) fn later(state: &mut Writer, node: usize) -> bool
-    ensures result { result ≡ false }
-    ensures node { state.new.node ≡ node }
-    ensures reason { state.new.reason ≡ Unsupported }
-{
-    state.node = node;
-    state.reason = Rejection::Unsupported;
-    false
 }

@@ -5,16 +5,16 @@ ghost use Rattle.asn1_x691_encode.specs.Encoding.{Outcome, types};
 
 use crate::choice::{encode_choice, encode_extensible_choice};
 use crate::contents::encode_contents;
-use crate::context::{Context, later};
+use crate::context::Context;
 use crate::leaves::{
     encode_at_least, encode_between, encode_bits, encode_boolean, encode_enumerated,
     encode_integer, encode_null, encode_octets,
 };
-use crate::list::{encode_extensible_list, encode_list};
+use crate::list::encode_list_by;
 use crate::open_type::encode_open_type;
 use crate::sequence::{encode_extensible_sequence, encode_sequence};
 use crate::texts::encode_text;
-use asn1_schema::{MisfitKind, Node};
+use asn1_schema::{MisfitKind, Node, Presence};
 use asn1_x691_writers::{ContentsKind, Writer, reject};
 
 /// Returns the type at a node.
@@ -43,7 +43,7 @@ pub fn encode_node(
     requires size { 8 * length octets.old < 2 ^ 64 }
     requires source { 8 * length context.now.source.now < 2 ^ 64 }
     requires parts { length context.now.parts.now < 2 ^ 64 - 1 }
-    ensures { (defaults : ℕ → ℕ → Option (List Bool)) → Outcome context.now (types context.now defaults depth node) octets.old state.old
+    ensures { Outcome context.now (types context.now depth node) octets.old state.old
         octets.new state.new result }
 {
     if depth == 0 {
@@ -167,26 +167,37 @@ pub fn encode_node(
                 item,
             },
         ) => {
-            if is_extensible {
-                return encode_extensible_list(
-                    context,
-                    depth - 1,
-                    node,
-                    length,
-                    item,
-                    octets,
-                    state,
-                );
-            }
-            encode_list(context, depth - 1, node, length, item, octets, state)
+            encode_list_by(
+                context,
+                depth - 1,
+                node,
+                is_extensible,
+                false,
+                length,
+                item,
+                octets,
+                state,
+            )
         }
         Some(
             Node::SetOf {
-                length: _,
-                is_extensible: _,
-                item: _,
+                length,
+                is_extensible,
+                item,
             },
-        ) => later(state, node),
+        ) => {
+            encode_list_by(
+                context,
+                depth - 1,
+                node,
+                is_extensible,
+                true,
+                length,
+                item,
+                octets,
+                state,
+            )
+        }
         Some(
             Node::Choice {
                 alternatives,
@@ -208,7 +219,15 @@ pub fn encode_node(
             encode_choice(context, depth - 1, node, alternatives, octets, state)
         }
         Some(Node::Open { inner }) => {
-            encode_open_type(context, depth - 1, node, inner, octets, state)
+            encode_open_type(
+                context,
+                depth - 1,
+                node,
+                Presence::Mandatory,
+                inner,
+                octets,
+                state,
+            )
         }
     }
 }

@@ -1,7 +1,7 @@
 //! Encodes values by a schema, by the packed encoding rules (X.691).
 //!
 //! `specs/Encoding` says what a call did: it wrote an encoding of the next parts, or it names the
-//! first misfit. SET OF and components with a DEFAULT are not encoded yet.
+//! first misfit, or the part that it leaves.
 #![tactic(auto)]
 
 mod added_choice;
@@ -17,8 +17,12 @@ mod open_type;
 mod padding;
 mod presence;
 mod sequence;
+mod set;
 mod texts;
+mod value;
+mod within;
 
+pub use asn1_x691_fields::Defaults;
 pub use context::Context;
 pub use encoder::encode_node;
 pub use message::{Encoded, Misfit, encode};

@@ -1,4 +1,4 @@
-//! SEQUENCE OF (X.691 20).
+//! SEQUENCE OF (X.691 20) and SET OF (X.691 22).
 
 ghost use Rattle.std.specs.Prelude.{Option, ◌≡◌, ℕ, Bool, List, ◌+◌, ◌-◌, ◌*◌, ◌^◌, ◌<◌, ◌≤◌, length, slice_get, Some, MatchOption};
 ghost use Rattle.asn1_schema.specs.declared.tables.Range.{Range};
@@ -9,19 +9,22 @@ ghost use Rattle.asn1_x691.specs.Types.{IsAddedCount};
 ghost use Rattle.asn1_schema.specs.declared.part.Part.TheVariants.{Count as CountPart};
 ghost use Rattle.asn1_schema.specs.declared.tables.Length.TheVariants.{AtLeast, Between};
 ghost use Rattle.asn1_schema.specs.TypeEncodings.{several};
-ghost use Rattle.asn1_x691_encode.specs.Encoding.{Outcome, types, list_in, added_list_in, extensible_list_in};
+ghost use Rattle.asn1_x691_encode.specs.Encoding.{Outcome, types, items_in, list_in, added_list_in, extensible_list_in, list_by};
 
 use crate::context::{Context, part_at};
 use crate::encoder::encode_node;
+use crate::set::encode_set_items;
 use asn1_schema::{Length, MisfitKind, Part};
 use asn1_x691_writers::{Writer, is_of_root, put_bit, put_constrained, put_length, reject};
 
-/// Encodes a SEQUENCE OF without an extension marker (X.691 20.5, 20.6).
+/// Encodes a SEQUENCE OF or a SET OF (X.691 20, 22).
 #[cycle(encoding)]
-pub(crate) fn encode_list(
+pub(crate) fn encode_list_by(
     context: &Context<'_>,
     depth: usize,
     node: usize,
+    is_extensible: bool,
+    is_set: bool,
     size: Length,
     item: usize,
     octets: &mut [u8],
@@ -30,12 +33,37 @@ pub(crate) fn encode_list(
     requires size { 8 * length octets.old < 2 ^ 64 }
     requires source { 8 * length context.now.source.now < 2 ^ 64 }
     requires parts { length context.now.parts.now < 2 ^ 64 - 1 }
-    ensures { (defaults : ℕ → ℕ → Option (List Bool)) → Outcome context.now (list_in context.now defaults depth node size item) octets.old state.old
+    ensures { Outcome context.now (list_by context.now depth node is_extensible is_set size item) octets.old state.old octets.new state.new result }
+{
+    if is_extensible {
+        return encode_extensible_list(context, depth, node, size, is_set, item, octets, state);
+    }
+    encode_list(context, depth, node, size, is_set, item, octets, state)
+}
+
+/// Encodes a SEQUENCE OF without an extension marker (X.691 20.5, 20.6).
+#[cycle(encoding)]
+fn encode_list(
+    context: &Context<'_>,
+    depth: usize,
+    node: usize,
+    size: Length,
+    is_set: bool,
+    item: usize,
+    octets: &mut [u8],
+    state: &mut Writer,
+) -> bool
+    requires size { 8 * length octets.old < 2 ^ 64 }
+    requires source { 8 * length context.now.source.now < 2 ^ 64 }
+    requires parts { length context.now.parts.now < 2 ^ 64 - 1 }
+    ensures { Outcome context.now (list_in context.now depth node is_set size item) octets.old state.old
         octets.new state.new result }
 {
     match part_at(context.parts, state.next) {
         None => reject(state, node, MisfitKind::NoPart),
-        Some(part) => encode_list_of(context, depth, node, size, item, part, octets, state),
+        Some(part) => encode_list_of(
+            context, depth, node, size, is_set, item, part, octets, state,
+        ),
     }
 }
 
@@ -46,6 +74,7 @@ fn encode_list_of(
     depth: usize,
     node: usize,
     size: Length,
+    is_set: bool,
     item: usize,
     part: Part,
     octets: &mut [u8],
@@ -55,14 +84,14 @@ fn encode_list_of(
     requires source { 8 * length context.now.source.now < 2 ^ 64 }
     requires parts { length context.now.parts.now < 2 ^ 64 - 1 }
     requires next { slice_get context.now.parts.now state.old.next ≡ Some part }
-    ensures { (defaults : ℕ → ℕ → Option (List Bool)) → Outcome context.now (list_in context.now defaults depth node size item) octets.old state.old
+    ensures { Outcome context.now (list_in context.now depth node is_set size item) octets.old state.old
         octets.new state.new result }
 {
     match count_of(part) {
         None => reject(state, node, MisfitKind::OtherPart),
         Some(count) => match size {
             Length::AtLeast { least } => encode_at_least(
-                context, depth, node, least, item, count, octets, state,
+                context, depth, node, least, is_set, item, count, octets, state,
             ),
             Length::Between { least, range } => {
                 encode_between(
@@ -71,6 +100,7 @@ fn encode_list_of(
                     node,
                     least as usize,
                     range as usize,
+                    is_set,
                     item,
                     count,
                     octets,
@@ -83,11 +113,12 @@ fn encode_list_of(
 
 /// Encodes a SEQUENCE OF that has an extension marker (X.691 20.4).
 #[cycle(encoding)]
-pub(crate) fn encode_extensible_list(
+fn encode_extensible_list(
     context: &Context<'_>,
     depth: usize,
     node: usize,
     size: Length,
+    is_set: bool,
     item: usize,
     octets: &mut [u8],
     state: &mut Writer,
@@ -95,7 +126,7 @@ pub(crate) fn encode_extensible_list(
     requires size { 8 * length octets.old < 2 ^ 64 }
     requires source { 8 * length context.now.source.now < 2 ^ 64 }
     requires parts { length context.now.parts.now < 2 ^ 64 - 1 }
-    ensures { (defaults : ℕ → ℕ → Option (List Bool)) → Outcome context.now (extensible_list_in context.now defaults depth node size item)
+    ensures { Outcome context.now (extensible_list_in context.now depth node is_set size item)
         octets.old state.old octets.new state.new result }
 {
     match part_at(context.parts, state.next) {
@@ -103,11 +134,15 @@ pub(crate) fn encode_extensible_list(
         Some(part) => match added_count(size, part) {
             None => {
                 state.at = put_bit(octets, state.at, false);
-                encode_list_of(context, depth, node, size, item, part, octets, state)
+                encode_list_of(
+                    context, depth, node, size, is_set, item, part, octets, state,
+                )
             }
             Some(count) => {
                 state.at = put_bit(octets, state.at, true);
-                encode_added_list(context, depth, node, size, item, count, octets, state)
+                encode_added_list(
+                    context, depth, node, size, is_set, item, count, octets, state,
+                )
             }
         },
     }
@@ -120,6 +155,7 @@ fn encode_added_list(
     depth: usize,
     node: usize,
     size: Length,
+    is_set: bool,
     item: usize,
     count: usize,
     octets: &mut [u8],
@@ -130,7 +166,7 @@ fn encode_added_list(
     requires parts { length context.now.parts.now < 2 ^ 64 - 1 }
     requires next { slice_get context.now.parts.now state.old.next ≡ Some (CountPart count) }
     requires added { IsAddedSize size count }
-    ensures { (defaults : ℕ → ℕ → Option (List Bool)) → Outcome context.now (added_list_in context.now defaults depth node size item) octets.old
+    ensures { Outcome context.now (added_list_in context.now depth node is_set size item) octets.old
         state.old octets.new state.new result }
 {
     if count >= 16384 {
@@ -138,7 +174,7 @@ fn encode_added_list(
     }
     state.at = put_length(octets, state.at, context.is_aligned, count);
     state.next += 1;
-    encode_items(context, depth, item, count, octets, state)
+    encode_items_by(context, depth, node, is_set, item, count, octets, state)
 }
 
 /// Returns how many items follow a part, where the number is none of the root.
@@ -174,6 +210,7 @@ fn encode_at_least(
     depth: usize,
     node: usize,
     least: usize,
+    is_set: bool,
     item: usize,
     count: usize,
     octets: &mut [u8],
@@ -183,7 +220,7 @@ fn encode_at_least(
     requires source { 8 * length context.now.source.now < 2 ^ 64 }
     requires parts { length context.now.parts.now < 2 ^ 64 - 1 }
     requires next { slice_get context.now.parts.now state.old.next ≡ Some (CountPart count) }
-    ensures { (defaults : ℕ → ℕ → Option (List Bool)) → Outcome context.now (list_in context.now defaults depth node (AtLeast least) item) octets.old
+    ensures { Outcome context.now (list_in context.now depth node is_set (AtLeast least) item) octets.old
         state.old octets.new state.new result }
 {
     if count < least || count >= 16384 {
@@ -191,7 +228,7 @@ fn encode_at_least(
     }
     state.at = put_length(octets, state.at, context.is_aligned, count);
     state.next += 1;
-    encode_items(context, depth, item, count, octets, state)
+    encode_items_by(context, depth, node, is_set, item, count, octets, state)
 }
 
 /// Encodes a list after its number of items, which is bounded.
@@ -202,6 +239,7 @@ fn encode_between(
     node: usize,
     least: usize,
     range: usize,
+    is_set: bool,
     item: usize,
     count: usize,
     octets: &mut [u8],
@@ -211,7 +249,7 @@ fn encode_between(
     requires source { 8 * length context.now.source.now < 2 ^ 64 }
     requires parts { length context.now.parts.now < 2 ^ 64 - 1 }
     requires next { slice_get context.now.parts.now state.old.next ≡ Some (CountPart count) }
-    ensures { (defaults : ℕ → ℕ → Option (List Bool)) → Outcome context.now (list_in context.now defaults depth node (Between least range) item)
+    ensures { Outcome context.now (list_in context.now depth node is_set (Between least range) item)
         octets.old state.old octets.new state.new result }
 {
     if count < least {
@@ -228,6 +266,29 @@ fn encode_between(
         (count - least) as u128,
     );
     state.next += 1;
+    encode_items_by(context, depth, node, is_set, item, count, octets, state)
+}
+
+/// Encodes so many items, those of a SET OF in ascending order.
+#[cycle(encoding)]
+fn encode_items_by(
+    context: &Context<'_>,
+    depth: usize,
+    node: usize,
+    is_set: bool,
+    item: usize,
+    count: usize,
+    octets: &mut [u8],
+    state: &mut Writer,
+) -> bool
+    requires size { 8 * length octets.old < 2 ^ 64 }
+    requires source { 8 * length context.now.source.now < 2 ^ 64 }
+    requires parts { length context.now.parts.now < 2 ^ 64 - 1 }
+    ensures { Outcome context.now (items_in context.now depth node is_set item count) octets.old state.old octets.new state.new result }
+{
+    if is_set {
+        return encode_set_items(context, depth, node, item, count, octets, state);
+    }
     encode_items(context, depth, item, count, octets, state)
 }
 
@@ -244,7 +305,7 @@ fn encode_items(
     requires size { 8 * length octets.old < 2 ^ 64 }
     requires source { 8 * length context.now.source.now < 2 ^ 64 }
     requires parts { length context.now.parts.now < 2 ^ 64 - 1 }
-    ensures { (defaults : ℕ → ℕ → Option (List Bool)) → Outcome context.now (several (types context.now defaults depth item) count) octets.old state.old
+    ensures { Outcome context.now (several (types context.now depth item) count) octets.old state.old
         octets.new state.new result }
 {
     let mut left = count;

@@ -38,8 +38,15 @@ pub struct Misfit {
 ///
 /// # Errors
 ///
-/// Returns the first misfit: the part that does not fit the type at a node, and why. The reason
-/// [`Rejection::Unsupported`] says that the part is not encoded yet. The octets have no meaning then.
+/// Returns the first misfit: the part that does not fit the type at a node, and why. The octets have
+/// no meaning then. Two reasons are no misfit:
+///
+/// - [`Rejection::Unsupported`]: the part is left. It begins an open type of 16,384 octets or more, or
+///   is an identifier or UTF-8 in fragments, an INTEGER or an index that is too large, or begins an
+///   item of a SET OF that does not begin at an octet in the ALIGNED variant.
+/// - [`Rejection::NoRoom`]: the part begins a value of more than 504 bits that must be compared, and
+///   the octets are too few for it: a component with its default value, an item of a SET OF with the
+///   item before it.
 pub fn encode(
     context: &Context<'_>,
     depth: usize,
@@ -49,9 +56,8 @@ pub fn encode(
     requires size { 8 * length octets.old < 2 ^ 64 }
     requires source { 8 * length context.now.source.now < 2 ^ 64 }
     requires parts { length context.now.parts.now < 2 ^ 64 - 1 }
-    ensures encoded { (defaults : ℕ → ℕ → Option (List Bool))
-        → IfOk result (λ e. IsMessage context.now defaults depth node octets.new e) }
-    ensures misfit { (defaults : ℕ → ℕ → Option (List Bool)) → IfErr result (λ e. IsRejected context.now defaults depth node e) }
+    ensures encoded { IfOk result (λ e. IsMessage context.now depth node octets.new e) }
+    ensures misfit { IfErr result (λ e. IsRejected context.now depth node e) }
 {
     let mut state = Writer {
         at: 0,

@@ -6,8 +6,9 @@ ghost use Rattle.asn1_x691_encode.specs.Encoding.{Outcome, open_in};
 ghost use Rattle.asn1_x691_encode.specs.Enclosed.{EnclosedOutcome};
 
 use crate::context::Context;
-use crate::encoder::encode_node;
 use crate::padding::pad;
+use crate::value::encode_value;
+use asn1_schema::Presence;
 use asn1_x691_writers::{Writer, after, leave, put_length_before, put_start, put_zeros};
 
 /// Writes the zeros before an open type, which begins at an octet in the ALIGNED variant. Returns the
@@ -20,13 +21,14 @@ fn put_beginning(octets: &mut [u8], at: usize, is_aligned: bool) -> usize
     put_start(octets, at, is_aligned)
 }
 
-/// Encodes an open type that holds a value of the type at the node `inner` (X.691 11.2): octets that
-/// are its complete encoding, after their number.
+/// Encodes an open type that holds a value of the type at the node `inner`, which must not be the
+/// default one (X.691 11.2): octets that are its complete encoding, after their number.
 #[cycle(encoding)]
 pub(crate) fn encode_open_type(
     context: &Context<'_>,
     depth: usize,
     node: usize,
+    presence: Presence,
     inner: usize,
     octets: &mut [u8],
     state: &mut Writer,
@@ -34,14 +36,14 @@ pub(crate) fn encode_open_type(
     requires size { 8 * length octets.old < 2 ^ 64 }
     requires source { 8 * length context.now.source.now < 2 ^ 64 }
     requires parts { length context.now.parts.now < 2 ^ 64 - 1 }
-    ensures { (defaults : ℕ → ℕ → Option (List Bool)) → Outcome context.now (open_in context.now defaults depth node inner) octets.old state.old
+    ensures { Outcome context.now (open_in context.now depth node presence inner) octets.old state.old
         octets.new state.new result }
 {
     let start = put_beginning(octets, state.at, context.is_aligned);
     let before = (start / 8).min(octets.len());
     let (_, tail) = octets.split_at_mut(before);
     state.at = start % 8;
-    if !encode_octets(context, depth, node, inner, tail, state) {
+    if !encode_octets(context, depth, node, presence, inner, tail, state) {
         return false;
     }
     state.at = after(start, state.at.saturating_sub(start % 8));
@@ -54,6 +56,7 @@ fn encode_octets(
     context: &Context<'_>,
     depth: usize,
     node: usize,
+    presence: Presence,
     inner: usize,
     octets: &mut [u8],
     state: &mut Writer,
@@ -63,12 +66,12 @@ fn encode_octets(
     requires parts { length context.now.parts.now < 2 ^ 64 - 1 }
     requires start { state.old.at < 8 }
     requires begins { IsAlike context.now.is_aligned 0 state.old.at }
-    ensures { (defaults : ℕ → ℕ → Option (List Bool)) → EnclosedOutcome context.now defaults depth node inner octets.old state.old
+    ensures { EnclosedOutcome context.now depth node presence inner octets.old state.old
         octets.new state.new result }
 {
     let (start, first) = (state.at, state.next);
     state.at = put_zeros(octets, start, 8);
-    if !encode_node(context, depth, inner, octets, state) {
+    if !encode_value(context, depth, node, presence, inner, octets, state) {
         return false;
     }
     match pad(octets, start + 8, state.at) {

@@ -1,4 +1,4 @@
-//! SEQUENCE (X.691 19). Components with DEFAULT are not encoded yet.
+//! SEQUENCE (X.691 19).
 
 ghost use Rattle.std.specs.Prelude.{Option, ◌≡◌, ℕ, Bool, List, ◌∷◌, ◌+◌, ◌-◌, ◌*◌, ◌^◌, ◌<◌, true, false, length, slice_get, Some};
 ghost use Rattle.asn1_schema.specs.declared.tables.Range.{Range};
@@ -6,16 +6,16 @@ ghost use Rattle.asn1_schema.specs.Pieces.{Absent, Sequence};
 ghost use Rattle.asn1_schema.specs.TypeEncodings.{IsAbsent};
 ghost use Rattle.asn1_schema.specs.declared.part.Part.TheVariants.{Sequence as SequencePart};
 ghost use Rattle.asn1_x691_writers.specs.Put.{piece_in};
-ghost use Rattle.asn1_x691_encode.specs.Encoding.{Outcome, IsSequence, tape, types, sequence_in, extensible_sequence_in, extended_in, root_in};
+ghost use Rattle.asn1_x691_encode.specs.Encoding.{Outcome, tape, value_in, sequence_in, extensible_sequence_in, extended_in, root_in};
 ghost use Rattle.asn1_x691_encode.specs.Components.{OptionalOutcome, ComponentOutcome};
-ghost use Rattle.asn1_schema.specs.declared.tables.Node.TheVariants.{Sequence as SequenceNode};
 
 use crate::additions::encode_extension;
 use crate::context::{Context, member_from, part_at};
 use crate::encoder::encode_node;
 use crate::presence::{count_optional, presence_bits};
+use crate::value::encode_value;
 use asn1_schema::{Member, MisfitKind, Part, Presence, Rows};
-use asn1_x691_writers::{Writer, after, leave, put_bit, put_zeros, reject, set_bit};
+use asn1_x691_writers::{Writer, after, put_bit, put_zeros, reject, set_bit};
 
 /// Encodes a SEQUENCE without an extension marker (X.691 19.2 to 19.4).
 #[cycle(encoding)]
@@ -30,8 +30,7 @@ pub(crate) fn encode_sequence(
     requires size { 8 * length octets.old < 2 ^ 64 }
     requires source { 8 * length context.now.source.now < 2 ^ 64 }
     requires parts { length context.now.parts.now < 2 ^ 64 - 1 }
-    requires sequence { IsSequence context.now node root }
-    ensures { (defaults : ℕ → ℕ → Option (List Bool)) → Outcome context.now (sequence_in context.now defaults depth node root) octets.old state.old
+    ensures { Outcome context.now (sequence_in context.now depth node root) octets.old state.old
         octets.new state.new result }
 {
     match part_at(context.parts, state.next) {
@@ -60,8 +59,7 @@ pub(crate) fn encode_extensible_sequence(
     requires size { 8 * length octets.old < 2 ^ 64 }
     requires source { 8 * length context.now.source.now < 2 ^ 64 }
     requires parts { length context.now.parts.now < 2 ^ 64 - 1 }
-    requires sequence { slice_get context.now.tables.nodes.now node ≡ Some (SequenceNode root true known) }
-    ensures { (defaults : ℕ → ℕ → Option (List Bool)) → Outcome context.now (extensible_sequence_in context.now defaults depth node root known)
+    ensures { Outcome context.now (extensible_sequence_in context.now depth node root known)
         octets.old state.old octets.new state.new result }
 {
     match part_at(context.parts, state.next) {
@@ -92,14 +90,13 @@ fn encode_extended(
     requires size { 8 * length octets.old < 2 ^ 64 }
     requires source { 8 * length context.now.source.now < 2 ^ 64 }
     requires parts { length context.now.parts.now < 2 ^ 64 - 1 }
-    requires sequence { slice_get context.now.tables.nodes.now node ≡ Some (SequenceNode root true known) }
-    ensures { (defaults : ℕ → ℕ → Option (List Bool)) → Outcome context.now (extended_in context.now defaults depth node root known)
+    ensures { Outcome context.now (extended_in context.now depth node root known)
         octets.old state.old octets.new state.new result }
 {
     if !encode_root(context, depth, node, root, octets, state) {
         return false;
     }
-    encode_extension(context, depth, node, root, known, octets, state)
+    encode_extension(context, depth, node, known, octets, state)
 }
 
 /// Returns whether so many components of a root follow a part, and whether additions follow them as
@@ -131,8 +128,7 @@ fn encode_root(
     requires size { 8 * length octets.old < 2 ^ 64 }
     requires source { 8 * length context.now.source.now < 2 ^ 64 }
     requires parts { length context.now.parts.now < 2 ^ 64 - 1 }
-    requires sequence { IsSequence context.now node root }
-    ensures { (defaults : ℕ → ℕ → Option (List Bool)) → Outcome context.now (root_in context.now defaults depth node root) octets.old state.old
+    ensures { Outcome context.now (root_in context.now depth node root) octets.old state.old
         octets.new state.new result }
 {
     let members = context.tables.members;
@@ -166,22 +162,34 @@ fn encode_component(
     requires size { 8 * length octets.old < 2 ^ 64 }
     requires source { 8 * length context.now.source.now < 2 ^ 64 }
     requires parts { length context.now.parts.now < 2 ^ 64 - 1 }
-    ensures { (defaults : ℕ → ℕ → Option (List Bool)) → ComponentOutcome context.now (types context.now defaults depth member.node) node
-        member.presence head octets.old state.old octets.new state.new result }
+    ensures { ComponentOutcome context.now (value_in context.now depth node member.presence member.node) member.presence head
+        octets.old state.old octets.new state.new result }
 {
     match member.presence {
         Presence::Mandatory => encode_node(context, depth, member.node, octets, state),
-        Presence::Optional => encode_optional(context, depth, member.node, head, octets, state),
-        Presence::Default { value: _ } => leave(state, node),
+        presence => {
+            encode_optional(
+                context,
+                depth,
+                node,
+                presence,
+                member.node,
+                head,
+                octets,
+                state,
+            )
+        }
     }
 }
 
-/// Encodes an optional component, whose presence bit is at `head`.
+/// Encodes a component that may be absent, whose presence bit is at `head`.
 #[cycle(encoding)]
 fn encode_optional(
     context: &Context<'_>,
     depth: usize,
     node: usize,
+    presence: Presence,
+    inner: usize,
     head: usize,
     octets: &mut [u8],
     state: &mut Writer,
@@ -189,7 +197,7 @@ fn encode_optional(
     requires size { 8 * length octets.old < 2 ^ 64 }
     requires source { 8 * length context.now.source.now < 2 ^ 64 }
     requires parts { length context.now.parts.now < 2 ^ 64 - 1 }
-    ensures { (defaults : ℕ → ℕ → Option (List Bool)) → OptionalOutcome context.now (types context.now defaults depth node) head octets.old state.old
+    ensures { OptionalOutcome context.now (value_in context.now depth node presence inner) head octets.old state.old
         octets.new state.new result }
 {
     if is_absent(context, state.next) {
@@ -197,7 +205,7 @@ fn encode_optional(
         return true;
     }
     set_bit(octets, head);
-    encode_node(context, depth, node, octets, state)
+    encode_value(context, depth, node, presence, inner, octets, state)
 }
 
 /// Returns whether a part says that a component is absent.

@@ -3,6 +3,7 @@ pub mod Outcomes
 pub mod Numbers
 pub mod Characters
 pub mod Octets
+pub mod Defaults
 -- What follows from steps of a decoder; no contract cites these.
 pub mod ContentSteps
 pub mod FirstBits

@@ -1,10 +1,12 @@
 //! Tests of PER: a program that answers the rows of its stored input.
 //!
-//! A value that is decoded is encoded again, where its type is encoded.
+//! A value that is decoded is encoded again, and its message is measured.
 //!
 //! A row is a variant, octets and a type, as `uper 20 seq:2 ? int:0..7 ! bool = seq2 absent true`. The
 //! rows are made by `scripts/x691-vectors`, with another compiler, and by `scripts/x691-model`. A row of
-//! `uper-error` has the text of the fault.
+//! `uper-error` has the text of the fault. A row of `uper-as` has two types: a value of the first is
+//! encoded as one of the second; in a row of `uper-short`, into no octets, and the answer is how many
+//! it needs.
 #![tactic(auto)]
 
 mod parts;
@@ -13,7 +15,7 @@ mod types;
 use crate::parts::Source;
 use crate::types::{Schema, schema_of};
 use asn1_schema::{Part, Tables};
-use asn1_test_rows::{Answers, RowError, octets, run, wrong};
+use asn1_test_rows::{Answers, RowError, hex_of, octets, run, wrong};
 use asn1_x691_decode::{Context, Defaults, decode};
 use asn1_x691_encode::{Context as Value, encode};
 use asn1_x691_writers::Rejection;
@@ -23,6 +25,9 @@ use std::process::ExitCode;
 
 /// How many parts a value of a row has at most.
 const ROOM: usize = 1_000;
+
+/// How many octets a message of a row of two types has at most.
+const LARGE: usize = 1_000;
 
 /// How deep a value of a row is nested at most.
 const DEPTH: usize = 100;
@@ -39,19 +44,7 @@ fn decoded<'a>(
     if octets.len() > 1_000_000 {
         return Err(wrong(alloc, "octets", "short message"));
     }
-    let context = Context {
-        tables: Tables {
-            nodes: schema.nodes.as_slice(),
-            members: schema.members.as_slice(),
-            ranges: schema.ranges.as_slice(),
-        },
-        defaults: Defaults {
-            octets: schema.default_octets.as_slice(),
-            spans: schema.default_spans.as_slice(),
-        },
-        octets,
-        is_aligned,
-    };
+    let context = context_of(octets, is_aligned, schema);
     let mut room = vec![in alloc; Part::Absent; ROOM]?;
     match decode(&context, DEPTH, schema.node, room.as_mut_slice()) {
         Ok(count) => {
@@ -71,8 +64,8 @@ fn decoded<'a>(
     }
 }
 
-/// Encodes the parts of a message, and returns whether that makes the message again, or the type is
-/// not encoded yet.
+/// Encodes the parts of a message, and returns whether that makes the message again. Without room the
+/// same number of octets is needed, unless a value of more than 504 bits must be compared.
 fn is_encoded_again(
     alloc: Global,
     context: &Context<'_>,
@@ -85,15 +78,96 @@ fn is_encoded_again(
     }
     let value = Value {
         tables: context.tables,
+        defaults: context.defaults,
         parts,
         source: octets,
         is_aligned: context.is_aligned,
     };
+    let is_measured = match encode(&value, DEPTH, node, &mut []) {
+        Ok(encoded) => encoded.octets == octets.len(),
+        Err(misfit) => misfit.reason == Rejection::NoRoom && octets.len() > 63,
+    };
     let mut room = vec![in alloc; 0u8; octets.len() + 8]?;
     match encode(&value, DEPTH, node, room.as_mut_slice()) {
-        Ok(encoded) => Ok(room.as_slice().get(..encoded.octets) == Some(octets)),
-        Err(misfit) => Ok(misfit.reason == Rejection::Unsupported),
+        Ok(encoded) => { Ok(is_measured && room.as_slice().get(..encoded.octets) == Some(octets)) }
+        Err(_) => Ok(false),
     }
+}
+
+/// Encodes a value of one type as one of another, into so many octets. Returns the octets, or how many
+/// it needs where there are none, or the misfit.
+fn encoded_as(
+    alloc: Global,
+    is_aligned: bool,
+    room: usize,
+    octets: &[u8],
+    from: &Schema,
+    to: &Schema,
+) -> Result<String, RowError> {
+    if octets.len() > 1_000_000 {
+        return Err(wrong(alloc, "octets", "short message"));
+    }
+    let context = context_of(octets, is_aligned, from);
+    let mut parts = vec![in alloc; Part::Absent; ROOM]?;
+    let Ok(count) = decode(&context, DEPTH, from.node, parts.as_mut_slice()) else {
+        return Err(wrong(alloc, "octets", "message of the first type"));
+    };
+    let Some(parts) = parts.as_slice().get(..count) else {
+        return Err(wrong(alloc, "octets", "value of few parts"));
+    };
+    let other = context_of(octets, is_aligned, to);
+    let value = Value {
+        tables: other.tables,
+        defaults: other.defaults,
+        parts,
+        source: octets,
+        is_aligned,
+    };
+    let mut message = vec![in alloc; 0u8; room]?;
+    match encode(&value, DEPTH, to.node, message.as_mut_slice()) {
+        Ok(encoded) => match message.as_slice().get(..encoded.octets) {
+            Some(message) => hex_of(alloc, message),
+            None => Ok(format!(in alloc; "{}", encoded.octets)?),
+        },
+        Err(misfit) => Ok(format!(in alloc; "{:?} part {}", misfit.reason, misfit.part)?),
+    }
+}
+
+/// The tables of a type, and octets.
+fn context_of<'a>(octets: &'a [u8], is_aligned: bool, schema: &'a Schema) -> Context<'a> {
+    Context {
+        tables: Tables {
+            nodes: schema.nodes.as_slice(),
+            members: schema.members.as_slice(),
+            ranges: schema.ranges.as_slice(),
+        },
+        defaults: Defaults {
+            octets: schema.default_octets.as_slice(),
+            spans: schema.default_spans.as_slice(),
+        },
+        octets,
+        is_aligned,
+    }
+}
+
+/// Answers a row of two types, which `as` separates.
+fn answer_as(
+    alloc: Global,
+    is_aligned: bool,
+    room: usize,
+    octets: &[u8],
+    words: &[&str],
+) -> Result<String, RowError> {
+    let Some(place) = words.iter().position(|word| *word == "as") else {
+        return Err(wrong(alloc, "the row", "row of two types"));
+    };
+    let (from, rest) = words.split_at(place);
+    let Some((_, to)) = rest.split_first() else {
+        return Err(wrong(alloc, "the row", "row of two types"));
+    };
+    let from = schema_of(alloc, is_aligned, from)?;
+    let to = schema_of(alloc, is_aligned, to)?;
+    encoded_as(alloc, is_aligned, room, octets, &from, &to)
 }
 
 /// The calls of the rows.
@@ -109,6 +183,9 @@ impl Answers for Calls {
             "uper" => (false, false),
             "aper" => (true, false),
             "uper-error" => (false, true),
+            "uper-as" => return answer_as(alloc, false, LARGE, message.as_slice(), words),
+            "aper-as" => return answer_as(alloc, true, LARGE, message.as_slice(), words),
+            "uper-short" => return answer_as(alloc, false, 0, message.as_slice(), words),
             _ => return Err(wrong(alloc, call, "variant")),
         };
         let schema = schema_of(alloc, is_aligned, words)?;

@@ -14,6 +14,10 @@ pub enum Rejection {
     /// whose index is 2^128 or more; or an INTEGER outside -2^127 to 2^127 - 1, unless its type has
     /// no extension marker and the part is what a decoder of that type returns.
     Unsupported,
+    /// The part begins a value of more than 504 bits that must be compared, and for which the octets
+    /// are too few: one with a DEFAULT with its default value, an item of a SET OF with the item
+    /// before it. With more octets it is compared.
+    NoRoom,
 }
 
 /// Where an encoder is in the octets that it writes and in the parts that it encodes, and why it

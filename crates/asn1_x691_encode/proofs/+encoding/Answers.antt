@@ -9,6 +9,8 @@ mod OpenTypes
 mod MoreNodes
 mod Additions
 mod AddedChoices
+mod Values
+mod Sets
 use Rattle.asn1_x691_encode.proofs.+encoding.Answers.Nodes as nodes
 use Rattle.asn1_x691_encode.proofs.+encoding.Answers.Lists as lists
 use Rattle.asn1_x691_encode.proofs.+encoding.Answers.Choices as choices
@@ -19,6 +21,8 @@ use Rattle.asn1_x691_encode.proofs.+encoding.Answers.OpenTypes as opentypes
 use Rattle.asn1_x691_encode.proofs.+encoding.Answers.MoreNodes as morenodes
 use Rattle.asn1_x691_encode.proofs.+encoding.Answers.Additions as additions
 use Rattle.asn1_x691_encode.proofs.+encoding.Answers.AddedChoices as addedchoices
+use Rattle.asn1_x691_encode.proofs.+encoding.Answers.Values as values
+use Rattle.asn1_x691_encode.proofs.+encoding.Answers.Sets as sets
 use Rattle.asn1_x691_encode.proofs.+encoding.Goals as goal
 
 pub encoder::encode_node-returns-in-Some-Null : goal.encoder::encode_node-returns-in-Some-Null
@@ -59,9 +63,6 @@ encoder::encode_node-returns-in-Some-Text = contents.encode_node-returns-in-Some
 
 pub encoder::encode_node-returns-else-is_extensible : goal.encoder::encode_node-returns-else-is_extensible
 encoder::encode_node-returns-else-is_extensible = nodes.encode_node-returns-else-is_extensible
-
-pub encoder::encode_node-returns-else-is_extensible-2 : goal.encoder::encode_node-returns-else-is_extensible-2
-encoder::encode_node-returns-else-is_extensible-2 = nodes.encode_node-returns-else-is_extensible-2
 
 pub list::encode_at_least-returns-then-count-least : goal.list::encode_at_least-returns-then-count-least
 list::encode_at_least-returns-then-count-least = lists.encode_at_least-returns-then-count-least
@@ -138,14 +139,8 @@ choice::encode_extensible_choice-returns-then-is_addition = choices.encode_exten
 pub choice::encode_extensible_choice-returns-else-is_addition : goal.choice::encode_extensible_choice-returns-else-is_addition
 choice::encode_extensible_choice-returns-else-is_addition = choices.encode_extensible_choice-returns-else-is_addition
 
-pub encoder::encode_node-returns-then-is_extensible-2 : goal.encoder::encode_node-returns-then-is_extensible-2
-encoder::encode_node-returns-then-is_extensible-2 = nodes.encode_node-returns-then-is_extensible-2
-
 pub sequence::encode_component-returns-in-Mandatory : goal.sequence::encode_component-returns-in-Mandatory
 sequence::encode_component-returns-in-Mandatory = sequences.encode_component-returns-in-Mandatory
-
-pub sequence::encode_component-returns-in-Optional : goal.sequence::encode_component-returns-in-Optional
-sequence::encode_component-returns-in-Optional = sequences.encode_component-returns-in-Optional
 
 pub sequence::encode_optional-returns : goal.sequence::encode_optional-returns
 sequence::encode_optional-returns = sequences.encode_optional-returns
@@ -177,11 +172,11 @@ sequence::encode_sequence-overflow_add-state = sequences.encode_sequence-overflo
 pub sequence::encode_sequence-returns-else-not-is_sequence : goal.sequence::encode_sequence-returns-else-not-is_sequence
 sequence::encode_sequence-returns-else-not-is_sequence = sequences.encode_sequence-returns-else-not-is_sequence
 
-pub encoder::encode_node-returns-then-is_extensible-3 : goal.encoder::encode_node-returns-then-is_extensible-3
-encoder::encode_node-returns-then-is_extensible-3 = nodes.encode_node-returns-then-is_extensible-3
+pub encoder::encode_node-returns-then-is_extensible-2 : goal.encoder::encode_node-returns-then-is_extensible-2
+encoder::encode_node-returns-then-is_extensible-2 = nodes.encode_node-returns-then-is_extensible-2
 
-pub encoder::encode_node-returns-else-is_extensible-3 : goal.encoder::encode_node-returns-else-is_extensible-3
-encoder::encode_node-returns-else-is_extensible-3 = nodes.encode_node-returns-else-is_extensible-3
+pub encoder::encode_node-returns-else-is_extensible-2 : goal.encoder::encode_node-returns-else-is_extensible-2
+encoder::encode_node-returns-else-is_extensible-2 = nodes.encode_node-returns-else-is_extensible-2
 
 pub added_choice::encode_added-returns-in-Far : goal.added_choice::encode_added-returns-in-Far
 added_choice::encode_added-returns-in-Far = addedchoices.encode_added-returns-in-Far
@@ -212,12 +207,6 @@ additions::encode_counted-returns-then-count-eq0 = additions.encode_counted-retu
 
 pub additions::encode_extension-returns-in-None-additions_of : goal.additions::encode_extension-returns-in-None-additions_of
 additions::encode_extension-returns-in-None-additions_of = additions.encode_extension-returns-in-None-additions_of
-
-pub additions::encode_known-returns-in-Mandatory : goal.additions::encode_known-returns-in-Mandatory
-additions::encode_known-returns-in-Mandatory = additions.encode_known-returns-in-Mandatory
-
-pub additions::encode_known-returns-in-Optional : goal.additions::encode_known-returns-in-Optional
-additions::encode_known-returns-in-Optional = additions.encode_known-returns-in-Optional
 
 pub additions::encode_optional_addition-returns : goal.additions::encode_optional_addition-returns
 additions::encode_optional_addition-returns = additions.encode_optional_addition-returns
@@ -255,9 +244,6 @@ open_type::encode_octets-returns-in-None = opentypes.encode_octets-returns-in-No
 pub open_type::encode_octets-returns-in-Some : goal.open_type::encode_octets-returns-in-Some
 open_type::encode_octets-returns-in-Some = opentypes.encode_octets-returns-in-Some
 
-pub open_type::encode_octets-returns-then-not-encode_node : goal.open_type::encode_octets-returns-then-not-encode_node
-open_type::encode_octets-returns-then-not-encode_node = opentypes.encode_octets-returns-then-not-encode_node
-
 pub open_type::encode_open_type-returns : goal.open_type::encode_open_type-returns
 open_type::encode_open_type-returns = opentypes.encode_open_type-returns
 
@@ -278,3 +264,84 @@ sequence::encode_extensible_sequence-returns-in-None = extensiblesequences.encod
 
 pub sequence::encode_extensible_sequence-returns-then-is_sequence : goal.sequence::encode_extensible_sequence-returns-then-is_sequence
 sequence::encode_extensible_sequence-returns-then-is_sequence = extensiblesequences.encode_extensible_sequence-returns-then-is_sequence
+
+pub additions::encode_known-returns-in-Some : goal.additions::encode_known-returns-in-Some
+additions::encode_known-returns-in-Some = additions.encode_known-returns-in-Some
+
+pub sequence::encode_component-returns-in_default : goal.sequence::encode_component-returns-in_default
+sequence::encode_component-returns-in_default = sequences.encode_component-returns-in_default
+
+pub encoder::encode_node-returns-in-Some-SequenceOf : goal.encoder::encode_node-returns-in-Some-SequenceOf
+encoder::encode_node-returns-in-Some-SequenceOf = nodes.encode_node-returns-in-Some-SequenceOf
+
+pub encoder::encode_node-returns-in-Some-SetOf : goal.encoder::encode_node-returns-in-Some-SetOf
+encoder::encode_node-returns-in-Some-SetOf = nodes.encode_node-returns-in-Some-SetOf
+
+pub open_type::encode_octets-returns-then-not-encode_value : goal.open_type::encode_octets-returns-then-not-encode_value
+open_type::encode_octets-returns-then-not-encode_value = opentypes.encode_octets-returns-then-not-encode_value
+
+pub list::encode_items_by-returns-then-is_set : goal.list::encode_items_by-returns-then-is_set
+list::encode_items_by-returns-then-is_set = lists.encode_items_by-returns-then-is_set
+
+pub list::encode_items_by-returns : goal.list::encode_items_by-returns
+list::encode_items_by-returns = lists.encode_items_by-returns
+
+pub list::encode_list_by-returns-then-is_extensible : goal.list::encode_list_by-returns-then-is_extensible
+list::encode_list_by-returns-then-is_extensible = lists.encode_list_by-returns-then-is_extensible
+
+pub list::encode_list_by-returns : goal.list::encode_list_by-returns
+list::encode_list_by-returns = lists.encode_list_by-returns
+
+pub value::encode_other_than-returns-then-not-encode_node : goal.value::encode_other_than-returns-then-not-encode_node
+value::encode_other_than-returns-then-not-encode_node = values.encode_other_than-returns-then-not-encode_node
+
+pub value::encode_other_than-returns-then-not-is_in : goal.value::encode_other_than-returns-then-not-is_in
+value::encode_other_than-returns-then-not-is_in = values.encode_other_than-returns-then-not-is_in
+
+pub value::encode_other_than-returns-then-is_default : goal.value::encode_other_than-returns-then-is_default
+value::encode_other_than-returns-then-is_default = values.encode_other_than-returns-then-is_default
+
+pub value::encode_other_than-returns : goal.value::encode_other_than-returns
+value::encode_other_than-returns = values.encode_other_than-returns
+
+pub value::is_other-returns-then-not-encode_node-clause-compared : goal.value::is_other-returns-then-not-encode_node-clause-compared
+value::is_other-returns-then-not-encode_node-clause-compared = values.is_other-returns-then-not-encode_node-clause-compared
+
+pub value::is_other-returns-then-not-is_in-clause-compared : goal.value::is_other-returns-then-not-is_in-clause-compared
+value::is_other-returns-then-not-is_in-clause-compared = values.is_other-returns-then-not-is_in-clause-compared
+
+pub value::is_other-returns-then-is_default-clause-compared : goal.value::is_other-returns-then-is_default-clause-compared
+value::is_other-returns-then-is_default-clause-compared = values.is_other-returns-then-is_default-clause-compared
+
+pub value::is_other-returns-clause-compared : goal.value::is_other-returns-clause-compared
+value::is_other-returns-clause-compared = values.is_other-returns-clause-compared
+
+pub set::encode_set_items-returns-then-not-encode_item : goal.set::encode_set_items-returns-then-not-encode_item
+set::encode_set_items-returns-then-not-encode_item = sets.encode_set_items-returns-then-not-encode_item
+
+pub set::encode_set_items-loop-left-preserved : goal.set::encode_set_items-loop-left-preserved
+set::encode_set_items-loop-left-preserved = sets.encode_set_items-loop-left-preserved
+
+pub set::encode_set_items-returns : goal.set::encode_set_items-returns
+set::encode_set_items-returns = sets.encode_set_items-returns
+
+pub set::encode_next-returns-then-not-encode_node : goal.set::encode_next-returns-then-not-encode_node
+set::encode_next-returns-then-not-encode_node = sets.encode_next-returns-then-not-encode_node
+
+pub set::encode_next-returns-then-are_in : goal.set::encode_next-returns-then-are_in
+set::encode_next-returns-then-are_in = sets.encode_next-returns-then-are_in
+
+pub set::encode_next-returns : goal.set::encode_next-returns
+set::encode_next-returns = sets.encode_next-returns
+
+pub set::are_ordered_alone-returns-then-not-encode_node-clause-ordered : goal.set::are_ordered_alone-returns-then-not-encode_node-clause-ordered
+set::are_ordered_alone-returns-then-not-encode_node-clause-ordered = sets.are_ordered_alone-returns-then-not-encode_node-clause-ordered
+
+pub set::are_ordered_alone-returns-then-not-encode_node-2-clause-ordered : goal.set::are_ordered_alone-returns-then-not-encode_node-2-clause-ordered
+set::are_ordered_alone-returns-then-not-encode_node-2-clause-ordered = sets.are_ordered_alone-returns-then-not-encode_node-2-clause-ordered
+
+pub set::are_ordered_alone-returns-then-not-are_in-clause-ordered : goal.set::are_ordered_alone-returns-then-not-are_in-clause-ordered
+set::are_ordered_alone-returns-then-not-are_in-clause-ordered = sets.are_ordered_alone-returns-then-not-are_in-clause-ordered
+
+pub set::are_ordered_alone-returns-clause-ordered : goal.set::are_ordered_alone-returns-clause-ordered
+set::are_ordered_alone-returns-clause-ordered = sets.are_ordered_alone-returns-clause-ordered

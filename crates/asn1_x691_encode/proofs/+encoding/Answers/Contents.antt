@@ -9,37 +9,37 @@ use Rattle.asn1_x691_encode.specs.LeafSteps.{at_node}
 use Rattle.asn1_x691_encode.proofs.+encoding.Goals as goal
 
 pub encode_node-returns-in-Some-ObjectIdentifier : goal.encoder::encode_node-returns-in-Some-ObjectIdentifier
-encode_node-returns-in-Some-ObjectIdentifier t c defaults =
+encode_node-returns-in-Some-ObjectIdentifier t c =
     let cx = c.args.context.now in
-    at_node cx defaults c.args.node c.args.depth (Some type.ObjectIdentifier)
+    at_node cx c.args.node c.args.depth (Some type.ObjectIdentifier)
     (λ (A : ℕ → TypeEncoding FaultKind). Outcome cx A c.args.octets.now c.args.state.now c.encode_contents.new.octets
     c.encode_contents.new.state c.encode_contents.result)
     (omega (arith, c.if-depth-eq0.false)) (sym c.node_at.ensures ∙ c.in-Some-ObjectIdentifier.is ∙ ap (λ (n : Node). Some n) c.in-Some-ObjectIdentifier.field-0-is)
     (λ d r. c.encode_contents.ensures)
 
 pub encode_node-returns-in-Some-RelativeIdentifier : goal.encoder::encode_node-returns-in-Some-RelativeIdentifier
-encode_node-returns-in-Some-RelativeIdentifier t c defaults =
+encode_node-returns-in-Some-RelativeIdentifier t c =
     let cx = c.args.context.now in
-    at_node cx defaults c.args.node c.args.depth (Some type.RelativeIdentifier)
+    at_node cx c.args.node c.args.depth (Some type.RelativeIdentifier)
     (λ (A : ℕ → TypeEncoding FaultKind). Outcome cx A c.args.octets.now c.args.state.now c.encode_contents-in-Some-RelativeIdentifier.new.octets
     c.encode_contents-in-Some-RelativeIdentifier.new.state c.encode_contents-in-Some-RelativeIdentifier.result)
     (omega (arith, c.if-depth-eq0.false)) (sym c.node_at.ensures ∙ c.in-Some-RelativeIdentifier.is ∙ ap (λ (n : Node). Some n) c.in-Some-RelativeIdentifier.field-0-is)
     (λ d r. c.encode_contents-in-Some-RelativeIdentifier.ensures)
 
 pub encode_node-returns-in-Some-Utf8String : goal.encoder::encode_node-returns-in-Some-Utf8String
-encode_node-returns-in-Some-Utf8String t c defaults =
+encode_node-returns-in-Some-Utf8String t c =
     let cx = c.args.context.now in
-    at_node cx defaults c.args.node c.args.depth (Some type.Utf8String)
+    at_node cx c.args.node c.args.depth (Some type.Utf8String)
     (λ (A : ℕ → TypeEncoding FaultKind). Outcome cx A c.args.octets.now c.args.state.now c.encode_contents-in-Some-Utf8String.new.octets
     c.encode_contents-in-Some-Utf8String.new.state c.encode_contents-in-Some-Utf8String.result)
     (omega (arith, c.if-depth-eq0.false)) (sym c.node_at.ensures ∙ c.in-Some-Utf8String.is ∙ ap (λ (n : Node). Some n) c.in-Some-Utf8String.field-0-is)
     (λ d r. c.encode_contents-in-Some-Utf8String.ensures)
 
 pub encode_node-returns-in-Some-Text : goal.encoder::encode_node-returns-in-Some-Text
-encode_node-returns-in-Some-Text t c defaults =
+encode_node-returns-in-Some-Text t c =
     let cx = c.args.context.now in
     let k = c.in-Some-Text in
-    at_node cx defaults c.args.node c.args.depth (Some (type.Text k.length k.is_extensible k.alphabet k.whole))
+    at_node cx c.args.node c.args.depth (Some (type.Text k.length k.is_extensible k.alphabet k.whole))
     (λ (A : ℕ → TypeEncoding FaultKind). Outcome cx A c.args.octets.now c.args.state.now c.encode_text.new.octets
     c.encode_text.new.state c.encode_text.result)
     (omega (arith, c.if-depth-eq0.false)) (sym c.node_at.ensures ∙ c.in-Some-Text.is ∙ ap (λ (n : Node). Some n) c.in-Some-Text.field-0-is)

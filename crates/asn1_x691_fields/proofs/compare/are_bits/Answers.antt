@@ -4,8 +4,8 @@ use Rattle.std.proofs.lemmas.Slice.Eq.{slice_eq-Decides}
 use Rattle.std.specs.Bool.{beq}
 use Rattle.std.specs.Cmp.{booleans_Decides}
 use Rattle.asn1_bits.specs.BitStr.{view_of, bits_of}
-use Rattle.asn1_x691_decode.proofs.CompareSteps.{view_bits, are_default}
-use Rattle.asn1_x691_decode.proofs.compare.are_bits.Goals as goal
+use Rattle.asn1_x691_fields.proofs.CompareSteps.{view_bits, are_default}
+use Rattle.asn1_x691_fields.proofs.compare.are_bits.Goals as goal
 
 differ : true ≡ false → ⊥
 differ e = cc

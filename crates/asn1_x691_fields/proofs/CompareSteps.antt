@@ -5,7 +5,7 @@ use Rattle.asn1_bits.specs.Bits.{bits}
 use Rattle.asn1_bits.specs.View.{View, list_of}
 use Rattle.asn1_schema.specs.declared.part.Span.{Span}
 use Rattle.asn1_schema.specs.PiecesOfParts.{bits_of}
-use Rattle.asn1_x691_decode.specs.Decoding.{bits_if, default_at}
+use Rattle.asn1_x691_fields.specs.Defaults.{bits_if, default_at}
 
 pub view_bits : (v : View) (octets : List ℕ) (s : Span) → v ≡ record { storage = octets; first = s.at; len = s.count }
     → list_of v ≡ bits_of (bits octets) s
