@@ -100,6 +100,31 @@ each_index (r ∷ ranges) from i a h = elim (cases_lt i (r.last + 1 - r.first)) 
       }
 ]
 
+-- A character of the ranges from some on, of an index among theirs, is a character of all ranges, of an index among them.
+pub record LeadsOn (ranges rest : List Range) (left i : ℕ) : Type 0 where
+  pub from : ℕ
+  pub ascending : AreAscending from rest
+  pub on : (c : ℕ) → from ≤ c → IsIn rest c → characters_below rest c ≡ left → IsIn ranges c × (characters_below ranges c ≡ i)
+
+pub leads_first : (ranges : List Range) (i : ℕ) → AreAscending 0 ranges → LeadsOn ranges ranges i i
+leads_first ranges i a = record { from = 0; ascending = a; on = λ c le p e. (p, e) }
+
+module _ (ranges : List Range) (r : Range) (rest : List Range) (left i : ℕ) (g : LeadsOn ranges (r ∷ rest) left i) where
+  pub leads_here : left < r.last + 1 - r.first → IsIn ranges (r.first + left) × (characters_below ranges (r.first + left) ≡ i)
+  leads_here lt =
+      let a = g.ascending in
+      let none = none_before rest (r.last + 1) (r.first + left) a.2 (omega (arith, lt, a.1)) in
+      g.on (r.first + left) (omega (arith, a.0)) (inl (omega arith, omega (arith, lt))) (omega (arith, none, lt))
+
+  pub leads_past : r.last + 1 - r.first ≤ left → LeadsOn ranges rest (left - (r.last + 1 - r.first)) i
+  leads_past le = record {
+    from = r.last + 1;
+    ascending = g.ascending.2;
+    on = λ c later p e.
+        let a = g.ascending in
+        g.on c (omega (arith, later, a.0, a.1)) (inr p) (omega (arith, a.1, later, e, le));
+  }
+
 pub index_of_ascending : (ranges : List Range) (i : ℕ) → AreAscending 0 ranges → i < count_of ranges
     → IsIn ranges (character_at ranges i) × (characters_below ranges (character_at ranges i) ≡ i)
 index_of_ascending ranges i a h = let g = each_index ranges 0 i a h in index_in ranges i g.character g.within g.index

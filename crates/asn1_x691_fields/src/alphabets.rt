@@ -1,6 +1,6 @@
 //! Alphabets: ranges of characters, and the codes of their characters (X.691 30.5).
 
-ghost use Rattle.std.specs.Prelude.{◌≡◌, ◌≤◌, ◌<◌, ◌^◌, ◌*◌, ◌+◌, ◌-◌, ◌⊎◌, ℕ, true, false, length};
+ghost use Rattle.std.specs.Prelude.{IfSome, ◌≡◌, ◌≤◌, ◌<◌, ◌^◌, ◌*◌, ◌+◌, ◌-◌, ◌⊎◌, ℕ, true, false, length};
 ghost use Rattle.asn1_characters.specs.Widths.{width_for};
 ghost use Rattle.asn1_schema.specs.CharactersOfParts.{characters_below, end_of as end_in, character_at};
 ghost use Rattle.asn1_x691.specs.Alphabets.{IsIn, HasCode, count_of as count_in, are_within as are_all_within};
@@ -150,6 +150,27 @@ fn end_of(ranges: &[Range]) -> u64
         end = end.max(range.last as u64 + 1);
     }
     end
+}
+
+/// Returns the character of an index, if the ranges ascend and there is one. It goes over the ranges
+/// once.
+pub(crate) fn ascending_at(ranges: &[Range], index: u64) -> Option<u64>
+    ensures within { IfSome result (λ c. IsIn ranges.now c) }
+    ensures index { IfSome result (λ c. characters_below ranges.now c ≡ index) }
+    ensures most { IfSome result (λ c. c < 2 ^ 32) }
+{
+    if !are_ascending(ranges) {
+        return None;
+    }
+    let mut left = index;
+    for range in ranges {
+        let beyond = (range.last as u64 + 1).saturating_sub(range.first as u64);
+        if left < beyond {
+            return Some(range.first as u64 + left);
+        }
+        left -= beyond;
+    }
+    None
 }
 
 /// Returns the first number up to which there are more than so many characters, or the end of the

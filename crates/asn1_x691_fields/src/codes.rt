@@ -5,7 +5,7 @@ ghost use Rattle.asn1_schema.specs.CharactersOfParts.{character_at as character_
 ghost use Rattle.asn1_x691.specs.Alphabets.{IsIn, code_of as code_in};
 ghost use Rattle.asn1_x691_fields.specs.Characters.{IsAlphabet};
 
-use crate::alphabets::{Alphabet, count_below, first_past};
+use crate::alphabets::{Alphabet, ascending_at, count_below, first_past};
 use asn1_schema::Range;
 
 /// Returns the character of an index among those of ranges, in ascending order, or the number after
@@ -14,6 +14,11 @@ pub fn character_at(ranges: &[Range], index: u128) -> u64
     ensures value { (i : ℕ) → index ≡ min i (2 ^ 128 - 1) → result ≡ character_in ranges.now i }
     ensures most { result ≤ 2 ^ 32 }
 {
+    if index < 1 << 64
+        && let Some(character) = ascending_at(ranges, index as u64)
+    {
+        return character;
+    }
     first_past(ranges, index)
 }
 
