@@ -7,3 +7,4 @@ pub mod TypeContentsLaws
 pub mod ToldLaws
 pub mod LeafLaws
 pub mod TypeLaws
+pub mod ExampleLaws

@@ -4,4 +4,5 @@ pub mod Elements
 pub mod TypeContents
 pub mod Leaves
 pub mod Der
+pub mod Example
 pub mod Laws

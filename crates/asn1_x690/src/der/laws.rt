@@ -5,6 +5,7 @@ ghost use Rattle.asn1_schema.specs.declared.tables.Node as node;
 ghost use Rattle.asn1_schema.specs.Encodings.{DecodesOne, NamesFault};
 ghost use Rattle.asn1_schema.specs.TypeEncodings.{EncodesUniquely, NamesEachMisfit};
 ghost use Rattle.asn1_x690.specs.Der.{Context, encoding_at};
+ghost use Rattle.asn1_x690.specs.Example.{example_nodes, example_context, example_parts, example_bits};
 
 /// States what holds of the element that encodes a value of each type of each schema, for values
 /// that are nested less deep than the depth; it does nothing. The tables need no check.
@@ -25,4 +26,6 @@ pub fn laws_of_types()
     ensures misfit { (nodes : List node.Node) (context : Context) (depth place : ℕ)
         → NamesEachMisfit (encoding_at nodes context depth place).encoding.encodes
         (encoding_at nodes context depth place).misfit }
+    // There are values: the example of X.690 8.9.3.
+    ensures is { (encoding_at example_nodes example_context 2 0).encoding.encodes example_parts example_bits }
 {}
