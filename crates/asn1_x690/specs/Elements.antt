@@ -1,5 +1,5 @@
 -- Elements: identifier octets, a length, and contents octets (X.690 8.1).
-use Rattle.std.specs.Prelude.{◌≡◌, ◌≢◌, ℕ, zero, suc, ◌+◌, ◌-◌, ◌*◌, ◌/◌, ◌%◌, ◌^◌, ◌<◌, ◌≤◌, ◌⊎◌, Bool, List, length, slice_index}
+use Rattle.std.specs.Prelude.{◌≡◌, ◌≢◌, ℕ, zero, suc, ◌-◌, ◌*◌, ◌/◌, ◌%◌, ◌^◌, ◌<◌, ◌≤◌, Bool, List, slice_index}
 use Rattle.asn1_bits.specs.Bits.{is_odd}
 use Rattle.asn1_oid.specs.Contents.{base_128}
 use Rattle.asn1_schema.specs.Encodings.{Encoding, constant, invalid, then, cases, number}

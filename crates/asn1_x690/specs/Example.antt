@@ -1,7 +1,6 @@
 -- The example of X.690 8.9.3: SEQUENCE { name IA5String, ok BOOLEAN }, and its value { name "Smith", ok TRUE }.
-use Rattle.std.specs.Prelude.{ℕ, Bool, true, false, List, [], ◌∷◌, Option, None}
+use Rattle.std.specs.Prelude.{ℕ, Bool, true, false, List, [], ◌∷◌, None}
 use Rattle.asn1_bits.specs.Bits.{bits}
-use Rattle.asn1_schema.specs.declared.tables.Member.{Member}
 use Rattle.asn1_schema.specs.declared.tables.Presence.TheVariants.{Mandatory}
 use Rattle.asn1_schema.specs.declared.tables.Length.TheVariants.{AtLeast}
 use Rattle.asn1_schema.specs.declared.tables.Rows.{Rows}

@@ -5,6 +5,7 @@ pub mod ContentsLaws
 pub mod HeadedLaws
 pub mod TypeContentsLaws
 pub mod ToldLaws
+pub mod EndLaws
 pub mod LeafLaws
 pub mod TypeLaws
 pub mod ExampleLaws

@@ -3,7 +3,7 @@ use Rattle.std.specs.Prelude.{◌≡◌, ℕ, suc, ◌⊎◌, ⊤, Bool, true, f
 use Rattle.asn1_schema.specs.declared.misfit.MisfitKind.{MisfitKind}
 use Rattle.asn1_schema.specs.declared.misfit.MisfitKind.TheVariants.{NoEncoding, OtherPart, NoAddition}
 use Rattle.asn1_schema.specs.Pieces.{Piece, Absent, Parts}
-use Rattle.asn1_schema.specs.Encodings.{Fault, Encoding, Contents, CanEncode, IsAt, constant, within, invalid_contents, only, then_contents, if_next, mapped, repeated}
+use Rattle.asn1_schema.specs.Encodings.{Encoding, Contents, CanEncode, IsAt, constant, within, invalid_contents, only, then_contents, if_next, mapped, repeated}
 use Rattle.asn1_schema.specs.TypeEncodings.{Misfit, IsAtPart, TypeEncoding, AfterParts, FirstPart, IsAbsent, several_by_bits}
 
 -- ---- contents of any values

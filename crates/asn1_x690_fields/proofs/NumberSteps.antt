@@ -79,7 +79,7 @@ module _ (node : ℕ) (list now : List Bool) (first : ℕ) (s : Starts (number 8
 
   pub run_begins : (b : Bool) → (b ≡ true → 128 ≤ first) → (b ≡ false → first < 128)
       → IsRun node list now first (Some (first % 128)) b
-  run_begins b high low = record { others = []; shown = sym (base_128-one first); read = so_far b high low }
+  run_begins b high low = record { others = []; shown = (sym (base_128-one first), omega (arith, base_128-one first)); read = so_far b high low }
 
 module _ (node : ℕ) (list now mid : List Bool) (first : ℕ) (was is : Option ℕ) (run : IsRun node list now first was true)
     (octet : ℕ) (s : Starts (number 8 Short node).encodes now octet mid)

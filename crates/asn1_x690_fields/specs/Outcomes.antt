@@ -1,5 +1,5 @@
 -- What a call did to the state of a decoder: what it read, or the fault that it found.
-use Rattle.std.specs.Prelude.{◌≡◌, ℕ, ◌-◌, ◌^◌, ◌≤◌, ◌⊎◌, Bool, List, length, take, drop, Option, Some, None}
+use Rattle.std.specs.Prelude.{◌≡◌, ℕ, ◌-◌, ◌^◌, ◌<◌, ◌≤◌, ◌⊎◌, Bool, List, length, take, drop, Option, Some, None}
 use Rattle.asn1_schema.specs.Encodings.{Fault, Encoding, Starts}
 use Rattle.asn1_schema.specs.PiecesOfParts.{bits_at}
 use Rattle.asn1_x690.specs.declared.fault.FaultKind.{FaultKind}
@@ -40,7 +40,7 @@ IsReadAs A Shows list old new None = A.fault (rest list old) (fault_of new)
 -- the number, or that 64 bits do not hold it
 abbrev pub IsShown : Option ℕ → ℕ → Type 0
 IsShown None n = 2 ^ 64 ≤ n
-IsShown (Some m) n = m ≡ n
+IsShown (Some m) n = (m ≡ n) × (n < 2 ^ 64)
 
 -- the length, or the greatest number of 64 bits, which no message exceeds
 abbrev pub IsLength : ℕ → ℕ → Type 0

@@ -1,6 +1,5 @@
 -- Laws of contents of any values.
 use Rattle.std.proofs.Common.{◌≡◌, ℕ, ◌≤◌, inl, inr, Bool, List, length, sym, ◌∙◌, subst}
-use Rattle.std.specs.Prelude.{◌⊎◌}
 use Rattle.asn1_schema.specs.Encodings.{Fault, Contents, FillsOne}
 use Rattle.asn1_schema.specs.Laws.EncodingLaws.{at_inside}
 use Rattle.asn1_schema.specs.Laws.ContentsLaws.{AreSound}

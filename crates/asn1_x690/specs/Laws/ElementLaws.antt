@@ -1,21 +1,20 @@
 -- Laws of elements: octets begin with one at most, and an identifier and contents have one.
-use Rattle.std.proofs.Common.{◌≡◌, ◌≢◌, ℕ, zero, suc, ◌+◌, ◌-◌, ◌*◌, ◌/◌, ◌%◌, ◌^◌, ◌<◌, ◌≤◌, inl, inr, Bool, cond, List, [], ◌∷◌, ◌++◌, length, refl, sym, ◌∙◌, ap, subst, arith}
+use Rattle.std.proofs.Common.{◌≡◌, ◌≢◌, ℕ, zero, suc, ◌+◌, ◌-◌, ◌*◌, ◌/◌, ◌%◌, ◌^◌, ◌<◌, ◌≤◌, inl, inr, Bool, cond, List, [], ◌∷◌, length, refl, sym, ◌∙◌, ap, subst, arith}
 use Rattle.std.specs.Prelude.{◌⊎◌}
 use Rattle.std.proofs.Math.Pow.{pow_mono}
 use Rattle.std.proofs.lemmas.List.{length-append}
-use Rattle.asn1_bits.specs.Bits.{digits, is_odd}
+use Rattle.asn1_bits.specs.Bits.{is_odd}
 use Rattle.asn1_bits.specs.DigitLaws.{length-digits}
 use Rattle.asn1_bits.specs.NumberLaws.{worth-is_odd}
 use Rattle.asn1_oid.specs.Contents.{base_128, IsSubidentifier, IsSeries as AreSeries}
 use Rattle.asn1_oid.specs.WritingLaws.{only_octets}
-use Rattle.asn1_schema.specs.Encodings.{Encoding, EncodesOne, IsNumber, constant, invalid, cases, number}
+use Rattle.asn1_schema.specs.Encodings.{EncodesOne, IsNumber, constant, invalid, cases, number}
 use Rattle.asn1_schema.specs.Fields.{raw_bits}
 use Rattle.asn1_schema.specs.Laws.EncodingLaws.{IsSound, number_encodes_one}
 use Rattle.asn1_schema.specs.Laws.FieldLaws.{raw_bits_sound, raw_bits_encode_one}
 use Rattle.asn1_schema.specs.Laws.ByStructure.{then_of, cases_of, constant_of, invalid_of, number_of}
 use Rattle.asn1_schema.specs.Laws.OneEncodingLaws.{then_encodes_one, only_constant, constant_if_encodes_one}
-use Rattle.asn1_x690.specs.declared.fault.FaultKind.{FaultKind}
-use Rattle.asn1_x690.specs.declared.fault.FaultKind.TheVariants.{Short, NotMinimal, Indefinite, Reserved}
+use Rattle.asn1_x690.specs.declared.fault.FaultKind.TheVariants.{Short, NotMinimal}
 use Rattle.asn1_x690.specs.declared.tables.Class.{Class}
 use Rattle.asn1_x690.specs.declared.tables.Class.TheVariants.{Universal, Application, Context, Private}
 use Rattle.asn1_x690.specs.declared.tables.Identifier.{Identifier}

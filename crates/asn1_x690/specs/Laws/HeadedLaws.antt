@@ -1,16 +1,16 @@
 -- Laws of headers and of the contents that they enclose: each combinator keeps `IsGoodByHeader`.
 use Rattle.std.proofs.Common.{◌≡◌, ℕ, ◌≤◌, inl, inr, List, [], ◌∷◌, ◌++◌, Bool, length, refl, sym, ◌∙◌, ap, subst}
-use Rattle.std.specs.Prelude.{◌⊎◌, ⊤}
+use Rattle.std.specs.Prelude.{◌⊎◌}
 use Rattle.asn1_schema.specs.declared.misfit.MisfitKind.{MisfitKind}
 use Rattle.asn1_schema.specs.declared.misfit.MisfitKind.TheVariants.{NoEncoding, OtherPart, NoPart}
 use Rattle.asn1_schema.specs.Pieces.{Piece, Absent, Parts}
-use Rattle.asn1_schema.specs.Encodings.{Encoding, EncodesOne, DecodesOne, Starts, invalid_contents, mapped}
-use Rattle.asn1_schema.specs.TypeEncodings.{Misfit, IsAtPart, TypeEncoding, AfterParts, EncodesUniquely, NamesEachMisfit}
+use Rattle.asn1_schema.specs.Encodings.{Encoding, EncodesOne, Starts, invalid_contents, mapped}
+use Rattle.asn1_schema.specs.TypeEncodings.{Misfit, EncodesUniquely, NamesEachMisfit}
 use Rattle.asn1_schema.specs.Laws.EncodingLaws.{IsSound}
 use Rattle.asn1_schema.specs.Laws.ContentsLaws.{AreSound, invalid_contents_are_sound, if_next_are_sound, mapped_are_sound}
 use Rattle.asn1_schema.specs.Laws.PositionLaws.{within_sound}
 use Rattle.asn1_schema.specs.Laws.WritingLaws.{EncodesUniquelyBy, AfterPartsBy, NamesEachMisfitBy, IsGood, IsPresent, ArePresent, same_head, same_tail, not_empty, made}
-use Rattle.asn1_x690.specs.TypeContents.{TypeContents, ByHeader, headed, invalid_header, only_header, any_header, HeaderMisfit, EitherMisfit, either}
+use Rattle.asn1_x690.specs.TypeContents.{TypeContents, ByHeader, headed, invalid_header, only_header, any_header, HeaderMisfit, either}
 
 -- contents of which all promises hold
 pub record IsGoodContents {K : Type 0} (F : TypeContents K) : Type 0 where

@@ -1,19 +1,19 @@
 -- Laws of types of one part: contents octets are one value at most, and a value has one.
-use Rattle.std.proofs.Common.{◌≡◌, ℕ, ℤ, zero, suc, ◌+◌, ◌*◌, ◌%◌, ◌^◌, ◌<◌, ◌≤◌, inl, inr, Bool, true, false, List, [], ◌∷◌, ◌++◌, length, refl, sym, ◌∙◌, ap, subst, arith, Some}
-use Rattle.std.specs.Prelude.{◌⊎◌, ⊤, All, slice_get}
+use Rattle.std.proofs.Common.{◌≡◌, ℕ, ℤ, zero, suc, ◌+◌, ◌%◌, ◌<◌, inl, inr, Bool, true, false, List, [], ◌∷◌, ◌++◌, length, refl, sym, ◌∙◌, ap, subst, arith, Some}
+use Rattle.std.specs.Prelude.{All, slice_get}
 use Rattle.std.proofs.lemmas.List.{length-append}
 use Rattle.std.proofs.lemmas.List.Elements.{All-nil, All-cons}
 use Rattle.asn1_bits.specs.Bits.{bits, digits, number}
 use Rattle.asn1_bits.specs.DigitLaws.{length-digits}
 use Rattle.asn1_bits.specs.NumberLaws.{same_octets, number_of-digits}
-use Rattle.asn1_number.specs.Octets.{IsOctets, IsShortest}
+use Rattle.asn1_number.specs.Octets.{IsOctets}
 use Rattle.asn1_number.specs.OctetLaws.{shortest_once, equal_from_octets}
 use Rattle.asn1_schema.specs.Pieces.{Piece, Absent, Enumerated, Unknown}
 use Rattle.asn1_schema.specs.Encodings.{EncodesOne, FillsOne}
 use Rattle.asn1_schema.specs.Laws.EncodingLaws.{same_fronts}
 use Rattle.asn1_x690.specs.declared.fault.FaultKind.TheVariants.{Contents, NotPermitted}
 use Rattle.asn1_x690.specs.TypeContents.{valid, permitted_contents}
-use Rattle.asn1_x690.specs.Leaves.{truth_octet, IsBoolean, IsNull, IsInteger, IsFirst, IsKnownValue, IsUnknownValue, IsEnumerated, IsBitString, AreOctets, IsKept, AreCharacters, leaf_of}
+use Rattle.asn1_x690.specs.Leaves.{truth_octet, IsBoolean, IsNull, IsInteger, IsFirst, IsEnumerated, IsBitString, AreOctets, IsKept, AreCharacters, leaf_of}
 use Rattle.asn1_x690.specs.Laws.ContentsLaws.{valid_are_sound, permitted_contents_are_sound}
 use Rattle.asn1_x690.specs.Laws.HeadedLaws.{IsGoodContents}
 use Rattle.asn1_x690.specs.Laws.TypeContentsLaws.{leaf_contents_good}

@@ -1,7 +1,6 @@
 -- Laws of series.
 use Rattle.std.proofs.Common.{◌≡◌, ℕ, zero, suc, ◌≤◌, inl, inr, Bool, List, [], ◌∷◌, ◌++◌, length, refl, sym, ◌∙◌, ap, subst, arith, append_assoc}
-use Rattle.std.specs.Prelude.{◌⊎◌}
-use Rattle.asn1_schema.specs.Encodings.{Fault, Encoding, Starts, CanDecode, Then, EncodesOne}
+use Rattle.asn1_schema.specs.Encodings.{Fault, Encoding, Starts, CanDecode, EncodesOne}
 use Rattle.asn1_schema.specs.Laws.EncodingLaws.{IsSound, can, fewer, moved}
 use Rattle.asn1_x690.specs.Series.{IsSeries, SeriesFault, series}
 

@@ -4,11 +4,11 @@ use Rattle.std.specs.Prelude.{◌⊎◌, ⊤}
 use Rattle.asn1_schema.specs.declared.misfit.MisfitKind.{MisfitKind}
 use Rattle.asn1_schema.specs.declared.misfit.MisfitKind.TheVariants.{NoEncoding, OtherPart, NoPart}
 use Rattle.asn1_schema.specs.Pieces.{Piece, Absent, Parts}
-use Rattle.asn1_schema.specs.Encodings.{Contents, EncodesOne, FillsOne, only}
+use Rattle.asn1_schema.specs.Encodings.{Contents, EncodesOne}
 use Rattle.asn1_schema.specs.TypeEncodings.{Misfit, IsAtPart, TypeEncoding, AfterParts, EncodesUniquely, NamesEachMisfit}
 use Rattle.asn1_schema.specs.Laws.ContentsLaws.{AreSound, invalid_contents_are_sound, only_are_sound, mapped_are_sound}
-use Rattle.asn1_schema.specs.Laws.WritingLaws.{IsGood, IsPresent, ArePresent, same_head, same_tail, not_empty, made}
-use Rattle.asn1_x690.specs.TypeContents.{CanFill, TypeContents, ToldContents, FillsWith, invalid_type_contents, only_value, leaf_contents, told, permitted_contents}
+use Rattle.asn1_schema.specs.Laws.WritingLaws.{IsGood, ArePresent, same_head, same_tail, not_empty, made}
+use Rattle.asn1_x690.specs.TypeContents.{ToldContents, FillsWith, invalid_type_contents, only_value, leaf_contents, told, permitted_contents}
 use Rattle.asn1_x690.specs.Laws.ContentsLaws.{permitted_contents_are_sound}
 use Rattle.asn1_x690.specs.Laws.HeadedLaws.{IsGoodContents}
 

@@ -1,6 +1,6 @@
 -- Laws of DER: at every node of every schema.
-use Rattle.std.proofs.Common.{◌≡◌, ℕ, ℤ, zero, suc, ◌+◌, ◌<◌, ◌≤◌, inl, inr, Bool, true, false, List, [], ◌∷◌, length, refl, sym, ◌∙◌, ap, subst, arith, Option, Some, None}
-use Rattle.std.specs.Prelude.{⊤, slice_get, slice_range}
+use Rattle.std.proofs.Common.{◌≡◌, ℕ, ℤ, zero, suc, ◌+◌, ◌<◌, inl, inr, Bool, true, false, List, [], ◌∷◌, length, refl, sym, ◌∙◌, ap, subst, arith, Option, Some, None}
+use Rattle.std.specs.Prelude.{slice_get, slice_range}
 use Rattle.asn1_schema.specs.declared.tables.Presence.{Presence}
 use Rattle.asn1_schema.specs.declared.tables.Presence.TheVariants as presence
 use Rattle.asn1_schema.specs.declared.tables.Length.{Length}
@@ -25,11 +25,12 @@ use Rattle.asn1_x690.specs.declared.tables.FirstTags.{FirstTags}
 use Rattle.asn1_x690.specs.Elements.{any_element}
 use Rattle.asn1_x690.specs.TypeContents.{TypeContents, ToldContents, ByHeader, only_value, present, to_end, told}
 use Rattle.asn1_x690.specs.Leaves.{IsObjectIdentifier, IsRelativeIdentifier, IsUtf8Text, IsBoolean, IsNull, IsInteger, IsEnumerated, IsBitString, AreOctets, IsKept, width_of, AreCharacters, HasSize, IsBetween, IsAtLeast, AreTrimmed, AreSized, IsText, IsPermittedValue, leaf_of}
-use Rattle.asn1_x690.specs.Der.{Context, rows_of, no_type, no_member, element, any_value, primitive, constructed, around, tagged, HasTag, BeginsWith, always, value_by, optional, component_by, component, components, addition, additions, unknown_additions, extension, sequence_by, in_order, sequence_of, alternative, alternatives, choice_by, leaf, structured, enumerated, type_by, type_if, type_of, type_at, encoding_at}
+use Rattle.asn1_x690.specs.Der.{Context, rows_of, no_type, element, any_value, primitive, constructed, around, tagged, HasTag, BeginsWith, always, value_by, optional, component_by, component, components, addition, additions, unknown_additions, extension, sequence_by, in_order, sequence_of, alternative, alternatives, choice_by, leaf, structured, enumerated, type_by, type_if, type_of, type_at, encoding_at}
 use Rattle.asn1_x690.specs.Laws.ElementLaws.{any_element_sound, any_element_one, element_some, contents_fewer}
 use Rattle.asn1_x690.specs.Laws.HeadedLaws.{IsGoodContents, IsGoodByHeader, headed_good, headed_present, invalid_header_good, only_header_good, any_header_good, NeverBegins, either_good}
 use Rattle.asn1_x690.specs.Laws.TypeContentsLaws.{IsGoodTold, only_value_good, told_good}
-use Rattle.asn1_x690.specs.Laws.ToldLaws.{TakeBits, FillBits, ArePresentTold, invalid_told_good, nothing_more_good, present_good, present_some, present_present, required_good, perhaps_good, to_end_good, renamed_good, some_or_none_good}
+use Rattle.asn1_x690.specs.Laws.ToldLaws.{TakeBits, invalid_told_good, nothing_more_good, present_good, present_some, present_present, required_good, perhaps_good}
+use Rattle.asn1_x690.specs.Laws.EndLaws.{to_end_good, renamed_good, some_or_none_good}
 use Rattle.asn1_x690.specs.Laws.LeafLaws.{OneToOne, leaf_of_good, boolean_one, null_one, integer_one, enumerated_one, enumerated_present, bit_string_one, octets_one, kept_one, characters_one}
 
 -- a value of which all promises hold, that has a part and takes bits

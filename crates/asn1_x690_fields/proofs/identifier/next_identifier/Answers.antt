@@ -9,7 +9,7 @@ pub returns-then-first-lt31-clause-read : goal.returns-then-first-lt31-clause-re
 returns-then-first-lt31-clause-read c =
     let first = c.in_ok-first.first in (
       identifier_of first (first % 32),
-      record { class = c.class_of-class.ensures; form = refl; number = c.from.ensures },
+      record { class = c.class_of-class.ensures; form = refl; number = (c.from.ensures, omega arith) },
       short_identifier c.args.node first (rest (bits c.args.octets.now) c.args.state.now)
           (rest (bits c.args.octets.now) c.next_octet.new.state) c.in_ok-first.ensures.read c.if-first-lt31.true,
     )
