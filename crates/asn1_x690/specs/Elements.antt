@@ -42,7 +42,7 @@ number_after node first = cases (first % 32 < 31) (constant (first % 32)) (first
 abbrev pub identifier : ℕ → Encoding FaultKind Identifier
 identifier node = then (number 8 Short node) identifier_of (λ first. number_after node first)
 
--- ---- lengths: definite (10.1), in the fewest octets (8.1.3)
+-- ---- lengths: definite, of minimal length (8.1.3, 10.1)
 
 -- so many octets hold a length, and no fewer do; one alone would hold it below 128
 abbrev pub IsLongLength : ℕ → ℕ → Type 0

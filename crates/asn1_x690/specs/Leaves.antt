@@ -28,7 +28,7 @@ IsBoolean b list = list ≡ digits (truth_octet b) 8
 abbrev pub IsNull : ⊤ → List Bool → Type 0
 IsNull u list = list ≡ []
 
--- two's complement in the fewest octets (8.3.2, 8.3.3)
+-- two's complement of minimal length (8.3.2, 8.3.3)
 abbrev pub IsInteger : ℤ → List Bool → Type 0
 IsInteger n list = (octets : List ℕ) × IsShortest n octets × (list ≡ bits octets)
 

@@ -1,6 +1,6 @@
 //! The encoding rules of X.690.
 //!
-//! [`der`] has the distinguished encoding rules (DER): `specs/Types` says of each type of a schema
+//! [`der`] has the distinguished encoding rules (DER): `specs/Der` says of each type of a schema
 //! which octets encode which parts, and `der::laws_of_types` states what that definition keeps.
 #![tactic(auto)]
 
