@@ -1,0 +1,12 @@
+//! The encoding rules of X.690.
+//!
+//! [`der`] has the distinguished encoding rules (DER): `specs/Der` says of each type of a schema
+//! which octets encode which parts, and `der::laws_of_types` states what that definition keeps.
+#![tactic(auto)]
+
+pub mod der;
+mod fault;
+mod tables;
+
+pub use fault::FaultKind;
+pub use tables::{CharacterSize, Class, FirstTags, Identifier, Tag, TagTables, TypeTags};

@@ -1,0 +1,4 @@
+-- Lemmas of the proofs.
+mod LengthSteps
+mod NumberSteps
+mod HeaderSteps

@@ -1,0 +1,17 @@
+//! Reads the fields of X.690 that all its rules share: identifier octets, lengths and headers.
+//!
+//! A call reads from a [`State`]. It returns what it read, or `None`, and then the state has the
+//! first fault. Each contract is exact: it names what `asn1_x690` defines.
+#![tactic(auto)]
+
+mod header;
+mod heads;
+mod identifier;
+mod length;
+mod state;
+
+pub use header::{Header, next_header};
+pub use heads::{next_octet, next_octets};
+pub use identifier::{FoundIdentifier, next_identifier};
+pub use length::next_length;
+pub use state::{State, fail};

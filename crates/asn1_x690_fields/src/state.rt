@@ -1,0 +1,34 @@
+//! Where a decoder is, and the fault that it found.
+
+ghost use Rattle.std.specs.Prelude.{◌≡◌};
+
+use asn1_x690::FaultKind;
+
+/// Where a decoder is in a message, how many parts it has decoded, and the fault that it found. An
+/// index counts the bits of the message.
+#[derive(Clone, Copy, Debug)]
+pub struct State {
+    /// The index of the next bit.
+    pub at: usize,
+    /// The index after the last bit: of the message, or of the contents of an element.
+    pub end: usize,
+    /// How many parts were decoded.
+    pub count: usize,
+    /// The node of the fault, if there is one. Its index is `at`.
+    pub node: usize,
+    /// The kind of the fault.
+    pub kind: FaultKind,
+}
+
+/// Sets a fault before the next bit.
+#[inline(always)]
+pub fn fail(state: &mut State, node: usize, kind: FaultKind)
+    ensures at { state.new.at ≡ state.old.at }
+    ensures end { state.new.end ≡ state.old.end }
+    ensures count { state.new.count ≡ state.old.count }
+    ensures node { state.new.node ≡ node }
+    ensures kind { state.new.kind ≡ kind }
+{
+    state.node = node;
+    state.kind = kind;
+}
