@@ -74,7 +74,7 @@ impl<'m, 'a> Parser<'m, 'a> {
         }
         let index = self.begin(Item::Constraint);
         self.expect_symbol(Symbol::OpenParenthesis)?;
-        if self.sees_symbol(Symbol::OpenBrace) {
+        if self.sees_symbol(Symbol::OpenBrace) && self.sees_second_upper() {
             return Err(self.error(Problem::Unsupported("a table constraint (X.682 10)")));
         }
         self.union(depth - 1)?;
@@ -170,9 +170,7 @@ impl<'m, 'a> Parser<'m, 'a> {
                 self.take();
                 self.contained()
             }
-            TokenKind::Upper if self.second_kind() != TokenKind::Symbol(Symbol::Dot) => {
-                self.contained()
-            }
+            TokenKind::Upper if !self.sees_second_symbol(Symbol::Dot) => self.contained(),
             TokenKind::Word(Word::Constrained) => {
                 self.add_next(Item::UserDefined);
                 self.expect_word(Word::By)?;
@@ -196,7 +194,7 @@ impl<'m, 'a> Parser<'m, 'a> {
     /// Reads WITH COMPONENT or WITH COMPONENTS (X.680 51.8).
     #[cycle(constraints)]
     fn inner_constraint(&mut self, depth: usize) -> Result<(), NotationError> {
-        if self.second_kind() == TokenKind::Word(Word::Component) {
+        if self.sees_second_word(Word::Component) {
             self.take();
             return self.applied(Item::WithComponent, depth);
         }

@@ -160,30 +160,32 @@ impl<'m, 'a> Parser<'m, 'a> {
 
     /// Reads the definition of a type, or of a set of values.
     fn type_definition(&mut self) -> Result<(), NotationError> {
-        match self.second_kind() {
-            TokenKind::Symbol(Symbol::Assign) => {
-                let index = self.begin(Item::TypeDefinition);
-                self.take();
-                self.take();
-                self.any_type(MAX_DEPTH)?;
-                self.close(index);
-            }
-            TokenKind::Symbol(Symbol::OpenBrace) => {
-                self.take();
-                let feature = "a parameterized definition (X.683 8)";
-                return Err(self.error(Problem::Unsupported(feature)));
-            }
-            _ => {
-                let index = self.begin(Item::SetDefinition);
-                self.take();
-                self.any_type(MAX_DEPTH)?;
-                self.expect_symbol(Symbol::Assign)?;
-                self.expect_symbol(Symbol::OpenBrace)?;
-                self.union(MAX_DEPTH)?;
-                self.expect_symbol(Symbol::CloseBrace)?;
-                self.close(index);
-            }
+        if self.sees_second_symbol(Symbol::OpenBrace) {
+            self.take();
+            let feature = "a parameterized definition (X.683 8)";
+            return Err(self.error(Problem::Unsupported(feature)));
         }
+        if !self.sees_second_symbol(Symbol::Assign) {
+            return self.set_definition();
+        }
+        let index = self.begin(Item::TypeDefinition);
+        self.take();
+        self.take();
+        self.any_type(MAX_DEPTH)?;
+        self.close(index);
+        Ok(())
+    }
+
+    /// Reads the definition of a set of values (X.680 16.6).
+    fn set_definition(&mut self) -> Result<(), NotationError> {
+        let index = self.begin(Item::SetDefinition);
+        self.take();
+        self.any_type(MAX_DEPTH)?;
+        self.expect_symbol(Symbol::Assign)?;
+        self.expect_symbol(Symbol::OpenBrace)?;
+        self.union(MAX_DEPTH)?;
+        self.expect_symbol(Symbol::CloseBrace)?;
+        self.close(index);
         Ok(())
     }
 

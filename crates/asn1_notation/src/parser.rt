@@ -50,9 +50,28 @@ impl<'m, 'a> Parser<'m, 'a> {
         self.first.kind
     }
 
-    /// Returns what the item after the next one is.
-    pub fn second_kind(&self) -> TokenKind {
-        self.second.kind
+    /// Returns whether the item after the next one is this symbol.
+    pub fn sees_second_symbol(&self, symbol: Symbol) -> bool {
+        match self.second.kind {
+            TokenKind::Symbol(found) => found == symbol,
+            _ => false,
+        }
+    }
+
+    /// Returns whether the item after the next one is a name that begins with a capital.
+    pub fn sees_second_upper(&self) -> bool {
+        match self.second.kind {
+            TokenKind::Upper => true,
+            _ => false,
+        }
+    }
+
+    /// Returns whether the item after the next one is this word.
+    pub fn sees_second_word(&self, word: Word) -> bool {
+        match self.second.kind {
+            TokenKind::Word(found) => found == word,
+            _ => false,
+        }
     }
 
     /// Returns a number that is at least that of the items that are left.

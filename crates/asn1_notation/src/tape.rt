@@ -49,8 +49,10 @@ pub enum Item {
     Tagged,
     /// The name of a type.
     Reference,
-    /// `Module.Type`, named by the module. { Reference }
+    /// `Module.Type`, named by the module. { ExternalName }
     ExternalReference,
+    /// The name of a type after that of its module.
+    ExternalName,
     /// `name < Type`. { type }
     Selection,
 

@@ -157,7 +157,7 @@ impl<'m, 'a> Parser<'m, 'a> {
 
     /// Begins the name of a type, which may be after that of its module.
     fn reference(&mut self) -> Result<usize, NotationError> {
-        if self.second_kind() != TokenKind::Symbol(Symbol::Dot) {
+        if !self.sees_second_symbol(Symbol::Dot) {
             let index = self.begin(Item::Reference);
             self.take();
             self.no_parameters()?;
@@ -172,7 +172,7 @@ impl<'m, 'a> Parser<'m, 'a> {
         }
         let name = self.expect(TokenKind::Upper, "the name of a type")?;
         self.no_parameters()?;
-        self.add(Item::Reference, None, name);
+        self.add(Item::ExternalName, None, name);
         Ok(index)
     }
 
@@ -258,7 +258,7 @@ impl<'m, 'a> Parser<'m, 'a> {
     /// Begins a SEQUENCE or SET of components or of items.
     #[cycle(types)]
     fn collection(&mut self, one: Item, many: Item, depth: usize) -> Result<usize, NotationError> {
-        if self.second_kind() == TokenKind::Symbol(Symbol::OpenBrace) {
+        if self.sees_second_symbol(Symbol::OpenBrace) {
             let index = self.begin(one);
             self.take();
             self.members(false, depth)?;
@@ -270,7 +270,7 @@ impl<'m, 'a> Parser<'m, 'a> {
             self.size(depth)?;
         }
         self.expect_word(Word::Of)?;
-        if self.sees(TokenKind::Lower) && self.second_kind() != TokenKind::Symbol(Symbol::Less) {
+        if self.sees(TokenKind::Lower) && !self.sees_second_symbol(Symbol::Less) {
             self.take();
         }
         self.any_type(depth)?;
@@ -298,11 +298,11 @@ impl<'m, 'a> Parser<'m, 'a> {
     /// Reads a constraint after a type, which may name the type of its contents (X.682 11).
     #[cycle(types)]
     fn type_constraint(&mut self, depth: usize) -> Result<(), NotationError> {
-        if self.second_kind() == TokenKind::Word(Word::Encoded) {
+        if self.sees_second_word(Word::Encoded) {
             self.take();
             return Err(self.error(Problem::Unsupported("ENCODED BY (X.682 11)")));
         }
-        if self.second_kind() != TokenKind::Word(Word::Containing) {
+        if !self.sees_second_word(Word::Containing) {
             return self.constraint(depth);
         }
         let index = self.begin(Item::Containing);

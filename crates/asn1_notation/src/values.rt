@@ -6,6 +6,21 @@ use crate::tape::Item;
 use crate::token::{Symbol, TokenKind};
 use crate::word::Word;
 
+/// Returns whether a word is a value, or the end of a range.
+fn is_value(word: Word) -> bool {
+    match word {
+        Word::True
+        | Word::False
+        | Word::Null
+        | Word::Min
+        | Word::Max
+        | Word::PlusInfinity
+        | Word::MinusInfinity
+        | Word::NotANumber => true,
+        _ => false,
+    }
+}
+
 impl<'m, 'a> Parser<'m, 'a> {
     /// Reads a number with its sign.
     fn signed_number(&mut self) -> Result<(), NotationError> {
@@ -35,31 +50,34 @@ impl<'m, 'a> Parser<'m, 'a> {
         Ok(())
     }
 
+    /// Reads a value that is a word.
+    fn word_value(&mut self, word: Word) -> Result<(), NotationError> {
+        if !is_value(word) {
+            return Err(self.expected("a value"));
+        }
+        let token = self.take();
+        self.add(Item::WordValue, Some(word), token);
+        Ok(())
+    }
+
     /// Reads a value without braces or a colon.
     fn short_value(&mut self) -> Result<(), NotationError> {
         match self.kind() {
-            TokenKind::Word(
-                word @ (Word::True
-                | Word::False
-                | Word::Null
-                | Word::Min
-                | Word::Max
-                | Word::PlusInfinity
-                | Word::MinusInfinity
-                | Word::NotANumber),
-            ) => {
-                let token = self.take();
-                self.add(Item::WordValue, Some(word), token);
-            }
+            TokenKind::Word(word) => self.word_value(word),
             TokenKind::Number | TokenKind::Real | TokenKind::Symbol(Symbol::Minus) => {
-                self.signed_number()?;
+                self.signed_number()
             }
-            TokenKind::Text => self.add_next(Item::Text),
-            TokenKind::Bits => self.add_next(Item::Bits),
-            TokenKind::Hex => self.add_next(Item::Hex),
-            TokenKind::Lower | TokenKind::Upper => self.value_name()?,
-            _ => return Err(self.expected("a value")),
+            TokenKind::Text => self.string_value(Item::Text),
+            TokenKind::Bits => self.string_value(Item::Bits),
+            TokenKind::Hex => self.string_value(Item::Hex),
+            TokenKind::Lower | TokenKind::Upper => self.value_name(),
+            _ => Err(self.expected("a value")),
         }
+    }
+
+    /// Reads a value that is a string.
+    fn string_value(&mut self, item: Item) -> Result<(), NotationError> {
+        self.add_next(item);
         Ok(())
     }
 
@@ -69,18 +87,24 @@ impl<'m, 'a> Parser<'m, 'a> {
         if depth == 0 {
             return Err(self.error(Problem::TooDeep));
         }
-        match self.kind() {
-            TokenKind::Symbol(Symbol::OpenBrace) => self.braces(depth - 1),
-            TokenKind::Lower if self.second_kind() == TokenKind::Symbol(Symbol::Colon) => {
-                let index = self.begin(Item::Alternative);
-                self.take();
-                self.take();
-                self.value(depth - 1)?;
-                self.close(index);
-                Ok(())
-            }
-            _ => self.short_value(),
+        if self.sees_symbol(Symbol::OpenBrace) {
+            return self.braces(depth - 1);
         }
+        if self.sees(TokenKind::Lower) && self.sees_second_symbol(Symbol::Colon) {
+            return self.alternative(depth - 1);
+        }
+        self.short_value()
+    }
+
+    /// Reads a value after the name of its alternative.
+    #[cycle(values)]
+    fn alternative(&mut self, depth: usize) -> Result<(), NotationError> {
+        let index = self.begin(Item::Alternative);
+        self.take();
+        self.take();
+        self.value(depth)?;
+        self.close(index);
+        Ok(())
     }
 
     /// Reads a value in braces.
@@ -106,7 +130,7 @@ impl<'m, 'a> Parser<'m, 'a> {
             self.add_next(Item::Comma);
             return Ok(());
         }
-        if !self.sees(TokenKind::Lower) || self.second_kind() == TokenKind::Symbol(Symbol::Colon) {
+        if !self.sees(TokenKind::Lower) || self.sees_second_symbol(Symbol::Colon) {
             return self.value(depth);
         }
         let index = self.begin(Item::PieceName);

@@ -9,3 +9,6 @@ decreases-piece l = 8 * l.depth + 1
 
 abbrev pub decreases-braces : goal.decreases-braces
 decreases-braces l = 8 * l.depth + 2
+
+abbrev pub decreases-alternative : goal.decreases-alternative
+decreases-alternative l = 8 * l.depth + 1
