@@ -2,7 +2,28 @@
 
 use crate::hash::list_of;
 use crate::scope::{Place, Scope};
-use asn1_notation::{Entry, Item, NotationError, Problem, error_at, narrow, wide};
+use asn1_notation::{Entry, Item, NotationError, Problem, error_at, narrow, part_of, wide};
+
+/// Puts a definition in the list of its name, and returns its link.
+fn list_definition(
+    text: &[u8],
+    entry: Entry,
+    index: usize,
+    lists: &mut [u32],
+) -> Result<u32, NotationError> {
+    let from = wide(entry.from);
+    if entry.item == Item::SetDefinition {
+        let feature = "a set of values as a type (X.680 16.6)";
+        return Err(error_at(Problem::Unsupported(feature), from));
+    }
+    let list = list_of(part_of(text, from, wide(entry.count)));
+    let Some(first) = lists.get_mut(list) else {
+        return Ok(0);
+    };
+    let link = *first;
+    *first = narrow(index).saturating_add(1);
+    Ok(link)
+}
 
 /// Puts each definition in the list of its name.
 pub fn index_definitions(
@@ -27,20 +48,12 @@ pub fn index_definitions(
                 return Err(error_at(Problem::Duplicate, wide(entry.from)));
             }
         }
-        if entry.item == Item::SetDefinition {
-            let feature = "a set of values as a type (X.680 16.6)";
-            return Err(error_at(Problem::Unsupported(feature), wide(entry.from)));
-        }
         if entry.item.is_definition() {
             let scope = Scope { text, tape, lists };
             if scope.defined_in(module, entry).is_some() {
                 return Err(error_at(Problem::Duplicate, wide(entry.from)));
             }
-            let list = list_of(scope.text_of(entry));
-            if let Some(first) = lists.get_mut(list) {
-                link = *first;
-                *first = narrow(index).saturating_add(1);
-            }
+            link = list_definition(text, entry, index, lists)?;
         }
         if let Some(kept) = tape.get_mut(index) {
             *kept = Entry { link, ..entry };

@@ -1,4 +1,4 @@
-//! What the definitions of modules say (X.680): what names stand for, the numbers that values are, what
+//! What the definitions of modules say (X.680): what names refer to, the numbers that values are, what
 //! constraints permit, and tags. Nothing is allocated.
 #![tactic(auto)]
 

@@ -23,7 +23,7 @@ impl<'r> Scope<'r> {
         }
     }
 
-    /// Returns the definition of a value that a name stands for.
+    /// Returns the definition of a value that a name refers to.
     fn value_definition(self, place: Place) -> Result<Place, NotationError> {
         let found = self.definition(place)?;
         if self.item(found) != Item::ValueDefinition {
@@ -33,7 +33,7 @@ impl<'r> Scope<'r> {
     }
 
     /// Returns the number that a value is, through names. The names of numbers that the INTEGER
-    /// `governor` has come first (X.680 19.5).
+    /// `governor` has are looked up first (X.680 19.5).
     pub fn number(self, place: Place, governor: Option<Place>) -> Result<i128, NotationError> {
         let mut found = place;
         let mut governor = governor;

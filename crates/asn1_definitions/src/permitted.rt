@@ -30,7 +30,7 @@ pub struct Permitted {
     pub alphabet: Option<u128>,
 }
 
-/// What no constraint permits: everything.
+/// What a type without constraints permits.
 pub const EVERYTHING: Permitted = Permitted {
     values: None,
     sizes: None,

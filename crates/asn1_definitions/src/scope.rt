@@ -1,9 +1,9 @@
-//! What the names of a text stand for.
+//! What the names of a text refer to.
 
 use crate::hash::list_of;
 use asn1_notation::{Entry, Item, NO_ENTRY, NotationError, Problem, error_at, part_of, wide};
 
-/// How often a name may stand for a name.
+/// How many names may refer to names, one after another.
 pub const MAX_STEPS: usize = 400;
 
 /// An entry, in its module.
@@ -43,8 +43,11 @@ impl Inside {
     }
 }
 
-/// A text, its entries, and its definitions in lists by the hash of their names. A list has the index
-/// of its first definition and 1, or 0. The link of a definition is the next one of its list.
+/// A text, its entries, and its definitions in lists by the hash of their names.
+///
+/// A list is one more than the index of its first definition, or 0 if it is empty. The link of a
+/// definition is the same of the next one. The link of a type is one more than its node, or 0 if it
+/// has no node of its own.
 #[derive(Clone, Copy, Drop)]
 pub struct Scope<'r> {
     /// The text.
@@ -234,7 +237,7 @@ impl<'r> Scope<'r> {
         }
     }
 
-    /// Returns the alternative's type that a selection type stands for (X.680 30).
+    /// Returns the alternative's type that a selection type is (X.680 30).
     fn selected(self, place: Place) -> Result<Place, NotationError> {
         let choice = self.type_in(place);
         let mut found = choice;
@@ -254,7 +257,7 @@ impl<'r> Scope<'r> {
         }
     }
 
-    /// Returns the type that a name stands for.
+    /// Returns the type that a name refers to.
     fn target(self, place: Place) -> Result<Place, NotationError> {
         let found = self.definition(place)?;
         if self.item(found) != Item::TypeDefinition {
@@ -263,7 +266,7 @@ impl<'r> Scope<'r> {
         Ok(self.type_in(found))
     }
 
-    /// Returns the type that a name or a selection type stands for, or that has a tag here. `None`
+    /// Returns the type that a name refers to, that a selection type is, or that has a tag here. `None`
     /// if a type is none of them.
     pub fn inner(self, place: Place) -> Result<Option<Place>, NotationError> {
         Ok(match self.item(place) {
@@ -301,7 +304,7 @@ impl<'r> Scope<'r> {
         Err(self.error(Problem::Circular, place))
     }
 
-    /// Returns the node of a type: its own, or that of the type that it stands for.
+    /// Returns the node of a type: its own, or that of the type that it refers to.
     pub fn node_of(self, place: Place) -> Result<usize, NotationError> {
         let mut found = place;
         for _ in 0..MAX_STEPS {

@@ -4,6 +4,7 @@
 //! the text. Every text has a result: work and depth are bounded.
 #![tactic(auto)]
 
+mod components;
 mod constraints;
 mod error;
 mod lexer;

@@ -1,4 +1,4 @@
-//! What a text says, as entries in the order of the text: each entry is followed by those inside it.
+//! Entries: what a text says, in the order of the text. Each entry is followed by those inside it.
 
 use crate::word::Word;
 
