@@ -3,7 +3,7 @@
 use asn1_notation::{Sink, Word, narrow};
 use asn1_schema::{Range, Rows};
 
-/// The whole alphabets of the types (X.680 41.2 to 41.4, 41.15, 41.16), with which each table of
+/// The whole alphabets of the types (X.680 41), with which each table of
 /// ranges begins.
 pub const WHOLE_ALPHABETS: [Range; 13] = [
     Range {

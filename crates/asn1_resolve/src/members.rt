@@ -123,8 +123,8 @@ impl<'m> Builder<'m> {
         Ok(())
     }
 
-    /// Gathers the components that COMPONENTS OF stands for: those of the root of another type (X.680
-    /// 25.5). They have the automatic tags of this type, or else those of their own (X.680 25.9).
+    /// Gathers the components that COMPONENTS OF includes: those of the root of another type (X.680
+    /// 25.5). They have the automatic tags of this type, or otherwise those of their own.
     #[cycle(gather)]
     fn gather_of(
         &mut self,

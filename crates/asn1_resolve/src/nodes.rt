@@ -18,7 +18,7 @@ fn bounds_of(least: i128, greatest: i128) -> Option<Bounds> {
     Some(Bounds { least, range })
 }
 
-/// Returns the effective size constraint of sizes (X.691 10.3.9), and whether it has an extension
+/// Returns the effective size constraint of sizes (X.691 10.3), and whether it has an extension
 /// marker. `None` if no size is permitted, or the least one is too large.
 fn length_of(sizes: Option<Hull>) -> Option<(Length, bool)> {
     let Some(sizes) = sizes else {

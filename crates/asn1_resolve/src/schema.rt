@@ -1,5 +1,7 @@
 //! The tables of a text, on the heap.
 
+ghost use Rattle.std.specs.Prelude.{◌≡◌};
+
 use crate::builder::{
     Builder, DefaultText, Draft, Enumeral, Key, NO_DRAFT, NO_KEY, NO_MEMBER, NO_NAME, NO_ROWS,
     NamedType,
@@ -182,7 +184,11 @@ impl Schema {
     }
 
     /// Returns the tables, as decoders and encoders take them.
-    pub fn tables(&self) -> Tables<'_> {
+    pub fn tables(&self) -> Tables<'_>
+        ensures nodes { result.nodes.now ≡ self.now.nodes.items }
+        ensures members { result.members.now ≡ self.now.members.items }
+        ensures ranges { result.ranges.now ≡ self.now.ranges.items }
+    {
         Tables {
             nodes: self.nodes.as_slice(),
             members: self.members.as_slice(),
@@ -191,7 +197,10 @@ impl Schema {
     }
 
     /// Returns the names of what is in the tables.
-    pub fn names(&self) -> Names<'_> {
+    pub fn names(&self) -> Names<'_>
+        ensures nodes { result.nodes.now ≡ self.now.node_names.items }
+        ensures members { result.members.now ≡ self.now.member_names.items }
+    {
         Names {
             text: self.text.as_str().as_bytes(),
             nodes: self.node_names.as_slice(),
@@ -200,12 +209,16 @@ impl Schema {
     }
 
     /// Returns the types that have names, in the order of the text.
-    pub fn types(&self) -> &[NamedType] {
+    pub fn types(&self) -> &[NamedType]
+        ensures { result.now ≡ self.now.types.items }
+    {
         self.types.as_slice()
     }
 
     /// Returns the values after DEFAULT, by the index that `Presence::Default` has.
-    pub fn defaults(&self) -> &[DefaultText] {
+    pub fn defaults(&self) -> &[DefaultText]
+        ensures { result.now ≡ self.now.defaults.items }
+    {
         self.defaults.as_slice()
     }
 
