@@ -1,0 +1,258 @@
+//! What the constraints of a type permit, as the packed encoding rules look at them (X.691 10.3).
+
+use crate::characters::{characters_between, characters_of};
+use crate::permitted::{ALL_NUMBERS, EVERYTHING, Hull, Permitted};
+use crate::scope::{MAX_STEPS, Place, Scope};
+use asn1_notation::{Item, NotationError, Problem, Word};
+
+/// How many steps the constraints of one type may take.
+const MAX_WORK: usize = 1 << 20;
+
+/// What the values of a constraint are.
+#[derive(Clone, Copy, PartialEq, Eq)]
+enum Role {
+    /// Values of an INTEGER, whose names of numbers they can use, or sizes.
+    Numbers(Option<Place>),
+    /// Characters.
+    Characters,
+    /// Values of another type. No encoding depends on them.
+    Others,
+}
+
+/// The steps that are left.
+#[derive(Drop)]
+struct Work {
+    left: usize,
+}
+
+/// Returns what the constraints of a type permit, through names.
+pub fn permitted_by(scope: Scope<'_>, place: Place) -> Result<Permitted, NotationError> {
+    let mut work = Work { left: MAX_WORK };
+    scope.permitted(place, &mut work, MAX_STEPS)
+}
+
+impl<'r> Scope<'r> {
+    /// Returns one end of a range. `None` is MIN or MAX.
+    fn range_end(
+        self,
+        place: Place,
+        governor: Option<Place>,
+    ) -> Result<Option<i128>, NotationError> {
+        match self.entry(place.index).word {
+            Some(Word::Min | Word::Max) => Ok(None),
+            _ => Ok(Some(self.number(place, governor)?)),
+        }
+    }
+
+    /// Returns the numbers of a value or a range.
+    fn numbers(self, place: Place, governor: Option<Place>) -> Result<Hull, NotationError> {
+        let (first, last) = self.ends(place);
+        let Some(last) = last else {
+            let number = self.number(first, governor)?;
+            return Ok(Hull {
+                least: Some(number),
+                greatest: Some(number),
+                is_extensible: false,
+            });
+        };
+        let mut found = Hull {
+            least: self.range_end(first, governor)?,
+            greatest: self.range_end(last, governor)?,
+            ..ALL_NUMBERS
+        };
+        if self.find_in(place, Item::Above).is_some() {
+            found.least = found.least.map(|n| n.saturating_add(1));
+        }
+        if self.find_in(place, Item::Below).is_some() {
+            found.greatest = found.greatest.map(|n| n.saturating_sub(1));
+        }
+        Ok(found)
+    }
+
+    /// Returns the first value of a range, and the last one. `None` if there is one value alone.
+    fn ends(self, place: Place) -> (Place, Option<Place>) {
+        let mut first = None;
+        let mut inside = self.inside(place);
+        for _ in 0..self.most() {
+            let Some(index) = inside.next(self.tape) else {
+                break;
+            };
+            let value = Place { index, ..place };
+            if !self.item(value).is_value() {
+                continue;
+            }
+            match first {
+                None => first = Some(value),
+                Some(first) => return (first, Some(value)),
+            }
+        }
+        (first.unwrap_or(place), None)
+    }
+
+    /// Returns the characters of a string or of a range of characters.
+    fn characters(self, place: Place) -> Result<u128, NotationError> {
+        let (first, last) = self.ends(place);
+        let Some(last) = last else {
+            return match characters_of(self.string(first)?) {
+                Some(characters) => Ok(characters),
+                None => Err(self.not_ascii(first)),
+            };
+        };
+        let least = match self.entry(first.index).word {
+            Some(Word::Min) => 0,
+            _ => self.character(first)?,
+        };
+        let greatest = match self.entry(last.index).word {
+            Some(Word::Max) => 127,
+            _ => self.character(last)?,
+        };
+        Ok(characters_between(least, greatest))
+    }
+
+    /// Returns the number of the character that a string of one character has.
+    fn character(self, place: Place) -> Result<u8, NotationError> {
+        match self.string(place)? {
+            [octet] if *octet < 128 => Ok(*octet),
+            [octet] => Err(self.not_ascii(place)),
+            _ => Err(self.error(Problem::Expected("one character"), place)),
+        }
+    }
+
+    fn not_ascii(self, place: Place) -> NotationError {
+        let feature = "FROM with characters outside of ASCII (X.680 51.7)";
+        self.error(Problem::Unsupported(feature), place)
+    }
+
+    /// Returns what a value or a range permits.
+    fn of_values(self, place: Place, role: Role) -> Result<Permitted, NotationError> {
+        Ok(match role {
+            Role::Numbers(governor) => Permitted {
+                values: Some(self.numbers(place, governor)?),
+                ..EVERYTHING
+            },
+            Role::Characters => Permitted {
+                alphabet: Some(self.characters(place)?),
+                ..EVERYTHING
+            },
+            Role::Others => EVERYTHING,
+        })
+    }
+
+    /// Returns what an element permits.
+    #[cycle(permits)]
+    fn of_element(
+        self,
+        place: Place,
+        role: Role,
+        work: &mut Work,
+        steps: usize,
+    ) -> Result<Permitted, NotationError> {
+        if steps == 0 || work.left == 0 {
+            return Err(self.error(Problem::Circular, place));
+        }
+        work.left -= 1;
+        let first = Place {
+            index: place.index.saturating_add(1),
+            ..place
+        };
+        match self.item(place) {
+            Item::Values => self.of_values(place, role),
+            Item::Size => {
+                let inner = self.of_element(first, Role::Numbers(None), work, steps - 1)?;
+                Ok(Permitted {
+                    sizes: Some(inner.values.unwrap_or(ALL_NUMBERS)),
+                    ..EVERYTHING
+                })
+            }
+            Item::From => self.of_element(first, Role::Characters, work, steps - 1),
+            Item::Contained => {
+                let inner = self.permitted(first, work, steps - 1)?;
+                Ok(inner.without_marker())
+            }
+            Item::Union | Item::Intersection | Item::Constraint => {
+                self.of_set(place, role, work, steps - 1)
+            }
+            _ => Ok(EVERYTHING),
+        }
+    }
+
+    /// Returns what a union, an intersection or a constraint permits. What EXCEPT excludes is ignored
+    /// (X.691 10.3.21), as are the additions after an extension marker.
+    #[cycle(permits)]
+    fn of_set(
+        self,
+        place: Place,
+        role: Role,
+        work: &mut Work,
+        steps: usize,
+    ) -> Result<Permitted, NotationError> {
+        let mut found = EVERYTHING;
+        let mut is_first = true;
+        let mut inside = self.inside(place);
+        for _ in 0..self.most() {
+            let Some(index) = inside.next(self.tape) else {
+                break;
+            };
+            let part = Place { index, ..place };
+            if self.item(part) == Item::Ellipsis {
+                found = found.with_marker();
+                break;
+            }
+            if self.item(part) == Item::Except {
+                continue;
+            }
+            let inner = self.of_element(part, role, work, steps)?;
+            found = if is_first {
+                inner
+            } else if self.item(place) == Item::Union {
+                found.or(inner)
+            } else {
+                found.and(inner)
+            };
+            is_first = false;
+            if found.is_empty() {
+                return Err(self.error(Problem::Empty, part));
+            }
+        }
+        Ok(found)
+    }
+
+    /// Returns what the constraints of a type permit, after those of the type that it names.
+    #[cycle(permits)]
+    fn permitted(
+        self,
+        place: Place,
+        work: &mut Work,
+        steps: usize,
+    ) -> Result<Permitted, NotationError> {
+        if steps == 0 || work.left == 0 {
+            return Err(self.error(Problem::Circular, place));
+        }
+        work.left -= 1;
+        let mut found = match self.inner(place)? {
+            Some(inner) => self.permitted(inner, work, steps - 1)?,
+            None => EVERYTHING,
+        };
+        let base = self.base(place)?;
+        let role = match self.item(base) {
+            Item::Integer => Role::Numbers(Some(base)),
+            _ => Role::Others,
+        };
+        let mut inside = self.inside(place);
+        for _ in 0..self.most() {
+            let Some(index) = inside.next(self.tape) else {
+                break;
+            };
+            let part = Place { index, ..place };
+            if self.item(part) != Item::Constraint {
+                continue;
+            }
+            let last = self.of_element(part, role, work, steps - 1)?;
+            found = found.followed_by(last);
+            if found.is_empty() {
+                return Err(self.error(Problem::Empty, part));
+            }
+        }
+        Ok(found)
+    }
+}

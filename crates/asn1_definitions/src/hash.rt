@@ -1,0 +1,19 @@
+//! The hash of names.
+
+/// How many lists of definitions there are.
+pub const LISTS: usize = 256;
+
+/// Returns the hash of a name, as FNV-1a has it.
+pub fn hash_of(name: &[u8]) -> u64 {
+    let mut hash = 0xCBF2_9CE4_8422_2325_u64;
+    for octet in name {
+        hash = (hash ^ u64::from(*octet)).wrapping_mul(0x0100_0000_01B3);
+    }
+    hash
+}
+
+/// Returns the index of the list of a name.
+pub fn list_of(name: &[u8]) -> usize {
+    let hash = hash_of(name);
+    usize::from((hash & 0xFF) as u8)
+}

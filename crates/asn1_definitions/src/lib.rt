@@ -1,0 +1,19 @@
+//! What the definitions of modules say (X.680): what names refer to, the numbers that values are, what
+//! constraints permit, and tags. Nothing is allocated.
+#![tactic(auto)]
+
+mod characters;
+mod constraints;
+mod hash;
+mod index;
+mod numbers;
+mod permitted;
+mod scope;
+mod tags;
+
+pub use constraints::permitted_by;
+pub use hash::{LISTS, hash_of};
+pub use index::{check_imports, index_definitions, number_types};
+pub use permitted::{Hull, Permitted};
+pub use scope::{Inside, MAX_STEPS, Place, Scope};
+pub use tags::{Tag, context};

@@ -1,0 +1,322 @@
+//! What the names of a text refer to.
+
+use crate::hash::list_of;
+use asn1_notation::{Entry, Item, NO_ENTRY, NotationError, Problem, error_at, part_of, wide};
+
+/// How many names may refer to names, one after another.
+pub const MAX_STEPS: usize = 400;
+
+/// An entry, in its module.
+#[derive(Clone, Copy, PartialEq, Eq)]
+pub struct Place {
+    /// The index of the module's entry.
+    pub module: usize,
+    /// The index of the entry.
+    pub index: usize,
+}
+
+/// The entries inside another, one after another.
+#[derive(Clone, Copy)]
+pub struct Inside {
+    at: usize,
+    end: usize,
+}
+
+impl Inside {
+    /// Returns the index of the next entry. `None` if there is none.
+    pub fn next(&mut self, tape: &[Entry]) -> Option<usize> {
+        if self.end <= self.at {
+            return None;
+        }
+        let at = self.at;
+        self.at = wide(tape.get(at)?.end);
+        Some(at)
+    }
+
+    /// Returns the index of the next entry, where those of an addition group follow the group.
+    pub fn next_in_groups(&mut self, tape: &[Entry]) -> Option<usize> {
+        let at = self.next(tape)?;
+        if tape.get(at)?.item == Item::Group {
+            self.at = at.saturating_add(1);
+        }
+        Some(at)
+    }
+}
+
+/// A text, its entries, and its definitions in lists by the hash of their names.
+///
+/// A list is one more than the index of its first definition, or 0 if it is empty. The link of a
+/// definition is the same of the next one. The link of a type is one more than its node, or 0 if it
+/// has no node of its own.
+#[derive(Clone, Copy, Drop)]
+pub struct Scope<'r> {
+    /// The text.
+    pub text: &'r [u8],
+    /// Its entries.
+    pub tape: &'r [Entry],
+    /// The first definition of each list.
+    pub lists: &'r [u32],
+}
+
+impl<'r> Scope<'r> {
+    /// Returns an entry.
+    pub fn entry(self, index: usize) -> Entry {
+        match self.tape.get(index) {
+            Some(entry) => *entry,
+            None => NO_ENTRY,
+        }
+    }
+
+    /// Returns what an entry is.
+    pub fn item(self, place: Place) -> Item {
+        self.entry(place.index).item
+    }
+
+    /// Returns the index of the octet of the text at which an entry begins, with its quote.
+    pub fn at(self, place: Place) -> usize {
+        let entry = self.entry(place.index);
+        match entry.item {
+            Item::Text | Item::Bits | Item::Hex => wide(entry.from).saturating_sub(1),
+            _ => wide(entry.from),
+        }
+    }
+
+    /// Returns an error at an entry.
+    pub fn error(self, problem: Problem, place: Place) -> NotationError {
+        error_at(problem, self.at(place))
+    }
+
+    /// Returns the text of an entry.
+    pub fn text_of(self, entry: Entry) -> &'r [u8] {
+        part_of(self.text, wide(entry.from), wide(entry.count))
+    }
+
+    /// Returns the entries inside another.
+    pub fn inside(self, place: Place) -> Inside {
+        Inside {
+            at: place.index.saturating_add(1),
+            end: wide(self.entry(place.index).end),
+        }
+    }
+
+    /// Returns a number that is at least that of the entries inside another.
+    pub fn most(self) -> usize {
+        self.tape.len()
+    }
+
+    /// Returns the first entry inside another that is a type.
+    pub fn type_in(self, place: Place) -> Place {
+        let mut inside = self.inside(place);
+        for _ in 0..self.most() {
+            match inside.next(self.tape) {
+                Some(index) if self.entry(index).item.is_type() => return Place { index, ..place },
+                Some(_) => {}
+                None => break,
+            }
+        }
+        Place {
+            index: self.most(),
+            ..place
+        }
+    }
+
+    /// Returns the first entry inside another that is a value. `None` if there is none.
+    pub fn value_in(self, place: Place) -> Option<Place> {
+        let mut inside = self.inside(place);
+        for _ in 0..self.most() {
+            let index = inside.next(self.tape)?;
+            if self.entry(index).item.is_value() {
+                return Some(Place { index, ..place });
+            }
+        }
+        None
+    }
+
+    /// Returns the first entry inside another that is such an item. `None` if there is none.
+    pub fn find_in(self, place: Place, item: Item) -> Option<Place> {
+        let mut inside = self.inside(place);
+        for _ in 0..self.most() {
+            let index = inside.next(self.tape)?;
+            if self.entry(index).item == item {
+                return Some(Place { index, ..place });
+            }
+        }
+        None
+    }
+
+    /// Returns the first entry inside another that is such an item with a name, also in an addition
+    /// group. `None` if there is none.
+    pub fn named_in(self, place: Place, item: Item, name: Entry) -> Option<Place> {
+        let mut inside = self.inside(place);
+        for _ in 0..self.most() {
+            let index = inside.next_in_groups(self.tape)?;
+            let entry = self.entry(index);
+            if entry.item == item && self.is_same(entry, name) {
+                return Some(Place { index, ..place });
+            }
+        }
+        None
+    }
+
+    /// Returns whether two entries have the same text.
+    pub fn is_same(self, one: Entry, other: Entry) -> bool {
+        one.count == other.count && self.text_of(one) == self.text_of(other)
+    }
+
+    /// Returns the definition of a name in a module itself. `None` if there is none.
+    pub fn defined_in(self, module: usize, name: Entry) -> Option<usize> {
+        let end = wide(self.entry(module).end);
+        let mut next = *self.lists.get(list_of(self.text_of(name)))?;
+        for _ in 0..self.most() {
+            if next == 0 {
+                return None;
+            }
+            let index = wide(next - 1);
+            let entry = self.entry(index);
+            if module < index && index < end && self.is_same(entry, name) {
+                return Some(index);
+            }
+            next = entry.link;
+        }
+        None
+    }
+
+    /// Returns the module with a name. `None` if there is none.
+    pub fn module_named(self, name: Entry) -> Option<usize> {
+        let mut next = 0usize;
+        for _ in 0..self.most() {
+            let entry = *self.tape.get(next)?;
+            if self.is_same(entry, name) {
+                return Some(next);
+            }
+            next = wide(entry.end);
+        }
+        None
+    }
+
+    /// Returns the definition that a module imports under a name. `None` if there is none.
+    fn imported(self, module: usize, name: Entry) -> Option<Place> {
+        let mut inside = self.inside(Place {
+            module,
+            index: module,
+        });
+        for _ in 0..self.most() {
+            let index = inside.next(self.tape)?;
+            let group = Place { module, index };
+            if self.item(group) == Item::Imports
+                && self.named_in(group, Item::Import, name).is_some()
+            {
+                let from = self.find_in(group, Item::ImportModule)?;
+                let module = self.module_named(self.entry(from.index))?;
+                let index = self.defined_in(module, name)?;
+                return Some(Place { module, index });
+            }
+        }
+        None
+    }
+
+    /// Returns the definition of a name, which may be after that of its module.
+    pub fn definition(self, place: Place) -> Result<Place, NotationError> {
+        let entry = self.entry(place.index);
+        let undefined = self.error(Problem::Undefined, place);
+        match entry.item {
+            Item::ExternalReference | Item::ExternalValue => {
+                let Some(module) = self.module_named(entry) else {
+                    return Err(self.error(Problem::UnknownModule, place));
+                };
+                let name = self.entry(place.index.saturating_add(1));
+                match self.defined_in(module, name) {
+                    Some(index) => Ok(Place { module, index }),
+                    None => Err(undefined),
+                }
+            }
+            _ => match self.defined_in(place.module, entry) {
+                Some(index) => Ok(Place { index, ..place }),
+                None => self.imported(place.module, entry).ok_or(undefined),
+            },
+        }
+    }
+
+    /// Returns the alternative's type that a selection type is (X.680 30).
+    fn selected(self, place: Place) -> Result<Place, NotationError> {
+        let choice = self.type_in(place);
+        let mut found = choice;
+        for _ in 0..MAX_STEPS {
+            match self.item(found) {
+                Item::Reference | Item::ExternalReference => found = self.target(found)?,
+                Item::Tagged => found = self.type_in(found),
+                _ => break,
+            }
+        }
+        if self.item(found) != Item::Choice {
+            return Err(self.error(Problem::NotA("a CHOICE"), choice));
+        }
+        match self.named_in(found, Item::Component, self.entry(place.index)) {
+            Some(alternative) => Ok(self.type_in(alternative)),
+            None => Err(self.error(Problem::Undefined, place)),
+        }
+    }
+
+    /// Returns the type that a name refers to.
+    fn target(self, place: Place) -> Result<Place, NotationError> {
+        let found = self.definition(place)?;
+        if self.item(found) != Item::TypeDefinition {
+            return Err(self.error(Problem::NotA("a type"), place));
+        }
+        Ok(self.type_in(found))
+    }
+
+    /// Returns the type that a name refers to, that a selection type is, or that has a tag here. `None`
+    /// if a type is none of them.
+    pub fn inner(self, place: Place) -> Result<Option<Place>, NotationError> {
+        Ok(match self.item(place) {
+            Item::Reference | Item::ExternalReference => Some(self.target(place)?),
+            Item::Selection => Some(self.selected(place)?),
+            Item::Tagged => Some(self.type_in(place)),
+            _ => None,
+        })
+    }
+
+    /// Returns the type that is no name and has no tag, through names and tags.
+    pub fn base(self, place: Place) -> Result<Place, NotationError> {
+        let mut found = place;
+        for _ in 0..MAX_STEPS {
+            match self.inner(found)? {
+                Some(inner) => found = inner,
+                None => return Ok(found),
+            }
+        }
+        Err(self.error(Problem::Circular, place))
+    }
+
+    /// Returns the type that is no name, through names.
+    pub fn named_type(self, place: Place) -> Result<Place, NotationError> {
+        let mut found = place;
+        for _ in 0..MAX_STEPS {
+            if self.item(found) == Item::Tagged {
+                return Ok(found);
+            }
+            match self.inner(found)? {
+                Some(inner) => found = inner,
+                None => return Ok(found),
+            }
+        }
+        Err(self.error(Problem::Circular, place))
+    }
+
+    /// Returns the node of a type: its own, or that of the type that it refers to.
+    pub fn node_of(self, place: Place) -> Result<usize, NotationError> {
+        let mut found = place;
+        for _ in 0..MAX_STEPS {
+            let link = self.entry(found.index).link;
+            if link != 0 {
+                return Ok(wide(link - 1));
+            }
+            match self.inner(found)? {
+                Some(inner) => found = inner,
+                None => break,
+            }
+        }
+        Err(self.error(Problem::Circular, place))
+    }
+}

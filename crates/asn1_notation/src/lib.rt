@@ -1,0 +1,29 @@
+//! The notation of ASN.1 modules (X.680), read without allocation.
+//!
+//! [`parse`] writes what a text says as entries in the caller's room, or returns the first problem of
+//! the text. Every text has a result: work and depth are bounded.
+#![tactic(auto)]
+
+mod components;
+mod constraints;
+mod error;
+mod lexer;
+mod modules;
+mod parser;
+mod report;
+mod sink;
+mod tape;
+#[cfg(test)]
+mod tests;
+mod token;
+mod types;
+mod values;
+mod word;
+
+pub use error::{NotationError, Problem, error_at};
+pub use lexer::part_of;
+pub use modules::parse;
+pub use report::Report;
+pub use sink::Sink;
+pub use tape::{Entry, Item, NO_ENTRY, narrow, wide};
+pub use word::Word;

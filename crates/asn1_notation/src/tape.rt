@@ -1,0 +1,228 @@
+//! Entries: what a text says, in the order of the text. Each entry is followed by those inside it.
+
+use crate::word::Word;
+
+/// What an entry is. The comments say what is inside, in braces.
+#[derive(Clone, Copy, PartialEq, Eq)]
+pub enum Item {
+    /// A module. Its word is the default of its tags. { maybe ExtensibilityImplied, Imports..,
+    /// definitions }
+    Module,
+    /// EXTENSIBILITY IMPLIED.
+    ExtensibilityImplied,
+    /// Names that are imported from one module. { Import.., ImportModule }
+    Imports,
+    /// A name that is imported.
+    Import,
+    /// The module that names are imported from.
+    ImportModule,
+    /// { type }
+    TypeDefinition,
+    /// { type, value }
+    ValueDefinition,
+    /// A type that is a set of values (X.680 16.6). { type, Union }
+    SetDefinition,
+
+    /// A type whose word says what it is. { Constraint.. }, as each type
+    Plain,
+    /// OCTET STRING.
+    OctetString,
+    /// OBJECT IDENTIFIER.
+    ObjectIdentifier,
+    /// { Name.. }
+    Integer,
+    /// { Name.. }
+    BitString,
+    /// { Name.., maybe Ellipsis, Name.. }
+    Enumerated,
+    /// { Component, ComponentsOf, Ellipsis, Group .. }
+    Sequence,
+    /// { Component, ComponentsOf, Ellipsis, Group .. }
+    Set,
+    /// { Component, Ellipsis, Group .. }
+    Choice,
+    /// { maybe Constraint, type }
+    SequenceOf,
+    /// { maybe Constraint, type }
+    SetOf,
+    /// A type with a tag, whose class is the word. { value, maybe Explicit or Implicit, type }
+    Tagged,
+    /// The name of a type.
+    Reference,
+    /// `Module.Type`, named by the module. { ExternalName }
+    ExternalReference,
+    /// The name of a type after that of its module.
+    ExternalName,
+    /// `name < Type`. { type }
+    Selection,
+
+    /// EXPLICIT.
+    Explicit,
+    /// IMPLICIT.
+    Implicit,
+    /// A name of a number, a bit or an enumeration. { maybe value }
+    Name,
+    /// A component or an alternative. { type, maybe Optional or Default }
+    Component,
+    /// OPTIONAL.
+    Optional,
+    /// DEFAULT. Its span is the text of the value. { value }
+    Default,
+    /// COMPONENTS OF. { type }
+    ComponentsOf,
+    /// `...`
+    Ellipsis,
+    /// `[[ .. ]]`. { Component, ComponentsOf .. }
+    Group,
+
+    /// A value that is a word.
+    WordValue,
+    /// A number from 0 on.
+    Number,
+    /// A number below 0. Its span is its digits.
+    Negative,
+    /// A number with a fraction.
+    Real,
+    /// A string of characters.
+    Text,
+    /// A string of bits.
+    Bits,
+    /// A string of octets.
+    Hex,
+    /// The name of a value.
+    ValueReference,
+    /// `Module.value`, named by the module. { ValueReference }
+    ExternalValue,
+    /// `name : value`. { value }
+    Alternative,
+    /// `{ .. }`. { values, PieceName, Comma .. }
+    Braces,
+    /// A name in braces. { maybe value }
+    PieceName,
+    /// A comma in braces.
+    Comma,
+
+    /// A constraint in parentheses. { Union, maybe Ellipsis, maybe Union }
+    Constraint,
+    /// { Intersection.. }
+    Union,
+    /// { elements, each maybe followed by Except }
+    Intersection,
+    /// EXCEPT. { element }
+    Except,
+    /// ALL EXCEPT. { element }
+    AllExcept,
+    /// A value, or a range of values. { value } or { value, maybe Above, maybe Below, value }
+    Values,
+    /// `<` after the lower end.
+    Above,
+    /// `<` before the upper end.
+    Below,
+    /// SIZE. { Constraint }
+    Size,
+    /// FROM. { Constraint }
+    From,
+    /// A type whose values are meant. { Reference }
+    Contained,
+    /// WITH COMPONENT. { Constraint }
+    WithComponent,
+    /// WITH COMPONENTS. { maybe Ellipsis, Inner .. }
+    WithComponents,
+    /// What WITH COMPONENTS says of a component. { maybe Constraint, maybe Present }
+    Inner,
+    /// PRESENT, ABSENT or OPTIONAL, by its word.
+    Present,
+    /// PATTERN. { value }
+    Pattern,
+    /// CONSTRAINED BY.
+    UserDefined,
+    /// CONTAINING. { type, maybe value }
+    Containing,
+}
+
+/// An entry. The entries inside it follow it.
+#[derive(Clone, Copy, PartialEq, Eq)]
+pub struct Entry {
+    /// What it is.
+    pub item: Item,
+    /// The word that says more of it.
+    pub word: Option<Word>,
+    /// The index of the first octet of its name or of its own text.
+    pub from: u32,
+    /// How many octets that has.
+    pub count: u32,
+    /// The index of the entry after all that are inside.
+    pub end: u32,
+    /// A number for those who read the entries. The parser sets it to 0.
+    pub link: u32,
+}
+
+/// An entry that says nothing.
+pub const NO_ENTRY: Entry = Entry {
+    item: Item::Comma,
+    word: None,
+    from: 0,
+    count: 0,
+    end: 0,
+    link: 0,
+};
+
+/// Returns a number in 32 bits: the largest one if it does not fit.
+pub fn narrow(number: usize) -> u32 {
+    u32::try_from(number).unwrap_or(u32::MAX)
+}
+
+/// Returns a number as an index.
+pub fn wide(number: u32) -> usize {
+    number as usize
+}
+
+impl Item {
+    /// Returns whether an entry is a type.
+    pub fn is_type(self) -> bool {
+        match self {
+            Item::Plain
+            | Item::OctetString
+            | Item::ObjectIdentifier
+            | Item::Integer
+            | Item::BitString
+            | Item::Enumerated
+            | Item::Sequence
+            | Item::Set
+            | Item::Choice
+            | Item::SequenceOf
+            | Item::SetOf
+            | Item::Tagged
+            | Item::Reference
+            | Item::ExternalReference
+            | Item::Selection => true,
+            _ => false,
+        }
+    }
+
+    /// Returns whether an entry is a value.
+    pub fn is_value(self) -> bool {
+        match self {
+            Item::WordValue
+            | Item::Number
+            | Item::Negative
+            | Item::Real
+            | Item::Text
+            | Item::Bits
+            | Item::Hex
+            | Item::ValueReference
+            | Item::ExternalValue
+            | Item::Alternative
+            | Item::Braces => true,
+            _ => false,
+        }
+    }
+
+    /// Returns whether an entry is a definition.
+    pub fn is_definition(self) -> bool {
+        match self {
+            Item::TypeDefinition | Item::ValueDefinition | Item::SetDefinition => true,
+            _ => false,
+        }
+    }
+}

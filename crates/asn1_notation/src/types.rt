@@ -1,0 +1,320 @@
+//! Types (X.680 17 to 48).
+
+use crate::error::{NotationError, Problem};
+use crate::parser::Parser;
+use crate::tape::Item;
+use crate::token::{Symbol, TokenKind};
+use crate::word::Word;
+
+/// Returns whether a word alone is a type.
+fn is_plain(word: Word) -> bool {
+    match word {
+        Word::Boolean
+        | Word::Null
+        | Word::Real
+        | Word::External
+        | Word::Time
+        | Word::Date
+        | Word::TimeOfDay
+        | Word::DateTime
+        | Word::Duration
+        | Word::RelativeOid
+        | Word::OidIri
+        | Word::RelativeOidIri
+        | Word::BmpString
+        | Word::GeneralString
+        | Word::GraphicString
+        | Word::Ia5String
+        | Word::Iso646String
+        | Word::NumericString
+        | Word::PrintableString
+        | Word::TeletexString
+        | Word::T61String
+        | Word::UniversalString
+        | Word::Utf8String
+        | Word::VideotexString
+        | Word::VisibleString
+        | Word::GeneralizedTime
+        | Word::UtcTime
+        | Word::ObjectDescriptor => true,
+        _ => false,
+    }
+}
+
+/// Returns what of X.680 to X.683 a word begins that is not supported.
+fn unsupported(word: Word) -> Option<&'static str> {
+    Some(match word {
+        Word::Any => "ANY (X.208)",
+        Word::Class => "an information object class (X.681 9)",
+        Word::TypeIdentifier => "TYPE-IDENTIFIER (X.681 A)",
+        Word::Instance => "INSTANCE OF (X.681 C)",
+        Word::Embedded => "EMBEDDED PDV (X.680 36)",
+        Word::Character => "CHARACTER STRING (X.680 44)",
+        _ => return None,
+    })
+}
+
+impl<'m, 'a> Parser<'m, 'a> {
+    /// Reads a name of a number, a bit or an enumeration, or an extension marker.
+    fn name(&mut self) -> Result<(), NotationError> {
+        if self.sees_symbol(Symbol::Ellipsis) {
+            self.add_next(Item::Ellipsis);
+            return self.exception();
+        }
+        let index = self.begin(Item::Name);
+        self.expect(TokenKind::Lower, "a name")?;
+        if self.accept_symbol(Symbol::OpenParenthesis) {
+            self.value(1)?;
+            self.expect_symbol(Symbol::CloseParenthesis)?;
+        }
+        self.close(index);
+        Ok(())
+    }
+
+    /// Reads names in braces.
+    fn names(&mut self) -> Result<(), NotationError> {
+        self.expect_symbol(Symbol::OpenBrace)?;
+        for _ in 0..self.left() {
+            self.name()?;
+            if !self.accept_symbol(Symbol::Comma) {
+                break;
+            }
+        }
+        self.end_of_list(Symbol::CloseBrace, "`,` or `}`")
+    }
+
+    /// Takes the symbol that ends a list.
+    pub fn end_of_list(
+        &mut self,
+        symbol: Symbol,
+        expected: &'static str,
+    ) -> Result<(), NotationError> {
+        if self.accept_symbol(symbol) {
+            Ok(())
+        } else {
+            Err(self.expected(expected))
+        }
+    }
+
+    /// Reads names in braces, if there are any.
+    fn optional_names(&mut self) -> Result<(), NotationError> {
+        if self.sees_symbol(Symbol::OpenBrace) {
+            self.names()
+        } else {
+            Ok(())
+        }
+    }
+
+    /// Begins a type of two words, of which the second one is given.
+    fn two_words(&mut self, item: Item, second: Word) -> Result<usize, NotationError> {
+        let index = self.begin(item);
+        self.take();
+        self.expect_word(second)?;
+        Ok(index)
+    }
+
+    /// Begins a type that is one word.
+    fn one_word(&mut self, word: Word) -> Result<usize, NotationError> {
+        if let Some(feature) = unsupported(word) {
+            return Err(self.error(Problem::Unsupported(feature)));
+        }
+        if !is_plain(word) {
+            return Err(self.expected("a type"));
+        }
+        let token = self.take();
+        Ok(self.open(Item::Plain, Some(word), token))
+    }
+
+    /// Begins a type with no other type inside.
+    fn simple_type(&mut self) -> Result<usize, NotationError> {
+        match self.kind() {
+            TokenKind::Word(Word::Integer) => {
+                let index = self.begin(Item::Integer);
+                self.take();
+                self.optional_names()?;
+                Ok(index)
+            }
+            TokenKind::Word(Word::Enumerated) => {
+                let index = self.begin(Item::Enumerated);
+                self.take();
+                self.names()?;
+                Ok(index)
+            }
+            TokenKind::Word(Word::Bit) => {
+                let index = self.two_words(Item::BitString, Word::String)?;
+                self.optional_names()?;
+                Ok(index)
+            }
+            TokenKind::Word(Word::Octet) => self.two_words(Item::OctetString, Word::String),
+            TokenKind::Word(Word::Object) => {
+                self.two_words(Item::ObjectIdentifier, Word::Identifier)
+            }
+            TokenKind::Word(word) => self.one_word(word),
+            TokenKind::Upper => self.reference(),
+            _ => Err(self.expected("a type")),
+        }
+    }
+
+    /// Begins the name of a type, which may be after that of its module.
+    fn reference(&mut self) -> Result<usize, NotationError> {
+        if !self.sees_second_symbol(Symbol::Dot) {
+            let index = self.begin(Item::Reference);
+            self.take();
+            self.no_parameters()?;
+            return Ok(index);
+        }
+        let index = self.begin(Item::ExternalReference);
+        self.take();
+        self.take();
+        if self.sees_symbol(Symbol::Ampersand) {
+            let feature = "a field of an information object class (X.681 14)";
+            return Err(self.error(Problem::Unsupported(feature)));
+        }
+        let name = self.expect(TokenKind::Upper, "the name of a type")?;
+        self.no_parameters()?;
+        self.add(Item::ExternalName, None, name);
+        Ok(index)
+    }
+
+    /// Returns an error if the next item begins the arguments of a type.
+    fn no_parameters(&mut self) -> Result<(), NotationError> {
+        if self.sees_symbol(Symbol::OpenBrace) {
+            return Err(self.error(Problem::Unsupported("a parameterized type (X.683 9)")));
+        }
+        Ok(())
+    }
+
+    /// Takes the class of a tag (X.680 31.2). `None` is the class context-specific.
+    fn class(&mut self) -> Option<Word> {
+        match self.kind() {
+            TokenKind::Word(word @ (Word::Universal | Word::Application | Word::Private)) => {
+                self.take();
+                Some(word)
+            }
+            _ => None,
+        }
+    }
+
+    /// Takes EXPLICIT or IMPLICIT.
+    fn tagging(&mut self) {
+        if self.sees_word(Word::Implicit) {
+            self.add_next(Item::Implicit);
+        } else if self.sees_word(Word::Explicit) {
+            self.add_next(Item::Explicit);
+        }
+    }
+
+    /// Reads a type with its constraints.
+    #[cycle(types)]
+    pub fn any_type(&mut self, depth: usize) -> Result<(), NotationError> {
+        if depth == 0 {
+            return Err(self.error(Problem::TooDeep));
+        }
+        let index = match self.kind() {
+            TokenKind::Symbol(Symbol::OpenBracket) => self.tagged(depth - 1)?,
+            TokenKind::Word(Word::Choice) => {
+                let index = self.begin(Item::Choice);
+                self.take();
+                self.members(true, depth - 1)?;
+                index
+            }
+            TokenKind::Word(Word::Sequence) => {
+                self.collection(Item::Sequence, Item::SequenceOf, depth - 1)?
+            }
+            TokenKind::Word(Word::Set) => self.collection(Item::Set, Item::SetOf, depth - 1)?,
+            TokenKind::Lower => {
+                let index = self.begin(Item::Selection);
+                self.take();
+                self.expect_symbol(Symbol::Less)?;
+                self.any_type(depth - 1)?;
+                index
+            }
+            _ => self.simple_type()?,
+        };
+        for _ in 0..self.left() {
+            if !self.sees_symbol(Symbol::OpenParenthesis) {
+                break;
+            }
+            self.type_constraint(depth - 1)?;
+        }
+        self.close(index);
+        Ok(())
+    }
+
+    /// Begins a type with a tag.
+    #[cycle(types)]
+    fn tagged(&mut self, depth: usize) -> Result<usize, NotationError> {
+        let token = self.next();
+        self.expect_symbol(Symbol::OpenBracket)?;
+        let class = self.class();
+        let index = self.open(Item::Tagged, class, token);
+        self.value(1)?;
+        self.expect_symbol(Symbol::CloseBracket)?;
+        self.tagging();
+        self.any_type(depth)?;
+        Ok(index)
+    }
+
+    /// Begins a SEQUENCE or SET of components or of items.
+    #[cycle(types)]
+    fn collection(&mut self, one: Item, many: Item, depth: usize) -> Result<usize, NotationError> {
+        if self.sees_second_symbol(Symbol::OpenBrace) {
+            let index = self.begin(one);
+            self.take();
+            self.members(false, depth)?;
+            return Ok(index);
+        }
+        let index = self.begin(many);
+        self.take();
+        if !self.sees_word(Word::Of) {
+            self.size(depth)?;
+        }
+        self.expect_word(Word::Of)?;
+        if self.sees(TokenKind::Lower) && !self.sees_second_symbol(Symbol::Less) {
+            self.take();
+        }
+        self.any_type(depth)?;
+        Ok(index)
+    }
+
+    /// Reads `SIZE (..)`, or a constraint in parentheses, before OF.
+    fn size(&mut self, depth: usize) -> Result<(), NotationError> {
+        if self.sees_symbol(Symbol::OpenParenthesis) {
+            return self.constraint(depth);
+        }
+        if !self.sees_word(Word::Size) {
+            return Err(self.expected("`{`, `SIZE`, `(` or `OF`"));
+        }
+        let index = self.begin(Item::Constraint);
+        let union = self.begin(Item::Union);
+        let intersection = self.begin(Item::Intersection);
+        self.applied(Item::Size, depth)?;
+        self.close(intersection);
+        self.close(union);
+        self.close(index);
+        Ok(())
+    }
+
+    /// Reads a constraint after a type, which may name the type of its contents (X.682 11).
+    #[cycle(types)]
+    fn type_constraint(&mut self, depth: usize) -> Result<(), NotationError> {
+        if self.sees_second_word(Word::Encoded) {
+            self.take();
+            return Err(self.error(Problem::Unsupported("ENCODED BY (X.682 11)")));
+        }
+        if !self.sees_second_word(Word::Containing) {
+            return self.constraint(depth);
+        }
+        let index = self.begin(Item::Containing);
+        self.take();
+        self.take();
+        self.any_type(depth)?;
+        if self.accept_word(Word::Encoded) {
+            self.expect_word(Word::By)?;
+            self.value(depth)?;
+        }
+        self.expect_symbol(Symbol::CloseParenthesis)?;
+        self.close(index);
+        Ok(())
+    }
+}

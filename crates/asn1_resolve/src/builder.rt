@@ -1,0 +1,225 @@
+//! The tables that are made, in the caller's room.
+
+use asn1_definitions::Tag;
+use asn1_notation::{NotationError, Problem, Sink, error_at};
+use asn1_schema::{Member, Node, Presence, Range, Rows};
+use asn1_schema_values::NameSpan;
+
+/// How many components and tags the names of a text may lead to.
+const MAX_STEPS: usize = 1 << 20;
+
+/// A value of an ENUMERATED.
+#[derive(Clone, Copy, Debug, PartialEq, Eq)]
+pub struct Enumeral {
+    /// Its name.
+    pub name: NameSpan,
+    /// Its number.
+    pub number: i128,
+}
+
+/// The value after DEFAULT.
+#[derive(Clone, Copy, Debug, PartialEq, Eq)]
+pub struct DefaultText {
+    /// The text of the value.
+    pub value: NameSpan,
+    /// Its type.
+    pub node: usize,
+}
+
+/// A type with a name.
+#[derive(Clone, Copy, Debug, PartialEq, Eq)]
+pub struct NamedType {
+    /// The name of its module.
+    pub module: NameSpan,
+    /// Its name.
+    pub name: NameSpan,
+    /// Its index among the nodes.
+    pub node: usize,
+}
+
+/// A component that is to become a member.
+#[derive(Clone, Copy, Debug)]
+pub struct Draft {
+    pub(crate) member: Member,
+    pub(crate) name: NameSpan,
+    pub(crate) order: u64,
+}
+
+/// A tag or the hash of a name, where it must be distinct from others.
+#[derive(Clone, Copy, Debug, PartialEq, Eq)]
+pub struct Key {
+    pub(crate) key: u64,
+    pub(crate) is_root: bool,
+    pub(crate) span: NameSpan,
+}
+
+/// No name.
+pub const NO_NAME: NameSpan = NameSpan { from: 0, count: 0 };
+
+/// No rows.
+pub const NO_ROWS: Rows = Rows { from: 0, count: 0 };
+
+/// A component that says nothing.
+pub const NO_MEMBER: Member = Member {
+    node: 0,
+    presence: Presence::Mandatory,
+};
+
+/// A draft that says nothing.
+pub const NO_DRAFT: Draft = Draft {
+    member: NO_MEMBER,
+    name: NO_NAME,
+    order: 0,
+};
+
+/// A key that says nothing.
+pub const NO_KEY: Key = Key {
+    key: 0,
+    is_root: false,
+    span: NO_NAME,
+};
+
+/// The tables of a text's types, and the room that it takes to make them.
+#[derive(Drop)]
+pub struct Builder<'m> {
+    /// The types.
+    pub nodes: Sink<'m, Node>,
+    /// The name of each type, or none.
+    pub node_names: Sink<'m, NameSpan>,
+    /// The values of each ENUMERATED: those of its root in the order of their numbers, and then its
+    /// additions.
+    pub node_enumerals: Sink<'m, Rows>,
+    /// Components and alternatives.
+    pub members: Sink<'m, Member>,
+    /// Their names.
+    pub member_names: Sink<'m, NameSpan>,
+    /// Ranges of characters.
+    pub ranges: Sink<'m, Range>,
+    /// Values of ENUMERATED.
+    pub enumerals: Sink<'m, Enumeral>,
+    /// Values after DEFAULT.
+    pub defaults: Sink<'m, DefaultText>,
+    /// The types that have names.
+    pub types: Sink<'m, NamedType>,
+    /// The components of one type, before they are in order.
+    pub drafts: Sink<'m, Draft>,
+    /// The tags of one type that must be distinct.
+    pub tags: Sink<'m, Key>,
+    /// The names of one type.
+    pub names: Sink<'m, Key>,
+    pub(crate) steps: usize,
+}
+
+impl<'m> Builder<'m> {
+    /// Makes empty tables: the room of each table, in the order of the fields, and the room of the
+    /// components, tags and names of one type.
+    pub fn new(
+        nodes: &'m mut [Node],
+        node_names: &'m mut [NameSpan],
+        node_enumerals: &'m mut [Rows],
+        members: &'m mut [Member],
+        member_names: &'m mut [NameSpan],
+        ranges: &'m mut [Range],
+        enumerals: &'m mut [Enumeral],
+        defaults: &'m mut [DefaultText],
+        types: &'m mut [NamedType],
+        drafts: &'m mut [Draft],
+        tags: &'m mut [Key],
+        names: &'m mut [Key],
+    ) -> Builder<'m> {
+        Builder {
+            nodes: Sink::new(nodes),
+            node_names: Sink::new(node_names),
+            node_enumerals: Sink::new(node_enumerals),
+            members: Sink::new(members),
+            member_names: Sink::new(member_names),
+            ranges: Sink::new(ranges),
+            enumerals: Sink::new(enumerals),
+            defaults: Sink::new(defaults),
+            types: Sink::new(types),
+            drafts: Sink::new(drafts),
+            tags: Sink::new(tags),
+            names: Sink::new(names),
+            steps: 0,
+        }
+    }
+
+    /// Takes a step at an octet of the text.
+    pub(crate) fn step(&mut self, at: usize) -> Result<(), NotationError> {
+        self.steps = self.steps.saturating_add(1);
+        if MAX_STEPS < self.steps {
+            return Err(error_at(Problem::TooMuchWork, at));
+        }
+        Ok(())
+    }
+
+    /// Appends a node without a name.
+    pub(crate) fn push_node(&mut self, node: Node) -> usize {
+        self.node_names.push(NO_NAME);
+        self.node_enumerals.push(NO_ROWS);
+        self.nodes.push(node)
+    }
+
+    /// Adds a tag that an encoding can begin with, of the component with this name.
+    pub(crate) fn add_tag(&mut self, tag: Tag, is_root: bool, span: NameSpan) {
+        self.tags.push(Key {
+            key: tag.order(),
+            is_root,
+            span,
+        });
+    }
+
+    /// Returns the least tag of a root among those from an index on.
+    pub(crate) fn least_tag(&self, from: usize) -> u64 {
+        let mut least = u64::MAX;
+        for index in from..self.tags.count() {
+            match self.tags.get(index) {
+                Some(tag) if tag.is_root && tag.key < least => least = tag.key,
+                Some(_) => {}
+                None => break,
+            }
+        }
+        least
+    }
+
+    /// Returns an error if two of the tags are equal, and removes them.
+    pub(crate) fn check_tags(&mut self) -> Result<(), NotationError> {
+        let tags = self.tags.rows_from(0);
+        tags.sort_unstable_by_key(|tag| (tag.key, tag.span.from));
+        let mut last: Option<Key> = None;
+        for tag in tags.iter() {
+            if let Some(last) = last
+                && last.key == tag.key
+            {
+                return Err(error_at(Problem::EqualTags, tag.span.from));
+            }
+            last = Some(*tag);
+        }
+        self.tags.truncate(0);
+        Ok(())
+    }
+
+    /// Returns an error if two of the names are equal, and removes them.
+    pub(crate) fn check_names(&mut self, text: &[u8]) -> Result<(), NotationError> {
+        let names = self.names.rows_from(0);
+        names.sort_unstable_by_key(|name| (name.key, name.span.from));
+        let mut last: Option<Key> = None;
+        for name in names.iter() {
+            if let Some(last) = last
+                && last.key == name.key
+                && is_same(text, last.span, name.span)
+            {
+                return Err(error_at(Problem::Duplicate, name.span.from));
+            }
+            last = Some(*name);
+        }
+        self.names.truncate(0);
+        Ok(())
+    }
+}
+
+/// Returns whether two names are equal.
+fn is_same(text: &[u8], one: NameSpan, other: NameSpan) -> bool {
+    asn1_notation::part_of(text, one.from, one.count)
+        == asn1_notation::part_of(text, other.from, other.count)
+}

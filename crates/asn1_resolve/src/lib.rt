@@ -1,0 +1,20 @@
+//! The tables of a schema, made from the notation of its modules (X.680).
+//!
+//! [`Schema::parse`] takes the text of modules. [`resolve`] makes the same tables in the caller's
+//! room, without allocation.
+#![tactic(auto)]
+
+mod alphabet;
+mod builder;
+mod enumerated;
+mod members;
+mod modules;
+mod nodes;
+mod schema;
+mod spans;
+#[cfg(test)]
+mod tests;
+
+pub use builder::{Builder, DefaultText, Draft, Enumeral, Key, NO_DRAFT, NO_KEY, NamedType};
+pub use modules::resolve;
+pub use schema::{Schema, SchemaError};

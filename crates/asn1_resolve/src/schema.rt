@@ -1,0 +1,248 @@
+//! The tables of a text, on the heap.
+
+ghost use Rattle.std.specs.Prelude.{◌≡◌};
+
+use crate::builder::{
+    Builder, DefaultText, Draft, Enumeral, Key, NO_DRAFT, NO_KEY, NO_MEMBER, NO_NAME, NO_ROWS,
+    NamedType,
+};
+use crate::modules::resolve;
+use asn1_notation::{Entry, NO_ENTRY, NotationError, parse, part_of};
+use asn1_schema::{Member, Node, Range, Rows, Tables};
+use asn1_schema_values::{NameSpan, Names};
+use std::alloc::{AllocError, Global};
+use thiserror::Error;
+
+/// The types of a text's modules, as tables.
+#[derive(Drop)]
+pub struct Schema {
+    text: String,
+    nodes: Vec<Node>,
+    node_names: Vec<NameSpan>,
+    node_enumerals: Vec<Rows>,
+    members: Vec<Member>,
+    member_names: Vec<NameSpan>,
+    ranges: Vec<Range>,
+    enumerals: Vec<Enumeral>,
+    defaults: Vec<DefaultText>,
+    types: Vec<NamedType>,
+}
+
+/// Why there are no tables of a text.
+#[derive(Clone, Copy, Debug, PartialEq, Eq, Drop, Error)]
+pub enum SchemaError {
+    /// The text has a problem.
+    #[error("{0}")]
+    Notation(NotationError),
+    /// Out of memory.
+    #[error("out of memory")]
+    Memory,
+}
+
+impl From<AllocError> for SchemaError {
+    fn from(_error: AllocError) -> SchemaError {
+        SchemaError::Memory
+    }
+}
+
+impl From<NotationError> for SchemaError {
+    fn from(error: NotationError) -> SchemaError {
+        SchemaError::Notation(error)
+    }
+}
+
+const NO_RANGE: Range = Range { first: 0, last: 0 };
+
+const NO_ENUMERAL: Enumeral = Enumeral {
+    name: NO_NAME,
+    number: 0,
+};
+
+const NO_DEFAULT: DefaultText = DefaultText {
+    value: NO_NAME,
+    node: 0,
+};
+
+const NO_TYPE: NamedType = NamedType {
+    module: NO_NAME,
+    name: NO_NAME,
+    node: 0,
+};
+
+/// How many rows each table has.
+#[derive(Clone, Copy)]
+struct Counts {
+    nodes: usize,
+    members: usize,
+    ranges: usize,
+    enumerals: usize,
+    defaults: usize,
+    types: usize,
+    drafts: usize,
+    tags: usize,
+    names: usize,
+}
+
+/// Returns how many rows the tables of a text have.
+fn counts_of(text: &[u8], tape: &mut [Entry]) -> Result<Counts, NotationError> {
+    let mut tables = Builder::new(
+        &mut [],
+        &mut [],
+        &mut [],
+        &mut [],
+        &mut [],
+        &mut [],
+        &mut [],
+        &mut [],
+        &mut [],
+        &mut [],
+        &mut [],
+        &mut [],
+    );
+    resolve(text, tape, &mut tables)?;
+    Ok(Counts {
+        nodes: tables.nodes.most(),
+        members: tables.members.most(),
+        ranges: tables.ranges.most(),
+        enumerals: tables.enumerals.most(),
+        defaults: tables.defaults.most(),
+        types: tables.types.most(),
+        drafts: tables.drafts.most(),
+        tags: tables.tags.most(),
+        names: tables.names.most(),
+    })
+}
+
+/// Returns the entries of a text.
+fn tape_of(alloc: Global, text: &[u8]) -> Result<Vec<Entry>, SchemaError> {
+    let mut tape: Vec<Entry> = Vec::new(alloc);
+    let count = parse(text, &mut [])?;
+    tape.resize(count, NO_ENTRY)?;
+    parse(text, tape.as_mut_slice())?;
+    Ok(tape)
+}
+
+impl Schema {
+    /// Makes a schema with room for its tables.
+    fn with_room(alloc: Global, text: &str, counts: Counts) -> Result<Schema, SchemaError> {
+        let mut schema = Schema {
+            text: String::from_str(alloc, text)?,
+            nodes: Vec::new(alloc),
+            node_names: Vec::new(alloc),
+            node_enumerals: Vec::new(alloc),
+            members: Vec::new(alloc),
+            member_names: Vec::new(alloc),
+            ranges: Vec::new(alloc),
+            enumerals: Vec::new(alloc),
+            defaults: Vec::new(alloc),
+            types: Vec::new(alloc),
+        };
+        schema.nodes.resize(counts.nodes, Node::Null)?;
+        schema.node_names.resize(counts.nodes, NO_NAME)?;
+        schema.node_enumerals.resize(counts.nodes, NO_ROWS)?;
+        schema.members.resize(counts.members, NO_MEMBER)?;
+        schema.member_names.resize(counts.members, NO_NAME)?;
+        schema.ranges.resize(counts.ranges, NO_RANGE)?;
+        schema.enumerals.resize(counts.enumerals, NO_ENUMERAL)?;
+        schema.defaults.resize(counts.defaults, NO_DEFAULT)?;
+        schema.types.resize(counts.types, NO_TYPE)?;
+        Ok(schema)
+    }
+
+    /// Makes the tables of a text's modules.
+    ///
+    /// # Errors
+    ///
+    /// Returns the first problem of the text that is found, or `Memory`.
+    pub fn parse(alloc: Global, text: &str) -> Result<Schema, SchemaError> {
+        let octets = text.as_bytes();
+        let mut tape = tape_of(alloc, octets)?;
+        let counts = counts_of(octets, tape.as_mut_slice())?;
+        let mut schema = Schema::with_room(alloc, text, counts)?;
+        let mut drafts: Vec<Draft> = Vec::new(alloc);
+        let mut tags: Vec<Key> = Vec::new(alloc);
+        let mut names: Vec<Key> = Vec::new(alloc);
+        drafts.resize(counts.drafts, NO_DRAFT)?;
+        tags.resize(counts.tags, NO_KEY)?;
+        names.resize(counts.names, NO_KEY)?;
+        let mut tables = Builder::new(
+            schema.nodes.as_mut_slice(),
+            schema.node_names.as_mut_slice(),
+            schema.node_enumerals.as_mut_slice(),
+            schema.members.as_mut_slice(),
+            schema.member_names.as_mut_slice(),
+            schema.ranges.as_mut_slice(),
+            schema.enumerals.as_mut_slice(),
+            schema.defaults.as_mut_slice(),
+            schema.types.as_mut_slice(),
+            drafts.as_mut_slice(),
+            tags.as_mut_slice(),
+            names.as_mut_slice(),
+        );
+        resolve(octets, tape.as_mut_slice(), &mut tables)?;
+        Ok(schema)
+    }
+
+    /// Returns the tables, as decoders and encoders take them.
+    pub fn tables(&self) -> Tables<'_>
+        ensures nodes { result.nodes.now ≡ self.now.nodes.items }
+        ensures members { result.members.now ≡ self.now.members.items }
+        ensures ranges { result.ranges.now ≡ self.now.ranges.items }
+    {
+        Tables {
+            nodes: self.nodes.as_slice(),
+            members: self.members.as_slice(),
+            ranges: self.ranges.as_slice(),
+        }
+    }
+
+    /// Returns the names of what is in the tables.
+    pub fn names(&self) -> Names<'_>
+        ensures nodes { result.nodes.now ≡ self.now.node_names.items }
+        ensures members { result.members.now ≡ self.now.member_names.items }
+    {
+        Names {
+            text: self.text.as_str().as_bytes(),
+            nodes: self.node_names.as_slice(),
+            members: self.member_names.as_slice(),
+        }
+    }
+
+    /// Returns the types that have names, in the order of the text.
+    pub fn types(&self) -> &[NamedType]
+        ensures { result.now ≡ self.now.types.items }
+    {
+        self.types.as_slice()
+    }
+
+    /// Returns the values after DEFAULT, by the index that `Presence::Default` has.
+    pub fn defaults(&self) -> &[DefaultText]
+        ensures { result.now ≡ self.now.defaults.items }
+    {
+        self.defaults.as_slice()
+    }
+
+    /// Returns the text of a name.
+    pub fn text_of(&self, span: NameSpan) -> &[u8] {
+        part_of(self.text.as_str().as_bytes(), span.from, span.count)
+    }
+
+    /// Returns the values of an ENUMERATED, by the index that its parts have. Another type has none.
+    pub fn enumerals(&self, node: usize) -> &[Enumeral] {
+        let Some(rows) = self.node_enumerals.as_slice().get(node) else {
+            return &[];
+        };
+        let end = rows.from.saturating_add(rows.count as usize);
+        self.enumerals.as_slice().get(rows.from..end).unwrap_or(&[])
+    }
+
+    /// Returns the index of the first type with this name. `None` if there is none.
+    pub fn node_named(&self, name: &str) -> Option<usize> {
+        for named in self.types.as_slice() {
+            if self.text_of(named.name) == name.as_bytes() {
+                return Some(named.node);
+            }
+        }
+        None
+    }
+}
