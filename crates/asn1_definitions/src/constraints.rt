@@ -177,7 +177,7 @@ impl<'r> Scope<'r> {
     }
 
     /// Returns what a union, an intersection or a constraint permits. What EXCEPT excludes is ignored
-    /// (X.691 10.3.21), as are the additions after an extension marker.
+    /// (X.691 10.3), as are the additions after an extension marker.
     #[cycle(permits)]
     fn of_set(
         self,

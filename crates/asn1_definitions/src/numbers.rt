@@ -33,7 +33,7 @@ impl<'r> Scope<'r> {
     }
 
     /// Returns the number that a value is, through names. The names of numbers that the INTEGER
-    /// `governor` has are looked up first (X.680 19.5).
+    /// `governor` has are looked up first (X.680 19).
     pub fn number(self, place: Place, governor: Option<Place>) -> Result<i128, NotationError> {
         let mut found = place;
         let mut governor = governor;

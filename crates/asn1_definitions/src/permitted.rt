@@ -125,7 +125,7 @@ fn marked(hull: Option<Hull>, is_extensible: bool) -> Option<Hull> {
 }
 
 impl Permitted {
-    /// Returns what both permit (X.691 10.3.20: what is not visible is ignored).
+    /// Returns what both permit (X.691 10.3: what is not visible is ignored).
     pub fn and(self, other: Permitted) -> Permitted {
         Permitted {
             values: both(self.values, other.values),
@@ -151,7 +151,7 @@ impl Permitted {
     }
 
     /// Returns what a constraint on a type with this one permits. Only the last constraint makes a
-    /// type extensible (X.680 50.8).
+    /// type extensible (X.680 50).
     pub fn followed_by(self, last: Permitted) -> Permitted {
         if last == EVERYTHING {
             self
