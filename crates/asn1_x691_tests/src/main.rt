@@ -44,7 +44,12 @@ fn decoded<'a>(
     if octets.len() > 1_000_000 {
         return Err(wrong(alloc, "octets", "short message"));
     }
-    let context = context_of(octets, is_aligned, schema);
+    let context = Context {
+        tables: tables_of(schema),
+        defaults: defaults_of(schema),
+        octets,
+        is_aligned,
+    };
     let mut room = vec![in alloc; Part::Absent; ROOM]?;
     match decode(&context, DEPTH, schema.node, room.as_mut_slice()) {
         Ok(count) => {
@@ -94,8 +99,28 @@ fn is_encoded_again(
     }
 }
 
-/// Encodes a value of one type as one of another, into so many octets. Returns the octets, or how many
-/// it needs where there are none, or the misfit.
+/// Encodes a value into so many octets. Returns them, or how many it needs where there are none, or the
+/// misfit.
+fn message_of(
+    alloc: Global,
+    room: usize,
+    value: &Value<'_>,
+    node: usize,
+) -> Result<String, RowError> {
+    if value.source.len() > 1_000_000 || value.parts.len() > ROOM || room > LARGE {
+        return Err(wrong(alloc, "octets", "short message"));
+    }
+    let mut message = vec![in alloc; 0u8; room]?;
+    match encode(value, DEPTH, node, message.as_mut_slice()) {
+        Ok(encoded) => match message.as_slice().get(..encoded.octets) {
+            Some(message) => hex_of(alloc, message),
+            None => Ok(format!(in alloc; "{}", encoded.octets)?),
+        },
+        Err(misfit) => Ok(format!(in alloc; "{:?} part {}", misfit.reason, misfit.part)?),
+    }
+}
+
+/// Encodes a value of one type as one of another, into so many octets.
 fn encoded_as(
     alloc: Global,
     is_aligned: bool,
@@ -107,7 +132,12 @@ fn encoded_as(
     if octets.len() > 1_000_000 {
         return Err(wrong(alloc, "octets", "short message"));
     }
-    let context = context_of(octets, is_aligned, from);
+    let context = Context {
+        tables: tables_of(from),
+        defaults: defaults_of(from),
+        octets,
+        is_aligned,
+    };
     let mut parts = vec![in alloc; Part::Absent; ROOM]?;
     let Ok(count) = decode(&context, DEPTH, from.node, parts.as_mut_slice()) else {
         return Err(wrong(alloc, "octets", "message of the first type"));
@@ -115,38 +145,30 @@ fn encoded_as(
     let Some(parts) = parts.as_slice().get(..count) else {
         return Err(wrong(alloc, "octets", "value of few parts"));
     };
-    let other = context_of(octets, is_aligned, to);
     let value = Value {
-        tables: other.tables,
-        defaults: other.defaults,
+        tables: tables_of(to),
+        defaults: defaults_of(to),
         parts,
         source: octets,
         is_aligned,
     };
-    let mut message = vec![in alloc; 0u8; room]?;
-    match encode(&value, DEPTH, to.node, message.as_mut_slice()) {
-        Ok(encoded) => match message.as_slice().get(..encoded.octets) {
-            Some(message) => hex_of(alloc, message),
-            None => Ok(format!(in alloc; "{}", encoded.octets)?),
-        },
-        Err(misfit) => Ok(format!(in alloc; "{:?} part {}", misfit.reason, misfit.part)?),
+    message_of(alloc, room, &value, to.node)
+}
+
+/// Returns the tables of a type.
+fn tables_of<'a>(schema: &'a Schema) -> Tables<'a> {
+    Tables {
+        nodes: schema.nodes.as_slice(),
+        members: schema.members.as_slice(),
+        ranges: schema.ranges.as_slice(),
     }
 }
 
-/// The tables of a type, and octets.
-fn context_of<'a>(octets: &'a [u8], is_aligned: bool, schema: &'a Schema) -> Context<'a> {
-    Context {
-        tables: Tables {
-            nodes: schema.nodes.as_slice(),
-            members: schema.members.as_slice(),
-            ranges: schema.ranges.as_slice(),
-        },
-        defaults: Defaults {
-            octets: schema.default_octets.as_slice(),
-            spans: schema.default_spans.as_slice(),
-        },
-        octets,
-        is_aligned,
+/// Returns the encodings of the default values of a type.
+fn defaults_of<'a>(schema: &'a Schema) -> Defaults<'a> {
+    Defaults {
+        octets: schema.default_octets.as_slice(),
+        spans: schema.default_spans.as_slice(),
     }
 }
 
