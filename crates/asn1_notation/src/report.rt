@@ -5,7 +5,7 @@ use crate::lexer::next_token;
 use crate::token::TokenKind;
 use std::fmt;
 
-/// An error and the text that it is in. Its `Display` has the line and the column, what is wrong, and
+/// An error and the text that it is in. Its `Display` writes the line and the column, the problem, and
 /// the line with a caret under the octet:
 ///
 /// ```text

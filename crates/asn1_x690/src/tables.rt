@@ -70,7 +70,7 @@ pub struct FirstTags {
     pub is_any: bool,
 }
 
-/// The tables that stand beside those of a schema.
+/// The tables that DER needs beside those of a schema: tags, and numbers of ENUMERATED.
 #[derive(Clone, Copy, Debug)]
 pub struct TagTables<'s> {
     /// Of each node: its tags.

@@ -126,7 +126,7 @@ module _ {K X : Type 0} (is : X → Piece) (Yes : X → Type 0) (kind : K) (node
   abbrev TW : Parts → Misfit → Type 0
   TW tape e = (told is Yes kind node F).misfit tape e
 
-  -- what is wrong with the part of x, or after it
+  -- the misfit of the part of x, or of a part after it
   abbrev V : X → Parts → Parts → Misfit → Type 0
   V x tape rest e = (¬ (Yes x) × IsAtPart NoEncoding node tape e) ⊎ (Yes x × F.misfit x rest e)
 
