@@ -1,3 +1,4 @@
+pub mod BackLemmas
 pub mod DottedLemmas
 pub mod ParseLemmas
 pub mod PushLemmas

@@ -1,10 +1,11 @@
 -- Octets appended to a vector's octets.
 use Rattle.std.proofs.Common.{◌≡◌, ℕ, zero, suc, ◌+◌, ◌-◌, ◌*◌, ◌/◌, ◌%◌, ◌^◌, ◌<◌, ◌≤◌, List, [], ◌∷◌, ◌++◌, length, take, get_or, refl, sym, ap, ◌∙◌, append_assoc, append-nil, arith}
 use Rattle.std.specs.List.{flat_map}
+use Rattle.std.proofs.Math.Seq.{take-length}
 use Rattle.std.proofs.lemmas.List.{length-append, take_more, flat_map_more}
-use Rattle.asn1_oid.specs.Writing.{last_octets, low_octets, HasDigits, digit_count, subidentifier_octets, word_left}
+use Rattle.asn1_oid.specs.Writing.{last_octets, low_octets, HasDigits, digit_count, subidentifier_octets, word_left, both_left}
 use Rattle.asn1_oid.specs.WritingLaws.{digits_of, same_digits, length-last_octets, last_octet, octet_before}
-use Rattle.asn1_oid.proofs.WritingLemmas.{length-word_left}
+use Rattle.asn1_oid.proofs.WritingLemmas.{length-both_left}
 
 -- ---- the octets of a subidentifier
 
@@ -37,7 +38,7 @@ small_pushed old new n lt e =
 
 -- ---- the octets of a word
 
-lowest_first : (word k : ℕ) → 0 < k → low_octets word k ≡ word % 256 ∷ low_octets (word / 256) (k - 1)
+pub lowest_first : (word k : ℕ) → 0 < k → low_octets word k ≡ word % 256 ∷ low_octets (word / 256) (k - 1)
 unfolding low_octets
 lowest_first word zero some = absurd (omega arith)
 lowest_first word (suc k) some =
@@ -102,8 +103,20 @@ arcs_have_octets (arc ∷ arcs) =
     omega arith
 
 -- the room that is asked for is at most five times the octets that are left
-pub room_is_within : (word k : ℕ) (arcs : List ℕ) → 5 * length arcs + k ≤ 5 * length (word_left word k arcs)
-room_is_within word k arcs =
-    let sum = length-word_left word k (length (flat_map subidentifier_octets arcs)) arcs refl in
+pub room_is_within : (word k : ℕ) (arcs : List ℕ) (back n : ℕ)
+    → 5 * length arcs + k + n ≤ 5 * length (both_left word k arcs back n)
+room_is_within word k arcs back n =
+    let sum = length-both_left word k (length (flat_map subidentifier_octets arcs)) arcs back n refl in
     let some = arcs_have_octets arcs in
     omega arith
+
+-- and at last the octets of the second word
+pub back_pushed : (old between new : List ℕ) (word k : ℕ) (arcs : List ℕ) (back n i : ℕ) → length arcs ≡ i
+    → between ≡ old ++ word_left word k (take i arcs) → new ≡ between ++ low_octets back n
+    → new ≡ old ++ both_left word k arcs back n
+unfolding both_left
+back_pushed old between new word k arcs back n i done so_far pushed =
+    let all : take i arcs ≡ arcs = ap (λ (j : ℕ). take j arcs) (sym done) ∙ take-length arcs in
+    pushed ∙ ap (λ (l : List ℕ). l ++ low_octets back n) so_far
+    ∙ append_assoc old (word_left word k (take i arcs)) (low_octets back n)
+    ∙ ap (λ (l : List ℕ). old ++ (word_left word k l ++ low_octets back n)) all

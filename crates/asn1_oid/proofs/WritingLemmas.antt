@@ -1,10 +1,10 @@
 -- The octets that are given one after another, and their number.
-use Rattle.std.proofs.Common.{◌≡◌, ℕ, zero, suc, ◌+◌, ◌-◌, ◌*◌, ◌/◌, ◌%◌, ◌^◌, ◌<◌, List, [], ◌∷◌, ◌++◌, length, take, get_or, refl, sym, ap, subst, ◌∙◌, arith}
+use Rattle.std.proofs.Common.{◌≡◌, ℕ, zero, suc, ◌+◌, ◌-◌, ◌*◌, ◌/◌, ◌%◌, ◌^◌, ◌<◌, List, [], ◌∷◌, ◌++◌, length, take, get_or, refl, sym, ap, subst, ◌∙◌, append-nil, arith}
 use Rattle.std.specs.List.{flat_map}
 use Rattle.std.proofs.lemmas.List.{length-append, take_more, flat_map_more}
 use Rattle.asn1_oid.specs.Arcs.{IsValidArcs}
 use Rattle.asn1_oid.specs.Contents.{AreSubidentifiers, subidentifiers, IsContents}
-use Rattle.asn1_oid.specs.Writing.{last_octets, low_octets, HasDigits, digit_count, subidentifier_octets, octets_left, word_left}
+use Rattle.asn1_oid.specs.Writing.{last_octets, low_octets, HasDigits, digit_count, subidentifier_octets, octets_left, word_left, both_left}
 use Rattle.asn1_oid.specs.WritingLaws.{digits_of, same_digits, length-last_octets, last_octet, octet_before, left_are}
 
 -- ---- what is left, and how many octets there are
@@ -92,13 +92,22 @@ unfolding low_octets
 length-low_octets word zero = refl
 length-low_octets word (suc k) = ap suc (length-low_octets (word / 256) k)
 
-pub length-word_left : (word k more : ℕ) (arcs : List ℕ) → more ≡ length (flat_map subidentifier_octets arcs)
-    → k + more ≡ length (word_left word k arcs)
-unfolding word_left
-length-word_left word k more arcs e =
-    let sum = length-append (low_octets word k) (flat_map subidentifier_octets arcs) in
+pub length-both_left : (word k more : ℕ) (arcs : List ℕ) (back n : ℕ)
+    → more ≡ length (flat_map subidentifier_octets arcs) → k + more + n ≡ length (both_left word k arcs back n)
+unfolding word_left both_left
+length-both_left word k more arcs back n e =
+    let low : List ℕ = low_octets word k in
+    let front : List ℕ = low ++ flat_map subidentifier_octets arcs in
+    let all = length-append front (low_octets back n) in
+    let sum = length-append low (flat_map subidentifier_octets arcs) in
     let first = length-low_octets word k in
+    let last = length-low_octets back n in
     omega arith
+
+-- with nothing from the back
+pub both_left-zero : (word k : ℕ) (arcs : List ℕ) → both_left word k arcs 0 0 ≡ word_left word k arcs
+unfolding both_left low_octets
+both_left-zero word k arcs = append-nil (word_left word k arcs)
 
 -- ---- one octet after another
 

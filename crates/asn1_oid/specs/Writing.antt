@@ -37,3 +37,7 @@ low_octets word (suc k) = word % 256 ∷ low_octets (word / 256) k
 -- k octets of a word, and the subidentifiers of further arcs
 unfoldable pub word_left : ℕ → ℕ → List ℕ → List ℕ
 word_left word k arcs = low_octets word k ++ flat_map subidentifier_octets arcs
+
+-- then the lowest octets of a word after them
+unfoldable pub both_left : ℕ → ℕ → List ℕ → ℕ → ℕ → List ℕ
+both_left word k arcs back n = word_left word k arcs ++ low_octets back n

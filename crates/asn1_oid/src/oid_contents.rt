@@ -2,29 +2,33 @@
 
 ghost use Rattle.std.specs.Prelude.{◌≡◌, ◌<◌, ◌≤◌, ◌*◌, ◌^◌, ◌+◌, ℕ, List, [], ◌++◌, length, vec_len, vec_capacity, OnOk, OnErr, IsOk};
 ghost use Rattle.std.specs.List.{flat_map};
-ghost use Rattle.std.specs.Iterator.{YieldsFirst, item_count};
-ghost use Rattle.asn1_oid.specs.Writing.{HasDigits, last_octets, low_octets, octets_left, subidentifier_octets, word_left};
+ghost use Rattle.std.specs.Iterator.{YieldsFirst, YieldsLast, item_count};
+ghost use Rattle.asn1_oid.specs.Writing.{HasDigits, both_left, last_octets, low_octets, octets_left, subidentifier_octets};
 
 use crate::pushes::{push_arc, push_word};
 use std::alloc::AllocError;
 use std::marker::Model;
 
-/// An iterator over the octets of an identifier's contents that are left, in their order.
+/// An iterator over the octets of an identifier's contents that are left, from either end.
 #[derive(Debug, Drop)]
 pub struct OidContents<'a> {
     // The octets of the current subidentifier that are left, the first in the lowest eight bits;
-    // their number; and the arcs behind it.
+    // their number; and the arcs after it.
     octets: u64,
     left: u32,
     arcs: &'a [u32],
+    // The octets that are left of the subidentifier after those arcs, which only `next_back` reads
+    // from an arc, the first in the lowest eight bits; and their number.
+    back: u64,
+    back_left: u32,
 }
 
 impl<'a> Model for OidContents<'a> {
     ghost Value = { List ℕ };
 
-    ghost view = { λ s. word_left s.octets s.left s.arcs.now };
+    ghost view = { λ s. both_left s.octets s.left s.arcs.now s.back s.back_left };
 
-    ghost invariant = { λ s. s.left ≤ 5 };
+    ghost invariant = { λ s. (s.left ≤ 5) × (s.back_left ≤ 5) };
 }
 
 /// The number of octets of a subidentifier: its binary digits divided by seven, rounded up, and at
@@ -74,6 +78,35 @@ fn octets_in_word(number: u64) -> (u64, u32)
     (256 * four + 128 + (number >> 28) % 128, 5)
 }
 
+/// Takes the first octet out of a word of so many octets.
+fn take_first(word: &mut u64, count: &mut u32) -> Option<u8>
+    ensures first { YieldsFirst (λ w. w) (low_octets word.old count.old) result
+        (low_octets word.new count.new) }
+    ensures fewer { count.new ≤ count.old }
+{
+    if *count == 0 {
+        return None;
+    }
+    let octet = (*word % 256) as u8;
+    *word /= 256;
+    *count -= 1;
+    Some(octet)
+}
+
+/// Takes the last octet out of a word of so many octets.
+fn take_last(word: u64, count: &mut u32) -> Option<u8>
+    requires { count.old ≤ 5 }
+    ensures last { YieldsLast (λ w. w) (low_octets word count.old) result
+        (low_octets word count.new) }
+    ensures fewer { count.new ≤ count.old }
+{
+    if *count == 0 {
+        return None;
+    }
+    *count -= 1;
+    Some(((word >> (8 * *count)) % 256) as u8)
+}
+
 /// How many octets the subidentifiers of further arcs have.
 pub(crate) fn octets_of_arcs(arcs: &[u32]) -> usize
     ensures len { result ≡ length (flat_map subidentifier_octets arcs.now) }
@@ -93,14 +126,20 @@ impl<'a> OidContents<'a> {
         ensures { (k : ℕ) → HasDigits number k → result ≡ octets_left number k arcs.now }
     {
         let (octets, left) = octets_in_word(number);
-        OidContents { octets, left, arcs }
+        OidContents {
+            octets,
+            left,
+            arcs,
+            back: 0,
+            back_left: 0,
+        }
     }
 
     /// Returns how many octets are left.
     fn count_left(&self) -> usize
         ensures { result ≡ length self.now }
     {
-        self.left as usize + octets_of_arcs(self.arcs)
+        self.left as usize + octets_of_arcs(self.arcs) + self.back_left as usize
     }
 
     /// Appends the octets that are left to the vector, faster than pushing each. It reserves once,
@@ -119,12 +158,15 @@ impl<'a> OidContents<'a> {
             octets: word,
             left,
             arcs,
+            back,
+            back_left,
         } = self;
-        octets.reserve(5 * arcs.len() + left as usize)?;
+        octets.reserve(5 * arcs.len() + left as usize + back_left as usize)?;
         push_word(octets, word, left);
         for arc in arcs {
             push_arc(octets, *arc);
         }
+        push_word(octets, back, back_left);
         Ok(())
     }
 }
@@ -142,6 +184,8 @@ impl<'a> Clone for OidContents<'a> {
             octets: self.octets,
             left: self.left,
             arcs: self.arcs,
+            back: self.back,
+            back_left: self.back_left,
         })
     }
 }
@@ -159,7 +203,9 @@ impl<'a> Iterator for OidContents<'a> {
 
     fn next(&mut self) -> Option<u8> {
         if self.left == 0 {
-            let (arc, others) = self.arcs.split_first()?;
+            let Some((arc, others)) = self.arcs.split_first() else {
+                return take_first(&mut self.back, &mut self.back_left);
+            };
             self.arcs = others;
             if *arc < 128 {
                 return Some(*arc as u8);
@@ -187,5 +233,20 @@ impl<'a> ExactSizeIterator for OidContents<'a> {
     /// Returns how many octets are left. It goes over the arcs that are left.
     fn len(&self) -> usize {
         self.count_left()
+    }
+}
+
+impl<'a> DoubleEndedIterator for OidContents<'a> {
+    ghost next_back_gives = { YieldsLast (λ s. s) };
+
+    fn next_back(&mut self) -> Option<u8> {
+        if self.back_left == 0 {
+            let Some((arc, others)) = self.arcs.split_last() else {
+                return take_last(self.octets, &mut self.left);
+            };
+            self.arcs = others;
+            (self.back, self.back_left) = octets_in_word(u64::from(*arc));
+        }
+        take_last(self.back, &mut self.back_left)
     }
 }

@@ -86,6 +86,8 @@ fn of_arcs(
         "size_hint" => hint_of(alloc, contents, count),
         "len" => len_of(alloc, contents, count),
         "append_to" => append_contents(alloc, contents, count, octets),
+        "ends_then_append" => append_between(alloc, contents, count, octets.as_slice()),
+        "ends_then_collect" => collect_between(alloc, contents, count, octets.as_slice()),
         "has_room_of_at_most" => has_room(alloc, contents, count, octets),
         _ => Err(wrong(alloc, name, "function of arcs and octets")),
     }
@@ -154,6 +156,64 @@ fn append_contents(
     text.push(' ')?;
     text.push_str(hex_of(alloc, octets.as_slice())?.as_str())?;
     Ok(text)
+}
+
+/// Takes octets from the ends that are named, 00 for the front and other octets for the back, so
+/// many times over.
+fn take_ends(
+    alloc: Global,
+    contents: &mut OidContents<'_>,
+    times: usize,
+    ends: &[u8],
+) -> Result<Vec<u8>, RowError> {
+    let mut octets = Vec::new(alloc);
+    for _ in 0..times {
+        for end in ends {
+            let taken = if *end == 0 {
+                contents.next()
+            } else {
+                contents.next_back()
+            };
+            if let Some(octet) = taken {
+                octets.push(octet)?;
+            }
+        }
+    }
+    Ok(octets)
+}
+
+/// The octets that were taken, how many are left, and the others.
+fn show_ends(alloc: Global, taken: &[u8], len: usize, others: &[u8]) -> Result<String, RowError> {
+    let taken = hex_of(alloc, taken)?;
+    let others = hex_of(alloc, others)?;
+    Ok(format!(in alloc; "{taken} {len} {others}")?)
+}
+
+/// The octets of the ends, and the others appended at once.
+fn append_between(
+    alloc: Global,
+    mut contents: OidContents<'_>,
+    times: usize,
+    ends: &[u8],
+) -> Result<String, RowError> {
+    let taken = take_ends(alloc, &mut contents, times, ends)?;
+    let len = contents.len();
+    let mut others = Vec::new(alloc);
+    contents.append_to(&mut others)?;
+    show_ends(alloc, taken.as_slice(), len, others.as_slice())
+}
+
+/// The octets of the ends, and the others of a copy one by one.
+fn collect_between(
+    alloc: Global,
+    mut contents: OidContents<'_>,
+    times: usize,
+    ends: &[u8],
+) -> Result<String, RowError> {
+    let taken = take_ends(alloc, &mut contents, times, ends)?;
+    let len = contents.len();
+    let others = contents.clone()?.collect::<Vec<u8>>(alloc)?;
+    show_ends(alloc, taken.as_slice(), len, others.as_slice())
 }
 
 /// Whether octets with the contents behind them have no more room than the limit.
