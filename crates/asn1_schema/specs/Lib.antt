@@ -4,6 +4,7 @@ pub mod Order
 pub mod Pieces
 pub mod CharactersOfParts
 pub mod PiecesOfParts
+pub mod Room
 pub mod Fields
 pub mod TypeEncodings
 pub mod Example

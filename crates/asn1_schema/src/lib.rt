@@ -8,9 +8,11 @@
 mod laws;
 mod misfit;
 mod part;
+mod room;
 mod tables;
 
 pub use laws::laws_of_an_example;
 pub use misfit::MisfitKind;
 pub use part::{Characters, Codes, Fragments, Natural, Part, Span};
+pub use room::{push_part, replace_part};
 pub use tables::{Bounds, Length, LowerBound, Member, Node, Presence, Range, Rows, Tables};
