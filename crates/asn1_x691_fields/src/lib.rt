@@ -44,6 +44,7 @@ pub use integers::{next_integer, next_integer_at_least, next_integer_between};
 pub use lengths::{next_length, next_small_length};
 pub use numbers::{above, next_constrained, next_in_bits, next_number, width_to};
 pub use octet_strings::next_octet_string;
+pub use signed::{is_below, is_between, signed_at};
 pub use sized_texts::is_inline_text;
 pub use sizes::{next_added_length, next_length_at_least};
 pub use small::next_small_number;

@@ -29,7 +29,7 @@ fn below_minus_one(n: u128) -> i128
 }
 
 /// Returns the number that at most 16 octets are.
-fn signed_at(octets: &[u8], span: Span) -> i128
+pub fn signed_at(octets: &[u8], span: Span) -> i128
     requires size { 8 * length octets.now < 2 ^ 64 }
     requires some { 0 < span.count }
     requires few { span.count ≤ 128 }
@@ -46,7 +46,7 @@ fn signed_at(octets: &[u8], span: Span) -> i128
 
 /// Returns whether octets, no more than they need, are a number between two bounds. More than 16
 /// octets are none.
-pub(crate) fn is_between(octets: &[u8], span: Span, least: i128, range: u128) -> bool
+pub fn is_between(octets: &[u8], span: Span, least: i128, range: u128) -> bool
     requires size { 8 * length octets.now < 2 ^ 64 }
     requires fits { (least +ℤ pos range) <ℤ pos (2 ^ 127) }
     requires some { 0 < span.count }
@@ -65,7 +65,7 @@ pub(crate) fn is_between(octets: &[u8], span: Span, least: i128, range: u128) ->
 
 /// Returns whether octets, no more than they need, are a number below a bound. More than 16 octets
 /// are below it where their first bit is 1.
-pub(crate) fn is_below(octets: &[u8], span: Span, bound: i128) -> bool
+pub fn is_below(octets: &[u8], span: Span, bound: i128) -> bool
     requires size { 8 * length octets.now < 2 ^ 64 }
     requires some { 0 < span.count }
     requires whole { span.count % 8 ≡ 0 }

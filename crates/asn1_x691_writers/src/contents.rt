@@ -65,7 +65,7 @@ pub fn put_contents(
 }
 
 /// Returns whether bits of a source are octets of this kind.
-fn is_valid(kind: ContentsKind, source: &[u8], span: Span) -> bool
+pub fn is_valid(kind: ContentsKind, source: &[u8], span: Span) -> bool
     requires source { 8 * length source.now < 2 ^ 64 }
     requires inside { span.at + span.count ≤ 8 * length source.now }
     ensures whole { result ≡ true → span.count % 8 ≡ 0 }

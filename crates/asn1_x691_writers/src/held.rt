@@ -17,7 +17,7 @@ use asn1_x691_fields::above;
 
 /// The number that a part holds.
 #[derive(Clone, Copy, Debug)]
-pub(crate) enum Held {
+pub enum Held {
     /// A number from -2^127 to 2^127 - 1.
     Number(i128),
     /// A greater number.
@@ -29,7 +29,7 @@ pub(crate) enum Held {
 }
 
 /// Returns the number that a part holds.
-pub(crate) fn integer_of(source: &[u8], part: Part) -> Held
+pub fn integer_of(source: &[u8], part: Part) -> Held
     requires { 8 * length source.now < 2 ^ 64 }
     ensures { (ranges : List Range) → IsHeld (piece_in ranges source.now part) result }
 {
@@ -48,7 +48,7 @@ pub(crate) fn integer_of(source: &[u8], part: Part) -> Held
 }
 
 /// Returns the bit at an index.
-pub(crate) fn bit_at(source: &[u8], at: usize) -> bool
+pub fn bit_at(source: &[u8], at: usize) -> bool
     requires { at + 1 ≤ 8 * length source.now }
     ensures { bits_at (bits source.now) at 1 ≡ result ∷ [] }
 {
@@ -93,7 +93,7 @@ fn above_of(source: &[u8], least: i128, span: Span) -> Held
 }
 
 /// Returns a span of two's complement without the bits at its begin that repeat the sign.
-pub(crate) fn strip_signs(source: &[u8], span: Span) -> Span
+pub fn strip_signs(source: &[u8], span: Span) -> Span
     requires source { 8 * length source.now < 2 ^ 64 }
     requires inside { span.at + span.count ≤ 8 * length source.now }
     ensures inside { result.at + result.count ≤ 8 * length source.now }
