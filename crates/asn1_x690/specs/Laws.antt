@@ -1,6 +1,7 @@
 -- Laws of the definitions: no contract cites one.
 pub mod SeriesLaws
 pub mod ElementLaws
+pub mod WholeLaws
 pub mod ContentsLaws
 pub mod HeadedLaws
 pub mod TypeContentsLaws

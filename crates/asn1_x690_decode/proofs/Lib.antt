@@ -1,2 +1,11 @@
--- Lemmas of the proofs.
-mod WalkSteps
+pub mod StateSteps
+pub mod ItemSteps
+pub mod ElementSteps
+pub mod LeafSteps
+pub mod TagSteps
+pub mod MemberSteps
+pub mod SequenceSteps
+pub mod ChoiceSteps
+pub mod ListSteps
+pub mod ValueSteps
+pub mod MessageSteps

@@ -1,6 +1,6 @@
 -- What a decoder of DER did.
-pub mod Elements
-pub mod Room
-pub mod Walks
--- Laws of the definitions: no contract cites one.
-pub mod ElementLaws
+pub mod Tables
+pub mod Decoding
+pub mod Members
+pub mod Alternatives
+pub mod Messages

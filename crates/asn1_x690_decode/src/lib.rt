@@ -1,11 +1,17 @@
-//! Decodes DER (X.690).
-//!
-//! [`decode_elements`] walks over the elements of any octets in DER. It asks for no schema.
+//! Decodes DER (X.690 10, 11) by a schema: the parts of a message, or its first fault.
 #![tactic(auto)]
 
-mod elements;
-mod laws;
-mod room;
+mod additions;
+mod choice;
+mod context;
+mod element;
+mod leaves;
+mod list;
+mod members;
+mod message;
+mod sequence;
+mod tagged;
 
-pub use elements::{Fault, decode_elements};
-pub use laws::laws_of_elements;
+pub use asn1_x691_fields::Defaults;
+pub use context::Context;
+pub use message::{Fault, Prefix, decode, decode_prefix};

@@ -1,0 +1,43 @@
+//! Members of the tables.
+
+ghost use Rattle.std.specs.Prelude.{◌≡◌, ◌+◌, slice_get};
+ghost use Rattle.asn1_x690_decode.specs.Members.{is_required as is_required_by};
+
+use asn1_schema::{Member, Presence};
+use asn1_x690::FirstTags;
+
+/// Returns the member so many after an index.
+#[inline(always)]
+pub(crate) fn member_at(members: &[Member], from: usize, index: usize) -> Option<Member>
+    ensures { result ≡ slice_get members.now (from + index) }
+{
+    if from < members.len() && index < members.len() - from {
+        Some(members[from + index])
+    } else {
+        None
+    }
+}
+
+/// Returns the first tags of the member so many after an index.
+#[inline(always)]
+pub(crate) fn first_at(members: &[FirstTags], from: usize, index: usize) -> Option<FirstTags>
+    ensures { result ≡ slice_get members.now (from + index) }
+{
+    if from < members.len() && index < members.len() - from {
+        Some(members[from + index])
+    } else {
+        None
+    }
+}
+
+/// Returns whether a component must be present. An addition may be absent.
+#[inline(always)]
+pub(crate) fn is_required(are_additions: bool, presence: Presence) -> bool
+    ensures { result ≡ is_required_by are_additions presence }
+{
+    match presence {
+        Presence::Mandatory => !are_additions,
+        Presence::Optional => false,
+        Presence::Default { value: _ } => false,
+    }
+}

@@ -1,0 +1,4 @@
+pub mod SpanSteps
+pub mod IntegerSteps
+pub mod BitStringSteps
+pub mod TextSteps

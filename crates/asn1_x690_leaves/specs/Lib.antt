@@ -1,0 +1,3 @@
+-- What a call tells of the contents octets of a type of one part.
+pub mod Told
+pub mod Values

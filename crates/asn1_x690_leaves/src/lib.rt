@@ -1,0 +1,23 @@
+//! Reads the contents octets of the types of one part, as DER has them (X.690 8, 11).
+//!
+//! A call takes the octets of a message and the bits of it that are the contents. It returns the
+//! part, or the kind of the fault before them.
+#![tactic(auto)]
+
+mod bit_strings;
+mod booleans;
+mod enumerations;
+mod identifiers;
+mod integers;
+mod sizes;
+mod strings;
+mod texts;
+
+pub use bit_strings::{are_bits_permitted, bit_string};
+pub use booleans::{boolean, null};
+pub use enumerations::enumerated;
+pub use identifiers::{object_identifier, relative_identifier};
+pub use integers::{integer, integer_at_least, integer_between};
+pub use sizes::has_size;
+pub use strings::{octet_string, utf8_string};
+pub use texts::text;
