@@ -1,0 +1,191 @@
+-- The answers, by the module that they are of.
+mod Elements
+mod Nodes
+mod Sequences
+mod Choices
+mod Lists
+mod Values
+use Rattle.asn1_x690_encode.proofs.+encoding.Answers.Elements as elements
+use Rattle.asn1_x690_encode.proofs.+encoding.Answers.Nodes as nodes
+use Rattle.asn1_x690_encode.proofs.+encoding.Answers.Sequences as sequences
+use Rattle.asn1_x690_encode.proofs.+encoding.Answers.Choices as choices
+use Rattle.asn1_x690_encode.proofs.+encoding.Answers.Lists as lists
+use Rattle.asn1_x690_encode.proofs.+encoding.Answers.Values as values
+use Rattle.asn1_x690_encode.proofs.+encoding.Goals as goal
+
+pub element::encode_around-returns-in-Some : goal.element::encode_around-returns-in-Some
+element::encode_around-returns-in-Some = elements.encode_around-returns-in-Some
+
+pub element::encode_tagged-returns-else-is_empty : goal.element::encode_tagged-returns-else-is_empty
+element::encode_tagged-returns-else-is_empty = elements.encode_tagged-returns-else-is_empty
+
+pub element::encode_inner-returns-in-Tagged : goal.element::encode_inner-returns-in-Tagged
+element::encode_inner-returns-in-Tagged = elements.encode_inner-returns-in-Tagged
+
+pub element::encode_inner-returns-in-Around : goal.element::encode_inner-returns-in-Around
+element::encode_inner-returns-in-Around = elements.encode_inner-returns-in-Around
+
+pub element::encode_enclosed-returns-then-state-ge-MOST : goal.element::encode_enclosed-returns-then-state-ge-MOST
+element::encode_enclosed-returns-then-state-ge-MOST = elements.encode_enclosed-returns-then-state-ge-MOST
+
+pub element::encode_enclosed-returns : goal.element::encode_enclosed-returns
+element::encode_enclosed-returns = elements.encode_enclosed-returns
+
+pub element::encode_enclosed-returns-then-not-encode_inner : goal.element::encode_enclosed-returns-then-not-encode_inner
+element::encode_enclosed-returns-then-not-encode_inner = elements.encode_enclosed-returns-then-not-encode_inner
+
+pub node::encode_node-returns-then-is_headed : goal.node::encode_node-returns-then-is_headed
+node::encode_node-returns-then-is_headed = nodes.encode_node-returns-then-is_headed
+
+pub node::encode_node-returns : goal.node::encode_node-returns
+node::encode_node-returns = nodes.encode_node-returns
+
+pub node::encode_contents-returns-else-is_extensible : goal.node::encode_contents-returns-else-is_extensible
+node::encode_contents-returns-else-is_extensible = nodes.encode_contents-returns-else-is_extensible
+
+pub node::encode_contents-returns-in-SequenceOf : goal.node::encode_contents-returns-in-SequenceOf
+node::encode_contents-returns-in-SequenceOf = nodes.encode_contents-returns-in-SequenceOf
+
+pub node::encode_contents-returns-in-SetOf : goal.node::encode_contents-returns-in-SetOf
+node::encode_contents-returns-in-SetOf = nodes.encode_contents-returns-in-SetOf
+
+pub node::encode_headed-returns-else-is_extensible : goal.node::encode_headed-returns-else-is_extensible
+node::encode_headed-returns-else-is_extensible = nodes.encode_headed-returns-else-is_extensible
+
+pub node::encode_headed-returns-then-is_extensible : goal.node::encode_headed-returns-then-is_extensible
+node::encode_headed-returns-then-is_extensible = nodes.encode_headed-returns-then-is_extensible
+
+pub sequence::encode_components-returns-in-Mandatory : goal.sequence::encode_components-returns-in-Mandatory
+sequence::encode_components-returns-in-Mandatory = sequences.encode_components-returns-in-Mandatory
+
+pub sequence::encode_components-returns-in-Some-first_tags_at : goal.sequence::encode_components-returns-in-Some-first_tags_at
+sequence::encode_components-returns-in-Some-first_tags_at = sequences.encode_components-returns-in-Some-first_tags_at
+
+pub sequence::encode_required-encode_components-requires : goal.sequence::encode_required-encode_components-requires
+sequence::encode_required-encode_components-requires = sequences.encode_required-encode_components-requires
+
+pub sequence::encode_required-returns-in_err-encode_components : goal.sequence::encode_required-returns-in_err-encode_components
+sequence::encode_required-returns-in_err-encode_components = sequences.encode_required-returns-in_err-encode_components
+
+pub sequence::encode_required-returns : goal.sequence::encode_required-returns
+sequence::encode_required-returns = sequences.encode_required-returns
+
+pub sequence::encode_optional-returns-then-begins_with : goal.sequence::encode_optional-returns-then-begins_with
+sequence::encode_optional-returns-then-begins_with = sequences.encode_optional-returns-then-begins_with
+
+pub sequence::encode_optional-returns-then-is_absent : goal.sequence::encode_optional-returns-then-is_absent
+sequence::encode_optional-returns-then-is_absent = sequences.encode_optional-returns-then-is_absent
+
+pub sequence::encode_optional-returns-in_err-found : goal.sequence::encode_optional-returns-in_err-found
+sequence::encode_optional-returns-in_err-found = sequences.encode_optional-returns-in_err-found
+
+pub sequence::encode_optional-encode_components-requires-2 : goal.sequence::encode_optional-encode_components-requires-2
+sequence::encode_optional-encode_components-requires-2 = sequences.encode_optional-encode_components-requires-2
+
+pub sequence::encode_optional-returns-in_err-encode_components : goal.sequence::encode_optional-returns-in_err-encode_components
+sequence::encode_optional-returns-in_err-encode_components = sequences.encode_optional-returns-in_err-encode_components
+
+pub sequence::encode_optional-returns-then-not-has_tag : goal.sequence::encode_optional-returns-then-not-has_tag
+sequence::encode_optional-returns-then-not-has_tag = sequences.encode_optional-returns-then-not-has_tag
+
+pub sequence::encode_optional-returns : goal.sequence::encode_optional-returns
+sequence::encode_optional-returns = sequences.encode_optional-returns
+
+pub sequence::encode_sequence-returns-then-not-is_sequence : goal.sequence::encode_sequence-returns-then-not-is_sequence
+sequence::encode_sequence-returns-then-not-is_sequence = sequences.encode_sequence-returns-then-not-is_sequence
+
+pub sequence::encode_sequence-overflow_add-state : goal.sequence::encode_sequence-overflow_add-state
+sequence::encode_sequence-overflow_add-state = sequences.encode_sequence-overflow_add-state
+
+pub sequence::encode_sequence-returns-in-None : goal.sequence::encode_sequence-returns-in-None
+sequence::encode_sequence-returns-in-None = sequences.encode_sequence-returns-in-None
+
+pub sequence::encode_sequence-returns-else-not-is_sequence : goal.sequence::encode_sequence-returns-else-not-is_sequence
+sequence::encode_sequence-returns-else-not-is_sequence = sequences.encode_sequence-returns-else-not-is_sequence
+
+pub choice::encode_alternatives-returns-in-None : goal.choice::encode_alternatives-returns-in-None
+choice::encode_alternatives-returns-in-None = choices.encode_alternatives-returns-in-None
+
+pub choice::encode_alternatives-overflow_add-state : goal.choice::encode_alternatives-overflow_add-state
+choice::encode_alternatives-overflow_add-state = choices.encode_alternatives-overflow_add-state
+
+pub choice::encode_alternatives-returns-in_err-found-in-Some-part_at : goal.choice::encode_alternatives-returns-in_err-found-in-Some-part_at
+choice::encode_alternatives-returns-in_err-found-in-Some-part_at = choices.encode_alternatives-returns-in_err-found-in-Some-part_at
+
+pub choice::encode_alternatives-returns-then-not-has_tag : goal.choice::encode_alternatives-returns-then-not-has_tag
+choice::encode_alternatives-returns-then-not-has_tag = choices.encode_alternatives-returns-then-not-has_tag
+
+pub choice::encode_alternatives-returns-then-is_chosen : goal.choice::encode_alternatives-returns-then-is_chosen
+choice::encode_alternatives-returns-then-is_chosen = choices.encode_alternatives-returns-then-is_chosen
+
+pub choice::encode_alternatives-returns-in_err-other-in-Some-part_at : goal.choice::encode_alternatives-returns-in_err-other-in-Some-part_at
+choice::encode_alternatives-returns-in_err-other-in-Some-part_at = choices.encode_alternatives-returns-in_err-other-in-Some-part_at
+
+pub choice::encode_alternatives-returns-then-has_tag : goal.choice::encode_alternatives-returns-then-has_tag
+choice::encode_alternatives-returns-then-has_tag = choices.encode_alternatives-returns-then-has_tag
+
+pub choice::encode_alternatives-returns-else-has_tag : goal.choice::encode_alternatives-returns-else-has_tag
+choice::encode_alternatives-returns-else-has_tag = choices.encode_alternatives-returns-else-has_tag
+
+pub list::encode_list-returns-in-None : goal.list::encode_list-returns-in-None
+list::encode_list-returns-in-None = lists.encode_list-returns-in-None
+
+pub list::encode_list-returns-in-None-count_of : goal.list::encode_list-returns-in-None-count_of
+list::encode_list-returns-in-None-count_of = lists.encode_list-returns-in-None-count_of
+
+pub list::encode_list-returns-then-not-has_size : goal.list::encode_list-returns-then-not-has_size
+list::encode_list-returns-then-not-has_size = lists.encode_list-returns-then-not-has_size
+
+pub list::encode_list-overflow_add-state : goal.list::encode_list-overflow_add-state
+list::encode_list-overflow_add-state = lists.encode_list-overflow_add-state
+
+pub list::encode_list-returns-else-not-has_size : goal.list::encode_list-returns-else-not-has_size
+list::encode_list-returns-else-not-has_size = lists.encode_list-returns-else-not-has_size
+
+pub list::encode_items-loop-left-init : goal.list::encode_items-loop-left-init
+list::encode_items-loop-left-init = lists.encode_items-loop-left-init
+
+pub list::encode_items-loop-left-preserved : goal.list::encode_items-loop-left-preserved
+list::encode_items-loop-left-preserved = lists.encode_items-loop-left-preserved
+
+pub list::encode_items-encode_node-requires : goal.list::encode_items-encode_node-requires
+list::encode_items-encode_node-requires = lists.encode_items-encode_node-requires
+
+pub list::encode_items-returns-then-is_none : goal.list::encode_items-returns-then-is_none
+list::encode_items-returns-then-is_none = lists.encode_items-returns-then-is_none
+
+pub list::encode_items-returns : goal.list::encode_items-returns
+list::encode_items-returns = lists.encode_items-returns
+
+pub value::encode_value-returns-in-Mandatory : goal.value::encode_value-returns-in-Mandatory
+value::encode_value-returns-in-Mandatory = values.encode_value-returns-in-Mandatory
+
+pub value::encode_value-returns-in-Optional : goal.value::encode_value-returns-in-Optional
+value::encode_value-returns-in-Optional = values.encode_value-returns-in-Optional
+
+pub value::encode_value-returns-in-Default : goal.value::encode_value-returns-in-Default
+value::encode_value-returns-in-Default = values.encode_value-returns-in-Default
+
+pub value::encode_other_than-returns-then-not-is_other : goal.value::encode_other_than-returns-then-not-is_other
+value::encode_other_than-returns-then-not-is_other = values.encode_other_than-returns-then-not-is_other
+
+pub value::encode_other_than-returns-then-not-is_in : goal.value::encode_other_than-returns-then-not-is_in
+value::encode_other_than-returns-then-not-is_in = values.encode_other_than-returns-then-not-is_in
+
+pub value::encode_other_than-returns-then-is_default : goal.value::encode_other_than-returns-then-is_default
+value::encode_other_than-returns-then-is_default = values.encode_other_than-returns-then-is_default
+
+pub value::encode_other_than-returns : goal.value::encode_other_than-returns
+value::encode_other_than-returns = values.encode_other_than-returns
+
+pub value::is_other-returns-in-None-clause-compared : goal.value::is_other-returns-in-None-clause-compared
+value::is_other-returns-in-None-clause-compared = values.is_other-returns-in-None-clause-compared
+
+pub value::is_other-returns-then-not-is_in-clause-compared : goal.value::is_other-returns-then-not-is_in-clause-compared
+value::is_other-returns-then-not-is_in-clause-compared = values.is_other-returns-then-not-is_in-clause-compared
+
+pub value::is_other-returns-then-is_default-clause-compared : goal.value::is_other-returns-then-is_default-clause-compared
+value::is_other-returns-then-is_default-clause-compared = values.is_other-returns-then-is_default-clause-compared
+
+pub value::is_other-returns-else-is_default-clause-compared : goal.value::is_other-returns-else-is_default-clause-compared
+value::is_other-returns-else-is_default-clause-compared = values.is_other-returns-else-is_default-clause-compared

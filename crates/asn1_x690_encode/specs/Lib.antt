@@ -1,0 +1,15 @@
+-- What an encoder did.
+pub mod Kinds
+pub mod Encoding
+pub mod Compared
+pub mod Messages
+-- What follows of what calls did; no contract cites it.
+pub mod Steps
+pub mod EnclosedSteps
+pub mod NodeSteps
+pub mod ToldSteps
+pub mod FirstSteps
+pub mod PlaceSteps
+pub mod OtherSteps
+pub mod ListSteps
+pub mod ChoiceSteps

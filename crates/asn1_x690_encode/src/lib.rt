@@ -1,0 +1,18 @@
+//! Encodes by the distinguished encoding rules (X.690 10 and 11).
+#![tactic(auto)]
+
+mod choice;
+mod context;
+mod element;
+mod first_tags;
+mod inner;
+mod leaf;
+mod list;
+mod message;
+mod node;
+mod sequence;
+mod value;
+mod within;
+
+pub use context::Context;
+pub use message::{Encoded, Misfit, encode};

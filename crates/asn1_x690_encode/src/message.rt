@@ -1,0 +1,75 @@
+//! Encodes messages.
+
+ghost use Rattle.std.specs.Prelude.{◌-◌, ◌*◌, ◌^◌, ◌<◌, length, IfOk, IfErr};
+ghost use Rattle.asn1_x690_encode.specs.Messages.{IsMessage, IsRejected};
+
+use crate::context::Context;
+use crate::node::encode_node;
+use asn1_x691_writers::{Rejection, Writer};
+use thiserror::Error;
+
+/// What was encoded.
+#[derive(Clone, Copy, Debug, PartialEq, Eq)]
+pub struct Encoded {
+    /// How many octets the element has, also where there was no room for them; 2^61 - 1 where it has
+    /// so many or more.
+    pub octets: usize,
+    /// How many parts the value has.
+    pub parts: usize,
+}
+
+/// Why parts were not encoded.
+#[derive(Clone, Copy, Debug, PartialEq, Eq, Error)]
+#[error("part {part}, type {node}: {reason:?}")]
+pub struct Misfit {
+    /// The node of the schema.
+    pub node: usize,
+    /// The index of the part.
+    pub part: usize,
+    /// Why the part has no encoding, or is not encoded.
+    pub reason: Rejection,
+}
+
+/// Encodes the value of the type at a node that the first parts of a context are, as an element
+/// (X.690 8.1.1). A value may be nested less deep than `depth`. `octets` receives the element; where it
+/// has too few octets for it, the result still tells how many are needed, and the octets have no
+/// meaning. There are fewer than 2^61 octets, in `octets` and in the source.
+///
+/// # Errors
+///
+/// Returns the first misfit: the part that does not fit the type at a node, and why. The octets have
+/// no meaning then. Two reasons are no misfit:
+///
+/// - [`Rejection::Unsupported`]: the part is left. What is left is defined in `specs/Encoding`.
+/// - [`Rejection::NoRoom`]: the part begins a value of more than 504 bits that must be compared with a
+///   default value, and the octets are too few for it.
+pub fn encode(
+    context: &Context<'_>,
+    depth: usize,
+    node: usize,
+    octets: &mut [u8],
+) -> Result<Encoded, Misfit>
+    requires size { 8 * length octets.old < 2 ^ 64 }
+    requires source { 8 * length context.now.source.now < 2 ^ 64 }
+    requires parts { length context.now.parts.now < 2 ^ 64 - 1 }
+    ensures encoded { IfOk result (λ e. IsMessage context.now depth node octets.new e) }
+    ensures misfit { IfErr result (λ e. IsRejected context.now depth node e) }
+{
+    let mut state = Writer {
+        at: 0,
+        next: 0,
+        node,
+        reason: Rejection::Unsupported,
+    };
+    match encode_node(context, depth, node, octets, &mut state) {
+        None => Err(Misfit {
+            node: state.node,
+            part: state.next,
+            reason: state.reason,
+        }),
+        Some(_) => Ok(Encoded {
+            octets: state.at / 8,
+            parts: state.next,
+        }),
+    }
+}

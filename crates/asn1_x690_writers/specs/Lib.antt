@@ -1,0 +1,11 @@
+-- What a call wrote.
+pub mod Written
+pub mod Put
+pub mod Leaf
+pub mod Numbers
+pub mod Strings
+-- What follows of what calls wrote; no contract cites it.
+pub mod EnumeratedSteps
+pub mod HeaderSteps
+pub mod NumberSteps
+pub mod PutSteps

@@ -1,0 +1,30 @@
+-- What a call that writes a part did: it wrote the contents octets of the part, or it names the misfit.
+use Rattle.std.specs.Prelude.{◌≡◌, ℕ, ◌%◌, ◌⊎◌, Bool, true, false, List, [], ◌∷◌, length}
+use Rattle.asn1_schema.specs.declared.misfit.MisfitKind.{MisfitKind}
+use Rattle.asn1_schema.specs.Pieces.{Piece, Parts}
+use Rattle.asn1_x690.specs.declared.fault.FaultKind.{FaultKind}
+use Rattle.asn1_x690.specs.TypeContents.{TypeContents}
+use Rattle.asn1_x691_writers.specs.declared.state.Writer.{Writer}
+use Rattle.asn1_x691_writers.specs.declared.state.Rejection.TheVariants.{Misfit, Unsupported}
+use Rattle.asn1_x691_writers.specs.Put.{IsUnchanged}
+use Rattle.asn1_x691_writers.specs.Written.{IsGrown}
+
+-- whole octets that the part fills were written
+pub record IsPutOne (F : TypeContents FaultKind) (p : Piece) (was : List ℕ) (old : Writer) (now : List ℕ) (new : Writer) : Type 0 where
+  pub list : List Bool
+  pub fills : F.contents.fills (p ∷ []) list
+  pub whole : length list % 8 ≡ 0
+  pub grown : IsGrown was old.at now new.at list
+  pub next : new.next ≡ old.next
+
+-- parts that begin with this one begin with no value, and the state names their first misfit
+pub record IsMisfit (F : TypeContents FaultKind) (p : Piece) (new : Writer) : Type 0 where
+  pub kind : MisfitKind
+  pub reason : new.reason ≡ Misfit kind
+  pub first : (rest : Parts) → F.misfit (p ∷ rest) (record { node = new.node; left = length (p ∷ rest); kind = kind })
+
+-- the part was written, or nothing was: it has no encoding, or it is left, and `Left` holds then
+abbrev pub IsPut : Type 0 → TypeContents FaultKind → Piece → List ℕ → Writer → List ℕ → Writer → Bool → Type 0
+IsPut Left F p was old now new true = IsPutOne F p was old now new
+IsPut Left F p was old now new false =
+    (IsMisfit F p new ⊎ ((new.reason ≡ Unsupported) × Left)) × IsUnchanged was old now new

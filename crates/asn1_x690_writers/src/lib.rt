@@ -1,0 +1,21 @@
+//! Writes the fields of X.690: identifier octets, lengths, and the contents octets of values of one
+//! part.
+//!
+//! A call writes to octets of its caller, and allocates nothing. Where they are too few, it counts
+//! on: it returns the index that it would have reached with enough of them.
+#![tactic(auto)]
+
+mod bit_strings;
+mod enumerations;
+mod identifiers;
+mod integers;
+mod leaf;
+mod lengths;
+mod octet_strings;
+mod simple;
+mod sizes;
+
+pub use identifiers::put_identifier;
+pub use leaf::put_leaf;
+pub use lengths::put_length_before;
+pub use sizes::has_size;

@@ -1,0 +1,75 @@
+//! OCTET STRING (X.690 8.7), and octets that are kept by their contents: identifiers (8.19, 8.20) and
+//! UTF-8 (8.23.10).
+
+ghost use Rattle.std.specs.Prelude.{List, ◌*◌, ◌^◌, ◌<◌, length};
+ghost use Rattle.asn1_schema.specs.declared.tables.Range.{Range};
+ghost use Rattle.asn1_schema.specs.Pieces.{Octets};
+ghost use Rattle.asn1_x690.specs.Der.{always};
+ghost use Rattle.asn1_x690.specs.Leaves.{AreOctets, AreSized, IsKept, leaf_of};
+ghost use Rattle.asn1_x690_writers.specs.Put.{IsPut};
+ghost use Rattle.asn1_x691_writers.specs.Put.{IsInFragments, piece_in};
+ghost use Rattle.asn1_x691_writers.specs.Validity.{IsValid};
+
+use crate::sizes::has_size;
+use asn1_schema::{Length, MisfitKind, Part};
+use asn1_x691_writers::{ContentsKind, Writer, clip, is_valid, leave, put_bits, reject};
+
+/// Writes octets of a size that the constraint permits.
+pub(crate) fn put_octet_string(
+    octets: &mut [u8],
+    size: Length,
+    is_extensible: bool,
+    source: &[u8],
+    part: Part,
+    node: usize,
+    state: &mut Writer,
+) -> bool
+    requires size { 8 * length octets.old < 2 ^ 64 }
+    requires source { 8 * length source.now < 2 ^ 64 }
+    ensures { (ranges : List Range) → IsPut (IsInFragments part) (leaf_of AreOctets (AreSized is_extensible size) Octets node) (piece_in ranges source.now part)
+        octets.old state.old octets.new state.new result }
+{
+    match part {
+        Part::Octets(span) => {
+            let inside = clip(source, span);
+            if inside.count % 8 > 0 {
+                return reject(state, node, MisfitKind::NoEncoding);
+            }
+            if !has_size(size, is_extensible, inside.count / 8) {
+                return reject(state, node, MisfitKind::NoEncoding);
+            }
+            state.at = put_bits(octets, state.at, source, inside.at, inside.count);
+            true
+        }
+        Part::OctetsInFragments(_) => leave(state, node),
+        _ => reject(state, node, MisfitKind::OtherPart),
+    }
+}
+
+/// Writes octets of this kind.
+pub(crate) fn put_kept(
+    octets: &mut [u8],
+    kind: ContentsKind,
+    source: &[u8],
+    part: Part,
+    node: usize,
+    state: &mut Writer,
+) -> bool
+    requires size { 8 * length octets.old < 2 ^ 64 }
+    requires source { 8 * length source.now < 2 ^ 64 }
+    ensures { (ranges : List Range) → IsPut (IsInFragments part) (leaf_of (IsKept (IsValid kind)) always Octets node) (piece_in ranges source.now part)
+        octets.old state.old octets.new state.new result }
+{
+    match part {
+        Part::Octets(span) => {
+            let inside = clip(source, span);
+            if !is_valid(kind, source, inside) {
+                return reject(state, node, MisfitKind::NoEncoding);
+            }
+            state.at = put_bits(octets, state.at, source, inside.at, inside.count);
+            true
+        }
+        Part::OctetsInFragments(_) => leave(state, node),
+        _ => reject(state, node, MisfitKind::OtherPart),
+    }
+}
