@@ -3,12 +3,23 @@
 //! A row has octets, as `elements 0500 = 2+0:prim:u5`. Its answer is a word for each element: the
 //! index of the first contents octet, how many there are, the form, and the class and the number of the
 //! tag. Or it is the text of the first fault. `scripts/x690-rows` makes the rows.
+//!
+//! A row of `der` has octets and a type in the words of `asn1_schema_rows`, as `der 3003800105 seq:1 ! int =
+//! seq1 i5`; its components have automatic tags. The answer is the parts or the first fault; a row of
+//! `der-error` has the text of the fault. What is decoded is encoded again and measured, unless the type
+//! has a part that the encoder leaves. `scripts/x691-vectors` makes them with another compiler, and
+//! `scripts/x690-model` damages their messages.
 #![tactic(auto)]
 
+use asn1_schema::{Node, Part, Tables};
+use asn1_schema_rows::{Schema, Source, schema_of, text_of};
 use asn1_test_rows::{Answers, RowError, octets, run, wrong};
 use asn1_x690::Class;
-use asn1_x690_decode::decode_elements;
+use asn1_x690_decode::{Context, Defaults, decode};
+use asn1_x690_elements::decode_elements;
+use asn1_x690_encode::{Context as Value, encode};
 use asn1_x690_fields::{FoundIdentifier, Header};
+use asn1_x691_writers::Rejection;
 use std::alloc::Global;
 use std::io::BufReader;
 use std::process::ExitCode;
@@ -79,6 +90,95 @@ fn elements_of(alloc: Global, octets: &[u8]) -> Result<String, RowError> {
     }
 }
 
+/// Returns whether the encoder leaves values of a type.
+fn is_left(node: &Node) -> bool {
+    match *node {
+        Node::Text { .. } | Node::SetOf { .. } => true,
+        Node::Sequence { is_extensible, .. } | Node::Choice { is_extensible, .. } => is_extensible,
+        _ => false,
+    }
+}
+
+/// Encodes the parts of a message, and returns whether that makes the message again, or leaves a part of
+/// a type that is left. Without room the same number of octets is needed, unless a value of more than 504
+/// bits must be compared.
+fn is_encoded_again(
+    alloc: Global,
+    context: &Context<'_>,
+    node: usize,
+    parts: &[Part],
+) -> Result<bool, RowError> {
+    let octets = context.octets;
+    if parts.len() > ROOM || octets.len() > 1_000_000 {
+        return Ok(false);
+    }
+    let value = Value {
+        tables: context.tables,
+        tags: context.tags,
+        defaults: context.defaults,
+        parts,
+        source: octets,
+    };
+    let is_left = context.tables.nodes.iter().any(is_left);
+    let is_measured = match encode(&value, DEPTH, node, &mut []) {
+        Ok(encoded) => encoded.octets == octets.len(),
+        Err(misfit) if misfit.reason == Rejection::NoRoom => octets.len() > 63,
+        Err(misfit) => is_left && misfit.reason == Rejection::Unsupported,
+    };
+    let mut room = vec![in alloc; 0u8; octets.len() + 8]?;
+    match encode(&value, DEPTH, node, room.as_mut_slice()) {
+        Ok(encoded) => { Ok(is_measured && room.as_slice().get(..encoded.octets) == Some(octets)) }
+        Err(misfit) => Ok(is_measured && is_left && misfit.reason == Rejection::Unsupported),
+    }
+}
+
+/// Decodes octets by the type that words name, and returns the parts or the fault; the fault by its text,
+/// if so asked.
+fn decoded(
+    alloc: Global,
+    in_words: bool,
+    octets: &[u8],
+    schema: &Schema,
+) -> Result<String, RowError> {
+    if octets.len() > 1_000_000 {
+        return Err(wrong(alloc, "octets", "short message"));
+    }
+    let context = Context {
+        tables: Tables {
+            nodes: schema.nodes.as_slice(),
+            members: schema.members.as_slice(),
+            ranges: schema.ranges.as_slice(),
+        },
+        tags: schema.tags.tables(),
+        defaults: Defaults {
+            octets: schema.default_octets.as_slice(),
+            spans: schema.default_spans.as_slice(),
+        },
+        octets,
+    };
+    let mut room = vec![in alloc; Part::Absent; ROOM]?;
+    match decode(&context, DEPTH, schema.node, room.as_mut_slice()) {
+        Ok(count) => {
+            let parts = room.as_slice().get(..count).unwrap_or(&[]);
+            if !is_encoded_again(alloc, &context, schema.node, parts)? {
+                return Ok(String::from_str(alloc, "encoded otherwise")?);
+            }
+            let source = Source {
+                octets,
+                ranges: schema.ranges.as_slice(),
+            };
+            text_of(alloc, source, room.as_slice(), count)
+        }
+        Err(fault) if in_words => Ok(format!(in alloc; "{fault}")?),
+        Err(fault) => {
+            let kind = fault.kind;
+            let node = fault.node;
+            let at = fault.at / 8;
+            Ok(format!(in alloc; "fault {kind:?} {node} {at}")?)
+        }
+    }
+}
+
 /// The calls of the rows.
 struct Calls;
 
@@ -88,6 +188,16 @@ impl Answers for Calls {
             ("elements", [message]) => {
                 let message = octets(alloc, message)?;
                 elements_of(alloc, message.as_slice())
+            }
+            ("der", [message, words @ ..]) => {
+                let message = octets(alloc, message)?;
+                let schema = schema_of(alloc, false, words)?;
+                decoded(alloc, false, message.as_slice(), &schema)
+            }
+            ("der-error", [message, words @ ..]) => {
+                let message = octets(alloc, message)?;
+                let schema = schema_of(alloc, false, words)?;
+                decoded(alloc, true, message.as_slice(), &schema)
             }
             _ => Err(wrong(alloc, call, "call with octets")),
         }

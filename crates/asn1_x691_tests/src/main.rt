@@ -9,12 +9,8 @@
 //! it needs.
 #![tactic(auto)]
 
-mod parts;
-mod types;
-
-use crate::parts::Source;
-use crate::types::{Schema, schema_of};
 use asn1_schema::{Part, Tables};
+use asn1_schema_rows::{Schema, Source, schema_of, text_of};
 use asn1_test_rows::{Answers, RowError, hex_of, octets, run, wrong};
 use asn1_x691_decode::{Context, Defaults, decode};
 use asn1_x691_encode::{Context as Value, encode};
@@ -62,10 +58,15 @@ fn decoded<'a>(
                 octets,
                 ranges: schema.ranges.as_slice(),
             };
-            parts::text_of(alloc, source, room.as_slice(), count)
+            text_of(alloc, source, room.as_slice(), count)
         }
         Err(fault) if in_words => Ok(format!(in alloc; "{fault}")?),
-        Err(fault) => parts::text_of_fault(alloc, fault),
+        Err(fault) => {
+            let kind = fault.kind;
+            let node = fault.node;
+            let at = fault.at;
+            Ok(format!(in alloc; "fault {kind:?} {node} {at}")?)
+        }
     }
 }
 

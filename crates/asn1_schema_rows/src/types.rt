@@ -12,7 +12,12 @@
 //! the bits that encode its DEFAULT value: at each of the eight positions in an octet, or at all of them.
 //! The bits of `named` have names. A text has ranges of characters by their numbers: of its alphabet, and
 //! of its type's alphabet.
+//!
+//! Components and alternatives have automatic tags (X.680 25.8): from 0 on, those of the root before the
+//! additions. The values of an ENUMERATED are numbered from 0 on. The second alphabet of a text tells of
+//! which type it is.
 
+use crate::tags::{TagRows, universal_number};
 use asn1_schema::{Bounds, Length, LowerBound, Member, Node, Presence, Range, Rows, Span};
 use asn1_test_rows::{RowError, number, parse_word, wrong};
 use std::alloc::Global;
@@ -30,6 +35,8 @@ pub struct Schema {
     pub default_octets: Vec<u8>,
     /// Where the bits of each default value are.
     pub default_spans: Vec<Span>,
+    /// Tags, and the numbers of ENUMERATED.
+    pub tags: TagRows,
     /// The node of the type.
     pub node: usize,
 }
@@ -42,6 +49,7 @@ struct Types {
     ranges: Vec<Range>,
     default_octets: Vec<u8>,
     default_spans: Vec<Span>,
+    tags: TagRows,
     is_aligned: bool,
     left: Vec<Member>,
 }
@@ -50,6 +58,12 @@ impl Types {
     /// Adds a type.
     fn add(&mut self, node: Node) -> Result<(), RowError> {
         let index = self.nodes.len();
+        let alphabet = match node {
+            Node::Text { whole, .. } => self.ranges.as_slice().get(whole.from).copied(),
+            _ => None,
+        };
+        self.tags
+            .add_type(&node, universal_number(&node, alphabet))?;
         self.nodes.push(node)?;
         self.left.push(Member {
             node: index,
@@ -66,11 +80,13 @@ impl Types {
         }
     }
 
-    /// Takes so many types as rows of the table of members.
-    fn take_rows(&mut self, alloc: Global, count: usize) -> Result<Rows, RowError> {
+    /// Takes so many types as rows of the table of members. The first has this automatic tag.
+    fn take_rows(&mut self, alloc: Global, count: usize, tag: usize) -> Result<Rows, RowError> {
         let from = self.members.len();
-        for _ in 0..count {
+        for i in 0..count {
             let member = self.take(alloc)?;
+            self.tags
+                .add_member(member.node, tag.saturating_add(i) as u64)?;
             self.members.push(member)?;
         }
         Ok(Rows {
@@ -158,6 +174,7 @@ pub fn schema_of(alloc: Global, is_aligned: bool, words: &[&str]) -> Result<Sche
         ranges: Vec::new(alloc),
         default_octets: Vec::new(alloc),
         default_spans: Vec::new(alloc),
+        tags: TagRows::new(alloc),
         is_aligned,
         left: Vec::new(alloc),
     };
@@ -171,6 +188,7 @@ pub fn schema_of(alloc: Global, is_aligned: bool, words: &[&str]) -> Result<Sche
         ranges: types.ranges,
         default_octets: types.default_octets,
         default_spans: types.default_spans,
+        tags: types.tags,
         node: member.node,
     })
 }
@@ -306,8 +324,8 @@ fn read_counted(
             additions: small(alloc, second)?,
         }),
         "seq" => {
-            let root = types.take_rows(alloc, first)?;
-            let additions = types.take_rows(alloc, second)?;
+            let root = types.take_rows(alloc, first, 0)?;
+            let additions = types.take_rows(alloc, second, first)?;
             types.add(Node::Sequence {
                 root,
                 is_extensible,
@@ -315,8 +333,8 @@ fn read_counted(
             })
         }
         "choice" => {
-            let alternatives = types.take_rows(alloc, first)?;
-            let additions = types.take_rows(alloc, second)?;
+            let alternatives = types.take_rows(alloc, first, 0)?;
+            let additions = types.take_rows(alloc, second, first)?;
             types.add(Node::Choice {
                 alternatives,
                 is_extensible,

@@ -3,7 +3,6 @@
 use asn1_bits::{BitStr, read_u128};
 use asn1_schema::{Characters, Codes, Fragments, Natural, Part, Range, Span};
 use asn1_test_rows::{RowError, wrong};
-use asn1_x691_decode::Fault;
 use std::alloc::Global;
 
 /// What parts refer to.
@@ -34,14 +33,6 @@ pub fn text_of(
         text.push_str(word_of(alloc, source, *part)?.as_str())?;
     }
     Ok(text)
-}
-
-/// Returns a fault in words.
-pub fn text_of_fault(alloc: Global, fault: Fault) -> Result<String, RowError> {
-    let kind = fault.kind;
-    let node = fault.node;
-    let at = fault.at;
-    Ok(format!(in alloc; "fault {kind:?} {node} {at}")?)
 }
 
 /// Returns a part in a word.

@@ -1,0 +1,12 @@
+//! Types and parts in the words of rows of tests.
+//!
+//! No program but those of tests should use this crate.
+#![tactic(auto)]
+
+mod parts;
+mod tags;
+mod types;
+
+pub use parts::{Source, text_of};
+pub use tags::TagRows;
+pub use types::{Schema, schema_of};
