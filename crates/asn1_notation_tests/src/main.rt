@@ -3,12 +3,14 @@
 //! A row is a call and definitions, as `automatic A ::= INTEGER (0..7) = int:0..7`. The module of
 //! `automatic`, `implicit` and `explicit` has these tags; its definitions are line 2 of its text. The
 //! answer is the first type in words, or the error. `names` has the names of the first type's members, or
-//! its values with their numbers; `types` the types that have names. `module` has whole modules, and `cuts` counts
+//! its values with their numbers; `types` the types that have names; `tags` the tags of the first type and of its members. `module` has whole modules, and `cuts` counts
 //! the texts that are modules among those that a text begins with.
 #![tactic(auto)]
 
+mod tags;
 mod words;
 
+use crate::tags::tags_of;
 use crate::words::{push_type, rows_of};
 use asn1_notation::{Report, parse};
 use asn1_resolve::{Schema, SchemaError};
@@ -144,6 +146,9 @@ fn answer_of(alloc: Global, call: &str, text: &str) -> Result<String, RowError> 
     if call == "names" {
         return names_of(alloc, &schema, node);
     }
+    if call.starts_with("tags") {
+        return tags_of(alloc, &schema, node);
+    }
     let mut words = String::new(alloc);
     push_type(alloc, &schema, &mut words, node, DEPTH)?;
     Ok(words)
@@ -168,9 +173,9 @@ impl Answers for Calls {
     fn answer(&self, alloc: Global, call: &str, words: &[&str]) -> Result<String, RowError> {
         let text = joined(alloc, words)?;
         let tags = match call {
-            "automatic" | "names" | "types" => "AUTOMATIC",
-            "implicit" => "IMPLICIT",
-            "explicit" => "EXPLICIT",
+            "automatic" | "names" | "types" | "tags" => "AUTOMATIC",
+            "implicit" | "tags_implicit" => "IMPLICIT",
+            "explicit" | "tags_explicit" => "EXPLICIT",
             "module" => return answer_of(alloc, call, text.as_str()),
             "cuts" => return cuts_of(alloc, text.as_str()),
             _ => return Err(wrong(alloc, call, "call")),

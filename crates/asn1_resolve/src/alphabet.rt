@@ -2,6 +2,7 @@
 
 use asn1_notation::{Sink, Word, narrow};
 use asn1_schema::{Range, Rows};
+use asn1_x690::CharacterSize;
 
 /// The whole alphabets of the types (X.680 41), with which each table of
 /// ranges begins.
@@ -73,6 +74,15 @@ pub fn whole_alphabet(word: Word) -> Option<Rows> {
         _ => return None,
     };
     Some(Rows { from, count })
+}
+
+/// Returns how many octets X.690 gives each character of a type.
+pub fn character_size(word: Option<Word>) -> CharacterSize {
+    match word {
+        Some(Word::BmpString) => CharacterSize::Two,
+        Some(Word::UniversalString) => CharacterSize::Four,
+        _ => CharacterSize::One,
+    }
 }
 
 /// Returns the characters of ASCII that some ranges have, as bits.

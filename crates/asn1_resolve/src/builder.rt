@@ -1,9 +1,11 @@
 //! The tables that are made, in the caller's room.
 
+use crate::tag_tables::{NO_FIRST_TAGS, NO_TYPE_TAGS};
 use asn1_definitions::Tag;
 use asn1_notation::{NotationError, Problem, Sink, error_at};
 use asn1_schema::{Member, Node, Presence, Range, Rows};
 use asn1_schema_values::NameSpan;
+use asn1_x690::{FirstTags, TypeTags};
 
 /// How many components and tags the names of a text may lead to.
 const MAX_STEPS: usize = 1 << 20;
@@ -43,6 +45,7 @@ pub struct Draft {
     pub(crate) member: Member,
     pub(crate) name: NameSpan,
     pub(crate) order: u64,
+    pub(crate) first: FirstTags,
 }
 
 /// A tag or the hash of a name, where it must be distinct from others.
@@ -70,7 +73,11 @@ pub const NO_DRAFT: Draft = Draft {
     member: NO_MEMBER,
     name: NO_NAME,
     order: 0,
+    first: NO_FIRST_TAGS,
 };
+
+/// A node that copies none.
+pub(crate) const NO_SOURCE: usize = usize::MAX;
 
 /// A key that says nothing.
 pub const NO_KEY: Key = Key {
@@ -107,6 +114,16 @@ pub struct Builder<'m> {
     pub tags: Sink<'m, Key>,
     /// The names of one type.
     pub names: Sink<'m, Key>,
+    /// What X.690 asks of each type.
+    pub type_tags: Sink<'m, TypeTags>,
+    /// The tags of the types.
+    pub tag_rows: Sink<'m, asn1_x690::Tag>,
+    /// The tags that each component and alternative can begin with, among the first tags.
+    pub member_tags: Sink<'m, FirstTags>,
+    /// The first tags.
+    pub first_rows: Sink<'m, asn1_x690::Tag>,
+    /// The node of which each node is a copy with other tags.
+    pub sources: Sink<'m, usize>,
     pub(crate) steps: usize,
 }
 
@@ -140,7 +157,32 @@ impl<'m> Builder<'m> {
             drafts: Sink::new(drafts),
             tags: Sink::new(tags),
             names: Sink::new(names),
+            type_tags: Sink::new(&mut []),
+            tag_rows: Sink::new(&mut []),
+            member_tags: Sink::new(&mut []),
+            first_rows: Sink::new(&mut []),
+            sources: Sink::new(&mut []),
             steps: 0,
+        }
+    }
+
+    /// Returns the tables with room for tags: of the types, of their tags, of the members, of their
+    /// first tags, and of the nodes that others are copies of.
+    pub fn with_tags(
+        self,
+        type_tags: &'m mut [TypeTags],
+        tag_rows: &'m mut [asn1_x690::Tag],
+        member_tags: &'m mut [FirstTags],
+        first_rows: &'m mut [asn1_x690::Tag],
+        sources: &'m mut [usize],
+    ) -> Builder<'m> {
+        Builder {
+            type_tags: Sink::new(type_tags),
+            tag_rows: Sink::new(tag_rows),
+            member_tags: Sink::new(member_tags),
+            first_rows: Sink::new(first_rows),
+            sources: Sink::new(sources),
+            ..self
         }
     }
 
@@ -157,6 +199,8 @@ impl<'m> Builder<'m> {
     pub(crate) fn push_node(&mut self, node: Node) -> usize {
         self.node_names.push(NO_NAME);
         self.node_enumerals.push(NO_ROWS);
+        self.type_tags.push(NO_TYPE_TAGS);
+        self.sources.push(NO_SOURCE);
         self.nodes.push(node)
     }
 

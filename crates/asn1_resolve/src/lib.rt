@@ -12,6 +12,7 @@ mod modules;
 mod nodes;
 mod schema;
 mod spans;
+mod tag_tables;
 #[cfg(test)]
 mod tests;
 

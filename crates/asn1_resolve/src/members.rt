@@ -24,6 +24,8 @@ struct Gathering {
     tagging: Tagging,
     /// Whether one of the last components must be present.
     has_mandatory: bool,
+    /// Whether the components are those of another type (X.680 25.5).
+    is_included: bool,
 }
 
 /// Returns the node of a SEQUENCE, SET or CHOICE.
@@ -57,6 +59,7 @@ impl<'m> Builder<'m> {
                 next: 0,
             },
             has_mandatory: false,
+            is_included: false,
         };
         let from = self.drafts.count();
         self.gather_root(scope, place, &mut gathering, MAX_STEPS)?;
@@ -83,6 +86,7 @@ impl<'m> Builder<'m> {
             let draft = self.drafts.get(index).unwrap_or(NO_DRAFT);
             self.members.push(draft.member);
             self.member_names.push(draft.name);
+            self.member_tags.push(draft.first);
         }
         self.drafts.truncate(from);
         Rows {
@@ -142,16 +146,20 @@ impl<'m> Builder<'m> {
             };
             return Err(scope.error(Problem::NotA(wanted), of));
         }
-        if gathering.tagging.is_automatic {
-            return self.gather_root(scope, base, gathering, steps);
-        }
+        let was_included = gathering.is_included;
+        gathering.is_included = true;
         let tagging = gathering.tagging;
-        gathering.tagging = Tagging {
-            is_automatic: scope.is_automatic(base),
-            next: 0,
-        };
+        if !tagging.is_automatic {
+            gathering.tagging = Tagging {
+                is_automatic: scope.is_automatic(base),
+                next: 0,
+            };
+        }
         self.gather_root(scope, base, gathering, steps)?;
-        gathering.tagging = tagging;
+        if !tagging.is_automatic {
+            gathering.tagging = tagging;
+        }
+        gathering.is_included = was_included;
         Ok(())
     }
 
@@ -190,6 +198,7 @@ impl<'m> Builder<'m> {
         gathering: &mut Gathering,
     ) -> Result<(), NotationError> {
         let from = self.drafts.count();
+        let first = self.first_rows.count();
         gathering.has_mandatory = false;
         self.gather_root(scope, place, gathering, MAX_STEPS)?;
         if gathering.kind == Item::Choice {
@@ -206,8 +215,10 @@ impl<'m> Builder<'m> {
         } else {
             Presence::Optional
         };
+        let first = self.first_tags_from(first);
         self.drafts.push(Draft {
             member: Member { node, presence },
+            first,
             ..NO_DRAFT
         });
         Ok(())
@@ -221,7 +232,12 @@ impl<'m> Builder<'m> {
         gathering: &mut Gathering,
     ) -> Result<(), NotationError> {
         let of = scope.type_in(place);
-        let node = scope.node_of(of)?;
+        let automatic = if gathering.tagging.is_automatic {
+            Some(gathering.tagging.next)
+        } else {
+            None
+        };
+        let node = self.used_node(scope, of, automatic, gathering.is_included)?;
         let name = span_of(scope, place);
         self.names.push(Key {
             key: hash_of(scope.text_of(scope.entry(place.index))),
@@ -240,10 +256,12 @@ impl<'m> Builder<'m> {
             self.add_first_tags(scope, of, name, true, MAX_STEPS)?;
         }
         let order = self.least_tag(from);
+        let first = self.push_first_tags(from);
         self.drafts.push(Draft {
             member: Member { node, presence },
             name,
             order,
+            first,
         });
         // Only consecutive components that may be absent, and the one after them, must have distinct
         // tags in a SEQUENCE (X.680 25.6).

@@ -1,8 +1,9 @@
 //! From entries to tables.
 
 use crate::alphabet::WHOLE_ALPHABETS;
-use crate::builder::{Builder, NamedType};
+use crate::builder::{Builder, NO_SOURCE, NamedType};
 use crate::spans::span_of;
+use crate::tag_tables::NO_TYPE_TAGS;
 use asn1_definitions::{LISTS, Place, Scope, check_imports, index_definitions, number_types};
 use asn1_notation::{Entry, Item, NotationError, wide};
 
@@ -34,8 +35,15 @@ pub fn resolve(
     tables.nodes.reserve(count);
     tables.node_names.reserve(count);
     tables.node_enumerals.reserve(count);
+    for _ in 0..count {
+        tables.type_tags.push(NO_TYPE_TAGS);
+        tables.sources.push(NO_SOURCE);
+    }
+    tables.add_tags(scope)?;
     tables.add_nodes(scope)?;
-    tables.add_names(scope)
+    tables.add_names(scope)?;
+    tables.fill_copies();
+    Ok(())
 }
 
 impl<'m> Builder<'m> {
@@ -82,7 +90,8 @@ impl<'m> Builder<'m> {
             },
         );
         let of = scope.type_in(place);
-        let node = scope.node_of(of)?;
+        let named = scope.node_of(of)?;
+        let node = self.used_node(scope, of, None, false)?;
         self.types.push(NamedType { module, name, node });
         let mut own = of;
         for _ in 0..scope.most() {
@@ -91,7 +100,7 @@ impl<'m> Builder<'m> {
             }
             own = scope.type_in(own);
         }
-        if scope.entry(own.index).link != 0 {
+        if node != named || scope.entry(own.index).link != 0 {
             self.node_names.set(node, name);
         }
         Ok(())

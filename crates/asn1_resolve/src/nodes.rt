@@ -123,12 +123,12 @@ impl<'m> Builder<'m> {
             Item::SequenceOf => Node::SequenceOf {
                 length,
                 is_extensible,
-                item: scope.node_of(scope.type_in(base))?,
+                item: self.used_node(scope, scope.type_in(base), None, false)?,
             },
             Item::SetOf => Node::SetOf {
                 length,
                 is_extensible,
-                item: scope.node_of(scope.type_in(base))?,
+                item: self.used_node(scope, scope.type_in(base), None, false)?,
             },
             _ => Node::OctetString {
                 length,

@@ -7,9 +7,11 @@ use crate::builder::{
     NamedType,
 };
 use crate::modules::resolve;
+use crate::tag_tables::{NO_FIRST_TAGS, NO_TAG, NO_TYPE_TAGS};
 use asn1_notation::{Entry, NO_ENTRY, NotationError, parse, part_of};
 use asn1_schema::{Member, Node, Range, Rows, Tables};
 use asn1_schema_values::{NameSpan, Names};
+use asn1_x690::{FirstTags, Tag, TagTables, TypeTags};
 use std::alloc::{AllocError, Global};
 use thiserror::Error;
 
@@ -26,6 +28,10 @@ pub struct Schema {
     enumerals: Vec<Enumeral>,
     defaults: Vec<DefaultText>,
     types: Vec<NamedType>,
+    type_tags: Vec<TypeTags>,
+    member_tags: Vec<FirstTags>,
+    tags: Vec<Tag>,
+    numbers: Vec<i128>,
 }
 
 /// Why there are no tables of a text.
@@ -81,6 +87,8 @@ struct Counts {
     drafts: usize,
     tags: usize,
     names: usize,
+    tag_rows: usize,
+    first_rows: usize,
 }
 
 /// Returns how many rows the tables of a text have.
@@ -110,6 +118,8 @@ fn counts_of(text: &[u8], tape: &mut [Entry]) -> Result<Counts, NotationError> {
         drafts: tables.drafts.most(),
         tags: tables.tags.most(),
         names: tables.names.most(),
+        tag_rows: tables.tag_rows.most(),
+        first_rows: tables.first_rows.most(),
     })
 }
 
@@ -136,6 +146,10 @@ impl Schema {
             enumerals: Vec::new(alloc),
             defaults: Vec::new(alloc),
             types: Vec::new(alloc),
+            type_tags: Vec::new(alloc),
+            member_tags: Vec::new(alloc),
+            tags: Vec::new(alloc),
+            numbers: Vec::new(alloc),
         };
         schema.nodes.resize(counts.nodes, Node::Null)?;
         schema.node_names.resize(counts.nodes, NO_NAME)?;
@@ -146,6 +160,9 @@ impl Schema {
         schema.enumerals.resize(counts.enumerals, NO_ENUMERAL)?;
         schema.defaults.resize(counts.defaults, NO_DEFAULT)?;
         schema.types.resize(counts.types, NO_TYPE)?;
+        schema.type_tags.resize(counts.nodes, NO_TYPE_TAGS)?;
+        schema.member_tags.resize(counts.members, NO_FIRST_TAGS)?;
+        schema.tags.resize(counts.tag_rows, NO_TAG)?;
         Ok(schema)
     }
 
@@ -165,7 +182,11 @@ impl Schema {
         drafts.resize(counts.drafts, NO_DRAFT)?;
         tags.resize(counts.tags, NO_KEY)?;
         names.resize(counts.names, NO_KEY)?;
-        let mut tables = Builder::new(
+        let mut first_rows: Vec<Tag> = Vec::new(alloc);
+        let mut sources: Vec<usize> = Vec::new(alloc);
+        first_rows.resize(counts.first_rows, NO_TAG)?;
+        sources.resize(counts.nodes, 0)?;
+        let tables = Builder::new(
             schema.nodes.as_mut_slice(),
             schema.node_names.as_mut_slice(),
             schema.node_enumerals.as_mut_slice(),
@@ -179,8 +200,48 @@ impl Schema {
             tags.as_mut_slice(),
             names.as_mut_slice(),
         );
+        let mut tables = tables.with_tags(
+            schema.type_tags.as_mut_slice(),
+            schema.tags.as_mut_slice(),
+            schema.member_tags.as_mut_slice(),
+            first_rows.as_mut_slice(),
+            sources.as_mut_slice(),
+        );
         resolve(octets, tape.as_mut_slice(), &mut tables)?;
+        schema.finish_tags(first_rows.as_slice())?;
         Ok(schema)
+    }
+
+    /// Appends the first tags to the other tags, and the numbers of values to a table of their own.
+    fn finish_tags(&mut self, first_rows: &[Tag]) -> Result<(), AllocError> {
+        let from = self.tags.len();
+        self.tags.extend_from_slice(first_rows)?;
+        for member in self.member_tags.as_mut_slice().iter_mut() {
+            let tags = Rows {
+                from: member.tags.from.saturating_add(from),
+                ..member.tags
+            };
+            *member = FirstTags { tags, ..*member };
+        }
+        for enumeral in self.enumerals.as_slice() {
+            self.numbers.push(enumeral.number)?;
+        }
+        Ok(())
+    }
+
+    /// Returns the tags of the types, as decoders and encoders of DER take them beside the tables.
+    pub fn tag_tables(&self) -> TagTables<'_>
+        ensures types { result.types.now ≡ self.now.type_tags.items }
+        ensures members { result.members.now ≡ self.now.member_tags.items }
+        ensures tags { result.tags.now ≡ self.now.tags.items }
+        ensures numbers { result.numbers.now ≡ self.now.numbers.items }
+    {
+        TagTables {
+            types: self.type_tags.as_slice(),
+            members: self.member_tags.as_slice(),
+            tags: self.tags.as_slice(),
+            numbers: self.numbers.as_slice(),
+        }
     }
 
     /// Returns the tables, as decoders and encoders take them.

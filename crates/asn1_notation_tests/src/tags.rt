@@ -1,0 +1,101 @@
+//! The tags of types in words.
+//!
+//! A tag is its class and its number: `U` for universal, `A`, `C` and `P`, as `C0`. The tags of a type
+//! are joined by full stops, `-` for none; after them are the numbers of an ENUMERATED, as `#0#5`, and
+//! `@2` or `@4` of a string with so many octets a character. A member has the tags that it can begin
+//! with, joined by `|`, and the tags of its type.
+
+use crate::words::rows_of;
+use asn1_resolve::Schema;
+use asn1_schema::{Node, Rows};
+use asn1_test_rows::RowError;
+use asn1_x690::{CharacterSize, Class, Tag};
+use std::alloc::Global;
+
+/// Appends tags with something between them.
+fn push_tags(text: &mut String, tags: &[Tag], between: char) -> Result<(), RowError> {
+    if tags.is_empty() {
+        text.push('-')?;
+    }
+    for (index, tag) in tags.iter().enumerate() {
+        if index > 0 {
+            text.push(between)?;
+        }
+        text.push(match tag.class {
+            Class::Universal => 'U',
+            Class::Application => 'A',
+            Class::Context => 'C',
+            Class::Private => 'P',
+        })?;
+        let number = tag.number;
+        write!(text, "{number}")?;
+    }
+    Ok(())
+}
+
+/// Appends the tags of the type at a node.
+fn push_type_tags(text: &mut String, schema: &Schema, node: usize) -> Result<(), RowError> {
+    let tables = schema.tag_tables();
+    let Some(tags) = tables.types.get(node) else {
+        text.push('?')?;
+        return Ok(());
+    };
+    push_tags(text, rows_of(tables.tags, tags.tags), '.')?;
+    let count = match schema.tables().nodes.get(node) {
+        Some(Node::Enumerated { .. }) => schema.enumerals(node).len(),
+        _ => 0,
+    };
+    let end = tags.numbers.saturating_add(count);
+    for number in tables.numbers.get(tags.numbers..end).unwrap_or(&[]) {
+        write!(text, "#{number}")?;
+    }
+    match tags.characters {
+        CharacterSize::One => {}
+        CharacterSize::Two => text.push_str("@2")?,
+        CharacterSize::Four => text.push_str("@4")?,
+    }
+    Ok(())
+}
+
+/// Appends the tags of members, in parentheses those of the members of an addition group.
+fn push_members(text: &mut String, schema: &Schema, rows: Rows) -> Result<(), RowError> {
+    let tables = schema.tag_tables();
+    let members = rows_of(schema.tables().members, rows);
+    let tags = rows_of(tables.members, rows);
+    for (member, first) in members.iter().zip(tags) {
+        text.push(' ')?;
+        push_tags(text, rows_of(tables.tags, first.tags), '|')?;
+        text.push(':')?;
+        push_type_tags(text, schema, member.node)?;
+    }
+    Ok(())
+}
+
+/// Returns the tags of a type, and of its members or its items.
+pub fn tags_of(alloc: Global, schema: &Schema, node: usize) -> Result<String, RowError> {
+    let mut text = String::new(alloc);
+    push_type_tags(&mut text, schema, node)?;
+    match schema.tables().nodes.get(node) {
+        Some(
+            Node::Sequence {
+                root: first,
+                additions,
+                ..
+            }
+            | Node::Choice {
+                alternatives: first,
+                additions,
+                ..
+            },
+        ) => {
+            push_members(&mut text, schema, *first)?;
+            push_members(&mut text, schema, *additions)?;
+        }
+        Some(Node::SequenceOf { item, .. } | Node::SetOf { item, .. }) => {
+            text.push(' ')?;
+            push_type_tags(&mut text, schema, *item)?;
+        }
+        _ => {}
+    }
+    Ok(text)
+}
