@@ -1,0 +1,30 @@
+//! The JSON of values of ASN.1 types (X.697), by the tables of a schema.
+//!
+//! [`print_value`] prints the parts of a decoded message. [`parse_value`] makes the parts of a value
+//! from JSON, for an encoder.
+#![tactic(auto)]
+
+mod bits;
+mod components;
+mod decimal;
+mod draft;
+mod hexadecimal;
+mod identifiers;
+mod leaves;
+mod members;
+mod parse;
+mod place;
+mod print;
+mod printer;
+mod strings;
+mod tree;
+mod value;
+
+pub use draft::Draft;
+pub use parse::{JsonError, JsonProblem, parse_value};
+pub use place::{line_and_column, path_of};
+pub use print::{PrintError, print_value};
+pub use tree::{Item, Kind, Tree, TreeError};
+
+#[cfg(test)]
+mod tests;

@@ -1,0 +1,236 @@
+//! Prints the parts of a message.
+
+ghost use Rattle.std.specs.Prelude.{◌≡◌, ◌+◌, ◌-◌, ◌^◌, ◌<◌, ◌≤◌, IfOk, None, Some};
+ghost use Rattle.std.specs.Str.{IsUtf8};
+
+use crate::printer::{NO_VALUE, Printer};
+use asn1_resolve::Schema;
+use asn1_schema::{Node, Part, Rows};
+use std::alloc::{AllocError, Global};
+use thiserror::Error;
+
+/// Why a value is not printed.
+#[derive(Clone, Copy, Debug, PartialEq, Eq, Drop, Error)]
+pub enum PrintError {
+    /// The parts are no value of the type.
+    #[error("the parts are no value of the type")]
+    NoValue,
+    /// The value is nested deeper than the caller allows.
+    #[error("the value is nested too deep")]
+    TooDeep,
+    /// The value is valid and has no form here.
+    #[error("{0} has no form in JSON")]
+    Unsupported(&'static str),
+    /// Out of memory.
+    #[error("out of memory")]
+    Memory,
+}
+
+impl From<AllocError> for PrintError {
+    fn from(_error: AllocError) -> PrintError {
+        PrintError::Memory
+    }
+}
+
+/// Prints the value of a type at a node whose first part is the first of `parts`, as JSON with a line
+/// for each member and item. A value may be nested less deep than `depth`.
+///
+/// # Errors
+///
+/// Returns `NoValue` if the parts are no value of the type: a decoder gives no such parts.
+pub fn print_value(
+    alloc: Global,
+    schema: &Schema,
+    message: &[u8],
+    parts: &[Part],
+    depth: usize,
+    node: usize,
+) -> Result<Vec<u8>, PrintError>
+    ensures { IfOk result (λ text. IsUtf8 text.items) }
+{
+    let mut printer = Printer::new(alloc, schema, message, parts);
+    printer.value(depth, node, 0)?;
+    Ok(printer.into_octets())
+}
+
+impl<'a> Printer<'a> {
+    /// Prints the value that begins at a part. Returns the index of the part after it.
+    #[cycle(printing)]
+    pub(crate) fn value(
+        &mut self,
+        depth: usize,
+        node: usize,
+        at: usize,
+    ) -> Result<usize, PrintError> {
+        if depth == 0 {
+            return Err(PrintError::TooDeep);
+        }
+        match self.node(node)? {
+            Node::Sequence {
+                root,
+                additions,
+                ..
+            } => self.sequence(depth - 1, root, additions, at),
+            Node::SequenceOf { item, .. } | Node::SetOf { item, .. } => {
+                self.list(depth - 1, item, at)
+            }
+            Node::Choice {
+                alternatives,
+                additions,
+                ..
+            } => self.choice(depth - 1, alternatives, additions, at),
+            Node::Open { inner } => self.value(depth - 1, inner, at),
+            leaf => {
+                self.leaf(node, leaf, at)?;
+                Ok(at.saturating_add(1))
+            }
+        }
+    }
+
+    /// Prints a SEQUENCE or a SET as an object.
+    #[cycle(printing)]
+    fn sequence(
+        &mut self,
+        depth: usize,
+        root: Rows,
+        additions: Rows,
+        at: usize,
+    ) -> Result<usize, PrintError> {
+        let Part::Sequence { count, is_extended } = self.part(at)? else {
+            return Err(NO_VALUE);
+        };
+        self.begin_object()?;
+        let mut next = self.components(depth, root, count, at.saturating_add(1))?;
+        if is_extended {
+            next = self.additions(depth, additions, next)?;
+        }
+        self.end_object()?;
+        Ok(next)
+    }
+
+    /// Prints so many components of rows, those that are present.
+    #[cycle(printing)]
+    fn components(
+        &mut self,
+        depth: usize,
+        rows: Rows,
+        count: usize,
+        at: usize,
+    ) -> Result<usize, PrintError> {
+        let mut next = at;
+        for index in 0..count {
+            next = self.component(depth, rows.from.saturating_add(index), next)?;
+        }
+        Ok(next)
+    }
+
+    /// Prints a component, if it is present. An addition group is printed as its components.
+    #[cycle(printing)]
+    fn component(&mut self, depth: usize, row: usize, at: usize) -> Result<usize, PrintError> {
+        let part = self.part(at)?;
+        if part == Part::Absent {
+            return Ok(at.saturating_add(1));
+        }
+        let node = self.member(row)?.node;
+        if self.is_named(row) {
+            self.member_key(row)?;
+            return self.value(depth, node, at);
+        }
+        if depth == 0 {
+            return Err(PrintError::TooDeep);
+        }
+        match (part, self.node(node)?) {
+            (Part::Sequence { count, .. }, Node::Sequence { root, .. }) => {
+                self.components(depth - 1, root, count, at.saturating_add(1))
+            }
+            _ => Err(NO_VALUE),
+        }
+    }
+
+    /// Prints additions, and those that the schema does not know as a member `...`: the hexadecimal
+    /// digits of each, or `null` for one that is absent.
+    #[cycle(printing)]
+    fn additions(&mut self, depth: usize, rows: Rows, at: usize) -> Result<usize, PrintError> {
+        let Part::Additions(count) = self.part(at)? else {
+            return Err(NO_VALUE);
+        };
+        let known = count.min(rows.count as usize);
+        let next = self.components(depth, rows, known, at.saturating_add(1))?;
+        let unknown = count.saturating_sub(known);
+        if unknown == 0 {
+            return Ok(next);
+        }
+        self.key("...")?;
+        self.begin_array()?;
+        let end = next.saturating_add(unknown);
+        for index in next..end {
+            self.unknown_or_absent(index)?;
+        }
+        self.end_array()?;
+        Ok(end)
+    }
+
+    /// Prints a SEQUENCE OF or a SET OF as an array.
+    #[cycle(printing)]
+    fn list(&mut self, depth: usize, item: usize, at: usize) -> Result<usize, PrintError> {
+        let Part::Count(count) = self.part(at)? else {
+            return Err(NO_VALUE);
+        };
+        self.begin_array()?;
+        let mut next = at.saturating_add(1);
+        for _ in 0..count {
+            next = self.value(depth, item, next)?;
+        }
+        self.end_array()?;
+        Ok(next)
+    }
+
+    /// Prints a CHOICE as an object with one member.
+    #[cycle(printing)]
+    fn choice(
+        &mut self,
+        depth: usize,
+        alternatives: Rows,
+        additions: Rows,
+        at: usize,
+    ) -> Result<usize, PrintError> {
+        let next = at.saturating_add(1);
+        self.begin_object()?;
+        let end = match self.part(at)? {
+            Part::Chosen(index) => {
+                let row = row_of(alternatives, additions, index).ok_or(NO_VALUE)?;
+                let node = self.member(row)?.node;
+                self.member_key(row)?;
+                self.value(depth, node, next)?
+            }
+            Part::UnknownChosen(index) => {
+                self.unknown_alternative(index, next)?;
+                next.saturating_add(1)
+            }
+            Part::Unknown(_) => {
+                self.key("...")?;
+                self.unknown(at)?;
+                next
+            }
+            _ => return Err(NO_VALUE),
+        };
+        self.end_object()?;
+        Ok(end)
+    }
+}
+
+/// Returns the row of an alternative. `None` if there is none.
+fn row_of(alternatives: Rows, additions: Rows, index: usize) -> Option<usize>
+    ensures root { index < alternatives.count → alternatives.from + index < 2 ^ 64
+        → result ≡ Some (alternatives.from + index) }
+    ensures added { alternatives.count ≤ index → index < alternatives.count + additions.count
+        → additions.from + (index - alternatives.count) < 2 ^ 64
+        → result ≡ Some (additions.from + (index - alternatives.count)) }
+    ensures none { alternatives.count + additions.count ≤ index → result ≡ None }
+{
+    match index.checked_sub(alternatives.count as usize) {
+        None => alternatives.from.checked_add(index),
+        Some(added) if added < additions.count as usize => additions.from.checked_add(added),
+        Some(_) => None,
+    }
+}

@@ -1,0 +1,61 @@
+use crate::parse::parse_value;
+use crate::print::print_value;
+use crate::tree::Tree;
+use asn1_resolve::Schema;
+use asn1_schema::Part;
+use json::Scratch;
+use std::str;
+use std::test::Fail;
+
+const MODULE: &str = "M DEFINITIONS AUTOMATIC TAGS ::= BEGIN
+Record ::= SEQUENCE {
+    id INTEGER,
+    name IA5String OPTIONAL,
+    bits BIT STRING,
+    kind ENUMERATED { red, green },
+    list SEQUENCE OF CHOICE { a NULL, b BOOLEAN }
+}
+END
+";
+
+const RECORD: &str = "{
+  \"id\": -340282366920938463463374607431768211456,
+  \"name\": \"Ann\",
+  \"bits\": {
+    \"value\": \"A0\",
+    \"length\": 3
+  },
+  \"kind\": \"green\",
+  \"list\": [
+    {
+      \"a\": null
+    },
+    {
+      \"b\": true
+    }
+  ]
+}";
+
+#[test]
+fn a_value_is_printed_as_it_was_read(rt: HostRuntime) -> Result<(), Fail> {
+    let alloc = rt.alloc();
+    let schema = Schema::parse(alloc, MODULE)?;
+    let node = schema.node_named("Record").ok_or("no type")?;
+    let mut scratch = Scratch::new(alloc);
+    let tree = Tree::parse(alloc, RECORD, &mut scratch)?;
+    let Ok(draft) = parse_value(alloc, &schema, &tree, 10, node) else {
+        return Err("no value".into());
+    };
+    let first = draft.parts().first().ok_or("no part")?;
+    assert!(rt;
+        *first
+            == Part::Sequence {
+                count: 5,
+                is_extended: false
+            }
+    );
+    let octets = print_value(alloc, &schema, draft.octets(), draft.parts(), 10, node)?;
+    let text = str::from_utf8(octets.as_slice()).map_err(|_| "no text")?;
+    assert!(rt; text == RECORD);
+    Ok(())
+}

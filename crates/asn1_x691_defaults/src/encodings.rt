@@ -1,0 +1,164 @@
+//! The encodings of the default values of a schema.
+
+use crate::notation::part_of_text;
+use crate::probe::Probe;
+use crate::reach::reached_from;
+use asn1_resolve::{DefaultText, Schema};
+use asn1_schema::{Node, Span};
+use asn1_x691_decode::Defaults;
+use std::alloc::{AllocError, AllocFailed, Global};
+use thiserror::Error;
+
+/// How many bits can precede a value in an octet.
+const PHASES: usize = 8;
+
+/// A span of no bits.
+const NO_BITS: Span = Span { at: 0, count: 0 };
+
+/// Why there are no encodings of default values.
+#[derive(Clone, Copy, Debug, PartialEq, Eq, Drop, Error)]
+pub enum DefaultError {
+    /// The value at this octet of the text is not read: its notation is not supported for such a
+    /// type, or it is no value of the type.
+    #[error("DEFAULT with {kind} is not supported here")]
+    Unsupported {
+        /// The index of the octet.
+        at: usize,
+        /// What the value is.
+        kind: &'static str,
+    },
+    /// Out of memory.
+    #[error("out of memory")]
+    Memory,
+}
+
+impl From<AllocError> for DefaultError {
+    fn from(_error: AllocError) -> DefaultError {
+        DefaultError::Memory
+    }
+}
+
+impl<T: Drop> From<AllocFailed<T>> for DefaultError {
+    fn from(_error: AllocFailed<T>) -> DefaultError {
+        DefaultError::Memory
+    }
+}
+
+/// Returns what the value of a type is, for an error.
+fn kind_of(of: Option<&Node>) -> &'static str {
+    match of {
+        Some(Node::Integer | Node::IntegerAtLeast { .. } | Node::IntegerBetween { .. }) => {
+            "a value of INTEGER that is no number (X.680 19)"
+        }
+        Some(Node::Sequence { .. }) => "a value of SEQUENCE or SET (X.680 25, 27)",
+        Some(Node::SequenceOf { .. } | Node::SetOf { .. }) => {
+            "a value of SEQUENCE OF or SET OF (X.680 26, 28)"
+        }
+        Some(Node::Choice { .. }) => "a value of CHOICE (X.680 29)",
+        Some(Node::BitString { .. }) => "a value of BIT STRING that is no string (X.680 22)",
+        Some(Node::OctetString { .. }) => "a value of OCTET STRING that is no string (X.680 23)",
+        Some(Node::ObjectIdentifier) => "a value of OBJECT IDENTIFIER (X.680 32)",
+        Some(Node::RelativeIdentifier) => "a value of RELATIVE-OID (X.680 33)",
+        Some(Node::Text { .. } | Node::Utf8String) => {
+            "a value of a character string that is no string on one line (X.680 41)"
+        }
+        _ => "a name of a value (X.680 16)",
+    }
+}
+
+/// The encodings of the default values of a schema in one variant of PER.
+#[derive(Drop)]
+pub struct DefaultEncodings {
+    octets: Vec<u8>,
+    spans: Vec<Span>,
+}
+
+impl DefaultEncodings {
+    /// Makes the encodings of the default values of the types that the type at a node leads to. The
+    /// other default values have no encodings.
+    ///
+    /// # Errors
+    ///
+    /// Returns the first default value that is not read, or `Memory`.
+    pub fn new(
+        alloc: Global,
+        schema: &Schema,
+        node: usize,
+        is_aligned: bool,
+    ) -> Result<DefaultEncodings, DefaultError> {
+        let mut encodings = DefaultEncodings {
+            octets: Vec::new(alloc),
+            spans: Vec::new(alloc),
+        };
+        let is_reached = reached_from(alloc, schema.tables(), node)?;
+        let mut probe = Probe::new(alloc, schema)?;
+        for default in schema.defaults() {
+            let is_wanted = is_reached.as_slice().get(default.node).copied();
+            if is_wanted == Some(true) {
+                encodings.add(alloc, schema, &mut probe, *default, is_aligned)?;
+            } else {
+                encodings.add_none(is_aligned)?;
+            }
+        }
+        Ok(encodings)
+    }
+
+    /// Returns the encodings, as decoders and encoders take them.
+    pub fn defaults(&self) -> Defaults<'_> {
+        Defaults {
+            octets: self.octets.as_slice(),
+            spans: self.spans.as_slice(),
+        }
+    }
+
+    /// Appends spans without bits, which no value that the type at hand leads to is compared with.
+    fn add_none(&mut self, is_aligned: bool) -> Result<(), DefaultError> {
+        let count = if is_aligned { PHASES } else { 1 };
+        for _ in 0..count {
+            self.spans.push(NO_BITS)?;
+        }
+        Ok(())
+    }
+
+    /// Appends the encodings of a default value.
+    fn add(
+        &mut self,
+        alloc: Global,
+        schema: &Schema,
+        probe: &mut Probe,
+        default: DefaultText,
+        is_aligned: bool,
+    ) -> Result<(), DefaultError> {
+        let unsupported = DefaultError::Unsupported {
+            at: default.value.from,
+            kind: kind_of(schema.tables().nodes.get(default.node)),
+        };
+        let text = schema.text_of(default.value);
+        let mut source = Vec::new(alloc);
+        let Some(part) = part_of_text(alloc, schema, default.node, text, &mut source)? else {
+            return Err(unsupported);
+        };
+        let count = if is_aligned { PHASES } else { 1 };
+        for before in 0..count {
+            let encoded = probe.encode_after(
+                alloc,
+                schema,
+                default.node,
+                part,
+                source.as_slice(),
+                is_aligned,
+                before,
+            )?;
+            let Some((octets, end)) = encoded else {
+                return Err(unsupported);
+            };
+            let at = self.octets.len().saturating_mul(8).saturating_add(before);
+            self.octets.extend_from_slice(octets.as_slice())?;
+            self.spans.push(Span {
+                at,
+                count: end.saturating_sub(before),
+            })?;
+        }
+        Ok(())
+    }
+}

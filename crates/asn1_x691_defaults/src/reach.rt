@@ -1,0 +1,72 @@
+//! The types that a type leads to.
+
+use asn1_schema::{Node, Rows, Tables};
+use std::alloc::{AllocError, Global};
+
+/// What is left to visit, and what was visited.
+#[derive(Drop)]
+struct Visits {
+    left: Vec<usize>,
+    is_visited: Vec<bool>,
+}
+
+impl Visits {
+    fn add(&mut self, node: usize) -> Result<(), AllocError> {
+        if let Some(place) = self.is_visited.as_mut_slice().get_mut(node)
+            && !*place
+        {
+            *place = true;
+            self.left.push(node)?;
+        }
+        Ok(())
+    }
+
+    fn add_members(&mut self, tables: Tables<'_>, rows: Rows) -> Result<(), AllocError> {
+        let end = rows.from.saturating_add(rows.count as usize);
+        for member in tables.members.get(rows.from..end).unwrap_or(&[]) {
+            self.add(member.node)?;
+        }
+        Ok(())
+    }
+}
+
+/// Returns of each node whether a type leads to it.
+pub(crate) fn reached_from(
+    alloc: Global,
+    tables: Tables<'_>,
+    node: usize,
+) -> Result<Vec<bool>, AllocError> {
+    let mut visits = Visits {
+        left: Vec::new(alloc),
+        is_visited: Vec::new(alloc),
+    };
+    visits.is_visited.resize(tables.nodes.len(), false)?;
+    visits.add(node)?;
+    for _ in 0..tables.nodes.len() {
+        let Some(next) = visits.left.pop() else {
+            break;
+        };
+        match tables.nodes.get(next) {
+            Some(
+                Node::Sequence {
+                    root: first,
+                    additions,
+                    ..
+                }
+                | Node::Choice {
+                    alternatives: first,
+                    additions,
+                    ..
+                },
+            ) => {
+                visits.add_members(tables, *first)?;
+                visits.add_members(tables, *additions)?;
+            }
+            Some(Node::SequenceOf { item, .. } | Node::SetOf { item, .. }) => visits.add(*item)?,
+            Some(Node::Open { inner }) => visits.add(*inner)?,
+            _ => {}
+        }
+    }
+    let Visits { is_visited, .. } = visits;
+    Ok(is_visited)
+}
