@@ -44,7 +44,6 @@ fn is_plain(word: Word) -> bool {
 /// Returns what of X.680 to X.683 a word begins that is not supported.
 fn unsupported(word: Word) -> Option<&'static str> {
     Some(match word {
-        Word::Any => "ANY (X.208)",
         Word::Class => "an information object class (X.681 9)",
         Word::TypeIdentifier => "TYPE-IDENTIFIER (X.681 A)",
         Word::Instance => "INSTANCE OF (X.681 C)",
@@ -125,6 +124,17 @@ impl<'m, 'a> Parser<'m, 'a> {
         Ok(self.open(Item::Plain, Some(word), token))
     }
 
+    /// Begins ANY, whose type a component may tell (X.208 27).
+    fn any(&mut self) -> Result<usize, NotationError> {
+        let token = self.take();
+        let index = self.open(Item::Plain, Some(Word::Any), token);
+        if self.accept_word(Word::Defined) {
+            self.expect_word(Word::By)?;
+            self.expect(TokenKind::Lower, "the name of a component")?;
+        }
+        Ok(index)
+    }
+
     /// Begins a type with no other type inside.
     fn simple_type(&mut self) -> Result<usize, NotationError> {
         match self.kind() {
@@ -149,6 +159,7 @@ impl<'m, 'a> Parser<'m, 'a> {
             TokenKind::Word(Word::Object) => {
                 self.two_words(Item::ObjectIdentifier, Word::Identifier)
             }
+            TokenKind::Word(Word::Any) => self.any(),
             TokenKind::Word(word) => self.one_word(word),
             TokenKind::Upper => self.reference(),
             _ => Err(self.expected("a type")),

@@ -2,8 +2,9 @@
 //!
 //! A tag is its class and its number: `U` for universal, `A`, `C` and `P`, as `C0`. The tags of a type
 //! are joined by full stops, `-` for none; after them are the numbers of an ENUMERATED, as `#0#5`, and
-//! `@2` or `@4` of a string with so many octets a character. A member has the tags that it can begin
-//! with, joined by `|`, and the tags of its type.
+//! `@2` or `@4` of a string with so many octets a character, and `+` of ANY. A member has the tags that
+//! it can begin with, joined by `|` and followed by `+` if it can begin with any, and the tags of its
+//! type.
 
 use crate::words::rows_of;
 use asn1_resolve::Schema;
@@ -33,6 +34,14 @@ fn push_tags(text: &mut String, tags: &[Tag], between: char) -> Result<(), RowEr
     Ok(())
 }
 
+/// Appends that any tag is permitted, if it is.
+fn push_any(text: &mut String, is_any: bool) -> Result<(), RowError> {
+    if is_any {
+        text.push('+')?;
+    }
+    Ok(())
+}
+
 /// Appends the tags of the type at a node.
 fn push_type_tags(text: &mut String, schema: &Schema, node: usize) -> Result<(), RowError> {
     let tables = schema.tag_tables();
@@ -54,7 +63,7 @@ fn push_type_tags(text: &mut String, schema: &Schema, node: usize) -> Result<(),
         CharacterSize::Two => text.push_str("@2")?,
         CharacterSize::Four => text.push_str("@4")?,
     }
-    Ok(())
+    push_any(text, tags.is_any)
 }
 
 /// Appends the tags of members, in parentheses those of the members of an addition group.
@@ -65,6 +74,7 @@ fn push_members(text: &mut String, schema: &Schema, rows: Rows) -> Result<(), Ro
     for (member, first) in members.iter().zip(tags) {
         text.push(' ')?;
         push_tags(text, rows_of(tables.tags, first.tags), '|')?;
+        push_any(text, first.is_any)?;
         text.push(':')?;
         push_type_tags(text, schema, member.node)?;
     }

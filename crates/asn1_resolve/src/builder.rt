@@ -1,11 +1,10 @@
 //! The tables that are made, in the caller's room.
 
 use crate::tag_tables::{NO_FIRST_TAGS, NO_TYPE_TAGS};
-use asn1_definitions::Tag;
 use asn1_notation::{NotationError, Problem, Sink, error_at};
 use asn1_schema::{Member, Node, Presence, Range, Rows};
 use asn1_schema_values::NameSpan;
-use asn1_x690::{FirstTags, TypeTags};
+use asn1_x690::{FirstTags, Tag, TypeTags};
 
 /// How many components and tags the names of a text may lead to.
 const MAX_STEPS: usize = 1 << 20;
@@ -58,6 +57,9 @@ pub struct Key {
 
 /// No name.
 pub const NO_NAME: NameSpan = NameSpan { from: 0, count: 0 };
+
+/// The key of ANY, which may begin with any tag.
+pub(crate) const ANY_TAG: u64 = u64::MAX;
 
 /// No rows.
 pub const NO_ROWS: Rows = Rows { from: 0, count: 0 };
@@ -117,11 +119,11 @@ pub struct Builder<'m> {
     /// What X.690 asks of each type.
     pub type_tags: Sink<'m, TypeTags>,
     /// The tags of the types.
-    pub tag_rows: Sink<'m, asn1_x690::Tag>,
+    pub tag_rows: Sink<'m, Tag>,
     /// The tags that each component and alternative can begin with, among the first tags.
     pub member_tags: Sink<'m, FirstTags>,
     /// The first tags.
-    pub first_rows: Sink<'m, asn1_x690::Tag>,
+    pub first_rows: Sink<'m, Tag>,
     /// The node of which each node is a copy with other tags.
     pub sources: Sink<'m, usize>,
     pub(crate) steps: usize,
@@ -171,9 +173,9 @@ impl<'m> Builder<'m> {
     pub fn with_tags(
         self,
         type_tags: &'m mut [TypeTags],
-        tag_rows: &'m mut [asn1_x690::Tag],
+        tag_rows: &'m mut [Tag],
         member_tags: &'m mut [FirstTags],
-        first_rows: &'m mut [asn1_x690::Tag],
+        first_rows: &'m mut [Tag],
         sources: &'m mut [usize],
     ) -> Builder<'m> {
         Builder {
@@ -204,13 +206,10 @@ impl<'m> Builder<'m> {
         self.nodes.push(node)
     }
 
-    /// Adds a tag that an encoding can begin with, of the component with this name.
-    pub(crate) fn add_tag(&mut self, tag: Tag, is_root: bool, span: NameSpan) {
-        self.tags.push(Key {
-            key: tag.order(),
-            is_root,
-            span,
-        });
+    /// Adds a tag that an encoding can begin with, of the component with this name: its order, or
+    /// `ANY_TAG`.
+    pub(crate) fn add_key(&mut self, key: u64, is_root: bool, span: NameSpan) {
+        self.tags.push(Key { key, is_root, span });
     }
 
     /// Returns the least tag of a root among those from an index on.
@@ -226,16 +225,17 @@ impl<'m> Builder<'m> {
         least
     }
 
-    /// Returns an error if two of the tags are equal, and removes them.
+    /// Returns an error if two of the tags are equal, and removes them. ANY has all tags.
     pub(crate) fn check_tags(&mut self) -> Result<(), NotationError> {
         let tags = self.tags.rows_from(0);
         tags.sort_unstable_by_key(|tag| (tag.key, tag.span.from));
         let mut last: Option<Key> = None;
         for tag in tags.iter() {
             if let Some(last) = last
-                && last.key == tag.key
+                && (last.key == tag.key || tag.key == ANY_TAG)
             {
-                return Err(error_at(Problem::EqualTags, tag.span.from));
+                let at = last.span.from.max(tag.span.from);
+                return Err(error_at(Problem::EqualTags, at));
             }
             last = Some(*tag);
         }

@@ -1,7 +1,8 @@
 //! The components of SEQUENCE and SET, and the alternatives of CHOICE.
 
-use crate::builder::{Builder, DefaultText, Draft, Key, NO_DRAFT};
+use crate::builder::{ANY_TAG, Builder, DefaultText, Draft, Key, NO_DRAFT};
 use crate::spans::span_of;
+use crate::tag_tables::is_any;
 use asn1_definitions::{MAX_STEPS, Place, Scope, context, hash_of};
 use asn1_notation::{Item, NotationError, Problem, narrow};
 use asn1_schema::{Member, Node, Presence, Rows};
@@ -250,7 +251,7 @@ impl<'m> Builder<'m> {
         }
         let from = self.tags.count();
         if gathering.tagging.is_automatic {
-            self.add_tag(context(gathering.tagging.next), true, name);
+            self.add_key(context(gathering.tagging.next).order(), true, name);
             gathering.tagging.next = gathering.tagging.next.saturating_add(1);
         } else {
             self.add_first_tags(scope, of, name, true, MAX_STEPS)?;
@@ -304,8 +305,10 @@ impl<'m> Builder<'m> {
         }
         let of = scope.named_type(place)?;
         if scope.item(of) != Item::Choice {
-            if let Some(tag) = scope.tag_of(of)? {
-                self.add_tag(tag, is_root, name);
+            if is_any(scope, of) {
+                self.add_key(ANY_TAG, is_root, name);
+            } else if let Some(tag) = scope.tag_of(of)? {
+                self.add_key(tag.order(), is_root, name);
             }
             return Ok(());
         }
@@ -335,7 +338,7 @@ impl<'m> Builder<'m> {
             match scope.item(part) {
                 Item::Ellipsis => is_root = false,
                 Item::Component if is_automatic => {
-                    self.add_tag(context(number), is_root, name);
+                    self.add_key(context(number).order(), is_root, name);
                     number = number.saturating_add(1);
                 }
                 Item::Component => {

@@ -9,6 +9,12 @@ use asn1_schema::{Bounds, Length, LowerBound, Node, Rows};
 /// Sizes without a constraint.
 const ANY_LENGTH: Length = Length::AtLeast { least: 0 };
 
+/// Octets of any count.
+const UNBOUNDED_OCTETS: Node = Node::OctetString {
+    length: ANY_LENGTH,
+    is_extensible: false,
+};
+
 /// Returns the bounds of two numbers. `None` if there is no number from the first to the second one.
 fn bounds_of(least: i128, greatest: i128) -> Option<Bounds> {
     if greatest < least {
@@ -157,10 +163,9 @@ impl<'m> Builder<'m> {
                 | Word::GraphicString
                 | Word::GeneralString
                 | Word::ObjectDescriptor,
-            ) => Node::OctetString {
-                length: ANY_LENGTH,
-                is_extensible: false,
-            },
+            ) => UNBOUNDED_OCTETS,
+            // PER encodes an open type as the octets of its value (X.691 11.2.1).
+            Some(Word::Any) => UNBOUNDED_OCTETS,
             _ => {
                 let Some(whole) = word.and_then(whole_alphabet) else {
                     return Err(scope.error(Problem::Unsupported(unsupported(word)), place));

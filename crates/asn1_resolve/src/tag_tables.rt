@@ -1,7 +1,7 @@
 //! The tags of types, for the rules of X.690.
 
 use crate::alphabet::character_size;
-use crate::builder::{Builder, NO_SOURCE};
+use crate::builder::{ANY_TAG, Builder, NO_SOURCE};
 use asn1_definitions::{MAX_STEPS, Place, Scope, context};
 use asn1_notation::{Item, NotationError, Problem, Word, narrow, wide};
 use asn1_schema::{Node, Rows};
@@ -44,9 +44,16 @@ pub(crate) fn tag_of_order(order: u64) -> Tag {
     }
 }
 
-/// Returns whether a type is a CHOICE without a tag, before which a tag is explicit (X.680 31.2.7).
-fn is_untagged_choice(scope: Scope<'_>, place: Place) -> Result<bool, NotationError> {
-    Ok(scope.item(scope.named_type(place)?) == Item::Choice)
+/// Returns whether a type is ANY.
+pub(crate) fn is_any(scope: Scope<'_>, place: Place) -> bool {
+    scope.item(place) == Item::Plain && scope.entry(place.index).word == Some(Word::Any)
+}
+
+/// Returns whether a type has no tag: a CHOICE or ANY, before which a tag is explicit (X.680 31.2.7,
+/// X.208 27.8).
+fn is_untagged(scope: Scope<'_>, place: Place) -> Result<bool, NotationError> {
+    let named = scope.named_type(place)?;
+    Ok(scope.item(named) == Item::Choice || is_any(scope, named))
 }
 
 /// Returns whether the tag that is written before a type replaces the first tag of the type (X.680
@@ -62,7 +69,7 @@ fn is_implicit(scope: Scope<'_>, place: Place) -> Result<bool, NotationError> {
     if !is_default && scope.find_in(place, Item::Implicit).is_none() {
         return Ok(false);
     }
-    Ok(!is_untagged_choice(scope, scope.type_in(place))?)
+    Ok(!is_untagged(scope, scope.type_in(place))?)
 }
 
 /// Returns the type in a type with tags, through all of them.
@@ -112,7 +119,7 @@ impl<'m> Builder<'m> {
         let mut is_replaced = false;
         if let Some(number) = automatic {
             self.tag_rows.push(tag_of_order(context(number).order()));
-            is_replaced = !is_untagged_choice(scope, place)?;
+            is_replaced = !is_untagged(scope, place)?;
         }
         let mut found = place;
         for _ in 0..MAX_STEPS {
@@ -151,6 +158,7 @@ impl<'m> Builder<'m> {
             TypeTags {
                 tags,
                 characters: character_size(scope.entry(base.index).word),
+                is_any: is_any(scope, base),
                 ..NO_TYPE_TAGS
             },
         );
@@ -212,14 +220,22 @@ impl<'m> Builder<'m> {
     /// Appends the tags that the encoding of a component can begin with: those from an index on.
     pub(crate) fn push_first_tags(&mut self, from: usize) -> FirstTags {
         let start = self.first_rows.count();
+        let mut is_any = false;
         for index in from..self.tags.count() {
             let tag = match self.tags.get(index) {
+                Some(key) if key.key == ANY_TAG => {
+                    is_any = true;
+                    continue;
+                }
                 Some(key) => tag_of_order(key.key),
                 None => NO_TAG,
             };
             self.first_rows.push(tag);
         }
-        self.first_tags_from(start)
+        FirstTags {
+            is_any,
+            ..self.first_tags_from(start)
+        }
     }
 
     /// Returns the first tags from an index on.
