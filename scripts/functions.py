@@ -65,6 +65,12 @@ def function_at(place, known):
     raise Unfit("its function is not plain from its place: name it in a line `function:`")
 
 
+def in_cycles(text, file):
+    """The names of the functions of the text that are in a cycle of calls, which a line `#[cycle(NAME)]` above them says."""
+    heads = re.finditer(HEAD, text, re.M)
+    return {it for head in heads if re.search(r"^ *#\[cycle\(.*\n(?: *#\[.*\n)*\Z", text[: head.start()], re.M) for it in names_of(place_at(text, file, head))}
+
+
 def body_of(text, head):
     """From where to where the body of the function with this head goes, its braces with it. None where it has none."""
     indent, at, has_clauses = head[1], head.start(), False
