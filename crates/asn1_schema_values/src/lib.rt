@@ -8,9 +8,13 @@ mod laws;
 mod leaves;
 mod lists;
 mod names;
+mod path;
+#[cfg(test)]
+mod tests;
 mod value;
 
 pub use extent::{end_of, end_of_values};
 pub use laws::laws_of_extents;
 pub use names::{NameSpan, Names};
+pub use path::Path;
 pub use value::{Message, Value};

@@ -36,7 +36,7 @@ pub(crate) fn decode_additions(
         state.old state.new parts.old parts.new result }
 {
     let first = state.count;
-    state.count = push_part(parts, first, Part::Additions(0));
+    state.count = push_part(parts, first, Part::Additions(usize::MAX));
     if !decode_members(context, depth, node, true, known, state, parts) {
         return false;
     }

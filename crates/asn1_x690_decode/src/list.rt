@@ -40,12 +40,13 @@ pub(crate) fn decode_list(
 {
     let start = state.at;
     let first = state.count;
-    state.count = push_part(parts, first, Part::Count(0));
+    state.count = push_part(parts, first, Part::Count(usize::MAX));
     match decode_items(context, depth, node, is_set, item, state, parts) {
         None => false,
         Some(count) => {
             if !has_size(is_extensible, size, count) {
                 state.at = start;
+                state.count = first;
                 fail(state, node, FaultKind::NotPermitted);
                 return false;
             }
@@ -79,12 +80,13 @@ fn decode_items(
     let mut before = state.at;
     let mut count = 0;
     while state.at < state.end {
-        let from = state.at;
+        let (from, first) = (state.at, state.count);
         if !decode_element(context, depth, item, state, parts) {
             return None;
         }
         if is_set && is_before(context.octets, before, from, state.at) {
             state.at = from;
+            state.count = first;
             fail(state, node, FaultKind::NotAscending);
             return None;
         }

@@ -180,7 +180,7 @@ fn decode_value(
     ensures did { ElementOutcome context.now (value_of context.now depth node member).encoding state.old state.new
         parts.old parts.new result }
 {
-    let start = state.at;
+    let (start, first) = (state.at, state.count);
     if !decode_element(context, depth, member.node, state, parts) {
         return false;
     }
@@ -198,6 +198,7 @@ fn decode_value(
                 state.at,
             ) {
                 state.at = start;
+                state.count = first;
                 fail(state, node, FaultKind::DefaultValue);
                 return false;
             }

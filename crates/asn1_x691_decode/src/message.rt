@@ -20,6 +20,9 @@ pub struct Fault {
     pub node: usize,
     /// The index of the bit in the message.
     pub at: usize,
+    /// How many parts were made before it. They lead to the value that has the fault
+    /// (`asn1_schema_values::Path`).
+    pub parts: usize,
     /// Why no value is encoded there.
     pub kind: FaultKind,
 }
@@ -82,6 +85,7 @@ pub fn decode(
     Err(Fault {
         node: state.node,
         at: state.at,
+        parts: state.count,
         kind: state.kind,
     })
 }
@@ -112,6 +116,7 @@ pub fn decode_prefix(
     Err(Fault {
         node: state.node,
         at: state.at,
+        parts: state.count,
         kind: state.kind,
     })
 }

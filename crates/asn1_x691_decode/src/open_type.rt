@@ -118,12 +118,13 @@ fn decode_other_than(
     ensures did { Outcome context.now (λ at. (value_in context.now depth node (presence.Default value) inner at).encoding)
         state.old state.new parts.old parts.new result }
 {
-    let (first, from) = (state.first, state.at);
+    let (first, from, count) = (state.first, state.at, state.count);
     if !decode_node(context, depth, inner, state, parts) {
         return false;
     }
     if is_default(context, value, first, from, state.at) {
         state.at = from;
+        state.count = count;
         fail(state, node, FaultKind::DefaultValue);
         return false;
     }

@@ -65,17 +65,19 @@ fn decode_item(
         (bits_at (bits context.now.octets.now) before (state.old.at - before)) at).encoding)
         state.old state.new parts.old parts.new result }
 {
-    let (first, from) = (state.first, state.at);
+    let (first, from, count) = (state.first, state.at, state.count);
     if !decode_node(context, depth, item, state, parts) {
         return false;
     }
     if is_off_octet(context.is_aligned, from - before, from - first) {
         state.at = from;
+        state.count = count;
         fail(state, node, FaultKind::Unsupported);
         return false;
     }
     if is_before(context.octets, before, from, state.at) {
         state.at = from;
+        state.count = count;
         fail(state, node, FaultKind::NotAscending);
         return false;
     }

@@ -1,10 +1,12 @@
 //! The encodings of the default values of a schema.
 
+use crate::element::element_of;
 use crate::notation::part_of_text;
 use crate::probe::Probe;
 use crate::reach::reached_from;
+use crate::rules::Rules;
 use asn1_resolve::{DefaultText, Schema};
-use asn1_schema::{Node, Span};
+use asn1_schema::{Node, Part, Span};
 use asn1_x691_decode::Defaults;
 use std::alloc::{AllocError, AllocFailed, Global};
 use thiserror::Error;
@@ -66,7 +68,15 @@ fn kind_of(of: Option<&Node>) -> &'static str {
     }
 }
 
-/// The encodings of the default values of a schema in one variant of PER.
+/// Returns how many encodings a default value has.
+fn count_of(rules: Rules) -> usize {
+    match rules {
+        Rules::Der | Rules::UnalignedPer => 1,
+        Rules::AlignedPer => PHASES,
+    }
+}
+
+/// The encodings of the default values of a schema by one set of rules.
 #[derive(Drop)]
 pub struct DefaultEncodings {
     octets: Vec<u8>,
@@ -84,7 +94,7 @@ impl DefaultEncodings {
         alloc: Global,
         schema: &Schema,
         node: usize,
-        is_aligned: bool,
+        rules: Rules,
     ) -> Result<DefaultEncodings, DefaultError> {
         let mut encodings = DefaultEncodings {
             octets: Vec::new(alloc),
@@ -95,9 +105,9 @@ impl DefaultEncodings {
         for default in schema.defaults() {
             let is_wanted = is_reached.as_slice().get(default.node).copied();
             if is_wanted == Some(true) {
-                encodings.add(alloc, schema, &mut probe, *default, is_aligned)?;
+                encodings.add(alloc, schema, &mut probe, *default, rules)?;
             } else {
-                encodings.add_none(is_aligned)?;
+                encodings.add_none(rules)?;
             }
         }
         Ok(encodings)
@@ -112,11 +122,19 @@ impl DefaultEncodings {
     }
 
     /// Appends spans without bits, which no value that the type at hand leads to is compared with.
-    fn add_none(&mut self, is_aligned: bool) -> Result<(), DefaultError> {
-        let count = if is_aligned { PHASES } else { 1 };
-        for _ in 0..count {
+    fn add_none(&mut self, rules: Rules) -> Result<(), DefaultError> {
+        for _ in 0..count_of(rules) {
             self.spans.push(NO_BITS)?;
         }
+        Ok(())
+    }
+
+    /// Appends an encoding: the bits of octets from an index on, before another one.
+    fn push(&mut self, octets: &[u8], from: usize, end: usize) -> Result<(), AllocError> {
+        let at = self.octets.len().saturating_mul(8).saturating_add(from);
+        self.octets.extend_from_slice(octets)?;
+        let count = end.saturating_sub(from);
+        self.spans.push(Span { at, count })?;
         Ok(())
     }
 
@@ -127,38 +145,57 @@ impl DefaultEncodings {
         schema: &Schema,
         probe: &mut Probe,
         default: DefaultText,
-        is_aligned: bool,
+        rules: Rules,
     ) -> Result<(), DefaultError> {
-        let unsupported = DefaultError::Unsupported {
-            at: default.value.from,
-            kind: kind_of(schema.tables().nodes.get(default.node)),
-        };
         let text = schema.text_of(default.value);
         let mut source = Vec::new(alloc);
-        let Some(part) = part_of_text(alloc, schema, default.node, text, &mut source)? else {
-            return Err(unsupported);
-        };
-        let count = if is_aligned { PHASES } else { 1 };
-        for before in 0..count {
-            let encoded = probe.encode_after(
+        let part = part_of_text(alloc, schema, default.node, text, &mut source)?;
+        if let Some(part) = part
+            && self.add_part(
                 alloc,
                 schema,
+                probe,
                 default.node,
                 part,
                 source.as_slice(),
-                is_aligned,
-                before,
-            )?;
-            let Some((octets, end)) = encoded else {
-                return Err(unsupported);
-            };
-            let at = self.octets.len().saturating_mul(8).saturating_add(before);
-            self.octets.extend_from_slice(octets.as_slice())?;
-            self.spans.push(Span {
-                at,
-                count: end.saturating_sub(before),
-            })?;
+                rules,
+            )?
+        {
+            return Ok(());
         }
-        Ok(())
+        Err(DefaultError::Unsupported {
+            at: default.value.from,
+            kind: kind_of(schema.tables().nodes.get(default.node)),
+        })
+    }
+
+    /// Appends the encodings of a value of one part. Returns whether it is a value of the type.
+    fn add_part(
+        &mut self,
+        alloc: Global,
+        schema: &Schema,
+        probe: &mut Probe,
+        node: usize,
+        part: Part,
+        source: &[u8],
+        rules: Rules,
+    ) -> Result<bool, AllocError> {
+        if rules == Rules::Der {
+            let Some(element) = element_of(alloc, schema, node, part, source)? else {
+                return Ok(false);
+            };
+            self.push(element.as_slice(), 0, element.len().saturating_mul(8))?;
+            return Ok(true);
+        }
+        let is_aligned = rules == Rules::AlignedPer;
+        for before in 0..count_of(rules) {
+            let encoded =
+                probe.encode_after(alloc, schema, node, part, source, is_aligned, before)?;
+            let Some((octets, end)) = encoded else {
+                return Ok(false);
+            };
+            self.push(octets.as_slice(), before, end)?;
+        }
+        Ok(true)
     }
 }

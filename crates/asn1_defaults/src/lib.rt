@@ -1,15 +1,18 @@
-//! The encodings of default values in PER (X.691), from the text of a schema.
+//! The encodings of default values in DER (X.690) and PER (X.691), from the text of a schema.
 //!
-//! A decoder and an encoder of PER compare a value with the encoding of its default (X.691 19.5).
+//! A decoder and an encoder compare a value with the encoding of its default (X.690 11.5, X.691 19.5).
 //! [`DefaultEncodings`] has these encodings: each default value is read from the value notation of
 //! X.680, and encoded by the encoder itself.
 #![tactic(auto)]
 
+mod element;
 mod encodings;
 mod notation;
 mod probe;
 mod reach;
+mod rules;
 #[cfg(test)]
 mod tests;
 
 pub use encodings::{DefaultEncodings, DefaultError};
+pub use rules::Rules;

@@ -1,0 +1,46 @@
+//! Encodes a value of one part as an element of DER.
+
+use asn1_resolve::Schema;
+use asn1_schema::Part;
+use asn1_x690_encode::{Context, encode};
+use asn1_x691_encode::Defaults;
+use std::alloc::{AllocError, Global};
+
+/// How deep a value of one part is.
+const DEPTH: usize = 2;
+
+/// Returns the element of a value of the type at a node. `None` if the part is no value of the type.
+pub(crate) fn element_of(
+    alloc: Global,
+    schema: &Schema,
+    node: usize,
+    part: Part,
+    source: &[u8],
+) -> Result<Option<Vec<u8>>, AllocError> {
+    if source.len() > 1 << 60 {
+        return Ok(None);
+    }
+    let parts = [part];
+    let context = Context {
+        tables: schema.tables(),
+        tags: schema.tag_tables(),
+        defaults: Defaults {
+            octets: &[],
+            spans: &[],
+        },
+        parts: &parts,
+        source,
+    };
+    let Ok(needed) = encode(&context, DEPTH, node, &mut []) else {
+        return Ok(None);
+    };
+    if needed.octets > 1 << 60 {
+        return Ok(None);
+    }
+    let mut octets: Vec<u8> = Vec::new(alloc);
+    octets.resize(needed.octets, 0)?;
+    match encode(&context, DEPTH, node, octets.as_mut_slice()) {
+        Ok(_) => Ok(Some(octets)),
+        Err(_) => Ok(None),
+    }
+}

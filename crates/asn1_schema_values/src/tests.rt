@@ -1,0 +1,120 @@
+use crate::names::{NameSpan, Names};
+use crate::path::Path;
+use asn1_schema::{Length, Member, Node, Part, Presence, Rows, Tables};
+use std::test::Fail;
+
+/// SEQUENCE { a BOOLEAN, list SEQUENCE OF CHOICE { x NULL, y BOOLEAN }, ..., added BOOLEAN }
+const NODES: [Node; 5] = [
+    Node::Sequence {
+        root: Rows { from: 0, count: 2 },
+        is_extensible: true,
+        additions: Rows { from: 2, count: 1 },
+    },
+    Node::Boolean,
+    Node::SequenceOf {
+        length: Length::AtLeast { least: 0 },
+        is_extensible: false,
+        item: 3,
+    },
+    Node::Choice {
+        alternatives: Rows { from: 3, count: 2 },
+        is_extensible: false,
+        additions: Rows { from: 5, count: 0 },
+    },
+    Node::Null,
+];
+
+const MEMBERS: [Member; 5] = [
+    Member {
+        node: 1,
+        presence: Presence::Mandatory,
+    },
+    Member {
+        node: 2,
+        presence: Presence::Mandatory,
+    },
+    Member {
+        node: 1,
+        presence: Presence::Mandatory,
+    },
+    Member {
+        node: 4,
+        presence: Presence::Mandatory,
+    },
+    Member {
+        node: 1,
+        presence: Presence::Mandatory,
+    },
+];
+
+const TEXT: [u8; 12] = *b"alistaddedxy";
+
+const NAMES: [NameSpan; 5] = [
+    NameSpan { from: 0, count: 1 },
+    NameSpan { from: 1, count: 4 },
+    NameSpan { from: 5, count: 5 },
+    NameSpan { from: 10, count: 1 },
+    NameSpan { from: 11, count: 1 },
+];
+
+/// A value with one item `y`, and an addition.
+const PARTS: [Part; 7] = [
+    Part::Sequence {
+        count: 2,
+        is_extended: true,
+    },
+    Part::Truth(true),
+    Part::Count(1),
+    Part::Chosen(1),
+    Part::Truth(false),
+    Part::Additions(1),
+    Part::Truth(true),
+];
+
+/// The same where the number of items is not known yet.
+const OPEN: [Part; 5] = [
+    Part::Sequence {
+        count: 2,
+        is_extended: false,
+    },
+    Part::Truth(true),
+    Part::Count(usize::MAX),
+    Part::Chosen(0),
+    Part::Null,
+];
+
+/// Returns whether the path after the first parts is this one.
+fn is_path(alloc: std::alloc::Global, parts: &[Part], expected: &str) -> Result<bool, Fail> {
+    let path = Path {
+        tables: Tables {
+            nodes: &NODES,
+            members: &MEMBERS,
+            ranges: &[],
+        },
+        names: Names {
+            text: &TEXT,
+            nodes: &[],
+            members: &NAMES,
+        },
+        node: 0,
+        parts,
+    };
+    let text = format!(in alloc; "{path}")?;
+    Ok(text.as_str() == expected)
+}
+
+#[test]
+fn a_path_leads_to_what_follows_the_parts(rt: HostRuntime) -> Result<(), Fail> {
+    let alloc = rt.alloc();
+    let expected = ["", "a", "list", "list[0]", "list[0].y", "", "added", ""];
+    for (count, path) in expected.iter().enumerate() {
+        let parts = PARTS.get(..count).unwrap_or(&[]);
+        assert!(rt; is_path(alloc, parts, path)?);
+    }
+    let expected = ["", "a", "list", "list[0]", "list[0].x", "list[1]"];
+    for (count, path) in expected.iter().enumerate() {
+        let parts = OPEN.get(..count).unwrap_or(&[]);
+        assert!(rt; is_path(alloc, parts, path)?);
+    }
+    Ok(())
+}
