@@ -1,4 +1,4 @@
-//! Encodes a value of one part as an element of DER.
+//! Encodes a value as an element of DER.
 
 use asn1_resolve::Schema;
 use asn1_schema::Part;
@@ -6,21 +6,20 @@ use asn1_x690_encode::{Context, encode};
 use asn1_x691_encode::Defaults;
 use std::alloc::{AllocError, Global};
 
-/// How deep a value of one part is.
-const DEPTH: usize = 2;
+/// How deep a value may be nested.
+const DEPTH: usize = 64;
 
-/// Returns the element of a value of the type at a node. `None` if the part is no value of the type.
+/// Returns the element of a value of the type at a node. `None` if the parts are no value of the type.
 pub(crate) fn element_of(
     alloc: Global,
     schema: &Schema,
     node: usize,
-    part: Part,
+    parts: &[Part],
     source: &[u8],
 ) -> Result<Option<Vec<u8>>, AllocError> {
-    if source.len() > 1 << 60 {
+    if source.len() > 1 << 60 || parts.len() > 1 << 60 {
         return Ok(None);
     }
-    let parts = [part];
     let context = Context {
         tables: schema.tables(),
         tags: schema.tag_tables(),
@@ -28,7 +27,7 @@ pub(crate) fn element_of(
             octets: &[],
             spans: &[],
         },
-        parts: &parts,
+        parts,
         source,
     };
     let Ok(needed) = encode(&context, DEPTH, node, &mut []) else {

@@ -1,7 +1,6 @@
 //! The encodings of the default values of a schema.
 
 use crate::element::element_of;
-use crate::notation::part_of_text;
 use crate::probe::Probe;
 use crate::reach::reached_from;
 use crate::rules::Rules;
@@ -20,7 +19,7 @@ const NO_BITS: Span = Span { at: 0, count: 0 };
 /// Why there are no encodings of default values.
 #[derive(Clone, Copy, Debug, PartialEq, Eq, Drop, Error)]
 pub enum DefaultError {
-    /// The value at this octet of the text is not read: its notation is not supported for such a
+    /// The value at this octet of the text has no encoding: its notation is not supported for such a
     /// type, or it is no value of the type.
     #[error("DEFAULT with {kind} is not supported here")]
     Unsupported {
@@ -46,25 +45,25 @@ impl<T: Drop> From<AllocFailed<T>> for DefaultError {
     }
 }
 
-/// Returns what the value of a type is, for an error.
+/// Returns what a value is of, for an error.
 fn kind_of(of: Option<&Node>) -> &'static str {
     match of {
+        Some(Node::Boolean) => "a value of BOOLEAN (X.680 18)",
         Some(Node::Integer | Node::IntegerAtLeast { .. } | Node::IntegerBetween { .. }) => {
-            "a value of INTEGER that is no number (X.680 19)"
+            "a value of INTEGER (X.680 19)"
         }
+        Some(Node::Enumerated { .. }) => "a value of ENUMERATED (X.680 20)",
+        Some(Node::BitString { .. }) => "a value of BIT STRING (X.680 22)",
+        Some(Node::OctetString { .. }) => "a value of OCTET STRING or ANY (X.680 23)",
         Some(Node::Sequence { .. }) => "a value of SEQUENCE or SET (X.680 25, 27)",
         Some(Node::SequenceOf { .. } | Node::SetOf { .. }) => {
             "a value of SEQUENCE OF or SET OF (X.680 26, 28)"
         }
         Some(Node::Choice { .. }) => "a value of CHOICE (X.680 29)",
-        Some(Node::BitString { .. }) => "a value of BIT STRING that is no string (X.680 22)",
-        Some(Node::OctetString { .. }) => "a value of OCTET STRING that is no string (X.680 23)",
         Some(Node::ObjectIdentifier) => "a value of OBJECT IDENTIFIER (X.680 32)",
         Some(Node::RelativeIdentifier) => "a value of RELATIVE-OID (X.680 33)",
-        Some(Node::Text { .. } | Node::Utf8String) => {
-            "a value of a character string that is no string on one line (X.680 41)"
-        }
-        _ => "a name of a value (X.680 16)",
+        Some(Node::Text { .. } | Node::Utf8String) => "a value of a character string (X.680 41)",
+        _ => "this value",
     }
 }
 
@@ -102,10 +101,10 @@ impl DefaultEncodings {
         };
         let is_reached = reached_from(alloc, schema.tables(), node)?;
         let mut probe = Probe::new(alloc, schema)?;
-        for default in schema.defaults() {
+        for (index, default) in schema.defaults().iter().enumerate() {
             let is_wanted = is_reached.as_slice().get(default.node).copied();
             if is_wanted == Some(true) {
-                encodings.add(alloc, schema, &mut probe, *default, rules)?;
+                encodings.add(alloc, schema, &mut probe, index, *default, rules)?;
             } else {
                 encodings.add_none(rules)?;
             }
@@ -138,28 +137,18 @@ impl DefaultEncodings {
         Ok(())
     }
 
-    /// Appends the encodings of a default value.
+    /// Appends the encodings of a default value, which has an index.
     fn add(
         &mut self,
         alloc: Global,
         schema: &Schema,
         probe: &mut Probe,
+        index: usize,
         default: DefaultText,
         rules: Rules,
     ) -> Result<(), DefaultError> {
-        let text = schema.text_of(default.value);
-        let mut source = Vec::new(alloc);
-        let part = part_of_text(alloc, schema, default.node, text, &mut source)?;
-        if let Some(part) = part
-            && self.add_part(
-                alloc,
-                schema,
-                probe,
-                default.node,
-                part,
-                source.as_slice(),
-                rules,
-            )?
+        if let Some((parts, source)) = schema.default_value(index)
+            && self.add_parts(alloc, schema, probe, default.node, parts, source, rules)?
         {
             return Ok(());
         }
@@ -169,19 +158,19 @@ impl DefaultEncodings {
         })
     }
 
-    /// Appends the encodings of a value of one part. Returns whether it is a value of the type.
-    fn add_part(
+    /// Appends the encodings of a value of the type at a node. Returns whether the parts are one.
+    fn add_parts(
         &mut self,
         alloc: Global,
         schema: &Schema,
         probe: &mut Probe,
         node: usize,
-        part: Part,
+        parts: &[Part],
         source: &[u8],
         rules: Rules,
     ) -> Result<bool, AllocError> {
         if rules == Rules::Der {
-            let Some(element) = element_of(alloc, schema, node, part, source)? else {
+            let Some(element) = element_of(alloc, schema, node, parts, source)? else {
                 return Ok(false);
             };
             self.push(element.as_slice(), 0, element.len().saturating_mul(8))?;
@@ -189,8 +178,9 @@ impl DefaultEncodings {
         }
         let is_aligned = rules == Rules::AlignedPer;
         for before in 0..count_of(rules) {
-            let encoded =
-                probe.encode_after(alloc, schema, node, part, source, is_aligned, before)?;
+            let encoded = probe.encode_after(
+                alloc, schema, node, parts, source, is_aligned, before,
+            )?;
             let Some((octets, end)) = encoded else {
                 return Ok(false);
             };

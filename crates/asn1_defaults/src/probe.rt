@@ -12,8 +12,8 @@ use std::alloc::{AllocError, Global};
 /// The most bits that precede a value in an octet.
 const MOST_BEFORE: usize = 7;
 
-/// How deep the value of the SEQUENCE is.
-const DEPTH: usize = 3;
+/// How deep the value of the SEQUENCE may be nested.
+const DEPTH: usize = 65;
 
 /// The tables of a schema, and a SEQUENCE around one value.
 #[derive(Drop)]
@@ -51,7 +51,7 @@ fn message_of(
     context: &Context<'_>,
     node: usize,
 ) -> Result<Option<Vec<u8>>, AllocError> {
-    if context.source.len() > 1 << 60 || context.parts.len() > 64 {
+    if context.source.len() > 1 << 60 || context.parts.len() > 1 << 60 {
         return Ok(None);
     }
     let Ok(needed) = encode(context, DEPTH, node, &mut []) else {
@@ -112,13 +112,13 @@ impl Probe {
     }
 
     /// Returns the encoding of a value of the type at a node after so many bits of an octet: octets,
-    /// and the index of the bit after the value. `None` if the part is no value of the type.
+    /// and the index of the bit after the value. `None` if the parts are no value of the type.
     pub(crate) fn encode_after(
         &mut self,
         alloc: Global,
         schema: &Schema,
         node: usize,
-        part: Part,
+        value: &[Part],
         source: &[u8],
         is_aligned: bool,
         before: usize,
@@ -133,7 +133,7 @@ impl Probe {
         for _ in 0..before {
             parts.push(Part::Truth(false))?;
         }
-        parts.push(part)?;
+        parts.extend_from_slice(value)?;
         parts.push(Part::Truth(true))?;
         let context = Context {
             tables: Tables {

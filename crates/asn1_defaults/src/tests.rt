@@ -15,7 +15,10 @@ Tagged ::= SEQUENCE {
     b BOOLEAN DEFAULT TRUE,
     c [8] EXPLICIT ENUMERATED { red(3), green(-1) } DEFAULT green
 }
-Other ::= SEQUENCE { d SEQUENCE { e NULL } DEFAULT { e NULL } }
+Pair ::= SEQUENCE { d SEQUENCE { e NULL, f V } DEFAULT { e NULL, f two } }
+V ::= INTEGER { two(2) }
+Other ::= SEQUENCE { d REFERENCE DEFAULT { 1 2 } }
+REFERENCE ::= RELATIVE-OID
 END
 ";
 
@@ -28,7 +31,7 @@ fn default_values_are_encoded(rt: HostRuntime) -> Result<(), Fail> {
     let encodings = DefaultEncodings::new(alloc, &schema, node, Rules::UnalignedPer)?;
     let defaults = encodings.defaults();
     let spans = defaults.spans.get(0..3).unwrap_or(&[]);
-    assert!(rt; defaults.spans.len() == 7);
+    assert!(rt; defaults.spans.len() == 8);
     let [first, second, third] = spans else {
         return Ok(());
     };
@@ -60,6 +63,18 @@ fn default_values_are_elements_of_der(rt: HostRuntime) -> Result<(), Fail> {
     assert!(rt; *first == Span { at: 0, count: 32 });
     assert!(rt; *second == Span { at: 32, count: 24 });
     assert!(rt; *third == Span { at: 56, count: 40 });
+    Ok(())
+}
+
+/// X.690 8.9: the element of a SEQUENCE, whose first component has the tag 0 and no contents.
+#[test]
+fn a_default_value_of_a_sequence_is_an_element(rt: HostRuntime) -> Result<(), Fail> {
+    let alloc = rt.alloc();
+    let schema = Schema::parse(alloc, MODULE)?;
+    let node = schema.node_named("Pair").ok_or("no type")?;
+    let encodings = DefaultEncodings::new(alloc, &schema, node, Rules::Der)?;
+    let expected = [0xA0, 0x05, 0x80, 0x00, 0x81, 0x01, 0x02];
+    assert!(rt; encodings.defaults().octets == expected.as_slice());
     Ok(())
 }
 

@@ -7,7 +7,7 @@ use asn1_notation::{Entry, Item, NO_ENTRY, NotationError, Problem, error_at, par
 pub const MAX_STEPS: usize = 400;
 
 /// An entry, in its module.
-#[derive(Clone, Copy, PartialEq, Eq)]
+#[derive(Clone, Copy, Debug, PartialEq, Eq)]
 pub struct Place {
     /// The index of the module's entry.
     pub module: usize,

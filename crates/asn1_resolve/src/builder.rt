@@ -1,6 +1,7 @@
 //! The tables that are made, in the caller's room.
 
 use crate::tag_tables::{NO_FIRST_TAGS, NO_TYPE_TAGS};
+use asn1_definitions::Place;
 use asn1_notation::{NotationError, Problem, Sink, error_at};
 use asn1_schema::{Member, Node, Presence, Range, Rows};
 use asn1_schema_values::NameSpan;
@@ -25,6 +26,10 @@ pub struct DefaultText {
     pub value: NameSpan,
     /// Its type.
     pub node: usize,
+    /// The entry of DEFAULT.
+    pub(crate) at: Place,
+    /// The entry of its type.
+    pub(crate) of: Place,
 }
 
 /// A type with a name.

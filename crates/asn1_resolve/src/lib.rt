@@ -7,14 +7,18 @@
 mod alphabet;
 mod builder;
 mod enumerated;
+mod governed;
 mod members;
 mod modules;
 mod nodes;
+mod pieces;
 mod schema;
 mod spans;
+mod strings;
 mod tag_tables;
 #[cfg(test)]
 mod tests;
+mod values;
 
 pub use builder::{Builder, DefaultText, Draft, Enumeral, Key, NO_DRAFT, NO_KEY, NamedType};
 pub use modules::resolve;

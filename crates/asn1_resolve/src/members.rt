@@ -282,7 +282,12 @@ impl<'m> Builder<'m> {
         match scope.find_in(place, Item::Default) {
             Some(default) => {
                 let value = span_of(scope, default);
-                let value = self.defaults.push(DefaultText { value, node });
+                let value = self.defaults.push(DefaultText {
+                    value,
+                    node,
+                    at: default,
+                    of: scope.type_in(place),
+                });
                 Presence::Default { value }
             }
             None => Presence::Mandatory,

@@ -21,13 +21,19 @@ pub fn resolve(
     tables: &mut Builder<'_>,
 ) -> Result<(), NotationError> {
     let mut lists = [0u32; LISTS];
-    index_definitions(text, tape, &mut lists)?;
-    let count = number_types(text, tape, &lists)?;
-    let scope = Scope {
-        text,
-        tape,
-        lists: &lists,
-    };
+    resolve_lists(text, tape, &mut lists, tables)
+}
+
+/// Makes the tables, and the lists of definitions.
+pub(crate) fn resolve_lists(
+    text: &[u8],
+    tape: &mut [Entry],
+    lists: &mut [u32; LISTS],
+    tables: &mut Builder<'_>,
+) -> Result<(), NotationError> {
+    index_definitions(text, tape, lists)?;
+    let count = number_types(text, tape, lists)?;
+    let scope = Scope { text, tape, lists };
     check_imports(scope)?;
     for range in &WHOLE_ALPHABETS {
         tables.ranges.push(*range);

@@ -6,10 +6,13 @@ use crate::builder::{
     Builder, DefaultText, Draft, Enumeral, Key, NO_DRAFT, NO_KEY, NO_MEMBER, NO_NAME, NO_ROWS,
     NamedType,
 };
-use crate::modules::resolve;
+use crate::governed::Types;
+use crate::modules::{resolve, resolve_lists};
 use crate::tag_tables::{NO_FIRST_TAGS, NO_TAG, NO_TYPE_TAGS};
-use asn1_notation::{Entry, NO_ENTRY, NotationError, parse, part_of};
-use asn1_schema::{Member, Node, Range, Rows, Tables};
+use crate::values::Values;
+use asn1_definitions::{LISTS, Place, Scope};
+use asn1_notation::{Entry, NO_ENTRY, NotationError, narrow, parse, part_of};
+use asn1_schema::{Member, Node, Part, Range, Rows, Tables};
 use asn1_schema_values::{NameSpan, Names};
 use asn1_x690::{FirstTags, Tag, TagTables, TypeTags};
 use std::alloc::{AllocError, Global};
@@ -32,6 +35,9 @@ pub struct Schema {
     member_tags: Vec<FirstTags>,
     tags: Vec<Tag>,
     numbers: Vec<i128>,
+    default_parts: Vec<Option<Rows>>,
+    value_parts: Vec<Part>,
+    value_octets: Vec<u8>,
 }
 
 /// Why there are no tables of a text.
@@ -64,9 +70,16 @@ const NO_ENUMERAL: Enumeral = Enumeral {
     number: 0,
 };
 
+const NO_PLACE: Place = Place {
+    module: 0,
+    index: 0,
+};
+
 const NO_DEFAULT: DefaultText = DefaultText {
     value: NO_NAME,
     node: 0,
+    at: NO_PLACE,
+    of: NO_PLACE,
 };
 
 const NO_TYPE: NamedType = NamedType {
@@ -150,6 +163,9 @@ impl Schema {
             member_tags: Vec::new(alloc),
             tags: Vec::new(alloc),
             numbers: Vec::new(alloc),
+            default_parts: Vec::new(alloc),
+            value_parts: Vec::new(alloc),
+            value_octets: Vec::new(alloc),
         };
         schema.nodes.resize(counts.nodes, Node::Null)?;
         schema.node_names.resize(counts.nodes, NO_NAME)?;
@@ -207,9 +223,41 @@ impl Schema {
             first_rows.as_mut_slice(),
             sources.as_mut_slice(),
         );
-        resolve(octets, tape.as_mut_slice(), &mut tables)?;
+        let mut lists = [0u32; LISTS];
+        resolve_lists(octets, tape.as_mut_slice(), &mut lists, &mut tables)?;
         schema.finish_tags(first_rows.as_slice())?;
+        let scope = Scope {
+            text: octets,
+            tape: tape.as_slice(),
+            lists: &lists,
+        };
+        schema.add_values(alloc, scope)?;
         Ok(schema)
+    }
+
+    /// Sets the parts of the values after DEFAULT.
+    fn add_values(&mut self, alloc: Global, scope: Scope<'_>) -> Result<(), AllocError> {
+        let mut values = Values::new(alloc);
+        let mut found: Vec<Option<Rows>> = Vec::new(alloc);
+        let types = Types {
+            scope,
+            nodes: self.nodes.as_slice(),
+            node_enumerals: self.node_enumerals.as_slice(),
+            members: self.members.as_slice(),
+            member_names: self.member_names.as_slice(),
+            enumerals: self.enumerals.as_slice(),
+        };
+        for default in self.defaults.as_slice() {
+            let rows = values.add_default(types, *default)?;
+            found.push(rows.map(|(from, count)| Rows {
+                from,
+                count: narrow(count),
+            }))?;
+        }
+        self.default_parts = found;
+        self.value_parts = values.parts;
+        self.value_octets = values.octets;
+        Ok(())
     }
 
     /// Appends the first tags to the other tags, and the numbers of values to a table of their own.
@@ -281,6 +329,16 @@ impl Schema {
         ensures { result.now ≡ self.now.defaults.items }
     {
         self.defaults.as_slice()
+    }
+
+    /// Returns the parts of the value of a DEFAULT by its index, and the octets in which they have
+    /// their strings. `None` if the value is not read: it is of a type whose values are not supported,
+    /// or none of its type.
+    pub fn default_value(&self, index: usize) -> Option<(&[Part], &[u8])> {
+        let rows = (*self.default_parts.as_slice().get(index)?)?;
+        let end = rows.from.saturating_add(rows.count as usize);
+        let parts = self.value_parts.as_slice().get(rows.from..end)?;
+        Some((parts, self.value_octets.as_slice()))
     }
 
     /// Returns the text of a name.

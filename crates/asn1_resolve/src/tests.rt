@@ -1,5 +1,5 @@
 use crate::schema::Schema;
-use asn1_schema::{Length, Node};
+use asn1_schema::{Length, Node, Part, Span};
 use std::test::Fail;
 
 const RECORD: &str = "M DEFINITIONS AUTOMATIC TAGS ::= BEGIN
@@ -34,5 +34,87 @@ fn makes_tables(rt: HostRuntime) -> Result<(), Fail> {
         return Ok(());
     };
     assert!(rt; *length == Length::Between { least: 2, range: 3 });
+    Ok(())
+}
+
+const VALUES: &str = "M DEFINITIONS AUTOMATIC TAGS ::= BEGIN
+Record ::= SEQUENCE {
+    version Version DEFAULT v2,
+    limit INTEGER DEFAULT max,
+    usage Usage DEFAULT { sign, crl },
+    hash OBJECT IDENTIFIER DEFAULT { iso(1) member-body(2) us(840) 113549 },
+    root OBJECT IDENTIFIER DEFAULT { iso standard 8571 },
+    pair Pair DEFAULT { b TRUE, a -3 },
+    list SEQUENCE OF Pair DEFAULT { { a max }, pair },
+    choice CHOICE { x NULL, y Version } DEFAULT y : v1,
+    octets OCTET STRING DEFAULT 'C0 F'H,
+    wrong BOOLEAN DEFAULT 5,
+    again Pair DEFAULT { c TRUE, a 1 }
+}
+Version ::= INTEGER { v1(0), v2(max) }
+Usage ::= BIT STRING { sign(0), key(2), crl(6) }
+Pair ::= SEQUENCE { a INTEGER, b BOOLEAN OPTIONAL }
+max INTEGER ::= 15
+pair Pair ::= { a 7, b FALSE }
+END
+";
+
+/// Returns the parts of the value of a DEFAULT, without those that it has not.
+fn parts_of(schema: &Schema, index: usize) -> &[Part] {
+    match schema.default_value(index) {
+        Some((parts, _)) => parts,
+        None => &[],
+    }
+}
+
+const PAIR: Part = Part::Sequence {
+    count: 2,
+    is_extended: false,
+};
+
+#[test]
+fn reads_default_values(rt: HostRuntime) -> Result<(), Fail> {
+    let schema = Schema::parse(rt.alloc(), VALUES)?;
+    assert!(rt; parts_of(&schema, 0) == [Part::Integer(15)].as_slice());
+    assert!(rt; parts_of(&schema, 1) == [Part::Integer(15)].as_slice());
+    let usage = Part::Bits(Span { at: 0, count: 7 });
+    assert!(rt; parts_of(&schema, 2) == [usage].as_slice());
+    let hash = Part::Octets(Span { at: 8, count: 48 });
+    assert!(rt; parts_of(&schema, 3) == [hash].as_slice());
+    let root = Part::Octets(Span { at: 56, count: 24 });
+    assert!(rt; parts_of(&schema, 4) == [root].as_slice());
+    let pair = [PAIR, Part::Integer(-3), Part::Truth(true)];
+    assert!(rt; parts_of(&schema, 5) == pair.as_slice());
+    let list = [
+        Part::Count(2),
+        PAIR,
+        Part::Integer(15),
+        Part::Absent,
+        PAIR,
+        Part::Integer(7),
+        Part::Truth(false),
+    ];
+    assert!(rt; parts_of(&schema, 6) == list.as_slice());
+    let chosen = [Part::Chosen(1), Part::Integer(0)];
+    assert!(rt; parts_of(&schema, 7) == chosen.as_slice());
+    let octets = Part::Octets(Span { at: 80, count: 16 });
+    assert!(rt; parts_of(&schema, 8) == [octets].as_slice());
+    assert!(rt; schema.default_value(9).is_none());
+    assert!(rt; schema.default_value(10).is_none());
+    Ok(())
+}
+
+/// X.690 8.19.4: the first subidentifier is 40 times the first arc and the second one. X.680 22.7:
+/// the bits up to the last one that is named. X.680 23.3: a last digit is followed by a 0.
+#[test]
+fn default_values_have_their_octets(rt: HostRuntime) -> Result<(), Fail> {
+    let schema = Schema::parse(rt.alloc(), VALUES)?;
+    let Some((_, octets)) = schema.default_value(0) else {
+        assert!(rt; false);
+        return Ok(());
+    };
+    // 1000001 of seven bits; 1.2.840.113549; 1.0.8571, which is 66 * 128 + 123; and C0 F0.
+    let expected = [0x82, 42, 134, 72, 134, 247, 13, 40, 194, 123, 0xC0, 0xF0];
+    assert!(rt; octets == expected.as_slice());
     Ok(())
 }

@@ -1,0 +1,17 @@
+use Rattle.std.proofs.Common.{◌+◌, ◌*◌}
+use Rattle.asn1_resolve.proofs.values.Values.+values.Given as goal
+
+abbrev pub decreases-value : goal.decreases-value
+decreases-value l = 8 * l.depth + 0
+
+abbrev pub decreases-sequence : goal.decreases-sequence
+decreases-sequence l = 8 * l.depth + 2
+
+abbrev pub decreases-component : goal.decreases-component
+decreases-component l = 8 * l.depth + 1
+
+abbrev pub decreases-list : goal.decreases-list
+decreases-list l = 8 * l.depth + 1
+
+abbrev pub decreases-choice : goal.decreases-choice
+decreases-choice l = 8 * l.depth + 1

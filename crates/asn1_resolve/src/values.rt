@@ -1,0 +1,348 @@
+//! Values after DEFAULT, as parts.
+
+use crate::builder::DefaultText;
+use crate::governed::{Governed, Types};
+use crate::pieces::Pieces;
+use crate::strings::{bits_of_digits, characters_of};
+use asn1_definitions::Place;
+use asn1_notation::{Item, Word};
+use asn1_schema::{Characters, Codes, Node, Part, Presence, Rows, Span};
+use std::alloc::{AllocError, Global};
+
+/// How deep a value may be nested.
+const DEPTH: usize = 32;
+
+/// Values in parts, and the octets in which they have their strings.
+#[derive(Drop)]
+pub(crate) struct Values {
+    alloc: Global,
+    pub(crate) parts: Vec<Part>,
+    pub(crate) octets: Vec<u8>,
+}
+
+impl Values {
+    /// Makes no values.
+    pub(crate) fn new(alloc: Global) -> Values {
+        Values {
+            alloc,
+            parts: Vec::new(alloc),
+            octets: Vec::new(alloc),
+        }
+    }
+
+    /// Appends the parts of the value of a DEFAULT. Returns where they are; `None` if the value is not
+    /// read, or is none of its type.
+    pub(crate) fn add_default(
+        &mut self,
+        types: Types<'_>,
+        default: DefaultText,
+    ) -> Result<Option<(usize, usize)>, AllocError> {
+        let from = self.parts.len();
+        let Some(value) = types.scope.value_in(default.at) else {
+            return Ok(None);
+        };
+        let governed = Governed {
+            value,
+            of: default.of,
+            node: default.node,
+        };
+        if self.value(types, governed, DEPTH)? {
+            return Ok(Some((from, self.parts.len().saturating_sub(from))));
+        }
+        self.parts.truncate(from);
+        Ok(None)
+    }
+
+    /// Appends octets. Returns their bits.
+    fn add(&mut self, octets: &[u8]) -> Result<Span, AllocError> {
+        let at = self.octets.len().saturating_mul(8);
+        self.octets.extend_from_slice(octets)?;
+        let count = octets.len().saturating_mul(8);
+        Ok(Span { at, count })
+    }
+
+    /// Appends a part, if there is one. Returns whether there is.
+    fn push(&mut self, part: Option<Part>) -> Result<bool, AllocError> {
+        match part {
+            None => Ok(false),
+            Some(part) => {
+                self.parts.push(part)?;
+                Ok(true)
+            }
+        }
+    }
+
+    /// Appends the parts of a value. Returns whether it is read, and is one of its type.
+    #[cycle(values)]
+    fn value(
+        &mut self,
+        types: Types<'_>,
+        governed: Governed,
+        depth: usize,
+    ) -> Result<bool, AllocError> {
+        if depth == 0 {
+            return Ok(false);
+        }
+        let Some(found) = types.through_names(governed) else {
+            return Ok(false);
+        };
+        let Some(node) = types.nodes.get(found.node).copied() else {
+            return Ok(false);
+        };
+        match node {
+            Node::Sequence { root, .. } => self.sequence(types, found, root, depth - 1),
+            Node::SequenceOf { item, .. } | Node::SetOf { item, .. } => {
+                self.list(types, found, item, depth - 1)
+            }
+            Node::Choice {
+                alternatives,
+                additions,
+                ..
+            } => self.choice(types, found, alternatives, additions, depth - 1),
+            _ => {
+                let part = self.leaf(types, found, node)?;
+                self.push(part)
+            }
+        }
+    }
+
+    /// Appends the parts of a SEQUENCE or a SET without additions.
+    #[cycle(values)]
+    fn sequence(
+        &mut self,
+        types: Types<'_>,
+        governed: Governed,
+        root: Rows,
+        depth: usize,
+    ) -> Result<bool, AllocError> {
+        let braces = governed.value;
+        if types.scope.item(braces) != Item::Braces
+            || types.count_of_components(braces, root).is_none()
+        {
+            return Ok(false);
+        }
+        let count = root.count as usize;
+        self.parts.push(Part::Sequence {
+            count,
+            is_extended: false,
+        })?;
+        for index in 0..count {
+            let row = root.from.saturating_add(index);
+            if !self.component(types, governed, row, depth)? {
+                return Ok(false);
+            }
+        }
+        Ok(true)
+    }
+
+    /// Appends the parts of the component in a row. Returns whether it is there, or may be absent.
+    #[cycle(values)]
+    fn component(
+        &mut self,
+        types: Types<'_>,
+        governed: Governed,
+        row: usize,
+        depth: usize,
+    ) -> Result<bool, AllocError> {
+        let Some(member) = types.member(row) else {
+            return Ok(false);
+        };
+        match types.piece_of(governed.value, row) {
+            None if matches!(member.presence, Presence::Mandatory) => Ok(false),
+            None => {
+                self.parts.push(Part::Absent)?;
+                Ok(true)
+            }
+            // A component that is written with its own default value must be absent.
+            Some(_) if matches!(member.presence, Presence::Default { .. }) => Ok(false),
+            Some((name, value)) => {
+                let Some(of) = types.component(governed.of, name) else {
+                    return Ok(false);
+                };
+                let node = member.node;
+                self.value(types, Governed { value, of, node }, depth)
+            }
+        }
+    }
+
+    /// Appends the parts of a SEQUENCE OF or a SET OF.
+    #[cycle(values)]
+    fn list(
+        &mut self,
+        types: Types<'_>,
+        governed: Governed,
+        item: usize,
+        depth: usize,
+    ) -> Result<bool, AllocError> {
+        let braces = governed.value;
+        if types.scope.item(braces) != Item::Braces {
+            return Ok(false);
+        }
+        let Some(count) = types.count_of_values(braces) else {
+            return Ok(false);
+        };
+        self.parts.push(Part::Count(count))?;
+        let of = types.scope.type_in(governed.of);
+        let mut pieces = Pieces::new(types, braces);
+        for _ in 0..count {
+            let Some(value) = pieces.next(types) else {
+                return Ok(false);
+            };
+            let governed = Governed {
+                value,
+                of,
+                node: item,
+            };
+            if !self.value(types, governed, depth)? {
+                return Ok(false);
+            }
+            pieces.next(types);
+        }
+        Ok(true)
+    }
+
+    /// Appends the parts of a CHOICE.
+    #[cycle(values)]
+    fn choice(
+        &mut self,
+        types: Types<'_>,
+        governed: Governed,
+        alternatives: Rows,
+        additions: Rows,
+        depth: usize,
+    ) -> Result<bool, AllocError> {
+        let chosen = governed.value;
+        if types.scope.item(chosen) != Item::Alternative {
+            return Ok(false);
+        }
+        let found = match types.row_of(alternatives, chosen) {
+            Some(found) => Some(found),
+            None => types.row_of(additions, chosen).map(|(row, index)| (
+                row,
+                index.saturating_add(alternatives.count as usize),
+            )),
+        };
+        let Some((row, index)) = found else {
+            return Ok(false);
+        };
+        let (Some(member), Some(value), Some(of)) = (
+            types.member(row),
+            types.scope.value_in(chosen),
+            types.component(governed.of, chosen),
+        ) else {
+            return Ok(false);
+        };
+        self.parts.push(Part::Chosen(index))?;
+        let node = member.node;
+        self.value(types, Governed { value, of, node }, depth)
+    }
+
+    /// Returns the part of a value of one part. `None` if it is not read, or is none of its type.
+    fn leaf(
+        &mut self,
+        types: Types<'_>,
+        governed: Governed,
+        node: Node,
+    ) -> Result<Option<Part>, AllocError> {
+        let entry = types.scope.entry(governed.value.index);
+        match node {
+            Node::Null if entry.word == Some(Word::Null) => Ok(Some(Part::Null)),
+            Node::Boolean if entry.word == Some(Word::True) => Ok(Some(Part::Truth(true))),
+            Node::Boolean if entry.word == Some(Word::False) => Ok(Some(Part::Truth(false))),
+            Node::Integer | Node::IntegerAtLeast { .. } | Node::IntegerBetween { .. } => {
+                let number = types.number(governed.of, governed.value);
+                Ok(number.map(Part::Integer))
+            }
+            Node::Enumerated { .. } => {
+                let index = types.enumeral(governed.node, governed.value);
+                Ok(index.map(Part::Enumerated))
+            }
+            Node::BitString { .. } => self.bit_string(types, governed),
+            Node::OctetString { .. } => self.octet_string(types, governed),
+            Node::ObjectIdentifier if entry.item == Item::Braces => {
+                match types.identifier(self.alloc, governed.value)? {
+                    None => Ok(None),
+                    Some(contents) => Ok(Some(Part::Octets(self.add(contents.as_slice())?))),
+                }
+            }
+            Node::Text { .. } | Node::Utf8String if entry.item == Item::Text => {
+                self.text(types.scope.text_of(entry), node)
+            }
+            _ => Ok(None),
+        }
+    }
+
+    /// Returns the bits that a binary or hexadecimal string is.
+    fn digits(
+        &self,
+        types: Types<'_>,
+        value: Place,
+    ) -> Result<Option<(Vec<u8>, usize)>, AllocError> {
+        let entry = types.scope.entry(value.index);
+        let width = match entry.item {
+            Item::Bits => 1,
+            Item::Hex => 4,
+            _ => return Ok(None),
+        };
+        bits_of_digits(self.alloc, types.scope.text_of(entry), width)
+    }
+
+    /// Returns the part of a BIT STRING.
+    fn bit_string(
+        &mut self,
+        types: Types<'_>,
+        governed: Governed,
+    ) -> Result<Option<Part>, AllocError> {
+        let found = if types.scope.item(governed.value) == Item::Braces {
+            types.named_bits(self.alloc, governed.of, governed.value)?
+        } else {
+            self.digits(types, governed.value)?
+        };
+        match found {
+            None => Ok(None),
+            Some((octets, count)) => {
+                let at = self.add(octets.as_slice())?.at;
+                Ok(Some(Part::Bits(Span { at, count })))
+            }
+        }
+    }
+
+    /// Returns the part of an OCTET STRING. ANY has no value here.
+    fn octet_string(
+        &mut self,
+        types: Types<'_>,
+        governed: Governed,
+    ) -> Result<Option<Part>, AllocError> {
+        if types.scope.item(governed.of) != Item::OctetString {
+            return Ok(None);
+        }
+        match self.digits(types, governed.value)? {
+            None => Ok(None),
+            Some((octets, _)) => Ok(Some(Part::Octets(self.add(octets.as_slice())?))),
+        }
+    }
+
+    /// Returns the part of a string of characters, by the text between its quotes.
+    fn text(&mut self, inside: &[u8], node: Node) -> Result<Option<Part>, AllocError> {
+        let Some(characters) = characters_of(self.alloc, inside)? else {
+            return Ok(None);
+        };
+        let characters = characters.as_str();
+        if let Node::Utf8String = node {
+            return Ok(Some(Part::Octets(self.add(characters.as_bytes())?)));
+        }
+        let at = self.octets.len().saturating_mul(8);
+        let mut count = 0usize;
+        for character in characters.chars() {
+            let number: u32 = character.into();
+            self.add(number.to_be_bytes().as_slice())?;
+            count = count.saturating_add(1);
+        }
+        Ok(Some(Part::Text(Characters {
+            at,
+            count,
+            width: 32,
+            codes: Codes::Numbers,
+        })))
+    }
+}
