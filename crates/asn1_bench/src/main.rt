@@ -4,6 +4,7 @@
 
 mod alphabets;
 mod bits;
+mod certificates;
 mod fields;
 mod formats;
 mod identifiers;
@@ -15,6 +16,7 @@ mod strings;
 
 use crate::alphabets::{Codes, Set};
 use crate::bits::{Appended, Copied, Numbers};
+use crate::certificates::Certificate;
 use crate::fields::Fields;
 use crate::identifiers::{Read, Size, Way, Written};
 use crate::numbers::Octets;
@@ -38,7 +40,8 @@ fn main(rt: HostRuntime) -> anyhow::Result<()> {
     show_formats(&rt, rounds)?;
     show(&rt, Ok(Decoded::numbers()), rounds)?;
     show(&rt, Ok(Decoded::letters()), rounds)?;
-    show_records(&rt, rounds)
+    show_records(&rt, rounds)?;
+    show(&rt, Certificate::new(rt.alloc(), false), rounds)
 }
 
 /// The rows of the records of X.691, annex A.

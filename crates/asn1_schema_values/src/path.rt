@@ -65,75 +65,71 @@ impl<'v> Path<'v> {
         Some((Step::Member(row), Place { node, at }))
     }
 
-    /// Returns the component that is not whole: one of so many of the root from a part on, or an
-    /// addition. `None` if there is none.
-    fn component(
-        &self,
-        root: Rows,
-        additions: Option<Rows>,
-        count: usize,
-        from: usize,
-    ) -> Option<(Step, Place)> {
-        let (index, at) = whole_values(self.parts, from, count);
-        if index < count {
-            return self.member(root, index, at);
-        }
-        let additions = additions?;
-        let Part::Additions(added) = *self.parts.get(at)? else {
+    /// Returns the component of a SEQUENCE or a SET that is not whole. `None` if there is none.
+    fn component(&self, root: Rows, additions: Rows, at: usize) -> Option<(Step, Place)> {
+        let Part::Sequence { count, is_extended } = *self.parts.get(at)? else {
             return None;
         };
-        let (index, at) = whole_values(self.parts, at.saturating_add(1), added);
+        let (index, next) = whole_values(self.parts, at.saturating_add(1), count);
+        if index < count {
+            return self.member(root, index, next);
+        }
+        if !is_extended {
+            return None;
+        }
+        let Part::Additions(added) = *self.parts.get(next)? else {
+            return None;
+        };
+        let (index, next) = whole_values(self.parts, next.saturating_add(1), added);
         if index < added {
-            self.member(additions, index, at)
+            self.member(additions, index, next)
         } else {
             None
         }
     }
 
+    /// Returns the item of a list that is not whole. `None` if there is none.
+    fn item(&self, node: usize, at: usize) -> Option<(Step, Place)> {
+        let Part::Count(count) = *self.parts.get(at)? else {
+            return None;
+        };
+        let (index, next) = whole_values(self.parts, at.saturating_add(1), count);
+        if index < count {
+            Some((Step::Item(index), Place { node, at: next }))
+        } else {
+            None
+        }
+    }
+
+    /// Returns the alternative of a CHOICE. `None` if it is not known.
+    fn alternative(&self, root: Rows, additions: Rows, at: usize) -> Option<(Step, Place)> {
+        let Part::Chosen(index) = *self.parts.get(at)? else {
+            return None;
+        };
+        let next = at.saturating_add(1);
+        match index.checked_sub(root.count as usize) {
+            None => self.member(root, index, next),
+            Some(added) => self.member(additions, added, next),
+        }
+    }
+
     /// Returns the step from a value to the one inside it that is not whole. `None` if there is none.
     fn step(&self, place: Place) -> Option<(Step, Place)> {
-        let from = place.at.saturating_add(1);
-        match (
-            *self.tables.nodes.get(place.node)?,
-            *self.parts.get(place.at)?,
-        ) {
-            (Node::Open { inner }, _) => Some((
-                Step::Inner,
-                Place {
-                    node: inner,
-                    at: place.at,
-                },
-            )),
-            (
-                Node::Sequence {
-                    root,
-                    additions,
-                    ..
-                },
-                Part::Sequence { count, is_extended },
-            ) => {
-                let additions = if is_extended { Some(additions) } else { None };
-                self.component(root, additions, count, from)
-            }
-            (Node::SequenceOf { item, .. } | Node::SetOf { item, .. }, Part::Count(count)) => {
-                let (index, at) = whole_values(self.parts, from, count);
-                if index < count {
-                    Some((Step::Item(index), Place { node: item, at }))
-                } else {
-                    None
-                }
-            }
-            (
-                Node::Choice {
-                    alternatives,
-                    additions,
-                    ..
-                },
-                Part::Chosen(index),
-            ) => match index.checked_sub(alternatives.count as usize) {
-                None => self.member(alternatives, index, from),
-                Some(added) => self.member(additions, added, from),
-            },
+        let at = place.at;
+        match *self.tables.nodes.get(place.node)? {
+            Node::Open { inner } => Some((Step::Inner, Place { node: inner, at })),
+            Node::Sequence {
+                root,
+                additions,
+                ..
+            } => self.component(root, additions, at),
+            Node::SequenceOf { item, .. } => self.item(item, at),
+            Node::SetOf { item, .. } => self.item(item, at),
+            Node::Choice {
+                alternatives,
+                additions,
+                ..
+            } => self.alternative(alternatives, additions, at),
             _ => None,
         }
     }
