@@ -1,0 +1,236 @@
+//! The command line.
+
+use crate::forms::Form;
+use crate::rules::Rules;
+use clap::builder::ValueParser;
+use clap::{Arg, ArgAction, ArgMatches, Command};
+use std::alloc::{AllocError, Global};
+
+/// The names of rules and of forms.
+static RULES: [&str; 3] = ["der", "uper", "aper"];
+
+static FORMS: [&str; 4] = ["binary", "hex", "base64", "pem"];
+
+/// The greatest depth that may be chosen, and the most parts.
+const MOST_DEPTH: u64 = 1000;
+
+const MOST_PARTS: u64 = 1_000_000_000;
+
+/// How deep a value may be nested, and how many parts it may have, unless options say so.
+const DEPTH: usize = 50;
+
+const PARTS: usize = 1_000_000;
+
+/// What the program is asked to do.
+#[derive(Clone, Copy, Debug, PartialEq, Eq)]
+pub enum Task {
+    /// To print values that octets encode.
+    Decode,
+    /// To encode a value.
+    Encode,
+    /// To check modules.
+    Check,
+    /// To list the types of modules.
+    Types,
+    /// To print elements as a tree.
+    Dump,
+}
+
+impl Task {
+    /// Returns the task of a subcommand. `None` if there is none with this name.
+    pub fn named(name: &str) -> Option<Task> {
+        match name {
+            "decode" => Some(Task::Decode),
+            "encode" => Some(Task::Encode),
+            "check" => Some(Task::Check),
+            "types" => Some(Task::Types),
+            "dump" => Some(Task::Dump),
+            _ => None,
+        }
+    }
+}
+
+/// What the words after a subcommand say.
+#[derive(Clone, Copy, Debug)]
+pub struct Options<'m> {
+    /// The rules, for the subcommands that have rules.
+    pub rules: Rules,
+    /// The name of the type. It is empty if the subcommand has none.
+    pub type_name: &'m str,
+    /// The form of the input. `None` if its look tells it.
+    pub from: Option<Form>,
+    /// The form of the output.
+    pub to: Form,
+    /// Whether octets may follow a value.
+    pub is_prefix: bool,
+    /// A value may be nested less deep than this.
+    pub depth: usize,
+    /// The most parts of a value.
+    pub parts: usize,
+    /// The name of the input's file. `None` for standard input.
+    pub input: Option<&'m str>,
+}
+
+/// Returns the value of an option. It is empty if the option is not given.
+fn value_of<'m>(matches: &ArgMatches<'m>, name: &str) -> &'m str {
+    match matches.get_str(name) {
+        Some(value) => value,
+        None => "",
+    }
+}
+
+impl<'m> Options<'m> {
+    /// Returns what the matches of a subcommand say.
+    pub fn of(matches: &ArgMatches<'m>) -> Options<'m> {
+        let rules = value_of(matches, "rules");
+        let from = value_of(matches, "from");
+        let to = value_of(matches, "to");
+        Options {
+            rules: Rules::named(rules).unwrap_or(Rules::Der),
+            type_name: value_of(matches, "type"),
+            from: Form::named(from),
+            to: Form::named(to).unwrap_or(Form::Binary),
+            is_prefix: matches.get_flag("rest"),
+            depth: matches.get_one("depth").unwrap_or(DEPTH),
+            parts: matches.get_one("parts").unwrap_or(PARTS),
+            input: matches.get_str("input"),
+        }
+    }
+}
+
+/// Returns an option with a value.
+fn option<'a>(alloc: Global, name: &'a str, value: &'a str, help: &'a str) -> Arg<'a> {
+    Arg::new(alloc, name)
+        .long(name)
+        .value_name(value)
+        .help(help)
+}
+
+/// Returns an option that must be given, and names rules.
+fn rules<'a>(alloc: Global) -> Arg<'a> {
+    let names: &'a [&'a str] = &RULES;
+    option(alloc, "rules", "RULES", "The encoding rules")
+        .value_parser(ValueParser::Names(names))
+        .required(true)
+}
+
+/// Returns the option that names a type.
+fn type_name<'a>(alloc: Global) -> Arg<'a> {
+    let help = "The type of the value, as Type or Module.Type";
+    option(alloc, "type", "TYPE", help).required(true)
+}
+
+/// Returns an option that names a form.
+fn form<'a>(alloc: Global, name: &'a str, help: &'a str) -> Arg<'a> {
+    let names: &'a [&'a str] = &FORMS;
+    option(alloc, name, "FORM", help).value_parser(ValueParser::Names(names))
+}
+
+/// Returns the option that names a file to read.
+fn input<'a>(alloc: Global) -> Arg<'a> {
+    let help = "The file to read in place of standard input";
+    option(alloc, "input", "FILE", help)
+}
+
+/// Returns the option that limits depth.
+fn depth<'a>(alloc: Global) -> Arg<'a> {
+    let help = "A value may be nested less deep than this, up to 1000 [default: 50]";
+    option(alloc, "depth", "N", help).value_parser(ValueParser::Unsigned(1, MOST_DEPTH))
+}
+
+/// Returns the option that limits the number of parts.
+fn parts<'a>(alloc: Global, help: &'a str) -> Arg<'a> {
+    option(alloc, "parts", "N", help).value_parser(ValueParser::Unsigned(1, MOST_PARTS))
+}
+
+/// Returns the argument that names the files of modules.
+fn modules<'a>(alloc: Global) -> Arg<'a> {
+    Arg::new(alloc, "modules")
+        .value_name("MODULE.asn1")
+        .help("The files with the modules")
+        .num_args(1..)
+        .action(ArgAction::Append)
+        .required(true)
+}
+
+/// Returns the subcommand `decode`.
+fn decode<'a>(alloc: Global) -> Result<Command<'a>, AllocError> {
+    let from = "The form of the input; its look tells it unless this option does";
+    let rest = "Permit octets after the value";
+    let most = "The most parts of a value: components, items and alternatives [default: 1000000]";
+    Command::new(alloc, "decode")
+        .about("Print the JSON of the values that octets encode")
+        .after_help("Example: asn1 decode --rules uper --type Person people.asn1 < person.bin")
+        .arg(rules(alloc))?
+        .arg(type_name(alloc))?
+        .arg(form(alloc, "from", from))?
+        .arg(input(alloc))?
+        .arg(
+            Arg::new(alloc, "rest")
+                .long("rest")
+                .action(ArgAction::SetTrue)
+                .help(rest),
+        )?
+        .arg(depth(alloc))?
+        .arg(parts(alloc, most))?
+        .arg(modules(alloc))
+}
+
+/// Returns the subcommand `encode`.
+fn encode<'a>(alloc: Global) -> Result<Command<'a>, AllocError> {
+    Command::new(alloc, "encode")
+        .about("Write the octets that encode the value of a JSON")
+        .after_help("Example: asn1 encode --rules uper --type Person people.asn1 < person.json")
+        .arg(rules(alloc))?
+        .arg(type_name(alloc))?
+        .arg(form(alloc, "to", "The form of the output [default: binary]"))?
+        .arg(input(alloc))?
+        .arg(depth(alloc))?
+        .arg(modules(alloc))
+}
+
+/// Returns the subcommand `check`.
+fn check<'a>(alloc: Global) -> Result<Command<'a>, AllocError> {
+    Command::new(alloc, "check")
+        .about("Check modules: nothing is printed if they are right")
+        .after_help("Example: asn1 check people.asn1 names.asn1")
+        .arg(modules(alloc))
+}
+
+/// Returns the subcommand `types`.
+fn types<'a>(alloc: Global) -> Result<Command<'a>, AllocError> {
+    Command::new(alloc, "types")
+        .about("Print the names of the types of modules, one a line")
+        .after_help("Example: asn1 types people.asn1")
+        .arg(modules(alloc))
+}
+
+/// Returns the subcommand `dump`.
+fn dump<'a>(alloc: Global) -> Result<Command<'a>, AllocError> {
+    let from = "The form of the input; its look tells it unless this option does";
+    let most = "The most elements [default: 1000000]";
+    Command::new(alloc, "dump")
+        .about("Print the elements of any DER as a tree, without a module")
+        .after_help("Example: asn1 dump --input certificate.pem")
+        .arg(form(alloc, "from", from))?
+        .arg(input(alloc))?
+        .arg(depth(alloc))?
+        .arg(parts(alloc, most))
+}
+
+/// Returns the program's command line.
+///
+/// # Errors
+///
+/// Returns an error if out of memory.
+pub fn command<'a>(alloc: Global) -> Result<Command<'a>, AllocError> {
+    Command::new(alloc, "asn1")
+        .about("Decode and encode values of the types of ASN.1 modules")
+        .subcommand_required(true)
+        .arg_required_else_help(true)
+        .subcommand(decode(alloc)?)?
+        .subcommand(encode(alloc)?)?
+        .subcommand(check(alloc)?)?
+        .subcommand(types(alloc)?)?
+        .subcommand(dump(alloc)?)
+}

@@ -1,0 +1,121 @@
+//! From octets to JSON.
+
+ghost use Rattle.std.specs.Prelude.{◌*◌, ◌^◌, ◌<◌, length};
+
+use crate::codec::{Codec, Fault, FaultKind, Target};
+use crate::stop::Stop;
+use crate::types::words_of;
+use asn1_json::{PrintError, print_value};
+use asn1_resolve::Schema;
+use asn1_schema::Part;
+use asn1_schema_values::Path;
+use std::alloc::{AllocError, Global};
+
+/// How many parts there is room for before their number is known.
+const FIRST_ROOM: usize = 1024;
+
+/// The most octets of a message, 2^61 - 1.
+const MOST_OCTETS: usize = 0x1FFF_FFFF_FFFF_FFFF;
+
+/// What decodes values of a type and prints them.
+#[derive(Clone, Copy)]
+pub struct Decoder<'s> {
+    /// The allocator.
+    pub alloc: Global,
+    /// The types.
+    pub schema: &'s Schema,
+    /// What decodes values.
+    pub codec: &'s Codec,
+    /// The type.
+    pub target: Target,
+    /// The most parts of a value.
+    pub parts: usize,
+}
+
+impl<'s> Decoder<'s> {
+    /// Returns the JSON of the value that octets encode, followed by the end of a line.
+    ///
+    /// # Errors
+    ///
+    /// Returns the first fault in words, or what exceeds a limit.
+    pub fn json_of(&self, octets: &[u8]) -> Result<Vec<u8>, Stop> {
+        if octets.len() > MOST_OCTETS {
+            return Err(Stop::Memory);
+        }
+        let mut parts = Vec::new(self.alloc);
+        parts.resize(FIRST_ROOM.min(self.parts), Part::Absent)?;
+        let mut count = self.decode(octets, parts.as_mut_slice())?;
+        if count > self.parts {
+            let most = self.parts;
+            let text = format!(in self.alloc;
+                "the value has {count} parts, and --parts permits {most}"
+            );
+            return Err(Stop::input(text));
+        }
+        if count > parts.len() {
+            parts.resize(count, Part::Absent)?;
+            count = self.decode(octets, parts.as_mut_slice())?;
+        }
+        parts.truncate(count);
+        self.print(octets, parts.as_slice())
+    }
+
+    /// Decodes a value. Returns how many parts it has.
+    fn decode(&self, octets: &[u8], parts: &mut [Part]) -> Result<usize, Stop>
+        requires { 8 * length octets.now < 2 ^ 64 }
+    {
+        match self.codec.decode(self.schema, self.target, octets, parts) {
+            Ok(count) => Ok(count),
+            Err(fault) => {
+                let count = fault.parts.min(parts.len());
+                let path = Path {
+                    tables: self.schema.tables(),
+                    names: self.schema.names(),
+                    node: self.target.node,
+                    parts: parts.get(..count).unwrap_or(&[]),
+                };
+                Err(Stop::input(fault_text(self.alloc, self.schema, path, fault)))
+            }
+        }
+    }
+
+    /// Prints the value of parts.
+    fn print(&self, octets: &[u8], parts: &[Part]) -> Result<Vec<u8>, Stop> {
+        let Target { node, depth, .. } = self.target;
+        match print_value(self.alloc, self.schema, octets, parts, depth, node) {
+            Ok(mut text) => {
+                text.push(b'\n')?;
+                Ok(text)
+            }
+            Err(PrintError::Memory) => Err(Stop::Memory),
+            Err(error) => Err(Stop::input(format!(in self.alloc; "{error}"))),
+        }
+    }
+}
+
+/// Returns a fault in words: the offset of its octet, for PER the bit in it, the path to the value, or
+/// what the node is if the path has no names, and the kind of the fault.
+///
+/// # Errors
+///
+/// Returns an error if out of memory.
+fn fault_text(
+    alloc: Global,
+    schema: &Schema,
+    path: Path<'_>,
+    fault: Fault,
+) -> Result<String, AllocError> {
+    let (offset, bit) = (fault.at / 8, fault.at % 8);
+    let mut text = format!(in alloc; "offset {offset}")?;
+    if let FaultKind::Per(_) = fault.kind {
+        write!(text, ", bit {bit}")?;
+    }
+    let steps = format!(in alloc; "{path}")?;
+    if steps.is_empty() {
+        let words = words_of(alloc, schema, fault.node)?;
+        write!(text, ": {words}{}", fault.kind)?;
+    } else {
+        write!(text, ", {steps}: {}", fault.kind)?;
+    }
+    Ok(text)
+}

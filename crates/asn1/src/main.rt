@@ -1,0 +1,29 @@
+//! The program `asn1`: decodes and encodes values of the types of ASN.1 modules.
+#![tactic(auto)]
+
+mod args;
+mod codec;
+mod decode;
+mod dump;
+mod encode;
+mod forms;
+mod from_json;
+mod modules;
+mod pem;
+mod places;
+mod reasons;
+mod rules;
+mod run;
+mod sets;
+mod stop;
+#[cfg(test)]
+mod tests;
+mod types;
+
+use crate::run::run;
+use std::process::ExitCode;
+
+/// Runs on the words of the command line.
+fn main(rt: HostRuntime) -> ExitCode {
+    ExitCode::from(run(&rt))
+}

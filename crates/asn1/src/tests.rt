@@ -1,0 +1,254 @@
+use crate::codec::{Codec, Target};
+use crate::decode::Decoder;
+use crate::dump::tree_of;
+use crate::encode::Encoder;
+use crate::forms::{Form, FormProblem, form_error, form_of, values_of, written_as};
+use crate::from_json::encode_json;
+use crate::modules::Modules;
+use crate::places::line_and_column;
+use crate::rules::Rules;
+use crate::stop::Stop;
+use crate::types::{list_of, node_of};
+use asn1_notation::{NotationError, Problem};
+use asn1_resolve::Schema;
+use std::alloc::Global;
+use std::test::Fail;
+
+const PEOPLE: &str = "People DEFINITIONS AUTOMATIC TAGS ::= BEGIN
+Person ::= SEQUENCE {
+    name IA5String (SIZE (1..15)),
+    age INTEGER (0..150) OPTIONAL,
+    likes SEQUENCE OF ENUMERATED { tea, coffee } }
+END
+";
+
+const BAGS: &str = "Bags DEFINITIONS AUTOMATIC TAGS ::= BEGIN
+Bag ::= SEQUENCE { size INTEGER (0..255) DEFAULT 7, items SET OF Thing }
+Thing ::= SEQUENCE { n INTEGER (0..255), tags SET OF INTEGER (0..15), w BOOLEAN DEFAULT FALSE }
+END
+";
+
+/// Returns the octets, or the text of the error, of a value that is encoded in UNALIGNED PER.
+fn encoded(
+    alloc: Global,
+    modules: &str,
+    name: &str,
+    json: &str,
+) -> Result<Result<Vec<u8>, Stop>, Fail> {
+    let schema = Schema::parse(alloc, modules)?;
+    let node = node_of(&schema, name).ok_or("no type")?;
+    let codec = Codec::new(alloc, &schema, node, Rules::Uper)?;
+    let target = Target {
+        node,
+        depth: 50,
+        is_prefix: false,
+    };
+    let encoder = Encoder {
+        alloc,
+        schema: &schema,
+        codec: &codec,
+        target,
+    };
+    Ok(encode_json(&encoder, "a.json", json.as_bytes()))
+}
+
+#[test]
+fn the_look_of_octets_tells_their_form(rt: HostRuntime) {
+    for (octets, form) in [
+        (b"".as_slice(), Form::Binary),
+        (b" \n".as_slice(), Form::Binary),
+        (b"0aF 9\r\n".as_slice(), Form::Hex),
+        (b"0ag".as_slice(), Form::Binary),
+        (b"-----BEGIN X-----\n".as_slice(), Form::Pem),
+        (b"\xFF\n-----BEGIN X-----\n".as_slice(), Form::Pem),
+        (b" -----BEGIN X-----\n".as_slice(), Form::Binary),
+    ] {
+        assert!(rt; form_of(octets) == form);
+    }
+}
+
+#[test]
+fn digits_may_have_white_space_between(rt: HostRuntime) -> Result<(), Fail> {
+    let values = values_of(rt.alloc(), Form::Hex, b"94 1d\r\n d B\t")?;
+    assert!(rt; values.len() == 1);
+    let value = values.as_slice().first().ok_or("no value")?;
+    assert!(rt; value.as_slice() == [0x94, 0x1D, 0xDB].as_slice());
+    let odd = values_of(rt.alloc(), Form::Hex, b"941");
+    assert!(rt; odd.err() == Some(form_error(3, FormProblem::OddDigits)));
+    let other = values_of(rt.alloc(), Form::Hex, b"94 x");
+    assert!(rt; other.err() == Some(form_error(3, FormProblem::NotHex)));
+    assert!(rt; line_and_column(b"94\n\xC3\xA9 x", 6) == (2, 3));
+    Ok(())
+}
+
+#[test]
+fn blocks_are_several_values(rt: HostRuntime) -> Result<(), Fail> {
+    let text =
+        b"a\n-----BEGIN A-----\nAQ\nID\n-----END A-----\n\n-----BEGIN B C-----\r\n/w==\r\n-----END B C-----\r\n";
+    let values = values_of(rt.alloc(), Form::Pem, text)?;
+    assert!(rt; values.len() == 2);
+    let first = values.as_slice().first().ok_or("no first")?;
+    assert!(rt; first.as_slice() == [1, 2, 3].as_slice());
+    let second = values.as_slice().last().ok_or("no second")?;
+    assert!(rt; second.as_slice() == [0xFF].as_slice());
+    for (text, at, problem) in [
+        (b"x\n".as_slice(), 0, FormProblem::NoBlock),
+        (
+            b"-----BEGIN A-----\n".as_slice(),
+            18,
+            FormProblem::OpenBlock,
+        ),
+        (
+            b"-----BEGIN A-----\n-----END B-----\n".as_slice(),
+            18,
+            FormProblem::Boundary,
+        ),
+        (
+            b"-----BEGIN A-----\nA!\n-----END A-----\n".as_slice(),
+            19,
+            FormProblem::NotBase64,
+        ),
+        (
+            b"-----BEGIN A-----\nA\n-----END A-----\n".as_slice(),
+            20,
+            FormProblem::Base64,
+        ),
+    ] {
+        let values = values_of(rt.alloc(), Form::Pem, text);
+        assert!(rt; values.err() == Some(form_error(at, problem)));
+    }
+    Ok(())
+}
+
+#[test]
+fn octets_are_written_in_each_form(rt: HostRuntime) -> Result<(), Fail> {
+    for (form, wanted) in [
+        (Form::Binary, b"\xFB\xF0".as_slice()),
+        (Form::Hex, b"FBF0\n".as_slice()),
+        (Form::Base64, b"+/A=\n".as_slice()),
+        (
+            Form::Pem,
+            b"-----BEGIN X-----\n+/A=\n-----END X-----\n".as_slice(),
+        ),
+    ] {
+        let written = written_as(rt.alloc(), form, "X", &[0xFB, 0xF0])?;
+        assert!(rt; written.as_slice() == wanted);
+    }
+    // 49 octets have 68 characters, of which 64 stand in the first line.
+    let long = written_as(rt.alloc(), Form::Pem, "X", &[0; 49])?;
+    assert!(rt; long.len() == 18 + 65 + 5 + 16);
+    assert!(rt; long.as_slice().get(82..87) == Some(b"\nAA==".as_slice()));
+    Ok(())
+}
+
+#[test]
+fn an_error_is_in_the_file_that_has_it(rt: HostRuntime) -> Result<(), Fail> {
+    let mut modules = Modules::new(rt.alloc());
+    modules.add("a.asn1", "A DEFINITIONS ::= BEGIN\nEND")?;
+    modules.add("b.asn1", "B DEFINITIONS ::= BEGIN\n  C ::= Missing\nEND\n")?;
+    let error = NotationError {
+        problem: Problem::Undefined,
+        at: 28 + 24 + 8,
+    };
+    let report = modules.report(error)?;
+    let wanted = "b.asn1:2:9: the name is not defined\n  C ::= Missing\n        ^";
+    assert!(rt; report.as_str() == wanted);
+    match modules.schema() {
+        Err(Stop::Call(text)) => assert!(rt; text.as_str() == wanted),
+        _ => return Err("no report".into()),
+    }
+    Ok(())
+}
+
+#[test]
+fn types_have_names_with_and_without_modules(rt: HostRuntime) -> Result<(), Fail> {
+    let mut modules = Modules::new(rt.alloc());
+    modules.add("people.asn1", PEOPLE)?;
+    modules.add("bags.asn1", BAGS)?;
+    let schema = modules.schema()?;
+    let list = list_of(rt.alloc(), &schema)?;
+    assert!(rt; list.as_str() == "People.Person\nBags.Bag\nBags.Thing\n");
+    assert!(rt; node_of(&schema, "Bag").is_some());
+    assert!(rt; node_of(&schema, "Bag") == node_of(&schema, "Bags.Bag"));
+    assert!(rt; node_of(&schema, "People.Bag").is_none());
+    Ok(())
+}
+
+#[test]
+fn an_error_has_the_path_to_the_json(rt: HostRuntime) -> Result<(), Fail> {
+    for (json, wanted) in [
+        (
+            "{\n  \"name\": \"Ann\",\n  \"age\": 151, \"likes\": []\n}",
+            "a.json:3:10: $.age: the value is not permitted by its type",
+        ),
+        (
+            "{\"name\": \"Ann\", \"likes\": [\"tea\",\n\"milk\"]}",
+            "a.json:2:1: $.likes[1]: the type has no value with this name",
+        ),
+        ("{\"name\":", "a.json:1:9: invalid JSON"),
+    ] {
+        match encoded(rt.alloc(), PEOPLE, "Person", json)? {
+            Err(Stop::Input(text)) => assert!(rt; text.as_str() == wanted),
+            _ => return Err("no error".into()),
+        }
+    }
+    Ok(())
+}
+
+#[test]
+fn defaults_are_left_out_and_sets_are_put_in_order(rt: HostRuntime) -> Result<(), Fail> {
+    let json = "{\"size\": 7, \"items\": [{\"n\": 1, \"tags\": [], \"w\": true},
+        {\"n\": 9, \"tags\": [3, 1, 2], \"w\": false}]}";
+    // 0 00000010, 0 00001001 00000011 0001 0010 0011, 1 00000001 00000000 1.
+    let octets = encoded(rt.alloc(), BAGS, "Bags.Bag", json)??;
+    let wanted = [0x01, 0x02, 0x40, 0xC4, 0x8E, 0x02, 0x01];
+    assert!(rt; octets.as_slice() == wanted.as_slice());
+    Ok(())
+}
+
+#[test]
+fn a_fault_has_its_offset_and_its_component(rt: HostRuntime) -> Result<(), Fail> {
+    let alloc = rt.alloc();
+    let schema = Schema::parse(alloc, PEOPLE)?;
+    let node = node_of(&schema, "Person").ok_or("no type")?;
+    let codec = Codec::new(alloc, &schema, node, Rules::Uper)?;
+    let target = Target {
+        node,
+        depth: 50,
+        is_prefix: false,
+    };
+    let decoder = Decoder {
+        alloc,
+        schema: &schema,
+        codec: &codec,
+        target,
+        parts: 4,
+    };
+    match decoder.json_of(&[0x94, 0x1D, 0xDB, 0x87]) {
+        Err(Stop::Input(text)) => {
+            let wanted = "offset 3, bit 2, age: bits are missing";
+            assert!(rt; text.as_str() == wanted);
+        }
+        _ => return Err("no fault".into()),
+    }
+    match decoder.json_of(&[0x94, 0x1D, 0xDB, 0x87, 0x80, 0x60]) {
+        Err(Stop::Input(text)) => {
+            assert!(rt; text.as_str() == "the value has 5 parts, and --parts permits 4");
+        }
+        _ => return Err("no limit".into()),
+    }
+    Ok(())
+}
+
+#[test]
+fn elements_are_a_tree(rt: HostRuntime) -> Result<(), Fail> {
+    let octets = [0x30, 0x07, 0xA0, 0x03, 0x02, 0x01, 0x05, 0x41, 0x00];
+    let tree = tree_of(rt.alloc(), &octets, 50, 10)?;
+    let wanted = "     0  2      7  SEQUENCE
+     2  2      3    [0]
+     4  2      1      INTEGER 05
+     7  2      0    [APPLICATION 1]
+";
+    assert!(rt; tree.as_str() == wanted);
+    Ok(())
+}
