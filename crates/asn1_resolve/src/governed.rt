@@ -81,8 +81,10 @@ impl<'r> Types<'r> {
 
     /// Returns the index of a value of an ENUMERATED by its name. `None` if there is none.
     pub(crate) fn enumeral(self, node: usize, value: Place) -> Option<usize> {
-        let rows = *self.node_enumerals.get(node)?;
-        let end = rows.from.checked_add(rows.count as usize)?;
+        let Some(rows) = self.node_enumerals.get(node) else {
+            return None;
+        };
+        let end = rows.from.saturating_add(rows.count as usize);
         let enumerals = self.enumerals.get(rows.from..end)?;
         for (index, enumeral) in enumerals.iter().enumerate() {
             if self.has_text(value, enumeral.name) {

@@ -19,6 +19,7 @@ pub(crate) fn bits_of_digits(
     digits: &[u8],
     width: usize,
 ) -> Result<Option<(Vec<u8>, usize)>, AllocError> {
+    let base = if width == 1 { 2 } else { 16 };
     let mut octets = Vec::new(alloc);
     let mut octet = 0u32;
     let mut count = 0usize;
@@ -26,11 +27,10 @@ pub(crate) fn bits_of_digits(
         if digit.is_ascii_whitespace() {
             continue;
         }
-        let value = char::from(*digit).to_digit(if width == 1 { 2 } else { 16 });
-        let Some(value) = value else {
+        let Some(value) = char::from(*digit).to_digit(base) else {
             return Ok(None);
         };
-        octet = (octet << width) | value;
+        octet = octet.saturating_mul(base).saturating_add(value) % 256;
         count = count.saturating_add(width);
         if count % 8 == 0 {
             octets.push((octet % 256) as u8)?;
@@ -38,7 +38,10 @@ pub(crate) fn bits_of_digits(
         }
     }
     if count % 8 != 0 {
-        octets.push(((octet << (8 - count % 8)) % 256) as u8)?;
+        for _ in count % 8..8 {
+            octet = octet.saturating_mul(2) % 256;
+        }
+        octets.push((octet % 256) as u8)?;
     }
     Ok(Some((octets, count)))
 }
