@@ -68,14 +68,14 @@ module _ (c : Context) (depth node : ℕ) (first : State) (at : first.at ≡ 0) 
     same_left new at' end' = let e : new.end ≡ length list = end' ∙ m.same_end ∙ size in omega (arith, e)
 
     pub fault_of_message : (elements c depth node).encoding.fault (rest list first) (fault_of last)
-        → IsFirstFault c depth node (record { node = last.node; at = last.at; kind = last.kind })
+        → IsFirstFault c depth node (record { node = last.node; at = last.at; parts = last.count; kind = last.kind })
     fault_of_message w =
         subst (λ (n : ℕ). (messages c depth node).fault list (record { node = last.node; left = n; kind = last.kind }))
         (same_left last refl refl)
         (subst (λ (l : List Bool). (messages c depth node).fault l (fault_of last)) whole (inl w))
 
     pub fault_of_prefix : (elements c depth node).encoding.fault (rest list first) (fault_of last)
-        → IsFirstFaultOfPrefix c depth node (record { node = last.node; at = last.at; kind = last.kind })
+        → IsFirstFaultOfPrefix c depth node (record { node = last.node; at = last.at; parts = last.count; kind = last.kind })
     fault_of_prefix w =
         subst (λ (n : ℕ). (elements c depth node).encoding.fault list (record { node = last.node; left = n; kind = last.kind }))
         (same_left last refl refl)
@@ -83,7 +83,7 @@ module _ (c : Context) (depth node : ℕ) (first : State) (at : first.at ≡ 0) 
 
     pub extra_of_message : Found → (new : State) → (last.at ≡ last.end → ⊥) → new.at ≡ last.at → new.end ≡ last.end
         → IsAt Extra node (rest list last) (fault_of new)
-        → IsFirstFault c depth node (record { node = new.node; at = new.at; kind = new.kind })
+        → IsFirstFault c depth node (record { node = new.node; at = new.at; parts = new.count; kind = new.kind })
     extra_of_message f new not at' end' here =
         let n = rest_length list last m.inside in
         let ends = m.ends in

@@ -37,7 +37,7 @@ module _ (c : Context) (s : State) (at : s.at ≡ 0) (first : s.first ≡ 0) (en
 
   -- how many bits are left, for the message
   pub same_name : (new : State) → IsMoved list s new
-      → fault_of new ≡ named c (record { node = new.node; at = new.at; kind = new.kind })
+      → fault_of new ≡ named c (record { node = new.node; at = new.at; parts = new.count; kind = new.kind })
   same_name new g =
       let e : new.end - new.at ≡ length list - new.at = omega (arith, g.same_end, end, length-bits c.octets.now) in
       rw e refl
@@ -52,7 +52,7 @@ module _ (c : Context) (s : State) (at : s.at ≡ 0) (first : s.first ≡ 0) (en
 
   pub fault_message : (depth node : ℕ) (new : State) → IsMoved list s new
       → (complete node (types c depth node)).fault (rest list s) (fault_of new)
-      → IsFirstFault c depth node (record { node = new.node; at = new.at; kind = new.kind })
+      → IsFirstFault c depth node (record { node = new.node; at = new.at; parts = new.count; kind = new.kind })
   fault_message depth node new g w =
       (subst (λ (e : Fault FaultKind). (complete node (types c depth node)).fault list e) (same_name new g)
       (subst (λ (l : List Bool). (complete node (types c depth node)).fault l (fault_of new)) the_whole w))
@@ -73,7 +73,7 @@ module _ (c : Context) (s : State) (at : s.at ≡ 0) (first : s.first ≡ 0) (en
 
   pub prefix_fault : (depth node : ℕ) (new : State) → IsMoved list s new
       → (types c depth node (position s)).encoding.fault (rest list s) (fault_of new)
-      → IsFirstFaultOfPrefix c depth node (record { node = new.node; at = new.at; kind = new.kind })
+      → IsFirstFaultOfPrefix c depth node (record { node = new.node; at = new.at; parts = new.count; kind = new.kind })
   prefix_fault depth node new g w =
       (subst (λ (e : Fault FaultKind). (types c depth node 0).encoding.fault list e) (same_name new g)
       (subst (λ (n : ℕ). (types c depth node n).encoding.fault list (fault_of new)) no_position

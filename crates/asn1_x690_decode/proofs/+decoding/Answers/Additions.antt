@@ -63,9 +63,9 @@ decode_additions-returns-in-Some-clause-did t c =
     record {
       parts = Additions (a.known.count + c.in-Some.count) ∷ f.parts ++ k.parts;
       are = added_done context a.depth a.node a.known a.known (rest list s) f.parts (rest list d.new.state) c.in-Some.count k.parts f.are k.are;
-      grown = c.replace_part.ensures ranges list a.parts.now c.keep_elements.new.state.count (Additions 0) (f.parts ++ k.parts)
+      grown = c.replace_part.ensures ranges list a.parts.now c.keep_elements.new.state.count (Additions 18446744073709551615) (f.parts ++ k.parts)
           (grown_over ranges list a.parts.now c.push_part-state.new.parts c.keep_elements.new.parts s.count mid.count
-          c.keep_elements.new.state.count (Additions 0 ∷ []) (f.parts ++ k.parts) (c.push_part-state.ensures.grown ranges list)
+          c.keep_elements.new.state.count (Additions 18446744073709551615 ∷ []) (f.parts ++ k.parts) (c.push_part-state.ensures.grown ranges list)
           (grown_over ranges list c.push_part-state.new.parts d.new.parts c.keep_elements.new.parts mid.count d.new.state.count
           c.keep_elements.new.state.count f.parts k.parts f.grown k.grown));
     }

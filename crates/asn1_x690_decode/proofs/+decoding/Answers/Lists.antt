@@ -128,7 +128,7 @@ decode_list-returns-else-not-has_size-clause-did t c =
     record {
       parts = Count c.in-Some.count ∷ k.parts;
       are = ((c.in-Some.count, k.parts), (k.are, c.has_size.ensures.yes c.if-not-has_size.false), refl);
-      grown = c.replace_part.ensures ranges list a.parts.now d.new.state.count (Count 0) k.parts
+      grown = c.replace_part.ensures ranges list a.parts.now d.new.state.count (Count 18446744073709551615) k.parts
           (grown_over ranges list a.parts.now c.push_part-state.new.parts d.new.parts s.count c.push_part-state.result
-          d.new.state.count (Count 0 ∷ []) k.parts (c.push_part-state.ensures.grown ranges list) k.grown);
+          d.new.state.count (Count 18446744073709551615 ∷ []) k.parts (c.push_part-state.ensures.grown ranges list) k.grown);
     }
