@@ -93,7 +93,7 @@ fn elements_of(alloc: Global, octets: &[u8]) -> Result<String, RowError> {
 /// Returns whether the encoder leaves values of a type.
 fn is_left(node: &Node) -> bool {
     match *node {
-        Node::Text { .. } | Node::SetOf { .. } => true,
+        Node::SetOf { .. } => true,
         Node::Sequence { is_extensible, .. } | Node::Choice { is_extensible, .. } => is_extensible,
         _ => false,
     }

@@ -10,9 +10,10 @@ use crate::enumerations::put_enumerated;
 use crate::integers::{put_integer, put_integer_at_least, put_integer_between};
 use crate::octet_strings::{put_kept, put_octet_string};
 use crate::simple::{put_boolean, put_null};
+use crate::texts::put_text;
 use asn1_schema::{MisfitKind, Node, Part, Range};
 use asn1_x690::TypeTags;
-use asn1_x691_writers::{ContentsKind, Writer, leave, reject};
+use asn1_x691_writers::{ContentsKind, Writer, reject};
 
 /// Writes the contents octets of a part, as a value of a type of one part.
 pub fn put_leaf(
@@ -102,7 +103,26 @@ pub fn put_leaf(
                 state,
             )
         }
-        Node::Text { .. } => leave(state, node),
+        Node::Text {
+            length,
+            is_extensible,
+            alphabet,
+            whole,
+        } => {
+            put_text(
+                octets,
+                ranges,
+                tags.characters,
+                length,
+                is_extensible,
+                alphabet,
+                whole,
+                source,
+                part,
+                node,
+                state,
+            )
+        }
         _ => reject(state, node, MisfitKind::NoNode),
     }
 }

@@ -1,10 +1,8 @@
-use Rattle.std.proofs.Common.{sym, subst, inl, inr}
+use Rattle.std.proofs.Common.{sym, subst}
 use Rattle.asn1_schema.specs.declared.tables.Node.{Node}
-use Rattle.asn1_schema.specs.declared.tables.Node.TheVariants as type
 use Rattle.asn1_x690_writers.specs.Leaf.{leaf_in, IsLeftOut}
 use Rattle.asn1_x690_writers.specs.Put.{IsPut}
-use Rattle.asn1_x690_writers.specs.PutSteps.{put_wider}
-use Rattle.asn1_x691_writers.specs.Put.{piece_in, IsFarInteger, IsInFragments}
+use Rattle.asn1_x691_writers.specs.Put.{piece_in}
 use Rattle.asn1_x690_writers.proofs.leaf.put_leaf.Goals as goal
 
 pub returns-in-Null : goal.returns-in-Null
@@ -15,8 +13,7 @@ returns-in-Null c =
     subst
     (λ (n : Node). IsPut (IsLeftOut n a.part p) (leaf_in a.ranges.now a.numbers.now a.node a.tags n) p a.octets.now a.state.now
     c.put_null.new.octets c.put_null.new.state c.put_null.result) (sym k.is)
-    (put_wider (⊥) (IsLeftOut type.Null a.part p) (leaf_in a.ranges.now a.numbers.now a.node a.tags type.Null) p a.octets.now a.state.now
-    c.put_null.new.octets c.put_null.new.state c.put_null.result (λ l. absurd l) (c.put_null.ensures a.ranges.now a.source.now))
+    (c.put_null.ensures a.ranges.now a.source.now)
 
 pub returns-in-Boolean : goal.returns-in-Boolean
 returns-in-Boolean c =
@@ -26,8 +23,7 @@ returns-in-Boolean c =
     subst
     (λ (n : Node). IsPut (IsLeftOut n a.part p) (leaf_in a.ranges.now a.numbers.now a.node a.tags n) p a.octets.now a.state.now
     c.put_boolean.new.octets c.put_boolean.new.state c.put_boolean.result) (sym k.is)
-    (put_wider (⊥) (IsLeftOut type.Boolean a.part p) (leaf_in a.ranges.now a.numbers.now a.node a.tags type.Boolean) p a.octets.now a.state.now
-    c.put_boolean.new.octets c.put_boolean.new.state c.put_boolean.result (λ l. absurd l) (c.put_boolean.ensures a.ranges.now a.source.now))
+    (c.put_boolean.ensures a.ranges.now a.source.now)
 
 pub returns-in-OctetString : goal.returns-in-OctetString
 returns-in-OctetString c =
@@ -37,8 +33,7 @@ returns-in-OctetString c =
     subst
     (λ (n : Node). IsPut (IsLeftOut n a.part p) (leaf_in a.ranges.now a.numbers.now a.node a.tags n) p a.octets.now a.state.now
     c.put_octet_string.new.octets c.put_octet_string.new.state c.put_octet_string.result) (sym k.is)
-    (put_wider (IsInFragments a.part) (IsLeftOut (type.OctetString k.length k.is_extensible) a.part p) (leaf_in a.ranges.now a.numbers.now a.node a.tags (type.OctetString k.length k.is_extensible)) p a.octets.now a.state.now
-    c.put_octet_string.new.octets c.put_octet_string.new.state c.put_octet_string.result (λ l. inr (inl l)) (c.put_octet_string.ensures a.ranges.now))
+    (c.put_octet_string.ensures a.ranges.now)
 
 pub returns-in-ObjectIdentifier : goal.returns-in-ObjectIdentifier
 returns-in-ObjectIdentifier c =
@@ -48,8 +43,7 @@ returns-in-ObjectIdentifier c =
     subst
     (λ (n : Node). IsPut (IsLeftOut n a.part p) (leaf_in a.ranges.now a.numbers.now a.node a.tags n) p a.octets.now a.state.now
     c.put_kept.new.octets c.put_kept.new.state c.put_kept.result) (sym k.is)
-    (put_wider (IsInFragments a.part) (IsLeftOut type.ObjectIdentifier a.part p) (leaf_in a.ranges.now a.numbers.now a.node a.tags type.ObjectIdentifier) p a.octets.now a.state.now
-    c.put_kept.new.octets c.put_kept.new.state c.put_kept.result (λ l. inr (inl l)) (c.put_kept.ensures a.ranges.now))
+    (c.put_kept.ensures a.ranges.now)
 
 pub returns-in-RelativeIdentifier : goal.returns-in-RelativeIdentifier
 returns-in-RelativeIdentifier c =
@@ -59,8 +53,7 @@ returns-in-RelativeIdentifier c =
     subst
     (λ (n : Node). IsPut (IsLeftOut n a.part p) (leaf_in a.ranges.now a.numbers.now a.node a.tags n) p a.octets.now a.state.now
     c.put_kept-in-RelativeIdentifier.new.octets c.put_kept-in-RelativeIdentifier.new.state c.put_kept-in-RelativeIdentifier.result) (sym k.is)
-    (put_wider (IsInFragments a.part) (IsLeftOut type.RelativeIdentifier a.part p) (leaf_in a.ranges.now a.numbers.now a.node a.tags type.RelativeIdentifier) p a.octets.now a.state.now
-    c.put_kept-in-RelativeIdentifier.new.octets c.put_kept-in-RelativeIdentifier.new.state c.put_kept-in-RelativeIdentifier.result (λ l. inr (inl l)) (c.put_kept-in-RelativeIdentifier.ensures a.ranges.now))
+    (c.put_kept-in-RelativeIdentifier.ensures a.ranges.now)
 
 pub returns-in-Utf8String : goal.returns-in-Utf8String
 returns-in-Utf8String c =
@@ -70,8 +63,7 @@ returns-in-Utf8String c =
     subst
     (λ (n : Node). IsPut (IsLeftOut n a.part p) (leaf_in a.ranges.now a.numbers.now a.node a.tags n) p a.octets.now a.state.now
     c.put_kept-in-Utf8String.new.octets c.put_kept-in-Utf8String.new.state c.put_kept-in-Utf8String.result) (sym k.is)
-    (put_wider (IsInFragments a.part) (IsLeftOut type.Utf8String a.part p) (leaf_in a.ranges.now a.numbers.now a.node a.tags type.Utf8String) p a.octets.now a.state.now
-    c.put_kept-in-Utf8String.new.octets c.put_kept-in-Utf8String.new.state c.put_kept-in-Utf8String.result (λ l. inr (inl l)) (c.put_kept-in-Utf8String.ensures a.ranges.now))
+    (c.put_kept-in-Utf8String.ensures a.ranges.now)
 
 pub returns-in-IntegerBetween : goal.returns-in-IntegerBetween
 returns-in-IntegerBetween c =
@@ -81,8 +73,7 @@ returns-in-IntegerBetween c =
     subst
     (λ (n : Node). IsPut (IsLeftOut n a.part p) (leaf_in a.ranges.now a.numbers.now a.node a.tags n) p a.octets.now a.state.now
     c.put_integer_between.new.octets c.put_integer_between.new.state c.put_integer_between.result) (sym k.is)
-    (put_wider (IsFarInteger p) (IsLeftOut (type.IntegerBetween k.bounds k.is_extensible) a.part p) (leaf_in a.ranges.now a.numbers.now a.node a.tags (type.IntegerBetween k.bounds k.is_extensible)) p a.octets.now a.state.now
-    c.put_integer_between.new.octets c.put_integer_between.new.state c.put_integer_between.result (λ l. inr (inr l)) (c.put_integer_between.ensures a.ranges.now))
+    (c.put_integer_between.ensures a.ranges.now)
 
 pub returns-in-IntegerAtLeast : goal.returns-in-IntegerAtLeast
 returns-in-IntegerAtLeast c =
@@ -92,8 +83,7 @@ returns-in-IntegerAtLeast c =
     subst
     (λ (n : Node). IsPut (IsLeftOut n a.part p) (leaf_in a.ranges.now a.numbers.now a.node a.tags n) p a.octets.now a.state.now
     c.put_integer_at_least.new.octets c.put_integer_at_least.new.state c.put_integer_at_least.result) (sym k.is)
-    (put_wider (IsFarInteger p) (IsLeftOut (type.IntegerAtLeast k.bound k.is_extensible) a.part p) (leaf_in a.ranges.now a.numbers.now a.node a.tags (type.IntegerAtLeast k.bound k.is_extensible)) p a.octets.now a.state.now
-    c.put_integer_at_least.new.octets c.put_integer_at_least.new.state c.put_integer_at_least.result (λ l. inr (inr l)) (c.put_integer_at_least.ensures a.ranges.now))
+    (c.put_integer_at_least.ensures a.ranges.now)
 
 pub returns-in-Integer : goal.returns-in-Integer
 returns-in-Integer c =
@@ -103,8 +93,7 @@ returns-in-Integer c =
     subst
     (λ (n : Node). IsPut (IsLeftOut n a.part p) (leaf_in a.ranges.now a.numbers.now a.node a.tags n) p a.octets.now a.state.now
     c.put_integer.new.octets c.put_integer.new.state c.put_integer.result) (sym k.is)
-    (put_wider (IsFarInteger p) (IsLeftOut type.Integer a.part p) (leaf_in a.ranges.now a.numbers.now a.node a.tags type.Integer) p a.octets.now a.state.now
-    c.put_integer.new.octets c.put_integer.new.state c.put_integer.result (λ l. inr (inr l)) (c.put_integer.ensures a.ranges.now))
+    (c.put_integer.ensures a.ranges.now)
 
 pub returns-in-Enumerated : goal.returns-in-Enumerated
 returns-in-Enumerated c =
@@ -115,8 +104,7 @@ returns-in-Enumerated c =
     subst
     (λ (n : Node). IsPut (IsLeftOut n a.part p) (leaf_in a.ranges.now a.numbers.now a.node a.tags n) p a.octets.now a.state.now
     r.new.octets r.new.state r.result) (sym k.is)
-    (put_wider (⊥) (IsLeftOut (type.Enumerated k.last k.is_extensible k.additions) a.part p) (leaf_in a.ranges.now a.numbers.now a.node a.tags (type.Enumerated k.last k.is_extensible k.additions)) p a.octets.now a.state.now
-    r.new.octets r.new.state r.result (λ l. absurd l) (r.ensures a.ranges.now))
+    (r.ensures a.ranges.now)
 
 pub returns-in-BitString : goal.returns-in-BitString
 returns-in-BitString c =
@@ -127,5 +115,15 @@ returns-in-BitString c =
     subst
     (λ (n : Node). IsPut (IsLeftOut n a.part p) (leaf_in a.ranges.now a.numbers.now a.node a.tags n) p a.octets.now a.state.now
     r.new.octets r.new.state r.result) (sym k.is)
-    (put_wider (⊥) (IsLeftOut (type.BitString k.length k.is_extensible k.has_names) a.part p) (leaf_in a.ranges.now a.numbers.now a.node a.tags (type.BitString k.length k.is_extensible k.has_names)) p a.octets.now a.state.now
-    r.new.octets r.new.state r.result (λ l. absurd l) (r.ensures a.ranges.now))
+    (r.ensures a.ranges.now)
+
+pub returns-in-Text : goal.returns-in-Text
+returns-in-Text c =
+    let a = c.args in
+    let k = c.in-Text in
+    let p = piece_in a.ranges.now a.source.now a.part in
+    let r = c.put_text in
+    subst
+    (λ (n : Node). IsPut (IsLeftOut n a.part p) (leaf_in a.ranges.now a.numbers.now a.node a.tags n) p a.octets.now a.state.now
+    r.new.octets r.new.state r.result) (sym k.is)
+    r.ensures
