@@ -1,5 +1,5 @@
 -- What follows of a part that was written or rejected.
-use Rattle.std.proofs.Common.{◌≡◌, ℕ, ◌+◌, ◌*◌, ◌%◌, ◌≤◌, List, [], ◌∷◌, Bool, false, length, drop, refl, sym, ap, subst, inl, inr, arith}
+use Rattle.std.proofs.Common.{◌≡◌, ℕ, ◌+◌, ◌*◌, ◌%◌, ◌≤◌, List, [], ◌∷◌, Bool, true, false, length, drop, refl, sym, ap, subst, inl, inr, arith}
 use Rattle.std.proofs.lemmas.List.{length-drop, length-take-le}
 use Rattle.asn1_bits.specs.Bits.{bits}
 use Rattle.asn1_bits.specs.DigitLaws.{length-bits}
@@ -37,6 +37,13 @@ pub left_out : (Left : Type 0) (F : TypeContents FaultKind) (p : Piece) (octets 
 left_out Left F p octets old new r e at next reason l =
     subst (λ (b : Bool). IsPut Left F p octets old octets new b) (sym e)
     (inr (reason, l), record { octets = refl; at = at; next = next })
+
+-- nothing is left
+pub none_left : (M : Type 0) (F : TypeContents FaultKind) (p : Piece) (was : List ℕ) (old : Writer) (now : List ℕ) (new : Writer)
+    (r : Bool) → IsPut (⊥) F p was old now new r → IsPut M F p was old now new r
+none_left M F p was old now new true a = a
+none_left M F p was old now new false (inl m, same) = (inl m, same)
+none_left M F p was old now new false (inr m, same) = absurd m.1
 
 module _ {X : Type 0} (P : X → List Bool → Type 0) (Permits : X → Type 0) (is : X → Piece) (node : ℕ) (p : Piece) where
   pub leaf_put : (x : X) (list : List Bool) (was : List ℕ) (old : Writer) (now : List ℕ) (at : ℕ) → p ≡ is x → P x list → Permits x

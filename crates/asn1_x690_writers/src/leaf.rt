@@ -2,7 +2,7 @@
 
 ghost use Rattle.std.specs.Prelude.{◌*◌, ◌^◌, ◌<◌, length};
 ghost use Rattle.asn1_x690_writers.specs.Leaf.{leaf_in, IsLeftOut};
-ghost use Rattle.asn1_x690_writers.specs.Put.{IsPut};
+ghost use Rattle.asn1_x690_writers.specs.Put.{IsPut, LeftAt};
 ghost use Rattle.asn1_x691_writers.specs.Put.{piece_in};
 
 use crate::bit_strings::put_bit_string;
@@ -29,7 +29,7 @@ pub fn put_leaf(
 ) -> bool
     requires size { 8 * length octets.old < 2 ^ 64 }
     requires source { 8 * length source.now < 2 ^ 64 }
-    ensures { IsPut (IsLeftOut kind part (piece_in ranges.now source.now part)) (leaf_in ranges.now numbers.now node tags kind)
+    ensures { IsPut (LeftAt (IsLeftOut kind part (piece_in ranges.now source.now part)) node state.new) (leaf_in ranges.now numbers.now node tags kind)
         (piece_in ranges.now source.now part) octets.old state.old octets.new state.new result }
 {
     match kind {
