@@ -247,35 +247,33 @@ pub record IsLong (c : Context) (node next : ℕ) : Type 0 where
   pub are : tape c next ≡ parts ++ rest
   pub many : 2 ^ 64 ≤ length list + 136
 
--- the next parts have an encoding of more than 504 bits
-pub record IsWide (c : Context) (next : ℕ) : Type 0 where
+-- the next parts are a value of the type at the node, which has an encoding of more than 504 bits
+pub record IsWide (c : Context) (node next : ℕ) : Type 0 where
   pub depth : ℕ
-  pub inner : ℕ
   pub parts : Parts
   pub list : List Bool
   pub rest : Parts
-  pub encodes : (element_in c depth inner).encoding.encodes parts list
+  pub encodes : (element_in c depth node).encoding.encodes parts list
   pub are : tape c next ≡ parts ++ rest
   pub many : 504 < length list
 
--- the next parts are two values of one type, which have encodings of more than 504 bits
-pub record AreWide (c : Context) (next : ℕ) : Type 0 where
+-- the next parts are two values of the type at the node, which have encodings of more than 504 bits
+pub record AreWide (c : Context) (node next : ℕ) : Type 0 where
   pub depth : ℕ
-  pub item : ℕ
   pub xs : Parts
   pub ys : Parts
   pub before : List Bool
   pub list : List Bool
   pub rest : Parts
-  pub first : (element_in c depth item).encoding.encodes xs before
-  pub second : (element_in c depth item).encoding.encodes ys list
+  pub first : (element_in c depth node).encoding.encodes xs before
+  pub second : (element_in c depth node).encoding.encodes ys list
   pub are : tape c next ≡ xs ++ (ys ++ rest)
   pub many : 504 < length before + length list
 
 -- The next parts are left: they are not encoded yet, or they were to be compared in octets that are too few for them.
 abbrev pub IsLeft : Context → Writer → Type 0
 IsLeft c new = ((new.reason ≡ rejection.Unsupported) × (IsPartLeft c new.node new.next ⊎ IsLong c new.node new.next))
-    ⊎ ((new.reason ≡ rejection.NoRoom) × (IsWide c new.next ⊎ AreWide c new.next))
+    ⊎ ((new.reason ≡ rejection.NoRoom) × (IsWide c new.node new.next ⊎ AreWide c new.node new.next))
 
 -- ---- what a call did
 

@@ -148,7 +148,7 @@ fn are_ordered_alone(
         return stop(state, copy);
     }
     if !are_in(&window, 0, middle, copy.at) {
-        return leave_unread(state, next);
+        return leave_unread(state, item, next);
     }
     is_ordered(node, &window, 0, middle, copy.at, first, state)
 }

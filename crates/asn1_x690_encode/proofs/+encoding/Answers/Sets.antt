@@ -5,7 +5,7 @@ use Rattle.asn1_bits.specs.Bits.{bits}
 use Rattle.asn1_schema.specs.Pieces.{Parts}
 use Rattle.asn1_schema.specs.PiecesOfParts.{bits_at}
 use Rattle.asn1_x690_encode.specs.declared.set.ItemStart.{ItemStart}
-use Rattle.asn1_x690_encode.specs.Encoding.{Outcome, tape, types, element_in, in_order_in}
+use Rattle.asn1_x690_encode.specs.Encoding.{Outcome, AreWide, tape, types, element_in, in_order_in}
 use Rattle.asn1_x690_encode.specs.ListSteps.{items_stopped, items_done, some_filled, none_stopped}
 use Rattle.asn1_x690_encode.specs.OtherSteps.{left_same, again_left, again_same, again_rest}
 use Rattle.asn1_x690_encode.specs.Sets.{IsPreviousIn, IsOrdered}
@@ -176,9 +176,8 @@ are_ordered_alone-returns-then-not-are_in-clause-ordered t c xs ys rest before l
       s.ensures.result,
       inr (
         s.ensures.reason,
-        inr (record {
+        inr (subst (λ (n : ℕ). AreWide cx n s.new.state.next) (sym s.ensures.node) (record {
           depth = a.depth;
-          item = a.item;
           xs = xs;
           ys = ys;
           before = before;
@@ -192,7 +191,7 @@ are_ordered_alone-returns-then-not-are_in-clause-ordered t c xs ys rest before l
               (wide cx a.depth a.node a.item _ k.new.octets m.new.octets _ k.new.state m.new.state s.new.state e d
               (m.auto.octets ∙ k.auto.octets) refl (m.auto.octets ∙ k.auto.octets)
               (λ le i. not_both c.are_in.result c.if-not-are_in.true (c.are_in.ensures.both le i))));
-        }),
+        })),
       ),
     )
 

@@ -2,7 +2,7 @@
 use Rattle.std.proofs.Common.{◌≡◌, ℕ, ◌-◌, Bool, true, false, List, [], refl, sym, ◌∙◌, ap, subst, inl, inr, arith, Some, None}
 use Rattle.asn1_schema.specs.declared.tables.Presence.{Presence}
 use Rattle.asn1_x690_encode.specs.Compared.{IsDefault, IsCompared}
-use Rattle.asn1_x690_encode.specs.Encoding.{ValueOutcome, tape, types, element_in, value_in}
+use Rattle.asn1_x690_encode.specs.Encoding.{ValueOutcome, IsWide, tape, types, element_in, value_in}
 use Rattle.asn1_x690_encode.specs.OtherSteps.{left_same, value_filled, again_left, again_same, again_wide, other_encoded, other_misfit, compared_yes, compared_no}
 use Rattle.asn1_x690_encode.specs.PlaceSteps.{placed, found, ends_after}
 use Rattle.asn1_x690_encode.specs.Steps.{as_value}
@@ -120,9 +120,8 @@ is_other-returns-then-not-is_in-clause-compared t c parts rest list p is =
     subst (λ (b : Bool). IsCompared cx a.node a.value a.first list s.new.state b) (sym s.ensures.result)
     (inr (inr (
       s.ensures.reason,
-      inl (record {
+      inl (subst (λ (n : ℕ). IsWide cx n s.new.state.next) (sym s.ensures.node) (record {
         depth = a.depth;
-        inner = a.inner;
         parts = parts;
         list = list;
         rest = rest;
@@ -132,7 +131,7 @@ is_other-returns-then-not-is_in-clause-compared t c parts rest list p is =
             (value_filled cx (element_in cx a.depth a.inner) _ k.new.octets _ k.new.state f
             (as_value cx a.inner (types cx a.depth a.inner) _ _ k.new.octets k.new.state (Some f) c.in-Some.ensures)) refl k.auto.octets
             (λ w. not_both c.is_in.result c.if-not-is_in.true (c.is_in.ensures.1 w));
-      }),
+      })),
     )))
 
 pub is_other-returns-then-is_default-clause-compared : goal.value::is_other-returns-then-is_default-clause-compared
