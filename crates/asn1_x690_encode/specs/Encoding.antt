@@ -6,7 +6,7 @@ use Rattle.asn1_schema.specs.declared.part.Part.{Part}
 use Rattle.asn1_schema.specs.declared.tables.Node.{Node}
 use Rattle.asn1_schema.specs.declared.tables.Node.TheVariants as type
 use Rattle.asn1_schema.specs.Encodings.{Starts}
-use Rattle.asn1_schema.specs.Pieces.{Parts, Octets}
+use Rattle.asn1_schema.specs.Pieces.{Parts, Octets, Unknown}
 use Rattle.asn1_schema.specs.TypeEncodings.{Misfit, TypeEncoding}
 use Rattle.asn1_x690.specs.declared.fault.FaultKind.{FaultKind}
 use Rattle.asn1_x690.specs.declared.fault.FaultKind.TheVariants.{Extra, Missing, OtherTag}
@@ -14,22 +14,25 @@ use Rattle.asn1_x690.specs.declared.tables.Tag.{Tag}
 use Rattle.asn1_x690.specs.declared.tables.Identifier.{Identifier}
 use Rattle.asn1_x690.specs.declared.tables.TypeTags.{TypeTags}
 use Rattle.asn1_x690.specs.declared.tables.FirstTags.{FirstTags}
+use Rattle.asn1_schema.specs.declared.tables.Rows.{Rows}
 use Rattle.asn1_x690.specs.Der as der
 use Rattle.asn1_x690.specs.Elements.{identifier, any_element}
-use Rattle.asn1_x690.specs.TypeContents.{TypeContents, ToldContents, ByHeader, FillsWith, nothing_more, required, present, to_end, invalid_header, only_value, only_header}
+use Rattle.asn1_x690.specs.TypeContents.{TypeContents, ToldContents, ByHeader, FillsWith, nothing_more, required, present, to_end, renamed, invalid_header, only_value, only_header}
 use Rattle.asn1_x690_fields.specs.declared.identifier.FoundIdentifier.{FoundIdentifier}
 use Rattle.asn1_x690_fields.specs.Outcomes.{IsIdentifier}
 use Rattle.asn1_x690_writers.specs.Leaf.{leaf_in, IsLeftOut}
 use Rattle.asn1_x691_fields.specs.Defaults.{default_in}
 use Rattle.asn1_x691_writers.specs.declared.state.Writer.{Writer}
 use Rattle.asn1_x691_writers.specs.declared.state.Rejection.TheVariants as rejection
-use Rattle.asn1_x691_writers.specs.Put.{piece_in}
+use Rattle.asn1_x691_writers.specs.Put.{piece_in, IsInFragments}
 use Rattle.asn1_x691_writers.specs.Written.{IsGrown}
 use Rattle.asn1_x690_encode.specs.declared.context.Context.{Context}
 use Rattle.asn1_x690_encode.specs.declared.inner.Inner.{Inner}
 use Rattle.asn1_x690_encode.specs.declared.inner.Inner.TheVariants.{Own, Tagged, Around}
 use Rattle.asn1_x690_encode.specs.declared.sequence.Tail.{Tail}
-use Rattle.asn1_x690_encode.specs.declared.sequence.Tail.TheVariants.{End}
+use Rattle.asn1_x690_encode.specs.declared.sequence.Tail.TheVariants as ending
+use Rattle.asn1_x690_encode.specs.declared.choice.Others.{Others}
+use Rattle.asn1_x690_encode.specs.declared.choice.Others.TheVariants as others
 use Rattle.asn1_schema.specs.declared.tables.Presence.{Presence}
 use Rattle.asn1_x690_encode.specs.Kinds.{is_structured, identifier_by}
 
@@ -107,37 +110,74 @@ IsInnerOf c node (Around n t tags) = HasType c node n t
 abbrev pub enclosed_in : Context → ℕ → ℕ → Identifier → Inner → ByHeader FaultKind Identifier
 enclosed_in c depth node id inner = only_header id OtherTag node (inner_in c depth node inner)
 
--- what follows the components of a root, and what it tells
+-- unknown additions, after so many that the schema knows
+abbrev pub unknown_in : ℕ → ℕ → ToldContents FaultKind ℕ
+unknown_in node known = renamed (λ n. known + n) node (to_end Extra node (λ before. der.element node (der.any_value Unknown node)))
+
+-- the additions of a type that knows these, or none
+abbrev pub extension_in : Context → ℕ → ℕ → Rows → ToldContents FaultKind Bool
+extension_in c depth node known = der.extension (types c depth) (tables_of c) node known
+
+-- what follows components or additions, and what it tells
 abbrev pub told_by : Tail → Type 0
-told_by End = ⊤
+told_by ending.End = ⊤
+told_by (ending.Extension known is_extended) = Bool
+told_by (ending.Unknown known count) = ℕ
 
 abbrev pub told_of : (tail : Tail) → told_by tail
-told_of End = tt
+told_of ending.End = tt
+told_of (ending.Extension known is_extended) = is_extended
+told_of (ending.Unknown known count) = count
 
 abbrev pub after_root : Context → ℕ → ℕ → (tail : Tail) → ToldContents FaultKind (told_by tail)
-after_root c depth node End = nothing_more Extra node
+after_root c depth node ending.End = nothing_more Extra node
+after_root c depth node (ending.Extension known is_extended) = extension_in c depth node known
+after_root c depth node (ending.Unknown known count) = unknown_in node known
 
+-- components, or additions where unknown ones follow
 abbrev pub components_in : Context → ℕ → ℕ → ℕ → ℕ → (tail : Tail) → ToldContents FaultKind (told_by tail)
-components_in c depth node count from tail = der.components (types c depth) (tables_of c) node count from (after_root c depth node tail)
+components_in c depth node count from ending.End =
+    der.components (types c depth) (tables_of c) node count from (after_root c depth node ending.End)
+components_in c depth node count from (ending.Extension known is_extended) =
+    der.components (types c depth) (tables_of c) node count from (after_root c depth node (ending.Extension known is_extended))
+components_in c depth node count from (ending.Unknown known n) =
+    der.additions (types c depth) (tables_of c) node count from (after_root c depth node (ending.Unknown known n))
 
 -- a value that is not the default
 abbrev pub value_in : Context → ℕ → ℕ → Presence → ℕ → TypeEncoding FaultKind
 value_in c depth node p inner = der.value_by (types c depth) (tables_of c) node p (der.element inner (types c depth inner))
 
+-- an item that is not before the one that precedes it
+abbrev pub in_order_in : Context → ℕ → ℕ → ℕ → List Bool → TypeEncoding FaultKind
+in_order_in c depth node item before =
+    der.in_order (types c depth) (tables_of c) node true (der.element item (types c depth item)) before
+
 -- so many items to the end, and alternatives from an index on
-abbrev pub items_in : Context → ℕ → ℕ → ℕ → ToldContents FaultKind ℕ
-items_in c depth node item =
-    to_end Extra node (der.in_order (types c depth) (tables_of c) node false (der.element item (types c depth item)))
+abbrev pub items_in : Context → ℕ → ℕ → Bool → ℕ → ToldContents FaultKind ℕ
+items_in c depth node is_set item =
+    to_end Extra node (der.in_order (types c depth) (tables_of c) node is_set (der.element item (types c depth item)))
 
-abbrev pub FillsItems : Context → ℕ → ℕ → ℕ → ℕ → Parts → List Bool → Type 0
-FillsItems c depth node item n = FillsWith (items_in c depth node item) n
+abbrev pub FillsItems : Context → ℕ → ℕ → Bool → ℕ → ℕ → Parts → List Bool → Type 0
+FillsItems c depth node is_set item n = FillsWith (items_in c depth node is_set item) n
 
-abbrev pub ItemsMisfit : Context → ℕ → ℕ → ℕ → ℕ → Parts → Misfit → Type 0
-ItemsMisfit c depth node item n = (items_in c depth node item).misfit n
+abbrev pub ItemsMisfit : Context → ℕ → ℕ → Bool → ℕ → ℕ → Parts → Misfit → Type 0
+ItemsMisfit c depth node is_set item n = (items_in c depth node is_set item).misfit n
 
-abbrev pub alternatives_in : Context → ℕ → ℕ → ℕ → ℕ → ℕ → ByHeader FaultKind Identifier
-alternatives_in c depth node index count from =
-    der.alternatives (types c depth) (tables_of c) node count index from (invalid_header OtherTag OtherPart node)
+-- what follows alternatives
+abbrev pub others_in : Context → ℕ → ℕ → Others → ByHeader FaultKind Identifier
+others_in c depth node others.Nothing = invalid_header OtherTag OtherPart node
+others_in c depth node (others.Additions before known) =
+    der.alternatives (types c depth) (tables_of c) node known.count before known.from (der.any_value Unknown node)
+others_in c depth node others.Unknown = der.any_value Unknown node
+
+-- with an extension marker the alternatives of additions follow
+abbrev pub others_by : Bool → ℕ → Rows → Others
+others_by false before known = others.Nothing
+others_by true before known = others.Additions before known
+
+abbrev pub alternatives_in : Context → ℕ → ℕ → ℕ → ℕ → ℕ → Others → ByHeader FaultKind Identifier
+alternatives_in c depth node index count from after =
+    der.alternatives (types c depth) (tables_of c) node count index from (others_in c depth node after)
 
 -- a value at a node, a component that must be present, and one that may be absent
 abbrev pub element_in : Context → ℕ → ℕ → TypeEncoding FaultKind
@@ -187,34 +227,18 @@ pub record IsFirstMisfit (c : Context) (W : Parts → Misfit → Type 0) (old ne
 
 -- ---- what is not encoded yet
 
--- types that are not encoded yet
-abbrev pub IsUnencoded : Node → Type 0
-IsUnencoded (type.Sequence root true known) = ⊤
-IsUnencoded (type.SetOf size is_extensible item) = ⊤
-IsUnencoded (type.Choice root true known) = ⊤
-IsUnencoded n = ⊥
-
--- a value of such a type, or any element
-pub record IsLater (c : Context) (node : ℕ) : Type 0 where
-  pub kind : Node
-  pub tags : TypeTags
-  pub type : HasType c node kind tags
-  pub later : IsUnencoded kind ⊎ (tags.is_any ≡ true)
-
--- the next part is one whose contents octets are not written yet
-pub record IsLeafLater (c : Context) (next : ℕ) : Type 0 where
-  pub node : ℕ
+-- the next part, of the type at the node, is one that is not written yet; where any element is a value, octets in fragments
+pub record IsPartLeft (c : Context) (node next : ℕ) : Type 0 where
   pub kind : Node
   pub tags : TypeTags
   pub type : HasType c node kind tags
   pub part : Part
   pub is : slice_get c.parts.now next ≡ Some part
-  pub left : IsLeftOut kind part (piece_in c.tables.ranges.now c.source.now part)
+  pub left : IsLeftOut kind part (piece_in c.tables.ranges.now c.source.now part) ⊎ ((tags.is_any ≡ true) × IsInFragments part)
 
--- the next parts are contents of nearly 2^61 octets
-pub record IsLong (c : Context) (next : ℕ) : Type 0 where
+-- the next parts are contents of the type at the node, of nearly 2^61 octets
+pub record IsLong (c : Context) (node next : ℕ) : Type 0 where
   pub depth : ℕ
-  pub node : ℕ
   pub inner : Inner
   pub parts : Parts
   pub list : List Bool
@@ -223,21 +247,33 @@ pub record IsLong (c : Context) (next : ℕ) : Type 0 where
   pub are : tape c next ≡ parts ++ rest
   pub many : 2 ^ 64 ≤ length list + 136
 
--- the next parts have an encoding of more than 504 bits
-pub record IsWide (c : Context) (next : ℕ) : Type 0 where
+-- the next parts are a value of the type at the node, which has an encoding of more than 504 bits
+pub record IsWide (c : Context) (node next : ℕ) : Type 0 where
   pub depth : ℕ
-  pub inner : ℕ
   pub parts : Parts
   pub list : List Bool
   pub rest : Parts
-  pub encodes : (element_in c depth inner).encoding.encodes parts list
+  pub encodes : (element_in c depth node).encoding.encodes parts list
   pub are : tape c next ≡ parts ++ rest
   pub many : 504 < length list
 
+-- the next parts are two values of the type at the node, which have encodings of more than 504 bits
+pub record AreWide (c : Context) (node next : ℕ) : Type 0 where
+  pub depth : ℕ
+  pub xs : Parts
+  pub ys : Parts
+  pub before : List Bool
+  pub list : List Bool
+  pub rest : Parts
+  pub first : (element_in c depth node).encoding.encodes xs before
+  pub second : (element_in c depth node).encoding.encodes ys list
+  pub are : tape c next ≡ xs ++ (ys ++ rest)
+  pub many : 504 < length before + length list
+
 -- The next parts are left: they are not encoded yet, or they were to be compared in octets that are too few for them.
 abbrev pub IsLeft : Context → Writer → Type 0
-IsLeft c new = ((new.reason ≡ rejection.Unsupported) × (IsLater c new.node ⊎ (IsLeafLater c new.next ⊎ IsLong c new.next)))
-    ⊎ ((new.reason ≡ rejection.NoRoom) × IsWide c new.next)
+IsLeft c new = ((new.reason ≡ rejection.Unsupported) × (IsPartLeft c new.node new.next ⊎ IsLong c new.node new.next))
+    ⊎ ((new.reason ≡ rejection.NoRoom) × (IsWide c new.node new.next ⊎ AreWide c new.node new.next))
 
 -- ---- what a call did
 

@@ -1,10 +1,16 @@
--- Which types have tags around a value that has its own header.
-use Rattle.std.specs.Prelude.{Bool, true, false}
+-- Which types have tags around a value that has its own header, and which components must be present.
+use Rattle.std.specs.Prelude.{ℕ, Bool, true, false}
+use Rattle.asn1_schema.specs.declared.tables.Presence.{Presence}
+use Rattle.asn1_schema.specs.declared.tables.Presence.TheVariants.{Mandatory}
 use Rattle.asn1_schema.specs.declared.tables.Node.{Node}
 use Rattle.asn1_schema.specs.declared.tables.Node.TheVariants as type
 use Rattle.asn1_x690.specs.declared.tables.Tag.{Tag}
 use Rattle.asn1_x690.specs.declared.tables.Identifier.{Identifier}
 use Rattle.asn1_x690.specs.Der.{primitive, constructed}
+use Rattle.asn1_x690_encode.specs.declared.sequence.Tail.{Tail}
+use Rattle.asn1_x690_encode.specs.declared.sequence.Tail.TheVariants as ending
+use Rattle.asn1_x690_encode.specs.declared.choice.Others.{Others}
+use Rattle.asn1_x690_encode.specs.declared.choice.Others.TheVariants as others
 
 -- CHOICE and open types, and where any element is a value
 abbrev pub is_headed : Bool → Node → Bool
@@ -23,3 +29,20 @@ is_structured n = false
 abbrev pub identifier_by : Bool → Tag → Identifier
 identifier_by false tag = primitive tag
 identifier_by true tag = constructed tag
+
+-- no addition must be present
+abbrev pub is_required : Presence → Tail → Bool
+is_required Mandatory (ending.Unknown known count) = false
+is_required Mandatory tail = true
+is_required p tail = false
+
+-- how many lists of members may follow
+abbrev pub rank_of : Others → ℕ
+rank_of others.Nothing = 0
+rank_of (others.Additions before known) = 1
+rank_of others.Unknown = 0
+
+abbrev pub size_of : Tail → ℕ
+size_of ending.End = 1
+size_of (ending.Extension known is_extended) = 3
+size_of (ending.Unknown known count) = 1

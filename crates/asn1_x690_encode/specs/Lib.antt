@@ -2,6 +2,8 @@
 pub mod Kinds
 pub mod Encoding
 pub mod Compared
+pub mod Any
+pub mod Sets
 pub mod Messages
 -- What follows of what calls did; no contract cites it.
 pub mod Steps
@@ -13,3 +15,6 @@ pub mod PlaceSteps
 pub mod OtherSteps
 pub mod ListSteps
 pub mod ChoiceSteps
+pub mod AnySteps
+pub mod AdditionSteps
+pub mod SetSteps

@@ -33,7 +33,7 @@ module _ (A : List Bool → TypeEncoding FaultKind) where
   Several before n at = several_by_bits (λ k i. A k) before n at
 
   -- so many values fill contents to their end
-  fill_end : (node : ℕ) → ((before : List Bool) → TakesBits (A before)) → (n most at : ℕ) (before : List Bool) (xs : Parts) (l : List Bool)
+  pub fill_end : (node : ℕ) → ((before : List Bool) → TakesBits (A before)) → (n most at : ℕ) (before : List Bool) (xs : Parts) (l : List Bool)
       → length l ≤ most → (Several before n at).encoding.encodes xs l
       → (items {Y = ℕ × Parts} Extra node (λ k. (A k).encoding) (0, []) (λ ts w. (suc w.0, ts ++ w.1)) before most).fills (n, xs) l
   fill_end node some zero zero at before xs l few m = (ap (λ (ys : Parts). (0, ys)) m.0, m.1)
@@ -74,7 +74,7 @@ module _ (A : List Bool → TypeEncoding FaultKind) where
     pub misfit : (e : Misfit) → (Several before left at).misfit (tape c new.next) e → (Several [] n 0).misfit (tape c old.next) e
 
   module _ (c : Context) (n : ℕ) (was : List ℕ) (old : Writer) where
-    pub items_none : AreItems c n n was old was old
+    unfoldable pub items_none : AreItems c n n was old was old
     items_none = record {
       before = [];
       at = 0;
@@ -91,7 +91,7 @@ module _ (A : List Bool → TypeEncoding FaultKind) where
       items_left : AreItems c n (suc rest) was old mid m
       items_left = subst (λ (k : ℕ). AreItems c n k was old mid m) one i
 
-      pub items_more : (now : List ℕ) (new : Writer)
+      unfoldable pub items_more : (now : List ℕ) (new : Writer)
           (f : IsFilled c (A i.before).encoding.encodes mid m now new) → AreItems c n rest was old now new
       items_more now new f = record {
         before = f.list;
@@ -127,7 +127,7 @@ module _ (A : List Bool → TypeEncoding FaultKind) where
           stopped_on c (A i.before).misfit (Several [] n 0).misfit old m new
           (λ e w. i.misfit e (subst (λ (k : ℕ). (Several i.before k i.at).misfit (tape c m.next) e) (sym one) (inl w))) s
 
-    pub items_done : (node left : ℕ) → ((before : List Bool) → TakesBits (A before)) → (now : List ℕ) (new : Writer)
+    unfoldable pub items_done : (node left : ℕ) → ((before : List Bool) → TakesBits (A before)) → (now : List ℕ) (new : Writer)
         → AreItems c n left was old now new → left ≡ 0 → IsFilled c (FillsWith (to_end Extra node A) n) was old now new
     items_done node left some now new i none =
         let p = i.encodes [] []

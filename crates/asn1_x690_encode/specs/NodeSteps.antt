@@ -1,5 +1,5 @@
 -- What follows of the tables of a schema.
-use Rattle.std.proofs.Common.{◌≡◌, ℕ, zero, suc, ◌+◌, ◌-◌, ◌<◌, List, [], ◌∷◌, Bool, true, false, refl, sym, subst, Some, Option, arith}
+use Rattle.std.proofs.Common.{◌≡◌, ℕ, zero, suc, ◌+◌, ◌-◌, ◌<◌, List, [], ◌∷◌, Bool, true, false, refl, sym, subst, Some, Option, None, arith}
 use Rattle.std.specs.Prelude.{slice_get}
 use Rattle.asn1_schema.specs.declared.tables.Member.{Member}
 use Rattle.asn1_schema.specs.declared.tables.Node.{Node}
@@ -7,17 +7,19 @@ use Rattle.asn1_schema.specs.declared.tables.Node.TheVariants as type
 use Rattle.asn1_schema.specs.declared.tables.Presence.{Presence}
 use Rattle.asn1_schema.specs.declared.tables.Presence.TheVariants as presence
 use Rattle.asn1_x690.specs.declared.fault.FaultKind.{FaultKind}
-use Rattle.asn1_x690.specs.declared.fault.FaultKind.TheVariants.{OtherTag, Extra}
+use Rattle.asn1_x690.specs.declared.fault.FaultKind.TheVariants.{OtherTag, Extra, Missing}
 use Rattle.asn1_x690.specs.declared.tables.Identifier.{Identifier}
 use Rattle.asn1_x690.specs.declared.tables.Tag.{Tag}
 use Rattle.asn1_x690.specs.declared.tables.TypeTags.{TypeTags}
 use Rattle.asn1_x690.specs.declared.tables.FirstTags.{FirstTags}
 use Rattle.asn1_x690.specs.Der as der
-use Rattle.asn1_x690.specs.TypeContents.{ByHeader, ToldContents, TypeContents, only_header, only_value}
+use Rattle.asn1_x690.specs.TypeContents.{ByHeader, ToldContents, TypeContents, only_header, only_value, required, present}
 use Rattle.asn1_x690_encode.specs.declared.context.Context.{Context}
+use Rattle.asn1_schema.specs.declared.tables.Rows.{Rows}
 use Rattle.asn1_x690_encode.specs.declared.sequence.Tail.{Tail}
-use Rattle.asn1_x690_encode.specs.Encoding.{tables_of, types, headed_by, tagged_in, components_in, required_in, optional_in, told_by}
-use Rattle.asn1_x690_encode.specs.Kinds.{is_headed}
+use Rattle.asn1_x690_encode.specs.declared.sequence.Tail.TheVariants as ending
+use Rattle.asn1_x690_encode.specs.Encoding.{tables_of, types, headed_by, tagged_in, value_in, element_in, after_root, components_in, required_in, optional_in, told_by, alternatives_in, others_by}
+use Rattle.asn1_x690_encode.specs.Kinds.{is_headed, is_required}
 
 module _ (c : Context) (node : ℕ) (n : Node) (t : TypeTags) (P : ByHeader FaultKind Identifier → Type 0) where
   pub at_node : (depth : ℕ) → 0 < depth → slice_get c.tables.nodes.now node ≡ Some n → slice_get c.tags.types.now node ≡ Some t
@@ -67,50 +69,123 @@ pub tagged_more : (node : ℕ) (id : Tag → Identifier) (F : TypeContents Fault
 tagged_more node id F t [] P f p = absurd (f refl)
 tagged_more node id F t (u ∷ tags) P f p = p
 
--- ---- components
+-- ---- components, and additions
 
-module _ (c : Context) (depth node : ℕ) (tail : Tail) (P : ToldContents FaultKind (told_by tail) → Type 0) where
-  pub at_component : (count from : ℕ) → 0 < count
-      → P (der.component (types c depth) (tables_of c) node (slice_get c.tables.members.now from) (slice_get c.tags.members.now from)
-      (components_in c depth node (count - 1) (from + 1) tail)) → P (components_in c depth node count from tail)
-  at_component zero from some p = absurd (omega (arith, some))
-  at_component (suc k) from some p =
+module _ (c : Context) (depth node : ℕ) where
+  -- a member that is a component, or an addition
+  abbrev member_by : (tail : Tail) → Presence → Option FirstTags → ℕ → ToldContents FaultKind (told_by tail) → ToldContents FaultKind (told_by tail)
+  member_by ending.End p first inner F =
+      der.component_by (types c depth) (tables_of c) node p first inner (value_in c depth node p inner) F
+  member_by (ending.Extension known b) p first inner F =
+      der.component_by (types c depth) (tables_of c) node p first inner (value_in c depth node p inner) F
+  member_by (ending.Unknown known n) p first inner F = der.optional (types c depth) (tables_of c) node first (value_in c depth node p inner) F
+
+  pub none_left : (tail : Tail) (count from : ℕ) (P : ToldContents FaultKind (told_by tail) → Type 0) → count ≡ 0
+      → P (after_root c depth node tail) → P (components_in c depth node count from tail)
+  none_left ending.End count from P e p = subst (λ (k : ℕ). P (components_in c depth node k from ending.End)) (sym e) p
+  none_left (ending.Extension known b) count from P e p =
+      subst (λ (k : ℕ). P (components_in c depth node k from (ending.Extension known b))) (sym e) p
+  none_left (ending.Unknown known n) count from P e p =
+      subst (λ (k : ℕ). P (components_in c depth node k from (ending.Unknown known n))) (sym e) p
+
+  pub at_no_member : (tail : Tail) (count from : ℕ) (P : ToldContents FaultKind (told_by tail) → Type 0) → 0 < count
+      → slice_get c.tables.members.now from ≡ None → P (der.no_member node) → P (components_in c depth node count from tail)
+  at_no_member tail zero from P some e p = absurd (omega (arith, some))
+  at_no_member ending.End (suc k) from P some e p =
+      subst
+      (λ (x : Option Member). P (der.component (types c depth) (tables_of c) node x (slice_get c.tags.members.now from)
+      (components_in c depth node k (from + 1) ending.End))) (sym e) p
+  at_no_member (ending.Extension known b) (suc k) from P some e p =
+      subst
+      (λ (x : Option Member). P (der.component (types c depth) (tables_of c) node x (slice_get c.tags.members.now from)
+      (components_in c depth node k (from + 1) (ending.Extension known b)))) (sym e) p
+  at_no_member (ending.Unknown known n) (suc k) from P some e p =
+      subst
+      (λ (x : Option Member). P (der.addition (types c depth) (tables_of c) node x (slice_get c.tags.members.now from)
+      (components_in c depth node k (from + 1) (ending.Unknown known n)))) (sym e) p
+
+  at_member : (tail : Tail) (count from : ℕ) (m : Member) (P : ToldContents FaultKind (told_by tail) → Type 0) → 0 < count
+      → slice_get c.tables.members.now from ≡ Some m
+      → P (member_by tail m.presence (slice_get c.tags.members.now from) m.node (components_in c depth node (count - 1) (from + 1) tail))
+      → P (components_in c depth node count from tail)
+  at_member tail zero from m P some e p = absurd (omega (arith, some))
+  at_member ending.End (suc k) from m P some e p =
       let same : suc k - 1 ≡ k = omega arith in
       subst
-      (λ (i : ℕ). P (der.component (types c depth) (tables_of c) node (slice_get c.tables.members.now from) (slice_get c.tags.members.now from)
-      (components_in c depth node i (from + 1) tail))) same p
-
-  pub required_first : (count from : ℕ) (m : Member) → 0 < count → slice_get c.tables.members.now from ≡ Some m
-      → m.presence ≡ presence.Mandatory → P (required_in c depth node m.node (count - 1) (from + 1) tail)
-      → P (components_in c depth node count from tail)
-  required_first count from m some e is p =
-      at_component count from some
-      (subst
       (λ (x : Option Member). P (der.component (types c depth) (tables_of c) node x (slice_get c.tags.members.now from)
-      (components_in c depth node (count - 1) (from + 1) tail))) (sym e)
+      (components_in c depth node k (from + 1) ending.End))) (sym e)
       (subst
-      (λ (x : Presence). P (der.component_by (types c depth) (tables_of c) node x (slice_get c.tags.members.now from) m.node
-      (der.value_by (types c depth) (tables_of c) node x (der.element m.node (types c depth m.node)))
-      (components_in c depth node (count - 1) (from + 1) tail))) (sym is) p))
-
-  component_optional : (p : Presence) (first : FirstTags) (inner count from : ℕ) → (p ≡ presence.Mandatory → ⊥)
-      → P (optional_in c depth node p first inner count from tail)
-      → P (der.component_by (types c depth) (tables_of c) node p (Some first) inner
-      (der.value_by (types c depth) (tables_of c) node p (der.element inner (types c depth inner)))
-      (components_in c depth node count from tail))
-  component_optional presence.Mandatory first inner count from f p = absurd (f refl)
-  component_optional presence.Optional first inner count from f p = p
-  component_optional (presence.Default value) first inner count from f p = p
-
-  pub optional_first : (count from : ℕ) (m : Member) (first : FirstTags) → 0 < count → slice_get c.tables.members.now from ≡ Some m
-      → slice_get c.tags.members.now from ≡ Some first → (m.presence ≡ presence.Mandatory → ⊥)
-      → P (optional_in c depth node m.presence first m.node (count - 1) (from + 1) tail) → P (components_in c depth node count from tail)
-  optional_first count from m first some e f not p =
-      at_component count from some
-      (subst
+      (λ (i : ℕ). P (member_by ending.End m.presence (slice_get c.tags.members.now from) m.node
+      (components_in c depth node i (from + 1) ending.End))) same p)
+  at_member (ending.Extension known b) (suc k) from m P some e p =
+      let same : suc k - 1 ≡ k = omega arith in
+      subst
       (λ (x : Option Member). P (der.component (types c depth) (tables_of c) node x (slice_get c.tags.members.now from)
-      (components_in c depth node (count - 1) (from + 1) tail))) (sym e)
+      (components_in c depth node k (from + 1) (ending.Extension known b)))) (sym e)
       (subst
-      (λ (x : Option FirstTags). P (der.component (types c depth) (tables_of c) node (Some m) x
-      (components_in c depth node (count - 1) (from + 1) tail))) (sym f)
-      (component_optional m.presence first m.node (count - 1) (from + 1) not p)))
+      (λ (i : ℕ). P (member_by (ending.Extension known b) m.presence (slice_get c.tags.members.now from) m.node
+      (components_in c depth node i (from + 1) (ending.Extension known b)))) same p)
+  at_member (ending.Unknown known n) (suc k) from m P some e p =
+      let same : suc k - 1 ≡ k = omega arith in
+      subst
+      (λ (x : Option Member). P (der.addition (types c depth) (tables_of c) node x (slice_get c.tags.members.now from)
+      (components_in c depth node k (from + 1) (ending.Unknown known n)))) (sym e)
+      (subst
+      (λ (i : ℕ). P (member_by (ending.Unknown known n) m.presence (slice_get c.tags.members.now from) m.node
+      (components_in c depth node i (from + 1) (ending.Unknown known n)))) same p)
+
+  by_required : (tail : Tail) (p : Presence) (first : Option FirstTags) (inner : ℕ) (F : ToldContents FaultKind (told_by tail))
+      (P : ToldContents FaultKind (told_by tail) → Type 0) → is_required p tail ≡ true
+      → P (required Missing inner (present (element_in c depth inner) F)) → P (member_by tail p first inner F)
+  by_required ending.End presence.Mandatory first inner F P e q = q
+  by_required ending.End presence.Optional first inner F P e q = absurd cc
+  by_required ending.End (presence.Default value) first inner F P e q = absurd cc
+  by_required (ending.Extension known b) presence.Mandatory first inner F P e q = q
+  by_required (ending.Extension known b) presence.Optional first inner F P e q = absurd cc
+  by_required (ending.Extension known b) (presence.Default value) first inner F P e q = absurd cc
+  by_required (ending.Unknown known n) presence.Mandatory first inner F P e q = absurd cc
+  by_required (ending.Unknown known n) presence.Optional first inner F P e q = absurd cc
+  by_required (ending.Unknown known n) (presence.Default value) first inner F P e q = absurd cc
+
+  by_optional : (tail : Tail) (p : Presence) (first : Option FirstTags) (inner : ℕ) (F : ToldContents FaultKind (told_by tail))
+      (P : ToldContents FaultKind (told_by tail) → Type 0) → is_required p tail ≡ false
+      → P (der.optional (types c depth) (tables_of c) node first (value_in c depth node p inner) F) → P (member_by tail p first inner F)
+  by_optional ending.End presence.Mandatory first inner F P e q = absurd cc
+  by_optional ending.End presence.Optional first inner F P e q = q
+  by_optional ending.End (presence.Default value) first inner F P e q = q
+  by_optional (ending.Extension known b) presence.Mandatory first inner F P e q = absurd cc
+  by_optional (ending.Extension known b) presence.Optional first inner F P e q = q
+  by_optional (ending.Extension known b) (presence.Default value) first inner F P e q = q
+  by_optional (ending.Unknown known n) p first inner F P e q = q
+
+  module _ (tail : Tail) (count from : ℕ) (m : Member) (P : ToldContents FaultKind (told_by tail) → Type 0) (some : 0 < count)
+      (e : slice_get c.tables.members.now from ≡ Some m) where
+    abbrev F : ToldContents FaultKind (told_by tail)
+    F = components_in c depth node (count - 1) (from + 1) tail
+
+    pub required_first : is_required m.presence tail ≡ true → P (required_in c depth node m.node (count - 1) (from + 1) tail)
+        → P (components_in c depth node count from tail)
+    required_first is p =
+        at_member tail count from m P some e (by_required tail m.presence (slice_get c.tags.members.now from) m.node F P is p)
+
+    pub optional_first : (first : FirstTags) → is_required m.presence tail ≡ false → slice_get c.tags.members.now from ≡ Some first
+        → P (optional_in c depth node m.presence first m.node (count - 1) (from + 1) tail) → P (components_in c depth node count from tail)
+    optional_first first is f p =
+        at_member tail count from m P some e (by_optional tail m.presence (slice_get c.tags.members.now from) m.node F P is
+        (subst
+        (λ (x : Option FirstTags). P (der.optional (types c depth) (tables_of c) node x (value_in c depth node m.presence m.node) F)) (sym f) p))
+
+    pub no_first : is_required m.presence tail ≡ false → slice_get c.tags.members.now from ≡ None → P (der.no_member node)
+        → P (components_in c depth node count from tail)
+    no_first is f p =
+        at_member tail count from m P some e (by_optional tail m.presence (slice_get c.tags.members.now from) m.node F P is
+        (subst
+        (λ (x : Option FirstTags). P (der.optional (types c depth) (tables_of c) node x (value_in c depth node m.presence m.node) F)) (sym f) p))
+
+-- ---- alternatives
+
+pub choice_is : (c : Context) (depth node : ℕ) (b : Bool) (root known : Rows) (P : ByHeader FaultKind Identifier → Type 0)
+    → P (alternatives_in c depth node 0 root.count root.from (others_by b root.count known))
+    → P (der.choice_by (types c depth) (tables_of c) node b root known)
+choice_is c depth node false root known P p = p
+choice_is c depth node true root known P p = p

@@ -1,5 +1,5 @@
 -- What follows of a value that was compared with the default one.
-use Rattle.std.proofs.Common.{◌≡◌, ℕ, ◌+◌, ◌<◌, ◌≤◌, List, ◌++◌, Bool, true, false, length, refl, sym, ap, ◌∙◌, subst, inl, inr, arith, Some, None}
+use Rattle.std.proofs.Common.{◌≡◌, ℕ, ◌+◌, ◌<◌, ◌≤◌, List, ◌++◌, Bool, true, false, length, refl, sym, ap, ◌∙◌, subst, inl, inr, arith, Some}
 use Rattle.std.proofs.lemmas.Bool.{cases_lt}
 use Rattle.asn1_schema.specs.declared.misfit.MisfitKind.TheVariants.{DefaultValue}
 use Rattle.asn1_schema.specs.declared.tables.Presence.TheVariants as presence
@@ -37,27 +37,43 @@ module _ (c : Context) where
     pub no_misfit : (t xs rest : Parts) (a : List Bool) (e : Misfit) → P xs a → t ≡ xs ++ rest → (element_in c depth inner).misfit t e → ⊥
     no_misfit t xs rest a e p is m = (encoding_at_good c.tables.nodes.now (tables_of c) depth inner).encodes.excludes t e m xs rest a p is
 
+  -- a value that begins with this identifier
+  unfoldable pub value_filled : (V : TypeEncoding FaultKind) (was now : List ℕ) (old new : Writer) (found : FoundIdentifier)
+      → ValueOutcome c V was old now new (Some found) → IsFilled c V.encoding.encodes was old now new
+  value_filled V was now old new found a = record {
+    parts = a.parts;
+    list = a.list;
+    fills = a.fills.0;
+    whole = a.whole;
+    grown = a.grown;
+    taken = a.taken;
+  }
+
   -- ---- a value that is encoded once more, in octets of its own
 
   module _ (depth inner first : ℕ) (parts rest : Parts) (list : List Bool) (was now : List ℕ) (begun copy : Writer)
-      (begins : begun.at ≡ 0) (begins_next : begun.next ≡ first) (p : (element_in c depth inner).encoding.encodes parts list)
+      (begins_next : begun.next ≡ first) (p : (element_in c depth inner).encoding.encodes parts list)
       (is : tape c first ≡ parts ++ rest) where
     here : tape c begun.next ≡ parts ++ rest
     here = ap (λ (n : ℕ). tape c n) begins_next ∙ is
 
     -- where it was not encoded, it is left
-    pub again_left : ValueOutcome c (element_in c depth inner) was begun now copy None → IsLeft c copy
+    pub again_left : IsStopped c (element_in c depth inner).misfit begun copy → IsLeft c copy
     again_left (inl m) = absurd (no_misfit depth inner (tape c begun.next) parts rest list _ p here m.first)
     again_left (inr u) = u
 
-    module _ (found : FoundIdentifier) (a : ValueOutcome c (element_in c depth inner) was begun now copy (Some found)) where
+    module _ (a : IsFilled c (element_in c depth inner).encoding.encodes was begun now copy) where
       -- it has the same bits
       pub again_same : a.list ≡ list
-      again_same = (one_value depth inner (tape c begun.next) a.parts parts (tape c copy.next) rest a.list list a.fills.0 p a.taken here).2
+      again_same = (one_value depth inner (tape c begun.next) a.parts parts (tape c copy.next) rest a.list list a.fills p a.taken here).2
+
+      -- and the same parts follow
+      pub again_rest : tape c copy.next ≡ rest
+      again_rest = (one_value depth inner (tape c begun.next) a.parts parts (tape c copy.next) rest a.list list a.fills p a.taken here).1
 
       -- where they are not all there, there are more than 504
-      pub again_wide : length now ≡ 64 → (IsIn now 0 copy.at → ⊥) → 504 < length list
-      again_wide size out =
+      pub again_wide : begun.at ≡ 0 → length now ≡ 64 → (IsIn now 0 copy.at → ⊥) → 504 < length list
+      again_wide begins size out =
           elim (cases_lt 504 (length list)) [
             | inl lt ↦ lt
             | inr le ↦ absurd (out (inside le (a.grown.index begun.at (inl refl))))

@@ -1,6 +1,6 @@
 -- Where octets have bits that were written.
 use Rattle.std.proofs.Common.{◌≡◌, ℕ, ◌+◌, ◌*◌, ◌^◌, ◌<◌, ◌≤◌, List, ◌++◌, Bool, length, take, drop, refl, sym, ap, ◌∙◌, inl, inr, arith, append_assoc}
-use Rattle.std.proofs.lemmas.List.{length-take-le, take-append-drop}
+use Rattle.std.proofs.lemmas.List.{length-append, length-take-le, take-append-drop}
 use Rattle.std.proofs.Math.Seq.{drop-append_seam, take-append_seam}
 use Rattle.asn1_bits.specs.Bits.{bits}
 use Rattle.asn1_bits.specs.DigitLaws.{length-bits}
@@ -56,3 +56,21 @@ found octets at count list p e =
     ap (λ (l : List Bool). take count l) at_seam
     ∙ ap (λ (n : ℕ). take n (list ++ p.rest)) e
     ∙ take-append_seam list p.rest
+
+-- bits one after another
+pub placed_first : (octets : List ℕ) (at : ℕ) (xs ys : List Bool) → ArePlaced octets at (xs ++ ys) → ArePlaced octets at xs
+placed_first octets at xs ys p = record {
+  front = p.front;
+  rest = ys ++ p.rest;
+  size = p.size;
+  are = p.are ∙ ap (λ (l : List Bool). p.front ++ l) (append_assoc xs ys p.rest);
+}
+
+pub placed_second : (octets : List ℕ) (at next : ℕ) (xs ys : List Bool) → next ≡ at + length xs → ArePlaced octets at (xs ++ ys)
+    → ArePlaced octets next ys
+placed_second octets at next xs ys e p = record {
+  front = p.front ++ xs;
+  rest = p.rest;
+  size = length-append p.front xs ∙ ap (λ (n : ℕ). n + length xs) p.size ∙ sym e;
+  are = p.are ∙ ap (λ (l : List Bool). p.front ++ l) (append_assoc xs ys p.rest) ∙ sym (append_assoc p.front xs (ys ++ p.rest));
+}

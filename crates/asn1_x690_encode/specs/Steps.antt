@@ -1,6 +1,6 @@
 -- What follows of parts that were encoded or rejected.
 use Rattle.std.proofs.Common.{◌≡◌, ℕ, suc, ◌+◌, ◌-◌, ◌%◌, ◌^◌, ◌<◌, ◌≤◌, get_or, List, [], ◌∷◌, ◌++◌, Bool, true, false, length, drop, map, refl, sym, ap, ◌∙◌, subst, inl, inr, Option, Some, None, arith, append_assoc}
-use Rattle.std.specs.Prelude.{slice_get, is_some, ◌⊎◌}
+use Rattle.std.specs.Prelude.{slice_get, is_some}
 use Rattle.std.proofs.Math.Seq.{drop-cons}
 use Rattle.std.proofs.lemmas.Bool.{cases_lt}
 use Rattle.std.proofs.lemmas.List.{drop_all, length-append}
@@ -29,7 +29,7 @@ use Rattle.asn1_x691_writers.specs.Put.{piece_in}
 use Rattle.asn1_x691_writers.specs.GrownSteps.{index_octet}
 use Rattle.asn1_x691_writers.specs.Written.{IsGrown}
 use Rattle.asn1_x690_encode.specs.declared.context.Context.{Context}
-use Rattle.asn1_x690_encode.specs.Encoding.{tape, HasType, IsFilled, IsElementOf, BeginsWith, IsFirstMisfit, IsStopped, Outcome, ElementOutcome, ValueOutcome, IsUnencoded, IsLater}
+use Rattle.asn1_x690_encode.specs.Encoding.{tape, IsFilled, IsElementOf, BeginsWith, IsFirstMisfit, IsStopped, Outcome, ElementOutcome, ValueOutcome}
 
 -- ---- the next part
 
@@ -217,16 +217,6 @@ as_contents c node B was old now new (Some found) f = record {
 }
 as_contents c node B was old now new None (inl m) = inl (record { kind = m.kind; reason = m.reason; first = inl m.first })
 as_contents c node B was old now new None (inr u) = inr u
-
--- a type that is not encoded yet
-pub later_here : (c : Context) (new : Writer) (node : ℕ) (kind : Node) (tags : TypeTags) → new.node ≡ node → HasType c node kind tags
-    → IsUnencoded kind ⊎ (tags.is_any ≡ true) → IsLater c new.node
-later_here c new node kind tags e h l = record {
-  kind = kind;
-  tags = tags;
-  type = subst (λ (n : ℕ). HasType c n kind tags) (sym e) h;
-  later = l;
-}
 
 -- a call that begins at another index
 pub begun_here : (c : Context) (W : Parts → Misfit → Type 0) (old : Writer) (at : ℕ) (new : Writer) → IsStopped c W (record old { at = at }) new

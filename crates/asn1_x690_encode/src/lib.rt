@@ -1,6 +1,8 @@
 //! Encodes by the distinguished encoding rules (X.690 10 and 11).
 #![tactic(auto)]
 
+mod additions;
+mod any;
 mod choice;
 mod context;
 mod element;
@@ -11,6 +13,7 @@ mod list;
 mod message;
 mod node;
 mod sequence;
+mod set;
 mod value;
 mod within;
 

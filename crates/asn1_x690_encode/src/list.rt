@@ -1,4 +1,4 @@
-//! SEQUENCE OF (X.690 8.10).
+//! SEQUENCE OF (X.690 8.10), and SET OF (8.12).
 
 ghost use Rattle.std.specs.Prelude.{Option, ◌≡◌, ℕ, Bool, List, ◌-◌, ◌*◌, ◌%◌, ◌^◌, ◌<◌, false, length, MatchOption};
 ghost use Rattle.asn1_schema.specs.declared.tables.Range.{Range};
@@ -10,6 +10,7 @@ ghost use Rattle.asn1_x690_encode.specs.Encoding.{ContentsOutcome, Outcome, Fill
 
 use crate::context::{Context, part_at};
 use crate::node::encode_node;
+use crate::set::encode_set_items;
 use asn1_schema::{Length, MisfitKind, Part};
 use asn1_x690_writers::has_size;
 use asn1_x691_writers::{Writer, reject};
@@ -24,12 +25,13 @@ fn count_of(part: Part) -> Option<usize>
     }
 }
 
-/// Encodes the contents of a SEQUENCE OF.
+/// Encodes the contents of a SEQUENCE OF or a SET OF.
 #[cycle(encoding)]
 pub(crate) fn encode_list(
     context: &Context<'_>,
     depth: usize,
     node: usize,
+    is_set: bool,
     is_extensible: bool,
     size: Length,
     item: usize,
@@ -40,7 +42,7 @@ pub(crate) fn encode_list(
     requires source { 8 * length context.now.source.now < 2 ^ 64 }
     requires parts { length context.now.parts.now < 2 ^ 64 - 1 }
     requires whole { state.old.at % 8 ≡ 0 }
-    ensures { ContentsOutcome context.now (sequence_of (types context.now depth) (tables_of context.now) node false is_extensible size item) octets.old
+    ensures { ContentsOutcome context.now (sequence_of (types context.now depth) (tables_of context.now) node is_set is_extensible size item) octets.old
         state.old octets.new state.new result }
 {
     match part_at(context.parts, state.next) {
@@ -52,10 +54,35 @@ pub(crate) fn encode_list(
                     return reject(state, node, MisfitKind::NoEncoding);
                 }
                 state.next += 1;
-                encode_items(context, depth, node, item, count, octets, state)
+                encode_items_by(context, depth, node, is_set, item, count, octets, state)
             }
         },
     }
+}
+
+/// Encodes so many items, which are in ascending order where they are those of a SET OF.
+#[cycle(encoding)]
+fn encode_items_by(
+    context: &Context<'_>,
+    depth: usize,
+    node: usize,
+    is_set: bool,
+    item: usize,
+    count: usize,
+    octets: &mut [u8],
+    state: &mut Writer,
+) -> bool
+    requires size { 8 * length octets.old < 2 ^ 64 }
+    requires source { 8 * length context.now.source.now < 2 ^ 64 }
+    requires parts { length context.now.parts.now < 2 ^ 64 - 1 }
+    requires whole { state.old.at % 8 ≡ 0 }
+    ensures { Outcome context.now (FillsItems context.now depth node is_set item count) (ItemsMisfit context.now depth node is_set item count) octets.old
+        state.old octets.new state.new result }
+{
+    if is_set {
+        return encode_set_items(context, depth, node, item, count, octets, state);
+    }
+    encode_items(context, depth, node, item, count, octets, state)
 }
 
 /// Encodes so many items.
@@ -73,7 +100,7 @@ fn encode_items(
     requires source { 8 * length context.now.source.now < 2 ^ 64 }
     requires parts { length context.now.parts.now < 2 ^ 64 - 1 }
     requires whole { state.old.at % 8 ≡ 0 }
-    ensures { Outcome context.now (FillsItems context.now depth node item count) (ItemsMisfit context.now depth node item count) octets.old state.old
+    ensures { Outcome context.now (FillsItems context.now depth node false item count) (ItemsMisfit context.now depth node false item count) octets.old state.old
         octets.new state.new result }
 {
     let mut left = count;

@@ -42,7 +42,8 @@ pub struct Misfit {
 ///
 /// - [`Rejection::Unsupported`]: the part is left. What is left is defined in `specs/Encoding`.
 /// - [`Rejection::NoRoom`]: the part begins a value of more than 504 bits that must be compared with a
-///   default value, and the octets are too few for it.
+///   default value, or two items of a SET OF of so many, and the octets are too few for them. The node
+///   is that of their type.
 pub fn encode(
     context: &Context<'_>,
     depth: usize,

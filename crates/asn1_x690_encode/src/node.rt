@@ -4,16 +4,17 @@ ghost use Rattle.std.specs.Prelude.{Option, ◌≡◌, ℕ, Bool, List, ◌-◌,
 ghost use Rattle.asn1_x690_encode.specs.Encoding.{ContentsOutcome, ElementOutcome, HasType, contents_in, headed_in, types};
 ghost use Rattle.asn1_x690_encode.specs.Kinds.{is_headed};
 
-use crate::choice::encode_alternatives;
+use crate::any::{AnyPart, encode_any};
+use crate::choice::encode_choice;
 use crate::context::{Context, node_at, tags_in, type_tags_at};
 use crate::element::{encode_around, encode_tagged};
 use crate::leaf::encode_leaf;
 use crate::list::encode_list;
-use crate::sequence::encode_sequence;
+use crate::sequence::{encode_extensible_sequence, encode_sequence};
 use asn1_schema::{MisfitKind, Node};
 use asn1_x690::TypeTags;
 use asn1_x690_fields::FoundIdentifier;
-use asn1_x691_writers::{Writer, leave, reject};
+use asn1_x691_writers::{Writer, reject};
 
 /// Returns whether the tags of a type are around a value that has its own header.
 fn is_headed(is_any: bool, kind: Node) -> bool
@@ -85,30 +86,23 @@ pub(crate) fn encode_headed(
     ensures { ElementOutcome context.now (headed_in context.now depth node types kind) octets.old state.old octets.new state.new result }
 {
     if types.is_any {
-        leave(state, node);
-        return None;
+        return encode_any(context, node, AnyPart::Octets, octets, state);
     }
     match kind {
         Node::Choice {
             alternatives,
             is_extensible,
-            additions: _,
-        } => {
-            if is_extensible {
-                leave(state, node);
-                return None;
-            }
-            encode_alternatives(
-                context,
-                depth,
-                node,
-                0,
-                alternatives.count as usize,
-                alternatives.from,
-                octets,
-                state,
-            )
-        }
+            additions,
+        } => encode_choice(
+            context,
+            depth,
+            node,
+            alternatives,
+            is_extensible,
+            additions,
+            octets,
+            state,
+        ),
         Node::Open { inner } => encode_node(context, depth, inner, octets, state),
         _ => {
             reject(state, node, MisfitKind::NoNode);
@@ -142,7 +136,9 @@ pub(crate) fn encode_contents(
             additions,
         } => {
             if is_extensible {
-                return leave(state, node);
+                return encode_extensible_sequence(
+                    context, depth, node, root, additions, octets, state,
+                );
             }
             encode_sequence(context, depth, node, root, octets, state)
         }
@@ -154,13 +150,28 @@ pub(crate) fn encode_contents(
             context,
             depth,
             node,
+            false,
             is_extensible,
             length,
             item,
             octets,
             state,
         ),
-        Node::SetOf { .. } => leave(state, node),
+        Node::SetOf {
+            length,
+            is_extensible,
+            item,
+        } => encode_list(
+            context,
+            depth,
+            node,
+            true,
+            is_extensible,
+            length,
+            item,
+            octets,
+            state,
+        ),
         _ => encode_leaf(context, node, kind, types, octets, state),
     }
 }

@@ -1,6 +1,6 @@
 //! SEQUENCE (X.690 8.9), and SET (8.11, 10.3).
 
-ghost use Rattle.std.specs.Prelude.{Option, ◌≡◌, ℕ, Bool, List, ◌∷◌, ◌+◌, ◌-◌, ◌*◌, ◌%◌, ◌^◌, ◌<◌, true, false, length};
+ghost use Rattle.std.specs.Prelude.{Option, ◌≡◌, ℕ, Bool, List, ◌∷◌, ◌+◌, ◌-◌, ◌*◌, ◌%◌, ◌^◌, ◌<◌, true, false, length, MatchOption};
 ghost use Rattle.asn1_schema.specs.declared.tables.Range.{Range};
 ghost use Rattle.asn1_schema.specs.Pieces.{Absent, Sequence};
 ghost use Rattle.asn1_schema.specs.declared.tables.Rows as rows;
@@ -8,8 +8,10 @@ ghost use Rattle.asn1_schema.specs.TypeEncodings.{IsAbsent};
 ghost use Rattle.asn1_schema.specs.declared.part.Part.TheVariants.{Sequence as SequencePart};
 ghost use Rattle.asn1_x690.specs.Der.{sequence_by};
 ghost use Rattle.asn1_x691_writers.specs.Put.{piece_in};
+ghost use Rattle.asn1_x690_encode.specs.Kinds.{is_required};
 ghost use Rattle.asn1_x690_encode.specs.Encoding.{ContentsOutcome, ToldOutcome, after_root, components_in, optional_in, required_in, tables_of, tape, told_by, told_of, types};
 
+use crate::additions::{encode_additions, encode_unknown};
 use crate::context::{Context, first_tags_at, member_at, part_at};
 use crate::first_tags::{begins_with, has_tag};
 use crate::node::encode_node;
@@ -24,6 +26,10 @@ use asn1_x691_writers::{Writer, reject};
 pub(crate) enum Tail {
     /// Nothing.
     End,
+    /// The additions that the schema knows, and unknown ones; or no additions, as the value says.
+    Extension(Rows, bool),
+    /// The last of so many additions, after so many that the schema knows.
+    Unknown(u32, usize),
 }
 
 /// Returns whether so many components of a root follow a part, and whether additions follow them as
@@ -103,10 +109,70 @@ pub(crate) fn encode_sequence(
     }
 }
 
-/// Encodes so many components, which are members from an index on, and what follows them. Returns the
-/// first identifier, if there is one.
+/// Returns whether additions follow the components of a root, of which so many follow a part.
+fn extended_by(part: Part, count: usize) -> Option<bool>
+    ensures { MatchOption result ((ranges : List Range) (source : List ℕ) (b : Bool) → piece_in ranges source part ≡ Sequence count b → ⊥)
+        (λ b. part ≡ SequencePart count b) }
+{
+    match part {
+        Part::Sequence {
+            count: many,
+            is_extended,
+        } => {
+            if many == count {
+                Some(is_extended)
+            } else {
+                None
+            }
+        }
+        _ => None,
+    }
+}
+
+/// Encodes the contents of a SEQUENCE with an extension marker.
 #[cycle(encoding)]
-fn encode_components(
+pub(crate) fn encode_extensible_sequence(
+    context: &Context<'_>,
+    depth: usize,
+    node: usize,
+    root: Rows,
+    known: Rows,
+    octets: &mut [u8],
+    state: &mut Writer,
+) -> bool
+    requires size { 8 * length octets.old < 2 ^ 64 }
+    requires source { 8 * length context.now.source.now < 2 ^ 64 }
+    requires parts { length context.now.parts.now < 2 ^ 64 - 1 }
+    requires whole { state.old.at % 8 ≡ 0 }
+    ensures { ContentsOutcome context.now (sequence_by (types context.now depth) (tables_of context.now) node true root known) octets.old state.old
+        octets.new state.new result }
+{
+    match part_at(context.parts, state.next) {
+        None => reject(state, node, MisfitKind::NoPart),
+        Some(part) => match extended_by(part, root.count as usize) {
+            None => reject(state, node, MisfitKind::OtherPart),
+            Some(is_extended) => {
+                state.next += 1;
+                encode_components(
+                    context,
+                    depth,
+                    node,
+                    root.count as usize,
+                    root.from,
+                    Tail::Extension(known, is_extended),
+                    octets,
+                    state,
+                )
+                .is_some()
+            }
+        },
+    }
+}
+
+/// Encodes so many components, which are members from an index on, and what follows them. Additions
+/// are encoded as components are that may be absent. Returns the first identifier, if there is one.
+#[cycle(encoding)]
+pub(crate) fn encode_components(
     context: &Context<'_>,
     depth: usize,
     node: usize,
@@ -132,8 +198,8 @@ fn encode_components(
         return None;
     };
     let inner = member.node;
-    match member.presence {
-        Presence::Mandatory => encode_required(
+    if is_required(member.presence, tail) {
+        return encode_required(
             context,
             depth,
             node,
@@ -143,30 +209,42 @@ fn encode_components(
             tail,
             octets,
             state,
-        ),
-        presence => {
-            let Some(first) = first_tags_at(context.tags.members, from) else {
-                reject(state, node, MisfitKind::NoNode);
-                return None;
-            };
-            encode_optional(
-                context,
-                depth,
-                node,
-                presence,
-                first,
-                inner,
-                count - 1,
-                from + 1,
-                tail,
-                octets,
-                state,
-            )
-        }
+        );
+    }
+    let Some(first) = first_tags_at(context.tags.members, from) else {
+        reject(state, node, MisfitKind::NoNode);
+        return None;
+    };
+    encode_optional(
+        context,
+        depth,
+        node,
+        member.presence,
+        first,
+        inner,
+        count - 1,
+        from + 1,
+        tail,
+        octets,
+        state,
+    )
+}
+
+/// Returns whether a component must be present, before so much more of the contents. No addition must.
+fn is_required(presence: Presence, tail: Tail) -> bool
+    ensures { result ≡ is_required presence tail }
+{
+    match presence {
+        Presence::Mandatory => match tail {
+            Tail::Unknown(_, _) => false,
+            _ => true,
+        },
+        _ => false,
     }
 }
 
-/// Encodes what follows the components of a root.
+/// Encodes what follows components or additions.
+#[cycle(encoding)]
 fn encode_tail(
     context: &Context<'_>,
     depth: usize,
@@ -183,6 +261,15 @@ fn encode_tail(
 {
     match tail {
         Tail::End => Some(None),
+        Tail::Extension(known, is_extended) => {
+            if !is_extended {
+                return Some(None);
+            }
+            encode_additions(context, depth, node, known, octets, state)
+        }
+        Tail::Unknown(known, count) => {
+            encode_unknown(context, node, known as usize, count, octets, state)
+        }
     }
 }
 

@@ -103,7 +103,7 @@ fn is_other(
         None => stop(state, copy),
         Some(_) => {
             if !is_in(&window, 0, copy.at) {
-                return leave_unread(state, first);
+                return leave_unread(state, inner, first);
             }
             if is_default(context.defaults, false, value, 0, &window, 0, copy.at) {
                 state.next = first;

@@ -30,15 +30,17 @@ pub(crate) fn stop(state: &mut Writer, other: Writer) -> bool
     false
 }
 
-/// Leaves the part at an index, whose value does not fit the octets in which it is compared. Returns
-/// false.
+/// Leaves the part at an index, whose value, of the type at a node, does not fit the octets in which
+/// it is compared. Returns false.
 #[cold]
-pub(crate) fn leave_unread(state: &mut Writer, next: usize) -> bool
+pub(crate) fn leave_unread(state: &mut Writer, node: usize, next: usize) -> bool
     ensures result { result ≡ false }
     ensures next { state.new.next ≡ next }
+    ensures node { state.new.node ≡ node }
     ensures reason { state.new.reason ≡ NoRoom }
 {
     state.next = next;
+    state.node = node;
     state.reason = Rejection::NoRoom;
     false
 }

@@ -6,12 +6,12 @@
 //!
 //! A row of `der` has octets and a type in the words of `asn1_schema_rows`, as `der 3003800105 seq:1 ! int =
 //! seq1 i5`; its components have automatic tags. The answer is the parts or the first fault; a row of
-//! `der-error` has the text of the fault. What is decoded is encoded again and measured, unless the type
+//! `der-error` has the text of the fault. What is decoded is encoded again and measured, unless it
 //! has a part that the encoder leaves. `scripts/x691-vectors` makes them with another compiler, and
 //! `scripts/x690-model` damages their messages.
 #![tactic(auto)]
 
-use asn1_schema::{Node, Part, Tables};
+use asn1_schema::{Part, Tables};
 use asn1_schema_rows::{Schema, Source, schema_of, text_of};
 use asn1_test_rows::{Answers, RowError, octets, run, wrong};
 use asn1_x690::Class;
@@ -90,17 +90,13 @@ fn elements_of(alloc: Global, octets: &[u8]) -> Result<String, RowError> {
     }
 }
 
-/// Returns whether the encoder leaves values of a type.
-fn is_left(node: &Node) -> bool {
-    match *node {
-        Node::Text { .. } | Node::SetOf { .. } => true,
-        Node::Sequence { is_extensible, .. } | Node::Choice { is_extensible, .. } => is_extensible,
-        _ => false,
-    }
+/// Returns whether the encoder leaves a part: a number that 128 bits do not hold.
+fn is_left(part: &Part) -> bool {
+    matches!(*part, Part::Signed(_))
 }
 
-/// Encodes the parts of a message, and returns whether that makes the message again, or leaves a part of
-/// a type that is left. Without room the same number of octets is needed, unless a value of more than 504
+/// Encodes the parts of a message, and returns whether that makes the message again, or leaves a part
+/// that is left. Without room the same number of octets is needed, unless a value of more than 504
 /// bits must be compared.
 fn is_encoded_again(
     alloc: Global,
@@ -119,7 +115,7 @@ fn is_encoded_again(
         parts,
         source: octets,
     };
-    let is_left = context.tables.nodes.iter().any(is_left);
+    let is_left = parts.iter().any(is_left);
     let is_measured = match encode(&value, DEPTH, node, &mut []) {
         Ok(encoded) => encoded.octets == octets.len(),
         Err(misfit) if misfit.reason == Rejection::NoRoom => octets.len() > 63,

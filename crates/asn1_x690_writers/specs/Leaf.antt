@@ -1,5 +1,5 @@
--- The contents of each type of one part, and which values are not written yet.
-use Rattle.std.specs.Prelude.{ℕ, ℤ, ◌+◌, ◌⊎◌, ⊤, Bool, true, false, List, ◌∷◌, length, slice_range}
+-- The contents of each type of one part, and which of its values are not written yet.
+use Rattle.std.specs.Prelude.{ℕ, ℤ, ◌+◌, Bool, true, false, List, ◌∷◌, length, slice_range}
 use Rattle.asn1_schema.specs.declared.misfit.MisfitKind.TheVariants as misfit
 use Rattle.asn1_schema.specs.declared.part.Part.{Part}
 use Rattle.asn1_schema.specs.declared.tables.Node.{Node}
@@ -48,11 +48,13 @@ leaf_in ranges numbers node t n = no_leaf node
 
 -- ---- what is not written yet
 
--- values of these types
-abbrev pub IsUnwritten : Node → Type 0
-IsUnwritten (type.Text size is_extensible alphabet whole) = ⊤
-IsUnwritten n = ⊥
-
--- one of these types, or octets in fragments, or a number outside -2^127 to 2^127 - 1 that is not in two's complement
+-- of a type of octets, octets in fragments; of an INTEGER, a number outside -2^127 to 2^127 - 1
 abbrev pub IsLeftOut : Node → Part → Piece → Type 0
-IsLeftOut n part p = IsUnwritten n ⊎ (IsInFragments part ⊎ IsFarInteger p)
+IsLeftOut (type.IntegerBetween bounds is_extensible) part p = IsFarInteger p
+IsLeftOut (type.IntegerAtLeast bound is_extensible) part p = IsFarInteger p
+IsLeftOut type.Integer part p = IsFarInteger p
+IsLeftOut (type.OctetString size is_extensible) part p = IsInFragments part
+IsLeftOut type.ObjectIdentifier part p = IsInFragments part
+IsLeftOut type.RelativeIdentifier part p = IsInFragments part
+IsLeftOut type.Utf8String part p = IsInFragments part
+IsLeftOut n part p = ⊥

@@ -4,8 +4,10 @@ pub mod Put
 pub mod Leaf
 pub mod Numbers
 pub mod Strings
+pub mod Texts
 -- What follows of what calls wrote; no contract cites it.
 pub mod EnumeratedSteps
 pub mod HeaderSteps
 pub mod NumberSteps
 pub mod PutSteps
+pub mod TextSteps

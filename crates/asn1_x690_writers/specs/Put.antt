@@ -23,6 +23,11 @@ pub record IsMisfit (F : TypeContents FaultKind) (p : Piece) (new : Writer) : Ty
   pub reason : new.reason ≡ Misfit kind
   pub first : (rest : Parts) → F.misfit (p ∷ rest) (record { node = new.node; left = length (p ∷ rest); kind = kind })
 
+-- this holds of a part that is left, and the state names the node of its type
+pub record LeftAt (Left : Type 0) (node : ℕ) (new : Writer) : Type 0 where
+  pub holds : Left
+  pub same : new.node ≡ node
+
 -- the part was written, or nothing was: it has no encoding, or it is left, and `Left` holds then
 abbrev pub IsPut : Type 0 → TypeContents FaultKind → Piece → List ℕ → Writer → List ℕ → Writer → Bool → Type 0
 IsPut Left F p was old now new true = IsPutOne F p was old now new

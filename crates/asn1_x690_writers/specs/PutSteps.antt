@@ -38,12 +38,12 @@ left_out Left F p octets old new r e at next reason l =
     subst (λ (b : Bool). IsPut Left F p octets old octets new b) (sym e)
     (inr (reason, l), record { octets = refl; at = at; next = next })
 
--- more is left out
-pub put_wider : (L M : Type 0) (F : TypeContents FaultKind) (p : Piece) (was : List ℕ) (old : Writer) (now : List ℕ) (new : Writer)
-    (r : Bool) → (L → M) → IsPut L F p was old now new r → IsPut M F p was old now new r
-put_wider L M F p was old now new true f a = a
-put_wider L M F p was old now new false f (inl m, same) = (inl m, same)
-put_wider L M F p was old now new false f (inr m, same) = (inr (m.0, f m.1), same)
+-- nothing is left
+pub none_left : (M : Type 0) (F : TypeContents FaultKind) (p : Piece) (was : List ℕ) (old : Writer) (now : List ℕ) (new : Writer)
+    (r : Bool) → IsPut (⊥) F p was old now new r → IsPut M F p was old now new r
+none_left M F p was old now new true a = a
+none_left M F p was old now new false (inl m, same) = (inl m, same)
+none_left M F p was old now new false (inr m, same) = absurd m.1
 
 module _ {X : Type 0} (P : X → List Bool → Type 0) (Permits : X → Type 0) (is : X → Piece) (node : ℕ) (p : Piece) where
   pub leaf_put : (x : X) (list : List Bool) (was : List ℕ) (old : Writer) (now : List ℕ) (at : ℕ) → p ≡ is x → P x list → Permits x

@@ -7,7 +7,7 @@ ghost use Rattle.asn1_schema.specs.Pieces.{Integer};
 ghost use Rattle.asn1_x690.specs.Der.{always};
 ghost use Rattle.asn1_x690.specs.Leaves.{IsAtLeast, IsBetween, IsInteger, leaf_of};
 ghost use Rattle.asn1_x690_writers.specs.Numbers.{IsNumberWritten, mag_of};
-ghost use Rattle.asn1_x690_writers.specs.Put.{IsPut};
+ghost use Rattle.asn1_x690_writers.specs.Put.{IsPut, LeftAt};
 ghost use Rattle.asn1_x691_writers.specs.Put.{IsFarInteger, piece_in};
 
 use asn1_schema::{Bounds, LowerBound, MisfitKind, Part};
@@ -92,7 +92,7 @@ pub(crate) fn put_integer(
 ) -> bool
     requires size { 8 * length octets.old < 2 ^ 64 }
     requires source { 8 * length source.now < 2 ^ 64 }
-    ensures { (ranges : List Range) → IsPut (IsFarInteger (piece_in ranges source.now part)) (leaf_of IsInteger always Integer node) (piece_in ranges source.now part)
+    ensures { (ranges : List Range) → IsPut (LeftAt (IsFarInteger (piece_in ranges source.now part)) node state.new) (leaf_of IsInteger always Integer node) (piece_in ranges source.now part)
         octets.old state.old octets.new state.new result }
 {
     match integer_of(source, part) {
@@ -118,7 +118,7 @@ pub(crate) fn put_integer_between(
 ) -> bool
     requires size { 8 * length octets.old < 2 ^ 64 }
     requires source { 8 * length source.now < 2 ^ 64 }
-    ensures { (ranges : List Range) → IsPut (IsFarInteger (piece_in ranges source.now part)) (leaf_of IsInteger (IsBetween is_extensible bounds.least bounds.range) Integer node) (piece_in ranges source.now part)
+    ensures { (ranges : List Range) → IsPut (LeftAt (IsFarInteger (piece_in ranges source.now part)) node state.new) (leaf_of IsInteger (IsBetween is_extensible bounds.least bounds.range) Integer node) (piece_in ranges source.now part)
         octets.old state.old octets.new state.new result }
 {
     match integer_of(source, part) {
@@ -147,7 +147,7 @@ pub(crate) fn put_integer_at_least(
 ) -> bool
     requires size { 8 * length octets.old < 2 ^ 64 }
     requires source { 8 * length source.now < 2 ^ 64 }
-    ensures { (ranges : List Range) → IsPut (IsFarInteger (piece_in ranges source.now part)) (leaf_of IsInteger (IsAtLeast is_extensible bound.least) Integer node) (piece_in ranges source.now part)
+    ensures { (ranges : List Range) → IsPut (LeftAt (IsFarInteger (piece_in ranges source.now part)) node state.new) (leaf_of IsInteger (IsAtLeast is_extensible bound.least) Integer node) (piece_in ranges source.now part)
         octets.old state.old octets.new state.new result }
 {
     match integer_of(source, part) {

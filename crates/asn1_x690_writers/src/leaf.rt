@@ -2,7 +2,7 @@
 
 ghost use Rattle.std.specs.Prelude.{◌*◌, ◌^◌, ◌<◌, length};
 ghost use Rattle.asn1_x690_writers.specs.Leaf.{leaf_in, IsLeftOut};
-ghost use Rattle.asn1_x690_writers.specs.Put.{IsPut};
+ghost use Rattle.asn1_x690_writers.specs.Put.{IsPut, LeftAt};
 ghost use Rattle.asn1_x691_writers.specs.Put.{piece_in};
 
 use crate::bit_strings::put_bit_string;
@@ -10,9 +10,10 @@ use crate::enumerations::put_enumerated;
 use crate::integers::{put_integer, put_integer_at_least, put_integer_between};
 use crate::octet_strings::{put_kept, put_octet_string};
 use crate::simple::{put_boolean, put_null};
+use crate::texts::put_text;
 use asn1_schema::{MisfitKind, Node, Part, Range};
 use asn1_x690::TypeTags;
-use asn1_x691_writers::{ContentsKind, Writer, leave, reject};
+use asn1_x691_writers::{ContentsKind, Writer, reject};
 
 /// Writes the contents octets of a part, as a value of a type of one part.
 pub fn put_leaf(
@@ -28,7 +29,7 @@ pub fn put_leaf(
 ) -> bool
     requires size { 8 * length octets.old < 2 ^ 64 }
     requires source { 8 * length source.now < 2 ^ 64 }
-    ensures { IsPut (IsLeftOut kind part (piece_in ranges.now source.now part)) (leaf_in ranges.now numbers.now node tags kind)
+    ensures { IsPut (LeftAt (IsLeftOut kind part (piece_in ranges.now source.now part)) node state.new) (leaf_in ranges.now numbers.now node tags kind)
         (piece_in ranges.now source.now part) octets.old state.old octets.new state.new result }
 {
     match kind {
@@ -102,7 +103,26 @@ pub fn put_leaf(
                 state,
             )
         }
-        Node::Text { .. } => leave(state, node),
+        Node::Text {
+            length,
+            is_extensible,
+            alphabet,
+            whole,
+        } => {
+            put_text(
+                octets,
+                ranges,
+                tags.characters,
+                length,
+                is_extensible,
+                alphabet,
+                whole,
+                source,
+                part,
+                node,
+                state,
+            )
+        }
         _ => reject(state, node, MisfitKind::NoNode),
     }
 }

@@ -14,6 +14,7 @@ mod lengths;
 mod octet_strings;
 mod simple;
 mod sizes;
+mod texts;
 
 pub use identifiers::put_identifier;
 pub use leaf::put_leaf;

@@ -6,7 +6,7 @@ ghost use Rattle.asn1_schema.specs.declared.tables.Range.{Range};
 ghost use Rattle.asn1_schema.specs.Pieces.{Octets};
 ghost use Rattle.asn1_x690.specs.Der.{always};
 ghost use Rattle.asn1_x690.specs.Leaves.{AreOctets, AreSized, IsKept, leaf_of};
-ghost use Rattle.asn1_x690_writers.specs.Put.{IsPut};
+ghost use Rattle.asn1_x690_writers.specs.Put.{IsPut, LeftAt};
 ghost use Rattle.asn1_x691_writers.specs.Put.{IsInFragments, piece_in};
 ghost use Rattle.asn1_x691_writers.specs.Validity.{IsValid};
 
@@ -26,7 +26,7 @@ pub(crate) fn put_octet_string(
 ) -> bool
     requires size { 8 * length octets.old < 2 ^ 64 }
     requires source { 8 * length source.now < 2 ^ 64 }
-    ensures { (ranges : List Range) → IsPut (IsInFragments part) (leaf_of AreOctets (AreSized is_extensible size) Octets node) (piece_in ranges source.now part)
+    ensures { (ranges : List Range) → IsPut (LeftAt (IsInFragments part) node state.new) (leaf_of AreOctets (AreSized is_extensible size) Octets node) (piece_in ranges source.now part)
         octets.old state.old octets.new state.new result }
 {
     match part {
@@ -57,7 +57,7 @@ pub(crate) fn put_kept(
 ) -> bool
     requires size { 8 * length octets.old < 2 ^ 64 }
     requires source { 8 * length source.now < 2 ^ 64 }
-    ensures { (ranges : List Range) → IsPut (IsInFragments part) (leaf_of (IsKept (IsValid kind)) always Octets node) (piece_in ranges source.now part)
+    ensures { (ranges : List Range) → IsPut (LeftAt (IsInFragments part) node state.new) (leaf_of (IsKept (IsValid kind)) always Octets node) (piece_in ranges source.now part)
         octets.old state.old octets.new state.new result }
 {
     match part {

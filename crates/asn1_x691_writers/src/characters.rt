@@ -49,7 +49,7 @@ fn character_by(table: &[Range], codes: Codes, code: u128) -> u64
 
 /// Returns the first character of a part, or 2^32 where it is greater. No alphabet has such a
 /// character.
-fn first_character(source: &[u8], table: &[Range], text: Characters) -> u64
+pub fn first_character(source: &[u8], table: &[Range], text: Characters) -> u64
     requires { 8 * length source.now < 2 ^ 64 }
     ensures { result ≡ min (character_of table.now text.codes (number (bits_at (bits source.now) text.at text.width))) (2 ^ 32) }
 {
@@ -57,7 +57,7 @@ fn first_character(source: &[u8], table: &[Range], text: Characters) -> u64
 }
 
 /// Returns the characters of a part after the first.
-fn other_characters(text: Characters) -> Characters
+pub fn other_characters(text: Characters) -> Characters
     requires { 0 < text.count }
     ensures count { result.count + 1 ≡ text.count }
     ensures characters { (table : List the_range.Range) (list : List Bool) → length list < 2 ^ 64 → characters_of table list text

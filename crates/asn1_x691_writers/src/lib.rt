@@ -40,6 +40,7 @@ mod unknown;
 pub use bit_strings::put_bit_string;
 pub use bits::{after, put_bits, put_number, put_wide};
 pub use booleans::{put_bit, put_boolean};
+pub use characters::{first_character, other_characters};
 pub use contents::{ContentsKind, is_valid, put_contents};
 pub use enclosed::put_length_before;
 pub use enumerations::{natural, put_enumerated};

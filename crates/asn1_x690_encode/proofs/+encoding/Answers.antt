@@ -2,14 +2,18 @@
 mod Elements
 mod Nodes
 mod Sequences
+mod Additions
 mod Choices
 mod Lists
+mod Sets
 mod Values
 use Rattle.asn1_x690_encode.proofs.+encoding.Answers.Elements as elements
 use Rattle.asn1_x690_encode.proofs.+encoding.Answers.Nodes as nodes
 use Rattle.asn1_x690_encode.proofs.+encoding.Answers.Sequences as sequences
+use Rattle.asn1_x690_encode.proofs.+encoding.Answers.Additions as additions
 use Rattle.asn1_x690_encode.proofs.+encoding.Answers.Choices as choices
 use Rattle.asn1_x690_encode.proofs.+encoding.Answers.Lists as lists
+use Rattle.asn1_x690_encode.proofs.+encoding.Answers.Sets as sets
 use Rattle.asn1_x690_encode.proofs.+encoding.Answers.Values as values
 use Rattle.asn1_x690_encode.proofs.+encoding.Goals as goal
 
@@ -46,20 +50,50 @@ node::encode_contents-returns-else-is_extensible = nodes.encode_contents-returns
 pub node::encode_contents-returns-in-SequenceOf : goal.node::encode_contents-returns-in-SequenceOf
 node::encode_contents-returns-in-SequenceOf = nodes.encode_contents-returns-in-SequenceOf
 
+pub node::encode_contents-returns-then-is_extensible : goal.node::encode_contents-returns-then-is_extensible
+node::encode_contents-returns-then-is_extensible = nodes.encode_contents-returns-then-is_extensible
+
 pub node::encode_contents-returns-in-SetOf : goal.node::encode_contents-returns-in-SetOf
 node::encode_contents-returns-in-SetOf = nodes.encode_contents-returns-in-SetOf
 
-pub node::encode_headed-returns-else-is_extensible : goal.node::encode_headed-returns-else-is_extensible
-node::encode_headed-returns-else-is_extensible = nodes.encode_headed-returns-else-is_extensible
+pub node::encode_headed-returns-then-types : goal.node::encode_headed-returns-then-types
+node::encode_headed-returns-then-types = nodes.encode_headed-returns-then-types
 
-pub node::encode_headed-returns-then-is_extensible : goal.node::encode_headed-returns-then-is_extensible
-node::encode_headed-returns-then-is_extensible = nodes.encode_headed-returns-then-is_extensible
+pub node::encode_headed-returns-in-Choice : goal.node::encode_headed-returns-in-Choice
+node::encode_headed-returns-in-Choice = nodes.encode_headed-returns-in-Choice
 
-pub sequence::encode_components-returns-in-Mandatory : goal.sequence::encode_components-returns-in-Mandatory
-sequence::encode_components-returns-in-Mandatory = sequences.encode_components-returns-in-Mandatory
+pub sequence::encode_components-returns-then-count-eq0 : goal.sequence::encode_components-returns-then-count-eq0
+sequence::encode_components-returns-then-count-eq0 = sequences.encode_components-returns-then-count-eq0
 
-pub sequence::encode_components-returns-in-Some-first_tags_at : goal.sequence::encode_components-returns-in-Some-first_tags_at
-sequence::encode_components-returns-in-Some-first_tags_at = sequences.encode_components-returns-in-Some-first_tags_at
+pub sequence::encode_components-returns-then-is_required : goal.sequence::encode_components-returns-then-is_required
+sequence::encode_components-returns-then-is_required = sequences.encode_components-returns-then-is_required
+
+pub sequence::encode_components-returns : goal.sequence::encode_components-returns
+sequence::encode_components-returns = sequences.encode_components-returns
+
+pub sequence::encode_components-returns-in_default : goal.sequence::encode_components-returns-in_default
+sequence::encode_components-returns-in_default = sequences.encode_components-returns-in_default
+
+pub sequence::encode_components-returns-in_default-first_tags_at : goal.sequence::encode_components-returns-in_default-first_tags_at
+sequence::encode_components-returns-in_default-first_tags_at = sequences.encode_components-returns-in_default-first_tags_at
+
+pub sequence::encode_components-overflow_add-from : goal.sequence::encode_components-overflow_add-from
+sequence::encode_components-overflow_add-from = sequences.encode_components-overflow_add-from
+
+pub sequence::encode_components-overflow_add-from-2 : goal.sequence::encode_components-overflow_add-from-2
+sequence::encode_components-overflow_add-from-2 = sequences.encode_components-overflow_add-from-2
+
+pub sequence::encode_tail-returns-in-End : goal.sequence::encode_tail-returns-in-End
+sequence::encode_tail-returns-in-End = sequences.encode_tail-returns-in-End
+
+pub sequence::encode_tail-returns-then-not-is_extended : goal.sequence::encode_tail-returns-then-not-is_extended
+sequence::encode_tail-returns-then-not-is_extended = sequences.encode_tail-returns-then-not-is_extended
+
+pub sequence::encode_tail-returns-else-not-is_extended : goal.sequence::encode_tail-returns-else-not-is_extended
+sequence::encode_tail-returns-else-not-is_extended = sequences.encode_tail-returns-else-not-is_extended
+
+pub sequence::encode_tail-returns-in-Unknown : goal.sequence::encode_tail-returns-in-Unknown
+sequence::encode_tail-returns-in-Unknown = sequences.encode_tail-returns-in-Unknown
 
 pub sequence::encode_required-encode_components-requires : goal.sequence::encode_required-encode_components-requires
 sequence::encode_required-encode_components-requires = sequences.encode_required-encode_components-requires
@@ -103,6 +137,27 @@ sequence::encode_sequence-returns-in-None = sequences.encode_sequence-returns-in
 pub sequence::encode_sequence-returns-else-not-is_sequence : goal.sequence::encode_sequence-returns-else-not-is_sequence
 sequence::encode_sequence-returns-else-not-is_sequence = sequences.encode_sequence-returns-else-not-is_sequence
 
+pub sequence::encode_extensible_sequence-returns-in-None-extended_by : goal.sequence::encode_extensible_sequence-returns-in-None-extended_by
+sequence::encode_extensible_sequence-returns-in-None-extended_by = sequences.encode_extensible_sequence-returns-in-None-extended_by
+
+pub sequence::encode_extensible_sequence-returns-in-Some-extended_by : goal.sequence::encode_extensible_sequence-returns-in-Some-extended_by
+sequence::encode_extensible_sequence-returns-in-Some-extended_by = sequences.encode_extensible_sequence-returns-in-Some-extended_by
+
+pub additions::encode_additions-returns-in-None : goal.additions::encode_additions-returns-in-None
+additions::encode_additions-returns-in-None = additions.encode_additions-returns-in-None
+
+pub additions::encode_additions-returns-in-None-additions_of : goal.additions::encode_additions-returns-in-None-additions_of
+additions::encode_additions-returns-in-None-additions_of = additions.encode_additions-returns-in-None-additions_of
+
+pub additions::encode_additions-returns-in_err-begins-in-Some-additions_of : goal.additions::encode_additions-returns-in_err-begins-in-Some-additions_of
+additions::encode_additions-returns-in_err-begins-in-Some-additions_of = additions.encode_additions-returns-in_err-begins-in-Some-additions_of
+
+pub additions::encode_additions-returns-then-is_none : goal.additions::encode_additions-returns-then-is_none
+additions::encode_additions-returns-then-is_none = additions.encode_additions-returns-then-is_none
+
+pub additions::encode_additions-returns-else-is_none : goal.additions::encode_additions-returns-else-is_none
+additions::encode_additions-returns-else-is_none = additions.encode_additions-returns-else-is_none
+
 pub choice::encode_alternatives-returns-in-None : goal.choice::encode_alternatives-returns-in-None
 choice::encode_alternatives-returns-in-None = choices.encode_alternatives-returns-in-None
 
@@ -126,6 +181,12 @@ choice::encode_alternatives-returns-then-has_tag = choices.encode_alternatives-r
 
 pub choice::encode_alternatives-returns-else-has_tag : goal.choice::encode_alternatives-returns-else-has_tag
 choice::encode_alternatives-returns-else-has_tag = choices.encode_alternatives-returns-else-has_tag
+
+pub choice::encode_choice-returns : goal.choice::encode_choice-returns
+choice::encode_choice-returns = choices.encode_choice-returns
+
+pub choice::encode_others-returns-in-Unknown : goal.choice::encode_others-returns-in-Unknown
+choice::encode_others-returns-in-Unknown = choices.encode_others-returns-in-Unknown
 
 pub list::encode_list-returns-in-None : goal.list::encode_list-returns-in-None
 list::encode_list-returns-in-None = lists.encode_list-returns-in-None
@@ -156,6 +217,51 @@ list::encode_items-returns-then-is_none = lists.encode_items-returns-then-is_non
 
 pub list::encode_items-returns : goal.list::encode_items-returns
 list::encode_items-returns = lists.encode_items-returns
+
+pub list::encode_items_by-returns-then-is_set : goal.list::encode_items_by-returns-then-is_set
+list::encode_items_by-returns-then-is_set = lists.encode_items_by-returns-then-is_set
+
+pub list::encode_items_by-returns : goal.list::encode_items_by-returns
+list::encode_items_by-returns = lists.encode_items_by-returns
+
+pub set::encode_set_items-loop-left-init : goal.set::encode_set_items-loop-left-init
+set::encode_set_items-loop-left-init = sets.encode_set_items-loop-left-init
+
+pub set::encode_set_items-returns-then-not-encode_item : goal.set::encode_set_items-returns-then-not-encode_item
+set::encode_set_items-returns-then-not-encode_item = sets.encode_set_items-returns-then-not-encode_item
+
+pub set::encode_set_items-loop-left-preserved : goal.set::encode_set_items-loop-left-preserved
+set::encode_set_items-loop-left-preserved = sets.encode_set_items-loop-left-preserved
+
+pub set::encode_set_items-returns : goal.set::encode_set_items-returns
+set::encode_set_items-returns = sets.encode_set_items-returns
+
+pub set::encode_item-returns-in-None : goal.set::encode_item-returns-in-None
+set::encode_item-returns-in-None = sets.encode_item-returns-in-None
+
+pub set::encode_next-returns-then-is_none : goal.set::encode_next-returns-then-is_none
+set::encode_next-returns-then-is_none = sets.encode_next-returns-then-is_none
+
+pub set::encode_next-returns-then-are_in : goal.set::encode_next-returns-then-are_in
+set::encode_next-returns-then-are_in = sets.encode_next-returns-then-are_in
+
+pub set::encode_next-returns : goal.set::encode_next-returns
+set::encode_next-returns = sets.encode_next-returns
+
+pub set::are_ordered_alone-encode_node-requires-2 : goal.set::are_ordered_alone-encode_node-requires-2
+set::are_ordered_alone-encode_node-requires-2 = sets.are_ordered_alone-encode_node-requires-2
+
+pub set::are_ordered_alone-returns-then-is_none-clause-ordered : goal.set::are_ordered_alone-returns-then-is_none-clause-ordered
+set::are_ordered_alone-returns-then-is_none-clause-ordered = sets.are_ordered_alone-returns-then-is_none-clause-ordered
+
+pub set::are_ordered_alone-returns-then-is_none-2-clause-ordered : goal.set::are_ordered_alone-returns-then-is_none-2-clause-ordered
+set::are_ordered_alone-returns-then-is_none-2-clause-ordered = sets.are_ordered_alone-returns-then-is_none-2-clause-ordered
+
+pub set::are_ordered_alone-returns-then-not-are_in-clause-ordered : goal.set::are_ordered_alone-returns-then-not-are_in-clause-ordered
+set::are_ordered_alone-returns-then-not-are_in-clause-ordered = sets.are_ordered_alone-returns-then-not-are_in-clause-ordered
+
+pub set::are_ordered_alone-returns-clause-ordered : goal.set::are_ordered_alone-returns-clause-ordered
+set::are_ordered_alone-returns-clause-ordered = sets.are_ordered_alone-returns-clause-ordered
 
 pub value::encode_value-returns-in-Mandatory : goal.value::encode_value-returns-in-Mandatory
 value::encode_value-returns-in-Mandatory = values.encode_value-returns-in-Mandatory

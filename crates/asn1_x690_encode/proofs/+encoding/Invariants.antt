@@ -1,6 +1,8 @@
 use Rattle.std.proofs.Common.{◌+◌, ◌*◌, ◌^◌, length}
 use Rattle.asn1_x690_encode.specs.Encoding.{inner_size, element_in}
+use Rattle.asn1_x690_encode.specs.Kinds.{rank_of, size_of}
 use Rattle.asn1_x690_encode.specs.ListSteps.{AreItems}
+use Rattle.asn1_x690_encode.specs.SetSteps.{AreSetItems}
 use Rattle.asn1_x690_encode.proofs.+encoding.Given as goal
 
 abbrev pub decreases-node::encode_node : goal.decreases-node::encode_node
@@ -27,14 +29,23 @@ decreases-node::encode_contents l = 2 ^ 80 * l.depth + 2 ^ 70 + 2
 abbrev pub decreases-sequence::encode_sequence : goal.decreases-sequence::encode_sequence
 decreases-sequence::encode_sequence l = 2 ^ 80 * l.depth + 2 ^ 70 + 1
 
+abbrev pub decreases-sequence::encode_extensible_sequence : goal.decreases-sequence::encode_extensible_sequence
+decreases-sequence::encode_extensible_sequence l = 2 ^ 80 * l.depth + 2 ^ 70 + 1
+
 abbrev pub decreases-sequence::encode_components : goal.decreases-sequence::encode_components
-decreases-sequence::encode_components l = 2 ^ 80 * l.depth + 2 ^ 50 + 4 * l.count
+decreases-sequence::encode_components l = 2 ^ 80 * l.depth + 2 ^ 50 + 2 ^ 60 * size_of l.tail + 4 * l.count
 
 abbrev pub decreases-sequence::encode_required : goal.decreases-sequence::encode_required
-decreases-sequence::encode_required l = 2 ^ 80 * l.depth + 2 ^ 50 + 4 * l.count + 2
+decreases-sequence::encode_required l = 2 ^ 80 * l.depth + 2 ^ 50 + 2 ^ 60 * size_of l.tail + 4 * l.count + 2
 
 abbrev pub decreases-sequence::encode_optional : goal.decreases-sequence::encode_optional
-decreases-sequence::encode_optional l = 2 ^ 80 * l.depth + 2 ^ 50 + 4 * l.count + 2
+decreases-sequence::encode_optional l = 2 ^ 80 * l.depth + 2 ^ 50 + 2 ^ 60 * size_of l.tail + 4 * l.count + 2
+
+abbrev pub decreases-sequence::encode_tail : goal.decreases-sequence::encode_tail
+decreases-sequence::encode_tail l = 2 ^ 80 * l.depth + 2 ^ 49 + 2 ^ 60 * size_of l.tail
+
+abbrev pub decreases-additions::encode_additions : goal.decreases-additions::encode_additions
+decreases-additions::encode_additions l = 2 ^ 80 * l.depth + 2 ^ 60 * 2
 
 abbrev pub decreases-value::encode_value : goal.decreases-value::encode_value
 decreases-value::encode_value l = 2 ^ 80 * l.depth + 2 ^ 40
@@ -51,6 +62,28 @@ decreases-list::encode_list l = 2 ^ 80 * l.depth + 2 ^ 70 + 1
 abbrev pub decreases-list::encode_items : goal.decreases-list::encode_items
 decreases-list::encode_items l = 2 ^ 80 * l.depth + 2 ^ 60
 
+abbrev pub decreases-list::encode_items_by : goal.decreases-list::encode_items_by
+decreases-list::encode_items_by l = 2 ^ 80 * l.depth + 2 ^ 70
+
+abbrev pub decreases-set::encode_set_items : goal.decreases-set::encode_set_items
+decreases-set::encode_set_items l = 2 ^ 80 * l.depth + 2 ^ 60
+
+abbrev pub decreases-set::encode_item : goal.decreases-set::encode_item
+decreases-set::encode_item l = 2 ^ 80 * l.depth + 2 ^ 50
+
+abbrev pub decreases-set::encode_next : goal.decreases-set::encode_next
+decreases-set::encode_next l = 2 ^ 80 * l.depth + 2 ^ 40
+
+abbrev pub decreases-set::are_ordered_alone : goal.decreases-set::are_ordered_alone
+decreases-set::are_ordered_alone l = 2 ^ 80 * l.depth + 2 ^ 30
+
+abbrev pub invariant-set::encode_set_items-loop-left : goal.invariant-set::encode_set_items-loop-left
+invariant-set::encode_set_items-loop-left l =
+    AreSetItems l.context l.depth l.node l.item l.count l.left l.previous l.initial.octets l.initial.state l.octets l.state
+
+abbrev pub decreases-set::encode_set_items-loop-left : goal.decreases-set::encode_set_items-loop-left
+decreases-set::encode_set_items-loop-left l = l.left
+
 abbrev pub invariant-list::encode_items-loop-left : goal.invariant-list::encode_items-loop-left
 invariant-list::encode_items-loop-left l =
     AreItems (λ before. element_in l.context l.depth l.item) l.context l.count l.left l.initial.octets l.initial.state l.octets l.state
@@ -59,4 +92,10 @@ abbrev pub decreases-list::encode_items-loop-left : goal.decreases-list::encode_
 decreases-list::encode_items-loop-left l = l.left
 
 abbrev pub decreases-choice::encode_alternatives : goal.decreases-choice::encode_alternatives
-decreases-choice::encode_alternatives l = 2 ^ 80 * l.depth + 2 ^ 60 + l.count
+decreases-choice::encode_alternatives l = 2 ^ 80 * l.depth + 2 ^ 60 + 2 ^ 50 * rank_of l.others + l.count + 1
+
+abbrev pub decreases-choice::encode_others : goal.decreases-choice::encode_others
+decreases-choice::encode_others l = 2 ^ 80 * l.depth + 2 ^ 60 + 2 ^ 50 * rank_of l.others
+
+abbrev pub decreases-choice::encode_choice : goal.decreases-choice::encode_choice
+decreases-choice::encode_choice l = 2 ^ 80 * l.depth + 2 ^ 70 + 1

@@ -1,5 +1,5 @@
 -- Answers for the encoders of src/list.rt.
-use Rattle.std.proofs.Common.{rules, ◌+◌, ◌-◌, ◌∷◌, length, refl, sym, ap, ◌∙◌, subst, arith}
+use Rattle.std.proofs.Common.{rules, ◌+◌, ◌-◌, ◌∷◌, Bool, length, refl, sym, ap, ◌∙◌, subst, arith}
 use Rattle.std.specs.Prelude.{not}
 use Rattle.std.proofs.lemmas.Option.{slice_get_within}
 use Rattle.asn1_schema.specs.declared.misfit.MisfitKind.TheVariants.{NoPart, OtherPart, NoEncoding}
@@ -9,7 +9,7 @@ use Rattle.asn1_x690.specs.Leaves.{HasSize}
 use Rattle.asn1_x690.specs.declared.fault.FaultKind.TheVariants.{NotPermitted}
 use Rattle.asn1_x690.specs.TypeContents.{told}
 use Rattle.asn1_x691_writers.specs.Put.{piece_in}
-use Rattle.asn1_x690_encode.specs.Encoding.{tape, types, items_in, element_in}
+use Rattle.asn1_x690_encode.specs.Encoding.{tape, types, items_in, element_in, FillsItems, ItemsMisfit, Outcome}
 use Rattle.asn1_x690_encode.specs.ListSteps.{items_none, items_more, items_stopped, items_done, element_takes, counted, not_permitted, no_count, none_stopped, some_filled}
 use Rattle.asn1_x690_encode.specs.Steps.{on_octet, part_next, part_none, stopped_here}
 use Rattle.asn1_x690_encode.proofs.+encoding.Goals as goal
@@ -18,7 +18,7 @@ pub encode_list-returns-in-None : goal.list::encode_list-returns-in-None
 encode_list-returns-in-None t c =
     let a = c.args in
     let cx = a.context.now in
-    let T = told Count (HasSize a.is_extensible a.size) NotPermitted a.node (items_in cx a.depth a.node a.item) in
+    let T = told Count (HasSize a.is_extensible a.size) NotPermitted a.node (items_in cx a.depth a.node a.is_set a.item) in
     let l = c.reject in
     stopped_here cx T.misfit a.octets.now a.octets.now a.state.now l.new.state l.result a.node NoPart T.contents.fills l.ensures.result l.ensures.next
     l.ensures.node l.ensures.reason
@@ -29,7 +29,7 @@ pub encode_list-returns-in-None-count_of : goal.list::encode_list-returns-in-Non
 encode_list-returns-in-None-count_of t c =
     let a = c.args in
     let cx = a.context.now in
-    let F = items_in cx a.depth a.node a.item in
+    let F = items_in cx a.depth a.node a.is_set a.item in
     let T = told Count (HasSize a.is_extensible a.size) NotPermitted a.node F in
     let l = c.reject-in-None-count_of in
     let p = piece_in cx.tables.ranges.now cx.source.now c.in-Some.part in
@@ -44,7 +44,7 @@ pub encode_list-returns-then-not-has_size : goal.list::encode_list-returns-then-
 encode_list-returns-then-not-has_size t c =
     let a = c.args in
     let cx = a.context.now in
-    let F = items_in cx a.depth a.node a.item in
+    let F = items_in cx a.depth a.node a.is_set a.item in
     let T = told Count (HasSize a.is_extensible a.size) NotPermitted a.node F in
     let l = c.reject-then-not-has_size in
     let n = c.in-Some-count_of.count in
@@ -66,8 +66,8 @@ encode_list-returns-else-not-has_size t c =
     let a = c.args in
     let cx = a.context.now in
     let old = a.state.now in
-    let k = c.encode_items in
-    let F = items_in cx a.depth a.node a.item in
+    let k = c.encode_items_by in
+    let F = items_in cx a.depth a.node a.is_set a.item in
     let e = part_next cx old.next c.in-Some.part (sym c.in-Some.ensures)
     ∙ ap (λ (p : Part). piece_in cx.tables.ranges.now cx.source.now p ∷ tape cx (old.next + 1)) c.in-Some-count_of.ensures in
     counted cx (HasSize a.is_extensible a.size) a.node F c.in-Some-count_of.count a.octets.now old k.new.octets k.new.state
@@ -122,3 +122,21 @@ encode_items-returns t c =
     let l = c.loop-left in
     items_done (λ before. element_in cx a.depth a.item) cx a.count a.octets.now a.state.now a.node l.left
     (λ before. element_takes cx a.depth a.item) l.octets l.state l.invariant (omega (arith, c.loop-left-test.false))
+
+pub encode_items_by-returns-then-is_set : goal.list::encode_items_by-returns-then-is_set
+encode_items_by-returns-then-is_set t c =
+    let a = c.args in
+    let cx = a.context.now in
+    let k = c.encode_set_items in
+    subst
+    (λ (b : Bool). Outcome cx (FillsItems cx a.depth a.node b a.item a.count) (ItemsMisfit cx a.depth a.node b a.item a.count) a.octets.now
+    a.state.now k.new.octets k.new.state k.result) (sym c.if-is_set.true) k.ensures
+
+pub encode_items_by-returns : goal.list::encode_items_by-returns
+encode_items_by-returns t c =
+    let a = c.args in
+    let cx = a.context.now in
+    let k = c.encode_items in
+    subst
+    (λ (b : Bool). Outcome cx (FillsItems cx a.depth a.node b a.item a.count) (ItemsMisfit cx a.depth a.node b a.item a.count) a.octets.now
+    a.state.now k.new.octets k.new.state k.result) (sym c.if-is_set.false) k.ensures

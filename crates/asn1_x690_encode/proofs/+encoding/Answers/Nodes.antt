@@ -1,14 +1,13 @@
 -- Answers for the encoders of src/node.rt.
-use Rattle.std.proofs.Common.{◌≡◌, ◌-◌, List, Bool, true, false, sym, ap, ◌∙◌, subst, inl, inr, arith}
+use Rattle.std.proofs.Common.{◌≡◌, ◌-◌, List, Bool, true, false, sym, ap, ◌∙◌, subst, arith}
 use Rattle.asn1_schema.specs.declared.tables.Node.{Node}
 use Rattle.asn1_schema.specs.declared.tables.Node.TheVariants as type
 use Rattle.asn1_x690.specs.declared.fault.FaultKind.{FaultKind}
 use Rattle.asn1_x690.specs.declared.tables.Identifier.{Identifier}
 use Rattle.asn1_x690.specs.declared.tables.Tag.{Tag}
 use Rattle.asn1_x690.specs.TypeContents.{ByHeader}
-use Rattle.asn1_x690_encode.specs.Encoding.{ElementOutcome, ContentsOutcome, around_in, tagged_in, contents_in, headed_by, IsUnencoded}
+use Rattle.asn1_x690_encode.specs.Encoding.{ElementOutcome, ContentsOutcome, around_in, tagged_in, contents_in, headed_by}
 use Rattle.asn1_x690_encode.specs.NodeSteps.{at_node, by_headed, by_tagged}
-use Rattle.asn1_x690_encode.specs.Steps.{later_here}
 use Rattle.asn1_x690_encode.proofs.+encoding.Goals as goal
 
 pub encode_node-returns-then-is_headed : goal.node::encode_node-returns-then-is_headed
@@ -58,43 +57,45 @@ encode_contents-returns-in-SequenceOf t c =
     (λ (n : Node). ContentsOutcome cx (contents_in cx a.depth a.node a.types n) a.octets.now a.state.now k.new.octets k.new.state k.result)
     (sym i.is) k.ensures
 
+pub encode_contents-returns-then-is_extensible : goal.node::encode_contents-returns-then-is_extensible
+encode_contents-returns-then-is_extensible t c =
+    let a = c.args in
+    let cx = a.context.now in
+    let i = c.in-Sequence in
+    let k = c.encode_extensible_sequence in
+    let is : a.kind ≡ type.Sequence i.root true i.additions = i.is ∙ ap (λ (b : Bool). type.Sequence i.root b i.additions) c.if-is_extensible.true in
+    subst
+    (λ (n : Node). ContentsOutcome cx (contents_in cx a.depth a.node a.types n) a.octets.now a.state.now k.new.octets k.new.state k.result)
+    (sym is) k.ensures
+
 pub encode_contents-returns-in-SetOf : goal.node::encode_contents-returns-in-SetOf
 encode_contents-returns-in-SetOf t c =
     let a = c.args in
     let cx = a.context.now in
     let i = c.in-SetOf in
-    let l = c.leave-in-SetOf in
+    let k = c.encode_list-in-SetOf in
     subst
-    (λ (b : Bool). ContentsOutcome cx (contents_in cx a.depth a.node a.types a.kind) a.octets.now a.state.now a.octets.now l.new.state b)
-    (sym l.ensures.result)
-    (inr (inl (
-      l.ensures.reason,
-      inl (later_here cx l.new.state a.node a.kind a.types l.ensures.node c.requires.kind
-          (inl (subst (λ (n : Node). IsUnencoded n) (sym i.is) tt))),
-    )))
+    (λ (n : Node). ContentsOutcome cx (contents_in cx a.depth a.node a.types n) a.octets.now a.state.now k.new.octets k.new.state k.result)
+    (sym i.is) k.ensures
 
-pub encode_headed-returns-else-is_extensible : goal.node::encode_headed-returns-else-is_extensible
-encode_headed-returns-else-is_extensible t c =
+pub encode_headed-returns-then-types : goal.node::encode_headed-returns-then-types
+encode_headed-returns-then-types t c =
+    let a = c.args in
+    let cx = a.context.now in
+    let k = c.encode_any in
+    subst
+    (λ (b : Bool). ElementOutcome cx (headed_by cx a.depth a.node b a.kind) a.octets.now a.state.now k.new.octets k.new.state k.result)
+    (sym c.if-types.true) k.ensures
+
+pub encode_headed-returns-in-Choice : goal.node::encode_headed-returns-in-Choice
+encode_headed-returns-in-Choice t c =
     let a = c.args in
     let cx = a.context.now in
     let i = c.in-Choice in
-    let k = c.encode_alternatives in
-    let is : a.kind ≡ type.Choice i.alternatives false i.additions = i.is ∙ ap (λ (b : Bool). type.Choice i.alternatives b i.additions) c.if-is_extensible.false in
+    let k = c.encode_choice in
     subst
     (λ (b : Bool). ElementOutcome cx (headed_by cx a.depth a.node b a.kind) a.octets.now a.state.now k.new.octets k.new.state k.result)
     (sym c.if-types.false)
     (subst
     (λ (n : Node). ElementOutcome cx (headed_by cx a.depth a.node false n) a.octets.now a.state.now k.new.octets k.new.state k.result)
-    (sym is) k.ensures)
-
-pub encode_headed-returns-then-is_extensible : goal.node::encode_headed-returns-then-is_extensible
-encode_headed-returns-then-is_extensible t c =
-    let a = c.args in
-    let i = c.in-Choice in
-    let l = c.leave-then-is_extensible in
-    let is : a.kind ≡ type.Choice i.alternatives true i.additions = i.is ∙ ap (λ (b : Bool). type.Choice i.alternatives b i.additions) c.if-is_extensible.true in
-    inr (inl (
-      l.ensures.reason,
-      inl (later_here a.context.now l.new.state a.node a.kind a.types l.ensures.node c.requires.kind
-          (inl (subst (λ (n : Node). IsUnencoded n) (sym is) tt))),
-    ))
+    (sym i.is) k.ensures)

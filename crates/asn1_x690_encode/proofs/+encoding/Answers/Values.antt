@@ -2,8 +2,8 @@
 use Rattle.std.proofs.Common.{◌≡◌, ℕ, ◌-◌, Bool, true, false, List, [], refl, sym, ◌∙◌, ap, subst, inl, inr, arith, Some, None}
 use Rattle.asn1_schema.specs.declared.tables.Presence.{Presence}
 use Rattle.asn1_x690_encode.specs.Compared.{IsDefault, IsCompared}
-use Rattle.asn1_x690_encode.specs.Encoding.{ValueOutcome, tape, types, value_in}
-use Rattle.asn1_x690_encode.specs.OtherSteps.{left_same, again_left, again_same, again_wide, other_encoded, other_misfit, compared_yes, compared_no}
+use Rattle.asn1_x690_encode.specs.Encoding.{ValueOutcome, IsWide, tape, types, element_in, value_in}
+use Rattle.asn1_x690_encode.specs.OtherSteps.{left_same, value_filled, again_left, again_same, again_wide, other_encoded, other_misfit, compared_yes, compared_no}
 use Rattle.asn1_x690_encode.specs.PlaceSteps.{placed, found, ends_after}
 use Rattle.asn1_x690_encode.specs.Steps.{as_value}
 use Rattle.asn1_x690_encode.proofs.+encoding.Goals as goal
@@ -107,7 +107,7 @@ is_other-returns-in-None-clause-compared t c parts rest list p is =
     let s = c.stop in
     subst (λ (b : Bool). IsCompared cx a.node a.value a.first list s.new.state b) (sym s.ensures.result)
     (inr (left_same cx k.new.state s.new.state s.ensures.next s.ensures.node s.ensures.reason
-    (again_left cx a.depth a.inner a.first parts rest list [] k.new.octets _ k.new.state refl refl p is
+    (again_left cx a.depth a.inner a.first parts rest list [] k.new.octets _ k.new.state refl p is
     (as_value cx a.inner (types cx a.depth a.inner) [] _ k.new.octets k.new.state None c.in-None.ensures))))
 
 pub is_other-returns-then-not-is_in-clause-compared : goal.value::is_other-returns-then-not-is_in-clause-compared
@@ -120,21 +120,22 @@ is_other-returns-then-not-is_in-clause-compared t c parts rest list p is =
     subst (λ (b : Bool). IsCompared cx a.node a.value a.first list s.new.state b) (sym s.ensures.result)
     (inr (inr (
       s.ensures.reason,
-      record {
+      inl (subst (λ (n : ℕ). IsWide cx n s.new.state.next) (sym s.ensures.node) (record {
         depth = a.depth;
-        inner = a.inner;
         parts = parts;
         list = list;
         rest = rest;
         encodes = p;
         are = ap (λ (n : ℕ). tape cx n) s.ensures.next ∙ is;
-        many = again_wide cx a.depth a.inner a.first parts rest list _ k.new.octets _ k.new.state refl refl p is f
-            (as_value cx a.inner (types cx a.depth a.inner) _ _ k.new.octets k.new.state (Some f) c.in-Some.ensures) k.auto.octets
+        many = again_wide cx a.depth a.inner a.first parts rest list _ k.new.octets _ k.new.state refl p is
+            (value_filled cx (element_in cx a.depth a.inner) _ k.new.octets _ k.new.state f
+            (as_value cx a.inner (types cx a.depth a.inner) _ _ k.new.octets k.new.state (Some f) c.in-Some.ensures)) refl k.auto.octets
             (λ w. not_both c.is_in.result c.if-not-is_in.true (c.is_in.ensures.1 w));
-      },
+      })),
     )))
 
 pub is_other-returns-then-is_default-clause-compared : goal.value::is_other-returns-then-is_default-clause-compared
+unfolding value_filled
 is_other-returns-then-is_default-clause-compared t c parts rest list p is =
     let a = c.args in
     let cx = a.context.now in
@@ -142,7 +143,8 @@ is_other-returns-then-is_default-clause-compared t c parts rest list p is =
     let s = c.reject in
     let f = c.in-Some.field-0 in
     let e = as_value cx a.inner (types cx a.depth a.inner) _ _ k.new.octets k.new.state (Some f) c.in-Some.ensures in
-    let same = again_same cx a.depth a.inner a.first parts rest list _ k.new.octets _ k.new.state refl refl p is f e in
+    let same = again_same cx a.depth a.inner a.first parts rest list _ k.new.octets _ k.new.state refl p is
+    (value_filled cx (element_in cx a.depth a.inner) _ k.new.octets _ k.new.state f e) in
     let i = c.is_in.ensures.0 c.if-not-is_in.false in
     let end = ends_after _ k.new.octets 0 k.new.state.at e.list e.grown i.2 in
     let there = found k.new.octets 0 (k.new.state.at - 0) e.list
@@ -152,13 +154,15 @@ is_other-returns-then-is_default-clause-compared t c parts rest list p is =
     (inl (s.ensures.reason, s.ensures.node, s.ensures.next, d))
 
 pub is_other-returns-else-is_default-clause-compared : goal.value::is_other-returns-else-is_default-clause-compared
+unfolding value_filled
 is_other-returns-else-is_default-clause-compared t c parts rest list p is =
     let a = c.args in
     let cx = a.context.now in
     let k = c.encode_node in
     let f = c.in-Some.field-0 in
     let e = as_value cx a.inner (types cx a.depth a.inner) _ _ k.new.octets k.new.state (Some f) c.in-Some.ensures in
-    let same = again_same cx a.depth a.inner a.first parts rest list _ k.new.octets _ k.new.state refl refl p is f e in
+    let same = again_same cx a.depth a.inner a.first parts rest list _ k.new.octets _ k.new.state refl p is
+    (value_filled cx (element_in cx a.depth a.inner) _ k.new.octets _ k.new.state f e) in
     let i = c.is_in.ensures.0 c.if-not-is_in.false in
     let end = ends_after _ k.new.octets 0 k.new.state.at e.list e.grown i.2 in
     let there = found k.new.octets 0 (k.new.state.at - 0) e.list

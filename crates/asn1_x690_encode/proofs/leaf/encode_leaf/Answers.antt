@@ -3,7 +3,9 @@ use Rattle.std.specs.Prelude.{slice_get}
 use Rattle.asn1_schema.specs.declared.misfit.MisfitKind.TheVariants.{NoPart}
 use Rattle.asn1_schema.specs.Pieces.{Parts}
 use Rattle.asn1_x690_writers.specs.Leaf.{leaf_in, IsLeftOut}
+use Rattle.asn1_x690_writers.specs.Put.{LeftAt}
 use Rattle.asn1_x691_writers.specs.Put.{piece_in}
+use Rattle.asn1_x690_encode.specs.Encoding.{IsPartLeft}
 use Rattle.asn1_x690_encode.specs.Steps.{after_put, next_fits, stopped_here, part_none, leaf_none}
 use Rattle.asn1_x690_encode.proofs.leaf.encode_leaf.Goals as goal
 
@@ -13,20 +15,19 @@ returns-in-Some c =
     let cx = a.context.now in
     let p = c.in-Some.part in
     let F = leaf_in cx.tables.ranges.now cx.tags.numbers.now a.node a.types a.kind in
-    let L = IsLeftOut a.kind p (piece_in cx.tables.ranges.now cx.source.now p) in
     let k = c.put_leaf in
+    let L = LeftAt (IsLeftOut a.kind p (piece_in cx.tables.ranges.now cx.source.now p)) a.node k.new.state in
     let e = c.pass.ensures in
     after_put cx F L p a.octets.now k.new.octets a.state.now k.new.state c.pass.new.state (sym c.in-Some.ensures) e.at e.node e.reason
     (λ l reason next. inr (inl (
       reason,
-      inr (inl (record {
-        node = a.node;
+      inl (subst (λ (n : ℕ). IsPartLeft cx n c.pass.new.state.next) (sym (e.node ∙ l.same)) (record {
         kind = a.kind;
         tags = a.types;
         type = c.requires.kind;
         part = p;
         is = ap (λ (i : ℕ). slice_get cx.parts.now i) next ∙ sym c.in-Some.ensures;
-        left = l;
+        left = inl l.holds;
       })),
     )))
     k.result c.pass.result e.result k.ensures e.passed e.kept
@@ -50,5 +51,5 @@ pass-requires c e =
     let F = leaf_in cx.tables.ranges.now cx.tags.numbers.now a.node a.types a.kind in
     let q = piece_in cx.tables.ranges.now cx.source.now p in
     let k = c.put_leaf in
-    next_fits cx F (IsLeftOut a.kind p q) p q a.octets.now k.new.octets a.state.now k.new.state k.result (sym c.in-Some.ensures)
+    next_fits cx F (LeftAt (IsLeftOut a.kind p q) a.node k.new.state) p q a.octets.now k.new.octets a.state.now k.new.state k.result (sym c.in-Some.ensures)
     c.requires.parts k.ensures e

@@ -1,10 +1,10 @@
-use Rattle.std.proofs.Common.{sym, subst, inl, inr}
+use Rattle.std.proofs.Common.{sym, subst}
 use Rattle.asn1_schema.specs.declared.tables.Node.{Node}
 use Rattle.asn1_schema.specs.declared.tables.Node.TheVariants as type
 use Rattle.asn1_x690_writers.specs.Leaf.{leaf_in, IsLeftOut}
-use Rattle.asn1_x690_writers.specs.Put.{IsPut}
-use Rattle.asn1_x690_writers.specs.PutSteps.{put_wider}
-use Rattle.asn1_x691_writers.specs.Put.{piece_in, IsFarInteger, IsInFragments}
+use Rattle.asn1_x690_writers.specs.Put.{IsPut, LeftAt}
+use Rattle.asn1_x690_writers.specs.PutSteps.{none_left}
+use Rattle.asn1_x691_writers.specs.Put.{piece_in}
 use Rattle.asn1_x690_writers.proofs.leaf.put_leaf.Goals as goal
 
 pub returns-in-Null : goal.returns-in-Null
@@ -13,10 +13,10 @@ returns-in-Null c =
     let k = c.in-Null in
     let p = piece_in a.ranges.now a.source.now a.part in
     subst
-    (λ (n : Node). IsPut (IsLeftOut n a.part p) (leaf_in a.ranges.now a.numbers.now a.node a.tags n) p a.octets.now a.state.now
+    (λ (n : Node). IsPut (LeftAt (IsLeftOut n a.part p) a.node c.put_null.new.state) (leaf_in a.ranges.now a.numbers.now a.node a.tags n) p a.octets.now a.state.now
     c.put_null.new.octets c.put_null.new.state c.put_null.result) (sym k.is)
-    (put_wider (⊥) (IsLeftOut type.Null a.part p) (leaf_in a.ranges.now a.numbers.now a.node a.tags type.Null) p a.octets.now a.state.now
-    c.put_null.new.octets c.put_null.new.state c.put_null.result (λ l. absurd l) (c.put_null.ensures a.ranges.now a.source.now))
+    (none_left (LeftAt (IsLeftOut type.Null a.part p) a.node c.put_null.new.state) (leaf_in a.ranges.now a.numbers.now a.node a.tags type.Null) p a.octets.now a.state.now
+    c.put_null.new.octets c.put_null.new.state c.put_null.result (c.put_null.ensures a.ranges.now a.source.now))
 
 pub returns-in-Boolean : goal.returns-in-Boolean
 returns-in-Boolean c =
@@ -24,10 +24,10 @@ returns-in-Boolean c =
     let k = c.in-Boolean in
     let p = piece_in a.ranges.now a.source.now a.part in
     subst
-    (λ (n : Node). IsPut (IsLeftOut n a.part p) (leaf_in a.ranges.now a.numbers.now a.node a.tags n) p a.octets.now a.state.now
+    (λ (n : Node). IsPut (LeftAt (IsLeftOut n a.part p) a.node c.put_boolean.new.state) (leaf_in a.ranges.now a.numbers.now a.node a.tags n) p a.octets.now a.state.now
     c.put_boolean.new.octets c.put_boolean.new.state c.put_boolean.result) (sym k.is)
-    (put_wider (⊥) (IsLeftOut type.Boolean a.part p) (leaf_in a.ranges.now a.numbers.now a.node a.tags type.Boolean) p a.octets.now a.state.now
-    c.put_boolean.new.octets c.put_boolean.new.state c.put_boolean.result (λ l. absurd l) (c.put_boolean.ensures a.ranges.now a.source.now))
+    (none_left (LeftAt (IsLeftOut type.Boolean a.part p) a.node c.put_boolean.new.state) (leaf_in a.ranges.now a.numbers.now a.node a.tags type.Boolean) p a.octets.now a.state.now
+    c.put_boolean.new.octets c.put_boolean.new.state c.put_boolean.result (c.put_boolean.ensures a.ranges.now a.source.now))
 
 pub returns-in-OctetString : goal.returns-in-OctetString
 returns-in-OctetString c =
@@ -35,10 +35,9 @@ returns-in-OctetString c =
     let k = c.in-OctetString in
     let p = piece_in a.ranges.now a.source.now a.part in
     subst
-    (λ (n : Node). IsPut (IsLeftOut n a.part p) (leaf_in a.ranges.now a.numbers.now a.node a.tags n) p a.octets.now a.state.now
+    (λ (n : Node). IsPut (LeftAt (IsLeftOut n a.part p) a.node c.put_octet_string.new.state) (leaf_in a.ranges.now a.numbers.now a.node a.tags n) p a.octets.now a.state.now
     c.put_octet_string.new.octets c.put_octet_string.new.state c.put_octet_string.result) (sym k.is)
-    (put_wider (IsInFragments a.part) (IsLeftOut (type.OctetString k.length k.is_extensible) a.part p) (leaf_in a.ranges.now a.numbers.now a.node a.tags (type.OctetString k.length k.is_extensible)) p a.octets.now a.state.now
-    c.put_octet_string.new.octets c.put_octet_string.new.state c.put_octet_string.result (λ l. inr (inl l)) (c.put_octet_string.ensures a.ranges.now))
+    (c.put_octet_string.ensures a.ranges.now)
 
 pub returns-in-ObjectIdentifier : goal.returns-in-ObjectIdentifier
 returns-in-ObjectIdentifier c =
@@ -46,10 +45,9 @@ returns-in-ObjectIdentifier c =
     let k = c.in-ObjectIdentifier in
     let p = piece_in a.ranges.now a.source.now a.part in
     subst
-    (λ (n : Node). IsPut (IsLeftOut n a.part p) (leaf_in a.ranges.now a.numbers.now a.node a.tags n) p a.octets.now a.state.now
+    (λ (n : Node). IsPut (LeftAt (IsLeftOut n a.part p) a.node c.put_kept.new.state) (leaf_in a.ranges.now a.numbers.now a.node a.tags n) p a.octets.now a.state.now
     c.put_kept.new.octets c.put_kept.new.state c.put_kept.result) (sym k.is)
-    (put_wider (IsInFragments a.part) (IsLeftOut type.ObjectIdentifier a.part p) (leaf_in a.ranges.now a.numbers.now a.node a.tags type.ObjectIdentifier) p a.octets.now a.state.now
-    c.put_kept.new.octets c.put_kept.new.state c.put_kept.result (λ l. inr (inl l)) (c.put_kept.ensures a.ranges.now))
+    (c.put_kept.ensures a.ranges.now)
 
 pub returns-in-RelativeIdentifier : goal.returns-in-RelativeIdentifier
 returns-in-RelativeIdentifier c =
@@ -57,10 +55,9 @@ returns-in-RelativeIdentifier c =
     let k = c.in-RelativeIdentifier in
     let p = piece_in a.ranges.now a.source.now a.part in
     subst
-    (λ (n : Node). IsPut (IsLeftOut n a.part p) (leaf_in a.ranges.now a.numbers.now a.node a.tags n) p a.octets.now a.state.now
+    (λ (n : Node). IsPut (LeftAt (IsLeftOut n a.part p) a.node c.put_kept-in-RelativeIdentifier.new.state) (leaf_in a.ranges.now a.numbers.now a.node a.tags n) p a.octets.now a.state.now
     c.put_kept-in-RelativeIdentifier.new.octets c.put_kept-in-RelativeIdentifier.new.state c.put_kept-in-RelativeIdentifier.result) (sym k.is)
-    (put_wider (IsInFragments a.part) (IsLeftOut type.RelativeIdentifier a.part p) (leaf_in a.ranges.now a.numbers.now a.node a.tags type.RelativeIdentifier) p a.octets.now a.state.now
-    c.put_kept-in-RelativeIdentifier.new.octets c.put_kept-in-RelativeIdentifier.new.state c.put_kept-in-RelativeIdentifier.result (λ l. inr (inl l)) (c.put_kept-in-RelativeIdentifier.ensures a.ranges.now))
+    (c.put_kept-in-RelativeIdentifier.ensures a.ranges.now)
 
 pub returns-in-Utf8String : goal.returns-in-Utf8String
 returns-in-Utf8String c =
@@ -68,10 +65,9 @@ returns-in-Utf8String c =
     let k = c.in-Utf8String in
     let p = piece_in a.ranges.now a.source.now a.part in
     subst
-    (λ (n : Node). IsPut (IsLeftOut n a.part p) (leaf_in a.ranges.now a.numbers.now a.node a.tags n) p a.octets.now a.state.now
+    (λ (n : Node). IsPut (LeftAt (IsLeftOut n a.part p) a.node c.put_kept-in-Utf8String.new.state) (leaf_in a.ranges.now a.numbers.now a.node a.tags n) p a.octets.now a.state.now
     c.put_kept-in-Utf8String.new.octets c.put_kept-in-Utf8String.new.state c.put_kept-in-Utf8String.result) (sym k.is)
-    (put_wider (IsInFragments a.part) (IsLeftOut type.Utf8String a.part p) (leaf_in a.ranges.now a.numbers.now a.node a.tags type.Utf8String) p a.octets.now a.state.now
-    c.put_kept-in-Utf8String.new.octets c.put_kept-in-Utf8String.new.state c.put_kept-in-Utf8String.result (λ l. inr (inl l)) (c.put_kept-in-Utf8String.ensures a.ranges.now))
+    (c.put_kept-in-Utf8String.ensures a.ranges.now)
 
 pub returns-in-IntegerBetween : goal.returns-in-IntegerBetween
 returns-in-IntegerBetween c =
@@ -79,10 +75,9 @@ returns-in-IntegerBetween c =
     let k = c.in-IntegerBetween in
     let p = piece_in a.ranges.now a.source.now a.part in
     subst
-    (λ (n : Node). IsPut (IsLeftOut n a.part p) (leaf_in a.ranges.now a.numbers.now a.node a.tags n) p a.octets.now a.state.now
+    (λ (n : Node). IsPut (LeftAt (IsLeftOut n a.part p) a.node c.put_integer_between.new.state) (leaf_in a.ranges.now a.numbers.now a.node a.tags n) p a.octets.now a.state.now
     c.put_integer_between.new.octets c.put_integer_between.new.state c.put_integer_between.result) (sym k.is)
-    (put_wider (IsFarInteger p) (IsLeftOut (type.IntegerBetween k.bounds k.is_extensible) a.part p) (leaf_in a.ranges.now a.numbers.now a.node a.tags (type.IntegerBetween k.bounds k.is_extensible)) p a.octets.now a.state.now
-    c.put_integer_between.new.octets c.put_integer_between.new.state c.put_integer_between.result (λ l. inr (inr l)) (c.put_integer_between.ensures a.ranges.now))
+    (c.put_integer_between.ensures a.ranges.now)
 
 pub returns-in-IntegerAtLeast : goal.returns-in-IntegerAtLeast
 returns-in-IntegerAtLeast c =
@@ -90,10 +85,9 @@ returns-in-IntegerAtLeast c =
     let k = c.in-IntegerAtLeast in
     let p = piece_in a.ranges.now a.source.now a.part in
     subst
-    (λ (n : Node). IsPut (IsLeftOut n a.part p) (leaf_in a.ranges.now a.numbers.now a.node a.tags n) p a.octets.now a.state.now
+    (λ (n : Node). IsPut (LeftAt (IsLeftOut n a.part p) a.node c.put_integer_at_least.new.state) (leaf_in a.ranges.now a.numbers.now a.node a.tags n) p a.octets.now a.state.now
     c.put_integer_at_least.new.octets c.put_integer_at_least.new.state c.put_integer_at_least.result) (sym k.is)
-    (put_wider (IsFarInteger p) (IsLeftOut (type.IntegerAtLeast k.bound k.is_extensible) a.part p) (leaf_in a.ranges.now a.numbers.now a.node a.tags (type.IntegerAtLeast k.bound k.is_extensible)) p a.octets.now a.state.now
-    c.put_integer_at_least.new.octets c.put_integer_at_least.new.state c.put_integer_at_least.result (λ l. inr (inr l)) (c.put_integer_at_least.ensures a.ranges.now))
+    (c.put_integer_at_least.ensures a.ranges.now)
 
 pub returns-in-Integer : goal.returns-in-Integer
 returns-in-Integer c =
@@ -101,10 +95,9 @@ returns-in-Integer c =
     let k = c.in-Integer in
     let p = piece_in a.ranges.now a.source.now a.part in
     subst
-    (λ (n : Node). IsPut (IsLeftOut n a.part p) (leaf_in a.ranges.now a.numbers.now a.node a.tags n) p a.octets.now a.state.now
+    (λ (n : Node). IsPut (LeftAt (IsLeftOut n a.part p) a.node c.put_integer.new.state) (leaf_in a.ranges.now a.numbers.now a.node a.tags n) p a.octets.now a.state.now
     c.put_integer.new.octets c.put_integer.new.state c.put_integer.result) (sym k.is)
-    (put_wider (IsFarInteger p) (IsLeftOut type.Integer a.part p) (leaf_in a.ranges.now a.numbers.now a.node a.tags type.Integer) p a.octets.now a.state.now
-    c.put_integer.new.octets c.put_integer.new.state c.put_integer.result (λ l. inr (inr l)) (c.put_integer.ensures a.ranges.now))
+    (c.put_integer.ensures a.ranges.now)
 
 pub returns-in-Enumerated : goal.returns-in-Enumerated
 returns-in-Enumerated c =
@@ -113,10 +106,10 @@ returns-in-Enumerated c =
     let p = piece_in a.ranges.now a.source.now a.part in
     let r = c.put_enumerated in
     subst
-    (λ (n : Node). IsPut (IsLeftOut n a.part p) (leaf_in a.ranges.now a.numbers.now a.node a.tags n) p a.octets.now a.state.now
+    (λ (n : Node). IsPut (LeftAt (IsLeftOut n a.part p) a.node r.new.state) (leaf_in a.ranges.now a.numbers.now a.node a.tags n) p a.octets.now a.state.now
     r.new.octets r.new.state r.result) (sym k.is)
-    (put_wider (⊥) (IsLeftOut (type.Enumerated k.last k.is_extensible k.additions) a.part p) (leaf_in a.ranges.now a.numbers.now a.node a.tags (type.Enumerated k.last k.is_extensible k.additions)) p a.octets.now a.state.now
-    r.new.octets r.new.state r.result (λ l. absurd l) (r.ensures a.ranges.now))
+    (none_left (LeftAt (IsLeftOut (type.Enumerated k.last k.is_extensible k.additions) a.part p) a.node r.new.state) (leaf_in a.ranges.now a.numbers.now a.node a.tags (type.Enumerated k.last k.is_extensible k.additions)) p a.octets.now a.state.now
+    r.new.octets r.new.state r.result (r.ensures a.ranges.now))
 
 pub returns-in-BitString : goal.returns-in-BitString
 returns-in-BitString c =
@@ -125,7 +118,19 @@ returns-in-BitString c =
     let p = piece_in a.ranges.now a.source.now a.part in
     let r = c.put_bit_string in
     subst
-    (λ (n : Node). IsPut (IsLeftOut n a.part p) (leaf_in a.ranges.now a.numbers.now a.node a.tags n) p a.octets.now a.state.now
+    (λ (n : Node). IsPut (LeftAt (IsLeftOut n a.part p) a.node r.new.state) (leaf_in a.ranges.now a.numbers.now a.node a.tags n) p a.octets.now a.state.now
     r.new.octets r.new.state r.result) (sym k.is)
-    (put_wider (⊥) (IsLeftOut (type.BitString k.length k.is_extensible k.has_names) a.part p) (leaf_in a.ranges.now a.numbers.now a.node a.tags (type.BitString k.length k.is_extensible k.has_names)) p a.octets.now a.state.now
-    r.new.octets r.new.state r.result (λ l. absurd l) (r.ensures a.ranges.now))
+    (none_left (LeftAt (IsLeftOut (type.BitString k.length k.is_extensible k.has_names) a.part p) a.node r.new.state) (leaf_in a.ranges.now a.numbers.now a.node a.tags (type.BitString k.length k.is_extensible k.has_names)) p a.octets.now a.state.now
+    r.new.octets r.new.state r.result (r.ensures a.ranges.now))
+
+pub returns-in-Text : goal.returns-in-Text
+returns-in-Text c =
+    let a = c.args in
+    let k = c.in-Text in
+    let p = piece_in a.ranges.now a.source.now a.part in
+    let r = c.put_text in
+    subst
+    (λ (n : Node). IsPut (LeftAt (IsLeftOut n a.part p) a.node r.new.state) (leaf_in a.ranges.now a.numbers.now a.node a.tags n) p a.octets.now a.state.now
+    r.new.octets r.new.state r.result) (sym k.is)
+    (none_left (LeftAt (IsLeftOut (type.Text k.length k.is_extensible k.alphabet k.whole) a.part p) a.node r.new.state) (leaf_in a.ranges.now a.numbers.now a.node a.tags (type.Text k.length k.is_extensible k.alphabet k.whole)) p a.octets.now a.state.now
+    r.new.octets r.new.state r.result r.ensures)

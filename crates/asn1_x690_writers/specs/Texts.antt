@@ -1,0 +1,15 @@
+-- Characters that were written.
+use Rattle.std.specs.Prelude.{◌≡◌, ℕ, ◌%◌, ◌^◌, ◌<◌, Bool, List, length}
+use Rattle.std.specs.List.{AllByRecursion}
+use Rattle.asn1_x690.specs.Leaves.{AreCharacters}
+use Rattle.asn1_x691_writers.specs.Written.{IsGrown}
+
+-- each character has so many bits
+abbrev pub AreWithin : ℕ → List ℕ → Type 0
+AreWithin width text = AllByRecursion (λ c. c < 2 ^ width) text
+
+pub record IsTextWritten (width : ℕ) (text : List ℕ) (was : List ℕ) (old : ℕ) (now : List ℕ) (new : ℕ) : Type 0 where
+  pub list : List Bool
+  pub encodes : AreCharacters width text list
+  pub whole : length list % 8 ≡ 0
+  pub grown : IsGrown was old now new list
