@@ -41,7 +41,8 @@ fn main(rt: HostRuntime) -> anyhow::Result<()> {
     show(&rt, Ok(Decoded::numbers()), rounds)?;
     show(&rt, Ok(Decoded::letters()), rounds)?;
     show_records(&rt, rounds)?;
-    show(&rt, Certificate::new(rt.alloc(), false), rounds)
+    show(&rt, Certificate::new(rt.alloc(), false), rounds)?;
+    show(&rt, Certificate::new(rt.alloc(), true), rounds)
 }
 
 /// The rows of the records of X.691, annex A.
