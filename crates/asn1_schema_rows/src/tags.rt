@@ -102,6 +102,21 @@ impl TagRows {
         Ok(())
     }
 
+    /// Has each element be a value of the type at a node, which has no tag then.
+    pub(crate) fn permit_any(&mut self, node: usize) {
+        if let Some(of) = self.types.as_mut_slice().get_mut(node) {
+            let tags = Rows {
+                from: of.tags.from,
+                count: 0,
+            };
+            *of = TypeTags {
+                tags,
+                is_any: true,
+                ..*of
+            };
+        }
+    }
+
     /// Adds a member of the type at a node, with a tag of the context. It replaces the type's own tag, and
     /// is around a type that has none.
     pub(crate) fn add_member(&mut self, node: usize, number: u64) -> Result<(), AllocError> {

@@ -3,7 +3,7 @@
 //! ```text
 //! null  bool  int  int:0..  int:0..7  intx:0..7  enum:LAST  enumx:LAST:ADDITIONS
 //! bits:0..  bits:3..3  bitsx:1..2  named:0..  octets:..  of:0.. ITEM  ofx:1..2 ITEM  setof:0.. ITEM  open TYPE
-//! text:0..4:48-57  textx:1..2:65-66:32-126   oid  relative  utf8
+//! text:0..4:48-57  textx:1..2:65-66:32-126   oid  relative  utf8  any
 //! seq:ROOT ..  seqx:ROOT:ADDITIONS ..
 //! choice:ROOT ..  choicex:ROOT:ADDITIONS ..
 //! ```
@@ -69,6 +69,17 @@ impl Types {
             node: index,
             presence: Presence::Mandatory,
         })?;
+        Ok(())
+    }
+
+    /// Adds a type of which each element is a value.
+    fn add_any(&mut self) -> Result<(), RowError> {
+        let index = self.nodes.len();
+        self.add(Node::OctetString {
+            length: Length::AtLeast { least: 0 },
+            is_extensible: false,
+        })?;
+        self.tags.permit_any(index);
         Ok(())
     }
 
@@ -204,6 +215,7 @@ fn read_word(alloc: Global, types: &mut Types, word: &str) -> Result<(), RowErro
         "oid" => return types.add(Node::ObjectIdentifier),
         "relative" => return types.add(Node::RelativeIdentifier),
         "utf8" => return types.add(Node::Utf8String),
+        "any" => return types.add_any(),
         "open" => {
             let inner = types.take(alloc)?;
             return types.add(Node::Open { inner: inner.node });

@@ -2,6 +2,7 @@
 mod Elements
 mod Nodes
 mod Sequences
+mod Extensions
 mod Additions
 mod Choices
 mod Lists
@@ -10,6 +11,7 @@ mod Values
 use Rattle.asn1_x690_encode.proofs.+encoding.Answers.Elements as elements
 use Rattle.asn1_x690_encode.proofs.+encoding.Answers.Nodes as nodes
 use Rattle.asn1_x690_encode.proofs.+encoding.Answers.Sequences as sequences
+use Rattle.asn1_x690_encode.proofs.+encoding.Answers.Extensions as extensions
 use Rattle.asn1_x690_encode.proofs.+encoding.Answers.Additions as additions
 use Rattle.asn1_x690_encode.proofs.+encoding.Answers.Choices as choices
 use Rattle.asn1_x690_encode.proofs.+encoding.Answers.Lists as lists
@@ -84,16 +86,16 @@ pub sequence::encode_components-overflow_add-from-2 : goal.sequence::encode_comp
 sequence::encode_components-overflow_add-from-2 = sequences.encode_components-overflow_add-from-2
 
 pub sequence::encode_tail-returns-in-End : goal.sequence::encode_tail-returns-in-End
-sequence::encode_tail-returns-in-End = sequences.encode_tail-returns-in-End
+sequence::encode_tail-returns-in-End = extensions.encode_tail-returns-in-End
 
 pub sequence::encode_tail-returns-then-not-is_extended : goal.sequence::encode_tail-returns-then-not-is_extended
-sequence::encode_tail-returns-then-not-is_extended = sequences.encode_tail-returns-then-not-is_extended
+sequence::encode_tail-returns-then-not-is_extended = extensions.encode_tail-returns-then-not-is_extended
 
 pub sequence::encode_tail-returns-else-not-is_extended : goal.sequence::encode_tail-returns-else-not-is_extended
-sequence::encode_tail-returns-else-not-is_extended = sequences.encode_tail-returns-else-not-is_extended
+sequence::encode_tail-returns-else-not-is_extended = extensions.encode_tail-returns-else-not-is_extended
 
 pub sequence::encode_tail-returns-in-Unknown : goal.sequence::encode_tail-returns-in-Unknown
-sequence::encode_tail-returns-in-Unknown = sequences.encode_tail-returns-in-Unknown
+sequence::encode_tail-returns-in-Unknown = extensions.encode_tail-returns-in-Unknown
 
 pub sequence::encode_required-encode_components-requires : goal.sequence::encode_required-encode_components-requires
 sequence::encode_required-encode_components-requires = sequences.encode_required-encode_components-requires
@@ -138,10 +140,10 @@ pub sequence::encode_sequence-returns-else-not-is_sequence : goal.sequence::enco
 sequence::encode_sequence-returns-else-not-is_sequence = sequences.encode_sequence-returns-else-not-is_sequence
 
 pub sequence::encode_extensible_sequence-returns-in-None-extended_by : goal.sequence::encode_extensible_sequence-returns-in-None-extended_by
-sequence::encode_extensible_sequence-returns-in-None-extended_by = sequences.encode_extensible_sequence-returns-in-None-extended_by
+sequence::encode_extensible_sequence-returns-in-None-extended_by = extensions.encode_extensible_sequence-returns-in-None-extended_by
 
 pub sequence::encode_extensible_sequence-returns-in-Some-extended_by : goal.sequence::encode_extensible_sequence-returns-in-Some-extended_by
-sequence::encode_extensible_sequence-returns-in-Some-extended_by = sequences.encode_extensible_sequence-returns-in-Some-extended_by
+sequence::encode_extensible_sequence-returns-in-Some-extended_by = extensions.encode_extensible_sequence-returns-in-Some-extended_by
 
 pub additions::encode_additions-returns-in-None : goal.additions::encode_additions-returns-in-None
 additions::encode_additions-returns-in-None = additions.encode_additions-returns-in-None
