@@ -146,12 +146,7 @@ impl Writer {
     /// primitive.
     fn add(&mut self, octets: &[u8], header: Header) -> Result<(), AllocError> {
         let (offset, from, to) = (self.next, header.from / 8, header.to / 8);
-        while let Some(end) = self.ends.as_slice().last().copied() {
-            if end > offset {
-                break;
-            }
-            self.ends.pop();
-        }
+        self.close(offset);
         let before = from.saturating_sub(offset);
         let count = to.saturating_sub(from);
         write!(self.text, "{offset:>6} {before:>2} {count:>6}  ")?;
@@ -170,6 +165,16 @@ impl Writer {
             self.next = to;
         }
         self.text.push('\n')
+    }
+
+    /// Closes the elements that end before an offset, or at it.
+    fn close(&mut self, offset: usize) {
+        for _ in 0..self.ends.len() {
+            match self.ends.as_slice().last() {
+                Some(end) if *end <= offset => self.ends.pop(),
+                _ => break,
+            };
+        }
     }
 
     /// Appends the first contents octets of an element.

@@ -104,6 +104,9 @@ impl<'s> Encoder<'s> {
         let mut octets = Vec::new(self.alloc);
         let mut room = FIRST_ROOM;
         for _ in 0..usize::BITS {
+            if room > MOST {
+                break;
+            }
             octets.resize(room, 0)?;
             match self.attempt(node, parts, source, octets.as_mut_slice()) {
                 Ok(count) if count <= room => {
@@ -115,9 +118,6 @@ impl<'s> Encoder<'s> {
                     room = room.saturating_mul(2);
                 }
                 Err(misfit) => return Err(EncodeError::Misfit(misfit)),
-            }
-            if room > MOST {
-                break;
             }
         }
         Err(EncodeError::Memory)

@@ -2,7 +2,7 @@
 
 use crate::encode::{EncodeError, Encoder};
 use crate::places::line_and_column;
-use crate::reasons::Reason;
+use crate::reasons::{Reason, is_long};
 use crate::stop::Stop;
 use asn1_json::{Draft, JsonProblem, Tree, TreeError, parse_value, path_of};
 use json::Scratch;
@@ -72,8 +72,10 @@ impl<'a, 't> Json<'a, 't> {
             Ok(octets) => Ok(octets),
             Err(EncodeError::Memory) => Err(Stop::Memory),
             Err(EncodeError::Misfit(misfit)) => {
+                let part = draft.parts().get(misfit.part).copied();
                 let reason = Reason {
                     rejection: misfit.reason,
+                    is_long: part.is_some_and(is_long),
                 };
                 Err(self.error_at(draft.item_of(misfit.part), reason))
             }

@@ -1,6 +1,6 @@
 //! Why a value is not encoded, in words.
 
-use asn1_schema::MisfitKind;
+use asn1_schema::{MisfitKind, Part};
 use asn1_x691_writers::Rejection;
 use std::fmt;
 
@@ -9,6 +9,24 @@ use std::fmt;
 pub struct Reason {
     /// Why.
     pub rejection: Rejection,
+    /// Whether the part is so long that its length would be in fragments (X.691 11.9.3.8), which are
+    /// not encoded for each type.
+    pub is_long: bool,
+}
+
+/// From this length on, a length without an upper bound is in fragments (X.691 11.9.3.8).
+const FRAGMENT: usize = 16_384;
+
+/// Returns whether a part has so many items, characters, octets or bits that its length can be in
+/// fragments.
+pub fn is_long(part: Part) -> bool {
+    match part {
+        Part::Count(count) => count >= FRAGMENT,
+        Part::Bits(span) => span.count >= FRAGMENT,
+        Part::Octets(span) => span.count / 8 >= FRAGMENT,
+        Part::Text(characters) => characters.count >= FRAGMENT,
+        _ => false,
+    }
 }
 
 /// Returns what does not fit, in words.
@@ -29,6 +47,9 @@ fn words_of<'a>(kind: MisfitKind) -> &'a str {
 impl fmt::Display for Reason {
     fn fmt<W: fmt::Write>(&self, f: &mut fmt::Formatter<W>) -> fmt::Result {
         match self.rejection {
+            Rejection::Misfit(MisfitKind::NoEncoding) if self.is_long => {
+                f.write_str("the value is not permitted by its type, or is too long to be encoded")
+            }
             Rejection::Misfit(kind) => f.write_str(words_of(kind)),
             Rejection::Unsupported => f.write_str("the value is not supported yet"),
             Rejection::NoRoom => f.write_str("the value exceeds the room of the encoder"),

@@ -206,12 +206,16 @@ fn defaults_are_left_out_and_sets_are_put_in_order(rt: HostRuntime) -> Result<()
     Ok(())
 }
 
-#[test]
-fn a_fault_has_its_offset_and_its_component(rt: HostRuntime) -> Result<(), Fail> {
-    let alloc = rt.alloc();
+/// Returns the JSON, or the text of the error, of a Person that octets encode.
+fn decoded(
+    alloc: Global,
+    rules: Rules,
+    parts: usize,
+    octets: &[u8],
+) -> Result<Result<Vec<u8>, Stop>, Fail> {
     let schema = Schema::parse(alloc, PEOPLE)?;
     let node = node_of(&schema, "Person").ok_or("no type")?;
-    let codec = Codec::new(alloc, &schema, node, Rules::Uper)?;
+    let codec = Codec::new(alloc, &schema, node, rules)?;
     let target = Target {
         node,
         depth: 50,
@@ -222,20 +226,49 @@ fn a_fault_has_its_offset_and_its_component(rt: HostRuntime) -> Result<(), Fail>
         schema: &schema,
         codec: &codec,
         target,
-        parts: 4,
+        parts,
     };
-    match decoder.json_of(&[0x94, 0x1D, 0xDB, 0x87]) {
-        Err(Stop::Input(text)) => {
-            let wanted = "offset 3, bit 2, age: bits are missing";
-            assert!(rt; text.as_str() == wanted);
-        }
-        _ => return Err("no fault".into()),
+    Ok(decoder.json_of(octets))
+}
+
+// The octets are those of Erlang's asn1ct.
+#[test]
+fn a_value_has_one_json_by_all_rules(rt: HostRuntime) -> Result<(), Fail> {
+    let der = [
+        0x30, 0x0D, 0x80, 0x03, 0x41, 0x6E, 0x6E, 0x81, 0x01, 0x1E, 0xA2, 0x03, 0x0A, 0x01, 0x01,
+    ];
+    for (rules, octets) in [
+        (Rules::Der, der.as_slice()),
+        (Rules::Uper, [0x94, 0x1D, 0xDB, 0x87, 0x80, 0x60].as_slice()),
+        (
+            Rules::Aper,
+            [0x90, 0x41, 0x6E, 0x6E, 0x1E, 0x01, 0x80].as_slice(),
+        ),
+    ] {
+        let text = decoded(rt.alloc(), rules, 5, octets)??;
+        let wanted =
+            b"{\n  \"name\": \"Ann\",\n  \"age\": 30,\n  \"likes\": [\n    \"coffee\"\n  ]\n}\n";
+        assert!(rt; text.as_slice() == wanted.as_slice());
     }
-    match decoder.json_of(&[0x94, 0x1D, 0xDB, 0x87, 0x80, 0x60]) {
-        Err(Stop::Input(text)) => {
-            assert!(rt; text.as_str() == "the value has 5 parts, and --parts permits 4");
+    Ok(())
+}
+
+#[test]
+fn a_fault_has_its_offset_and_its_component(rt: HostRuntime) -> Result<(), Fail> {
+    for (octets, wanted) in [
+        (
+            [0x94, 0x1D, 0xDB, 0x87].as_slice(),
+            "offset 3, bit 2, age: bits are missing",
+        ),
+        (
+            [0x94, 0x1D, 0xDB, 0x87, 0x80, 0x60].as_slice(),
+            "the value has 5 parts, and --parts permits 4",
+        ),
+    ] {
+        match decoded(rt.alloc(), Rules::Uper, 4, octets)? {
+            Err(Stop::Input(text)) => assert!(rt; text.as_str() == wanted),
+            _ => return Err("no error".into()),
         }
-        _ => return Err("no limit".into()),
     }
     Ok(())
 }
