@@ -17,7 +17,7 @@ use Rattle.asn1_x691_writers.specs.TailSteps.{tail_grown}
 use Rattle.asn1_x691_writers.specs.Written.{IsIndex, Holds, IsGrown}
 use Rattle.asn1_x690_encode.specs.declared.context.Context.{Context}
 use Rattle.asn1_x690_encode.specs.declared.inner.Inner.{Inner}
-use Rattle.asn1_x690_encode.specs.Encoding.{tape, inner_in, enclosed_in, IsFilled, IsElementOf, IsLong, IsStopped}
+use Rattle.asn1_x690_encode.specs.Encoding.{tape, inner_in, enclosed_in, IsFilled, IsElementOf, IsInnerOf, IsLong, IsStopped}
 
 -- ---- from the first octet on
 
@@ -63,14 +63,15 @@ module _ (c : Context) (depth node : ℕ) (inner : Inner) (old : Writer) (tail n
 
   -- the contents are too long
   pub enclosed_long : (last : Writer) → 2 ^ 64 - 128 ≤ new.at → last.next ≡ old.next → last.node ≡ node → last.reason ≡ rejection.Unsupported
-      → (id : Identifier) → IsStopped c (enclosed_in c depth node id inner).misfit old last
-  enclosed_long last many next same reason id =
+      → IsInnerOf c node inner → (id : Identifier) → IsStopped c (enclosed_in c depth node id inner).misfit old last
+  enclosed_long last many next same reason type id =
       let least = index_least new.at (8 + length e.list) index in
       inr (inl (
         reason,
         inr (subst (λ (n : ℕ). IsLong c n last.next) (sym same) (record {
           depth = depth;
           inner = inner;
+          type = type;
           parts = e.parts;
           list = e.list;
           rest = tape c new.next;

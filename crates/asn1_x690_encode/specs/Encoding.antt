@@ -240,6 +240,7 @@ pub record IsPartLeft (c : Context) (node next : ℕ) : Type 0 where
 pub record IsLong (c : Context) (node next : ℕ) : Type 0 where
   pub depth : ℕ
   pub inner : Inner
+  pub type : IsInnerOf c node inner
   pub parts : Parts
   pub list : List Bool
   pub rest : Parts

@@ -72,7 +72,7 @@ encode_enclosed-returns-then-state-ge-MOST t c =
     let k = c.encode_inner in
     let l = c.leave in
     enclosed_long a.context.now a.depth a.node a.inner a.state.now c.split_at_mut-tail.result.1.now k.new.octets k.new.state
-    (c.if-not-encode_inner.ensures) l.new.state (omega (arith, c.if-state-ge-MOST.true)) l.ensures.next l.ensures.node l.ensures.reason a.id
+    (c.if-not-encode_inner.ensures) l.new.state (omega (arith, c.if-state-ge-MOST.true)) l.ensures.next l.ensures.node l.ensures.reason c.requires.kind a.id
 
 pub encode_enclosed-returns : goal.element::encode_enclosed-returns
 encode_enclosed-returns t c =
