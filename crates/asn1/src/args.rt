@@ -32,6 +32,8 @@ pub enum Task {
     Check,
     /// To list the types of modules.
     Types,
+    /// To print a type as the rules see it.
+    Show,
     /// To print elements as a tree.
     Dump,
 }
@@ -44,6 +46,7 @@ impl Task {
             "encode" => Some(Task::Encode),
             "check" => Some(Task::Check),
             "types" => Some(Task::Types),
+            "show" => Some(Task::Show),
             "dump" => Some(Task::Dump),
             _ => None,
         }
@@ -205,6 +208,16 @@ fn types<'a>(alloc: Global) -> Result<Command<'a>, AllocError> {
         .arg(modules(alloc))
 }
 
+/// Returns the subcommand `show`.
+fn show<'a>(alloc: Global) -> Result<Command<'a>, AllocError> {
+    Command::new(alloc, "show")
+        .about("Print a type as the encoding rules see it: tags, bounds, indexes, presence bits")
+        .after_help("Example: asn1 show --type Person people.asn1")
+        .arg(type_name(alloc))?
+        .arg(depth(alloc))?
+        .arg(modules(alloc))
+}
+
 /// Returns the subcommand `dump`.
 fn dump<'a>(alloc: Global) -> Result<Command<'a>, AllocError> {
     let from = "The form of the input; its look tells it unless this option does";
@@ -232,5 +245,6 @@ pub fn command<'a>(alloc: Global) -> Result<Command<'a>, AllocError> {
         .subcommand(encode(alloc)?)?
         .subcommand(check(alloc)?)?
         .subcommand(types(alloc)?)?
+        .subcommand(show(alloc)?)?
         .subcommand(dump(alloc)?)
 }

@@ -15,6 +15,7 @@ mod reasons;
 mod rules;
 mod run;
 mod sets;
+mod show;
 mod stop;
 #[cfg(test)]
 mod tests;

@@ -9,6 +9,7 @@ use crate::forms::{FormError, FormProblem, form_of, values_of, written_as};
 use crate::from_json::encode_json;
 use crate::modules::Modules;
 use crate::places::line_and_column;
+use crate::show::words_of_type;
 use crate::stop::Stop;
 use crate::types::{list_of, node_of};
 use asn1_resolve::Schema;
@@ -90,6 +91,12 @@ fn do_task<R: Runtime + AllocGlobal>(rt: &R, matches: &ArgMatches<'_>) -> Result
         Task::Types => {
             let list = list_of(rt.alloc(), &schema)?;
             write_whole(rt, list.as_bytes())
+        }
+        Task::Show => {
+            let Target { node, depth, .. } = target_of(rt.alloc(), &options, &schema)?;
+            let name = options.type_name;
+            let shown = words_of_type(rt.alloc(), &schema, name, node, depth)?;
+            write_whole(rt, shown.as_bytes())
         }
         Task::Check | Task::Dump => Ok(()),
     }

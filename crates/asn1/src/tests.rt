@@ -7,6 +7,7 @@ use crate::from_json::encode_json;
 use crate::modules::Modules;
 use crate::places::line_and_column;
 use crate::rules::Rules;
+use crate::show::words_of_type;
 use crate::stop::Stop;
 use crate::types::{list_of, node_of};
 use asn1_notation::{NotationError, Problem};
@@ -283,5 +284,25 @@ fn elements_are_a_tree(rt: HostRuntime) -> Result<(), Fail> {
      7  2      0    [APPLICATION 1]
 ";
     assert!(rt; tree.as_str() == wanted);
+    Ok(())
+}
+
+/// The tags of X.680 8.4 and 25.3; the presence bit of X.691 19.2.2.
+#[test]
+fn a_type_is_shown_with_its_tags_and_bits(rt: HostRuntime) -> Result<(), Fail> {
+    let alloc = rt.alloc();
+    let schema = Schema::parse(alloc, BAGS)?;
+    let node = node_of(&schema, "Bag").ok_or("no type")?;
+    let shown = words_of_type(alloc, &schema, "Bag", node, 50)?;
+    let wanted = "Bag: SEQUENCE or SET [UNIVERSAL 16]
+  size: DEFAULT 7, bit 0, INTEGER (0..255) [0]
+  items: SET OF [1]
+    item: Thing [UNIVERSAL 16]
+";
+    assert!(rt; shown.as_str() == wanted);
+    let schema = Schema::parse(alloc, PEOPLE)?;
+    let node = node_of(&schema, "Person").ok_or("no type")?;
+    let shown = words_of_type(alloc, &schema, "Person", node, 0)?;
+    assert!(rt; shown.as_str() == "Person: SEQUENCE or SET [UNIVERSAL 16]\n");
     Ok(())
 }
