@@ -10,12 +10,12 @@ use std::alloc::{AllocError, Global};
 const DEPTH: usize = 64;
 
 /// Returns the element of a value of the type at a node. `None` if the parts are no value of the type.
-pub(crate) fn element_of(
+pub(crate) fn element_of<'x>(
     alloc: Global,
-    schema: &Schema,
+    schema: &'x Schema,
     node: usize,
-    parts: &[Part],
-    source: &[u8],
+    parts: &'x [Part],
+    source: &'x [u8],
 ) -> Result<Option<Vec<u8>>, AllocError> {
     if source.len() > 1 << 60 || parts.len() > 1 << 60 {
         return Ok(None);
