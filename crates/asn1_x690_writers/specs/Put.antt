@@ -1,7 +1,7 @@
 -- What a call that writes a part did: it wrote the contents octets of the part, or it names the misfit.
-use Rattle.std.specs.Prelude.{◌≡◌, ℕ, ◌%◌, ◌⊎◌, Bool, true, false, List, [], ◌∷◌, length}
+use Rattle.std.specs.Prelude.{◌≡◌, ℕ, ◌%◌, ◌^◌, ◌≤◌, ◌⊎◌, Bool, true, false, List, [], ◌∷◌, length}
 use Rattle.asn1_schema.specs.declared.misfit.MisfitKind.{MisfitKind}
-use Rattle.asn1_schema.specs.Pieces.{Piece, Parts}
+use Rattle.asn1_schema.specs.Pieces.{Piece, Parts, Octets}
 use Rattle.asn1_x690.specs.declared.fault.FaultKind.{FaultKind}
 use Rattle.asn1_x690.specs.TypeContents.{TypeContents}
 use Rattle.asn1_x691_writers.specs.declared.state.Writer.{Writer}
@@ -22,6 +22,10 @@ pub record IsMisfit (F : TypeContents FaultKind) (p : Piece) (new : Writer) : Ty
   pub kind : MisfitKind
   pub reason : new.reason ≡ Misfit kind
   pub first : (rest : Parts) → F.misfit (p ∷ rest) (record { node = new.node; left = length (p ∷ rest); kind = kind })
+
+-- octets of 2^64 bits and more, which only fragments over one another have
+abbrev pub AreTooMany : Piece → Type 0
+AreTooMany p = (x : List Bool) × (p ≡ Octets x) × (2 ^ 64 ≤ length x)
 
 -- this holds of a part that is left, and the state names the node of its type
 pub record LeftAt (Left : Type 0) (node : ℕ) (new : Writer) : Type 0 where

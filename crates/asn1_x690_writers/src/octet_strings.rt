@@ -3,16 +3,20 @@
 
 ghost use Rattle.std.specs.Prelude.{List, ◌*◌, ◌^◌, ◌<◌, length};
 ghost use Rattle.asn1_schema.specs.declared.tables.Range.{Range};
+ghost use Rattle.asn1_bits.specs.Bits.{bits};
 ghost use Rattle.asn1_schema.specs.Pieces.{Octets};
+ghost use Rattle.asn1_schema.specs.PiecesOfParts.{joined};
 ghost use Rattle.asn1_x690.specs.Der.{always};
 ghost use Rattle.asn1_x690.specs.Leaves.{AreOctets, AreSized, IsKept, leaf_of};
-ghost use Rattle.asn1_x690_writers.specs.Put.{IsPut, LeftAt};
+ghost use Rattle.asn1_x690_writers.specs.Put.{AreTooMany, IsPut, LeftAt};
 ghost use Rattle.asn1_x691_writers.specs.Put.{IsInFragments, piece_in};
 ghost use Rattle.asn1_x691_writers.specs.Validity.{IsValid};
 
 use crate::sizes::has_size;
-use asn1_schema::{Length, MisfitKind, Part};
-use asn1_x691_writers::{ContentsKind, Writer, clip, is_valid, leave, put_bits, reject};
+use asn1_schema::{Fragments, Length, MisfitKind, Part};
+use asn1_x691_writers::{
+    ContentsKind, Writer, clip, is_valid, leave, put_bits, put_fragments, reject, size_of_fragments,
+};
 
 /// Writes octets of a size that the constraint permits.
 pub(crate) fn put_octet_string(
@@ -26,7 +30,7 @@ pub(crate) fn put_octet_string(
 ) -> bool
     requires size { 8 * length octets.old < 2 ^ 64 }
     requires source { 8 * length source.now < 2 ^ 64 }
-    ensures { (ranges : List Range) → IsPut (LeftAt (IsInFragments part) node state.new) (leaf_of AreOctets (AreSized is_extensible size) Octets node) (piece_in ranges source.now part)
+    ensures { (ranges : List Range) → IsPut (LeftAt (AreTooMany (piece_in ranges source.now part)) node state.new) (leaf_of AreOctets (AreSized is_extensible size) Octets node) (piece_in ranges source.now part)
         octets.old state.old octets.new state.new result }
 {
     match part {
@@ -41,9 +45,41 @@ pub(crate) fn put_octet_string(
             state.at = put_bits(octets, state.at, source, inside.at, inside.count);
             true
         }
-        Part::OctetsInFragments(_) => leave(state, node),
+        Part::OctetsInFragments(fragments) => {
+            put_joined(octets, size, is_extensible, source, fragments, node, state)
+        }
         _ => reject(state, node, MisfitKind::OtherPart),
     }
+}
+
+/// Writes octets in fragments, of a size that the constraint permits. They must have fewer than 2^64
+/// bits.
+fn put_joined(
+    octets: &mut [u8],
+    size: Length,
+    is_extensible: bool,
+    source: &[u8],
+    fragments: Fragments,
+    node: usize,
+    state: &mut Writer,
+) -> bool
+    requires size { 8 * length octets.old < 2 ^ 64 }
+    requires source { 8 * length source.now < 2 ^ 64 }
+    ensures { IsPut (LeftAt (AreTooMany (Octets (joined 8 (bits source.now) fragments))) node state.new) (leaf_of AreOctets (AreSized is_extensible size) Octets node)
+        (Octets (joined 8 (bits source.now) fragments)) octets.old state.old octets.new state.new result }
+{
+    let count = size_of_fragments(source, fragments);
+    if count >= 1u128 << 64 {
+        return leave(state, node);
+    }
+    if count % 8 > 0 {
+        return reject(state, node, MisfitKind::NoEncoding);
+    }
+    if !has_size(size, is_extensible, (count / 8) as usize) {
+        return reject(state, node, MisfitKind::NoEncoding);
+    }
+    state.at = put_fragments(octets, state.at, source, fragments, count as usize);
+    true
 }
 
 /// Writes octets of this kind.

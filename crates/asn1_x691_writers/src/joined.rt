@@ -163,3 +163,29 @@ pub(crate) fn put_joined(
     }
     next
 }
+
+/// Returns how many bits a part in fragments has.
+pub fn size_of_fragments(source: &[u8], fragments: Fragments) -> u128
+    requires { 8 * length source.now < 2 ^ 64 }
+    ensures { result ≡ length (joined_in 8 (bits source.now) fragments) }
+{
+    let joined = joined_of(source, fragments);
+    size_of(source, &joined)
+}
+
+/// Writes the bits of a part in fragments, of which there are `count`. Returns the index after them.
+pub fn put_fragments(
+    octets: &mut [u8],
+    at: usize,
+    source: &[u8],
+    fragments: Fragments,
+    count: usize,
+) -> usize
+    requires size { 8 * length octets.old < 2 ^ 64 }
+    requires source { 8 * length source.now < 2 ^ 64 }
+    requires all { count ≡ length (joined_in 8 (bits source.now) fragments) }
+    ensures { IsGrown octets.old at octets.new result (joined_in 8 (bits source.now) fragments) }
+{
+    let joined = joined_of(source, fragments);
+    put_joined(octets, at, source, &joined, 0, count)
+}
