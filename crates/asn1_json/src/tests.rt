@@ -1,3 +1,4 @@
+use crate::decimal::minimal_of;
 use crate::parse::parse_value;
 use crate::print::print_value;
 use crate::tree::Tree;
@@ -58,4 +59,18 @@ fn a_value_is_printed_as_it_was_read(rt: HostRuntime) -> Result<(), Fail> {
     let text = str::from_utf8(octets.as_slice()).map_err(|_| "no text")?;
     assert!(rt; text == RECORD);
     Ok(())
+}
+
+/// X.690 8.3.2: the first nine bits are neither all 0 nor all 1.
+#[test]
+fn octets_of_a_number_are_minimal(rt: HostRuntime) {
+    for (octets, minimal) in [
+        ([0, 0, 1].as_slice(), [1].as_slice()),
+        ([0, 128].as_slice(), [0, 128].as_slice()),
+        ([255, 255, 128].as_slice(), [128].as_slice()),
+        ([255, 127].as_slice(), [255, 127].as_slice()),
+        ([0].as_slice(), [0].as_slice()),
+    ] {
+        assert!(rt; minimal_of(octets) == minimal);
+    }
 }

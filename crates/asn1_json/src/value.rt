@@ -3,7 +3,7 @@
 ghost use Rattle.std.specs.Prelude.{◌≡◌, ◌≤◌, ◌==◌, ◌||◌, ◌&&◌, nat_le};
 ghost use Rattle.std.specs.List.{list_all};
 
-use crate::decimal::octets_of_decimal;
+use crate::decimal::{minimal_of, octets_of_decimal};
 use crate::hexadecimal::octets_of_hex;
 use crate::identifiers::{append_dotted, append_relative};
 use crate::leaves::is_fixed;
@@ -74,7 +74,7 @@ impl<'a, 's, 't> Maker<'a, 's, 't> {
         let Some(octets) = octets_of_decimal(self.alloc, text)? else {
             return Err(expected(item, "a whole number"));
         };
-        let span = self.draft.add(octets.as_slice())?;
+        let span = self.draft.add(minimal_of(octets.as_slice()))?;
         match of {
             Node::Integer => Ok(Part::Signed(span)),
             Node::IntegerAtLeast { bound, .. } if bound.least == 0 && !text.starts_with('-') => {
