@@ -65,10 +65,12 @@ def function_at(place, known):
     raise Unfit("its function is not plain from its place: name it in a line `function:`")
 
 
-def in_cycles(text, file):
-    """The names of the functions of the text that are in a cycle of calls, which a line `#[cycle(NAME)]` above them says."""
-    heads = re.finditer(HEAD, text, re.M)
-    return {it for head in heads if re.search(r"^ *#\[cycle\(.*\n(?: *#\[.*\n)*\Z", text[: head.start()], re.M) for it in names_of(place_at(text, file, head))}
+def in_cycles(text, file, known):
+    """Which of the functions known to a check are functions of the text that are in a cycle of calls, as a line
+    `#[cycle(NAME)]` above each says."""
+    marked = r"^ *#\[cycle\(.*\n(?: *#\[.*\n)*\Z"
+    heads = [it for it in re.finditer(HEAD, text, re.M) if re.search(marked, text[: it.start()], re.M)]
+    return {function_at(place_at(text, file, it), known) for it in heads}
 
 
 def body_of(text, head):
