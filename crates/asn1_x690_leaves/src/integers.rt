@@ -17,7 +17,7 @@ use asn1_x691_fields::{is_below, is_between, signed_at};
 
 /// Returns whether octets are a number, and no fewer octets are it: there is one, or the first nine
 /// bits of several differ (X.690 8.3.2).
-pub(crate) fn is_minimal(octets: &[u8], span: Span) -> bool
+pub fn is_minimal(octets: &[u8], span: Span) -> bool
     requires size { 8 * length octets.now < 2 ^ 64 }
     requires contents { AreOctetsOf (bits octets.now) span }
     ensures yes { result ≡ true → IsInteger (signed_number (bits_of (bits octets.now) span)) (bits_of (bits octets.now) span) }

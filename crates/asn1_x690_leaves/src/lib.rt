@@ -17,7 +17,7 @@ pub use bit_strings::{are_bits_permitted, bit_string};
 pub use booleans::{boolean, null};
 pub use enumerations::enumerated;
 pub use identifiers::{object_identifier, relative_identifier};
-pub use integers::{integer, integer_at_least, integer_between};
+pub use integers::{integer, integer_at_least, integer_between, is_minimal};
 pub use sizes::has_size;
 pub use strings::{octet_string, utf8_string};
 pub use texts::text;

@@ -11,7 +11,8 @@ ghost use Rattle.asn1_x690_writers.specs.Put.{IsPut, LeftAt};
 ghost use Rattle.asn1_x691_writers.specs.Put.{IsFarInteger, piece_in};
 
 use asn1_schema::{Bounds, LowerBound, MisfitKind, Part};
-use asn1_x691_writers::{Held, Writer, integer_of, leave, put_wide, reject};
+use asn1_x690_leaves::is_minimal;
+use asn1_x691_writers::{Held, Writer, clip, integer_of, leave, put_bits, put_wide, reject};
 
 /// Returns a number, or how far it is below -1.
 fn magnitude_of(z: i128) -> u128
@@ -82,7 +83,37 @@ fn is_at_least(z: i128, bound: LowerBound, is_extensible: bool) -> bool
     z >= bound.least
 }
 
-/// Writes an INTEGER without a lower bound. The number must be from -2^127 to 2^127 - 1.
+/// Writes a number outside -2^127 to 2^127 - 1, if its octets of two's complement are in the source, in
+/// minimal length.
+fn put_far(
+    octets: &mut [u8],
+    source: &[u8],
+    part: Part,
+    node: usize,
+    state: &mut Writer,
+) -> bool
+    requires size { 8 * length octets.old < 2 ^ 64 }
+    requires source { 8 * length source.now < 2 ^ 64 }
+    requires far { (ranges : List Range) → IsFarInteger (piece_in ranges source.now part) }
+    ensures { (ranges : List Range) → IsPut (LeftAt (IsFarInteger (piece_in ranges source.now part)) node state.new) (leaf_of IsInteger always Integer node) (piece_in ranges source.now part)
+        octets.old state.old octets.new state.new result }
+{
+    let Part::Signed(span) = part else {
+        return leave(state, node);
+    };
+    let inside = clip(source, span);
+    if inside.count % 8 > 0 {
+        return leave(state, node);
+    }
+    if !is_minimal(source, inside) {
+        return leave(state, node);
+    }
+    state.at = put_bits(octets, state.at, source, inside.at, inside.count);
+    true
+}
+
+/// Writes an INTEGER without a lower bound. A number outside -2^127 to 2^127 - 1 is left unless its
+/// octets of two's complement are in the source, in minimal length.
 pub(crate) fn put_integer(
     octets: &mut [u8],
     source: &[u8],
@@ -101,8 +132,8 @@ pub(crate) fn put_integer(
             true
         }
         Held::Other => reject(state, node, MisfitKind::OtherPart),
-        Held::FarAbove => leave(state, node),
-        Held::FarBelow => leave(state, node),
+        Held::FarAbove => put_far(octets, source, part, node, state),
+        Held::FarBelow => put_far(octets, source, part, node, state),
     }
 }
 
