@@ -139,7 +139,7 @@ impl Certificate {
     }
 
     /// Encodes its parts, and returns the number of its octets.
-    fn encode_one(&self, parts: &[Part], octets: &mut [u8]) -> Result<usize, AllocError> {
+    fn encode_one<'x>(&'x self, parts: &'x [Part], octets: &mut [u8]) -> Result<usize, AllocError> {
         if parts.len() > ROOM || octets.len() > 1024 {
             return Err(AllocError);
         }
