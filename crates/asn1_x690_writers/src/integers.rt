@@ -85,13 +85,7 @@ fn is_at_least(z: i128, bound: LowerBound, is_extensible: bool) -> bool
 
 /// Writes a number outside -2^127 to 2^127 - 1, if its octets of two's complement are in the source, in
 /// minimal length.
-fn put_far(
-    octets: &mut [u8],
-    source: &[u8],
-    part: Part,
-    node: usize,
-    state: &mut Writer,
-) -> bool
+fn put_far(octets: &mut [u8], source: &[u8], part: Part, node: usize, state: &mut Writer) -> bool
     requires size { 8 * length octets.old < 2 ^ 64 }
     requires source { 8 * length source.now < 2 ^ 64 }
     requires far { (ranges : List Range) → IsFarInteger (piece_in ranges source.now part) }
