@@ -1,6 +1,7 @@
 use crate::names::{NameSpan, Names};
 use crate::path::Path;
-use asn1_schema::{Length, Member, Node, Part, Presence, Rows, Tables};
+use asn1_schema::{Length, Member, Node, Part, Presence, Range, Rows, Tables};
+use std::alloc::Global;
 use std::test::Fail;
 
 /// SEQUENCE { a BOOLEAN, list SEQUENCE OF CHOICE { x NULL, y BOOLEAN }, ..., added BOOLEAN }
@@ -83,38 +84,48 @@ const OPEN: [Part; 5] = [
     Part::Null,
 ];
 
-/// Returns whether the path after the first parts is this one.
-fn is_path(alloc: std::alloc::Global, parts: &[Part], expected: &str) -> Result<bool, Fail> {
-    let path = Path {
-        tables: Tables {
-            nodes: &NODES,
-            members: &MEMBERS,
-            ranges: &[],
-        },
-        names: Names {
-            text: &TEXT,
-            nodes: &[],
-            members: &NAMES,
-        },
-        node: 0,
-        parts,
-    };
+/// Returns whether a path is this one.
+fn is_path(alloc: Global, path: Path<'_>, expected: &str) -> Result<bool, Fail> {
     let text = format!(in alloc; "{path}")?;
     Ok(text.as_str() == expected)
+}
+
+/// Returns the path after parts.
+fn path_after<'x>(tables: Tables<'x>, names: Names<'x>, parts: &'x [Part]) -> Path<'x> {
+    Path {
+        tables,
+        names,
+        node: 0,
+        parts,
+    }
 }
 
 #[test]
 fn a_path_leads_to_what_follows_the_parts(rt: HostRuntime) -> Result<(), Fail> {
     let alloc = rt.alloc();
+    let (nodes, members, spans, text) = (NODES, MEMBERS, NAMES, TEXT);
+    let ranges: [Range; 0] = [];
+    let unnamed: [NameSpan; 0] = [];
+    let (whole, open) = (PARTS, OPEN);
+    let tables = Tables {
+        nodes: &nodes,
+        members: &members,
+        ranges: &ranges,
+    };
+    let names = Names {
+        text: &text,
+        nodes: &unnamed,
+        members: &spans,
+    };
     let expected = ["", "a", "list", "list[0]", "list[0].y", "", "added", ""];
     for (count, path) in expected.iter().enumerate() {
-        let parts = PARTS.get(..count).unwrap_or(&[]);
-        assert!(rt; is_path(alloc, parts, path)?);
+        let parts = whole.get(..count).ok_or("too few parts")?;
+        assert!(rt; is_path(alloc, path_after(tables, names, parts), path)?);
     }
     let expected = ["", "a", "list", "list[0]", "list[0].x", "list[1]"];
     for (count, path) in expected.iter().enumerate() {
-        let parts = OPEN.get(..count).unwrap_or(&[]);
-        assert!(rt; is_path(alloc, parts, path)?);
+        let parts = open.get(..count).ok_or("too few parts")?;
+        assert!(rt; is_path(alloc, path_after(tables, names, parts), path)?);
     }
     Ok(())
 }
