@@ -23,7 +23,7 @@ struct Json<'a, 't> {
 }
 
 impl<'a, 't> Json<'a, 't> {
-    /// Returns an error at an item: its place, the path to it, and what is wrong.
+    /// Returns an error at an item: its line and column, the path to it, and the problem.
     fn error_at<P: fmt::Display + Drop>(&self, item: usize, problem: P) -> Stop {
         Stop::input(self.words_at(item, problem))
     }
@@ -87,7 +87,7 @@ impl<'a, 't> Json<'a, 't> {
 ///
 /// # Errors
 ///
-/// Returns what is wrong, with the line, the column and the path.
+/// Returns the first problem, with its line and column and the path to the value.
 pub fn encode_json<'x>(
     encoder: &Encoder<'_>,
     name: &'x str,

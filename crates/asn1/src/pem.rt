@@ -56,7 +56,7 @@ fn line_of(octets: &[u8]) -> Line<'_> {
     }
 }
 
-/// Returns the octets of each block of a text. Other lines may stand between blocks.
+/// Returns the octets of each block of a text. Other lines may be between blocks.
 ///
 /// # Errors
 ///

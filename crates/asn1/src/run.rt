@@ -170,7 +170,7 @@ fn values_in<R: Runtime + AllocGlobal>(
     }
 }
 
-/// Returns in words what is wrong with an input of a form.
+/// Returns the text of a fault of an input, with its line and column.
 fn form_text(
     alloc: Global,
     name: &str,

@@ -135,7 +135,7 @@ fn octets_are_written_in_each_form(rt: HostRuntime) -> Result<(), Fail> {
         let written = written_as(rt.alloc(), form, "X", &[0xFB, 0xF0])?;
         assert!(rt; written.as_slice() == wanted);
     }
-    // 49 octets have 68 characters, of which 64 stand in the first line.
+    // 49 octets have 68 characters: 64 in the first line, and 4 in the second.
     let long = written_as(rt.alloc(), Form::Pem, "X", &[0; 49])?;
     assert!(rt; long.len() == 18 + 65 + 5 + 16);
     assert!(rt; long.as_slice().get(82..87) == Some(b"\nAA==".as_slice()));

@@ -135,7 +135,7 @@ impl Values {
         Ok(true)
     }
 
-    /// Appends the parts of the component in a row. Returns whether it is there, or may be absent.
+    /// Appends the parts of the component in a row. Returns whether it is present, or may be absent.
     #[cycle(values)]
     fn component(
         &mut self,

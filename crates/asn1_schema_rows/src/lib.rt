@@ -3,6 +3,7 @@
 //! No program but those of tests should use this crate.
 #![tactic(auto)]
 
+mod bounds;
 mod parts;
 mod tags;
 mod types;

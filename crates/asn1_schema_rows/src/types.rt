@@ -17,9 +17,10 @@
 //! additions. The values of an ENUMERATED are numbered from 0 on. The second alphabet of a text tells of
 //! which type it is.
 
+use crate::bounds::{integer_of, length_of};
 use crate::tags::{TagRows, universal_number};
-use asn1_schema::{Bounds, Length, LowerBound, Member, Node, Presence, Range, Rows, Span};
-use asn1_test_rows::{RowError, number, parse_word, wrong};
+use asn1_schema::{Length, Member, Node, Presence, Range, Rows, Span};
+use asn1_test_rows::{RowError, parse_word, wrong};
 use std::alloc::Global;
 
 /// The tables of a type.
@@ -355,51 +356,4 @@ fn read_counted(
         }
         _ => Err(wrong(alloc, name, "type")),
     }
-}
-
-/// Returns the INTEGER of bounds, as `0..7` or `0..`.
-fn integer_of(alloc: Global, text: &str, is_extensible: bool) -> Result<Node, RowError> {
-    let Some((least, greatest)) = text.split_once("..") else {
-        return Err(wrong(alloc, text, "bounds"));
-    };
-    let least = number(alloc, least)?;
-    if greatest.is_empty() {
-        return Ok(Node::IntegerAtLeast {
-            bound: LowerBound { least },
-            is_extensible,
-        });
-    }
-    match bounds_of(least, number(alloc, greatest)?) {
-        Some(bounds) => Ok(Node::IntegerBetween {
-            bounds,
-            is_extensible,
-        }),
-        None => Err(wrong(alloc, text, "bounds")),
-    }
-}
-
-/// Returns the bounds of two numbers, where the second is not below the first.
-fn bounds_of(least: i128, greatest: i128) -> Option<Bounds> {
-    if greatest < least {
-        return None;
-    }
-    let range = greatest.abs_diff(least);
-    Some(Bounds { least, range })
-}
-
-/// Returns the size of bounds, as `1..4` or `0..`.
-fn length_of(alloc: Global, text: &str) -> Result<Length, RowError> {
-    let Some((least, greatest)) = text.split_once("..") else {
-        return Err(wrong(alloc, text, "size"));
-    };
-    if greatest.is_empty() {
-        let least = parse_word::<usize>(alloc, least)?;
-        return Ok(Length::AtLeast { least });
-    }
-    let least = parse_word::<u32>(alloc, least)?;
-    let greatest = parse_word::<u32>(alloc, greatest)?;
-    Ok(Length::Between {
-        least,
-        range: greatest.saturating_sub(least),
-    })
 }
