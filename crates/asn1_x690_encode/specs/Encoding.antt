@@ -234,7 +234,7 @@ pub record IsPartLeft (c : Context) (node next : ℕ) : Type 0 where
   pub type : HasType c node kind tags
   pub part : Part
   pub is : slice_get c.parts.now next ≡ Some part
-  pub left : IsLeftOut kind part (piece_in c.tables.ranges.now c.source.now part) ⊎ ((tags.is_any ≡ true) × IsInFragments part)
+  pub left : IsLeftOut c.source.now kind part (piece_in c.tables.ranges.now c.source.now part) ⊎ ((tags.is_any ≡ true) × IsInFragments part)
 
 -- the next parts are contents of the type at the node, of nearly 2^61 octets
 pub record IsLong (c : Context) (node next : ℕ) : Type 0 where

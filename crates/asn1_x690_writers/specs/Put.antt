@@ -1,12 +1,18 @@
 -- What a call that writes a part did: it wrote the contents octets of the part, or it names the misfit.
-use Rattle.std.specs.Prelude.{◌≡◌, ℕ, ◌%◌, ◌^◌, ◌≤◌, ◌⊎◌, Bool, true, false, List, [], ◌∷◌, length}
+use Rattle.std.specs.Prelude.{◌≡◌, ℕ, ℤ, ◌%◌, ◌^◌, ◌≤◌, ◌⊎◌, Bool, true, false, List, [], ◌∷◌, length}
 use Rattle.asn1_schema.specs.declared.misfit.MisfitKind.{MisfitKind}
+use Rattle.asn1_bits.specs.Bits.{bits}
+use Rattle.asn1_schema.specs.declared.part.Part.{Part}
+use Rattle.asn1_schema.specs.declared.part.Part.TheVariants.{Signed}
+use Rattle.asn1_schema.specs.declared.part.Span.{Span}
 use Rattle.asn1_schema.specs.Pieces.{Piece, Parts, Octets}
+use Rattle.asn1_schema.specs.PiecesOfParts.{bits_of}
+use Rattle.asn1_x690.specs.Leaves.{IsInteger}
 use Rattle.asn1_x690.specs.declared.fault.FaultKind.{FaultKind}
 use Rattle.asn1_x690.specs.TypeContents.{TypeContents}
 use Rattle.asn1_x691_writers.specs.declared.state.Writer.{Writer}
 use Rattle.asn1_x691_writers.specs.declared.state.Rejection.TheVariants.{Misfit, Unsupported}
-use Rattle.asn1_x691_writers.specs.Put.{IsUnchanged}
+use Rattle.asn1_x691_writers.specs.Put.{IsFarInteger, IsUnchanged}
 use Rattle.asn1_x691_writers.specs.Written.{IsGrown}
 
 -- whole octets that the part fills were written
@@ -22,6 +28,11 @@ pub record IsMisfit (F : TypeContents FaultKind) (p : Piece) (new : Writer) : Ty
   pub kind : MisfitKind
   pub reason : new.reason ≡ Misfit kind
   pub first : (rest : Parts) → F.misfit (p ∷ rest) (record { node = new.node; left = length (p ∷ rest); kind = kind })
+
+-- a number outside -2^127 to 2^127 - 1, and the part does not have its minimal octets of two's complement
+pub record IsFarWithout (source : List ℕ) (part : Part) (p : Piece) : Type 0 where
+  pub far : IsFarInteger p
+  pub without : (s : Span) → part ≡ Signed s → (n : ℤ) → IsInteger n (bits_of (bits source) s) → ⊥
 
 -- octets of 2^64 bits and more, which only fragments over one another have
 abbrev pub AreTooMany : Piece → Type 0

@@ -7,7 +7,7 @@ ghost use Rattle.asn1_schema.specs.Pieces.{Integer};
 ghost use Rattle.asn1_x690.specs.Der.{always};
 ghost use Rattle.asn1_x690.specs.Leaves.{IsAtLeast, IsBetween, IsInteger, leaf_of};
 ghost use Rattle.asn1_x690_writers.specs.Numbers.{IsNumberWritten, mag_of};
-ghost use Rattle.asn1_x690_writers.specs.Put.{IsPut, LeftAt};
+ghost use Rattle.asn1_x690_writers.specs.Put.{IsFarWithout, IsPut, LeftAt};
 ghost use Rattle.asn1_x691_writers.specs.Put.{IsFarInteger, piece_in};
 
 use asn1_schema::{Bounds, LowerBound, MisfitKind, Part};
@@ -89,7 +89,7 @@ fn put_far(octets: &mut [u8], source: &[u8], part: Part, node: usize, state: &mu
     requires size { 8 * length octets.old < 2 ^ 64 }
     requires source { 8 * length source.now < 2 ^ 64 }
     requires far { (ranges : List Range) → IsFarInteger (piece_in ranges source.now part) }
-    ensures { (ranges : List Range) → IsPut (LeftAt (IsFarInteger (piece_in ranges source.now part)) node state.new) (leaf_of IsInteger always Integer node) (piece_in ranges source.now part)
+    ensures { (ranges : List Range) → IsPut (LeftAt (IsFarWithout source.now part (piece_in ranges source.now part)) node state.new) (leaf_of IsInteger always Integer node) (piece_in ranges source.now part)
         octets.old state.old octets.new state.new result }
 {
     let Part::Signed(span) = part else {
@@ -117,7 +117,7 @@ pub(crate) fn put_integer(
 ) -> bool
     requires size { 8 * length octets.old < 2 ^ 64 }
     requires source { 8 * length source.now < 2 ^ 64 }
-    ensures { (ranges : List Range) → IsPut (LeftAt (IsFarInteger (piece_in ranges source.now part)) node state.new) (leaf_of IsInteger always Integer node) (piece_in ranges source.now part)
+    ensures { (ranges : List Range) → IsPut (LeftAt (IsFarWithout source.now part (piece_in ranges source.now part)) node state.new) (leaf_of IsInteger always Integer node) (piece_in ranges source.now part)
         octets.old state.old octets.new state.new result }
 {
     match integer_of(source, part) {

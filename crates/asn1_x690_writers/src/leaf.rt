@@ -29,7 +29,7 @@ pub fn put_leaf(
 ) -> bool
     requires size { 8 * length octets.old < 2 ^ 64 }
     requires source { 8 * length source.now < 2 ^ 64 }
-    ensures { IsPut (LeftAt (IsLeftOut kind part (piece_in ranges.now source.now part)) node state.new) (leaf_in ranges.now numbers.now node tags kind)
+    ensures { IsPut (LeftAt (IsLeftOut source.now kind part (piece_in ranges.now source.now part)) node state.new) (leaf_in ranges.now numbers.now node tags kind)
         (piece_in ranges.now source.now part) octets.old state.old octets.new state.new result }
 {
     match kind {

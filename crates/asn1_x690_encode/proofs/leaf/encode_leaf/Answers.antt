@@ -16,7 +16,7 @@ returns-in-Some c =
     let p = c.in-Some.part in
     let F = leaf_in cx.tables.ranges.now cx.tags.numbers.now a.node a.types a.kind in
     let k = c.put_leaf in
-    let L = LeftAt (IsLeftOut a.kind p (piece_in cx.tables.ranges.now cx.source.now p)) a.node k.new.state in
+    let L = LeftAt (IsLeftOut cx.source.now a.kind p (piece_in cx.tables.ranges.now cx.source.now p)) a.node k.new.state in
     let e = c.pass.ensures in
     after_put cx F L p a.octets.now k.new.octets a.state.now k.new.state c.pass.new.state (sym c.in-Some.ensures) e.at e.node e.reason
     (λ l reason next. inr (inl (
@@ -51,5 +51,5 @@ pass-requires c e =
     let F = leaf_in cx.tables.ranges.now cx.tags.numbers.now a.node a.types a.kind in
     let q = piece_in cx.tables.ranges.now cx.source.now p in
     let k = c.put_leaf in
-    next_fits cx F (LeftAt (IsLeftOut a.kind p q) a.node k.new.state) p q a.octets.now k.new.octets a.state.now k.new.state k.result (sym c.in-Some.ensures)
+    next_fits cx F (LeftAt (IsLeftOut cx.source.now a.kind p q) a.node k.new.state) p q a.octets.now k.new.octets a.state.now k.new.state k.result (sym c.in-Some.ensures)
     c.requires.parts k.ensures e
