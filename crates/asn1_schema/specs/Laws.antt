@@ -10,6 +10,7 @@ pub mod ByStructure
 pub mod OneEncodingLaws
 pub mod PermittedLaws
 pub mod PhaseLaws
+pub mod NumberLaws
 pub mod OrderLaws
 pub mod NarrowLaws
 pub mod EachLaws

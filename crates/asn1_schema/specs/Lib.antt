@@ -2,6 +2,8 @@
 pub mod Encodings
 pub mod Order
 pub mod Pieces
+pub mod Times
+pub mod Reals
 pub mod CharactersOfParts
 pub mod PiecesOfParts
 pub mod Room

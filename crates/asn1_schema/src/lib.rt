@@ -7,12 +7,18 @@
 
 mod laws;
 mod misfit;
+mod number_source;
 mod part;
+mod reals;
 mod room;
 mod tables;
+mod times;
 
 pub use laws::laws_of_an_example;
 pub use misfit::MisfitKind;
+pub use number_source::NumberSource;
 pub use part::{Characters, Codes, Fragments, Natural, Part, Span};
+pub use reals::is_real;
 pub use room::{push_part, replace_part};
-pub use tables::{Bounds, Length, LowerBound, Member, Node, Presence, Range, Rows, Tables};
+pub use tables::{Bounds, Length, LowerBound, Member, Node, Presence, Range, Rows, Tables, TimeKind};
+pub use times::is_time;

@@ -45,6 +45,15 @@ pub struct LowerBound {
     pub least: i128,
 }
 
+/// The types of times.
+#[derive(Clone, Copy, Debug, PartialEq, Eq)]
+pub enum TimeKind {
+    /// UTCTime (X.680 47).
+    Utc,
+    /// GeneralizedTime (X.680 46).
+    Generalized,
+}
+
 /// A type.
 #[derive(Clone, Copy, Debug)]
 pub enum Node {
@@ -99,8 +108,15 @@ pub enum Node {
     RelativeIdentifier,
     /// UTF8String.
     Utf8String,
+    /// REAL.
+    Real,
+    /// UTCTime or GeneralizedTime.
+    Time {
+        /// Which of them.
+        kind: TimeKind,
+    },
     /// A string of characters whose alphabet is known: NumericString, PrintableString, VisibleString,
-    /// IA5String, BMPString or UniversalString. UTCTime and GeneralizedTime are VisibleStrings.
+    /// IA5String, BMPString or UniversalString.
     Text {
         /// How many characters it may have.
         length: Length,

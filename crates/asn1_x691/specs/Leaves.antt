@@ -60,6 +60,10 @@ abbrev pub AreAddedOctets : Length → Piece → Type 0
 AreAddedOctets size (Octets bits) = AreAdded 8 size bits
 AreAddedOctets size p = ⊥
 
+-- the characters of a VisibleString (X.680 41)
+abbrev pub visible : List Range
+visible = record { first = 32; last = 126 } ∷ []
+
 -- bits that have names: those after the last 1 are as few as the size permits (16.2, 16.3)
 abbrev pub EndsInOne : List Bool → Type 0
 EndsInOne bits = (front : List Bool) × (bits ≡ front ++ true ∷ [])
@@ -135,6 +139,10 @@ module _ (most : ℕ) (aligned : Bool) (node : ℕ) where
   text size is_extensible ranges whole =
       string_by aligned node is_extensible (text_of most aligned ranges node size) (added_text most aligned whole node size) Text (IsAddedText size)
 
-  -- octets that are valid, after their number (24, 25, 30.6)
+  -- octets that are valid, after their number (15, 24, 25, 30.6)
   abbrev pub contents : (List Bool → Type 0) → ℕ → TypeEncoding FaultKind
   contents Valid = leaf (permitted Valid (λ list. ¬ (Valid list)) Contents node (octets most aligned node)) Octets node
+
+  -- a VisibleString that is a time (30, X.680 46.3, 47.3)
+  abbrev pub time : (List ℕ → Type 0) → ℕ → TypeEncoding FaultKind
+  time Valid = leaf (permitted Valid (λ text. ¬ (Valid text)) Contents node (text_of most aligned visible node (AtLeast 0))) Text node

@@ -13,6 +13,8 @@ use Rattle.asn1_schema.specs.declared.tables.Node.TheVariants as type
 use Rattle.asn1_schema.specs.declared.misfit.MisfitKind.TheVariants as misfit
 use Rattle.asn1_schema.specs.Pieces.{Piece, Parts, Null, Truth, Sequence, Count, Chosen, Additions, Unknown, UnknownChosen}
 use Rattle.asn1_schema.specs.Order.{IsBefore}
+use Rattle.asn1_schema.specs.Times.{IsTime}
+use Rattle.asn1_schema.specs.Reals.{IsReal}
 use Rattle.asn1_schema.specs.Encodings.{Encoding, invalid, anywhere, permitted}
 use Rattle.asn1_schema.specs.Fields.{raw_bits}
 use Rattle.asn1_schema.specs.TypeEncodings.{TypeEncoding, AfterHeader, nothing, invalid_type, several, several_by_bits, part, leaf, put, header, end_of_components, mandatory, optional, both, except_type, only_where}
@@ -24,7 +26,7 @@ use Rattle.asn1_x691.specs.Strings.{bit, IsOfRoot, IsAddedSize}
 use Rattle.asn1_x691.specs.Limits.{Limits, IsOffOctet}
 use Rattle.asn1_x691.specs.OpenTypes.{open_type}
 use Rattle.asn1_x691.specs.Contents.{IsObjectIdentifier, IsRelativeIdentifier, IsUtf8Text}
-use Rattle.asn1_x691.specs.Leaves.{by_extension_bit, integer_between_by, integer_at_least_by, integer, enumerated_by, bit_string, octet_string, text, contents}
+use Rattle.asn1_x691.specs.Leaves.{by_extension_bit, integer_between_by, integer_at_least_by, integer, enumerated_by, bit_string, octet_string, text, contents, time}
 
 -- a type that the tables have not
 abbrev pub no_node : ℕ → ℕ → TypeEncoding FaultKind
@@ -244,6 +246,8 @@ module _ (limits : Limits) (aligned : Bool) (E : ℕ → ℕ → TypeEncoding Fa
   type_of (Some type.ObjectIdentifier) = contents limits.fragments aligned node IsObjectIdentifier
   type_of (Some type.RelativeIdentifier) = contents limits.fragments aligned node IsRelativeIdentifier
   type_of (Some type.Utf8String) = contents limits.fragments aligned node IsUtf8Text
+  type_of (Some type.Real) = contents limits.fragments aligned node IsReal
+  type_of (Some (type.Time kind)) = time limits.fragments aligned node (IsTime kind)
   type_of (Some (type.Sequence root is_extensible known)) = sequence_by is_extensible root known
   type_of (Some (type.SequenceOf size is_extensible item)) = sequence_of_by is_extensible false size item
   type_of (Some (type.SetOf size is_extensible item)) = sequence_of_by is_extensible true size item

@@ -21,7 +21,7 @@ use asn1_x691::FaultKind;
 use asn1_x691_fields::{
     State, fail, next_bit, next_bit_string, next_enumerated, next_integer,
     next_integer_at_least_by, next_integer_between_by, next_object_identifier, next_octet_string,
-    next_relative_identifier, next_text, next_utf8_string,
+    next_real, next_relative_identifier, next_text, next_time, next_utf8_string,
 };
 
 /// Returns the type at a node.
@@ -295,6 +295,16 @@ pub(crate) fn decode_node(
         ),
         Some(Node::Utf8String) => keep(
             next_utf8_string(context.octets, context.is_aligned, node, state),
+            parts,
+            state,
+        ),
+        Some(Node::Real) => keep(
+            next_real(context.octets, context.is_aligned, node, state),
+            parts,
+            state,
+        ),
+        Some(Node::Time { kind }) => keep(
+            next_time(context.octets, context.is_aligned, kind, node, state),
             parts,
             state,
         ),

@@ -157,11 +157,12 @@ pub record IsFragmented (c : Context) (next : ℕ) : Type 0 where
   pub is : slice_get c.parts.now next ≡ Some part
   pub in_fragments : IsInFragments part
 
--- identifiers and UTF-8 in fragments
+-- REAL, identifiers and UTF-8 in fragments
 abbrev pub IsLater : Context → ℕ → Option Node → Type 0
 IsLater c next (Some type.ObjectIdentifier) = IsFragmented c next
 IsLater c next (Some type.RelativeIdentifier) = IsFragmented c next
 IsLater c next (Some type.Utf8String) = IsFragmented c next
+IsLater c next (Some type.Real) = IsFragmented c next
 IsLater c next o = ⊥
 
 -- the type of octets of a kind
@@ -169,6 +170,7 @@ abbrev pub node_of : ContentsKind → Node
 node_of kind.ObjectIdentifier = type.ObjectIdentifier
 node_of kind.RelativeIdentifier = type.RelativeIdentifier
 node_of kind.Utf8 = type.Utf8String
+node_of kind.Real = type.Real
 
 -- an unknown alternative of an index from 2^128 on
 abbrev pub IsFarAlternative : Piece → Type 0

@@ -13,7 +13,7 @@ use crate::leaves::{
 use crate::list::encode_list_by;
 use crate::open_type::encode_open_type;
 use crate::sequence::{encode_extensible_sequence, encode_sequence};
-use crate::texts::encode_text;
+use crate::texts::{encode_text, encode_time};
 use asn1_schema::{MisfitKind, Node, Presence};
 use asn1_x691_writers::{ContentsKind, Writer, reject};
 
@@ -140,6 +140,8 @@ pub fn encode_node(
         Some(Node::Utf8String) => {
             encode_contents(context, ContentsKind::Utf8, node, octets, state)
         }
+        Some(Node::Real) => encode_contents(context, ContentsKind::Real, node, octets, state),
+        Some(Node::Time { kind }) => encode_time(context, kind, node, octets, state),
         Some(
             Node::Sequence {
                 root,

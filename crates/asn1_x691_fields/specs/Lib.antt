@@ -2,6 +2,7 @@
 pub mod Outcomes
 pub mod Numbers
 pub mod Characters
+pub mod NumberSources
 pub mod Octets
 pub mod Defaults
 -- What follows from steps of a decoder; no contract cites these.

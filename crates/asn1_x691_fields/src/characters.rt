@@ -82,6 +82,7 @@ pub(crate) fn next_characters(
     requires alphabet { IsAlphabet alphabet.now }
     requires within { IsWithin (bits octets.now) state.old }
     ensures onward { IsOnward (bits octets.now) state.old state.new }
+    ensures inside { IfSome result (λ at. at + alphabet.now.width * count ≤ 8 * length octets.now) }
     ensures read { IsRead (characters alphabet.now.is_aligned alphabet.now.ranges.now node count)
         (λ at. characters_at alphabet.now (bits octets.now) at count) (bits octets.now) state.old state.new result }
 {

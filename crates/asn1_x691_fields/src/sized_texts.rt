@@ -1,6 +1,6 @@
 //! Strings of characters by their size constraint (X.691 30.4 to 30.5.7).
 
-ghost use Rattle.std.specs.Prelude.{◌≡◌, ◌≤◌, ◌<◌, ◌^◌, ◌*◌, ◌+◌, ◌++◌, true, false, length};
+ghost use Rattle.std.specs.Prelude.{◌≡◌, ◌≤◌, ◌<◌, ◌^◌, ◌*◌, ◌+◌, ◌++◌, true, false, length, IfSome};
 ghost use Rattle.asn1_bits.specs.Bits.{bits};
 ghost use Rattle.asn1_schema.specs.declared.tables.Length.TheVariants as size;
 ghost use Rattle.asn1_x691.specs.Characters.{characters, sized_characters, sized_text, text_of, added_text, IsInlineText, IsOnOctetText};
@@ -62,6 +62,7 @@ fn next_counted_characters(
     requires within { IsWithin (bits octets.now) state.old }
     requires placed { IsPlaced alphabet.now.is_aligned state.old }
     ensures onward { IsOnward (bits octets.now) state.old state.new }
+    ensures inside { IfSome result (λ p. p.1 + alphabet.now.width * p.0 ≤ 8 * length octets.now) }
     ensures read { IsRead (all_units (characters alphabet.now.is_aligned alphabet.now.ranges.now node) (λ a b. a ++ b)
         alphabet.now.is_aligned node 0) (λ p. (p.0, characters_at alphabet.now (bits octets.now) p.1 p.0))
         (bits octets.now) state.old state.new result }
@@ -76,7 +77,7 @@ fn next_counted_characters(
 }
 
 /// Reads characters after their number, which is not below the least (X.691 30.5.7).
-fn next_long_text(
+pub(crate) fn next_long_text(
     octets: &[u8],
     alphabet: &Alphabet<'_>,
     least: usize,
@@ -88,6 +89,7 @@ fn next_long_text(
     requires within { IsWithin (bits octets.now) state.old }
     requires placed { IsPlaced alphabet.now.is_aligned state.old }
     ensures onward { IsOnward (bits octets.now) state.old state.new }
+    ensures inside { IfSome result (λ p. p.1 + alphabet.now.width * p.0 ≤ 8 * length octets.now) }
     ensures read { IsRead (text_of 0 alphabet.now.is_aligned alphabet.now.ranges.now node (size.AtLeast least))
         (λ p. characters_at alphabet.now (bits octets.now) p.1 p.0) (bits octets.now) state.old state.new result }
 {

@@ -3,7 +3,7 @@ use Rattle.std.proofs.Common.{◌≡◌, ℕ, ◌*◌, ◌%◌, List, Bool, leng
 use Rattle.asn1_bits.specs.Bits.{bits}
 use Rattle.asn1_bits.specs.DigitLaws.{length-bits}
 use Rattle.asn1_x691_writers.specs.declared.contents.ContentsKind.{ContentsKind}
-use Rattle.asn1_x691_writers.specs.declared.contents.ContentsKind.TheVariants.{ObjectIdentifier, RelativeIdentifier, Utf8}
+use Rattle.asn1_x691_writers.specs.declared.contents.ContentsKind.TheVariants.{ObjectIdentifier, RelativeIdentifier, Utf8, Real}
 use Rattle.asn1_x691_writers.specs.Validity.{IsValid}
 
 whole : (list : List Bool) (octets : List ℕ) → list ≡ bits octets → length list % 8 ≡ 0
@@ -13,3 +13,4 @@ pub valid_whole : (kind : ContentsKind) (list : List Bool) → IsValid kind list
 valid_whole ObjectIdentifier list v = whole list v.1 v.3
 valid_whole RelativeIdentifier list v = whole list v.1 v.4
 valid_whole Utf8 list v = whole list v.0 v.2
+valid_whole Real list v = whole list v.0 v.3

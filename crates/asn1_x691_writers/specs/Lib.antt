@@ -6,6 +6,7 @@ pub mod Held
 pub mod Enclosed
 pub mod Validity
 pub mod Texts
+pub mod PartCharacters
 pub mod Joined
 -- What follows of what calls wrote; no contract cites it.
 pub mod DigitSteps

@@ -16,7 +16,7 @@ use crate::bits::{put_wide, read_few};
 use crate::held::strip_zeros;
 use crate::spans::clip;
 use asn1_bits::read_wide;
-use asn1_schema::{Characters, Codes, Range, Span};
+use asn1_schema::{Characters, Codes, NumberSource, Range, Span};
 use asn1_x691_fields::{Alphabet, character_at, code_of, is_in, ranges_in};
 
 /// Returns the number of `width` bits of a source, or 2^128 - 1 where it is greater. Bits past the
@@ -92,6 +92,46 @@ pub(crate) fn split_characters(text: Characters, count: usize) -> (Characters, C
         codes: text.codes,
     };
     (first, others)
+}
+
+/// The characters of a part.
+#[derive(Clone, Copy, Debug)]
+pub(crate) struct PartCharacters<'s> {
+    source: &'s [u8],
+    table: &'s [Range],
+    text: Characters,
+    ghost size: { 8 * length source.now < 2 ^ 64 },
+}
+
+impl<'s> PartCharacters<'s> {
+    ghost use Rattle.asn1_x691_writers.specs.PartCharacters.{characters_in};
+
+    /// Returns the characters of a part.
+    pub(crate) fn new(source: &'s [u8], table: &'s [Range], text: Characters) -> Self
+        requires { 8 * length source.now < 2 ^ 64 }
+        ensures { characters_in result ≡ characters_of table.now (bits source.now) text }
+    {
+        PartCharacters {
+            source,
+            table,
+            text,
+        }
+    }
+}
+
+impl NumberSource for PartCharacters<'_> {
+    ghost use Rattle.asn1_x691_writers.specs.PartCharacters.{characters_in};
+
+    ghost list = { characters_in };
+
+    fn count(&self) -> usize {
+        self.text.count
+    }
+
+    fn number(&self, index: usize) -> u64 {
+        let (_, others) = split_characters(self.text, index);
+        first_character(self.source, self.table, others)
+    }
 }
 
 /// Returns whether all characters of a part are in an alphabet.

@@ -1,4 +1,4 @@
-//! Octets that are kept by their contents: identifiers and UTF-8 (X.691 24, 25, 30.6).
+//! Octets that are kept by their contents: REAL, identifiers and UTF-8 (X.691 15, 24, 25, 30.6).
 
 ghost use Rattle.asn1_x691.specs.Fragments.{most_fragments};
 ghost use Rattle.std.specs.Prelude.{◌≡◌, ◌+◌, ◌*◌, ◌%◌, ◌^◌, ◌<◌, ◌≤◌, true, false, length, List};
@@ -13,7 +13,7 @@ use crate::spans::clip;
 use crate::state::{Writer, leave, reject};
 use crate::unknown::put_octets;
 use asn1_schema::{MisfitKind, Part, Span};
-use asn1_x691_fields::{are_subidentifiers, is_utf8};
+use asn1_x691_fields::{are_subidentifiers, is_real_at, is_utf8};
 
 /// What octets hold.
 #[derive(Clone, Copy, Debug, PartialEq, Eq)]
@@ -24,6 +24,8 @@ pub enum ContentsKind {
     RelativeIdentifier,
     /// UTF-8 (X.690 8.23.10).
     Utf8,
+    /// The contents octets of a REAL (X.690 8.5, 11.3).
+    Real,
 }
 
 /// Writes octets of this kind after their number. The part must not be one in fragments: its octets
@@ -79,5 +81,6 @@ pub fn is_valid(kind: ContentsKind, source: &[u8], span: Span) -> bool
         ContentsKind::ObjectIdentifier => are_subidentifiers(source, span),
         ContentsKind::RelativeIdentifier => are_subidentifiers(source, span),
         ContentsKind::Utf8 => is_utf8(source, span),
+        ContentsKind::Real => is_real_at(source, span),
     }
 }

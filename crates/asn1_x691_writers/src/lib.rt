@@ -34,6 +34,7 @@ mod spans;
 mod state;
 mod strings;
 mod texts;
+mod times;
 mod unbounded;
 mod unknown;
 
@@ -57,6 +58,7 @@ pub use spans::clip;
 pub use state::{Rejection, Writer, leave, reject};
 pub use strings::put_units;
 pub use texts::put_text;
+pub use times::{is_time_in, put_time};
 pub use unbounded::{
     put_semi_constrained, put_semi_constrained_span, put_small_number, put_unconstrained,
     put_unconstrained_span,

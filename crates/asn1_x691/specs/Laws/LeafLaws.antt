@@ -2,6 +2,7 @@
 use Rattle.std.proofs.Common.{length, ◌≡◌, ℕ, ℤ, nat_lt, Bool, true, false, List, arith}
 use Rattle.std.specs.Int.Signed.{clash_ℤ, ◌<ℤ◌, ◌≤ℤ◌}
 use Rattle.asn1_schema.specs.declared.tables.Length.{Length}
+use Rattle.asn1_schema.specs.declared.tables.Length.TheVariants.{AtLeast}
 use Rattle.asn1_schema.specs.Pieces.{Piece, Absent, Integer, Enumerated, Bits, Octets, Text}
 use Rattle.asn1_schema.specs.Encodings.{Encoding, EncodesOne, permitted}
 use Rattle.asn1_schema.specs.TypeEncodings.{TypeEncoding, leaf}
@@ -13,7 +14,7 @@ use Rattle.asn1_x691.specs.declared.fault.FaultKind.TheVariants.{InRoot, NotTrim
 use Rattle.asn1_x691.specs.Fields.{constrained, semi_constrained, unconstrained, small_number}
 use Rattle.asn1_x691.specs.Fragments.{octets}
 use Rattle.asn1_x691.specs.Strings.{string_of, added_string}
-use Rattle.asn1_x691.specs.Leaves.{from_least, IsBetween, IsOutside, IsAddedInteger, value_of_addition, IsAddedValue, AreAddedBits, AreAddedOctets, AreTrimmed, integer_between, integer_at_least, integer, extensible_integer, integer_between_by, integer_at_least_by, enumerated, enumerated_by, string_by, bits_by, bit_string, octet_string, text, contents}
+use Rattle.asn1_x691.specs.Leaves.{from_least, IsBetween, IsOutside, IsAddedInteger, value_of_addition, IsAddedValue, AreAddedBits, AreAddedOctets, AreTrimmed, integer_between, integer_at_least, integer, extensible_integer, integer_between_by, integer_at_least_by, enumerated, enumerated_by, string_by, bits_by, bit_string, octet_string, text, contents, visible, time}
 use Rattle.asn1_x691.specs.Laws.FieldLaws.{constrained_sound, semi_constrained_sound, unconstrained_sound, small_number_sound}
 use Rattle.asn1_x691.specs.Laws.OneEncodingLaws.{constrained_one}
 use Rattle.asn1_x691.specs.Laws.NumberLaws.{semi_constrained_one, unconstrained_one, small_number_one}
@@ -170,6 +171,14 @@ module _ (most : ℕ) (aligned : Bool) (node : ℕ) where
       leaf_type (permitted Valid (λ list. ¬ (Valid list)) Contents node (octets most aligned node)) Octets node
       (permitted_sound Valid (λ list. ¬ (Valid list)) Contents node (octets most aligned node) (λ x p q. q p) (octets_sound most aligned node))
       (permitted_one Valid (λ list. ¬ (Valid list)) Contents node (octets most aligned node) (octets_one most aligned node)) octets_alike
+      (λ x p. cc)
+
+  pub time_type : (Valid : List ℕ → Type 0) → IsType (time most aligned node Valid)
+  time_type Valid =
+      let A = text_of most aligned visible node (AtLeast 0) in
+      leaf_type (permitted Valid (λ text. ¬ (Valid text)) Contents node A) Text node
+      (permitted_sound Valid (λ text. ¬ (Valid text)) Contents node A (λ x p q. q p) (text_of_sound aligned visible node most (AtLeast 0)))
+      (permitted_one Valid (λ text. ¬ (Valid text)) Contents node A (text_of_one aligned visible node most (AtLeast 0))) text_alike
       (λ x p. cc)
 
   pub text_type : (size : Length) (b : Bool) (ranges whole : List Range) → IsType (text most aligned node size b ranges whole)

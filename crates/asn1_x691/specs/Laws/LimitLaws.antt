@@ -15,7 +15,7 @@ use Rattle.asn1_x691.specs.Strings.{bit, where_size, string_where, sized_string,
 use Rattle.asn1_x691.specs.Characters.{characters, sized_text, text_where, text_of, added_text, IsAddedText}
 use Rattle.asn1_x691.specs.OpenTypes.{padding, complete, enclosing, open_type}
 use Rattle.asn1_x691.specs.Limits.{IsNoLimit}
-use Rattle.asn1_x691.specs.Leaves.{by_extension_bit, AreAddedBits, AreAddedOctets, AreTrimmed, string_by, bits_by, bit_string, octet_string, text, contents}
+use Rattle.asn1_x691.specs.Leaves.{by_extension_bit, AreAddedBits, AreAddedOctets, AreTrimmed, string_by, bits_by, bit_string, octet_string, text, contents, visible, time}
 
 abbrev pub Narrow : {X : Type 0} → (ℕ → Encoding FaultKind X) → (ℕ → Encoding FaultKind X) → Type 0
 Narrow A B = AreNarrow IsNoLimit A B
@@ -177,6 +177,14 @@ module _ (most more : ℕ) (h : most ≤ more) (aligned : Bool) (node : ℕ) whe
       let B = permitted Valid (λ list. ¬ (Valid list)) Contents node (octets more aligned node) in
       leaf_narrow IsNoLimit A B Octets node
       (permitted_narrow IsNoLimit Valid (λ list. ¬ (Valid list)) Contents node (octets most aligned node) (octets more aligned node) octets_narrow)
+
+  pub time_narrow : (Valid : List ℕ → Type 0) → NarrowTypes (time most aligned node Valid) (time more aligned node Valid)
+  time_narrow Valid =
+      let A = text_of most aligned visible node (AtLeast 0) in
+      let B = text_of more aligned visible node (AtLeast 0) in
+      leaf_narrow IsNoLimit (permitted Valid (λ text. ¬ (Valid text)) Contents node A)
+      (permitted Valid (λ text. ¬ (Valid text)) Contents node B) Text node
+      (permitted_narrow IsNoLimit Valid (λ text. ¬ (Valid text)) Contents node A B (text_of_narrow visible (AtLeast 0)))
 
   pub unknown_narrow : NarrowTypes (leaf (octets most aligned node) Unknown node) (leaf (octets more aligned node) Unknown node)
   unknown_narrow = leaf_narrow IsNoLimit (octets most aligned node) (octets more aligned node) Unknown node octets_narrow

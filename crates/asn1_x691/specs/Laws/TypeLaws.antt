@@ -19,6 +19,8 @@ use Rattle.asn1_schema.specs.Laws.WritingLaws.{IsPresent}
 use Rattle.asn1_schema.specs.Laws.TypeLaws.{IsGoodEverywhere, nothing_good, invalid_type_good, part_good, except_type_good, except_type_present, put_good, put_present, both_good}
 use Rattle.asn1_schema.specs.Laws.HeaderLaws.{IsGoodAfterEverywhere, header_good, only_where_good}
 use Rattle.asn1_schema.specs.Laws.ComponentLaws.{end_of_components_good, mandatory_good, optional_good}
+use Rattle.asn1_schema.specs.Times.{IsTime}
+use Rattle.asn1_schema.specs.Reals.{IsReal}
 use Rattle.asn1_x691.specs.declared.fault.FaultKind.{FaultKind}
 use Rattle.asn1_x691.specs.declared.fault.FaultKind.TheVariants.{Short, NoNode, TooDeep, NoAddition, DefaultValue}
 use Rattle.asn1_x691.specs.Fields.{phase, constrained, small_length, small_number}
@@ -35,7 +37,7 @@ use Rattle.asn1_x691.specs.Laws.FragmentLaws.{octets_sound, octets_one}
 use Rattle.asn1_x691.specs.Laws.OpenTypeLaws.{open_type_good}
 use Rattle.asn1_x691.specs.Laws.RangeLaws.{constrained_within}
 use Rattle.asn1_x691.specs.Laws.GoodTypes.{IsType, no_node_type, leaf_type, part_type, by_bit_type}
-use Rattle.asn1_x691.specs.Laws.LeafLaws.{integer_between_by_type, integer_at_least_by_type, integer_type, enumerated_by_type, bit_string_type, octet_string_type, text_type, contents_type}
+use Rattle.asn1_x691.specs.Laws.LeafLaws.{integer_between_by_type, integer_at_least_by_type, integer_type, enumerated_by_type, bit_string_type, octet_string_type, text_type, contents_type, time_type}
 use Rattle.asn1_x691.specs.Laws.ItemLaws.{sequence_of_by_type}
 use Rattle.asn1_x691.specs.Contents.{IsObjectIdentifier, IsRelativeIdentifier, IsUtf8Text}
 use Rattle.asn1_x691.specs.Laws.PieceLaws.{truth_alike, chosen_alike, unknown_alike, additions_alike, added_alternative_alike, added_alternative_present, is_added_alternative}
@@ -240,6 +242,8 @@ module _ (limits : Limits) (aligned : Bool) (E : ℕ → ℕ → TypeEncoding Fa
   type_of_type (Some type.ObjectIdentifier) = contents_type limits.fragments aligned node IsObjectIdentifier
   type_of_type (Some type.RelativeIdentifier) = contents_type limits.fragments aligned node IsRelativeIdentifier
   type_of_type (Some type.Utf8String) = contents_type limits.fragments aligned node IsUtf8Text
+  type_of_type (Some type.Real) = contents_type limits.fragments aligned node IsReal
+  type_of_type (Some (type.Time kind)) = time_type limits.fragments aligned node (IsTime kind)
   type_of_type (Some (type.Sequence root is_extensible known)) = sequence_by_type is_extensible root known
   type_of_type (Some (type.SequenceOf size is_extensible item)) =
       sequence_of_by_type limits aligned E e members ranges defaults node is_extensible false size item

@@ -19,6 +19,8 @@ use Rattle.asn1_schema.specs.TypeEncodings.{TypeEncoding, AfterHeader, part, hea
 use Rattle.asn1_schema.specs.Narrow.{RejectsMore}
 use Rattle.asn1_schema.specs.Laws.PhaseLaws.{TypesAgree}
 use Rattle.asn1_schema.specs.Laws.NarrowLaws.{AfterIsNarrow, same_narrow, both_narrow, several_narrow, several_by_bits_narrow, part_narrow, put_narrow, header_narrow, except_narrow, end_narrow, mandatory_narrow, optional_narrow, only_where_narrow}
+use Rattle.asn1_schema.specs.Times.{IsTime}
+use Rattle.asn1_schema.specs.Reals.{IsReal}
 use Rattle.asn1_x691.specs.declared.fault.FaultKind.{FaultKind}
 use Rattle.asn1_x691.specs.declared.fault.FaultKind.TheVariants.{Short, NoNode, NoAddition, DefaultValue, NotAscending, Unsupported}
 use Rattle.asn1_x691.specs.Fields.{phase, constrained, small_length, small_number}
@@ -26,7 +28,7 @@ use Rattle.asn1_x691.specs.Fragments.{most_fragments}
 use Rattle.asn1_x691.specs.Contents.{IsObjectIdentifier, IsRelativeIdentifier, IsUtf8Text}
 use Rattle.asn1_x691.specs.Limits.{Limits, no_limits, AreWithin, IsNoLimit, IsOffOctet}
 use Rattle.asn1_x691.specs.Types.{IsMisplaced, alternative_of_addition, IsAddedAlternative, optional_count, count_from, IsAddedCount, length_at_least, added_length, any_true, value_by, component_by, component, components, root_of, sequence, known_addition, addition, additions_by_bits, some_additions, extension, IsExtended, sequence_by, in_order, items, sequence_of, sequence_of_by, alternative_if, choice, added, choice_extension, choice_by, type_of, type_at}
-use Rattle.asn1_x691.specs.Laws.LimitLaws.{NarrowTypes, by_bit_narrow, bit_string_narrow, octet_string_narrow, text_narrow, contents_narrow, unknown_narrow, open_type_narrow}
+use Rattle.asn1_x691.specs.Laws.LimitLaws.{NarrowTypes, by_bit_narrow, bit_string_narrow, octet_string_narrow, text_narrow, contents_narrow, time_narrow, unknown_narrow, open_type_narrow}
 use Rattle.asn1_x691.specs.Laws.TypeLaws.{type_at_type}
 use Rattle.asn1_x691.specs.Laws.TypePhaseLaws.{type_at_follows}
 
@@ -329,6 +331,8 @@ module _ (limits : Limits) (within : AreWithin limits) (aligned : Bool) (E F : â
   type_of_narrow (Some type.ObjectIdentifier) = contents_narrow fs most_fragments within.fragments aligned node IsObjectIdentifier
   type_of_narrow (Some type.RelativeIdentifier) = contents_narrow fs most_fragments within.fragments aligned node IsRelativeIdentifier
   type_of_narrow (Some type.Utf8String) = contents_narrow fs most_fragments within.fragments aligned node IsUtf8Text
+  type_of_narrow (Some type.Real) = contents_narrow fs most_fragments within.fragments aligned node IsReal
+  type_of_narrow (Some (type.Time kind)) = time_narrow fs most_fragments within.fragments aligned node (IsTime kind)
   type_of_narrow (Some (type.Sequence root b known)) = sequence_by_narrow b root known
   type_of_narrow (Some (type.SequenceOf size b item)) = sequence_of_by_narrow b false size item
   type_of_narrow (Some (type.SetOf size b item)) = sequence_of_by_narrow b true size item

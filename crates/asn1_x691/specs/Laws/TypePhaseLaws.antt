@@ -17,6 +17,8 @@ use Rattle.asn1_schema.specs.Encodings.{Encoding, constant, anywhere, permitted}
 use Rattle.asn1_schema.specs.Fields.{raw_bits}
 use Rattle.asn1_schema.specs.TypeEncodings.{TypeEncoding, AfterHeader, nothing, leaf, part, header, both, put, except_type, either_by_bit}
 use Rattle.asn1_schema.specs.Laws.PhaseLaws.{Shifts, Agree, TypesAgree, AfterAgree, anywhere_agrees, in_turn_agrees, permitted_agrees, nothing_agrees, both_agree, several_agree, part_agrees, leaf_agrees, put_agrees, header_agrees, except_type_agrees, several_by_bits_agree, end_agrees, mandatory_agrees, optional_agrees, only_where_agrees, either_by_bit_agrees, enclosed_agrees}
+use Rattle.asn1_schema.specs.Times.{IsTime}
+use Rattle.asn1_schema.specs.Reals.{IsReal}
 use Rattle.asn1_x691.specs.declared.fault.FaultKind.{FaultKind}
 use Rattle.asn1_x691.specs.declared.fault.FaultKind.TheVariants.{Short, NoNode, NoAddition, BelowLeast, InRoot, NotTrimmed, Contents, DefaultValue, NotAscending, Unsupported}
 use Rattle.asn1_x691.specs.Fields.{phase, constrained, length_of, small_length, semi_constrained, small_number, unconstrained}
@@ -26,7 +28,7 @@ use Rattle.asn1_x691.specs.Characters.{text_of, added_text, IsAddedText}
 use Rattle.asn1_x691.specs.Contents.{IsObjectIdentifier, IsRelativeIdentifier, IsUtf8Text}
 use Rattle.asn1_x691.specs.OpenTypes.{complete, enclosing, open_type}
 use Rattle.asn1_x691.specs.Limits.{Limits, IsOffOctet}
-use Rattle.asn1_x691.specs.Leaves.{by_extension_bit, from_least, IsBetween, IsOutside, IsAddedInteger, value_of_addition, IsAddedValue, AreAddedBits, AreAddedOctets, AreTrimmed, integer_between, integer_at_least, extensible_integer, integer_between_by, integer_at_least_by, enumerated, enumerated_by, string_by, bits_by, bit_string, octet_string, text, contents}
+use Rattle.asn1_x691.specs.Leaves.{by_extension_bit, from_least, IsBetween, IsOutside, IsAddedInteger, value_of_addition, IsAddedValue, AreAddedBits, AreAddedOctets, AreTrimmed, integer_between, integer_at_least, extensible_integer, integer_between_by, integer_at_least_by, enumerated, enumerated_by, string_by, bits_by, bit_string, octet_string, text, contents, visible, time}
 use Rattle.asn1_x691.specs.Types.{no_node, alternative_of_addition, IsAddedAlternative, IsMisplaced, optional_count, count_from, IsAddedCount, length_at_least, added_length, any_true, value_by, component_by, component, components, root_of, sequence, known_addition, addition, additions_by_bits, some_additions, extension, IsExtended, sequence_by, in_order, items, sequence_of, sequence_of_by, alternative_if, choice, added, choice_extension, choice_by, type_of, type_at}
 use Rattle.asn1_x691.specs.Laws.PhaseLaws.{shifts, constrained_follows, length_follows, small_length_follows, semi_constrained_follows, unconstrained_follows, small_number_follows, octets_follow, string_of_follows, added_string_follows, text_of_follows, added_text_follows}
 
@@ -117,6 +119,12 @@ module _ (aligned : Bool) (node : ℕ) where
         let A = permitted Valid (λ list. ¬ (Valid list)) Contents node (octets most aligned node) in
         leaf_agrees S A Octets node
         (permitted_agrees S Valid (λ list. ¬ (Valid list)) Contents node (octets most aligned node) (octets_follow aligned node most))
+
+    time_follows : (Valid : List ℕ → Type 0) → TypeFollows aligned (time most aligned node Valid)
+    time_follows Valid =
+        let A = text_of most aligned visible node (AtLeast 0) in
+        leaf_agrees S (permitted Valid (λ text. ¬ (Valid text)) Contents node A) Text node
+        (permitted_agrees S Valid (λ text. ¬ (Valid text)) Contents node A (text_of_follows aligned node visible most (AtLeast 0)))
 
     unknown_follows : TypeFollows aligned (leaf (octets most aligned node) Unknown node)
     unknown_follows = leaf_agrees S (octets most aligned node) Unknown node (octets_follow aligned node most)
@@ -312,6 +320,8 @@ module _ (limits : Limits) (aligned : Bool) (E : ℕ → ℕ → TypeEncoding Fa
   type_of_follows (Some type.ObjectIdentifier) = contents_follow aligned node limits.fragments IsObjectIdentifier
   type_of_follows (Some type.RelativeIdentifier) = contents_follow aligned node limits.fragments IsRelativeIdentifier
   type_of_follows (Some type.Utf8String) = contents_follow aligned node limits.fragments IsUtf8Text
+  type_of_follows (Some type.Real) = contents_follow aligned node limits.fragments IsReal
+  type_of_follows (Some (type.Time kind)) = time_follows aligned node limits.fragments (IsTime kind)
   type_of_follows (Some (type.Sequence root b known)) = sequence_by_follows b root known
   type_of_follows (Some (type.SequenceOf size b item)) = sequence_of_by_follows b false size item
   type_of_follows (Some (type.SetOf size b item)) = sequence_of_by_follows b true size item

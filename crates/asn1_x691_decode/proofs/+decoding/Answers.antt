@@ -45,6 +45,12 @@ decoder::decode_node-returns-in-Some-RelativeIdentifier-clause-did = nodes.decod
 pub decoder::decode_node-returns-in-Some-Utf8String-clause-did : goal.decoder::decode_node-returns-in-Some-Utf8String-clause-did
 decoder::decode_node-returns-in-Some-Utf8String-clause-did = nodes.decode_node-returns-in-Some-Utf8String-clause-did
 
+pub decoder::decode_node-returns-in-Some-Real-clause-did : goal.decoder::decode_node-returns-in-Some-Real-clause-did
+decoder::decode_node-returns-in-Some-Real-clause-did = nodes.decode_node-returns-in-Some-Real-clause-did
+
+pub decoder::decode_node-returns-in-Some-Time-clause-did : goal.decoder::decode_node-returns-in-Some-Time-clause-did
+decoder::decode_node-returns-in-Some-Time-clause-did = nodes.decode_node-returns-in-Some-Time-clause-did
+
 pub decoder::decode_node-returns-in-Some-IntegerBetween-clause-did : goal.decoder::decode_node-returns-in-Some-IntegerBetween-clause-did
 decoder::decode_node-returns-in-Some-IntegerBetween-clause-did = nodes.decode_node-returns-in-Some-IntegerBetween-clause-did
 

@@ -58,6 +58,12 @@ encoder::encode_node-returns-in-Some-RelativeIdentifier = contents.encode_node-r
 pub encoder::encode_node-returns-in-Some-Utf8String : goal.encoder::encode_node-returns-in-Some-Utf8String
 encoder::encode_node-returns-in-Some-Utf8String = contents.encode_node-returns-in-Some-Utf8String
 
+pub encoder::encode_node-returns-in-Some-Real : goal.encoder::encode_node-returns-in-Some-Real
+encoder::encode_node-returns-in-Some-Real = contents.encode_node-returns-in-Some-Real
+
+pub encoder::encode_node-returns-in-Some-Time : goal.encoder::encode_node-returns-in-Some-Time
+encoder::encode_node-returns-in-Some-Time = contents.encode_node-returns-in-Some-Time
+
 pub encoder::encode_node-returns-in-Some-Text : goal.encoder::encode_node-returns-in-Some-Text
 encoder::encode_node-returns-in-Some-Text = contents.encode_node-returns-in-Some-Text
 

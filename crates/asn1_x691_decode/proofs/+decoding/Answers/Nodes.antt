@@ -5,6 +5,8 @@ use Rattle.asn1_schema.specs.declared.tables.Node.{Node}
 use Rattle.asn1_schema.specs.declared.tables.Node.TheVariants as type
 use Rattle.asn1_schema.specs.Pieces.{Null, Parts}
 use Rattle.asn1_schema.specs.Encodings.{Encoding, constant}
+use Rattle.asn1_schema.specs.Reals.{IsReal}
+use Rattle.asn1_schema.specs.Times.{IsTime}
 use Rattle.asn1_x691.specs.declared.fault.FaultKind.{FaultKind}
 use Rattle.asn1_x691_fields.specs.Outcomes.{position}
 use Rattle.asn1_x691_fields.specs.Characters.{rows_of}
@@ -12,7 +14,7 @@ use Rattle.asn1_x691.specs.Fragments.{most_fragments}
 use Rattle.asn1_x691_decode.specs.Decoding.{Outcome, IsDecoded}
 use Rattle.asn1_x691_decode.proofs.Steps.{at_node, put_step, nothing_decoded}
 use Rattle.asn1_x691.specs.Contents.{IsObjectIdentifier, IsRelativeIdentifier, IsUtf8Text}
-use Rattle.asn1_x691.specs.Leaves.{integer_between_by, integer_at_least_by, integer, enumerated_by, bit_string, octet_string, text, contents}
+use Rattle.asn1_x691.specs.Leaves.{integer_between_by, integer_at_least_by, integer, enumerated_by, bit_string, octet_string, text, contents, time}
 use Rattle.asn1_x691_decode.proofs.Steps.{kept_outcome}
 use Rattle.asn1_x691_decode.proofs.+decoding.Goals as goal
 
@@ -204,4 +206,30 @@ decode_node-returns-in-Some-Utf8String-clause-did t c =
     (omega (arith, c.if-depth-eq0.false)) (sym c.node_at.ensures ∙ k.is ∙ ap (λ (n : Node). Some n) k.field-0-is)
     (kept_outcome cx (λ at. (contents 0 cx.is_aligned a.node IsUtf8Text at).encoding) a.state.now c.next_utf8_string.new.state p.new.state a.parts.now p.new.parts
     c.next_utf8_string.result p.result c.next_utf8_string.ensures.onward (c.next_utf8_string.ensures.read cx.tables.ranges.now)
+    (record { at = p.ensures.at; first = p.ensures.first; end = p.ensures.end }) p.ensures.kept)
+
+pub decode_node-returns-in-Some-Real-clause-did : goal.decoder::decode_node-returns-in-Some-Real-clause-did
+decode_node-returns-in-Some-Real-clause-did t c =
+    let cx = c.args.context.now in
+    let a = c.args in
+    let k = c.in-Some-Real in
+    let p = c.keep-in-Some-Real in
+    at_node cx a.node a.depth (Some type.Real)
+    (λ (B : ℕ → Encoding FaultKind Parts). Outcome cx B a.state.now p.new.state a.parts.now p.new.parts p.result)
+    (omega (arith, c.if-depth-eq0.false)) (sym c.node_at.ensures ∙ k.is ∙ ap (λ (n : Node). Some n) k.field-0-is)
+    (kept_outcome cx (λ at. (contents 0 cx.is_aligned a.node IsReal at).encoding) a.state.now c.next_real.new.state p.new.state a.parts.now p.new.parts
+    c.next_real.result p.result c.next_real.ensures.onward (c.next_real.ensures.read cx.tables.ranges.now)
+    (record { at = p.ensures.at; first = p.ensures.first; end = p.ensures.end }) p.ensures.kept)
+
+pub decode_node-returns-in-Some-Time-clause-did : goal.decoder::decode_node-returns-in-Some-Time-clause-did
+decode_node-returns-in-Some-Time-clause-did t c =
+    let cx = c.args.context.now in
+    let a = c.args in
+    let k = c.in-Some-Time in
+    let p = c.keep-in-Some-Time in
+    at_node cx a.node a.depth (Some (type.Time k.kind))
+    (λ (B : ℕ → Encoding FaultKind Parts). Outcome cx B a.state.now p.new.state a.parts.now p.new.parts p.result)
+    (omega (arith, c.if-depth-eq0.false)) (sym c.node_at.ensures ∙ k.is ∙ ap (λ (n : Node). Some n) k.field-0-is)
+    (kept_outcome cx (λ at. (time 0 cx.is_aligned a.node (IsTime k.kind) at).encoding) a.state.now c.next_time.new.state p.new.state a.parts.now p.new.parts
+    c.next_time.result p.result c.next_time.ensures.onward (c.next_time.ensures.read cx.tables.ranges.now)
     (record { at = p.ensures.at; first = p.ensures.first; end = p.ensures.end }) p.ensures.kept)

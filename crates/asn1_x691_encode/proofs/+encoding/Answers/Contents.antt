@@ -44,3 +44,22 @@ encode_node-returns-in-Some-Text t c =
     c.encode_text.new.state c.encode_text.result)
     (omega (arith, c.if-depth-eq0.false)) (sym c.node_at.ensures ∙ c.in-Some-Text.is ∙ ap (λ (n : Node). Some n) c.in-Some-Text.field-0-is)
     (λ d r. c.encode_text.ensures)
+
+pub encode_node-returns-in-Some-Real : goal.encoder::encode_node-returns-in-Some-Real
+encode_node-returns-in-Some-Real t c =
+    let cx = c.args.context.now in
+    at_node cx c.args.node c.args.depth (Some type.Real)
+    (λ (A : ℕ → TypeEncoding FaultKind). Outcome cx A c.args.octets.now c.args.state.now c.encode_contents-in-Some-Real.new.octets
+    c.encode_contents-in-Some-Real.new.state c.encode_contents-in-Some-Real.result)
+    (omega (arith, c.if-depth-eq0.false)) (sym c.node_at.ensures ∙ c.in-Some-Real.is ∙ ap (λ (n : Node). Some n) c.in-Some-Real.field-0-is)
+    (λ d r. c.encode_contents-in-Some-Real.ensures)
+
+pub encode_node-returns-in-Some-Time : goal.encoder::encode_node-returns-in-Some-Time
+encode_node-returns-in-Some-Time t c =
+    let cx = c.args.context.now in
+    let k = c.in-Some-Time in
+    at_node cx c.args.node c.args.depth (Some (type.Time k.kind))
+    (λ (A : ℕ → TypeEncoding FaultKind). Outcome cx A c.args.octets.now c.args.state.now c.encode_time.new.octets
+    c.encode_time.new.state c.encode_time.result)
+    (omega (arith, c.if-depth-eq0.false)) (sym c.node_at.ensures ∙ c.in-Some-Time.is ∙ ap (λ (n : Node). Some n) c.in-Some-Time.field-0-is)
+    (λ d r. c.encode_time.ensures)

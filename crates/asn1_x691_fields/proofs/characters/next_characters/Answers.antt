@@ -1,4 +1,5 @@
-use Rattle.std.proofs.Common.{◌-◌, arith}
+use Rattle.std.proofs.Common.{◌≡◌, ℕ, ◌+◌, ◌-◌, ◌*◌, sym, ◌∙◌, ap, arith}
+use Rattle.asn1_bits.specs.DigitLaws.{length-bits}
 use Rattle.asn1_bits.specs.Bits.{bits}
 use Rattle.asn1_x691.specs.Characters.{characters}
 use Rattle.asn1_x691_fields.specs.Characters.{characters_at}
@@ -7,6 +8,19 @@ use Rattle.asn1_x691_fields.specs.Steps.{moved_on, within_after}
 use Rattle.asn1_x691_fields.specs.StringSteps.{none_read}
 use Rattle.asn1_x691_fields.specs.TextSteps.{characters_go_on, characters_fault}
 use Rattle.asn1_x691_fields.proofs.characters.next_characters.Goals as goal
+
+one_more : (width left more : ℕ) → more + 1 ≡ left → width * left ≡ width * more + width
+one_more width left more e =
+    let f : width * (more + 1) ≡ width * more + width = omega arith in
+    ap (λ (n : ℕ). width * n) (sym e) ∙ f
+
+pub returns-clause-inside : goal.returns-clause-inside
+returns-clause-inside c =
+    let l = c.loop-left in
+    let none : l.left ≡ 0 = omega (arith, c.loop-left-test.false) in
+    let zero_left : c.args.alphabet.now.width * l.left ≡ c.args.alphabet.now.width * 0 = ap (λ (n : ℕ). c.args.alphabet.now.width * n) none in
+    let zero_bits : c.args.alphabet.now.width * 0 ≡ 0 = omega arith in
+    omega (arith, l.invariant.place, zero_left, zero_bits, l.invariant.onward.ends, l.invariant.onward.inside, length-bits c.args.octets.now)
 
 pub loop-left-preserved : goal.loop-left-preserved
 loop-left-preserved c =
@@ -24,6 +38,7 @@ loop-left-preserved c =
         ends = onward.ends;
         inside = onward.inside;
       };
+      place = omega (arith, l.invariant.place, c.in_ok-next_character.ensures.at, one_more c.args.alphabet.now.width l.left (l.left - 1) (omega (arith, c.loop-left-test.true)));
       going = characters_go_on c.args.alphabet.now c.args.node list c.args.count l.left (l.left - 1) c.args.state.now l.state new
           (omega (arith, c.loop-left-test.true)) l.invariant.going c.in_ok-next_character.ensures.at c.in_ok-next_character.ensures.read;
     }

@@ -1,0 +1,43 @@
+use Rattle.std.proofs.Common.{inl, refl, arith}
+use Rattle.asn1_bits.specs.Bits.{bits}
+use Rattle.asn1_bits.specs.DigitLaws.{length-bits}
+use Rattle.asn1_schema.specs.Pieces.{Octets}
+use Rattle.asn1_schema.specs.PiecesOfParts.{bits_of}
+use Rattle.asn1_schema.specs.Encodings.{permitted}
+use Rattle.asn1_x691.specs.declared.fault.FaultKind.TheVariants.{Contents}
+use Rattle.asn1_schema.specs.Reals.{IsReal}
+use Rattle.asn1_x691.specs.Fragments.{octets}
+use Rattle.asn1_x691_fields.specs.Outcomes.{rest, position, fault_of}
+use Rattle.asn1_x691_fields.specs.Steps.{fault_at}
+use Rattle.asn1_x691_fields.specs.LeafSteps.{leaf_starts, permitted_starts, permitted_fault}
+use Rattle.asn1_x691_fields.proofs.reals.next_real.Goals as goal
+
+pub is_real_at-requires-clause-inside : goal.is_real_at-requires-clause-inside
+is_real_at-requires-clause-inside c =
+    let s = c.in_ok-span.ensures in
+    omega (arith, length-bits c.args.octets.now, s.index, s.onward.ends, s.onward.inside)
+
+pub returns-then-not-is_real_at-clause-read : goal.returns-then-not-is_real_at-clause-read
+returns-then-not-is_real_at-clause-read c ranges =
+    let list = bits c.args.octets.now in
+    let node = c.args.node in
+    let mid = c.next_octets.new.state in
+    let s = c.in_ok-span.ensures in
+    inl (permitted_fault IsReal (λ l. ¬ (IsReal l)) Contents node (octets 0 c.args.is_aligned node) list
+    c.args.state.now mid c.requires.within s.onward (bits_of list c.in_ok-span.span) s.read (fault_of c.fail.new.state)
+    (c.is_real_at.ensures.no c.if-not-is_real_at.true)
+    (fault_at list mid c.fail.new.state node Contents s.onward.inside
+    c.fail.ensures.at c.fail.ensures.end c.fail.ensures.node c.fail.ensures.kind))
+
+pub returns-clause-read : goal.returns-clause-read
+returns-clause-read c ranges =
+    let list = bits c.args.octets.now in
+    let node = c.args.node in
+    let A = octets 0 c.args.is_aligned node in
+    let mid = c.next_octets.new.state in
+    let s = c.in_ok-span.ensures in
+    let contents = bits_of list c.in_ok-span.span in
+    leaf_starts (permitted IsReal (λ l. ¬ (IsReal l)) Contents node A) Octets node (position c.args.state.now)
+    (rest list c.args.state.now) (rest list mid) contents (Octets contents) refl
+    (permitted_starts IsReal (λ l. ¬ (IsReal l)) Contents node A list c.args.state.now mid c.requires.within
+    s.onward contents s.read (c.is_real_at.ensures.yes c.if-not-is_real_at.false))
