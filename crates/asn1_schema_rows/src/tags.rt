@@ -1,6 +1,6 @@
 //! Automatic tags (X.680 25.8), and the numbers of ENUMERATED.
 
-use asn1_schema::{Node, Range, Rows};
+use asn1_schema::{Node, Range, Rows, TimeKind};
 use asn1_x690::{CharacterSize, Class, FirstTags, Tag, TagTables, TypeTags};
 use std::alloc::{AllocError, Global};
 
@@ -26,10 +26,20 @@ pub(crate) fn universal_number(node: &Node, alphabet: Option<Range>) -> Option<u
         Node::ObjectIdentifier => Some(6),
         Node::RelativeIdentifier => Some(13),
         Node::Utf8String => Some(12),
+        Node::Real => Some(9),
+        Node::Time { kind } => Some(time_number(kind)),
         Node::Sequence { .. } | Node::SequenceOf { .. } => Some(16),
         Node::SetOf { .. } => Some(17),
         Node::Text { whole, .. } => Some(text_number(alphabet, whole)),
         Node::Choice { .. } | Node::Open { .. } => None,
+    }
+}
+
+/// Returns the number of the universal tag of a time.
+fn time_number(kind: TimeKind) -> u64 {
+    match kind {
+        TimeKind::Utc => 23,
+        TimeKind::Generalized => 24,
     }
 }
 

@@ -19,7 +19,7 @@
 
 use crate::bounds::{integer_of, length_of};
 use crate::tags::{TagRows, universal_number};
-use asn1_schema::{Length, Member, Node, Presence, Range, Rows, Span};
+use asn1_schema::{Length, Member, Node, Presence, Range, Rows, Span, TimeKind};
 use asn1_test_rows::{RowError, parse_word, wrong};
 use std::alloc::Global;
 
@@ -216,6 +216,17 @@ fn read_word(alloc: Global, types: &mut Types, word: &str) -> Result<(), RowErro
         "oid" => return types.add(Node::ObjectIdentifier),
         "relative" => return types.add(Node::RelativeIdentifier),
         "utf8" => return types.add(Node::Utf8String),
+        "real" => return types.add(Node::Real),
+        "utc" => {
+            return types.add(Node::Time {
+                kind: TimeKind::Utc,
+            });
+        }
+        "generalized" => {
+            return types.add(Node::Time {
+                kind: TimeKind::Generalized,
+            });
+        }
         "any" => return types.add_any(),
         "open" => {
             let inner = types.take(alloc)?;

@@ -12,6 +12,7 @@ use Rattle.asn1_schema.specs.declared.tables.Node.TheVariants as type
 use Rattle.asn1_schema.specs.declared.misfit.MisfitKind.TheVariants as misfit
 use Rattle.asn1_schema.specs.Pieces.{Piece, Null, Truth, Integer, Bits, Octets, Text, Sequence, Count, Chosen, Additions, Unknown}
 use Rattle.asn1_schema.specs.Order.{IsBefore}
+use Rattle.asn1_schema.specs.Reals.{IsReal}
 use Rattle.asn1_schema.specs.Encodings.{Then}
 use Rattle.asn1_schema.specs.TypeEncodings.{TypeEncoding, except_type}
 use Rattle.asn1_x690.specs.declared.fault.FaultKind.{FaultKind}
@@ -22,7 +23,7 @@ use Rattle.asn1_x690.specs.declared.tables.TypeTags.{TypeTags}
 use Rattle.asn1_x690.specs.declared.tables.FirstTags.{FirstTags}
 use Rattle.asn1_x690.specs.Elements.{identifier, any_element}
 use Rattle.asn1_x690.specs.TypeContents.{TypeContents, ToldContents, ByHeader, headed, invalid_header, only_header, any_header, either, only_value, told, invalid_told, nothing_more, present, required, perhaps, to_end, renamed, some_or_none}
-use Rattle.asn1_x690.specs.Leaves.{IsBoolean, IsNull, IsInteger, IsEnumerated, IsBitString, AreOctets, IsKept, IsObjectIdentifier, IsRelativeIdentifier, IsUtf8Text, width_of, AreCharacters, HasSize, IsBetween, IsAtLeast, AreTrimmed, AreSized, IsText, IsPermittedValue, leaf_of}
+use Rattle.asn1_x690.specs.Leaves.{IsBoolean, IsNull, IsInteger, IsEnumerated, IsBitString, AreOctets, IsKept, IsObjectIdentifier, IsRelativeIdentifier, IsUtf8Text, width_of, AreCharacters, IsTimeText, HasSize, IsBetween, IsAtLeast, AreTrimmed, AreSized, IsText, IsPermittedValue, leaf_of}
 
 -- the tables that the types of a schema share
 pub record Context : Type 0 where
@@ -203,6 +204,9 @@ module _ (E : ℕ → ByHeader FaultKind Identifier) (context : Context) (node :
   type_by t type.ObjectIdentifier = leaf t (IsKept IsObjectIdentifier) always Octets
   type_by t type.RelativeIdentifier = leaf t (IsKept IsRelativeIdentifier) always Octets
   type_by t type.Utf8String = leaf t (IsKept IsUtf8Text) always Octets
+  -- the octets themselves, where they are in canonical form (8.5, 11.3)
+  type_by t type.Real = leaf t (IsKept IsReal) always Octets
+  type_by t (type.Time kind) = leaf t (IsTimeText kind) always Text
   type_by t (type.Text size is_extensible alphabet whole) =
       leaf t (AreCharacters (width_of t.characters))
       (IsText is_extensible size (rows_of context.ranges alphabet) (rows_of context.ranges whole)) Text

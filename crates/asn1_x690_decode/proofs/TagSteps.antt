@@ -61,6 +61,8 @@ module _ (c : Context) (depth node : ℕ) (t : TypeTags) (id : Identifier) where
   by_node false type.ObjectIdentifier = same
   by_node false type.RelativeIdentifier = same
   by_node false type.Utf8String = same
+  by_node false type.Real = same
+  by_node false (type.Time kind) = same
   by_node false (type.Text size is_extensible alphabet whole) = same
   by_node false (type.Sequence root is_extensible known) = same
   by_node false (type.SequenceOf size is_extensible item) = same

@@ -12,7 +12,8 @@ use Rattle.asn1_x690.specs.declared.tables.Tag.{Tag}
 use Rattle.asn1_x690.specs.declared.tables.Identifier.{Identifier}
 use Rattle.asn1_x690.specs.declared.tables.TypeTags.{TypeTags}
 use Rattle.asn1_x690.specs.TypeContents.{TypeContents, ByHeader, invalid_type_contents}
-use Rattle.asn1_x690.specs.Leaves.{IsBoolean, IsNull, IsInteger, IsEnumerated, IsBitString, AreOctets, IsKept, IsObjectIdentifier, IsRelativeIdentifier, IsUtf8Text, width_of, AreCharacters, HasSize, IsBetween, IsAtLeast, AreTrimmed, AreSized, IsText, IsPermittedValue, leaf_of}
+use Rattle.asn1_schema.specs.Reals.{IsReal}
+use Rattle.asn1_x690.specs.Leaves.{IsBoolean, IsNull, IsInteger, IsEnumerated, IsBitString, AreOctets, IsKept, IsObjectIdentifier, IsRelativeIdentifier, IsUtf8Text, width_of, AreCharacters, IsTimeText, HasSize, IsBetween, IsAtLeast, AreTrimmed, AreSized, IsText, IsPermittedValue, leaf_of}
 use Rattle.asn1_x690.specs.Der as der
 use Rattle.asn1_x690.specs.Der.{type_at, type_if, element, any_value, around, tagged, primitive, constructed, rows_of, always, no_type, choice_by, sequence_by, sequence_of}
 use Rattle.asn1_x690_decode.specs.declared.context.Context.{Context}
@@ -81,6 +82,8 @@ module _ (c : Context) (depth node : ℕ) where
   contents_by t type.ObjectIdentifier = leaf_of (IsKept IsObjectIdentifier) always Octets node
   contents_by t type.RelativeIdentifier = leaf_of (IsKept IsRelativeIdentifier) always Octets node
   contents_by t type.Utf8String = leaf_of (IsKept IsUtf8Text) always Octets node
+  contents_by t type.Real = leaf_of (IsKept IsReal) always Octets node
+  contents_by t (type.Time kind) = leaf_of (IsTimeText kind) always Text node
   contents_by t (type.Text size is_extensible alphabet whole) =
       leaf_of (AreCharacters (width_of t.characters))
       (IsText is_extensible size (rows_of c.tables.ranges.now alphabet) (rows_of c.tables.ranges.now whole)) Text node

@@ -18,7 +18,7 @@ use asn1_x690::FaultKind;
 use asn1_x690_fields::{State, fail};
 use asn1_x690_leaves::{
     bit_string, boolean, enumerated, integer, integer_at_least, integer_between, null,
-    object_identifier, octet_string, relative_identifier, text, utf8_string,
+    object_identifier, octet_string, real, relative_identifier, text, time, utf8_string,
 };
 use asn1_x691_fields::ranges_in;
 
@@ -107,6 +107,8 @@ fn read_leaf(context: &Context<'_>, of: &Type, span: Span) -> Result<Part, Fault
         Node::ObjectIdentifier => object_identifier(octets, span),
         Node::RelativeIdentifier => relative_identifier(octets, span),
         Node::Utf8String => utf8_string(octets, span),
+        Node::Real => real(octets, span),
+        Node::Time { kind } => time(octets, span, kind),
         Node::Text {
             length,
             is_extensible,

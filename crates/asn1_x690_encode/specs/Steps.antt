@@ -139,6 +139,8 @@ leaf_none c node t (type.OctetString size is_extensible) = refl
 leaf_none c node t type.ObjectIdentifier = refl
 leaf_none c node t type.RelativeIdentifier = refl
 leaf_none c node t type.Utf8String = refl
+leaf_none c node t type.Real = refl
+leaf_none c node t (type.Time kind) = refl
 leaf_none c node t (type.Text size is_extensible alphabet whole) = refl
 leaf_none c node t n = refl
 

@@ -9,6 +9,7 @@ use Rattle.asn1_schema.specs.declared.part.Span.{Span}
 use Rattle.asn1_schema.specs.CharactersOfParts.{numbers_in}
 use Rattle.asn1_schema.specs.PiecesOfParts.{bits_of}
 use Rattle.asn1_x690.specs.Leaves.{AreCharacters}
+use Rattle.asn1_x690_leaves.specs.Told.{AreOctetsOf}
 
 -- the first of so many numbers, and the others
 pub first_number : (width left more at : ℕ) (list : List Bool) → more + 1 ≡ left
@@ -35,6 +36,18 @@ are_characters width (suc count) list h =
       ap (λ (n : ℕ). take n list) e ∙ take-add width (width * count) list
           ∙ ap (λ (l : List Bool). l ++ take (width * count) (drop width list)) (sym (digits_of-number (take width list) width size)),
     )
+
+pub whole_count : (n w : ℕ) → 0 < w → n % w ≡ 0 → w * (n / w) ≡ n
+whole_count n w some e = omega (arith, some, e)
+
+-- whole octets are so many characters
+pub characters : (list : List Bool) (s : Span) (w : ℕ) → AreOctetsOf list s → 0 < w → s.count % w ≡ 0
+    → AreCharacters w (numbers_in w (s.count / w) (drop s.at list)) (bits_of list s)
+characters list s w h some e =
+    let f = whole_count s.count w some e in
+    let i = h.inside in
+    subst (λ (n : ℕ). AreCharacters w (numbers_in w (s.count / w) (drop s.at list)) (take n (drop s.at list))) f
+    (are_characters w (s.count / w) (drop s.at list) (omega (arith, f, i, length-drop s.at list)))
 
 -- so many characters have so many bits
 pub text_size : (width : ℕ) (text : List ℕ) (list : List Bool) → AreCharacters width text list → length list ≡ width * length text

@@ -8,11 +8,12 @@ use Rattle.asn1_schema.specs.declared.tables.Range.{Range}
 use Rattle.asn1_schema.specs.Encodings.{invalid_contents}
 use Rattle.asn1_schema.specs.TypeEncodings.{FirstPart, IsAtPart}
 use Rattle.asn1_schema.specs.Pieces.{Piece, Null, Truth, Integer, Bits, Octets, Text}
+use Rattle.asn1_schema.specs.Reals.{IsReal}
 use Rattle.asn1_x690.specs.declared.fault.FaultKind.{FaultKind}
 use Rattle.asn1_x690.specs.declared.fault.FaultKind.TheVariants.{NoNode}
 use Rattle.asn1_x690.specs.declared.tables.TypeTags.{TypeTags}
 use Rattle.asn1_x690.specs.Der.{always, rows_of}
-use Rattle.asn1_x690.specs.Leaves.{IsBoolean, IsNull, IsInteger, IsEnumerated, IsBitString, AreOctets, IsKept, IsObjectIdentifier, IsRelativeIdentifier, IsUtf8Text, width_of, AreCharacters, HasSize, IsBetween, IsAtLeast, AreTrimmed, AreSized, IsText, IsPermittedValue, leaf_of}
+use Rattle.asn1_x690.specs.Leaves.{IsBoolean, IsNull, IsInteger, IsEnumerated, IsBitString, AreOctets, IsKept, IsObjectIdentifier, IsRelativeIdentifier, IsUtf8Text, width_of, AreCharacters, IsTimeText, HasSize, IsBetween, IsAtLeast, AreTrimmed, AreSized, IsText, IsPermittedValue, leaf_of}
 use Rattle.asn1_x690.specs.TypeContents.{TypeContents}
 use Rattle.asn1_x691_writers.specs.Put.{IsFarInteger, IsInFragments}
 use Rattle.asn1_x690_writers.specs.Put.{AreTooMany, IsFarWithout}
@@ -43,6 +44,8 @@ leaf_in ranges numbers node t (type.OctetString size is_extensible) = leaf_of Ar
 leaf_in ranges numbers node t type.ObjectIdentifier = leaf_of (IsKept IsObjectIdentifier) always Octets node
 leaf_in ranges numbers node t type.RelativeIdentifier = leaf_of (IsKept IsRelativeIdentifier) always Octets node
 leaf_in ranges numbers node t type.Utf8String = leaf_of (IsKept IsUtf8Text) always Octets node
+leaf_in ranges numbers node t type.Real = leaf_of (IsKept IsReal) always Octets node
+leaf_in ranges numbers node t (type.Time kind) = leaf_of (IsTimeText kind) always Text node
 leaf_in ranges numbers node t (type.Text size is_extensible alphabet whole) =
     leaf_of (AreCharacters (width_of t.characters)) (IsText is_extensible size (rows_of ranges alphabet) (rows_of ranges whole)) Text node
 leaf_in ranges numbers node t n = no_leaf node
@@ -59,4 +62,5 @@ IsLeftOut source (type.OctetString size is_extensible) part p = AreTooMany p
 IsLeftOut source type.ObjectIdentifier part p = IsInFragments part
 IsLeftOut source type.RelativeIdentifier part p = IsInFragments part
 IsLeftOut source type.Utf8String part p = IsInFragments part
+IsLeftOut source type.Real part p = IsInFragments part
 IsLeftOut source n part p = ⊥

@@ -11,3 +11,4 @@ pub mod HeaderSteps
 pub mod NumberSteps
 pub mod PutSteps
 pub mod TextSteps
+pub mod TimeSteps

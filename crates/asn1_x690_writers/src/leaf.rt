@@ -11,6 +11,7 @@ use crate::integers::{put_integer, put_integer_at_least, put_integer_between};
 use crate::octet_strings::{put_kept, put_octet_string};
 use crate::simple::{put_boolean, put_null};
 use crate::texts::put_text;
+use crate::times::put_time;
 use asn1_schema::{MisfitKind, Node, Part, Range};
 use asn1_x690::TypeTags;
 use asn1_x691_writers::{ContentsKind, Writer, reject};
@@ -60,6 +61,8 @@ pub fn put_leaf(
             )
         }
         Node::Utf8String => put_kept(octets, ContentsKind::Utf8, source, part, node, state),
+        Node::Real => put_kept(octets, ContentsKind::Real, source, part, node, state),
+        Node::Time { kind } => put_time(octets, ranges, kind, source, part, node, state),
         Node::IntegerBetween {
             bounds,
             is_extensible,

@@ -15,6 +15,7 @@ mod octet_strings;
 mod simple;
 mod sizes;
 mod texts;
+mod times;
 
 pub use identifiers::put_identifier;
 pub use leaf::put_leaf;

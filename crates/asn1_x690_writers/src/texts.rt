@@ -89,7 +89,7 @@ fn is_text(
 }
 
 /// Writes the characters of a part, each as a number of `width` bits. Returns the index after them.
-fn put_characters(
+pub(crate) fn put_characters(
     octets: &mut [u8],
     at: usize,
     width: usize,

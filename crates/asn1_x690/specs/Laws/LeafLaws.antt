@@ -13,7 +13,8 @@ use Rattle.asn1_schema.specs.Encodings.{EncodesOne, FillsOne}
 use Rattle.asn1_schema.specs.Laws.EncodingLaws.{same_fronts}
 use Rattle.asn1_x690.specs.declared.fault.FaultKind.TheVariants.{Contents, NotPermitted}
 use Rattle.asn1_x690.specs.TypeContents.{valid, permitted_contents}
-use Rattle.asn1_x690.specs.Leaves.{truth_octet, IsBoolean, IsNull, IsInteger, IsFirst, IsEnumerated, IsBitString, AreOctets, IsKept, AreCharacters, leaf_of}
+use Rattle.asn1_schema.specs.declared.tables.TimeKind.{TimeKind}
+use Rattle.asn1_x690.specs.Leaves.{truth_octet, IsBoolean, IsNull, IsInteger, IsFirst, IsEnumerated, IsBitString, AreOctets, IsKept, AreCharacters, IsTimeText, leaf_of}
 use Rattle.asn1_x690.specs.Laws.ContentsLaws.{valid_are_sound, permitted_contents_are_sound}
 use Rattle.asn1_x690.specs.Laws.HeadedLaws.{IsGoodContents}
 use Rattle.asn1_x690.specs.Laws.TypeContentsLaws.{leaf_contents_good}
@@ -195,3 +196,11 @@ module _ (width : ℕ) (some : 0 < width) where
 
   pub characters_one : OneToOne (AreCharacters width)
   characters_one = record { fills = record { one = same_text }; encodes = record { one = text_contents } }
+
+pub time_one : (kind : TimeKind) → OneToOne (IsTimeText kind)
+time_one kind =
+    let all = characters_one 8 (let some : 0 < 8 = omega arith in some) in
+    record {
+      fills = record { one = λ list x y p q. all.fills.one list x y p.0 q.0 };
+      encodes = record { one = λ x a b p q. all.encodes.one x a b p.0 q.0 };
+    }

@@ -11,6 +11,7 @@ use Rattle.asn1_schema.specs.declared.tables.Node.TheVariants as type
 use Rattle.asn1_schema.specs.declared.misfit.MisfitKind.TheVariants as misfit
 use Rattle.asn1_schema.specs.Pieces.{Piece, Parts, Absent, Null, Truth, Integer, Bits, Octets, Text, Sequence, Count, Chosen, Additions, Unknown}
 use Rattle.asn1_schema.specs.Order.{IsBefore}
+use Rattle.asn1_schema.specs.Reals.{IsReal}
 use Rattle.asn1_schema.specs.TypeEncodings.{TypeEncoding}
 use Rattle.asn1_schema.specs.Laws.WritingLaws.{IsGood, ArePresent}
 use Rattle.asn1_schema.specs.Laws.TypeLaws.{except_type_good, except_type_present}
@@ -24,14 +25,14 @@ use Rattle.asn1_x690.specs.declared.tables.TypeTags.{TypeTags}
 use Rattle.asn1_x690.specs.declared.tables.FirstTags.{FirstTags}
 use Rattle.asn1_x690.specs.Elements.{any_element}
 use Rattle.asn1_x690.specs.TypeContents.{TypeContents, ToldContents, ByHeader, only_value, present, to_end, told}
-use Rattle.asn1_x690.specs.Leaves.{IsObjectIdentifier, IsRelativeIdentifier, IsUtf8Text, IsBoolean, IsNull, IsInteger, IsEnumerated, IsBitString, AreOctets, IsKept, width_of, AreCharacters, HasSize, IsBetween, IsAtLeast, AreTrimmed, AreSized, IsText, IsPermittedValue, leaf_of}
+use Rattle.asn1_x690.specs.Leaves.{IsObjectIdentifier, IsRelativeIdentifier, IsUtf8Text, IsBoolean, IsNull, IsInteger, IsEnumerated, IsBitString, AreOctets, IsKept, width_of, AreCharacters, IsTimeText, HasSize, IsBetween, IsAtLeast, AreTrimmed, AreSized, IsText, IsPermittedValue, leaf_of}
 use Rattle.asn1_x690.specs.Der.{Context, rows_of, no_type, element, any_value, primitive, constructed, around, tagged, HasTag, BeginsWith, always, value_by, optional, component_by, component, components, addition, additions, unknown_additions, extension, sequence_by, in_order, sequence_of, alternative, alternatives, choice_by, leaf, structured, enumerated, type_by, type_if, type_of, type_at, encoding_at}
 use Rattle.asn1_x690.specs.Laws.ElementLaws.{any_element_sound, any_element_one, element_some, contents_fewer}
 use Rattle.asn1_x690.specs.Laws.HeadedLaws.{IsGoodContents, IsGoodByHeader, headed_good, headed_present, invalid_header_good, only_header_good, any_header_good, NeverBegins, either_good}
 use Rattle.asn1_x690.specs.Laws.TypeContentsLaws.{IsGoodTold, only_value_good, told_good}
 use Rattle.asn1_x690.specs.Laws.ToldLaws.{TakeBits, invalid_told_good, nothing_more_good, present_good, present_some, present_present, required_good, perhaps_good}
 use Rattle.asn1_x690.specs.Laws.EndLaws.{to_end_good, renamed_good, some_or_none_good}
-use Rattle.asn1_x690.specs.Laws.LeafLaws.{OneToOne, leaf_of_good, boolean_one, null_one, integer_one, enumerated_one, enumerated_present, bit_string_one, octets_one, kept_one, characters_one}
+use Rattle.asn1_x690.specs.Laws.LeafLaws.{OneToOne, leaf_of_good, boolean_one, null_one, integer_one, enumerated_one, enumerated_present, bit_string_one, octets_one, kept_one, characters_one, time_one}
 
 -- a value of which all promises hold, that has a part and takes bits
 pub record IsValue (A : TypeEncoding FaultKind) : Type 0 where
@@ -291,6 +292,8 @@ module _ (E : ℕ → ByHeader FaultKind Identifier) (e : (n : ℕ) → IsGoodBy
   type_by_good t type.RelativeIdentifier =
       leaf_good t (IsKept IsRelativeIdentifier) always Octets (kept_one IsRelativeIdentifier) octets_alike (λ x c p q. cc)
   type_by_good t type.Utf8String = leaf_good t (IsKept IsUtf8Text) always Octets (kept_one IsUtf8Text) octets_alike (λ x c p q. cc)
+  type_by_good t type.Real = leaf_good t (IsKept IsReal) always Octets (kept_one IsReal) octets_alike (λ x c p q. cc)
+  type_by_good t (type.Time kind) = leaf_good t (IsTimeText kind) always Text (time_one kind) (λ x y p. cc) (λ x c p q. cc)
   type_by_good t (type.Text size is_extensible alphabet whole) =
       leaf_good t (AreCharacters (width_of t.characters))
       (IsText is_extensible size (rows_of context.ranges alphabet) (rows_of context.ranges whole)) Text

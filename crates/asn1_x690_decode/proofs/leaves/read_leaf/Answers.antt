@@ -5,7 +5,8 @@ use Rattle.asn1_schema.specs.declared.tables.Range.{Range}
 use Rattle.asn1_schema.specs.Pieces.{Null, Truth, Integer, Bits, Octets, Text}
 use Rattle.asn1_schema.specs.PiecesOfParts.{bits_of}
 use Rattle.asn1_x690.specs.Der.{always, rows_of}
-use Rattle.asn1_x690.specs.Leaves.{IsBoolean, IsNull, IsInteger, IsBitString, AreOctets, IsKept, IsObjectIdentifier, IsRelativeIdentifier, IsUtf8Text, width_of, AreCharacters, HasSize, IsBetween, IsAtLeast, AreTrimmed, AreSized, IsText}
+use Rattle.asn1_schema.specs.Reals.{IsReal}
+use Rattle.asn1_x690.specs.Leaves.{IsBoolean, IsNull, IsInteger, IsBitString, AreOctets, IsKept, IsObjectIdentifier, IsRelativeIdentifier, IsUtf8Text, width_of, AreCharacters, IsTimeText, HasSize, IsBetween, IsAtLeast, AreTrimmed, AreSized, IsText}
 use Rattle.asn1_x690_leaves.specs.Told.{IsTold}
 use Rattle.asn1_x690_decode.specs.Tables.{contents_by}
 use Rattle.asn1_x690_decode.specs.Decoding.{IsLeaf}
@@ -98,6 +99,22 @@ returns-in-Utf8String c depth =
     c.args.of.now.node contents c.utf8_string.result) (sym c.in-Utf8String.is)
     (told_leaf (IsKept IsUtf8Text) always Octets c.args.context.now c.args.of.now.node contents c.utf8_string.result
     (c.utf8_string.ensures c.args.context.now.tables.ranges.now))
+
+pub returns-in-Real : goal.returns-in-Real
+returns-in-Real c depth =
+    let contents = bits_of (bits c.args.context.now.octets.now) c.args.span in
+    subst (λ (n : Node). IsLeaf c.args.context.now (contents_by c.args.context.now depth c.args.of.now.node c.args.of.now.tags n)
+    c.args.of.now.node contents c.real.result) (sym c.in-Real.is)
+    (told_leaf (IsKept IsReal) always Octets c.args.context.now c.args.of.now.node contents c.real.result
+    (c.real.ensures c.args.context.now.tables.ranges.now))
+
+pub returns-in-Time : goal.returns-in-Time
+returns-in-Time c depth =
+    let contents = bits_of (bits c.args.context.now.octets.now) c.args.span in
+    subst (λ (n : Node). IsLeaf c.args.context.now (contents_by c.args.context.now depth c.args.of.now.node c.args.of.now.tags n)
+    c.args.of.now.node contents c.time.result) (sym c.in-Time.is)
+    (told_leaf (IsTimeText c.in-Time.kind) always Text c.args.context.now c.args.of.now.node contents c.time.result
+    (c.time.ensures c.args.context.now.tables.ranges.now))
 
 pub returns-in-Text : goal.returns-in-Text
 returns-in-Text c depth =

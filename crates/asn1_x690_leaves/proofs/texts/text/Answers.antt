@@ -10,19 +10,8 @@ use Rattle.asn1_schema.specs.PiecesOfParts.{bits_of}
 use Rattle.asn1_x690.specs.Leaves.{AreCharacters}
 use Rattle.asn1_x690_leaves.specs.Told.{AreOctetsOf}
 use Rattle.asn1_x690_leaves.proofs.SpanSteps.{span_size}
-use Rattle.asn1_x690_leaves.proofs.TextSteps.{are_characters, text_size}
+use Rattle.asn1_x690_leaves.proofs.TextSteps.{whole_count, characters, text_size}
 use Rattle.asn1_x690_leaves.proofs.texts.text.Goals as goal
-
-whole_count : (n w : ℕ) → 0 < w → n % w ≡ 0 → w * (n / w) ≡ n
-whole_count n w some e = omega (arith, some, e)
-
-characters : (list : List Bool) (s : Span) (w : ℕ) → AreOctetsOf list s → 0 < w → s.count % w ≡ 0
-    → AreCharacters w (numbers_in w (s.count / w) (drop s.at list)) (bits_of list s)
-characters list s w h some e =
-    let f = whole_count s.count w some e in
-    let i = h.inside in
-    subst (λ (n : ℕ). AreCharacters w (numbers_in w (s.count / w) (drop s.at list)) (take n (drop s.at list))) f
-    (are_characters w (s.count / w) (drop s.at list) (omega (arith, f, i, length-drop s.at list)))
 
 pub returns-then-span-width-ne0 : goal.returns-then-span-width-ne0
 returns-then-span-width-ne0 c ranges =

@@ -69,6 +69,16 @@ returns-in-Utf8String c =
     c.put_kept-in-Utf8String.new.octets c.put_kept-in-Utf8String.new.state c.put_kept-in-Utf8String.result) (sym k.is)
     (c.put_kept-in-Utf8String.ensures a.ranges.now)
 
+pub returns-in-Real : goal.returns-in-Real
+returns-in-Real c =
+    let a = c.args in
+    let k = c.in-Real in
+    let p = piece_in a.ranges.now a.source.now a.part in
+    subst
+    (λ (n : Node). IsPut (LeftAt (IsLeftOut a.source.now n a.part p) a.node c.put_kept-in-Real.new.state) (leaf_in a.ranges.now a.numbers.now a.node a.tags n) p a.octets.now a.state.now
+    c.put_kept-in-Real.new.octets c.put_kept-in-Real.new.state c.put_kept-in-Real.result) (sym k.is)
+    (c.put_kept-in-Real.ensures a.ranges.now)
+
 pub returns-in-IntegerBetween : goal.returns-in-IntegerBetween
 returns-in-IntegerBetween c =
     let a = c.args in
@@ -133,4 +143,16 @@ returns-in-Text c =
     (λ (n : Node). IsPut (LeftAt (IsLeftOut a.source.now n a.part p) a.node r.new.state) (leaf_in a.ranges.now a.numbers.now a.node a.tags n) p a.octets.now a.state.now
     r.new.octets r.new.state r.result) (sym k.is)
     (none_left (LeftAt (IsLeftOut a.source.now (type.Text k.length k.is_extensible k.alphabet k.whole) a.part p) a.node r.new.state) (leaf_in a.ranges.now a.numbers.now a.node a.tags (type.Text k.length k.is_extensible k.alphabet k.whole)) p a.octets.now a.state.now
+    r.new.octets r.new.state r.result r.ensures)
+
+pub returns-in-Time : goal.returns-in-Time
+returns-in-Time c =
+    let a = c.args in
+    let k = c.in-Time in
+    let p = piece_in a.ranges.now a.source.now a.part in
+    let r = c.put_time in
+    subst
+    (λ (n : Node). IsPut (LeftAt (IsLeftOut a.source.now n a.part p) a.node r.new.state) (leaf_in a.ranges.now a.numbers.now a.node a.tags n) p a.octets.now a.state.now
+    r.new.octets r.new.state r.result) (sym k.is)
+    (none_left (LeftAt (IsLeftOut a.source.now (type.Time k.kind) a.part p) a.node r.new.state) (leaf_in a.ranges.now a.numbers.now a.node a.tags (type.Time k.kind)) p a.octets.now a.state.now
     r.new.octets r.new.state r.result r.ensures)
