@@ -2,7 +2,7 @@
 use Rattle.std.proofs.Common.{◌≡◌, ℕ, zero, suc, ◌+◌, ◌-◌, ◌/◌, ◌^◌, min, max, ◌<◌, ◌≤◌, Bool, true, false, List, [], ◌∷◌, refl, sym, ◌∙◌, ap, subst, arith, inl, inr}
 use Rattle.std.specs.Prelude.{◌⊎◌, nat_le, nat_lt}
 use Rattle.std.proofs.Math.Pow.{pow_mono}
-use Rattle.std.proofs.lemmas.Bool.{cases_lt, le-ltb, ltb-false}
+use Rattle.std.proofs.lemmas.Bool.{cases_lt, lt-ltb, le-ltb, ltb-false}
 use Rattle.std.proofs.lemmas.Bool.Decides.{nat_tests}
 use Rattle.std.proofs.lemmas.Nat.{pow_pos}
 use Rattle.asn1_characters.specs.Widths.{IsLeastWidth, ceil_log2, align, width_for}
@@ -251,3 +251,30 @@ found_at ranges index i c low (inl e) same =
     e ∙ sym (character_past ranges i (omega (arith, few, low, same)))
 found_at ranges index i c low (inr p) same =
     sym (character_is ranges i c (omega (arith, low, same)) (omega (arith, p.0, p.1, same)))
+
+-- ---- the greatest character
+
+within_all : (ranges : List Range) (most : ℕ) → end_of ranges ≤ most + 1 → are_within ranges most ≡ true
+within_all [] most h = refl
+within_all (r ∷ ranges) most h = elim (cases_lt most r.last) [
+  | inl lt ↦ absurd (omega (arith, h, lt))
+  | inr le ↦ rw (are_within, le-ltb most r.last le) (within_all ranges most (omega (arith, h)))
+]
+
+within_not : (ranges : List Range) (most : ℕ) → most + 1 < end_of ranges → are_within ranges most ≡ false
+within_not [] most h = absurd (omega (arith, h))
+within_not (r ∷ ranges) most h = elim (cases_lt most r.last) [
+  | inl lt ↦ rw (are_within, lt-ltb most r.last lt) refl
+  | inr le ↦ rw (are_within, le-ltb most r.last le) (within_not ranges most (omega (arith, h, le)))
+]
+
+pub within_end : (ranges : List Range) (width end : ℕ) (b : Bool) → end ≡ end_of ranges → (b ≡ true → end ≤ 2 ^ width)
+    → (b ≡ false → 2 ^ width < end) → b ≡ are_within ranges (2 ^ width - 1)
+within_end ranges width end true is fitting past =
+    let some : 0 < 2 ^ width = pow_pos width in
+    let h = fitting refl in
+    sym (within_all ranges (2 ^ width - 1) (omega (arith, some, h, is)))
+within_end ranges width end false is fitting past =
+    let some : 0 < 2 ^ width = pow_pos width in
+    let h = past refl in
+    sym (within_not ranges (2 ^ width - 1) (omega (arith, some, h, is)))

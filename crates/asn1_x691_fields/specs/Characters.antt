@@ -5,7 +5,7 @@ use Rattle.asn1_schema.specs.declared.part.Codes.TheVariants.{Numbers, Indices}
 use Rattle.asn1_schema.specs.declared.tables.Range.{Range}
 use Rattle.asn1_schema.specs.declared.tables.Rows.{Rows}
 use Rattle.asn1_schema.specs.CharactersOfParts.{character_at, numbers_in}
-use Rattle.asn1_x691.specs.Alphabets.{IsIn, count_of, width_of, are_within}
+use Rattle.asn1_x691.specs.Alphabets.{IsIn, count_of, width_of, are_within, HasCode}
 use Rattle.asn1_x691_fields.specs.declared.alphabets.Alphabet.{Alphabet}
 
 -- the ranges of rows of a table
@@ -34,6 +34,11 @@ character_by false ranges i = character_at ranges i
 -- so many characters from a bit on
 abbrev pub characters_at : Alphabet → List Bool → ℕ → ℕ → List ℕ
 characters_at a list at count = map (character_by a.are_numbers a.ranges.now) (numbers_in a.width count (drop at list))
+
+-- each of these codes is of a character
+abbrev pub AreCodes : Alphabet → List ℕ → Type 0
+AreCodes a [] = Unit {0}
+AreCodes a (i ∷ codes) = HasCode a.is_aligned a.ranges.now i (character_by a.are_numbers a.ranges.now i) × AreCodes a codes
 
 -- what a part says of its codes
 abbrev pub codes_by : Bool → Rows → Codes

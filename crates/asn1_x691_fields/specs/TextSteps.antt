@@ -1,11 +1,13 @@
 -- What follows from steps over characters.
-use Rattle.std.proofs.Common.{◌≡◌, ℕ, zero, suc, ◌+◌, ◌<◌, List, [], ◌∷◌, Bool, true, false, map, take, drop, refl, sym, ap, subst, arith, inl}
-use Rattle.std.proofs.lemmas.List.{drop-drop}
-use Rattle.asn1_bits.specs.Bits.{number}
+use Rattle.std.proofs.Common.{◌≡◌, ℕ, zero, suc, ◌+◌, ◌*◌, ◌^◌, ◌<◌, ◌≤◌, List, [], ◌∷◌, Bool, true, false, length, map, take, drop, refl, sym, ◌∙◌, ap, subst, arith, inl}
+use Rattle.std.proofs.lemmas.List.{append-nil, drop-drop, length-take-le, length-drop}
+use Rattle.std.proofs.Math.Seq.{take-add}
+use Rattle.asn1_bits.specs.Bits.{number, digits}
+use Rattle.asn1_bits.specs.NumberLaws.{number-lt, digits_of-number}
 use Rattle.asn1_schema.specs.declared.tables.Range.{Range}
 use Rattle.asn1_schema.specs.declared.tables.Rows.{Rows}
 use Rattle.asn1_schema.specs.CharactersOfParts.{numbers_in, character_at, character_of, characters_of}
-use Rattle.asn1_schema.specs.Encodings.{Fault, Encoding, Starts, IsAt, number as number_of, value_where, each}
+use Rattle.asn1_schema.specs.Encodings.{Fault, Encoding, Starts, IsAt, IsNumber, number as number_of, value_where, each}
 use Rattle.asn1_x691.specs.declared.fault.FaultKind.{FaultKind}
 use Rattle.asn1_x691.specs.declared.fault.FaultKind.TheVariants.{Short, NotInAlphabet}
 use Rattle.asn1_x691.specs.Alphabets.{width_of, HasCode}
@@ -13,8 +15,17 @@ use Rattle.asn1_x691.specs.Characters.{character}
 use Rattle.asn1_x691_fields.specs.declared.alphabets.Alphabet.{Alphabet}
 use Rattle.asn1_x691_fields.specs.declared.state.State.{State}
 use Rattle.asn1_x691_fields.specs.Outcomes.{rest}
-use Rattle.asn1_x691_fields.specs.Characters.{rows_of, character_by, characters_at, codes_by}
+use Rattle.asn1_x691_fields.specs.Characters.{rows_of, character_by, characters_at, codes_by, AreCodes}
 use Rattle.asn1_x691_fields.specs.Steps.{then_starts, then_fault, constant_starts}
+
+-- the first of so many numbers, and the others
+pub first_number : (width left more at : ℕ) (list : List Bool) → more + 1 ≡ left
+    → numbers_in width left (drop at list) ≡ number (take width (drop at list)) ∷ numbers_in width more (drop (at + width) list)
+first_number width zero more at list e = absurd (omega (arith, e))
+first_number width (suc left) more at list e =
+    let same : left ≡ more = omega (arith, e) in
+    ap (λ (l : List Bool). number (take width (drop at list)) ∷ numbers_in width left l) (drop-drop width at list)
+    ∙ ap (λ (n : ℕ). number (take width (drop at list)) ∷ numbers_in width n (drop (at + width) list)) same
 
 -- ---- one character
 
@@ -130,3 +141,45 @@ pub text_piece : (a : Alphabet) (table : List Range) (rows : Rows) (list : List 
     ≡ characters_at a list at count
 text_piece a table rows list at count e =
     by_codes a.are_numbers table rows a.ranges.now (numbers_in a.width count (drop at list)) e
+
+-- ---- codes that are all of characters
+
+module _ (a : Alphabet) (node : ℕ) where
+  abbrev One : Encoding FaultKind ℕ
+  One = character a.is_aligned a.ranges.now node
+
+  one_character : (i : ℕ) (front : List Bool) → i < 2 ^ a.width → front ≡ digits i a.width → a.width ≡ width_of a.is_aligned a.ranges.now
+      → HasCode a.is_aligned a.ranges.now i (character_by a.are_numbers a.ranges.now i)
+      → One.encodes (character_by a.are_numbers a.ranges.now i) front
+  one_character i front below is width h = record {
+    value = i;
+    after = character_by a.are_numbers a.ranges.now i;
+    front = front;
+    rest = [];
+    first = subst (λ (w : ℕ). IsNumber w i front) width (below, is);
+    second = (h, refl);
+    is = refl;
+    parts = sym (append-nil front);
+  }
+
+  -- they are the encoding of these characters
+  pub codes_encode : (count : ℕ) (list : List Bool) → a.width ≡ width_of a.is_aligned a.ranges.now → a.width * count ≤ length list
+      → AreCodes a (numbers_in a.width count list)
+      → (each One count).encodes (map (character_by a.are_numbers a.ranges.now) (numbers_in a.width count list)) (take (a.width * count) list)
+  codes_encode zero list width h codes =
+      let none : a.width * 0 ≡ 0 = omega arith in (refl, ap (λ (n : ℕ). take n list) none)
+  codes_encode (suc count) list width h codes =
+      let e : a.width * suc count ≡ a.width + a.width * count = omega arith in
+      let size : length (take a.width list) ≡ a.width = length-take-le a.width list (omega (arith, h, e)) in
+      record {
+        value = character_by a.are_numbers a.ranges.now (number (take a.width list));
+        after = map (character_by a.are_numbers a.ranges.now) (numbers_in a.width count (drop a.width list));
+        front = take a.width list;
+        rest = take (a.width * count) (drop a.width list);
+        first = one_character (number (take a.width list)) (take a.width list)
+            (subst (λ (n : ℕ). number (take a.width list) < 2 ^ n) size (number-lt (take a.width list)))
+            (sym (digits_of-number (take a.width list) a.width size)) width codes.0;
+        second = codes_encode count (drop a.width list) width (omega (arith, h, e, length-drop a.width list)) codes.1;
+        is = refl;
+        parts = ap (λ (n : ℕ). take n list) e ∙ take-add a.width (a.width * count) list;
+      }

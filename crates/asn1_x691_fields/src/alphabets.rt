@@ -7,6 +7,7 @@ ghost use Rattle.asn1_x691.specs.Alphabets.{IsIn, HasCode, count_of as count_in,
 ghost use Rattle.asn1_x691_fields.specs.Characters.{IsAlphabet, AreAscending, rows_of, character_by};
 
 use crate::numbers::width_to;
+use crate::range_sums::{MOST_RANGES, fits, sums_of};
 use asn1_schema::{Range, Rows};
 
 /// An alphabet, and how its characters are encoded.
@@ -28,6 +29,28 @@ pub struct Alphabet<'s> {
 
 /// Returns the alphabet of ranges.
 pub fn alphabet_of(ranges: &[Range], is_aligned: bool) -> Alphabet<'_>
+    ensures is { IsAlphabet result }
+    ensures ranges { result.ranges.now ≡ ranges.now }
+    ensures variant { result.is_aligned ≡ is_aligned }
+{
+    if ranges.len() > MOST_RANGES {
+        return alphabet_of_many(ranges, is_aligned);
+    }
+    let sums = sums_of(ranges);
+    let width = width_of(sums.count as u128, is_aligned);
+    Alphabet {
+        ranges,
+        is_aligned,
+        width,
+        are_numbers: fits(sums.end, width),
+        count: sums.count as u128,
+        are_ascending: sums.are_ascending,
+    }
+}
+
+/// Returns the alphabet of ranges, of any number.
+#[cold]
+fn alphabet_of_many(ranges: &[Range], is_aligned: bool) -> Alphabet<'_>
     ensures is { IsAlphabet result }
     ensures ranges { result.ranges.now ≡ ranges.now }
     ensures variant { result.is_aligned ≡ is_aligned }
@@ -230,6 +253,7 @@ fn is_index(alphabet: &Alphabet<'_>, index: u128) -> bool
 }
 
 /// Returns whether a code is of a character (X.691 30.5.4).
+#[inline(always)]
 pub(crate) fn has_code(alphabet: &Alphabet<'_>, code: u128) -> bool
     requires { IsAlphabet alphabet.now }
     ensures yes { result ≡ true → HasCode alphabet.now.is_aligned alphabet.now.ranges.now code

@@ -1,16 +1,17 @@
 //! Characters by their codes (X.691 30.5.4).
 
-ghost use Rattle.std.specs.Prelude.{◌≡◌, ◌≤◌, ◌<◌, ◌^◌, ◌*◌, ◌+◌, length, IfSome};
+ghost use Rattle.std.specs.Prelude.{◌≡◌, ◌≤◌, ◌<◌, ◌^◌, ◌*◌, ◌+◌, ℕ, length, IfSome, IsNone};
 ghost use Rattle.asn1_bits.specs.Bits.{bits, number as number_of};
-ghost use Rattle.asn1_schema.specs.Encodings.{number, anywhere};
+ghost use Rattle.asn1_schema.specs.Encodings.{Starts, number, anywhere, each};
 ghost use Rattle.asn1_schema.specs.PiecesOfParts.{bits_at};
 ghost use Rattle.asn1_x691.specs.declared.fault.FaultKind.TheVariants.{Short};
 ghost use Rattle.asn1_x691.specs.Characters.{character, characters};
-ghost use Rattle.asn1_x691_fields.specs.Outcomes.{IsWithin, IsOnward, IsRead};
+ghost use Rattle.asn1_x691_fields.specs.Outcomes.{IsWithin, IsOnward, IsRead, rest};
 ghost use Rattle.asn1_x691_fields.specs.Characters.{IsAlphabet, character_by, characters_at};
 
 use crate::alphabets::{Alphabet, has_code};
 use crate::bits::number_at;
+use crate::code_runs::are_codes;
 use crate::state::{State, fail};
 use asn1_bits::read_wide;
 use asn1_x691::FaultKind;
@@ -70,8 +71,64 @@ fn next_character(
     Some(())
 }
 
+/// Reads so many characters whose codes are all of characters, and returns the index of the first
+/// bit. Reads nothing where there is a fault, or where a code has more than 57 bits.
+fn next_codes(
+    octets: &[u8],
+    alphabet: &Alphabet<'_>,
+    count: usize,
+    state: &mut State,
+) -> Option<usize>
+    requires size { 8 * length octets.now < 2 ^ 64 }
+    requires alphabet { IsAlphabet alphabet.now }
+    requires within { IsWithin (bits octets.now) state.old }
+    ensures unchanged { IsNone result → state.new ≡ state.old }
+    ensures onward { IsOnward (bits octets.now) state.old state.new }
+    ensures inside { IfSome result (λ at. at + alphabet.now.width * count ≤ 8 * length octets.now) }
+    ensures read { (node : ℕ) → IfSome result (λ at. Starts (each (character alphabet.now.is_aligned alphabet.now.ranges.now node) count).encodes
+        (rest (bits octets.now) state.old) (characters_at alphabet.now (bits octets.now) at count) (rest (bits octets.now) state.new)) }
+{
+    if alphabet.width > 57 {
+        return None;
+    }
+    let at = state.at;
+    match alphabet.width.checked_mul(count) {
+        Some(size) if size <= state.end - at => {
+            if !are_codes(octets, alphabet, at, count) {
+                return None;
+            }
+            state.at = at + size;
+            Some(at)
+        }
+        _ => None,
+    }
+}
+
 /// Reads so many characters, and returns the index of the first bit.
 pub(crate) fn next_characters(
+    octets: &[u8],
+    alphabet: &Alphabet<'_>,
+    count: usize,
+    node: usize,
+    state: &mut State,
+) -> Option<usize>
+    requires size { 8 * length octets.now < 2 ^ 64 }
+    requires alphabet { IsAlphabet alphabet.now }
+    requires within { IsWithin (bits octets.now) state.old }
+    ensures onward { IsOnward (bits octets.now) state.old state.new }
+    ensures inside { IfSome result (λ at. at + alphabet.now.width * count ≤ 8 * length octets.now) }
+    ensures read { IsRead (characters alphabet.now.is_aligned alphabet.now.ranges.now node count)
+        (λ at. characters_at alphabet.now (bits octets.now) at count) (bits octets.now) state.old state.new result }
+{
+    if let Some(at) = next_codes(octets, alphabet, count, state) {
+        return Some(at);
+    }
+    next_each(octets, alphabet, count, node, state)
+}
+
+/// Reads so many characters one after another, and returns the index of the first bit.
+#[cold]
+fn next_each(
     octets: &[u8],
     alphabet: &Alphabet<'_>,
     count: usize,

@@ -7,7 +7,7 @@ use Rattle.asn1_x691_fields.specs.Outcomes.{fault_of}
 use Rattle.asn1_x691_fields.specs.Steps.{moved_on, within_after}
 use Rattle.asn1_x691_fields.specs.StringSteps.{none_read}
 use Rattle.asn1_x691_fields.specs.TextSteps.{characters_go_on, characters_fault}
-use Rattle.asn1_x691_fields.proofs.characters.next_characters.Goals as goal
+use Rattle.asn1_x691_fields.proofs.characters.next_each.Goals as goal
 
 one_more : (width left more : ℕ) → more + 1 ≡ left → width * left ≡ width * more + width
 one_more width left more e =

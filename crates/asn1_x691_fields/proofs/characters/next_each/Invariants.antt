@@ -2,7 +2,7 @@ use Rattle.std.proofs.Common.{◌≡◌, ◌+◌, ◌*◌}
 use Rattle.asn1_bits.specs.Bits.{bits}
 use Rattle.asn1_x691_fields.specs.Outcomes.{IsWithin, IsOnward}
 use Rattle.asn1_x691_fields.specs.TextSteps.{AreGoingOn}
-use Rattle.asn1_x691_fields.proofs.characters.next_characters.Given as goal
+use Rattle.asn1_x691_fields.proofs.characters.next_each.Given as goal
 
 abbrev pub invariant-loop-left : goal.invariant-loop-left
 invariant-loop-left l = record {

@@ -1,0 +1,55 @@
+//! What all ranges of an alphabet tell together.
+
+ghost use Rattle.std.specs.Prelude.{◌≡◌, ◌≤◌, ◌<◌, ◌^◌, ℕ, true, false, length};
+ghost use Rattle.asn1_schema.specs.CharactersOfParts.{end_of};
+ghost use Rattle.asn1_x691.specs.Alphabets.{IsIn, count_of};
+ghost use Rattle.asn1_x691_fields.specs.Characters.{AreAscending};
+
+use asn1_schema::Range;
+
+/// Of up to so many ranges the number of characters is summed in a word.
+pub(crate) const MOST_RANGES: usize = 1048576;
+
+/// What all ranges of an alphabet tell together.
+#[derive(Clone, Copy, Debug)]
+pub(crate) struct RangeSums {
+    /// How many characters there are.
+    pub(crate) count: u64,
+    /// The first number that exceeds all characters.
+    pub(crate) end: u64,
+    /// Whether the ranges ascend, and none of them is empty.
+    pub(crate) are_ascending: bool,
+}
+
+/// Returns what ranges tell together.
+pub(crate) fn sums_of(ranges: &[Range]) -> RangeSums
+    requires { length ranges.now ≤ 1048576 }
+    ensures count { result.count ≡ count_of ranges.now }
+    ensures few { result.count ≤ 2 ^ 52 }
+    ensures end { result.end ≡ end_of ranges.now }
+    ensures small { (c : ℕ) → IsIn ranges.now c → c < 2 ^ 32 }
+    ensures ascending { result.are_ascending ≡ true → AreAscending 0 ranges.now }
+{
+    let mut count: u64 = 0;
+    let mut end: u64 = 0;
+    let mut are_ascending = true;
+    for range in ranges {
+        let (first, after) = (range.first as u64, range.last as u64 + 1);
+        are_ascending = are_ascending && end <= first && first < after;
+        count += after.saturating_sub(first);
+        end = end.max(after);
+    }
+    RangeSums {
+        count,
+        end,
+        are_ascending,
+    }
+}
+
+/// Returns whether each number below an end has at most `width` bits.
+pub(crate) fn fits(end: u64, width: usize) -> bool
+    ensures yes { result ≡ true → end ≤ 2 ^ width }
+    ensures no { result ≡ false → 2 ^ width < end }
+{
+    width >= 64 || end <= 1u64 << width
+}
