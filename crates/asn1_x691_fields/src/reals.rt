@@ -27,12 +27,7 @@ pub fn is_real_at(message: &[u8], span: Span) -> bool
 }
 
 /// Reads a REAL by its contents octets.
-pub fn next_real(
-    octets: &[u8],
-    is_aligned: bool,
-    node: usize,
-    state: &mut State,
-) -> Option<Part>
+pub fn next_real(octets: &[u8], is_aligned: bool, node: usize, state: &mut State) -> Option<Part>
     requires size { 8 * length octets.now < 2 ^ 64 }
     requires within { IsWithin (bits octets.now) state.old }
     requires placed { IsPlaced is_aligned state.old }

@@ -7,8 +7,10 @@ pub mod Enclosed
 pub mod Validity
 pub mod Texts
 pub mod PartCharacters
+pub mod Copied
 pub mod Joined
 -- What follows of what calls wrote; no contract cites it.
+pub mod CopiedSteps
 pub mod DigitSteps
 pub mod EnclosedSteps
 pub mod EnumeratedSteps

@@ -12,7 +12,8 @@ ghost use Rattle.asn1_x691_fields.specs.Characters.{IsAlphabet};
 ghost use Rattle.asn1_x691_writers.specs.Texts.{AreIn};
 ghost use Rattle.asn1_x691_writers.specs.Written.{IsWritten};
 
-use crate::bits::{put_wide, read_few};
+use crate::bits::{put_bits, put_wide, read_few};
+use crate::copied::are_copied;
 use crate::held::strip_zeros;
 use crate::spans::clip;
 use asn1_bits::read_wide;
@@ -146,6 +147,9 @@ pub(crate) fn are_in(
     ensures yes { result ≡ true → AreIn alphabet.now.ranges.now (characters_of table.now (bits source.now) text) }
     ensures no { result ≡ false → AreIn alphabet.now.ranges.now (characters_of table.now (bits source.now) text) → ⊥ }
 {
+    if are_copied(alphabet, source, table, text) {
+        return true;
+    }
     let mut left = text;
     while left.count > 0 {
         let character = first_character(source, table, left);
@@ -171,6 +175,30 @@ fn put_character(octets: &mut [u8], at: usize, alphabet: &Alphabet<'_>, characte
 /// Writes the characters of a part, which are in the alphabet, by their codes. Returns the index
 /// after them.
 pub(crate) fn put_characters(
+    octets: &mut [u8],
+    at: usize,
+    alphabet: &Alphabet<'_>,
+    source: &[u8],
+    table: &[Range],
+    text: Characters,
+) -> usize
+    requires size { 8 * length octets.old < 2 ^ 64 }
+    requires source { 8 * length source.now < 2 ^ 64 }
+    requires is { IsAlphabet alphabet.now }
+    requires within { AreIn alphabet.now.ranges.now (characters_of table.now (bits source.now) text) }
+    ensures { (node : ℕ) → IsWritten alphabet.now.is_aligned (characters alphabet.now.is_aligned alphabet.now.ranges.now node text.count)
+        (characters_of table.now (bits source.now) text) octets.old at octets.new result }
+{
+    if are_copied(alphabet, source, table, text) {
+        let size = alphabet.width * text.count;
+        return put_bits(octets, at, source, text.at, size);
+    }
+    put_each(octets, at, alphabet, source, table, text)
+}
+
+/// Writes the characters of a part, which are in the alphabet, one after another by their codes.
+/// Returns the index after them.
+fn put_each(
     octets: &mut [u8],
     at: usize,
     alphabet: &Alphabet<'_>,

@@ -16,6 +16,7 @@ mod bits;
 mod booleans;
 mod characters;
 mod contents;
+mod copied;
 mod enclosed;
 mod enumerations;
 mod heads;

@@ -6,6 +6,7 @@ use Rattle.asn1_schema.specs.PiecesOfParts.{bits_at}
 use Rattle.asn1_x691.specs.Alphabets.{IsIn}
 use Rattle.asn1_x691_writers.specs.Texts.{AreIn}
 use Rattle.asn1_x691_writers.specs.TextSteps.{first_in, none_left}
+use Rattle.asn1_x691_writers.specs.CopiedSteps.{copied_in}
 use Rattle.asn1_x691_writers.proofs.CharacterLemmas.{not_cut, is_character}
 use Rattle.asn1_x691_writers.proofs.characters.are_in.Goals as goal
 
@@ -40,3 +41,7 @@ pub returns-clause-yes : goal.returns-clause-yes
 returns-clause-yes c e =
     let none = none_left c.args.table.now (bits c.args.source.now) c.loop-left.left (omega (arith, c.loop-left-test.false)) in
     c.loop-left.invariant.others (subst (λ (l : List ℕ). AreIn c.args.alphabet.now.ranges.now l) (sym none) tt)
+
+pub returns-then-are_copied-clause-yes : goal.returns-then-are_copied-clause-yes
+returns-then-are_copied-clause-yes c e =
+    copied_in c.args.alphabet.now c.args.source.now c.args.table.now c.args.text (c.are_copied.ensures c.if-are_copied.true)

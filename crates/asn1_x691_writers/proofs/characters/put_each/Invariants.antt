@@ -1,6 +1,6 @@
 use Rattle.asn1_bits.specs.Bits.{bits}
 use Rattle.asn1_x691_writers.proofs.CharacterLemmas.{IsUnderway}
-use Rattle.asn1_x691_writers.proofs.characters.put_characters.Given as goal
+use Rattle.asn1_x691_writers.proofs.characters.put_each.Given as goal
 
 abbrev pub invariant-loop-left : goal.invariant-loop-left
 invariant-loop-left l =
