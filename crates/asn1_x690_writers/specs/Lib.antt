@@ -9,5 +9,6 @@ pub mod Texts
 pub mod EnumeratedSteps
 pub mod HeaderSteps
 pub mod NumberSteps
+pub mod OctetSteps
 pub mod PutSteps
 pub mod TextSteps

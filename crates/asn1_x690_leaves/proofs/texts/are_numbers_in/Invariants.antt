@@ -2,7 +2,7 @@ use Rattle.std.proofs.Common.{◌≡◌, ◌+◌, ◌*◌, drop}
 use Rattle.asn1_bits.specs.Bits.{bits}
 use Rattle.asn1_schema.specs.CharactersOfParts.{numbers_in}
 use Rattle.asn1_x690.specs.Leaves.{AreIn}
-use Rattle.asn1_x690_leaves.proofs.texts.are_in.Given as goal
+use Rattle.asn1_x690_leaves.proofs.texts.are_numbers_in.Given as goal
 
 abbrev pub invariant-loop-left : goal.invariant-loop-left
 invariant-loop-left l = record {

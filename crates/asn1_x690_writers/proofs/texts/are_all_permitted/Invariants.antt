@@ -2,7 +2,7 @@ use Rattle.asn1_bits.specs.Bits.{bits}
 use Rattle.asn1_schema.specs.CharactersOfParts.{characters_of}
 use Rattle.asn1_x690.specs.Leaves.{AreIn}
 use Rattle.asn1_x690_writers.specs.Texts.{AreWithin}
-use Rattle.asn1_x690_writers.proofs.texts.are_permitted.Given as goal
+use Rattle.asn1_x690_writers.proofs.texts.are_all_permitted.Given as goal
 
 abbrev pub invariant-loop-left : goal.invariant-loop-left
 invariant-loop-left l = record {

@@ -1,7 +1,7 @@
 use Rattle.asn1_bits.specs.Bits.{bits}
 use Rattle.asn1_schema.specs.CharactersOfParts.{characters_of}
 use Rattle.asn1_x690_writers.specs.TextSteps.{IsTextUnderway}
-use Rattle.asn1_x690_writers.proofs.texts.put_characters.Given as goal
+use Rattle.asn1_x690_writers.proofs.texts.put_each_character.Given as goal
 
 abbrev pub invariant-loop-left : goal.invariant-loop-left
 invariant-loop-left l =
