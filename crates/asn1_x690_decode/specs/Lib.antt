@@ -4,3 +4,4 @@ pub mod Decoding
 pub mod Members
 pub mod Alternatives
 pub mod Messages
+pub mod Explanations

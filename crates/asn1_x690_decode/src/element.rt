@@ -1,6 +1,6 @@
 //! Decodes an element, and its contents octets by their type.
 
-ghost use Rattle.std.specs.Prelude.{◌≡◌, ◌≤◌, ◌<◌, ◌^◌, ◌*◌, true, length, slice_get};
+ghost use Rattle.std.specs.Prelude.{◌≡◌, ◌≤◌, ◌<◌, ◌^◌, ◌*◌, true, length, slice_get, Some, None, MatchOption};
 ghost use Rattle.asn1_bits.specs.Bits.{bits};
 ghost use Rattle.asn1_x690.specs.declared.tables.Identifier.{Identifier};
 ghost use Rattle.asn1_x690_fields.specs.Outcomes.{IsWithin};
@@ -15,11 +15,11 @@ use asn1_x690_fields::{State, fail, next_header, tags_in};
 
 /// Returns the type at a node.
 #[inline(always)]
-fn node_at(nodes: &[Node], node: usize) -> Option<Node>
-    ensures { result ≡ slice_get nodes.now node }
+fn node_at(nodes: &[Node], node: usize) -> Option<&Node>
+    ensures { MatchOption result (None ≡ slice_get nodes.now node) (λ is. Some is.now ≡ slice_get nodes.now node) }
 {
     if node < nodes.len() {
-        Some(nodes[node])
+        Some(&nodes[node])
     } else {
         None
     }
@@ -27,11 +27,11 @@ fn node_at(nodes: &[Node], node: usize) -> Option<Node>
 
 /// Returns the tags of the type at a node.
 #[inline(always)]
-fn tags_at(types: &[TypeTags], node: usize) -> Option<TypeTags>
-    ensures { result ≡ slice_get types.now node }
+fn tags_at(types: &[TypeTags], node: usize) -> Option<&TypeTags>
+    ensures { MatchOption result (None ≡ slice_get types.now node) (λ tags. Some tags.now ≡ slice_get types.now node) }
 {
     if node < types.len() {
-        Some(types[node])
+        Some(&types[node])
     } else {
         None
     }
@@ -39,6 +39,7 @@ fn tags_at(types: &[TypeTags], node: usize) -> Option<TypeTags>
 
 /// Decodes an element that encodes a value of the type at a node. The value may be nested less deep
 /// than `depth`.
+#[inline(always)]
 #[cycle(decoding)]
 pub(crate) fn decode_element(
     context: &Context<'_>,
@@ -74,6 +75,7 @@ pub(crate) fn decode_element(
 
 /// Decodes the contents octets of an element as those of the type at a node. The value may be nested
 /// less deep than `depth`.
+#[inline(always)]
 #[cycle(decoding)]
 pub(crate) fn decode_contents(
     context: &Context<'_>,

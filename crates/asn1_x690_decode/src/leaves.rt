@@ -49,7 +49,7 @@ fn numbers_in(numbers: &[i128], from: usize, count: usize) -> &[i128]
 /// Reads an ENUMERATED by the numbers of its type.
 fn enumerated_by(
     context: &Context<'_>,
-    of: &Type,
+    of: &Type<'_>,
     last: u32,
     is_extensible: bool,
     known: u32,
@@ -57,7 +57,7 @@ fn enumerated_by(
 ) -> Result<Part, FaultKind>
     requires size { 8 * length context.now.octets.now < 2 ^ 64 }
     requires contents { AreOctetsOf (bits context.now.octets.now) span }
-    ensures { (depth : ℕ) → IsLeaf context.now (contents_by context.now depth of.now.node of.now.tags
+    ensures { (depth : ℕ) → IsLeaf context.now (contents_by context.now depth of.now.node of.now.tags.now
         (Enumerated last is_extensible known)) of.now.node (bits_of (bits context.now.octets.now) span) result }
 {
     let known = if is_extensible { known as usize } else { 0 };
@@ -70,15 +70,16 @@ fn enumerated_by(
 }
 
 /// Reads contents octets as a value of a type of one part.
-fn read_leaf(context: &Context<'_>, of: &Type, span: Span) -> Result<Part, FaultKind>
+#[inline(always)]
+fn read_leaf(context: &Context<'_>, of: &Type<'_>, span: Span) -> Result<Part, FaultKind>
     requires size { 8 * length context.now.octets.now < 2 ^ 64 }
     requires contents { AreOctetsOf (bits context.now.octets.now) span }
-    requires leaf { is_structured of.now.is ≡ false }
-    ensures { (depth : ℕ) → IsLeaf context.now (contents_by context.now depth of.now.node of.now.tags of.now.is) of.now.node
+    requires leaf { is_structured of.now.is.now ≡ false }
+    ensures { (depth : ℕ) → IsLeaf context.now (contents_by context.now depth of.now.node of.now.tags.now of.now.is.now) of.now.node
         (bits_of (bits context.now.octets.now) span) result }
 {
     let octets = context.octets;
-    match of.is {
+    match *of.is {
         Node::Null => null(octets, span),
         Node::Boolean => boolean(octets, span),
         Node::IntegerBetween {
@@ -128,18 +129,19 @@ fn read_leaf(context: &Context<'_>, of: &Type, span: Span) -> Result<Part, Fault
 }
 
 /// Decodes contents octets as a value of a type of one part.
+#[inline(always)]
 pub(crate) fn decode_leaf(
     context: &Context<'_>,
-    of: &Type,
+    of: &Type<'_>,
     state: &mut State,
     parts: &mut [Part],
 ) -> bool
     requires size { 8 * length context.now.octets.now < 2 ^ 64 }
     requires contents { AreContents (bits context.now.octets.now) state.old }
-    requires leaf { is_structured of.now.is ≡ false }
+    requires leaf { is_structured of.now.is.now ≡ false }
     ensures moved { IsMoved (bits context.now.octets.now) state.old state.new }
     ensures all { result ≡ true → state.new.at ≡ state.old.end }
-    ensures did { (depth : ℕ) → ContentsOutcome context.now (contents_by context.now depth of.now.node of.now.tags of.now.is).contents
+    ensures did { (depth : ℕ) → ContentsOutcome context.now (contents_by context.now depth of.now.node of.now.tags.now of.now.is.now).contents
         state.old state.new parts.old parts.new result }
 {
     let span = Span {

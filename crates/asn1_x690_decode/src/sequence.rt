@@ -20,6 +20,7 @@ use asn1_x690_fields::{State, fail, has_tag, next_identifier};
 use asn1_x691_fields::is_default;
 
 /// Decodes contents octets as a SEQUENCE.
+#[inline(never)]
 #[cycle(decoding)]
 pub(crate) fn decode_sequence(
     context: &Context<'_>,
@@ -64,6 +65,7 @@ pub(crate) fn decode_sequence(
 }
 
 /// Decodes components, or additions that the schema knows, one after another.
+#[inline(always)]
 #[cycle(decoding)]
 pub(crate) fn decode_members(
     context: &Context<'_>,
@@ -101,6 +103,7 @@ pub(crate) fn decode_members(
 }
 
 /// Decodes the component so many after an index of the table of members.
+#[inline(always)]
 #[cycle(decoding)]
 fn decode_member(
     context: &Context<'_>,
@@ -131,7 +134,7 @@ fn decode_member(
                     fail(state, member.node, FaultKind::Missing);
                     return false;
                 }
-                return decode_value(context, depth, node, member, state, parts);
+                return decode_element(context, depth, member.node, state, parts);
             }
             match first_at(context.tags.members, from, index) {
                 None => {
@@ -151,6 +154,7 @@ fn decode_member(
 }
 
 /// Returns whether the next bits are identifier octets of one of the tags.
+#[inline(never)]
 fn begins_with(context: &Context<'_>, first: FirstTags, state: &State) -> bool
     requires size { 8 * length context.now.octets.now < 2 ^ 64 }
     requires within { IsWithin (bits context.now.octets.now) state.now }
@@ -165,6 +169,7 @@ fn begins_with(context: &Context<'_>, first: FirstTags, state: &State) -> bool
 }
 
 /// Decodes the value of a component, which must not be its default value.
+#[inline(never)]
 #[cycle(decoding)]
 fn decode_value(
     context: &Context<'_>,

@@ -22,13 +22,13 @@ use asn1_x690_fields::{FoundIdentifier, State, fail, is_identifier, next_header}
 
 /// A type of the schema.
 #[derive(Clone, Copy, Debug)]
-pub(crate) struct Type {
+pub(crate) struct Type<'s> {
     /// Its index in the table of nodes.
     pub node: usize,
     /// What it is.
-    pub is: Node,
+    pub is: &'s Node,
     /// What the rules ask of it beside.
-    pub tags: TypeTags,
+    pub tags: &'s TypeTags,
 }
 
 /// An element whose header was read.
@@ -42,10 +42,10 @@ pub(crate) struct Element {
 
 /// Returns whether a type has no contents of its own: ANY, an open type or a CHOICE.
 #[inline(always)]
-fn is_bare(of: &Type) -> bool
-    ensures { result ≡ is_bare_by of.now.tags.is_any of.now.is }
+fn is_bare(of: &Type<'_>) -> bool
+    ensures { result ≡ is_bare_by of.now.tags.now.is_any of.now.is.now }
 {
-    of.tags.is_any || matches!(of.is, Node::Choice { .. } | Node::Open { .. })
+    of.tags.is_any || matches!(*of.is, Node::Choice { .. } | Node::Open { .. })
 }
 
 /// Returns whether the contents octets of a type are elements.
@@ -60,11 +60,12 @@ fn is_structured(is: &Node) -> bool
 }
 
 /// Decodes the contents octets of an element as those of a type in tags.
+#[inline(always)]
 #[cycle(decoding)]
 pub(crate) fn decode_by_tags(
     context: &Context<'_>,
     depth: usize,
-    of: &Type,
+    of: &Type<'_>,
     tags: &[Tag],
     element: &Element,
     state: &mut State,
@@ -77,7 +78,7 @@ pub(crate) fn decode_by_tags(
     ensures all { result ≡ true → state.new.at ≡ state.old.end }
     ensures did { (id : Identifier)
         → IsInside (bits context.now.octets.now) element.now.start element.now.identifier id state.old
-        → ContentsOutcome context.now ((tagged_by context.now depth of.now.node of.now.tags of.now.is tags.now).contents id)
+        → ContentsOutcome context.now ((tagged_by context.now depth of.now.node of.now.tags.now of.now.is.now tags.now).contents id)
         state.old state.new parts.old parts.new result }
 {
     match tags.split_first() {
@@ -90,7 +91,7 @@ pub(crate) fn decode_by_tags(
         }
         Some((tag, others)) => {
             if others.is_empty() && !is_bare(of) {
-                if !is_identifier(&element.identifier, *tag, is_structured(&of.is)) {
+                if !is_identifier(&element.identifier, *tag, is_structured(of.is)) {
                     fail(state, of.node, FaultKind::OtherTag);
                     return false;
                 }
@@ -106,11 +107,12 @@ pub(crate) fn decode_by_tags(
 }
 
 /// Decodes the contents octets of an EXPLICIT tag: an element, and nothing after it.
+#[inline(never)]
 #[cycle(decoding)]
 fn decode_in_tag(
     context: &Context<'_>,
     depth: usize,
-    of: &Type,
+    of: &Type<'_>,
     tags: &[Tag],
     state: &mut State,
     parts: &mut [Part],
@@ -121,7 +123,7 @@ fn decode_in_tag(
     ensures all { result ≡ true → state.new.at ≡ state.old.end }
     ensures did { ContentsOutcome context.now
         (only_value Extra of.now.node (element of.now.node
-        (tagged_by context.now depth of.now.node of.now.tags of.now.is tags.now))).contents
+        (tagged_by context.now depth of.now.node of.now.tags.now of.now.is.now tags.now))).contents
         state.old state.new parts.old parts.new result }
 {
     let start = state.at;
@@ -150,11 +152,12 @@ fn decode_in_tag(
 }
 
 /// Decodes the contents octets of an element as those of a type without contents of its own.
+#[inline(never)]
 #[cycle(decoding)]
 fn decode_bare(
     context: &Context<'_>,
     depth: usize,
-    of: &Type,
+    of: &Type<'_>,
     element: &Element,
     state: &mut State,
     parts: &mut [Part],
@@ -166,7 +169,7 @@ fn decode_bare(
     ensures all { result ≡ true → state.new.at ≡ state.old.end }
     ensures did { (id : Identifier)
         → IsInside (bits context.now.octets.now) element.now.start element.now.identifier id state.old
-        → ContentsOutcome context.now ((bare_by context.now depth of.now.node of.now.tags.is_any of.now.is).contents id)
+        → ContentsOutcome context.now ((bare_by context.now depth of.now.node of.now.tags.now.is_any of.now.is.now).contents id)
         state.old state.new parts.old parts.new result }
 {
     if of.tags.is_any {
@@ -176,7 +179,7 @@ fn decode_bare(
         };
         return keep(Part::Octets(whole), state, parts);
     }
-    match of.is {
+    match *of.is {
         Node::Choice {
             alternatives,
             is_extensible,
@@ -203,11 +206,12 @@ fn decode_bare(
 }
 
 /// Decodes contents octets as those of a type that has its own.
+#[inline(always)]
 #[cycle(decoding)]
 fn decode_own(
     context: &Context<'_>,
     depth: usize,
-    of: &Type,
+    of: &Type<'_>,
     state: &mut State,
     parts: &mut [Part],
 ) -> bool
@@ -215,10 +219,10 @@ fn decode_own(
     requires contents { AreContents (bits context.now.octets.now) state.old }
     ensures moved { IsMoved (bits context.now.octets.now) state.old state.new }
     ensures all { result ≡ true → state.new.at ≡ state.old.end }
-    ensures did { ContentsOutcome context.now (contents_by context.now depth of.now.node of.now.tags of.now.is).contents
+    ensures did { ContentsOutcome context.now (contents_by context.now depth of.now.node of.now.tags.now of.now.is.now).contents
         state.old state.new parts.old parts.new result }
 {
-    match of.is {
+    match *of.is {
         Node::Sequence {
             root,
             is_extensible,

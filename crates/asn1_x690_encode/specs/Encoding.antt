@@ -90,9 +90,9 @@ around_in c depth node t n tags = der.around node tags (headed_in c depth node t
 
 -- what an element encloses
 abbrev pub inner_in : Context → ℕ → ℕ → Inner → TypeContents FaultKind
-inner_in c depth node (Own n t) = contents_in c depth node t n
-inner_in c depth node (Tagged n t tags) = only_value Extra node (der.element node (tagged_in c depth node t n tags.now))
-inner_in c depth node (Around n t tags) = only_value Extra node (der.element node (around_in c depth node t n tags.now))
+inner_in c depth node (Own n t) = contents_in c depth node t.now n.now
+inner_in c depth node (Tagged n t tags) = only_value Extra node (der.element node (tagged_in c depth node t.now n.now tags.now))
+inner_in c depth node (Around n t tags) = only_value Extra node (der.element node (around_in c depth node t.now n.now tags.now))
 
 -- how many tags it has
 abbrev pub inner_size : Inner → ℕ
@@ -102,9 +102,9 @@ inner_size (Around n t tags) = length tags.now
 
 -- it is of the type at the node
 abbrev pub IsInnerOf : Context → ℕ → Inner → Type 0
-IsInnerOf c node (Own n t) = HasType c node n t
-IsInnerOf c node (Tagged n t tags) = HasType c node n t
-IsInnerOf c node (Around n t tags) = HasType c node n t
+IsInnerOf c node (Own n t) = HasType c node n.now t.now
+IsInnerOf c node (Tagged n t tags) = HasType c node n.now t.now
+IsInnerOf c node (Around n t tags) = HasType c node n.now t.now
 
 -- an element of one identifier
 abbrev pub enclosed_in : Context → ℕ → ℕ → Identifier → Inner → ByHeader FaultKind Identifier

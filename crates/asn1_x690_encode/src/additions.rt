@@ -47,7 +47,7 @@ pub(crate) fn encode_additions(
             reject(state, node, MisfitKind::NoPart);
             None
         }
-        Some(part) => match additions_of(part) {
+        Some(part) => match additions_of(*part) {
             None => {
                 reject(state, node, MisfitKind::OtherPart);
                 None

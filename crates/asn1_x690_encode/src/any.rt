@@ -11,7 +11,8 @@ use crate::context::{Context, part_at};
 use asn1_schema::{MisfitKind, Part, Span};
 use asn1_x690::FaultKind;
 use asn1_x690_fields::{FoundIdentifier, State, next_header};
-use asn1_x691_writers::{Writer, clip, leave, put_bits, reject};
+use asn1_x690_writers::put_span;
+use asn1_x691_writers::{Writer, clip, leave, reject};
 
 /// As which part any element stands.
 #[derive(Clone, Copy, Debug)]
@@ -93,7 +94,7 @@ pub(crate) fn encode_any(
             reject(state, node, MisfitKind::NoPart);
             None
         }
-        Some(part) => match held_by(kind, part) {
+        Some(part) => match held_by(kind, *part) {
             HeldElement::Bits(span) => { encode_element(context, node, kind, span, octets, state) }
             HeldElement::InFragments => {
                 leave(state, node);
@@ -130,7 +131,7 @@ fn encode_element(
             None
         }
         Some(found) => {
-            state.at = put_bits(octets, state.at, context.source, inside.at, inside.count);
+            state.at = put_span(octets, state.at, context.source, inside.at, inside.count);
             state.next += 1;
             Some(found)
         }

@@ -121,7 +121,7 @@ pub(crate) fn encode_alternatives(
             None
         }
         Some(part) => {
-            if is_chosen(part, index) {
+            if is_chosen(*part, index) {
                 state.next += 1;
                 let found = encode_node(context, depth, member.node, octets, state)?;
                 if !has_tag(context.tags.tags, first, found) {

@@ -1,6 +1,6 @@
 //! What an encoder works on.
 
-ghost use Rattle.std.specs.Prelude.{◌≡◌, ◌+◌, ◌^◌, ◌<◌, ◌∷◌, [], false, true, slice_get, length, MatchOption};
+ghost use Rattle.std.specs.Prelude.{◌≡◌, ◌+◌, ◌^◌, ◌<◌, ◌∷◌, [], false, true, Some, None, slice_get, length, MatchOption};
 ghost use Rattle.asn1_x690.specs.Der.{rows_of};
 
 use asn1_schema::{Member, Node, Part, Rows, Tables};
@@ -25,11 +25,11 @@ pub struct Context<'s> {
 
 /// Returns the part at an index.
 #[inline(always)]
-pub(crate) fn part_at(parts: &[Part], index: usize) -> Option<Part>
-    ensures { result ≡ slice_get parts.now index }
+pub(crate) fn part_at(parts: &[Part], index: usize) -> Option<&Part>
+    ensures { MatchOption result (None ≡ slice_get parts.now index) (λ part. Some part.now ≡ slice_get parts.now index) }
 {
     if index < parts.len() {
-        Some(parts[index])
+        Some(&parts[index])
     } else {
         None
     }
@@ -37,11 +37,11 @@ pub(crate) fn part_at(parts: &[Part], index: usize) -> Option<Part>
 
 /// Returns the type at a node.
 #[inline(always)]
-pub(crate) fn node_at(nodes: &[Node], node: usize) -> Option<Node>
-    ensures { result ≡ slice_get nodes.now node }
+pub(crate) fn node_at(nodes: &[Node], node: usize) -> Option<&Node>
+    ensures { MatchOption result (None ≡ slice_get nodes.now node) (λ kind. Some kind.now ≡ slice_get nodes.now node) }
 {
     if node < nodes.len() {
-        Some(nodes[node])
+        Some(&nodes[node])
     } else {
         None
     }
@@ -49,11 +49,11 @@ pub(crate) fn node_at(nodes: &[Node], node: usize) -> Option<Node>
 
 /// Returns the tags of the type at a node.
 #[inline(always)]
-pub(crate) fn type_tags_at(types: &[TypeTags], node: usize) -> Option<TypeTags>
-    ensures { result ≡ slice_get types.now node }
+pub(crate) fn type_tags_at(types: &[TypeTags], node: usize) -> Option<&TypeTags>
+    ensures { MatchOption result (None ≡ slice_get types.now node) (λ tags. Some tags.now ≡ slice_get types.now node) }
 {
     if node < types.len() {
-        Some(types[node])
+        Some(&types[node])
     } else {
         None
     }

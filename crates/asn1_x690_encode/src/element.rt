@@ -19,10 +19,10 @@ use asn1_x691_writers::{Writer, after, leave, reject};
 const MOST: usize = usize::MAX - 127;
 
 /// Returns whether the contents of a type are elements.
-fn is_structured(kind: Node) -> bool
-    ensures { result ≡ is_structured kind }
+fn is_structured(kind: &Node) -> bool
+    ensures { result ≡ is_structured kind.now }
 {
-    match kind {
+    match *kind {
         Node::Sequence { .. } => true,
         Node::SequenceOf { .. } => true,
         Node::SetOf { .. } => true,
@@ -31,13 +31,14 @@ fn is_structured(kind: Node) -> bool
 }
 
 /// Encodes an element of tags, the last of which is the type's own.
+#[inline(always)]
 #[cycle(encoding)]
 pub(crate) fn encode_tagged(
     context: &Context<'_>,
     depth: usize,
     node: usize,
-    kind: Node,
-    types: TypeTags,
+    kind: &Node,
+    types: &TypeTags,
     tags: &[Tag],
     octets: &mut [u8],
     state: &mut Writer,
@@ -46,9 +47,9 @@ pub(crate) fn encode_tagged(
     requires source { 8 * length context.now.source.now < 2 ^ 64 }
     requires parts { length context.now.parts.now < 2 ^ 64 - 1 }
     requires whole { state.old.at % 8 ≡ 0 }
-    requires kind { HasType context.now node kind types }
+    requires kind { HasType context.now node kind.now types.now }
     requires few { length tags.now < 2 ^ 32 }
-    ensures { ElementOutcome context.now (tagged_in context.now depth node types kind tags.now) octets.old state.old octets.new state.new result }
+    ensures { ElementOutcome context.now (tagged_in context.now depth node types.now kind.now tags.now) octets.old state.old octets.new state.new result }
 {
     match first_tag(tags) {
         None => {
@@ -89,13 +90,14 @@ pub(crate) fn encode_tagged(
 }
 
 /// Encodes an element of tags around a value that has its own header.
+#[inline(never)]
 #[cycle(encoding)]
 pub(crate) fn encode_around(
     context: &Context<'_>,
     depth: usize,
     node: usize,
-    kind: Node,
-    types: TypeTags,
+    kind: &Node,
+    types: &TypeTags,
     tags: &[Tag],
     octets: &mut [u8],
     state: &mut Writer,
@@ -104,9 +106,9 @@ pub(crate) fn encode_around(
     requires source { 8 * length context.now.source.now < 2 ^ 64 }
     requires parts { length context.now.parts.now < 2 ^ 64 - 1 }
     requires whole { state.old.at % 8 ≡ 0 }
-    requires kind { HasType context.now node kind types }
+    requires kind { HasType context.now node kind.now types.now }
     requires few { length tags.now < 2 ^ 32 }
-    ensures { ElementOutcome context.now (around_in context.now depth node types kind tags.now) octets.old state.old octets.new state.new result }
+    ensures { ElementOutcome context.now (around_in context.now depth node types.now kind.now tags.now) octets.old state.old octets.new state.new result }
 {
     match first_tag(tags) {
         None => encode_headed(context, depth, node, kind, types, octets, state),
@@ -168,6 +170,7 @@ fn encode_enclosed(
 }
 
 /// Encodes what an element encloses.
+#[inline(always)]
 #[cycle(encoding)]
 fn encode_inner(
     context: &Context<'_>,

@@ -7,9 +7,9 @@ use asn1_x690::{Tag, TypeTags};
 #[derive(Clone, Copy, Debug)]
 pub(crate) enum Inner<'s> {
     /// The contents of a type.
-    Own(Node, TypeTags),
+    Own(&'s Node, &'s TypeTags),
     /// An element of the tags that are left, the last of which is the type's own.
-    Tagged(Node, TypeTags, &'s [Tag]),
+    Tagged(&'s Node, &'s TypeTags, &'s [Tag]),
     /// An element of the tags that are left, around a value that has its own header.
-    Around(Node, TypeTags, &'s [Tag]),
+    Around(&'s Node, &'s TypeTags, &'s [Tag]),
 }

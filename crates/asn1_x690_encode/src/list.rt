@@ -47,7 +47,7 @@ pub(crate) fn encode_list(
 {
     match part_at(context.parts, state.next) {
         None => reject(state, node, MisfitKind::NoPart),
-        Some(part) => match count_of(part) {
+        Some(part) => match count_of(*part) {
             None => reject(state, node, MisfitKind::OtherPart),
             Some(count) => {
                 if !has_size(size, is_extensible, count) {

@@ -17,13 +17,13 @@ use asn1_x690_fields::FoundIdentifier;
 use asn1_x691_writers::{Writer, reject};
 
 /// Returns whether the tags of a type are around a value that has its own header.
-fn is_headed(is_any: bool, kind: Node) -> bool
-    ensures { result ≡ is_headed is_any kind }
+fn is_headed(is_any: bool, kind: &Node) -> bool
+    ensures { result ≡ is_headed is_any kind.now }
 {
     if is_any {
         return true;
     }
-    match kind {
+    match *kind {
         Node::Choice { .. } => true,
         Node::Open { .. } => true,
         _ => false,
@@ -73,8 +73,8 @@ pub(crate) fn encode_headed(
     context: &Context<'_>,
     depth: usize,
     node: usize,
-    kind: Node,
-    types: TypeTags,
+    kind: &Node,
+    types: &TypeTags,
     octets: &mut [u8],
     state: &mut Writer,
 ) -> Option<FoundIdentifier>
@@ -82,13 +82,13 @@ pub(crate) fn encode_headed(
     requires source { 8 * length context.now.source.now < 2 ^ 64 }
     requires parts { length context.now.parts.now < 2 ^ 64 - 1 }
     requires whole { state.old.at % 8 ≡ 0 }
-    requires kind { HasType context.now node kind types }
-    ensures { ElementOutcome context.now (headed_in context.now depth node types kind) octets.old state.old octets.new state.new result }
+    requires kind { HasType context.now node kind.now types.now }
+    ensures { ElementOutcome context.now (headed_in context.now depth node types.now kind.now) octets.old state.old octets.new state.new result }
 {
     if types.is_any {
         return encode_any(context, node, AnyPart::Octets, octets, state);
     }
-    match kind {
+    match *kind {
         Node::Choice {
             alternatives,
             is_extensible,
@@ -112,13 +112,14 @@ pub(crate) fn encode_headed(
 }
 
 /// Encodes the contents of a type.
+#[inline(always)]
 #[cycle(encoding)]
 pub(crate) fn encode_contents(
     context: &Context<'_>,
     depth: usize,
     node: usize,
-    kind: Node,
-    types: TypeTags,
+    kind: &Node,
+    types: &TypeTags,
     octets: &mut [u8],
     state: &mut Writer,
 ) -> bool
@@ -126,10 +127,10 @@ pub(crate) fn encode_contents(
     requires source { 8 * length context.now.source.now < 2 ^ 64 }
     requires parts { length context.now.parts.now < 2 ^ 64 - 1 }
     requires whole { state.old.at % 8 ≡ 0 }
-    requires kind { HasType context.now node kind types }
-    ensures { ContentsOutcome context.now (contents_in context.now depth node types kind) octets.old state.old octets.new state.new result }
+    requires kind { HasType context.now node kind.now types.now }
+    ensures { ContentsOutcome context.now (contents_in context.now depth node types.now kind.now) octets.old state.old octets.new state.new result }
 {
-    match kind {
+    match *kind {
         Node::Sequence {
             root,
             is_extensible,

@@ -54,7 +54,7 @@ pub(crate) fn is_absent(context: &Context<'_>, next: usize) -> bool
     ensures present { result ≡ false → IsAbsent (tape context.now next) → ⊥ }
 {
     match part_at(context.parts, next) {
-        Some(part) => is_absent_part(part),
+        Some(part) => is_absent_part(*part),
         None => false,
     }
 }
@@ -90,7 +90,7 @@ pub(crate) fn encode_sequence(
     match part_at(context.parts, state.next) {
         None => reject(state, node, MisfitKind::NoPart),
         Some(part) => {
-            if !is_sequence(part, root.count as usize, false) {
+            if !is_sequence(*part, root.count as usize, false) {
                 return reject(state, node, MisfitKind::OtherPart);
             }
             state.next += 1;
@@ -149,7 +149,7 @@ pub(crate) fn encode_extensible_sequence(
 {
     match part_at(context.parts, state.next) {
         None => reject(state, node, MisfitKind::NoPart),
-        Some(part) => match extended_by(part, root.count as usize) {
+        Some(part) => match extended_by(*part, root.count as usize) {
             None => reject(state, node, MisfitKind::OtherPart),
             Some(is_extended) => {
                 state.next += 1;

@@ -1,9 +1,9 @@
 -- The contents octets of a BIT STRING.
-use Rattle.std.proofs.Common.{◌≡◌, ◌≢◌, ℕ, ◌+◌, ◌-◌, ◌*◌, ◌%◌, ◌^◌, ◌<◌, ◌≤◌, Bool, List, [], ◌∷◌, ◌++◌, length, take, drop, refl, sym, ◌∙◌, ap, subst, arith}
+use Rattle.std.proofs.Common.{◌≡◌, ℕ, ◌+◌, ◌-◌, ◌^◌, ◌<◌, ◌≤◌, Bool, List, ◌++◌, length, take, drop, sym, ◌∙◌, ap, arith}
 use Rattle.std.proofs.lemmas.List.{length-take-le, length-drop, length-append, drop-drop}
 use Rattle.std.proofs.lemmas.Nat.{pow_pos}
 use Rattle.std.proofs.Math.Seq.{take-add}
-use Rattle.asn1_bits.specs.Bits.{bits, number, digits}
+use Rattle.asn1_bits.specs.Bits.{number, digits}
 use Rattle.asn1_bits.specs.DigitLaws.{length-digits}
 use Rattle.asn1_bits.specs.NumberLaws.{number_of-digits, digits_of-number}
 use Rattle.asn1_schema.specs.declared.part.Span.{Span}

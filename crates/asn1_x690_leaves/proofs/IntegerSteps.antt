@@ -1,11 +1,11 @@
 -- Octets of two's complement, and the number that they are.
-use Rattle.std.proofs.Common.{◌≡◌, ◌≢◌, ℕ, ℤ, pos, negsuc, zero, suc, ◌+◌, ◌-◌, ◌*◌, ◌/◌, ◌%◌, ◌^◌, ◌<◌, ◌≤◌, Bool, List, [], ◌∷◌, ◌++◌, length, take, drop, refl, sym, ◌∙◌, ap, subst, arith, inl, inr}
-use Rattle.std.specs.Prelude.{◌-ℤ◌, ◌⊎◌}
+use Rattle.std.proofs.Common.{◌≡◌, ◌≢◌, ℕ, ℤ, pos, negsuc, suc, ◌+◌, ◌-◌, ◌*◌, ◌/◌, ◌^◌, ◌<◌, ◌≤◌, Bool, List, [], ◌∷◌, length, take, drop, sym, ◌∙◌, ap, subst, arith, inr}
+use Rattle.std.specs.Prelude.{◌-ℤ◌}
 use Rattle.std.proofs.lemmas.Int.{ints}
-use Rattle.std.proofs.lemmas.List.{length-take-le, length-drop, drop-drop, take_all}
+use Rattle.std.proofs.lemmas.List.{length-take-le, length-drop, take_all}
 use Rattle.std.proofs.Math.Nat.{pow-suc}
 use Rattle.std.proofs.Math.Seq.{take-add}
-use Rattle.asn1_bits.specs.Bits.{bits, number}
+use Rattle.asn1_bits.specs.Bits.{number}
 use Rattle.asn1_bits.specs.NumberLaws.{number-append, number-lt}
 use Rattle.asn1_number.specs.Octets.{IsOctets, signed, IsShortest}
 use Rattle.asn1_number.specs.Order.{NineBitsDiffer}
@@ -18,7 +18,7 @@ use Rattle.asn1_x691_fields.specs.FirstBits.{nine_differ}
 use Rattle.asn1_x691_fields.specs.Numbers.{distance}
 use Rattle.asn1_x691_fields.specs.NumberSteps.{IsFewest, far_enough}
 use Rattle.asn1_x691_fields.specs.Octets.{octets_in}
-use Rattle.asn1_x691_fields.specs.ContentSteps.{octets_below, same_span, first_octet, numbers_length}
+use Rattle.asn1_x691_fields.specs.ContentSteps.{octets_below, same_span, numbers_length}
 use Rattle.asn1_x691_fields.specs.SignedSteps.{is_positive, is_negative}
 use Rattle.asn1_x690.specs.Leaves.{IsInteger}
 use Rattle.asn1_x690_leaves.specs.Told.{AreOctetsOf}

@@ -1,4 +1,3 @@
 pub mod SpanSteps
 pub mod IntegerSteps
 pub mod BitStringSteps
-pub mod TextSteps

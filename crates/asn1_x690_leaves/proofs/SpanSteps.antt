@@ -1,16 +1,14 @@
 -- Octets of a message.
-use Rattle.std.proofs.Common.{◌≡◌, ℕ, zero, suc, ◌+◌, ◌-◌, ◌*◌, ◌/◌, ◌%◌, ◌^◌, ◌<◌, ◌≤◌, Bool, true, false, List, [], ◌∷◌, ◌++◌, length, take, drop, refl, sym, ◌∙◌, ap, arith}
+use Rattle.std.proofs.Common.{◌≡◌, ℕ, ◌^◌, ◌<◌, Bool, true, false, List, length, take, drop, sym, ◌∙◌, ap, arith}
+use Rattle.std.specs.Prelude.{All}
 use Rattle.std.proofs.lemmas.List.{length-take-le, length-drop}
-use Rattle.std.proofs.Math.Seq.{take-add}
 use Rattle.asn1_bits.specs.Bits.{bits, number, digits}
 use Rattle.asn1_bits.specs.DigitLaws.{length-digits}
-use Rattle.asn1_bits.specs.NumberLaws.{number-below, number_of-digits}
-use Rattle.asn1_number.specs.Octets.{IsOctets}
+use Rattle.asn1_bits.specs.NumberLaws.{number_of-digits}
 use Rattle.asn1_schema.specs.declared.part.Span.{Span}
-use Rattle.asn1_schema.specs.CharactersOfParts.{numbers_in}
 use Rattle.asn1_schema.specs.PiecesOfParts.{bits_of}
 use Rattle.asn1_x691_fields.specs.Octets.{octets_in}
-use Rattle.asn1_x691_fields.specs.ContentSteps.{octets_below, bits_of_span}
+use Rattle.asn1_x691_fields.specs.ContentSteps.{bits_of_span, same_span}
 use Rattle.asn1_x690.specs.Leaves.{truth_octet}
 use Rattle.asn1_x690_leaves.specs.Told.{AreOctetsOf}
 
@@ -19,6 +17,11 @@ span_size list s h = length-take-le s.count (drop s.at list) (let i = h.inside i
 
 pub span_bits : (list : List Bool) (s : Span) → AreOctetsOf list s → bits_of list s ≡ bits (octets_in list s)
 span_bits list s h = bits_of_span list s h.inside h.whole
+
+-- the octets that the bits of a span are
+pub own_octets : (list : List Bool) (s : Span) → AreOctetsOf list s → (own : List ℕ) → All (λ octet. octet < 256) own
+    → bits own ≡ bits_of list s → octets_in list s ≡ own
+own_octets list s h own below e = same_span list s h.inside h.whole own below (sym e)
 
 -- ---- BOOLEAN
 

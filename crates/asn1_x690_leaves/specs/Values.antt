@@ -1,5 +1,5 @@
 -- A number that octets are, where 128 bits hold it.
-use Rattle.std.specs.Prelude.{◌≡◌, ℕ, ℤ, ◌^◌, ◌≤◌, Option, Some, None}
+use Rattle.std.specs.Prelude.{◌≡◌, ℤ, ◌^◌, ◌≤◌, Option, Some, None}
 use Rattle.asn1_x691_fields.specs.Numbers.{distance}
 
 -- the number; or none where 128 bits do not hold it

@@ -1,17 +1,50 @@
 //! OBJECT IDENTIFIER (X.690 8.19) and RELATIVE-OID (8.20).
 
-ghost use Rattle.std.specs.Prelude.{◌*◌, ◌<◌, ◌^◌, List, length};
+ghost use Rattle.std.specs.Prelude.{◌≡◌, ◌*◌, ◌<◌, ◌^◌, List, true, false, length};
 ghost use Rattle.asn1_bits.specs.Bits.{bits};
 ghost use Rattle.asn1_schema.specs.declared.tables.Range.{Range};
 ghost use Rattle.asn1_schema.specs.Pieces.{Octets};
 ghost use Rattle.asn1_schema.specs.PiecesOfParts.{bits_of};
 ghost use Rattle.asn1_x690.specs.Leaves.{IsKept, IsObjectIdentifier, IsRelativeIdentifier};
 ghost use Rattle.asn1_x690.specs.Der.{always};
+ghost use Rattle.asn1_x691_fields.specs.Octets.{are_series as are_in_series};
 ghost use Rattle.asn1_x690_leaves.specs.Told.{AreOctetsOf, IsTold};
 
+use crate::octets::whole_octets;
 use asn1_schema::{Part, Span};
 use asn1_x690::FaultKind;
-use asn1_x691_fields::are_subidentifiers;
+use asn1_x691_fields::are_subidentifiers as are_at_any_bit;
+
+/// Returns whether octets are subidentifiers one after another (8.19.2).
+fn are_series(octets: &[u8]) -> bool
+    ensures { result ≡ are_in_series false octets.now }
+{
+    let mut begun = false;
+    let mut index = 0;
+    while index < octets.len() {
+        let octet = octets[index];
+        if !begun && octet == 128 {
+            return false;
+        }
+        begun = octet >= 128;
+        index += 1;
+    }
+    !begun
+}
+
+/// Returns whether octets are subidentifiers one after another, of which there is one at least
+/// (8.19.2, 8.20.2).
+pub fn are_subidentifiers(octets: &[u8], span: Span) -> bool
+    requires size { 8 * length octets.now < 2 ^ 64 }
+    requires contents { AreOctetsOf (bits octets.now) span }
+    ensures yes { result ≡ true → IsRelativeIdentifier (bits_of (bits octets.now) span) }
+    ensures no { result ≡ false → IsRelativeIdentifier (bits_of (bits octets.now) span) → ⊥ }
+{
+    match whole_octets(octets, span) {
+        Some(own) => span.count > 0 && are_series(own),
+        None => are_at_any_bit(octets, span),
+    }
+}
 
 /// Reads an OBJECT IDENTIFIER. Its arcs may be of any size.
 ///

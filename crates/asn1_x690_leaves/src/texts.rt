@@ -9,6 +9,7 @@ ghost use Rattle.asn1_schema.specs.PiecesOfParts.{bits_of};
 ghost use Rattle.asn1_x690.specs.Leaves.{width_of as width_in, AreCharacters, AreIn, IsText};
 ghost use Rattle.asn1_x690_leaves.specs.Told.{AreOctetsOf, IsTold};
 
+use crate::octets::whole_octets;
 use crate::sizes::has_size;
 use asn1_bits::read_bits;
 use asn1_schema::{Characters, Codes, Length, Part, Range, Span};
@@ -29,8 +30,23 @@ fn width_of(characters: CharacterSize) -> usize
     }
 }
 
-/// Returns whether characters are all in an alphabet.
-fn are_in(octets: &[u8], text: Characters, ranges: &[Range]) -> bool
+/// Returns whether octets are all in an alphabet.
+fn are_octets_in(octets: &[u8], ranges: &[Range]) -> bool
+    ensures yes { result ≡ true → AreIn ranges.now octets.now }
+    ensures no { result ≡ false → AreIn ranges.now octets.now → ⊥ }
+{
+    let mut index = 0;
+    while index < octets.len() {
+        if !is_in(ranges, octets[index] as u128) {
+            return false;
+        }
+        index += 1;
+    }
+    true
+}
+
+/// Returns whether characters, which may begin at any bit, are all in an alphabet.
+fn are_numbers_in(octets: &[u8], text: Characters, ranges: &[Range]) -> bool
     requires size { 8 * length octets.now < 2 ^ 64 }
     requires some { 0 < text.width }
     requires few { text.width ≤ 32 }
@@ -48,6 +64,28 @@ fn are_in(octets: &[u8], text: Characters, ranges: &[Range]) -> bool
         left -= 1;
     }
     true
+}
+
+/// Returns whether characters are all in an alphabet.
+pub fn are_in(octets: &[u8], text: Characters, ranges: &[Range]) -> bool
+    requires size { 8 * length octets.now < 2 ^ 64 }
+    requires some { 0 < text.width }
+    requires few { text.width ≤ 32 }
+    requires inside { text.at + text.width * text.count ≤ 8 * length octets.now }
+    ensures yes { result ≡ true → AreIn ranges.now (numbers_in text.width text.count (drop text.at (bits octets.now))) }
+    ensures no { result ≡ false → AreIn ranges.now (numbers_in text.width text.count (drop text.at (bits octets.now))) → ⊥ }
+{
+    if text.width == 8 {
+        let span = Span {
+            at: text.at,
+            count: 8 * text.count,
+        };
+        return match whole_octets(octets, span) {
+            Some(own) => are_octets_in(own, ranges),
+            None => are_numbers_in(octets, text, ranges),
+        };
+    }
+    are_numbers_in(octets, text, ranges)
 }
 
 /// Returns whether characters are a value of a type.

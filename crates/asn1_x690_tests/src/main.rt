@@ -6,7 +6,8 @@
 //!
 //! A row of `der` has octets and a type in the words of `asn1_schema_rows`, as `der 3003800105 seq:1 ! int =
 //! seq1 i5`; its components have automatic tags. The answer is the parts or the first fault; a row of
-//! `der-error` has the text of the fault. What is decoded is encoded again and measured, unless it
+//! `der-error` has the text of the fault, and one of `der-explained` what was expected and what was
+//! found. What is decoded is encoded again and measured, unless it
 //! has a part that the encoder leaves. `scripts/x691-vectors` makes them with another compiler, and
 //! `scripts/x690-model` damages their messages.
 #![tactic(auto)]
@@ -15,7 +16,7 @@ use asn1_schema::{Part, Tables};
 use asn1_schema_rows::{Schema, Source, schema_of, text_of};
 use asn1_test_rows::{Answers, RowError, octets, run, wrong};
 use asn1_x690::Class;
-use asn1_x690_decode::{Context, Defaults, decode};
+use asn1_x690_decode::{Context, Defaults, decode, explain};
 use asn1_x690_elements::decode_elements;
 use asn1_x690_encode::{Context as Value, encode};
 use asn1_x690_fields::{FoundIdentifier, Header};
@@ -128,18 +129,9 @@ fn is_encoded_again(
     }
 }
 
-/// Decodes octets by the type that words name, and returns the parts or the fault; the fault by its text,
-/// if so asked.
-fn decoded(
-    alloc: Global,
-    in_words: bool,
-    octets: &[u8],
-    schema: &Schema,
-) -> Result<String, RowError> {
-    if octets.len() > 1_000_000 {
-        return Err(wrong(alloc, "octets", "short message"));
-    }
-    let context = Context {
+/// Returns what octets are decoded by.
+fn context_of<'s>(octets: &'s [u8], schema: &'s Schema) -> Context<'s> {
+    Context {
         tables: Tables {
             nodes: schema.nodes.as_slice(),
             members: schema.members.as_slice(),
@@ -151,7 +143,33 @@ fn decoded(
             spans: schema.default_spans.as_slice(),
         },
         octets,
-    };
+    }
+}
+
+/// Returns what was expected and what was found at the first fault of octets.
+fn explained(alloc: Global, octets: &[u8], schema: &Schema) -> Result<String, RowError> {
+    if octets.len() > 1_000_000 {
+        return Err(wrong(alloc, "octets", "short message"));
+    }
+    let context = context_of(octets, schema);
+    match decode(&context, DEPTH, schema.node, &mut []) {
+        Ok(_) => Ok(String::from_str(alloc, "no fault")?),
+        Err(fault) => Ok(format!(in alloc; "{}", explain(&context, fault))?),
+    }
+}
+
+/// Decodes octets by the type that words name, and returns the parts or the fault; the fault by its text,
+/// if so asked.
+fn decoded(
+    alloc: Global,
+    in_words: bool,
+    octets: &[u8],
+    schema: &Schema,
+) -> Result<String, RowError> {
+    if octets.len() > 1_000_000 {
+        return Err(wrong(alloc, "octets", "short message"));
+    }
+    let context = context_of(octets, schema);
     let mut room = vec![in alloc; Part::Absent; ROOM]?;
     match decode(&context, DEPTH, schema.node, room.as_mut_slice()) {
         Ok(count) => {
@@ -194,6 +212,11 @@ impl Answers for Calls {
                 let message = octets(alloc, message)?;
                 let schema = schema_of(alloc, false, words)?;
                 decoded(alloc, true, message.as_slice(), &schema)
+            }
+            ("der-explained", [message, words @ ..]) => {
+                let message = octets(alloc, message)?;
+                let schema = schema_of(alloc, false, words)?;
+                explained(alloc, message.as_slice(), &schema)
             }
             _ => Err(wrong(alloc, call, "call with octets")),
         }

@@ -1,10 +1,11 @@
 -- What follows of identifier octets and lengths that were written.
-use Rattle.std.proofs.Common.{◌≡◌, ◌≢◌, ℕ, zero, suc, ◌+◌, ◌-◌, ◌*◌, ◌/◌, ◌%◌, ◌^◌, ◌<◌, ◌≤◌, ◌⊎◌, inl, inr, List, [], ◌∷◌, ◌++◌, Bool, length, take, drop, refl, sym, ◌∙◌, ap, subst, arith}
-use Rattle.std.proofs.lemmas.List.{length-append, append-nil, length-drop, length-take-le, drop-take}
-use Rattle.std.proofs.lemmas.List.Edits.{take-paste}
+use Rattle.std.proofs.Common.{◌≡◌, ◌≢◌, ℕ, zero, suc, ◌+◌, ◌-◌, ◌*◌, ◌/◌, ◌%◌, ◌^◌, ◌<◌, ◌≤◌, ◌⊎◌, inl, inr, List, [], ◌∷◌, ◌++◌, Bool, length, take, drop, refl, sym, ◌∙◌, ap, subst, arith, append_assoc}
+use Rattle.std.proofs.lemmas.List.{length-append, append-nil, length-drop, length-take-le}
+use Rattle.std.proofs.lemmas.List.{take_at, drop_at, take-take}
+use borrow.Rule.Slice.PartMut.{put_mid, post_of}
 use Rattle.std.proofs.lemmas.Nat.{pow-add, div-mul-add}
 use Rattle.std.proofs.Math.Nat.{mul-le-mul_left}
-use Rattle.std.proofs.Math.Seq.{paste, take-append-add, drop-append_seam}
+use Rattle.std.proofs.Math.Seq.{take-append-add}
 use Rattle.asn1_bits.specs.Bits.{bits, digits, is_odd, overwritten}
 use Rattle.asn1_bits.specs.DigitLaws.{length-digits, length-bits, bits-take, bits-drop}
 use Rattle.asn1_bits.specs.NumberLaws.{digits-append, digits-low}
@@ -110,23 +111,39 @@ digits_whole n k = omega (arith, length-bits (last_octets n k))
 
 -- ---- contents that were moved
 
-pub moved : (old new : List ℕ) (first count : ℕ) → 1 + count ≤ length old → first ≤ length old
-    → new ≡ paste old first (drop 1 old) count → take (8 * count) (drop (8 * first) (bits new)) ≡ take (8 * count) (drop 8 (bits old))
-moved old new first count few room e =
-    let s = drop 1 old in
-    let n : count ≤ length s = omega (arith, few, length-drop 1 old) in
-    let at : length (take first old) ≡ first = length-take-le first old room in
-    let there : take count (drop first new) ≡ take count s =
-    sym (drop-take first count new)
-    ∙ ap (λ (l : List ℕ). drop first (take (first + count) l)) e
-    ∙ ap (λ (l : List ℕ). drop first l) (take-paste old first s count room n)
-    ∙ ap (λ (k : ℕ). drop k (take first old ++ take count s)) (sym at)
-    ∙ drop-append_seam (take first old) (take count s) in
-    ap (λ (l : List Bool). take (8 * count) l) (sym (bits-drop first new))
-    ∙ sym (bits-take count (drop first new))
+-- octets go to the next index, and that after them to their first
+pub moved : (old part now : List ℕ) (index count : ℕ) → index + count < length old → part ≡ take (index + count + 1 - index) (drop index old)
+    → now ≡ drop (length part - 1) part ++ take (length part - 1) part
+    → take (8 * count) (drop (8 * (index + 1)) (bits (put_mid index (index + count + 1 - index) old now))) ≡ take (8 * count) (drop (8 * index) (bits old))
+moved old part now index count room is turned =
+    let rest = post_of index (index + count + 1 - index) old in
+    let new = put_mid index (index + count + 1 - index) old now in
+    let left = length-drop index old in
+    let many : index + count + 1 - index ≡ count + 1 = omega arith in
+    let size : length part ≡ count + 1 =
+    ap length is ∙ ap (λ (k : ℕ). length (take k (drop index old))) many ∙ length-take-le (count + 1) (drop index old) (omega (arith, left, room)) in
+    let n : length part - 1 ≡ count = omega (arith, size) in
+    let back = drop count part in
+    let front = take count part in
+    let are : now ≡ back ++ front = turned ∙ ap (λ (k : ℕ). drop k part ++ take k part) n in
+    let before = take index old ++ back in
+    let at : length before ≡ index + 1 =
+    omega (arith, length-append (take index old) back, length-take-le index old (omega (arith, room)), length-drop count part, size) in
+    let parted : new ≡ before ++ (front ++ rest) =
+    ap (λ (l : List ℕ). take index old ++ (l ++ rest)) are
+    ∙ ap (λ (l : List ℕ). take index old ++ l) (append_assoc back front rest)
+    ∙ sym (append_assoc (take index old) back (front ++ rest)) in
+    let there : take count (drop (index + 1) new) ≡ take count (drop index old) =
+    ap (λ (l : List ℕ). take count (drop (index + 1) l)) parted
+    ∙ ap (λ (l : List ℕ). take count l) (drop_at before (front ++ rest) (index + 1) at)
+    ∙ take_at front rest count (length-take-le count part (omega (arith, size)))
+    ∙ ap (λ (l : List ℕ). take count l) is
+    ∙ take-take count (index + count + 1 - index) (drop index old) (omega arith) in
+    ap (λ (l : List Bool). take (8 * count) l) (sym (bits-drop (index + 1) new))
+    ∙ sym (bits-take count (drop (index + 1) new))
     ∙ ap bits there
-    ∙ bits-take count s
-    ∙ ap (λ (l : List Bool). take (8 * count) l) (bits-drop 1 old)
+    ∙ bits-take count (drop index old)
+    ∙ ap (λ (l : List Bool). take (8 * count) l) (bits-drop index old)
 
 -- ---- lengths
 

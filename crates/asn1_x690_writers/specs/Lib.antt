@@ -9,6 +9,7 @@ pub mod Texts
 pub mod EnumeratedSteps
 pub mod HeaderSteps
 pub mod NumberSteps
+pub mod OctetSteps
 pub mod PutSteps
 pub mod TextSteps
 pub mod TimeSteps

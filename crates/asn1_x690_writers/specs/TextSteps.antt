@@ -1,18 +1,22 @@
 -- What follows of characters that were written one after another.
-use Rattle.std.proofs.Common.{◌≡◌, ℕ, ◌+◌, ◌-◌, ◌%◌, ◌^◌, ◌<◌, ◌≤◌, min, List, [], ◌∷◌, ◌++◌, Bool, length, refl, sym, subst, arith, append_assoc}
-use Rattle.std.proofs.lemmas.List.{length-append, append-nil}
+use Rattle.std.proofs.Common.{◌≡◌, ℕ, zero, suc, ◌+◌, ◌-◌, ◌*◌, ◌/◌, ◌%◌, ◌^◌, ◌<◌, ◌≤◌, min, List, [], ◌∷◌, ◌++◌, Bool, length, take, drop, map, refl, sym, ◌∙◌, ap, subst, arith, append_assoc}
+use Rattle.std.proofs.lemmas.List.{length-append, append-nil, length-take, length-take-le, length-drop, map-id}
+use Rattle.std.proofs.Math.Nat.{mul-mod_right, mul_assoc}
 use Rattle.std.proofs.Math.Pow.{pow_mono}
-use Rattle.asn1_bits.specs.Bits.{digits, number}
-use Rattle.asn1_bits.specs.DigitLaws.{length-digits}
+use Rattle.asn1_bits.specs.Bits.{bits, digits, number}
+use Rattle.asn1_bits.specs.DigitLaws.{length-bits, length-digits}
+use Rattle.asn1_bits.specs.NumberLaws.{number-below}
 use Rattle.asn1_schema.specs.declared.part.Characters.{Characters}
+use Rattle.asn1_schema.specs.declared.part.Codes.{Codes}
 use Rattle.asn1_schema.specs.declared.tables.Range.{Range}
-use Rattle.asn1_schema.specs.CharactersOfParts.{character_of, characters_of}
+use Rattle.asn1_schema.specs.CharactersOfParts.{character_of, characters_of, numbers_in}
 use Rattle.asn1_schema.specs.PiecesOfParts.{bits_at}
 use Rattle.asn1_x690.specs.Leaves.{AreCharacters, AreIn, IsIn}
+use Rattle.asn1_x690_leaves.specs.TextSteps.{are_characters}
 use Rattle.asn1_x691_writers.specs.GrownSteps.{grown_none, grown_both}
 use Rattle.asn1_x691_writers.specs.TextSteps.{first_apart}
 use Rattle.asn1_x691_writers.specs.Written.{IsGrown}
-use Rattle.asn1_x690_writers.specs.Texts.{AreWithin, IsTextWritten}
+use Rattle.asn1_x690_writers.specs.Texts.{AreWithin, ArePlain, IsTextWritten}
 
 -- the first character of a part, and the others
 module _ (table : List Range) (list : List Bool) (text : Characters) where
@@ -85,3 +89,55 @@ module _ (width : ℕ) (all : List ℕ) (was : List ℕ) (old : ℕ) where
       whole = u.whole;
       grown = u.grown;
     }
+
+-- ---- numbers that are in the source
+
+pub numbers_within : (width count : ℕ) (list : List Bool) → AreWithin width (numbers_in width count list)
+numbers_within width zero list = tt
+numbers_within width (suc count) list =
+    let few : length (take width list) ≤ width = omega (arith, length-take width list) in
+    (number-below (take width list) width few, numbers_within width count (drop width list))
+
+whole_numbers : (width count : ℕ) → width % 8 ≡ 0 → width * count % 8 ≡ 0
+whole_numbers width count e =
+    let w : width ≡ 8 * (width / 8) = omega (arith, e) in
+    ap (λ (n : ℕ). n * count % 8) w ∙ ap (λ (n : ℕ). n % 8) (mul_assoc 8 (width / 8) count) ∙ mul-mod_right 8 (width / 8 * count)
+
+module _ (table : List Range) (source : List ℕ) (width : ℕ) (text : Characters) (p : ArePlain source width text) where
+  abbrev numbers : List ℕ
+  numbers = numbers_in width text.count (drop text.at (bits source))
+
+  pub plain_characters : characters_of table (bits source) text ≡ numbers
+  plain_characters =
+      ap (λ (codes : Codes). map (character_of table codes) (numbers_in text.width text.count (drop text.at (bits source)))) p.numbers
+      ∙ map-id (numbers_in text.width text.count (drop text.at (bits source)))
+      ∙ ap (λ (n : ℕ). numbers_in n text.count (drop text.at (bits source))) p.size
+
+  pub plain_within : AreWithin width (characters_of table (bits source) text)
+  plain_within = subst (λ (l : List ℕ). AreWithin width l) (sym plain_characters) (numbers_within width text.count (drop text.at (bits source)))
+
+  pub plain_in : (ranges : List Range) → AreIn ranges (numbers_in text.width text.count (drop text.at (bits source)))
+      → AreIn ranges (characters_of table (bits source) text)
+  plain_in ranges a =
+      subst (λ (l : List ℕ). AreIn ranges l) (sym plain_characters)
+      (subst (λ (n : ℕ). AreIn ranges (numbers_in n text.count (drop text.at (bits source)))) p.size a)
+
+  pub in_plain : (ranges : List Range) → AreIn ranges (characters_of table (bits source) text)
+      → AreIn ranges (numbers_in text.width text.count (drop text.at (bits source)))
+  in_plain ranges a =
+      subst (λ (n : ℕ). AreIn ranges (numbers_in n text.count (drop text.at (bits source)))) (sym p.size)
+      (subst (λ (l : List ℕ). AreIn ranges l) plain_characters a)
+
+  pub plain_written : (was : List ℕ) (old : ℕ) (now : List ℕ) (new : ℕ) → width % 8 ≡ 0
+      → IsGrown was old now new (take (width * text.count) (drop text.at (bits source)))
+      → IsTextWritten width (characters_of table (bits source) text) was old now new
+  plain_written was old now new whole g =
+      let list = drop text.at (bits source) in
+      let enough : width * text.count ≤ length list = omega (arith, p.inside, length-drop text.at (bits source), length-bits source) in
+      record {
+        list = take (width * text.count) list;
+        encodes = subst (λ (l : List ℕ). AreCharacters width l (take (width * text.count) list)) (sym plain_characters)
+            (are_characters width text.count list enough);
+        whole = ap (λ (n : ℕ). n % 8) (length-take-le (width * text.count) list enough) ∙ whole_numbers width text.count whole;
+        grown = g;
+      }

@@ -10,10 +10,11 @@ ghost use Rattle.asn1_x690_writers.specs.Put.{IsPut};
 ghost use Rattle.asn1_x690_writers.specs.Strings.{IsStringWritten};
 ghost use Rattle.asn1_x691_writers.specs.Put.{piece_in};
 
+use crate::octets::put_span;
 use crate::sizes::has_size;
 use asn1_schema::{Length, MisfitKind, Part, Span};
 use asn1_x690_leaves::are_bits_permitted;
-use asn1_x691_writers::{Writer, clip, put_bits, put_number, reject};
+use asn1_x691_writers::{Writer, clip, put_number, reject};
 
 /// Writes how many bits of the last octet are unused, the bits, and zeros for the unused ones.
 /// Returns the index after them.
@@ -24,7 +25,7 @@ fn put_string(octets: &mut [u8], at: usize, source: &[u8], span: Span) -> usize
 {
     let unused = (8 - span.count % 8) % 8;
     let first = put_number(octets, at, unused as u64, 8);
-    let end = put_bits(octets, first, source, span.at, span.count);
+    let end = put_span(octets, first, source, span.at, span.count);
     put_number(octets, end, 0, unused)
 }
 

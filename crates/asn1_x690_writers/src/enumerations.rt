@@ -14,10 +14,11 @@ ghost use Rattle.asn1_x690_writers.specs.Put.{IsPut};
 ghost use Rattle.asn1_x691_writers.specs.Put.{piece_in};
 
 use crate::integers::put_number_octets;
+use crate::octets::put_span;
 use asn1_schema::{MisfitKind, Part, Span};
 use asn1_x690::{FaultKind, TypeTags};
 use asn1_x690_leaves::enumerated;
-use asn1_x691_writers::{Writer, clip, put_bits, reject};
+use asn1_x691_writers::{Writer, clip, reject};
 
 /// Returns the number at an index, unless it is at an earlier one too.
 fn first_at(numbers: &[i128], index: usize) -> Option<i128>
@@ -93,7 +94,7 @@ fn put_value(
             if !is_unknown(source, inside, numbers) {
                 return reject(state, node, MisfitKind::NoEncoding);
             }
-            state.at = put_bits(octets, state.at, source, inside.at, inside.count);
+            state.at = put_span(octets, state.at, source, inside.at, inside.count);
             true
         }
         _ => reject(state, node, MisfitKind::NoEncoding),

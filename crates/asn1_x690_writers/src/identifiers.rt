@@ -7,6 +7,7 @@ ghost use Rattle.asn1_x690.specs.Elements.{class_of, identifier};
 ghost use Rattle.asn1_x690_writers.specs.Written.{IsWritten};
 ghost use Rattle.asn1_x691_writers.specs.Written.{IsGrown};
 
+use crate::octets::put_octet;
 use asn1_x690::{Class, Identifier};
 use asn1_x691_writers::put_number;
 
@@ -44,7 +45,7 @@ pub fn put_identifier(octets: &mut [u8], at: usize, id: Identifier) -> usize
     ensures { IsWritten identifier id octets.old at octets.new result }
 {
     if id.tag.number < 31 {
-        return put_number(octets, at, first_octet(id, id.tag.number), 8);
+        return put_octet(octets, at, first_octet(id, id.tag.number) as u8);
     }
     put_long_identifier(octets, at, id)
 }

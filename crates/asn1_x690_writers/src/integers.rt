@@ -10,9 +10,10 @@ ghost use Rattle.asn1_x690_writers.specs.Numbers.{IsNumberWritten, mag_of};
 ghost use Rattle.asn1_x690_writers.specs.Put.{IsFarWithout, IsPut, LeftAt};
 ghost use Rattle.asn1_x691_writers.specs.Put.{IsFarInteger, piece_in};
 
+use crate::octets::put_span;
 use asn1_schema::{Bounds, LowerBound, MisfitKind, Part};
 use asn1_x690_leaves::is_minimal;
-use asn1_x691_writers::{Held, Writer, clip, integer_of, leave, put_bits, put_wide, reject};
+use asn1_x691_writers::{Held, Writer, clip, integer_of, leave, put_wide, reject};
 
 /// Returns a number, or how far it is below -1.
 fn magnitude_of(z: i128) -> u128
@@ -102,7 +103,7 @@ fn put_far(octets: &mut [u8], source: &[u8], part: Part, node: usize, state: &mu
     if !is_minimal(source, inside) {
         return leave(state, node);
     }
-    state.at = put_bits(octets, state.at, source, inside.at, inside.count);
+    state.at = put_span(octets, state.at, source, inside.at, inside.count);
     true
 }
 

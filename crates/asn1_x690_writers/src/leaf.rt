@@ -21,31 +21,31 @@ pub fn put_leaf(
     octets: &mut [u8],
     ranges: &[Range],
     numbers: &[i128],
-    tags: TypeTags,
-    kind: Node,
+    tags: &TypeTags,
+    kind: &Node,
     source: &[u8],
-    part: Part,
+    part: &Part,
     node: usize,
     state: &mut Writer,
 ) -> bool
     requires size { 8 * length octets.old < 2 ^ 64 }
     requires source { 8 * length source.now < 2 ^ 64 }
-    ensures { IsPut (LeftAt (IsLeftOut source.now kind part (piece_in ranges.now source.now part)) node state.new) (leaf_in ranges.now numbers.now node tags kind)
-        (piece_in ranges.now source.now part) octets.old state.old octets.new state.new result }
+    ensures { IsPut (LeftAt (IsLeftOut source.now kind.now part.now (piece_in ranges.now source.now part.now)) node state.new) (leaf_in ranges.now numbers.now node tags.now kind.now)
+        (piece_in ranges.now source.now part.now) octets.old state.old octets.new state.new result }
 {
-    match kind {
-        Node::Null => put_null(octets, part, node, state),
-        Node::Boolean => put_boolean(octets, part, node, state),
+    match *kind {
+        Node::Null => put_null(octets, *part, node, state),
+        Node::Boolean => put_boolean(octets, *part, node, state),
         Node::OctetString {
             length,
             is_extensible,
-        } => put_octet_string(octets, length, is_extensible, source, part, node, state),
+        } => put_octet_string(octets, length, is_extensible, source, *part, node, state),
         Node::ObjectIdentifier => {
             put_kept(
                 octets,
                 ContentsKind::ObjectIdentifier,
                 source,
-                part,
+                *part,
                 node,
                 state,
             )
@@ -55,23 +55,23 @@ pub fn put_leaf(
                 octets,
                 ContentsKind::RelativeIdentifier,
                 source,
-                part,
+                *part,
                 node,
                 state,
             )
         }
-        Node::Utf8String => put_kept(octets, ContentsKind::Utf8, source, part, node, state),
-        Node::Real => put_kept(octets, ContentsKind::Real, source, part, node, state),
-        Node::Time { kind } => put_time(octets, ranges, kind, source, part, node, state),
+        Node::Utf8String => put_kept(octets, ContentsKind::Utf8, source, *part, node, state),
+        Node::Real => put_kept(octets, ContentsKind::Real, source, *part, node, state),
+        Node::Time { kind } => put_time(octets, ranges, kind, source, *part, node, state),
         Node::IntegerBetween {
             bounds,
             is_extensible,
-        } => put_integer_between(octets, bounds, is_extensible, source, part, node, state),
+        } => put_integer_between(octets, bounds, is_extensible, source, *part, node, state),
         Node::IntegerAtLeast {
             bound,
             is_extensible,
-        } => put_integer_at_least(octets, bound, is_extensible, source, part, node, state),
-        Node::Integer => put_integer(octets, source, part, node, state),
+        } => put_integer_at_least(octets, bound, is_extensible, source, *part, node, state),
+        Node::Integer => put_integer(octets, source, *part, node, state),
         Node::Enumerated {
             last,
             is_extensible,
@@ -80,12 +80,12 @@ pub fn put_leaf(
             put_enumerated(
                 octets,
                 numbers,
-                tags,
+                *tags,
                 last,
                 is_extensible,
                 additions,
                 source,
-                part,
+                *part,
                 node,
                 state,
             )
@@ -101,7 +101,7 @@ pub fn put_leaf(
                 is_extensible,
                 has_names,
                 source,
-                part,
+                *part,
                 node,
                 state,
             )
@@ -121,7 +121,7 @@ pub fn put_leaf(
                 alphabet,
                 whole,
                 source,
-                part,
+                *part,
                 node,
                 state,
             )

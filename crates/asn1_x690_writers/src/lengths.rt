@@ -31,7 +31,6 @@ fn octets_of(number: u64) -> usize
 }
 
 /// Returns the octets of a length of 128 or more (8.1.3.5).
-#[cold]
 fn long_length_of(count: usize) -> LengthOctets
     requires { 128 ≤ count }
     ensures encodes { (node : ℕ) → (length_octets node).encodes count (digits result.value result.width) }
@@ -47,36 +46,29 @@ fn long_length_of(count: usize) -> LengthOctets
     }
 }
 
-/// Returns the octets of a length.
-#[inline(always)]
-fn length_of(count: usize) -> LengthOctets
-    ensures encodes { (node : ℕ) → (length_octets node).encodes count (digits result.value result.width) }
-    ensures whole { result.width % 8 ≡ 0 }
-    ensures some { 8 ≤ result.width }
-    ensures few { result.width ≤ 72 }
+/// Moves `count` octets from an index on to the next one.
+fn move_on(octets: &mut [u8], count: usize, index: usize)
+    requires room { index + count < length octets.old }
+    ensures { take (8 * count) (drop (8 * (index + 1)) (bits octets.new)) ≡ take (8 * count) (drop (8 * index) (bits octets.old)) }
 {
-    if count < 128 {
-        return LengthOctets {
-            value: count as u128,
-            width: 8,
-        };
-    }
-    long_length_of(count)
+    octets[index..index + count + 1].rotate_right(1);
 }
 
 /// Moves `count` octets after the first one to those from an index on.
+// By one index at a time, since a turn by more clears a room of 4,096 octets.
 fn move_contents(octets: &mut [u8], count: usize, first: usize)
     requires some { 1 ≤ first }
     requires room { first + count ≤ length octets.old }
     ensures { take (8 * count) (drop (8 * first) (bits octets.new)) ≡ take (8 * count) (drop 8 (bits octets.old)) }
 {
-    if first > 1 {
-        octets.copy_within(1..1 + count, first);
+    for index in 1..first {
+        move_on(octets, count, index);
     }
 }
 
 /// Writes the length of `count` contents octets before them. The contents follow the first octet;
 /// they are moved where their length takes more than one octet. Returns how many bits the length has.
+#[inline(always)]
 pub fn put_length_before(octets: &mut [u8], count: usize) -> usize
     requires size { 8 * length octets.old < 2 ^ 64 }
     requires few { 8 * count < 2 ^ 64 }
@@ -84,7 +76,25 @@ pub fn put_length_before(octets: &mut [u8], count: usize) -> usize
     ensures whole { result % 8 ≡ 0 }
     ensures before { (contents : List Bool) → length contents ≡ 8 * count → HaveBits octets.old 8 contents → IsLengthBefore contents count octets.new result }
 {
-    let length = length_of(count);
+    if count >= 128 {
+        return put_long_length_before(octets, count);
+    }
+    if count < octets.len() {
+        octets[0] = count as u8;
+    }
+    8
+}
+
+/// Writes a length of 128 or more, as [`put_length_before`] does.
+fn put_long_length_before(octets: &mut [u8], count: usize) -> usize
+    requires size { 8 * length octets.old < 2 ^ 64 }
+    requires long { 128 ≤ count }
+    requires few { 8 * count < 2 ^ 64 }
+    ensures few { result ≤ 72 }
+    ensures whole { result % 8 ≡ 0 }
+    ensures before { (contents : List Bool) → length contents ≡ 8 * count → HaveBits octets.old 8 contents → IsLengthBefore contents count octets.new result }
+{
+    let length = long_length_of(count);
     if length.width / 8 + count <= octets.len() {
         move_contents(octets, count, length.width / 8);
         overwrite_number(octets, 0, length.value, length.width, &mut Turns::new());

@@ -1,21 +1,23 @@
 //! OCTET STRING (X.690 8.7), and octets that are kept by their contents: identifiers (8.19, 8.20) and
 //! UTF-8 (8.23.10).
 
-ghost use Rattle.std.specs.Prelude.{List, ◌*◌, ◌^◌, ◌<◌, length};
+ghost use Rattle.std.specs.Prelude.{◌≡◌, List, ◌+◌, ◌*◌, ◌%◌, ◌^◌, ◌<◌, ◌≤◌, true, false, length};
 ghost use Rattle.asn1_schema.specs.declared.tables.Range.{Range};
 ghost use Rattle.asn1_bits.specs.Bits.{bits};
 ghost use Rattle.asn1_schema.specs.Pieces.{Octets};
-ghost use Rattle.asn1_schema.specs.PiecesOfParts.{joined};
+ghost use Rattle.asn1_schema.specs.PiecesOfParts.{bits_of, joined};
 ghost use Rattle.asn1_x690.specs.Der.{always};
 ghost use Rattle.asn1_x690.specs.Leaves.{AreOctets, AreSized, IsKept, leaf_of};
 ghost use Rattle.asn1_x690_writers.specs.Put.{AreTooMany, IsPut, LeftAt};
 ghost use Rattle.asn1_x691_writers.specs.Put.{IsInFragments, piece_in};
 ghost use Rattle.asn1_x691_writers.specs.Validity.{IsValid};
 
+use crate::octets::put_span;
 use crate::sizes::has_size;
-use asn1_schema::{Fragments, Length, MisfitKind, Part};
+use asn1_schema::{Fragments, Length, MisfitKind, Part, Span};
+use asn1_x690_leaves::are_subidentifiers;
 use asn1_x691_writers::{
-    ContentsKind, Writer, clip, is_valid, leave, put_bits, put_fragments, reject, size_of_fragments,
+    ContentsKind, Writer, clip, is_valid, leave, put_fragments, reject, size_of_fragments,
 };
 
 /// Writes octets of a size that the constraint permits.
@@ -42,7 +44,7 @@ pub(crate) fn put_octet_string(
             if !has_size(size, is_extensible, inside.count / 8) {
                 return reject(state, node, MisfitKind::NoEncoding);
             }
-            state.at = put_bits(octets, state.at, source, inside.at, inside.count);
+            state.at = put_span(octets, state.at, source, inside.at, inside.count);
             true
         }
         Part::OctetsInFragments(fragments) => {
@@ -82,6 +84,25 @@ fn put_joined(
     true
 }
 
+/// Returns whether bits of a source are octets of this kind.
+fn is_of_kind(kind: ContentsKind, source: &[u8], span: Span) -> bool
+    requires size { 8 * length source.now < 2 ^ 64 }
+    requires inside { span.at + span.count ≤ 8 * length source.now }
+    ensures whole { result ≡ true → span.count % 8 ≡ 0 }
+    ensures yes { result ≡ true → IsValid kind (bits_of (bits source.now) span) }
+    ensures no { result ≡ false → IsValid kind (bits_of (bits source.now) span) → ⊥ }
+{
+    if span.count % 8 > 0 {
+        return is_valid(kind, source, span);
+    }
+    match kind {
+        ContentsKind::ObjectIdentifier => are_subidentifiers(source, span),
+        ContentsKind::RelativeIdentifier => are_subidentifiers(source, span),
+        ContentsKind::Utf8 => is_valid(kind, source, span),
+        ContentsKind::Real => is_valid(kind, source, span),
+    }
+}
+
 /// Writes octets of this kind.
 pub(crate) fn put_kept(
     octets: &mut [u8],
@@ -99,10 +120,10 @@ pub(crate) fn put_kept(
     match part {
         Part::Octets(span) => {
             let inside = clip(source, span);
-            if !is_valid(kind, source, inside) {
+            if !is_of_kind(kind, source, inside) {
                 return reject(state, node, MisfitKind::NoEncoding);
             }
-            state.at = put_bits(octets, state.at, source, inside.at, inside.count);
+            state.at = put_span(octets, state.at, source, inside.at, inside.count);
             true
         }
         Part::OctetsInFragments(_) => leave(state, node),

@@ -7,12 +7,14 @@ ghost use Rattle.asn1_schema.specs.Pieces.{Text};
 ghost use Rattle.asn1_x690.specs.Der.{rows_of};
 ghost use Rattle.asn1_x690.specs.Leaves.{width_of as width_in, AreCharacters, AreIn, IsText, leaf_of};
 ghost use Rattle.asn1_x690_writers.specs.Put.{IsPut};
-ghost use Rattle.asn1_x690_writers.specs.Texts.{AreWithin, IsTextWritten};
+ghost use Rattle.asn1_x690_writers.specs.Texts.{AreWithin, ArePlain, IsTextWritten};
 ghost use Rattle.asn1_x691_writers.specs.Put.{piece_in};
 
+use crate::octets::put_span;
 use crate::sizes::has_size;
-use asn1_schema::{Characters, Length, MisfitKind, Part, Range, Rows};
+use asn1_schema::{Characters, Codes, Length, MisfitKind, Part, Range, Rows};
 use asn1_x690::CharacterSize;
+use asn1_x690_leaves::are_in;
 use asn1_x691_fields::{is_in, ranges_in};
 use asn1_x691_writers::{Writer, first_character, other_characters, put_number, reject};
 
@@ -20,6 +22,7 @@ use asn1_x691_writers::{Writer, first_character, other_characters, put_number, r
 #[inline(always)]
 fn width_of(characters: CharacterSize) -> usize
     ensures value { result ≡ width_in characters }
+    ensures some { 0 < result }
     ensures whole { result % 8 ≡ 0 }
     ensures few { result ≤ 32 }
 {
@@ -30,8 +33,45 @@ fn width_of(characters: CharacterSize) -> usize
     }
 }
 
+/// Returns whether the characters of a part are numbers of so many bits in the source, so that they are
+/// written as they are there.
+#[inline(always)]
+fn are_plain(source: &[u8], width: usize, text: Characters) -> bool
+    requires source { 8 * length source.now < 2 ^ 64 }
+    requires some { 0 < width }
+    ensures { result ≡ true → ArePlain source.now width text }
+{
+    if text.codes != Codes::Numbers || text.width != width {
+        return false;
+    }
+    let size = 8 * source.len();
+    text.at <= size && text.count <= (size - text.at) / width
+}
+
 /// Returns whether the characters of a part are all in an alphabet, and below 2^`width`.
 fn are_permitted(
+    source: &[u8],
+    table: &[Range],
+    width: usize,
+    ranges: &[Range],
+    text: Characters,
+) -> bool
+    requires source { 8 * length source.now < 2 ^ 64 }
+    requires some { 0 < width }
+    requires few { width ≤ 32 }
+    ensures alphabet { result ≡ true → AreIn ranges.now (characters_of table.now (bits source.now) text) }
+    ensures below { result ≡ true → AreWithin width (characters_of table.now (bits source.now) text) }
+    ensures no { result ≡ false → AreIn ranges.now (characters_of table.now (bits source.now) text)
+        → AreWithin width (characters_of table.now (bits source.now) text) → ⊥ }
+{
+    if are_plain(source, width, text) {
+        return are_in(source, text, ranges);
+    }
+    are_all_permitted(source, table, width, ranges, text)
+}
+
+/// Returns the same, one character after another.
+fn are_all_permitted(
     source: &[u8],
     table: &[Range],
     width: usize,
@@ -72,6 +112,7 @@ fn is_text(
     text: Characters,
 ) -> bool
     requires source { 8 * length source.now < 2 ^ 64 }
+    requires some { 0 < width }
     requires few { width ≤ 32 }
     ensures yes { result ≡ true → IsText is_extensible size (rows_of table.now alphabet) (rows_of table.now whole)
         (characters_of table.now (bits source.now) text) }
@@ -90,6 +131,29 @@ fn is_text(
 
 /// Writes the characters of a part, each as a number of `width` bits. Returns the index after them.
 pub(crate) fn put_characters(
+    octets: &mut [u8],
+    at: usize,
+    width: usize,
+    source: &[u8],
+    table: &[Range],
+    text: Characters,
+) -> usize
+    requires size { 8 * length octets.old < 2 ^ 64 }
+    requires source { 8 * length source.now < 2 ^ 64 }
+    requires some { 0 < width }
+    requires few { width ≤ 32 }
+    requires whole { width % 8 ≡ 0 }
+    requires below { AreWithin width (characters_of table.now (bits source.now) text) }
+    ensures { IsTextWritten width (characters_of table.now (bits source.now) text) octets.old at octets.new result }
+{
+    if are_plain(source, width, text) {
+        return put_span(octets, at, source, text.at, width * text.count);
+    }
+    put_each_character(octets, at, width, source, table, text)
+}
+
+/// Writes the characters of a part one after another.
+fn put_each_character(
     octets: &mut [u8],
     at: usize,
     width: usize,

@@ -82,6 +82,9 @@ sequence::decode_members-returns-then-not-decode_member-clause-did = sequences.d
 pub sequence::decode_members-returns-clause-did : goal.sequence::decode_members-returns-clause-did
 sequence::decode_members-returns-clause-did = sequences.decode_members-returns-clause-did
 
+pub sequence::decode_member-returns-then-is_required-clause-did : goal.sequence::decode_member-returns-then-is_required-clause-did
+sequence::decode_member-returns-then-is_required-clause-did = sequences.decode_member-returns-then-is_required-clause-did
+
 pub sequence::decode_member-returns-else-begins_with-clause-did : goal.sequence::decode_member-returns-else-begins_with-clause-did
 sequence::decode_member-returns-else-begins_with-clause-did = sequences.decode_member-returns-else-begins_with-clause-did
 

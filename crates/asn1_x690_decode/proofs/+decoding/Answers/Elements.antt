@@ -1,5 +1,5 @@
 -- Answers for the decoders of src/element.rt.
-use Rattle.std.proofs.Common.{◌≡◌, ℕ, suc, ◌-◌, refl, sym, ◌∙◌, subst, arith}
+use Rattle.std.proofs.Common.{◌≡◌, ℕ, suc, ◌-◌, refl, sym, subst, arith}
 use Rattle.asn1_bits.specs.Bits.{bits}
 use Rattle.asn1_x690_fields.specs.declared.state.State.{State}
 use Rattle.asn1_x690_decode.specs.Tables.{types, tagged_by}
@@ -13,12 +13,12 @@ decode_contents-returns-in-Some-tags_at-clause-did t c id is =
     let context = c.args.context.now in
     let depth = c.args.depth in
     let node = c.args.node in
-    let n = c.in-Some.is' in
-    let tags = c.in-Some-tags_at.tags in
+    let n = c.in-Some.is'.now in
+    let tags = c.in-Some-tags_at.tags.now in
     let inner = c.decode_by_tags in
     let e : suc (depth - 1) ≡ depth = (let some = c.if-depth-eq0.false in omega (arith, some)) in
-    let implies = type_implied context (depth - 1) node tags id n c.tags_in-rows.result.now (sym c.node_at.ensures ∙ c.in-Some.is)
-    (sym c.tags_at.ensures ∙ c.in-Some-tags_at.is) c.tags_in-rows.ensures in
+    let implies = type_implied context (depth - 1) node tags id n c.tags_in-rows.result.now (sym c.in-Some.ensures)
+    (sym c.in-Some-tags_at.ensures) c.tags_in-rows.ensures in
     implied context ((types context depth node).contents id)
     ((tagged_by context (depth - 1) node tags n c.tags_in-rows.result.now).contents id) c.args.state.now inner.new.state c.args.parts.now
     inner.new.parts inner.result

@@ -1,5 +1,5 @@
 -- Answers for the decoders of src/sequence.rt.
-use Rattle.std.proofs.Common.{◌≡◌, ◌+◌, List, [], ◌∷◌, Bool, true, false, refl, sym, ◌∙◌, ap, subst, arith, inr, Some}
+use Rattle.std.proofs.Common.{◌≡◌, ◌+◌, List, [], ◌∷◌, Bool, true, false, length, refl, sym, ◌∙◌, ap, subst, arith, inr, Some}
 use Rattle.asn1_bits.specs.Bits.{bits}
 use Rattle.asn1_bits.specs.DigitLaws.{length-bits}
 use Rattle.asn1_schema.specs.Pieces.{Absent, Sequence}
@@ -14,7 +14,7 @@ use Rattle.asn1_x690_decode.proofs.StateSteps.{grown_over, fault_here, none_move
 use Rattle.asn1_x690_decode.proofs.ElementSteps.{element_found}
 use Rattle.asn1_x690_decode.proofs.SequenceSteps.{Whole, root_fault, root_done, extra_fault, extended_outcome}
 use Rattle.asn1_x690_decode.proofs.MemberSteps.{begins as begins_members, goes_on as next_member, fails as member_fails, ends as members_end}
-use Rattle.asn1_x690_decode.proofs.ValueSteps.{other_value, default_fault, of_member}
+use Rattle.asn1_x690_decode.proofs.ValueSteps.{other_value, default_fault, of_member, required_outcome}
 use Rattle.asn1_x690_decode.proofs.+decoding.Goals as goal
 
 pub decode_members-loop-index-init : goal.sequence::decode_members-loop-index-init
@@ -84,6 +84,22 @@ decode_member-returns-else-begins_with-clause-did t c =
           (Absent ∷ []) (rest list s) (inr (c.begins_with.ensures.no c.if-begins_with.false, refl, refl));
       grown = c.push_part-state.ensures.grown context.tables.ranges.now list;
     }
+
+pub decode_member-returns-then-is_required-clause-did : goal.sequence::decode_member-returns-then-is_required-clause-did
+decode_member-returns-then-is_required-clause-did t c =
+    let a = c.args in
+    let context = a.context.now in
+    let list = bits context.octets.now in
+    let s = a.state.now in
+    let d = c.decode_element in
+    let m = c.in-Some.member in
+    let within = c.requires.within in
+    let size = rest_length list s within.inside in
+    let more = c.if-state.false in
+    required_outcome context a.depth a.node s d.new.state a.parts.now d.new.parts
+    (λ e. more (let none : length (rest list s) ≡ 0 = ap length e in omega (arith, size, none, within.ends)))
+    a.are_additions m (a.from + a.index) (sym c.member_at.ensures ∙ c.in-Some.is) (sym c.is_required.ensures ∙ c.if-is_required.true) d.result
+    d.ensures.did
 
 pub decode_value-is_default-requires-clause-inside : goal.sequence::decode_value-is_default-requires-clause-inside
 decode_value-is_default-requires-clause-inside t c =

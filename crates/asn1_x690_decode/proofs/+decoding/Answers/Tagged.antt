@@ -25,7 +25,7 @@ decode_by_tags-returns-else-not-is_identifier-2-clause-did t c id is =
     let tag = c.in-Some.tag.now in
     let others = c.in-Some.others.now in
     let split : c.args.tags.now ≡ tag ∷ others = c.in-Some.ensures.cases.0 in
-    let b = is_bare of.tags.is_any of.is in
+    let b = is_bare of.tags.now.is_any of.is.now in
     let same = (c.is_identifier-in-Some.ensures.yes c.if-not-is_identifier-2.false) id is.shown in
     let not : b ≡ false → others ≡ [] → ⊥ = elim c.else-is_empty.branch [
       | tagged::decode_by_tags-else-is_empty-via-then-is_empty+else-not-is_bare w ↦
@@ -34,12 +34,12 @@ decode_by_tags-returns-else-not-is_identifier-2-clause-did t c id is =
           λ e f. let k : false ≡ true = w.if-is_empty.ensures ∙ ap (λ (l : List Tag). length l == 0) f in cc
     ] in
     let d = c.decode_in_tag in
-    subst (λ (ts : List Tag). ContentsOutcome context ((tagged_by context c.args.depth of.node of.tags of.is ts).contents id) c.args.state.now
+    subst (λ (ts : List Tag). ContentsOutcome context ((tagged_by context c.args.depth of.node of.tags.now of.is.now ts).contents id) c.args.state.now
     d.new.state c.args.parts.now d.new.parts d.result) (sym split)
-    (implied context ((tagged_by context c.args.depth of.node of.tags of.is (tag ∷ others)).contents id)
-    (only_value Extra of.node (element of.node (tagged_by context c.args.depth of.node of.tags of.is others))).contents c.args.state.now
+    (implied context ((tagged_by context c.args.depth of.node of.tags.now of.is.now (tag ∷ others)).contents id)
+    (only_value Extra of.node (element of.node (tagged_by context c.args.depth of.node of.tags.now of.is.now others))).contents c.args.state.now
     d.new.state c.args.parts.now d.new.parts d.result
-    (in_tag context c.args.depth of.node of.tags id b of.is tag others not (same_identifier id tag true same.0 same.1)) d.ensures.did)
+    (in_tag context c.args.depth of.node of.tags.now id b of.is.now tag others not (same_identifier id tag true same.0 same.1)) d.ensures.did)
 
 pub decode_in_tag-returns-then-not-is_decoded-clause-did : goal.tagged::decode_in_tag-returns-then-not-is_decoded-clause-did
 decode_in_tag-returns-then-not-is_decoded-clause-did t c =
@@ -57,11 +57,11 @@ decode_in_tag-returns-then-not-is_decoded-clause-did t c =
     let first : State = record { at = h.from; end = h.to; count = mid.count; node = mid.node; kind = mid.kind } in
     let new : State = record { at = last.at; end = s.end; count = last.count; node = last.node; kind = last.kind } in
     let o = element_outcome context node s mid first h r.0 r.1 r.2 g c.in-Some.ensures.ordered c.in-Some.ensures.ends refl refl refl
-    (tagged_by context c.args.depth node of.tags of.is c.args.tags.now).contents last new refl refl refl refl refl d.ensures.moved
+    (tagged_by context c.args.depth node of.tags.now of.is.now c.args.tags.now).contents last new refl refl refl refl refl d.ensures.moved
     c.args.parts.now d.new.parts d.result d.ensures.all
     (d.ensures.did r.0.0
     (is_inside list node s mid first h r.0 r.1 r.2 g c.in-Some.ensures.ordered c.in-Some.ensures.ends refl refl)) in
-    inl (element_fails context node (tagged_by context c.args.depth node of.tags of.is c.args.tags.now) s new c.args.parts.now d.new.parts
+    inl (element_fails context node (tagged_by context c.args.depth node of.tags.now of.is.now c.args.tags.now) s new c.args.parts.now d.new.parts
     d.result c.if-not-is_decoded.true o)
 
 pub decode_in_tag-returns-then-state-end-clause-did : goal.tagged::decode_in_tag-returns-then-state-end-clause-did
@@ -80,11 +80,11 @@ decode_in_tag-returns-then-state-end-clause-did t c =
     let first : State = record { at = h.from; end = h.to; count = mid.count; node = mid.node; kind = mid.kind } in
     let new : State = record { at = last.at; end = s.end; count = last.count; node = last.node; kind = last.kind } in
     let o = element_outcome context node s mid first h r.0 r.1 r.2 g c.in-Some.ensures.ordered c.in-Some.ensures.ends refl refl refl
-    (tagged_by context c.args.depth node of.tags of.is c.args.tags.now).contents last new refl refl refl refl refl d.ensures.moved
+    (tagged_by context c.args.depth node of.tags.now of.is.now c.args.tags.now).contents last new refl refl refl refl refl d.ensures.moved
     c.args.parts.now d.new.parts d.result d.ensures.all
     (d.ensures.did r.0.0
     (is_inside list node s mid first h r.0 r.1 r.2 g c.in-Some.ensures.ordered c.in-Some.ensures.ends refl refl)) in
-    let found = element_found context node (tagged_by context c.args.depth node of.tags of.is c.args.tags.now) s new c.args.parts.now
+    let found = element_found context node (tagged_by context c.args.depth node of.tags.now of.is.now c.args.tags.now) s new c.args.parts.now
     d.new.parts d.result c.if-not-is_decoded.false o in
     let more = c.if-state-end.true in
     let size = rest_length list new c.requires.within.inside in
@@ -115,17 +115,17 @@ decode_in_tag-returns-else-state-end-clause-did t c =
     let first : State = record { at = h.from; end = h.to; count = mid.count; node = mid.node; kind = mid.kind } in
     let new : State = record { at = last.at; end = s.end; count = last.count; node = last.node; kind = last.kind } in
     let o = element_outcome context node s mid first h r.0 r.1 r.2 g c.in-Some.ensures.ordered c.in-Some.ensures.ends refl refl refl
-    (tagged_by context c.args.depth node of.tags of.is c.args.tags.now).contents last new refl refl refl refl refl d.ensures.moved
+    (tagged_by context c.args.depth node of.tags.now of.is.now c.args.tags.now).contents last new refl refl refl refl refl d.ensures.moved
     c.args.parts.now d.new.parts d.result d.ensures.all
     (d.ensures.did r.0.0
     (is_inside list node s mid first h r.0 r.1 r.2 g c.in-Some.ensures.ordered c.in-Some.ensures.ends refl refl)) in
-    let found = element_found context node (tagged_by context c.args.depth node of.tags of.is c.args.tags.now) s new c.args.parts.now
+    let found = element_found context node (tagged_by context c.args.depth node of.tags.now of.is.now c.args.tags.now) s new c.args.parts.now
     d.new.parts d.result c.if-not-is_decoded.false o in
     let none = c.if-state-end.false in
     let size = rest_length list new c.requires.within.inside in
     record {
       parts = found.parts;
-      are = only_done Extra node (element node (tagged_by context c.args.depth node of.tags of.is c.args.tags.now)) list s new found.parts
+      are = only_done Extra node (element node (tagged_by context c.args.depth node of.tags.now of.is.now c.args.tags.now)) list s new found.parts
           found.are (omega (arith, size, none));
       grown = found.grown;
     }
@@ -133,18 +133,18 @@ decode_in_tag-returns-else-state-end-clause-did t c =
 pub decode_bare-returns-then-of-clause-did : goal.tagged::decode_bare-returns-then-of-clause-did
 decode_bare-returns-then-of-clause-did t c id is =
     kept_bare c.args.context.now c.args.depth c.args.of.now.node c.args.element.now.start c.args.element.now.identifier id
-    c.args.of.now.tags.is_any c.args.of.now.is c.if-of.true c.args.state.now c.keep.new.state c.args.parts.now c.keep.new.parts
+    c.args.of.now.tags.now.is_any c.args.of.now.is.now c.if-of.true c.args.state.now c.keep.new.state c.args.parts.now c.keep.new.parts
     c.keep.result c.keep.ensures.is is (c.keep.ensures.grown c.args.context.now.tables.ranges.now (bits c.args.context.now.octets.now))
 
 pub decode_own-returns-in-SequenceOf-clause-did : goal.tagged::decode_own-returns-in-SequenceOf-clause-did
 decode_own-returns-in-SequenceOf-clause-did t c =
-    own_outcome c.args.context.now c.args.depth c.args.of.now.node c.args.of.now.tags c.args.of.now.is
+    own_outcome c.args.context.now c.args.depth c.args.of.now.node c.args.of.now.tags.now c.args.of.now.is.now
     (SequenceOf c.in-SequenceOf.length c.in-SequenceOf.is_extensible c.in-SequenceOf.item) c.in-SequenceOf.is c.args.state.now
     c.decode_list.new.state c.args.parts.now c.decode_list.new.parts c.decode_list.result c.decode_list.ensures.did
 
 pub decode_own-returns-in-SetOf-clause-did : goal.tagged::decode_own-returns-in-SetOf-clause-did
 decode_own-returns-in-SetOf-clause-did t c =
-    own_outcome c.args.context.now c.args.depth c.args.of.now.node c.args.of.now.tags c.args.of.now.is
+    own_outcome c.args.context.now c.args.depth c.args.of.now.node c.args.of.now.tags.now c.args.of.now.is.now
     (SetOf c.in-SetOf.length c.in-SetOf.is_extensible c.in-SetOf.item) c.in-SetOf.is c.args.state.now
     c.decode_list-in-SetOf.new.state c.args.parts.now c.decode_list-in-SetOf.new.parts c.decode_list-in-SetOf.result
     c.decode_list-in-SetOf.ensures.did

@@ -15,11 +15,11 @@ returns-in-Ok-clause-did c depth =
     let context = c.args.context.now in
     let list = bits context.octets.now in
     let s = c.args.state.now in
-    subst (λ (b : Bool). ContentsOutcome context (contents_by context depth c.args.of.now.node c.args.of.now.tags c.args.of.now.is).contents
+    subst (λ (b : Bool). ContentsOutcome context (contents_by context depth c.args.of.now.node c.args.of.now.tags.now c.args.of.now.is.now).contents
     s c.keep.new.state c.args.parts.now c.keep.new.parts b) (sym c.keep.ensures.is)
     (record {
       parts = piece_of context.tables.ranges.now list c.in-Ok.part ∷ [];
-      are = subst (λ (l : List Bool). (contents_by context depth c.args.of.now.node c.args.of.now.tags c.args.of.now.is).contents.fills
+      are = subst (λ (l : List Bool). (contents_by context depth c.args.of.now.node c.args.of.now.tags.now c.args.of.now.is.now).contents.fills
           (piece_of context.tables.ranges.now list c.in-Ok.part ∷ []) l) (span_rest list s c.requires.contents) (c.in-Ok.ensures depth);
       grown = c.keep.ensures.grown context.tables.ranges.now list;
     })
@@ -34,7 +34,7 @@ returns-in-Err-clause-did c depth =
     let e : record { node = new.node; left = new.end - new.at; kind = new.kind }
     ≡ record { node = c.args.of.now.node; left = length (rest list s); kind = c.in-Err.kind } =
     rw (c.fail.ensures.node, c.fail.ensures.kind, c.fail.ensures.at, c.fail.ensures.end, size) refl in
-    subst (λ (f : Fault FaultKind). (contents_by context depth c.args.of.now.node c.args.of.now.tags c.args.of.now.is).contents.fault (rest list s) f)
+    subst (λ (f : Fault FaultKind). (contents_by context depth c.args.of.now.node c.args.of.now.tags.now c.args.of.now.is.now).contents.fault (rest list s) f)
     (sym e)
-    (subst (λ (l : List Bool). (contents_by context depth c.args.of.now.node c.args.of.now.tags c.args.of.now.is).contents.fault l
+    (subst (λ (l : List Bool). (contents_by context depth c.args.of.now.node c.args.of.now.tags.now c.args.of.now.is.now).contents.fault l
     (record { node = c.args.of.now.node; left = length l; kind = c.in-Err.kind })) (span_rest list s c.requires.contents) (c.in-Err.ensures depth))

@@ -39,7 +39,7 @@ returns c depth =
       | then-is_extensible w ↦ w.known-is ∙ ap (λ (d : Bool). known_by d k) (sym w.if-is_extensible.true)
       | else-is_extensible w ↦ w.known-is ∙ ap (λ (d : Bool). known_by d k) (sym w.if-is_extensible.false)
     ] in
-    let t = c.args.of.now.tags in
+    let t = c.args.of.now.tags.now in
     numbers c.args.context.now depth c.args.of.now.node t c.args.last b k (bits_of (bits c.args.context.now.octets.now) c.args.span)
     c.enumerated.result
     (subst (λ (n : ℕ). IsTold (IsEnumerated (slice_range c.args.context.now.tags.numbers.now t.numbers (t.numbers + (c.args.last + 1 + n))))

@@ -30,7 +30,7 @@ encode_additions-returns-in-None-additions_of t c =
     let W = (extension_in cx a.depth a.node a.known).misfit true in
     inl (misfit_here cx W a.state.now l.new.state a.node OtherPart l.ensures.next l.ensures.node l.ensures.reason
     (subst (λ (k : Parts). W k (record { node = a.node; left = length k; kind = OtherPart }))
-    (sym (part_next cx a.state.now.next c.in-Some.part (sym c.in-Some.ensures)))
+    (sym (part_next cx a.state.now.next c.in-Some.part.now (sym c.in-Some.ensures)))
     (inl (inr (c.in-None-additions_of.ensures cx.tables.ranges.now cx.source.now, refl)))))
 
 pub encode_additions-returns-in_err-begins-in-Some-additions_of : goal.additions::encode_additions-returns-in_err-begins-in-Some-additions_of
@@ -41,7 +41,7 @@ encode_additions-returns-in_err-begins-in-Some-additions_of t c =
     let k = c.encode_components in
     let n = c.in-Some-additions_of.count in
     let G = components_in cx a.depth a.node a.known.count a.known.from (Unknown a.known.count n) in
-    let is = part_next cx old.next c.in-Some.part (sym c.in-Some.ensures)
+    let is = part_next cx old.next c.in-Some.part.now (sym c.in-Some.ensures)
     ∙ ap (λ (p : Part). piece_in cx.tables.ranges.now cx.source.now p ∷ tape cx (old.next + 1)) c.in-Some-additions_of.ensures in
     told_stopped cx (extension_in cx a.depth a.node a.known) true a.octets.now old k.new.octets k.new.state c.from_residual.result
     c.from_residual.ensures
@@ -57,7 +57,7 @@ encode_additions-returns-then-is_none t c =
     let l = c.reject-then-is_none in
     let n = c.in-Some-additions_of.count in
     let G = components_in cx a.depth a.node a.known.count a.known.from (Unknown a.known.count n) in
-    let is = part_next cx old.next c.in-Some.part (sym c.in-Some.ensures)
+    let is = part_next cx old.next c.in-Some.part.now (sym c.in-Some.ensures)
     ∙ ap (λ (p : Part). piece_in cx.tables.ranges.now cx.source.now p ∷ tape cx (old.next + 1)) c.in-Some-additions_of.ensures in
     none_added cx a.node G n a.octets.now old k.new.octets k.new.state (record old { next = old.next + 1 }) is refl
     c.in_ok-begins-in-Some-additions_of.begins (c.is_none.ensures ∙ ap not c.if-is_none.true) c.in_ok-begins-in-Some-additions_of.ensures
@@ -71,7 +71,7 @@ encode_additions-returns-else-is_none t c =
     let k = c.encode_components in
     let n = c.in-Some-additions_of.count in
     let G = components_in cx a.depth a.node a.known.count a.known.from (Unknown a.known.count n) in
-    let is = part_next cx old.next c.in-Some.part (sym c.in-Some.ensures)
+    let is = part_next cx old.next c.in-Some.part.now (sym c.in-Some.ensures)
     ∙ ap (λ (p : Part). piece_in cx.tables.ranges.now cx.source.now p ∷ tape cx (old.next + 1)) c.in-Some-additions_of.ensures in
     added_by cx a.node G n a.octets.now old k.new.octets k.new.state (record old { next = old.next + 1 }) is refl
     c.in_ok-begins-in-Some-additions_of.begins (c.is_none.ensures ∙ ap not c.if-is_none.false) c.in_ok-begins-in-Some-additions_of.ensures

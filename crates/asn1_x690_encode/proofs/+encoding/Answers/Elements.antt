@@ -22,7 +22,7 @@ encode_around-returns-in-Some t c =
     let a = c.args in
     let k = c.encode_enclosed in
     subst
-    (λ (l : List Tag). ElementOutcome a.context.now (around_in a.context.now a.depth a.node a.types a.kind l) a.octets.now a.state.now
+    (λ (l : List Tag). ElementOutcome a.context.now (around_in a.context.now a.depth a.node a.types.now a.kind.now l) a.octets.now a.state.now
     k.new.octets k.new.state k.result) (sym c.in-Some.ensures) k.ensures
 
 pub encode_tagged-returns-else-is_empty : goal.element::encode_tagged-returns-else-is_empty
@@ -31,9 +31,9 @@ encode_tagged-returns-else-is_empty t c =
     let cx = a.context.now in
     let k = c.encode_enclosed-in-Some in
     subst
-    (λ (l : List Tag). ElementOutcome cx (tagged_in cx a.depth a.node a.types a.kind l) a.octets.now a.state.now
+    (λ (l : List Tag). ElementOutcome cx (tagged_in cx a.depth a.node a.types.now a.kind.now l) a.octets.now a.state.now
     k.new.octets k.new.state k.result) (sym c.in-Some.ensures)
-    (tagged_more a.node (identifier_by (is_structured a.kind)) (contents_in cx a.depth a.node a.types a.kind) c.in-Some.tag c.in-Some.rest.now
+    (tagged_more a.node (identifier_by (is_structured a.kind.now)) (contents_in cx a.depth a.node a.types.now a.kind.now) c.in-Some.tag c.in-Some.rest.now
     (λ (B : ByHeader FaultKind Identifier). ElementOutcome cx B a.octets.now a.state.now k.new.octets k.new.state k.result)
     (λ e. let zero : (length c.in-Some.rest.now == 0) ≡ true = ap (λ (l : List Tag). length l == 0) e in
     let n : (length c.in-Some.rest.now == 0) ≡ false = sym c.is_empty.ensures ∙ c.if-is_empty.false in cc) k.ensures)
@@ -50,7 +50,7 @@ encode_inner-returns-in-Tagged t c =
     (subst
     (λ (b : Bool). ContentsOutcome cx (inner_in cx a.depth a.node (Tagged i.kind i.types i.tags)) a.octets.now a.state.now k.new.octets k.new.state b)
     (sym c.is_some.ensures)
-    (as_contents cx a.node (tagged_in cx a.depth a.node i.types i.kind i.tags.now) a.octets.now a.state.now k.new.octets k.new.state k.result k.ensures))
+    (as_contents cx a.node (tagged_in cx a.depth a.node i.types.now i.kind.now i.tags.now) a.octets.now a.state.now k.new.octets k.new.state k.result k.ensures))
 
 pub encode_inner-returns-in-Around : goal.element::encode_inner-returns-in-Around
 encode_inner-returns-in-Around t c =
@@ -64,7 +64,7 @@ encode_inner-returns-in-Around t c =
     (subst
     (λ (b : Bool). ContentsOutcome cx (inner_in cx a.depth a.node (Around i.kind i.types i.tags)) a.octets.now a.state.now k.new.octets k.new.state b)
     (sym c.is_some-in-Around.ensures)
-    (as_contents cx a.node (around_in cx a.depth a.node i.types i.kind i.tags.now) a.octets.now a.state.now k.new.octets k.new.state k.result k.ensures))
+    (as_contents cx a.node (around_in cx a.depth a.node i.types.now i.kind.now i.tags.now) a.octets.now a.state.now k.new.octets k.new.state k.result k.ensures))
 
 pub encode_enclosed-returns-then-state-ge-MOST : goal.element::encode_enclosed-returns-then-state-ge-MOST
 encode_enclosed-returns-then-state-ge-MOST t c =

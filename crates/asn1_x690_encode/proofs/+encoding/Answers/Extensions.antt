@@ -80,8 +80,8 @@ encode_extensible_sequence-returns-in-None-extended_by t c =
     let is : Bool → Piece = Sequence a.root.count in
     let T = told is der.always NotPermitted a.node F in
     let l = c.reject-in-None-extended_by in
-    let p = piece_in cx.tables.ranges.now cx.source.now c.in-Some.part in
-    let e = part_next cx a.state.now.next c.in-Some.part (sym c.in-Some.ensures) in
+    let p = piece_in cx.tables.ranges.now cx.source.now c.in-Some.part.now in
+    let e = part_next cx a.state.now.next c.in-Some.part.now (sym c.in-Some.ensures) in
     stopped_here cx T.misfit a.octets.now a.octets.now a.state.now l.new.state l.result a.node OtherPart T.contents.fills l.ensures.result l.ensures.next
     l.ensures.node l.ensures.reason
     (subst (λ (k : Parts). T.misfit k (record { node = a.node; left = length k; kind = OtherPart })) (sym e)
@@ -99,7 +99,7 @@ encode_extensible_sequence-returns-in-Some-extended_by t c =
     let k = c.encode_components in
     let old = a.state.now in
     let e : tape cx old.next ≡ Sequence a.root.count b ∷ tape cx (old.next + 1) =
-    part_next cx old.next c.in-Some.part (sym c.in-Some.ensures)
+    part_next cx old.next c.in-Some.part.now (sym c.in-Some.ensures)
     ∙ ap (λ (p : Part). piece_in cx.tables.ranges.now cx.source.now p ∷ tape cx (old.next + 1)) c.in-Some-extended_by.ensures in
     subst (λ (r : Bool). ContentsOutcome cx T a.octets.now old k.new.octets k.new.state r) (sym c.is_some.ensures)
     (told_done cx is a.node F b a.octets.now old k.new.octets k.new.state (record old { next = old.next + 1 }) k.result e refl k.ensures)

@@ -32,8 +32,8 @@ encode_list-returns-in-None-count_of t c =
     let F = items_in cx a.depth a.node a.is_set a.item in
     let T = told Count (HasSize a.is_extensible a.size) NotPermitted a.node F in
     let l = c.reject-in-None-count_of in
-    let p = piece_in cx.tables.ranges.now cx.source.now c.in-Some.part in
-    let e = part_next cx a.state.now.next c.in-Some.part (sym c.in-Some.ensures) in
+    let p = piece_in cx.tables.ranges.now cx.source.now c.in-Some.part.now in
+    let e = part_next cx a.state.now.next c.in-Some.part.now (sym c.in-Some.ensures) in
     stopped_here cx T.misfit a.octets.now a.octets.now a.state.now l.new.state l.result a.node OtherPart T.contents.fills l.ensures.result l.ensures.next
     l.ensures.node l.ensures.reason
     (subst (λ (k : Parts). T.misfit k (record { node = a.node; left = length k; kind = OtherPart })) (sym e)
@@ -48,7 +48,7 @@ encode_list-returns-then-not-has_size t c =
     let T = told Count (HasSize a.is_extensible a.size) NotPermitted a.node F in
     let l = c.reject-then-not-has_size in
     let n = c.in-Some-count_of.count in
-    let e = part_next cx a.state.now.next c.in-Some.part (sym c.in-Some.ensures)
+    let e = part_next cx a.state.now.next c.in-Some.part.now (sym c.in-Some.ensures)
     ∙ ap (λ (p : Part). piece_in cx.tables.ranges.now cx.source.now p ∷ tape cx (a.state.now.next + 1)) c.in-Some-count_of.ensures in
     stopped_here cx T.misfit a.octets.now a.octets.now a.state.now l.new.state l.result a.node NoEncoding T.contents.fills l.ensures.result l.ensures.next
     l.ensures.node l.ensures.reason
@@ -58,7 +58,7 @@ encode_list-returns-then-not-has_size t c =
 
 pub encode_list-overflow_add-state : goal.list::encode_list-overflow_add-state
 encode_list-overflow_add-state t c =
-    let w = slice_get_within c.args.context.now.parts.now c.args.state.now.next c.in-Some.part (sym c.in-Some.ensures) in
+    let w = slice_get_within c.args.context.now.parts.now c.args.state.now.next c.in-Some.part.now (sym c.in-Some.ensures) in
     omega (arith, w, c.requires.parts)
 
 pub encode_list-returns-else-not-has_size : goal.list::encode_list-returns-else-not-has_size
@@ -68,7 +68,7 @@ encode_list-returns-else-not-has_size t c =
     let old = a.state.now in
     let k = c.encode_items_by in
     let F = items_in cx a.depth a.node a.is_set a.item in
-    let e = part_next cx old.next c.in-Some.part (sym c.in-Some.ensures)
+    let e = part_next cx old.next c.in-Some.part.now (sym c.in-Some.ensures)
     ∙ ap (λ (p : Part). piece_in cx.tables.ranges.now cx.source.now p ∷ tape cx (old.next + 1)) c.in-Some-count_of.ensures in
     counted cx (HasSize a.is_extensible a.size) a.node F c.in-Some-count_of.count a.octets.now old k.new.octets k.new.state
     (record old { next = old.next + 1 }) k.result e refl (c.has_size.ensures.yes c.if-not-has_size.false) k.ensures

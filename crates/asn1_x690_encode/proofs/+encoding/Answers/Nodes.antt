@@ -15,8 +15,8 @@ encode_node-returns-then-is_headed t c =
     let a = c.args in
     let cx = a.context.now in
     let d = a.depth - 1 in
-    let n = c.in-Some.kind in
-    let y = c.in-Some-type_tags_at.types in
+    let n = c.in-Some.kind.now in
+    let y = c.in-Some-type_tags_at.types.now in
     let k = c.encode_around in
     let P : ByHeader FaultKind Identifier → Type 0 = λ B. ElementOutcome cx B a.octets.now a.state.now k.new.octets k.new.state k.result in
     at_node cx a.node n y P a.depth (omega (arith, c.if-depth-eq0.false)) (sym c.in-Some.ensures) (sym c.in-Some-type_tags_at.ensures)
@@ -28,8 +28,8 @@ encode_node-returns t c =
     let a = c.args in
     let cx = a.context.now in
     let d = a.depth - 1 in
-    let n = c.in-Some.kind in
-    let y = c.in-Some-type_tags_at.types in
+    let n = c.in-Some.kind.now in
+    let y = c.in-Some-type_tags_at.types.now in
     let k = c.encode_tagged in
     let P : ByHeader FaultKind Identifier → Type 0 = λ B. ElementOutcome cx B a.octets.now a.state.now k.new.octets k.new.state k.result in
     at_node cx a.node n y P a.depth (omega (arith, c.if-depth-eq0.false)) (sym c.in-Some.ensures) (sym c.in-Some-type_tags_at.ensures)
@@ -42,9 +42,9 @@ encode_contents-returns-else-is_extensible t c =
     let cx = a.context.now in
     let i = c.in-Sequence in
     let k = c.encode_sequence in
-    let is : a.kind ≡ type.Sequence i.root false i.additions = i.is ∙ ap (λ (b : Bool). type.Sequence i.root b i.additions) c.if-is_extensible.false in
+    let is : a.kind.now ≡ type.Sequence i.root false i.additions = i.is ∙ ap (λ (b : Bool). type.Sequence i.root b i.additions) c.if-is_extensible.false in
     subst
-    (λ (n : Node). ContentsOutcome cx (contents_in cx a.depth a.node a.types n) a.octets.now a.state.now k.new.octets k.new.state k.result)
+    (λ (n : Node). ContentsOutcome cx (contents_in cx a.depth a.node a.types.now n) a.octets.now a.state.now k.new.octets k.new.state k.result)
     (sym is) (k.ensures i.additions)
 
 pub encode_contents-returns-in-SequenceOf : goal.node::encode_contents-returns-in-SequenceOf
@@ -54,7 +54,7 @@ encode_contents-returns-in-SequenceOf t c =
     let i = c.in-SequenceOf in
     let k = c.encode_list in
     subst
-    (λ (n : Node). ContentsOutcome cx (contents_in cx a.depth a.node a.types n) a.octets.now a.state.now k.new.octets k.new.state k.result)
+    (λ (n : Node). ContentsOutcome cx (contents_in cx a.depth a.node a.types.now n) a.octets.now a.state.now k.new.octets k.new.state k.result)
     (sym i.is) k.ensures
 
 pub encode_contents-returns-then-is_extensible : goal.node::encode_contents-returns-then-is_extensible
@@ -63,9 +63,9 @@ encode_contents-returns-then-is_extensible t c =
     let cx = a.context.now in
     let i = c.in-Sequence in
     let k = c.encode_extensible_sequence in
-    let is : a.kind ≡ type.Sequence i.root true i.additions = i.is ∙ ap (λ (b : Bool). type.Sequence i.root b i.additions) c.if-is_extensible.true in
+    let is : a.kind.now ≡ type.Sequence i.root true i.additions = i.is ∙ ap (λ (b : Bool). type.Sequence i.root b i.additions) c.if-is_extensible.true in
     subst
-    (λ (n : Node). ContentsOutcome cx (contents_in cx a.depth a.node a.types n) a.octets.now a.state.now k.new.octets k.new.state k.result)
+    (λ (n : Node). ContentsOutcome cx (contents_in cx a.depth a.node a.types.now n) a.octets.now a.state.now k.new.octets k.new.state k.result)
     (sym is) k.ensures
 
 pub encode_contents-returns-in-SetOf : goal.node::encode_contents-returns-in-SetOf
@@ -75,7 +75,7 @@ encode_contents-returns-in-SetOf t c =
     let i = c.in-SetOf in
     let k = c.encode_list-in-SetOf in
     subst
-    (λ (n : Node). ContentsOutcome cx (contents_in cx a.depth a.node a.types n) a.octets.now a.state.now k.new.octets k.new.state k.result)
+    (λ (n : Node). ContentsOutcome cx (contents_in cx a.depth a.node a.types.now n) a.octets.now a.state.now k.new.octets k.new.state k.result)
     (sym i.is) k.ensures
 
 pub encode_headed-returns-then-types : goal.node::encode_headed-returns-then-types
@@ -84,7 +84,7 @@ encode_headed-returns-then-types t c =
     let cx = a.context.now in
     let k = c.encode_any in
     subst
-    (λ (b : Bool). ElementOutcome cx (headed_by cx a.depth a.node b a.kind) a.octets.now a.state.now k.new.octets k.new.state k.result)
+    (λ (b : Bool). ElementOutcome cx (headed_by cx a.depth a.node b a.kind.now) a.octets.now a.state.now k.new.octets k.new.state k.result)
     (sym c.if-types.true) k.ensures
 
 pub encode_headed-returns-in-Choice : goal.node::encode_headed-returns-in-Choice
@@ -94,7 +94,7 @@ encode_headed-returns-in-Choice t c =
     let i = c.in-Choice in
     let k = c.encode_choice in
     subst
-    (λ (b : Bool). ElementOutcome cx (headed_by cx a.depth a.node b a.kind) a.octets.now a.state.now k.new.octets k.new.state k.result)
+    (λ (b : Bool). ElementOutcome cx (headed_by cx a.depth a.node b a.kind.now) a.octets.now a.state.now k.new.octets k.new.state k.result)
     (sym c.if-types.false)
     (subst
     (λ (n : Node). ElementOutcome cx (headed_by cx a.depth a.node false n) a.octets.now a.state.now k.new.octets k.new.state k.result)

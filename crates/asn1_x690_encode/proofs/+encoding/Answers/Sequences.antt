@@ -279,8 +279,8 @@ encode_sequence-returns-then-not-is_sequence t c known =
     let is : ⊤ → Piece = λ u. Sequence a.root.count false in
     let T = told is der.always NotPermitted a.node F in
     let l = c.reject-then-not-is_sequence in
-    let p = piece_in cx.tables.ranges.now cx.source.now c.in-Some.part in
-    let e = part_next cx a.state.now.next c.in-Some.part (sym c.in-Some.ensures) in
+    let p = piece_in cx.tables.ranges.now cx.source.now c.in-Some.part.now in
+    let e = part_next cx a.state.now.next c.in-Some.part.now (sym c.in-Some.ensures) in
     stopped_here cx T.misfit a.octets.now a.octets.now a.state.now l.new.state l.result a.node OtherPart T.contents.fills l.ensures.result l.ensures.next
     l.ensures.node l.ensures.reason
     (subst (λ (k : Parts). T.misfit k (record { node = a.node; left = length k; kind = OtherPart })) (sym e)
@@ -289,7 +289,7 @@ encode_sequence-returns-then-not-is_sequence t c known =
 
 pub encode_sequence-overflow_add-state : goal.sequence::encode_sequence-overflow_add-state
 encode_sequence-overflow_add-state t c =
-    let w = slice_get_within c.args.context.now.parts.now c.args.state.now.next c.in-Some.part (sym c.in-Some.ensures) in
+    let w = slice_get_within c.args.context.now.parts.now c.args.state.now.next c.in-Some.part.now (sym c.in-Some.ensures) in
     omega (arith, w, c.requires.parts)
 
 pub encode_sequence-returns-in-None : goal.sequence::encode_sequence-returns-in-None
@@ -315,7 +315,7 @@ encode_sequence-returns-else-not-is_sequence t c known =
     let k = c.encode_components in
     let old = a.state.now in
     let e : tape cx old.next ≡ Sequence a.root.count false ∷ tape cx (old.next + 1) =
-    part_next cx old.next c.in-Some.part (sym c.in-Some.ensures)
+    part_next cx old.next c.in-Some.part.now (sym c.in-Some.ensures)
     ∙ ap (λ (p : Part). piece_in cx.tables.ranges.now cx.source.now p ∷ tape cx (old.next + 1)) (c.is_sequence.ensures.is c.if-not-is_sequence.false) in
     subst (λ (b : Bool). ContentsOutcome cx T a.octets.now old k.new.octets k.new.state b) (sym c.is_some.ensures)
     (told_done cx is a.node F tt a.octets.now old k.new.octets k.new.state (record old { next = old.next + 1 }) k.result e refl k.ensures)

@@ -22,8 +22,8 @@ pub encode_element-requires-clause-next : goal.encode_element-requires-clause-ne
 encode_element-requires-clause-next c =
     let a = c.args in
     let cx = a.context.now in
-    let h = subst (λ (x : HeldElement). IsHeldBy a.kind c.in-Some.part x) c.in-Bits.is c.held_by.ensures in
-    part_next cx a.state.now.next c.in-Some.part (sym c.in-Some.ensures)
+    let h = subst (λ (x : HeldElement). IsHeldBy a.kind c.in-Some.part.now x) c.in-Bits.is c.held_by.ensures in
+    part_next cx a.state.now.next c.in-Some.part.now (sym c.in-Some.ensures)
     ∙ ap (λ (p : Piece). p ∷ tape cx (a.state.now.next + 1)) (h cx.tables.ranges.now cx.source.now)
 
 pub returns-in-Other : goal.returns-in-Other
@@ -32,8 +32,8 @@ returns-in-Other c =
     let cx = a.context.now in
     let l = c.reject-in-Other in
     let B = any_value (piece_by a.kind) a.node in
-    let h = subst (λ (x : HeldElement). IsHeldBy a.kind c.in-Some.part x) c.in-Other.is c.held_by.ensures in
+    let h = subst (λ (x : HeldElement). IsHeldBy a.kind c.in-Some.part.now x) c.in-Other.is c.held_by.ensures in
     inl (misfit_here cx B.misfit a.state.now l.new.state a.node OtherPart l.ensures.next l.ensures.node l.ensures.reason
     (subst (λ (t : Parts). B.misfit t (record { node = a.node; left = length t; kind = OtherPart }))
-    (sym (part_next cx a.state.now.next c.in-Some.part (sym c.in-Some.ensures)))
+    (sym (part_next cx a.state.now.next c.in-Some.part.now (sym c.in-Some.ensures)))
     (inr (h cx.tables.ranges.now cx.source.now, refl))))

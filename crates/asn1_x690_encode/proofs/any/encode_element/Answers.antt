@@ -19,7 +19,7 @@ pub returns-in-Some : goal.returns-in-Some
 returns-in-Some c =
     let a = c.args in
     let cx = a.context.now in
-    let k = c.put_bits-state in
+    let k = c.put_span-state in
     let list = bits_of (bits cx.source.now) c.clip-inside.result in
     let is = c.requires.next ∙ ap (λ (x : List Bool). piece_by a.kind x ∷ tape cx (a.state.now.next + 1)) (sym c.clip-inside.ensures.same) in
     any_done cx a.node a.kind list a.octets.now a.state.now k.new.octets (record a.state.now { at = k.result; next = a.state.now.next + 1 }) is

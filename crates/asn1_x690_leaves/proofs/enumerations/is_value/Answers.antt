@@ -1,4 +1,4 @@
-use Rattle.std.proofs.Common.{◌≡◌, ℕ, ℤ, ◌<◌, ◌≤◌, ◌^◌, SFits, pos, negsuc, sym, subst, arith, Option}
+use Rattle.std.proofs.Common.{ℤ, ◌≤◌, ◌^◌, SFits, pos, negsuc, subst, arith, Option}
 use Rattle.std.specs.Int.{w128}
 use Rattle.asn1_x691_fields.specs.Numbers.{distance}
 use Rattle.asn1_x690_leaves.specs.Values.{IsValue}

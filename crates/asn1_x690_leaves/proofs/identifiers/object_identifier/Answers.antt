@@ -1,13 +1,8 @@
-use Rattle.std.proofs.Common.{refl, inl, arith}
+use Rattle.std.proofs.Common.{refl, inl}
 use Rattle.asn1_bits.specs.Bits.{bits}
-use Rattle.asn1_bits.specs.DigitLaws.{length-bits}
 use Rattle.asn1_schema.specs.PiecesOfParts.{bits_of}
 use Rattle.asn1_x691_fields.specs.ContentSteps.{object_identifier, relative_identifier}
 use Rattle.asn1_x690_leaves.proofs.identifiers.object_identifier.Goals as goal
-
-pub are_subidentifiers-requires-clause-inside : goal.are_subidentifiers-requires-clause-inside
-are_subidentifiers-requires-clause-inside c =
-    let i = c.requires.contents.inside in omega (arith, length-bits c.args.octets.now, i)
 
 pub returns-then-not-are_subidentifiers : goal.returns-then-not-are_subidentifiers
 returns-then-not-are_subidentifiers c ranges =

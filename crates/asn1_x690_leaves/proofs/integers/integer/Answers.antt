@@ -1,5 +1,4 @@
-use Rattle.std.proofs.Common.{refl, inl, arith}
-use Rattle.asn1_bits.specs.DigitLaws.{length-bits}
+use Rattle.std.proofs.Common.{refl, inl}
 use Rattle.asn1_x690_leaves.proofs.integers.integer.Goals as goal
 
 pub returns-then-not-is_minimal : goal.returns-then-not-is_minimal

@@ -1,31 +1,39 @@
-use Rattle.std.proofs.Common.{◌≡◌, ℕ, List, ◌-◌, ◌+◌, ◌*◌, drop, sym, ◌∙◌, ap, subst, arith}
-use Rattle.asn1_bits.specs.Bits.{bits, number}
+use Rattle.std.specs.Prelude.{All, ◌<◌, ◌≤◌}
+use Rattle.asn1_schema.specs.PiecesOfParts.{bits_of}
+use Rattle.asn1_x690_leaves.specs.Told.{AreOctetsOf}
+use Rattle.std.proofs.Common.{◌≡◌, ℕ, ◌+◌, ◌*◌, ◌/◌, List, length, drop, sym, ◌∙◌, ap, subst, arith}
+use Rattle.asn1_bits.specs.Bits.{bits}
+use Rattle.asn1_bits.specs.DigitLaws.{length-bits}
 use Rattle.asn1_schema.specs.CharactersOfParts.{numbers_in}
-use Rattle.asn1_x690.specs.Leaves.{AreIn, IsIn}
-use Rattle.asn1_x690_leaves.proofs.TextSteps.{first_number}
+use Rattle.asn1_x690.specs.Leaves.{AreIn}
+use Rattle.asn1_x690_leaves.proofs.SpanSteps.{own_octets}
 use Rattle.asn1_x690_leaves.proofs.texts.are_in.Goals as goal
 
-pub returns-then-not-is_in-clause-no : goal.returns-then-not-is_in-clause-no
-returns-then-not-is_in-clause-no c e p =
-    let list = bits c.args.octets.now in
-    let l = c.loop-left in
-    let some = c.loop-left-test.true in
-    let split = first_number c.args.text.width l.left (l.left - 1) l.at list (omega (arith, some)) in
-    let q = subst (λ (xs : List ℕ). AreIn c.args.ranges.now xs) split (l.invariant.no p) in
-    c.is_in.ensures.no c.if-not-is_in.true (subst (λ (n : ℕ). IsIn c.args.ranges.now n) (sym c.read_bits.ensures.number) q.0)
+are_own : (octets : List ℕ) (at count width : ℕ) → width ≡ 8 → at + width * count ≤ 8 * length octets → (own : List ℕ)
+    → All (λ octet. octet < 256) own → bits own ≡ bits_of (bits octets) (record { at = at; count = 8 * count })
+    → own ≡ numbers_in width count (drop at (bits octets))
+are_own octets at count width eight inside own below e =
+    let list = bits octets in
+    let n : 8 * count / 8 ≡ count = omega arith in
+    let many : width * count ≡ 8 * count = ap (λ (n : ℕ). n * count) eight in
+    let h : AreOctetsOf list (record { at = at; count = 8 * count }) = record {
+      inside = omega (arith, inside, many, length-bits octets);
+      whole = omega arith;
+    } in
+    sym (own_octets list (record { at = at; count = 8 * count }) h own below e)
+    ∙ ap (λ (k : ℕ). numbers_in 8 k (drop at list)) n
+    ∙ ap (λ (k : ℕ). numbers_in k count (drop at list)) (sym eight)
 
-pub loop-left-preserved : goal.loop-left-preserved
-loop-left-preserved c =
-    let list = bits c.args.octets.now in
-    let l = c.loop-left in
-    let some = c.loop-left-test.true in
-    let w = c.args.text.width in
-    let split = first_number w l.left (l.left - 1) l.at list (omega (arith, some)) in
-    let first = subst (λ (n : ℕ). IsIn c.args.ranges.now n) c.read_bits.ensures.number (c.is_in.ensures.yes c.if-not-is_in.false) in
-    let left : l.left ≡ (l.left - 1) + 1 = omega (arith, some) in
-    let more : w * l.left ≡ w * (l.left - 1) + w = ap (λ (n : ℕ). w * n) left ∙ omega arith in
-    record {
-      index = (let i = l.invariant.index in omega (arith, i, more));
-      yes = λ p. l.invariant.yes (subst (λ (xs : List ℕ). AreIn c.args.ranges.now xs) (sym split) (first, p));
-      no = λ p. (subst (λ (xs : List ℕ). AreIn c.args.ranges.now xs) split (l.invariant.no p)).1;
-    }
+pub returns-in-Some-clause-yes : goal.returns-in-Some-clause-yes
+returns-in-Some-clause-yes c e =
+    let a = c.args in
+    let is = are_own a.octets.now a.text.at a.text.count a.text.width c.if-text-eq8.true c.requires.inside c.in-Some.own.now
+    c.in-Some.ensures.octets c.in-Some.ensures.bits in
+    subst (λ (l : List ℕ). AreIn a.ranges.now l) is (c.are_octets_in.ensures.yes e)
+
+pub returns-in-Some-clause-no : goal.returns-in-Some-clause-no
+returns-in-Some-clause-no c e p =
+    let a = c.args in
+    let is = are_own a.octets.now a.text.at a.text.count a.text.width c.if-text-eq8.true c.requires.inside c.in-Some.own.now
+    c.in-Some.ensures.octets c.in-Some.ensures.bits in
+    c.are_octets_in.ensures.no e (subst (λ (l : List ℕ). AreIn a.ranges.now l) (sym is) p)

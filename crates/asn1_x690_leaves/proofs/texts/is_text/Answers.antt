@@ -1,8 +1,8 @@
-use Rattle.std.proofs.Common.{◌≡◌, ℕ, Bool, false, drop, sym, ◌∙◌, subst}
+use Rattle.std.proofs.Common.{ℕ, Bool, false, drop, sym, subst}
 use Rattle.asn1_bits.specs.Bits.{bits}
 use Rattle.asn1_schema.specs.CharactersOfParts.{numbers_in}
 use Rattle.asn1_x690.specs.Leaves.{HasSize, IsText}
-use Rattle.asn1_x690_leaves.proofs.TextSteps.{numbers_count}
+use Rattle.asn1_x690_leaves.specs.TextSteps.{numbers_count}
 use Rattle.asn1_x690_leaves.proofs.texts.is_text.Goals as goal
 
 pub returns-then-has_size-clause-yes : goal.returns-then-has_size-clause-yes

@@ -1,4 +1,4 @@
-use Rattle.std.proofs.Common.{◌≡◌, ℕ, ◌/◌, ◌%◌, ◌*◌, ◌+◌, ◌≤◌, ◌<◌, Bool, List, length, take, drop, refl, sym, ◌∙◌, ap, subst, inl, inr, arith}
+use Rattle.std.proofs.Common.{◌≡◌, ℕ, ◌/◌, ◌%◌, ◌*◌, ◌<◌, Bool, List, length, take, drop, refl, sym, ◌∙◌, ap, subst, inl, inr, arith}
 use Rattle.std.proofs.lemmas.List.{length-drop, map-id}
 use Rattle.std.proofs.Math.Nat.{mul-mod_right}
 use Rattle.asn1_bits.specs.Bits.{bits}
@@ -10,7 +10,7 @@ use Rattle.asn1_schema.specs.PiecesOfParts.{bits_of}
 use Rattle.asn1_x690.specs.Leaves.{AreCharacters}
 use Rattle.asn1_x690_leaves.specs.Told.{AreOctetsOf}
 use Rattle.asn1_x690_leaves.proofs.SpanSteps.{span_size}
-use Rattle.asn1_x690_leaves.proofs.TextSteps.{whole_count, characters, text_size}
+use Rattle.asn1_x690_leaves.specs.TextSteps.{whole_count, characters, text_size}
 use Rattle.asn1_x690_leaves.proofs.texts.text.Goals as goal
 
 pub returns-then-span-width-ne0 : goal.returns-then-span-width-ne0

@@ -7,7 +7,7 @@ use Rattle.asn1_schema.specs.Pieces.{Text}
 use Rattle.asn1_schema.specs.PiecesOfParts.{bits_of}
 use Rattle.asn1_schema.specs.Times.{IsTime}
 use Rattle.asn1_x690.specs.Laws.LeafLaws.{characters_one}
-use Rattle.asn1_x690_leaves.proofs.TextSteps.{characters}
+use Rattle.asn1_x690_leaves.specs.TextSteps.{characters}
 use Rattle.asn1_x690_leaves.proofs.times.time.Goals as goal
 
 eight : 0 < 8

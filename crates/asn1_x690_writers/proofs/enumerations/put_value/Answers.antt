@@ -64,5 +64,5 @@ returns-else-not-is_unknown c ranges =
     let e : p ≡ Unknown list = ap (piece_in ranges a.source.now) c.in-Unknown.is ∙ ap Unknown (sym c.clip-inside.ensures.same) in
     let is = c.is_unknown.ensures.yes c.if-not-is_unknown.false in
     leaf_put (IsEnumerated a.numbers.now) (IsPermittedValue a.is_extensible) (λ (q : Piece). q) a.node p p list a.octets.now a.state.now
-    c.put_bits-state.new.octets c.put_bits-state.result refl (subst (λ (q : Piece). IsEnumerated a.numbers.now q list) (sym e) is)
-    (any_permitted a.is_extensible p c.if-not-is_extensible.false) (value_whole a.numbers.now (Unknown list) list is) c.put_bits-state.ensures
+    c.put_span-state.new.octets c.put_span-state.result refl (subst (λ (q : Piece). IsEnumerated a.numbers.now q list) (sym e) is)
+    (any_permitted a.is_extensible p c.if-not-is_extensible.false) (value_whole a.numbers.now (Unknown list) list is) c.put_span-state.ensures

@@ -11,5 +11,5 @@ returns-then-id-lt31 c =
       list = digits f.result 8;
       encodes = short_encodes c.args.id f.result f.ensures.below f.ensures.class f.ensures.form f.ensures.low c.if-id-lt31.true;
       whole = omega (arith, length-digits f.result 8);
-      grown = c.put_number.ensures;
+      grown = c.put_octet.ensures;
     }

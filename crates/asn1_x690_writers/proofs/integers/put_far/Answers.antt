@@ -37,10 +37,10 @@ returns c ranges =
     let list = bits_of (bits a.source.now) s in
     let h = span_length a.source.now s c.clip-inside.ensures.inside in
     leaf_put IsInteger (always {X = ℤ}) Integer a.node (piece_in ranges a.source.now a.part) (signed_number list) list a.octets.now
-    a.state.now c.put_bits-state.new.octets c.put_bits-state.result
+    a.state.now c.put_span-state.new.octets c.put_span-state.result
     (ap (piece_in ranges a.source.now) c.in-Signed.is ∙ ap (λ (l : List Bool). Integer (signed_number l)) (sym c.clip-inside.ensures.same))
     (c.is_minimal.ensures.yes c.if-not-is_minimal.false) tt
-    (omega (arith, h, c.if-inside-gt0.false)) c.put_bits-state.ensures
+    (omega (arith, h, c.if-inside-gt0.false)) c.put_span-state.ensures
 
 pub returns-then-inside-gt0 : goal.returns-then-inside-gt0
 returns-then-inside-gt0 c ranges =

@@ -11,31 +11,31 @@ pub returns-in-Null : goal.returns-in-Null
 returns-in-Null c =
     let a = c.args in
     let k = c.in-Null in
-    let p = piece_in a.ranges.now a.source.now a.part in
+    let p = piece_in a.ranges.now a.source.now a.part.now in
     subst
-    (λ (n : Node). IsPut (LeftAt (IsLeftOut a.source.now n a.part p) a.node c.put_null.new.state) (leaf_in a.ranges.now a.numbers.now a.node a.tags n) p a.octets.now a.state.now
+    (λ (n : Node). IsPut (LeftAt (IsLeftOut a.source.now n a.part.now p) a.node c.put_null.new.state) (leaf_in a.ranges.now a.numbers.now a.node a.tags.now n) p a.octets.now a.state.now
     c.put_null.new.octets c.put_null.new.state c.put_null.result) (sym k.is)
-    (none_left (LeftAt (IsLeftOut a.source.now type.Null a.part p) a.node c.put_null.new.state) (leaf_in a.ranges.now a.numbers.now a.node a.tags type.Null) p a.octets.now a.state.now
+    (none_left (LeftAt (IsLeftOut a.source.now type.Null a.part.now p) a.node c.put_null.new.state) (leaf_in a.ranges.now a.numbers.now a.node a.tags.now type.Null) p a.octets.now a.state.now
     c.put_null.new.octets c.put_null.new.state c.put_null.result (c.put_null.ensures a.ranges.now a.source.now))
 
 pub returns-in-Boolean : goal.returns-in-Boolean
 returns-in-Boolean c =
     let a = c.args in
     let k = c.in-Boolean in
-    let p = piece_in a.ranges.now a.source.now a.part in
+    let p = piece_in a.ranges.now a.source.now a.part.now in
     subst
-    (λ (n : Node). IsPut (LeftAt (IsLeftOut a.source.now n a.part p) a.node c.put_boolean.new.state) (leaf_in a.ranges.now a.numbers.now a.node a.tags n) p a.octets.now a.state.now
+    (λ (n : Node). IsPut (LeftAt (IsLeftOut a.source.now n a.part.now p) a.node c.put_boolean.new.state) (leaf_in a.ranges.now a.numbers.now a.node a.tags.now n) p a.octets.now a.state.now
     c.put_boolean.new.octets c.put_boolean.new.state c.put_boolean.result) (sym k.is)
-    (none_left (LeftAt (IsLeftOut a.source.now type.Boolean a.part p) a.node c.put_boolean.new.state) (leaf_in a.ranges.now a.numbers.now a.node a.tags type.Boolean) p a.octets.now a.state.now
+    (none_left (LeftAt (IsLeftOut a.source.now type.Boolean a.part.now p) a.node c.put_boolean.new.state) (leaf_in a.ranges.now a.numbers.now a.node a.tags.now type.Boolean) p a.octets.now a.state.now
     c.put_boolean.new.octets c.put_boolean.new.state c.put_boolean.result (c.put_boolean.ensures a.ranges.now a.source.now))
 
 pub returns-in-OctetString : goal.returns-in-OctetString
 returns-in-OctetString c =
     let a = c.args in
     let k = c.in-OctetString in
-    let p = piece_in a.ranges.now a.source.now a.part in
+    let p = piece_in a.ranges.now a.source.now a.part.now in
     subst
-    (λ (n : Node). IsPut (LeftAt (IsLeftOut a.source.now n a.part p) a.node c.put_octet_string.new.state) (leaf_in a.ranges.now a.numbers.now a.node a.tags n) p a.octets.now a.state.now
+    (λ (n : Node). IsPut (LeftAt (IsLeftOut a.source.now n a.part.now p) a.node c.put_octet_string.new.state) (leaf_in a.ranges.now a.numbers.now a.node a.tags.now n) p a.octets.now a.state.now
     c.put_octet_string.new.octets c.put_octet_string.new.state c.put_octet_string.result) (sym k.is)
     (c.put_octet_string.ensures a.ranges.now)
 
@@ -43,9 +43,9 @@ pub returns-in-ObjectIdentifier : goal.returns-in-ObjectIdentifier
 returns-in-ObjectIdentifier c =
     let a = c.args in
     let k = c.in-ObjectIdentifier in
-    let p = piece_in a.ranges.now a.source.now a.part in
+    let p = piece_in a.ranges.now a.source.now a.part.now in
     subst
-    (λ (n : Node). IsPut (LeftAt (IsLeftOut a.source.now n a.part p) a.node c.put_kept.new.state) (leaf_in a.ranges.now a.numbers.now a.node a.tags n) p a.octets.now a.state.now
+    (λ (n : Node). IsPut (LeftAt (IsLeftOut a.source.now n a.part.now p) a.node c.put_kept.new.state) (leaf_in a.ranges.now a.numbers.now a.node a.tags.now n) p a.octets.now a.state.now
     c.put_kept.new.octets c.put_kept.new.state c.put_kept.result) (sym k.is)
     (c.put_kept.ensures a.ranges.now)
 
@@ -53,9 +53,9 @@ pub returns-in-RelativeIdentifier : goal.returns-in-RelativeIdentifier
 returns-in-RelativeIdentifier c =
     let a = c.args in
     let k = c.in-RelativeIdentifier in
-    let p = piece_in a.ranges.now a.source.now a.part in
+    let p = piece_in a.ranges.now a.source.now a.part.now in
     subst
-    (λ (n : Node). IsPut (LeftAt (IsLeftOut a.source.now n a.part p) a.node c.put_kept-in-RelativeIdentifier.new.state) (leaf_in a.ranges.now a.numbers.now a.node a.tags n) p a.octets.now a.state.now
+    (λ (n : Node). IsPut (LeftAt (IsLeftOut a.source.now n a.part.now p) a.node c.put_kept-in-RelativeIdentifier.new.state) (leaf_in a.ranges.now a.numbers.now a.node a.tags.now n) p a.octets.now a.state.now
     c.put_kept-in-RelativeIdentifier.new.octets c.put_kept-in-RelativeIdentifier.new.state c.put_kept-in-RelativeIdentifier.result) (sym k.is)
     (c.put_kept-in-RelativeIdentifier.ensures a.ranges.now)
 
@@ -63,9 +63,9 @@ pub returns-in-Utf8String : goal.returns-in-Utf8String
 returns-in-Utf8String c =
     let a = c.args in
     let k = c.in-Utf8String in
-    let p = piece_in a.ranges.now a.source.now a.part in
+    let p = piece_in a.ranges.now a.source.now a.part.now in
     subst
-    (λ (n : Node). IsPut (LeftAt (IsLeftOut a.source.now n a.part p) a.node c.put_kept-in-Utf8String.new.state) (leaf_in a.ranges.now a.numbers.now a.node a.tags n) p a.octets.now a.state.now
+    (λ (n : Node). IsPut (LeftAt (IsLeftOut a.source.now n a.part.now p) a.node c.put_kept-in-Utf8String.new.state) (leaf_in a.ranges.now a.numbers.now a.node a.tags.now n) p a.octets.now a.state.now
     c.put_kept-in-Utf8String.new.octets c.put_kept-in-Utf8String.new.state c.put_kept-in-Utf8String.result) (sym k.is)
     (c.put_kept-in-Utf8String.ensures a.ranges.now)
 
@@ -73,9 +73,9 @@ pub returns-in-Real : goal.returns-in-Real
 returns-in-Real c =
     let a = c.args in
     let k = c.in-Real in
-    let p = piece_in a.ranges.now a.source.now a.part in
+    let p = piece_in a.ranges.now a.source.now a.part.now in
     subst
-    (λ (n : Node). IsPut (LeftAt (IsLeftOut a.source.now n a.part p) a.node c.put_kept-in-Real.new.state) (leaf_in a.ranges.now a.numbers.now a.node a.tags n) p a.octets.now a.state.now
+    (λ (n : Node). IsPut (LeftAt (IsLeftOut a.source.now n a.part.now p) a.node c.put_kept-in-Real.new.state) (leaf_in a.ranges.now a.numbers.now a.node a.tags.now n) p a.octets.now a.state.now
     c.put_kept-in-Real.new.octets c.put_kept-in-Real.new.state c.put_kept-in-Real.result) (sym k.is)
     (c.put_kept-in-Real.ensures a.ranges.now)
 
@@ -83,9 +83,9 @@ pub returns-in-IntegerBetween : goal.returns-in-IntegerBetween
 returns-in-IntegerBetween c =
     let a = c.args in
     let k = c.in-IntegerBetween in
-    let p = piece_in a.ranges.now a.source.now a.part in
+    let p = piece_in a.ranges.now a.source.now a.part.now in
     subst
-    (λ (n : Node). IsPut (LeftAt (IsLeftOut a.source.now n a.part p) a.node c.put_integer_between.new.state) (leaf_in a.ranges.now a.numbers.now a.node a.tags n) p a.octets.now a.state.now
+    (λ (n : Node). IsPut (LeftAt (IsLeftOut a.source.now n a.part.now p) a.node c.put_integer_between.new.state) (leaf_in a.ranges.now a.numbers.now a.node a.tags.now n) p a.octets.now a.state.now
     c.put_integer_between.new.octets c.put_integer_between.new.state c.put_integer_between.result) (sym k.is)
     (c.put_integer_between.ensures a.ranges.now)
 
@@ -93,9 +93,9 @@ pub returns-in-IntegerAtLeast : goal.returns-in-IntegerAtLeast
 returns-in-IntegerAtLeast c =
     let a = c.args in
     let k = c.in-IntegerAtLeast in
-    let p = piece_in a.ranges.now a.source.now a.part in
+    let p = piece_in a.ranges.now a.source.now a.part.now in
     subst
-    (λ (n : Node). IsPut (LeftAt (IsLeftOut a.source.now n a.part p) a.node c.put_integer_at_least.new.state) (leaf_in a.ranges.now a.numbers.now a.node a.tags n) p a.octets.now a.state.now
+    (λ (n : Node). IsPut (LeftAt (IsLeftOut a.source.now n a.part.now p) a.node c.put_integer_at_least.new.state) (leaf_in a.ranges.now a.numbers.now a.node a.tags.now n) p a.octets.now a.state.now
     c.put_integer_at_least.new.octets c.put_integer_at_least.new.state c.put_integer_at_least.result) (sym k.is)
     (c.put_integer_at_least.ensures a.ranges.now)
 
@@ -103,9 +103,9 @@ pub returns-in-Integer : goal.returns-in-Integer
 returns-in-Integer c =
     let a = c.args in
     let k = c.in-Integer in
-    let p = piece_in a.ranges.now a.source.now a.part in
+    let p = piece_in a.ranges.now a.source.now a.part.now in
     subst
-    (λ (n : Node). IsPut (LeftAt (IsLeftOut a.source.now n a.part p) a.node c.put_integer.new.state) (leaf_in a.ranges.now a.numbers.now a.node a.tags n) p a.octets.now a.state.now
+    (λ (n : Node). IsPut (LeftAt (IsLeftOut a.source.now n a.part.now p) a.node c.put_integer.new.state) (leaf_in a.ranges.now a.numbers.now a.node a.tags.now n) p a.octets.now a.state.now
     c.put_integer.new.octets c.put_integer.new.state c.put_integer.result) (sym k.is)
     (c.put_integer.ensures a.ranges.now)
 
@@ -113,46 +113,46 @@ pub returns-in-Enumerated : goal.returns-in-Enumerated
 returns-in-Enumerated c =
     let a = c.args in
     let k = c.in-Enumerated in
-    let p = piece_in a.ranges.now a.source.now a.part in
+    let p = piece_in a.ranges.now a.source.now a.part.now in
     let r = c.put_enumerated in
     subst
-    (λ (n : Node). IsPut (LeftAt (IsLeftOut a.source.now n a.part p) a.node r.new.state) (leaf_in a.ranges.now a.numbers.now a.node a.tags n) p a.octets.now a.state.now
+    (λ (n : Node). IsPut (LeftAt (IsLeftOut a.source.now n a.part.now p) a.node r.new.state) (leaf_in a.ranges.now a.numbers.now a.node a.tags.now n) p a.octets.now a.state.now
     r.new.octets r.new.state r.result) (sym k.is)
-    (none_left (LeftAt (IsLeftOut a.source.now (type.Enumerated k.last k.is_extensible k.additions) a.part p) a.node r.new.state) (leaf_in a.ranges.now a.numbers.now a.node a.tags (type.Enumerated k.last k.is_extensible k.additions)) p a.octets.now a.state.now
+    (none_left (LeftAt (IsLeftOut a.source.now (type.Enumerated k.last k.is_extensible k.additions) a.part.now p) a.node r.new.state) (leaf_in a.ranges.now a.numbers.now a.node a.tags.now (type.Enumerated k.last k.is_extensible k.additions)) p a.octets.now a.state.now
     r.new.octets r.new.state r.result (r.ensures a.ranges.now))
 
 pub returns-in-BitString : goal.returns-in-BitString
 returns-in-BitString c =
     let a = c.args in
     let k = c.in-BitString in
-    let p = piece_in a.ranges.now a.source.now a.part in
+    let p = piece_in a.ranges.now a.source.now a.part.now in
     let r = c.put_bit_string in
     subst
-    (λ (n : Node). IsPut (LeftAt (IsLeftOut a.source.now n a.part p) a.node r.new.state) (leaf_in a.ranges.now a.numbers.now a.node a.tags n) p a.octets.now a.state.now
+    (λ (n : Node). IsPut (LeftAt (IsLeftOut a.source.now n a.part.now p) a.node r.new.state) (leaf_in a.ranges.now a.numbers.now a.node a.tags.now n) p a.octets.now a.state.now
     r.new.octets r.new.state r.result) (sym k.is)
-    (none_left (LeftAt (IsLeftOut a.source.now (type.BitString k.length k.is_extensible k.has_names) a.part p) a.node r.new.state) (leaf_in a.ranges.now a.numbers.now a.node a.tags (type.BitString k.length k.is_extensible k.has_names)) p a.octets.now a.state.now
+    (none_left (LeftAt (IsLeftOut a.source.now (type.BitString k.length k.is_extensible k.has_names) a.part.now p) a.node r.new.state) (leaf_in a.ranges.now a.numbers.now a.node a.tags.now (type.BitString k.length k.is_extensible k.has_names)) p a.octets.now a.state.now
     r.new.octets r.new.state r.result (r.ensures a.ranges.now))
 
 pub returns-in-Text : goal.returns-in-Text
 returns-in-Text c =
     let a = c.args in
     let k = c.in-Text in
-    let p = piece_in a.ranges.now a.source.now a.part in
+    let p = piece_in a.ranges.now a.source.now a.part.now in
     let r = c.put_text in
     subst
-    (λ (n : Node). IsPut (LeftAt (IsLeftOut a.source.now n a.part p) a.node r.new.state) (leaf_in a.ranges.now a.numbers.now a.node a.tags n) p a.octets.now a.state.now
+    (λ (n : Node). IsPut (LeftAt (IsLeftOut a.source.now n a.part.now p) a.node r.new.state) (leaf_in a.ranges.now a.numbers.now a.node a.tags.now n) p a.octets.now a.state.now
     r.new.octets r.new.state r.result) (sym k.is)
-    (none_left (LeftAt (IsLeftOut a.source.now (type.Text k.length k.is_extensible k.alphabet k.whole) a.part p) a.node r.new.state) (leaf_in a.ranges.now a.numbers.now a.node a.tags (type.Text k.length k.is_extensible k.alphabet k.whole)) p a.octets.now a.state.now
+    (none_left (LeftAt (IsLeftOut a.source.now (type.Text k.length k.is_extensible k.alphabet k.whole) a.part.now p) a.node r.new.state) (leaf_in a.ranges.now a.numbers.now a.node a.tags.now (type.Text k.length k.is_extensible k.alphabet k.whole)) p a.octets.now a.state.now
     r.new.octets r.new.state r.result r.ensures)
 
 pub returns-in-Time : goal.returns-in-Time
 returns-in-Time c =
     let a = c.args in
     let k = c.in-Time in
-    let p = piece_in a.ranges.now a.source.now a.part in
+    let p = piece_in a.ranges.now a.source.now a.part.now in
     let r = c.put_time in
     subst
-    (λ (n : Node). IsPut (LeftAt (IsLeftOut a.source.now n a.part p) a.node r.new.state) (leaf_in a.ranges.now a.numbers.now a.node a.tags n) p a.octets.now a.state.now
+    (λ (n : Node). IsPut (LeftAt (IsLeftOut a.source.now n a.part.now p) a.node r.new.state) (leaf_in a.ranges.now a.numbers.now a.node a.tags.now n) p a.octets.now a.state.now
     r.new.octets r.new.state r.result) (sym k.is)
-    (none_left (LeftAt (IsLeftOut a.source.now (type.Time k.kind) a.part p) a.node r.new.state) (leaf_in a.ranges.now a.numbers.now a.node a.tags (type.Time k.kind)) p a.octets.now a.state.now
+    (none_left (LeftAt (IsLeftOut a.source.now (type.Time k.kind) a.part.now p) a.node r.new.state) (leaf_in a.ranges.now a.numbers.now a.node a.tags.now (type.Time k.kind)) p a.octets.now a.state.now
     r.new.octets r.new.state r.result r.ensures)

@@ -1,11 +1,15 @@
-use Rattle.std.proofs.Common.{◌≡◌, ℕ, ◌+◌, ◌-◌, ◌∙◌, ap, arith, drop}
-use Rattle.std.proofs.Math.Seq.{paste}
-use Rattle.asn1_x690_writers.specs.HeaderSteps.{moved}
+use Rattle.std.proofs.Common.{◌≡◌, ℕ, ◌*◌, take, drop, ◌∙◌, ap, arith}
+use Rattle.asn1_bits.specs.Bits.{bits}
 use Rattle.asn1_x690_writers.proofs.lengths.move_contents.Goals as goal
 
-pub returns-then-first-gt1 : goal.returns-then-first-gt1
-returns-then-first-gt1 c =
-    let d = c.args.octets.now in
-    let e : 1 + c.args.count - 1 ≡ c.args.count = omega arith in
-    moved d c.copy_within.new.self c.args.first c.args.count (omega (arith, c.requires.room, c.requires.some)) (omega (arith, c.requires.room))
-    (c.copy_within.ensures.after ∙ ap (λ (n : ℕ). paste d c.args.first (drop 1 d) n) e)
+pub loop-index-preserved : goal.loop-index-preserved
+loop-index-preserved c = c.move_on.ensures ∙ c.loop-index.invariant
+
+pub returns : goal.returns
+returns c =
+    let l = c.loop-index in
+    let past = c.loop-index-test.false in
+    let most = l.auto.index-end in
+    let some = c.requires.some in
+    let e : c.args.first ≡ l.index = omega (arith, past, most, some) in
+    ap (λ (n : ℕ). take (8 * c.args.count) (drop (8 * n) (bits l.octets))) e ∙ l.invariant

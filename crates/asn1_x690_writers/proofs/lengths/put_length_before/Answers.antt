@@ -1,16 +1,17 @@
-use Rattle.std.proofs.Common.{arith}
-use Rattle.asn1_x690_writers.specs.HeaderSteps.{length_written, length_short}
+use Rattle.std.proofs.Common.{refl, set, arith}
+use Rattle.asn1_x690_writers.specs.HeaderSteps.{length_written, length_short, short_length}
+use Rattle.asn1_x690_writers.specs.OctetSteps.{first_octet}
 use Rattle.asn1_x690_writers.proofs.lengths.put_length_before.Goals as goal
 
-pub returns-then-length-count-clause-before : goal.returns-then-length-count-clause-before
-returns-then-length-count-clause-before c contents size have =
-    let l = c.length_of-length in
-    length_written contents c.args.count l.result.value l.result.width c.args.octets.now c.move_contents.new.octets
-    c.overwrite_number.new.dst l.ensures.encodes size (omega (arith, l.ensures.whole)) c.move_contents.auto.octets c.if-length-count.true have
-    c.move_contents.ensures l.ensures.some c.overwrite_number.ensures.bits
+pub returns-then-count-octets-clause-before : goal.returns-then-count-octets-clause-before
+returns-then-count-octets-clause-before c contents size have =
+    let old = c.args.octets.now in
+    let n = c.args.count in
+    length_written contents n n 8 old old (set old 0 n) (short_length n (omega (arith, c.if-count-ge128.false))) size refl refl
+    (omega (arith, c.if-count-octets.true)) have refl (omega arith) (first_octet old n (omega (arith, c.if-count-octets.true)))
 
-pub returns-else-length-count-clause-before : goal.returns-else-length-count-clause-before
-returns-else-length-count-clause-before c contents size have =
-    let l = c.length_of-length in
-    length_short contents c.args.count l.result.value l.result.width c.args.octets.now l.ensures.encodes size
-    (omega (arith, l.ensures.whole)) (omega (arith, c.if-length-count.false))
+pub returns-else-count-octets-clause-before : goal.returns-else-count-octets-clause-before
+returns-else-count-octets-clause-before c contents size have =
+    let n = c.args.count in
+    length_short contents n n 8 c.args.octets.now (short_length n (omega (arith, c.if-count-ge128.false))) size refl
+    (omega (arith, c.if-count-octets.false))

@@ -9,14 +9,14 @@ use Rattle.asn1_x691_writers.specs.Validity.{IsValid}
 use Rattle.asn1_x690_writers.specs.PutSteps.{leaf_put, span_length}
 use Rattle.asn1_x690_writers.proofs.octet_strings.put_kept.Goals as goal
 
-pub returns-else-not-is_valid : goal.returns-else-not-is_valid
-returns-else-not-is_valid c ranges =
+pub returns-else-not-is_of_kind : goal.returns-else-not-is_of_kind
+returns-else-not-is_of_kind c ranges =
     let a = c.args in
     let s = c.clip-inside.result in
     let list = bits_of (bits a.source.now) s in
     leaf_put (IsKept (IsValid a.kind)) (always {X = List Bool}) Octets a.node (piece_in ranges a.source.now a.part) list list a.octets.now
-    a.state.now c.put_bits-state.new.octets c.put_bits-state.result
+    a.state.now c.put_span-state.new.octets c.put_span-state.result
     (ap (piece_in ranges a.source.now) c.in-Octets.is ∙ ap Octets (sym c.clip-inside.ensures.same))
-    (refl, c.is_valid.ensures.yes c.if-not-is_valid.false) tt
-    (let h = span_length a.source.now s c.clip-inside.ensures.inside in omega (arith, h, c.is_valid.ensures.whole c.if-not-is_valid.false))
-    c.put_bits-state.ensures
+    (refl, c.is_of_kind.ensures.yes c.if-not-is_of_kind.false) tt
+    (let h = span_length a.source.now s c.clip-inside.ensures.inside in omega (arith, h, c.is_of_kind.ensures.whole c.if-not-is_of_kind.false))
+    c.put_span-state.ensures

@@ -48,10 +48,10 @@ returns-else-not-has_size c ranges =
     let h = span_length a.source.now s c.clip-inside.ensures.inside in
     let n : length list ≡ 8 * (s.count / 8) = omega (arith, h, c.if-inside-gt0.false) in
     leaf_put AreOctets (AreSized a.is_extensible a.size) Octets a.node (piece_in ranges a.source.now a.part) list list a.octets.now
-    a.state.now c.put_bits-state.new.octets c.put_bits-state.result
+    a.state.now c.put_span-state.new.octets c.put_span-state.result
     (ap (piece_in ranges a.source.now) c.in-Octets.is ∙ ap Octets (sym c.clip-inside.ensures.same))
     (refl, (s.count / 8, n)) (s.count / 8, n, c.has_size.ensures.yes c.if-not-has_size.false)
-    (omega (arith, n)) c.put_bits-state.ensures
+    (omega (arith, n)) c.put_span-state.ensures
 
 pub returns-in-OctetsInFragments : goal.returns-in-OctetsInFragments
 returns-in-OctetsInFragments c ranges =

@@ -1,0 +1,31 @@
+use Rattle.std.proofs.Common.{false, sym, ◌∙◌, ap, arith}
+use Rattle.asn1_bits.specs.Bits.{bits}
+use Rattle.asn1_bits.specs.DigitLaws.{length-bits}
+use Rattle.asn1_x691_fields.specs.Octets.{are_series}
+use Rattle.asn1_x691_fields.specs.ContentSteps.{are_identifier, are_no_identifier, empty_is_none}
+use Rattle.asn1_x690_leaves.proofs.SpanSteps.{own_octets}
+use Rattle.asn1_x690_leaves.proofs.identifiers.are_subidentifiers.Goals as goal
+
+pub are_subidentifiers-requires-clause-inside : goal.are_subidentifiers-requires-clause-inside
+are_subidentifiers-requires-clause-inside c = let i = c.requires.contents.inside in omega (arith, length-bits c.args.octets.now, i)
+
+pub returns-then-span-gt0-clause-yes : goal.returns-then-span-gt0-clause-yes
+returns-then-span-gt0-clause-yes c e =
+    let a = c.args in
+    let h = c.requires.contents in
+    let list = bits a.octets.now in
+    let same = own_octets list a.span h c.in-Some.own.now c.in-Some.ensures.octets c.in-Some.ensures.bits in
+    are_identifier list a.span h.inside h.whole c.if-span-gt0.true (ap (are_series false) same ∙ sym c.are_series.ensures ∙ e)
+
+pub returns-then-span-gt0-clause-no : goal.returns-then-span-gt0-clause-no
+returns-then-span-gt0-clause-no c e =
+    let a = c.args in
+    let h = c.requires.contents in
+    let list = bits a.octets.now in
+    let same = own_octets list a.span h c.in-Some.own.now c.in-Some.ensures.octets c.in-Some.ensures.bits in
+    are_no_identifier list a.span h.inside h.whole (ap (are_series false) same ∙ sym c.are_series.ensures ∙ e)
+
+pub returns-else-span-gt0-clause-no : goal.returns-else-span-gt0-clause-no
+returns-else-span-gt0-clause-no c e =
+    let h = c.requires.contents in
+    empty_is_none (bits c.args.octets.now) c.args.span h.inside h.whole (omega (arith, c.if-span-gt0.false))

@@ -1,0 +1,67 @@
+//! Octets at an index.
+
+ghost use Rattle.std.specs.Prelude.{◌≡◌, ◌+◌, ◌*◌, ◌%◌, ◌^◌, ◌<◌, ◌≤◌, ◌++◌, length, take, drop};
+ghost use Rattle.asn1_bits.specs.Bits.{bits, digits};
+ghost use Rattle.asn1_x691_writers.specs.Written.{IsGrown};
+
+use asn1_bits::{BitStr, aligned_octets};
+use asn1_x691_writers::{after, put_bits, put_number};
+
+/// Writes an octet from bit `at` on. Returns the index after it.
+#[inline(always)]
+pub(crate) fn put_octet(octets: &mut [u8], at: usize, octet: u8) -> usize
+    requires { 8 * length octets.old < 2 ^ 64 }
+    ensures { IsGrown octets.old at octets.new result (digits octet 8) }
+{
+    if at % 8 > 0 {
+        return put_number(octets, at, u64::from(octet), 8);
+    }
+    if at / 8 < octets.len() {
+        octets[at / 8] = octet;
+        return at + 8;
+    }
+    after(at, 8)
+}
+
+/// Writes octets over those from an index on.
+#[inline(always)]
+fn store(octets: &mut [u8], first: usize, own: &[u8])
+    requires { first + length own.now ≤ length octets.old }
+    ensures { take (first + length own.now) octets.new ≡ take first octets.old ++ own.now }
+{
+    let (_, rest) = octets.split_at_mut(first);
+    let (front, _) = rest.split_at_mut(own.len());
+    front.copy_from_slice(own);
+}
+
+/// Writes `count` bits of a source from bit `at` on, and returns the index after them. Where both
+/// begin at octets, it copies these.
+pub fn put_span(octets: &mut [u8], at: usize, source: &[u8], from: usize, count: usize) -> usize
+    requires size { 8 * length octets.old < 2 ^ 64 }
+    requires within { from + count ≤ 8 * length source.now }
+    ensures { IsGrown octets.old at octets.new result (take count (drop from (bits source.now))) }
+{
+    if at % 8 == 0 {
+        if let Some(view) = BitStr::new(source, from, count) {
+            if let Some(own) = aligned_octets(view) {
+                return put_octets(octets, at, own);
+            }
+        }
+    }
+    put_bits(octets, at, source, from, count)
+}
+
+/// Writes octets from bit `at` on, which is the first of an octet. Returns the index after them.
+fn put_octets(octets: &mut [u8], at: usize, own: &[u8]) -> usize
+    requires size { 8 * length octets.old < 2 ^ 64 }
+    requires own { 8 * length own.now < 2 ^ 64 }
+    requires whole { at % 8 ≡ 0 }
+    ensures { IsGrown octets.old at octets.new result (bits own.now) }
+{
+    let first = at / 8;
+    if first <= octets.len() && own.len() <= octets.len() - first {
+        store(octets, first, own);
+        return at + 8 * own.len();
+    }
+    after(at, 8 * own.len())
+}
