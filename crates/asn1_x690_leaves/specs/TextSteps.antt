@@ -1,11 +1,13 @@
 -- Characters of a message.
-use Rattle.std.proofs.Common.{◌≡◌, ℕ, zero, suc, ◌+◌, ◌*◌, ◌^◌, ◌<◌, ◌≤◌, Bool, List, [], ◌∷◌, ◌++◌, length, take, drop, refl, sym, ◌∙◌, ap, subst, arith}
+use Rattle.std.proofs.Common.{◌≡◌, ℕ, zero, suc, ◌+◌, ◌*◌, ◌/◌, ◌%◌, ◌^◌, ◌<◌, ◌≤◌, Bool, List, [], ◌∷◌, ◌++◌, length, take, drop, refl, sym, ◌∙◌, ap, subst, arith}
 use Rattle.std.proofs.lemmas.List.{length-take-le, length-drop, length-append, drop-drop}
 use Rattle.std.proofs.Math.Seq.{take-add}
 use Rattle.asn1_bits.specs.Bits.{number, digits}
 use Rattle.asn1_bits.specs.DigitLaws.{length-digits}
 use Rattle.asn1_bits.specs.NumberLaws.{number-lt, digits_of-number}
+use Rattle.asn1_schema.specs.declared.part.Span.{Span}
 use Rattle.asn1_schema.specs.CharactersOfParts.{numbers_in}
+use Rattle.asn1_schema.specs.PiecesOfParts.{bits_of}
 use Rattle.asn1_x690.specs.Leaves.{AreCharacters}
 use Rattle.asn1_x690_leaves.specs.Told.{AreOctetsOf}
 

@@ -103,7 +103,7 @@ returns-in-Utf8String c depth =
 pub returns-in-Real : goal.returns-in-Real
 returns-in-Real c depth =
     let contents = bits_of (bits c.args.context.now.octets.now) c.args.span in
-    subst (λ (n : Node). IsLeaf c.args.context.now (contents_by c.args.context.now depth c.args.of.now.node c.args.of.now.tags n)
+    subst (λ (n : Node). IsLeaf c.args.context.now (contents_by c.args.context.now depth c.args.of.now.node c.args.of.now.tags.now n)
     c.args.of.now.node contents c.real.result) (sym c.in-Real.is)
     (told_leaf (IsKept IsReal) always Octets c.args.context.now c.args.of.now.node contents c.real.result
     (c.real.ensures c.args.context.now.tables.ranges.now))
@@ -111,7 +111,7 @@ returns-in-Real c depth =
 pub returns-in-Time : goal.returns-in-Time
 returns-in-Time c depth =
     let contents = bits_of (bits c.args.context.now.octets.now) c.args.span in
-    subst (λ (n : Node). IsLeaf c.args.context.now (contents_by c.args.context.now depth c.args.of.now.node c.args.of.now.tags n)
+    subst (λ (n : Node). IsLeaf c.args.context.now (contents_by c.args.context.now depth c.args.of.now.node c.args.of.now.tags.now n)
     c.args.of.now.node contents c.time.result) (sym c.in-Time.is)
     (told_leaf (IsTimeText c.in-Time.kind) always Text c.args.context.now c.args.of.now.node contents c.time.result
     (c.time.ensures c.args.context.now.tables.ranges.now))
