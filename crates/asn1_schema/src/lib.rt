@@ -20,5 +20,7 @@ pub use number_source::NumberSource;
 pub use part::{Characters, Codes, Fragments, Natural, Part, Span};
 pub use reals::is_real;
 pub use room::{push_part, replace_part};
-pub use tables::{Bounds, Length, LowerBound, Member, Node, Presence, Range, Rows, Tables, TimeKind};
+pub use tables::{
+    Bounds, Length, LowerBound, Member, Node, Presence, Range, Rows, Tables, TimeKind,
+};
 pub use times::is_time;

@@ -25,10 +25,10 @@ fraction_within : (text : List ℕ) → HasFraction text → slice_index text (l
     → slice_index text i < 2 ^ 8
 fraction_within text f zone i from h = elim (cases_lt 14 i) [
   | inl after ↦ elim (cases_lt i (length text - 1)) [
-      | inl lt ↦ digit_within (slice_index text i) (f.digits i (omega (arith, after)) lt)
-      | inr le ↦ let e : i ≡ length text - 1 = omega (arith, le, h) in
-          let last = ap (λ (n : ℕ). slice_index text n) e in omega (arith, last, zone)
-    ]
+    | inl lt ↦ digit_within (slice_index text i) (f.digits i (omega (arith, after)) lt)
+    | inr le ↦ let e : i ≡ length text - 1 = omega (arith, le, h) in
+        let last = ap (λ (n : ℕ). slice_index text n) e in omega (arith, last, zone)
+  ]
   | inr at ↦ let e : i ≡ 14 = omega (arith, from, at) in
       let stop = ap (λ (n : ℕ). slice_index text n) e in omega (arith, stop, f.stop)
 ]
@@ -37,10 +37,10 @@ generalized_within : (text : List ℕ) → IsGeneralizedTime text → (i : ℕ) 
 generalized_within text t i h = elim (cases_lt i 14) [
   | inl lt ↦ let first : 0 ≤ i = omega arith in digit_within (slice_index text i) (t.digits i first lt)
   | inr le ↦ elim t.fraction [
-      | inl size ↦ let e : i ≡ length text - 1 = omega (arith, le, h, size) in
-          let last = ap (λ (n : ℕ). slice_index text n) e in omega (arith, last, t.zone)
-      | inr f ↦ fraction_within text f t.zone i le h
-    ]
+    | inl size ↦ let e : i ≡ length text - 1 = omega (arith, le, h, size) in
+        let last = ap (λ (n : ℕ). slice_index text n) e in omega (arith, last, t.zone)
+    | inr f ↦ fraction_within text f t.zone i le h
+  ]
 ]
 
 pub time_within : (kind : TimeKind) (text : List ℕ) → IsTime kind text → AreWithin 8 text

@@ -26,7 +26,7 @@ returns c =
     let one : parts.1.count ≡ suc (parts.1.count - 1) = omega (arith, c.split_characters.ensures.others, c.requires, size) in
     let here : c.args.index ≡ length (characters_of table list parts.0) + 0 = omega (arith, front, c.split_characters.ensures.first) in
     let first : get_or (characters_of table list p.text) c.args.index 0
-        ≡ character_of table parts.1.codes (number (bits_at list parts.1.at parts.1.width)) =
+    ≡ character_of table parts.1.codes (number (bits_at list parts.1.at parts.1.width)) =
     ap (λ (l : List ℕ). get_or l c.args.index 0) apart
     ∙ ap (λ (i : ℕ). get_or (characters_of table list parts.0 ++ characters_of table list parts.1) i 0) here
     ∙ get_or-append-add (characters_of table list parts.0) (characters_of table list parts.1) 0 0
