@@ -60,7 +60,7 @@ pub(crate) fn encode_additions(
                     node,
                     known.count as usize,
                     known.from,
-                    Tail::Unknown(known.count, count),
+                    &Tail::Unknown(known.count, count),
                     octets,
                     state,
                 )?;

@@ -100,7 +100,7 @@ pub(crate) fn encode_sequence(
                 node,
                 root.count as usize,
                 root.from,
-                Tail::End,
+                &Tail::End,
                 octets,
                 state,
             )
@@ -159,7 +159,7 @@ pub(crate) fn encode_extensible_sequence(
                     node,
                     root.count as usize,
                     root.from,
-                    Tail::Extension(known, is_extended),
+                    &Tail::Extension(known, is_extended),
                     octets,
                     state,
                 )
@@ -178,7 +178,7 @@ pub(crate) fn encode_components(
     node: usize,
     count: usize,
     from: usize,
-    tail: Tail,
+    tail: &Tail,
     octets: &mut [u8],
     state: &mut Writer,
 ) -> Option<Option<FoundIdentifier>>
@@ -187,7 +187,7 @@ pub(crate) fn encode_components(
     requires parts { length context.now.parts.now < 2 ^ 64 - 1 }
     requires whole { state.old.at % 8 ≡ 0 }
     requires few { count < 2 ^ 32 }
-    ensures { ToldOutcome context.now (components_in context.now depth node count from tail) (told_of tail) octets.old state.old
+    ensures { ToldOutcome context.now (components_in context.now depth node count from tail.now) (told_of tail.now) octets.old state.old
         octets.new state.new result }
 {
     if count == 0 {
@@ -231,11 +231,11 @@ pub(crate) fn encode_components(
 }
 
 /// Returns whether a component must be present, before so much more of the contents. No addition must.
-fn is_required(presence: Presence, tail: Tail) -> bool
-    ensures { result ≡ is_required presence tail }
+fn is_required(presence: Presence, tail: &Tail) -> bool
+    ensures { result ≡ is_required presence tail.now }
 {
     match presence {
-        Presence::Mandatory => match tail {
+        Presence::Mandatory => match *tail {
             Tail::Unknown(_, _) => false,
             _ => true,
         },
@@ -249,7 +249,7 @@ fn encode_tail(
     context: &Context<'_>,
     depth: usize,
     node: usize,
-    tail: Tail,
+    tail: &Tail,
     octets: &mut [u8],
     state: &mut Writer,
 ) -> Option<Option<FoundIdentifier>>
@@ -257,9 +257,9 @@ fn encode_tail(
     requires source { 8 * length context.now.source.now < 2 ^ 64 }
     requires parts { length context.now.parts.now < 2 ^ 64 - 1 }
     requires whole { state.old.at % 8 ≡ 0 }
-    ensures { ToldOutcome context.now (after_root context.now depth node tail) (told_of tail) octets.old state.old octets.new state.new result }
+    ensures { ToldOutcome context.now (after_root context.now depth node tail.now) (told_of tail.now) octets.old state.old octets.new state.new result }
 {
-    match tail {
+    match *tail {
         Tail::End => Some(None),
         Tail::Extension(known, is_extended) => {
             if !is_extended {
@@ -282,7 +282,7 @@ fn encode_required(
     inner: usize,
     count: usize,
     from: usize,
-    tail: Tail,
+    tail: &Tail,
     octets: &mut [u8],
     state: &mut Writer,
 ) -> Option<Option<FoundIdentifier>>
@@ -291,7 +291,7 @@ fn encode_required(
     requires parts { length context.now.parts.now < 2 ^ 64 - 1 }
     requires whole { state.old.at % 8 ≡ 0 }
     requires few { count < 2 ^ 32 }
-    ensures { ToldOutcome context.now (required_in context.now depth node inner count from tail) (told_of tail) octets.old state.old
+    ensures { ToldOutcome context.now (required_in context.now depth node inner count from tail.now) (told_of tail.now) octets.old state.old
         octets.new state.new result }
 {
     let found = encode_node(context, depth, inner, octets, state)?;
@@ -311,7 +311,7 @@ fn encode_optional(
     inner: usize,
     count: usize,
     from: usize,
-    tail: Tail,
+    tail: &Tail,
     octets: &mut [u8],
     state: &mut Writer,
 ) -> Option<Option<FoundIdentifier>>
@@ -320,7 +320,7 @@ fn encode_optional(
     requires parts { length context.now.parts.now < 2 ^ 64 - 1 }
     requires whole { state.old.at % 8 ≡ 0 }
     requires few { count < 2 ^ 32 }
-    ensures { ToldOutcome context.now (optional_in context.now depth node presence first inner count from tail) (told_of tail) octets.old state.old
+    ensures { ToldOutcome context.now (optional_in context.now depth node presence first inner count from tail.now) (told_of tail.now) octets.old state.old
         octets.new state.new result }
 {
     let next = state.next;

@@ -15,7 +15,7 @@ use Rattle.asn1_x690.specs.declared.tables.TypeTags.{TypeTags}
 use Rattle.asn1_x690.specs.Der.{always, rows_of}
 use Rattle.asn1_x690.specs.Leaves.{IsBoolean, IsNull, IsInteger, IsEnumerated, IsBitString, AreOctets, IsKept, IsObjectIdentifier, IsRelativeIdentifier, IsUtf8Text, width_of, AreCharacters, IsTimeText, HasSize, IsBetween, IsAtLeast, AreTrimmed, AreSized, IsText, IsPermittedValue, leaf_of}
 use Rattle.asn1_x690.specs.TypeContents.{TypeContents}
-use Rattle.asn1_x691_writers.specs.Put.{IsFarInteger, IsInFragments}
+use Rattle.asn1_x691_writers.specs.Put.{IsInFragments}
 use Rattle.asn1_x690_writers.specs.Put.{AreTooMany, IsFarWithout}
 
 abbrev pub enumerated_in : List ℤ → ℕ → TypeTags → Bool → ℕ → ℕ → TypeContents FaultKind
@@ -53,10 +53,10 @@ leaf_in ranges numbers node t n = no_leaf node
 -- ---- what is not written yet
 
 -- of an OCTET STRING, 2^64 bits and more; of octets that are kept by their contents, octets in fragments; of an INTEGER, a number
--- outside -2^127 to 2^127 - 1, and where it has no bounds, only if the part does not have its minimal octets
+-- outside -2^127 to 2^127 - 1, if the part does not have its minimal octets
 abbrev pub IsLeftOut : List ℕ → Node → Part → Piece → Type 0
-IsLeftOut source (type.IntegerBetween bounds is_extensible) part p = IsFarInteger p
-IsLeftOut source (type.IntegerAtLeast bound is_extensible) part p = IsFarInteger p
+IsLeftOut source (type.IntegerBetween bounds is_extensible) part p = IsFarWithout source part p
+IsLeftOut source (type.IntegerAtLeast bound is_extensible) part p = IsFarWithout source part p
 IsLeftOut source type.Integer part p = IsFarWithout source part p
 IsLeftOut source (type.OctetString size is_extensible) part p = AreTooMany p
 IsLeftOut source type.ObjectIdentifier part p = IsInFragments part

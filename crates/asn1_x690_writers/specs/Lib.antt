@@ -7,6 +7,7 @@ pub mod Strings
 pub mod Texts
 -- What follows of what calls wrote; no contract cites it.
 pub mod EnumeratedSteps
+pub mod FarSteps
 pub mod HeaderSteps
 pub mod NumberSteps
 pub mod OctetSteps

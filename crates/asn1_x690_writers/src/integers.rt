@@ -132,7 +132,8 @@ pub(crate) fn put_integer(
     }
 }
 
-/// Writes an INTEGER within both bounds. The number must be from -2^127 to 2^127 - 1.
+/// Writes an INTEGER within both bounds. With an extension marker, a number outside -2^127 to 2^127 - 1
+/// is left unless its octets of two's complement are in the source, in minimal length.
 pub(crate) fn put_integer_between(
     octets: &mut [u8],
     bounds: Bounds,
@@ -144,7 +145,7 @@ pub(crate) fn put_integer_between(
 ) -> bool
     requires size { 8 * length octets.old < 2 ^ 64 }
     requires source { 8 * length source.now < 2 ^ 64 }
-    ensures { (ranges : List Range) → IsPut (LeftAt (IsFarInteger (piece_in ranges source.now part)) node state.new) (leaf_of IsInteger (IsBetween is_extensible bounds.least bounds.range) Integer node) (piece_in ranges source.now part)
+    ensures { (ranges : List Range) → IsPut (LeftAt (IsFarWithout source.now part (piece_in ranges source.now part)) node state.new) (leaf_of IsInteger (IsBetween is_extensible bounds.least bounds.range) Integer node) (piece_in ranges source.now part)
         octets.old state.old octets.new state.new result }
 {
     match integer_of(source, part) {
@@ -156,12 +157,23 @@ pub(crate) fn put_integer_between(
             true
         }
         Held::Other => reject(state, node, MisfitKind::OtherPart),
-        Held::FarAbove => leave(state, node),
-        Held::FarBelow => leave(state, node),
+        Held::FarAbove => {
+            if is_extensible {
+                return put_far(octets, source, part, node, state);
+            }
+            reject(state, node, MisfitKind::NoEncoding)
+        }
+        Held::FarBelow => {
+            if is_extensible {
+                return put_far(octets, source, part, node, state);
+            }
+            reject(state, node, MisfitKind::NoEncoding)
+        }
     }
 }
 
-/// Writes an INTEGER from a lower bound on. The number must be from -2^127 to 2^127 - 1.
+/// Writes an INTEGER from a lower bound on. A number above 2^127 - 1, or with an extension marker below
+/// -2^127, is left unless its octets of two's complement are in the source, in minimal length.
 pub(crate) fn put_integer_at_least(
     octets: &mut [u8],
     bound: LowerBound,
@@ -173,7 +185,7 @@ pub(crate) fn put_integer_at_least(
 ) -> bool
     requires size { 8 * length octets.old < 2 ^ 64 }
     requires source { 8 * length source.now < 2 ^ 64 }
-    ensures { (ranges : List Range) → IsPut (LeftAt (IsFarInteger (piece_in ranges source.now part)) node state.new) (leaf_of IsInteger (IsAtLeast is_extensible bound.least) Integer node) (piece_in ranges source.now part)
+    ensures { (ranges : List Range) → IsPut (LeftAt (IsFarWithout source.now part (piece_in ranges source.now part)) node state.new) (leaf_of IsInteger (IsAtLeast is_extensible bound.least) Integer node) (piece_in ranges source.now part)
         octets.old state.old octets.new state.new result }
 {
     match integer_of(source, part) {
@@ -185,7 +197,12 @@ pub(crate) fn put_integer_at_least(
             true
         }
         Held::Other => reject(state, node, MisfitKind::OtherPart),
-        Held::FarAbove => leave(state, node),
-        Held::FarBelow => leave(state, node),
+        Held::FarAbove => put_far(octets, source, part, node, state),
+        Held::FarBelow => {
+            if is_extensible {
+                return put_far(octets, source, part, node, state);
+            }
+            reject(state, node, MisfitKind::NoEncoding)
+        }
     }
 }

@@ -33,16 +33,16 @@ abbrev pub decreases-sequence::encode_extensible_sequence : goal.decreases-seque
 decreases-sequence::encode_extensible_sequence l = 2 ^ 80 * l.depth + 2 ^ 70 + 1
 
 abbrev pub decreases-sequence::encode_components : goal.decreases-sequence::encode_components
-decreases-sequence::encode_components l = 2 ^ 80 * l.depth + 2 ^ 50 + 2 ^ 60 * size_of l.tail + 4 * l.count
+decreases-sequence::encode_components l = 2 ^ 80 * l.depth + 2 ^ 50 + 2 ^ 60 * size_of l.tail.now + 4 * l.count
 
 abbrev pub decreases-sequence::encode_required : goal.decreases-sequence::encode_required
-decreases-sequence::encode_required l = 2 ^ 80 * l.depth + 2 ^ 50 + 2 ^ 60 * size_of l.tail + 4 * l.count + 2
+decreases-sequence::encode_required l = 2 ^ 80 * l.depth + 2 ^ 50 + 2 ^ 60 * size_of l.tail.now + 4 * l.count + 2
 
 abbrev pub decreases-sequence::encode_optional : goal.decreases-sequence::encode_optional
-decreases-sequence::encode_optional l = 2 ^ 80 * l.depth + 2 ^ 50 + 2 ^ 60 * size_of l.tail + 4 * l.count + 2
+decreases-sequence::encode_optional l = 2 ^ 80 * l.depth + 2 ^ 50 + 2 ^ 60 * size_of l.tail.now + 4 * l.count + 2
 
 abbrev pub decreases-sequence::encode_tail : goal.decreases-sequence::encode_tail
-decreases-sequence::encode_tail l = 2 ^ 80 * l.depth + 2 ^ 49 + 2 ^ 60 * size_of l.tail
+decreases-sequence::encode_tail l = 2 ^ 80 * l.depth + 2 ^ 49 + 2 ^ 60 * size_of l.tail.now
 
 abbrev pub decreases-additions::encode_additions : goal.decreases-additions::encode_additions
 decreases-additions::encode_additions l = 2 ^ 80 * l.depth + 2 ^ 60 * 2

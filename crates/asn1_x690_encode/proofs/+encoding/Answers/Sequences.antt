@@ -24,8 +24,8 @@ encode_components-returns-then-count-eq0 t c =
     let a = c.args in
     let cx = a.context.now in
     let k = c.encode_tail in
-    none_left cx a.depth a.node a.tail a.count a.from
-    (λ (F : ToldContents FaultKind (told_by a.tail)). ToldOutcome cx F (told_of a.tail) a.octets.now a.state.now k.new.octets k.new.state k.result)
+    none_left cx a.depth a.node a.tail.now a.count a.from
+    (λ (F : ToldContents FaultKind (told_by a.tail.now)). ToldOutcome cx F (told_of a.tail.now) a.octets.now a.state.now k.new.octets k.new.state k.result)
     c.if-count-eq0.true k.ensures
 
 pub encode_components-returns-then-is_required : goal.sequence::encode_components-returns-then-is_required
@@ -33,8 +33,8 @@ encode_components-returns-then-is_required t c =
     let a = c.args in
     let cx = a.context.now in
     let k = c.encode_required in
-    required_first cx a.depth a.node a.tail a.count a.from c.in-Some.member
-    (λ (F : ToldContents FaultKind (told_by a.tail)). ToldOutcome cx F (told_of a.tail) a.octets.now a.state.now k.new.octets k.new.state k.result)
+    required_first cx a.depth a.node a.tail.now a.count a.from c.in-Some.member
+    (λ (F : ToldContents FaultKind (told_by a.tail.now)). ToldOutcome cx F (told_of a.tail.now) a.octets.now a.state.now k.new.octets k.new.state k.result)
     (omega (arith, c.if-count-eq0.false)) (sym c.in-Some.ensures) (sym c.is_required.ensures ∙ c.if-is_required.true) k.ensures
 
 pub encode_components-returns : goal.sequence::encode_components-returns
@@ -42,8 +42,8 @@ encode_components-returns t c =
     let a = c.args in
     let cx = a.context.now in
     let k = c.encode_optional in
-    optional_first cx a.depth a.node a.tail a.count a.from c.in-Some.member
-    (λ (F : ToldContents FaultKind (told_by a.tail)). ToldOutcome cx F (told_of a.tail) a.octets.now a.state.now k.new.octets k.new.state k.result)
+    optional_first cx a.depth a.node a.tail.now a.count a.from c.in-Some.member
+    (λ (F : ToldContents FaultKind (told_by a.tail.now)). ToldOutcome cx F (told_of a.tail.now) a.octets.now a.state.now k.new.octets k.new.state k.result)
     (omega (arith, c.if-count-eq0.false)) (sym c.in-Some.ensures) c.in-Some-first_tags_at.first (sym c.is_required.ensures ∙ c.if-is_required.false)
     (sym c.in-Some-first_tags_at.ensures) k.ensures
 
@@ -52,21 +52,21 @@ encode_components-returns-in_default t c =
     let a = c.args in
     let cx = a.context.now in
     let l = c.reject in
-    at_no_member cx a.depth a.node a.tail a.count a.from
-    (λ (F : ToldContents FaultKind (told_by a.tail)). IsStopped cx (F.misfit (told_of a.tail)) a.state.now l.new.state)
+    at_no_member cx a.depth a.node a.tail.now a.count a.from
+    (λ (F : ToldContents FaultKind (told_by a.tail.now)). IsStopped cx (F.misfit (told_of a.tail.now)) a.state.now l.new.state)
     (omega (arith, c.if-count-eq0.false)) (sym c.member_at.ensures ∙ c.in_default.is)
-    (inl (misfit_here cx ((der.no_member a.node).misfit (told_of a.tail)) a.state.now l.new.state a.node NoNode l.ensures.next l.ensures.node l.ensures.reason refl))
+    (inl (misfit_here cx ((der.no_member a.node).misfit (told_of a.tail.now)) a.state.now l.new.state a.node NoNode l.ensures.next l.ensures.node l.ensures.reason refl))
 
 pub encode_components-returns-in_default-first_tags_at : goal.sequence::encode_components-returns-in_default-first_tags_at
 encode_components-returns-in_default-first_tags_at t c =
     let a = c.args in
     let cx = a.context.now in
     let l = c.reject-in_default-first_tags_at in
-    no_first cx a.depth a.node a.tail a.count a.from c.in-Some.member
-    (λ (F : ToldContents FaultKind (told_by a.tail)). IsStopped cx (F.misfit (told_of a.tail)) a.state.now l.new.state)
+    no_first cx a.depth a.node a.tail.now a.count a.from c.in-Some.member
+    (λ (F : ToldContents FaultKind (told_by a.tail.now)). IsStopped cx (F.misfit (told_of a.tail.now)) a.state.now l.new.state)
     (omega (arith, c.if-count-eq0.false)) (sym c.in-Some.ensures) (sym c.is_required.ensures ∙ c.if-is_required.false)
     (sym c.first_tags_at.ensures ∙ c.in_default-first_tags_at.is)
-    (inl (misfit_here cx ((der.no_member a.node).misfit (told_of a.tail)) a.state.now l.new.state a.node NoNode l.ensures.next l.ensures.node l.ensures.reason refl))
+    (inl (misfit_here cx ((der.no_member a.node).misfit (told_of a.tail.now)) a.state.now l.new.state a.node NoNode l.ensures.next l.ensures.node l.ensures.reason refl))
 
 pub encode_components-overflow_add-from : goal.sequence::encode_components-overflow_add-from
 encode_components-overflow_add-from t c =
@@ -107,12 +107,12 @@ encode_required-returns-in_err-encode_components t c =
     let a = c.args in
     let cx = a.context.now in
     let A = element_in cx a.depth a.inner in
-    let F = components_in cx a.depth a.node a.count a.from a.tail in
-    let x = told_of a.tail in
+    let F = components_in cx a.depth a.node a.count a.from a.tail.now in
+    let x = told_of a.tail.now in
     let n = c.encode_node in
     let k = c.encode_components in
     let v = as_value cx a.inner (types cx a.depth a.inner) a.octets.now a.state.now n.new.octets n.new.state (Some c.in_ok-found.found) c.in_ok-found.ensures in
-    let D = required_in cx a.depth a.node a.inner a.count a.from a.tail in
+    let D = required_in cx a.depth a.node a.inner a.count a.from a.tail.now in
     told_stopped cx D x a.octets.now a.state.now k.new.octets k.new.state c.from_residual-in_err-encode_components.result c.from_residual-in_err-encode_components.ensures
     (stopped_on cx (F.misfit x) (D.misfit x) a.state.now n.new.state k.new.state
     (after_value cx A F x a.octets.now a.state.now n.new.octets n.new.state c.in_ok-found.found v) c.in_err-encode_components.ensures)
@@ -122,8 +122,8 @@ encode_required-returns t c =
     let a = c.args in
     let cx = a.context.now in
     let A = element_in cx a.depth a.inner in
-    let F = components_in cx a.depth a.node a.count a.from a.tail in
-    let x = told_of a.tail in
+    let F = components_in cx a.depth a.node a.count a.from a.tail.now in
+    let x = told_of a.tail.now in
     let n = c.encode_node in
     let k = c.encode_components in
     let found = c.in_ok-found.found in
@@ -138,10 +138,10 @@ encode_optional-returns-then-begins_with t c =
     let a = c.args in
     let cx = a.context.now in
     let A = value_in cx a.depth a.node a.presence a.inner in
-    let F = components_in cx a.depth a.node a.count a.from a.tail in
+    let F = components_in cx a.depth a.node a.count a.from a.tail.now in
     let G = present A F in
     let C = MayBegin cx.tags.tags.now a.first in
-    let x = told_of a.tail in
+    let x = told_of a.tail.now in
     let was = a.octets.now in
     let old = a.state.now in
     let k = c.encode_components in
@@ -156,10 +156,10 @@ encode_optional-returns-then-is_absent t c =
     let a = c.args in
     let cx = a.context.now in
     let A = value_in cx a.depth a.node a.presence a.inner in
-    let F = components_in cx a.depth a.node a.count a.from a.tail in
+    let F = components_in cx a.depth a.node a.count a.from a.tail.now in
     let G = present A F in
     let C = MayBegin cx.tags.tags.now a.first in
-    let x = told_of a.tail in
+    let x = told_of a.tail.now in
     let was = a.octets.now in
     let old = a.state.now in
     let k = c.encode_components in
@@ -172,10 +172,10 @@ encode_optional-returns-in_err-found t c =
     let a = c.args in
     let cx = a.context.now in
     let A = value_in cx a.depth a.node a.presence a.inner in
-    let F = components_in cx a.depth a.node a.count a.from a.tail in
+    let F = components_in cx a.depth a.node a.count a.from a.tail.now in
     let G = present A F in
     let C = MayBegin cx.tags.tags.now a.first in
-    let x = told_of a.tail in
+    let x = told_of a.tail.now in
     let was = a.octets.now in
     let old = a.state.now in
     let k = c.encode_value in
@@ -212,10 +212,10 @@ encode_optional-returns-in_err-encode_components t c =
     let a = c.args in
     let cx = a.context.now in
     let A = value_in cx a.depth a.node a.presence a.inner in
-    let F = components_in cx a.depth a.node a.count a.from a.tail in
+    let F = components_in cx a.depth a.node a.count a.from a.tail.now in
     let G = present A F in
     let C = MayBegin cx.tags.tags.now a.first in
-    let x = told_of a.tail in
+    let x = told_of a.tail.now in
     let was = a.octets.now in
     let old = a.state.now in
     let n = c.encode_value in
@@ -232,10 +232,10 @@ encode_optional-returns-then-not-has_tag t c =
     let a = c.args in
     let cx = a.context.now in
     let A = value_in cx a.depth a.node a.presence a.inner in
-    let F = components_in cx a.depth a.node a.count a.from a.tail in
+    let F = components_in cx a.depth a.node a.count a.from a.tail.now in
     let G = present A F in
     let C = MayBegin cx.tags.tags.now a.first in
-    let x = told_of a.tail in
+    let x = told_of a.tail.now in
     let was = a.octets.now in
     let old = a.state.now in
     let n = c.encode_value in
@@ -254,10 +254,10 @@ encode_optional-returns t c =
     let a = c.args in
     let cx = a.context.now in
     let A = value_in cx a.depth a.node a.presence a.inner in
-    let F = components_in cx a.depth a.node a.count a.from a.tail in
+    let F = components_in cx a.depth a.node a.count a.from a.tail.now in
     let G = present A F in
     let C = MayBegin cx.tags.tags.now a.first in
-    let x = told_of a.tail in
+    let x = told_of a.tail.now in
     let was = a.octets.now in
     let old = a.state.now in
     let n = c.encode_value in
