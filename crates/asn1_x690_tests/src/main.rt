@@ -12,6 +12,8 @@
 //! `scripts/x690-model` damages their messages.
 #![tactic(auto)]
 
+ghost use Rattle.std.specs.Prelude.{◌≡◌};
+
 use asn1_schema::{Part, Tables};
 use asn1_schema_rows::{Schema, Source, schema_of, text_of};
 use asn1_test_rows::{Answers, RowError, octets, run, wrong};
@@ -130,7 +132,9 @@ fn is_encoded_again(
 }
 
 /// Returns what octets are decoded by.
-fn context_of<'s>(octets: &'s [u8], schema: &'s Schema) -> Context<'s> {
+fn context_of<'s>(octets: &'s [u8], schema: &'s Schema) -> Context<'s>
+    ensures { result.octets.now ≡ octets.now }
+{
     Context {
         tables: Tables {
             nodes: schema.nodes.as_slice(),
