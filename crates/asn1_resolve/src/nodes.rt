@@ -96,6 +96,11 @@ impl<'m> Builder<'m> {
             Item::Enumerated => return self.enumerated(scope, base),
             Item::Sequence | Item::Set | Item::Choice => self.components(scope, base)?,
             Item::ObjectIdentifier => Node::ObjectIdentifier,
+            // PER encodes an open type as the octets of its value (X.691 11.2.1).
+            Item::FieldType if scope.is_open(base) => UNBOUNDED_OCTETS,
+            Item::FieldType => Node::ObjectIdentifier,
+            Item::Broken => Node::Null,
+            Item::Class | Item::Braces => return Err(scope.error(Problem::NotA("a type"), place)),
             Item::Plain => self.one_word(scope, place, base)?,
             _ => self.constrained(scope, place, base)?,
         };

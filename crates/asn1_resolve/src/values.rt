@@ -2,6 +2,7 @@
 
 use crate::builder::DefaultText;
 use crate::governed::{Governed, Types};
+use crate::open::Key;
 use crate::pieces::Pieces;
 use crate::strings::{bits_of_digits, characters_of};
 use asn1_definitions::Place;
@@ -12,12 +13,26 @@ use std::alloc::{AllocError, Global};
 /// How deep a value may be nested.
 const DEPTH: usize = 32;
 
+/// How many values those of a text may have in all, with the default values that they are compared with.
+const MAX_VALUES: usize = 1 << 20;
+
 /// Values in parts, and the octets in which they have their strings.
 #[derive(Drop)]
 pub(crate) struct Values {
     alloc: Global,
     pub(crate) parts: Vec<Part>,
     pub(crate) octets: Vec<u8>,
+    /// How many values may still be read.
+    left: usize,
+}
+
+/// Returns the value of a DEFAULT. `None` if it has none.
+fn governed_by(types: Types<'_>, default: DefaultText) -> Option<Governed> {
+    Some(Governed {
+        value: types.scope.value_in(default.at)?,
+        of: default.of,
+        node: default.node,
+    })
 }
 
 impl Values {
@@ -27,6 +42,7 @@ impl Values {
             alloc,
             parts: Vec::new(alloc),
             octets: Vec::new(alloc),
+            left: MAX_VALUES,
         }
     }
 
@@ -37,15 +53,20 @@ impl Values {
         types: Types<'_>,
         default: DefaultText,
     ) -> Result<Option<(usize, usize)>, AllocError> {
+        match governed_by(types, default) {
+            Some(governed) => self.add(types, governed),
+            None => Ok(None),
+        }
+    }
+
+    /// Appends the parts of a value. Returns where they are; `None` if the value is not read, or is none of
+    /// its type.
+    pub(crate) fn add(
+        &mut self,
+        types: Types<'_>,
+        governed: Governed,
+    ) -> Result<Option<(usize, usize)>, AllocError> {
         let from = self.parts.len();
-        let Some(value) = types.scope.value_in(default.at) else {
-            return Ok(None);
-        };
-        let governed = Governed {
-            value,
-            of: default.of,
-            node: default.node,
-        };
         if self.value(types, governed, DEPTH)? {
             return Ok(Some((from, self.parts.len().saturating_sub(from))));
         }
@@ -54,7 +75,7 @@ impl Values {
     }
 
     /// Appends octets. Returns their bits.
-    fn add(&mut self, octets: &[u8]) -> Result<Span, AllocError> {
+    fn add_octets(&mut self, octets: &[u8]) -> Result<Span, AllocError> {
         let at = self.octets.len().saturating_mul(8);
         self.octets.extend_from_slice(octets)?;
         let count = octets.len().saturating_mul(8);
@@ -80,9 +101,10 @@ impl Values {
         governed: Governed,
         depth: usize,
     ) -> Result<bool, AllocError> {
-        if depth == 0 {
+        if depth == 0 || self.left == 0 {
             return Ok(false);
         }
+        self.left -= 1;
         let Some(found) = types.through_names(governed) else {
             return Ok(false);
         };
@@ -153,16 +175,64 @@ impl Values {
                 self.parts.push(Part::Absent)?;
                 Ok(true)
             }
-            // A component that is written with its own default value must be absent.
-            Some(_) if matches!(member.presence, Presence::Default { .. }) => Ok(false),
             Some((name, value)) => {
                 let Some(of) = types.component(governed.of, name) else {
                     return Ok(false);
                 };
                 let node = member.node;
-                self.value(types, Governed { value, of, node }, depth)
+                let from = self.parts.len();
+                if !self.value(types, Governed { value, of, node }, depth)? {
+                    return Ok(false);
+                }
+                match member.presence {
+                    Presence::Default { value } => self.leave_out(types, from, value, depth),
+                    _ => Ok(true),
+                }
             }
         }
+    }
+
+    /// Makes the component whose parts are those from an index on absent, if they are those of its default
+    /// value. Returns whether the default value is read.
+    #[cycle(values)]
+    fn leave_out(
+        &mut self,
+        types: Types<'_>,
+        from: usize,
+        default: usize,
+        depth: usize,
+    ) -> Result<bool, AllocError> {
+        let Some(default) = types.defaults.get(default).copied() else {
+            return Ok(false);
+        };
+        let end = self.parts.len();
+        let Some(governed) = governed_by(types, default) else {
+            return Ok(false);
+        };
+        if !self.value(types, governed, depth)? {
+            return Ok(false);
+        }
+        let is_default = self.has_equal(from, end);
+        self.parts.truncate(end);
+        if is_default {
+            self.parts.truncate(from);
+            self.parts.push(Part::Absent)?;
+        }
+        Ok(true)
+    }
+
+    /// Returns whether the parts from one index to another are those from there on.
+    fn has_equal(&self, from: usize, end: usize) -> bool {
+        let parts = self.parts.as_slice();
+        let one = Key {
+            parts: parts.get(from..end).unwrap_or(&[]),
+            octets: self.octets.as_slice(),
+        };
+        let two = Key {
+            parts: parts.get(end..).unwrap_or(&[]),
+            octets: self.octets.as_slice(),
+        };
+        one.parts.len() == two.parts.len() && one.begins_with(two)
     }
 
     /// Appends the parts of a SEQUENCE OF or a SET OF.
@@ -262,7 +332,13 @@ impl Values {
             Node::ObjectIdentifier if entry.item == Item::Braces => {
                 match types.identifier(self.alloc, governed.value)? {
                     None => Ok(None),
-                    Some(contents) => Ok(Some(Part::Octets(self.add(contents.as_slice())?))),
+                    Some(contents) => Ok(Some(Part::Octets(self.add_octets(contents.as_slice())?))),
+                }
+            }
+            Node::RelativeIdentifier if entry.item == Item::Braces => {
+                match types.relative_identifier(self.alloc, governed.value)? {
+                    None => Ok(None),
+                    Some(contents) => Ok(Some(Part::Octets(self.add_octets(contents.as_slice())?))),
                 }
             }
             Node::Text { .. } | Node::Utf8String if entry.item == Item::Text => {
@@ -301,7 +377,7 @@ impl Values {
         match found {
             None => Ok(None),
             Some((octets, count)) => {
-                let at = self.add(octets.as_slice())?.at;
+                let at = self.add_octets(octets.as_slice())?.at;
                 Ok(Some(Part::Bits(Span { at, count })))
             }
         }
@@ -318,7 +394,7 @@ impl Values {
         }
         match self.digits(types, governed.value)? {
             None => Ok(None),
-            Some((octets, _)) => Ok(Some(Part::Octets(self.add(octets.as_slice())?))),
+            Some((octets, _)) => Ok(Some(Part::Octets(self.add_octets(octets.as_slice())?))),
         }
     }
 
@@ -329,13 +405,13 @@ impl Values {
         };
         let characters = characters.as_str();
         if let Node::Utf8String = node {
-            return Ok(Some(Part::Octets(self.add(characters.as_bytes())?)));
+            return Ok(Some(Part::Octets(self.add_octets(characters.as_bytes())?)));
         }
         let at = self.octets.len().saturating_mul(8);
         let mut count = 0usize;
         for character in characters.chars() {
             let number: u32 = character.into();
-            self.add(number.to_be_bytes().as_slice())?;
+            self.add_octets(number.to_be_bytes().as_slice())?;
             count = count.saturating_add(1);
         }
         Ok(Some(Part::Text(Characters {
