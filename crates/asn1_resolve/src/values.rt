@@ -341,9 +341,8 @@ impl Values {
                     Some(contents) => Ok(Some(Part::Octets(self.add_octets(contents.as_slice())?))),
                 }
             }
-            Node::Text { .. } | Node::Utf8String if entry.item == Item::Text => {
-                self.text(types.scope.text_of(entry), node)
-            }
+            Node::Text { .. } | Node::Utf8String | Node::Time { .. } if entry.item == Item::Text =>
+                { self.text(types.scope.text_of(entry), node) }
             _ => Ok(None),
         }
     }
