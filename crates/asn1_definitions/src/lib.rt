@@ -6,6 +6,7 @@ mod characters;
 mod constraints;
 mod fields;
 mod hash;
+mod imports;
 mod index;
 mod instances;
 mod numbers;

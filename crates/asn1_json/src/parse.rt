@@ -81,13 +81,29 @@ pub fn parse_value<'s>(
     depth: usize,
     node: usize,
 ) -> Result<Draft, JsonError<'s>> {
+    parse_value_at(alloc, schema, tree, depth, node, 0)
+}
+
+/// Makes the parts of a value of the type at a node from an item of a tree and those inside it.
+///
+/// # Errors
+///
+/// Returns the first item that does not fit the type.
+pub fn parse_value_at<'s>(
+    alloc: Global,
+    schema: &'s Schema,
+    tree: &Tree<'_>,
+    depth: usize,
+    node: usize,
+    item: usize,
+) -> Result<Draft, JsonError<'s>> {
     let mut maker = Maker {
         alloc,
         schema,
         tree,
         draft: Draft::new(alloc),
     };
-    maker.value(depth, node, 0)?;
+    maker.value(depth, node, item)?;
     let Maker { draft, .. } = maker;
     Ok(draft)
 }

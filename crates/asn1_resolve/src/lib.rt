@@ -6,8 +6,11 @@
 
 mod alphabet;
 mod builder;
+mod contents;
 mod enumerated;
+mod error;
 mod governed;
+mod leaves;
 mod members;
 mod modules;
 mod nodes;
@@ -16,6 +19,7 @@ mod open;
 mod open_types;
 mod pieces;
 mod problems;
+mod room;
 mod schema;
 mod spans;
 mod strings;
@@ -25,8 +29,9 @@ mod tests;
 mod values;
 
 pub use builder::{Builder, DefaultText, Draft, Enumeral, Key, NO_DRAFT, NO_KEY, NamedType};
+pub use error::SchemaError;
 pub use modules::resolve;
 pub use objects::{ObjectRow, OpenRow};
 pub use open::{Key as OpenKey, OpenObject, OpenType};
 pub use problems::{MAX_PROBLEMS, problems_of};
-pub use schema::{Schema, SchemaError};
+pub use schema::Schema;

@@ -1,6 +1,7 @@
 //! The problems of a text, as many as are found.
 
-use crate::schema::{Schema, SchemaError};
+use crate::error::SchemaError;
+use crate::schema::Schema;
 use asn1_notation::{Entry, Item, NO_ENTRY, NotationError, Problem, narrow, parse_all, wide};
 use std::alloc::{AllocError, AllocFailed, Global};
 
