@@ -148,6 +148,7 @@ impl<'a> Printer<'a> {
                 let text = relative_of(self.alloc, octets)?.ok_or(LARGE_ARC)?;
                 self.identifier(text.as_str())
             }
+            Node::Real => return self.real(octets),
             Node::Utf8String => {
                 let text = str::from_utf8(octets).map_err(|_| NO_CHARACTER)?;
                 self.string(text)

@@ -19,6 +19,8 @@ mod parse;
 mod place;
 mod print;
 mod printer;
+mod real_values;
+mod reals;
 mod strings;
 mod tree;
 mod value;
