@@ -2,7 +2,7 @@
 
 use crate::stop::Stop;
 use asn1_resolve::Schema;
-use asn1_schema::{Bounds, Length, Member, Node, Presence, Rows};
+use asn1_schema::{Bounds, Length, Member, Node, Presence, Rows, TimeKind};
 use asn1_x690::{Class, Tag};
 use std::alloc::{AllocError, Global};
 use std::str;
@@ -129,6 +129,13 @@ impl<'s> Shown<'s> {
             Node::ObjectIdentifier => self.word("OBJECT IDENTIFIER"),
             Node::RelativeIdentifier => self.word("RELATIVE-OID"),
             Node::Utf8String => self.word("UTF8String"),
+            Node::Real => self.word("REAL"),
+            Node::Time {
+                kind: TimeKind::Utc,
+            } => self.word("UTCTime"),
+            Node::Time {
+                kind: TimeKind::Generalized,
+            } => self.word("GeneralizedTime"),
             Node::Text {
                 length,
                 is_extensible,

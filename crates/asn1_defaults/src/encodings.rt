@@ -63,6 +63,8 @@ fn kind_of(of: Option<&Node>) -> &'static str {
         Some(Node::ObjectIdentifier) => "a value of OBJECT IDENTIFIER (X.680 32)",
         Some(Node::RelativeIdentifier) => "a value of RELATIVE-OID (X.680 33)",
         Some(Node::Text { .. } | Node::Utf8String) => "a value of a character string (X.680 41)",
+        Some(Node::Time { .. }) => "a value of UTCTime or GeneralizedTime (X.680 46, 47)",
+        Some(Node::Real) => "a value of REAL (X.680 21)",
         _ => "this value",
     }
 }

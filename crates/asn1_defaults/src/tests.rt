@@ -17,8 +17,8 @@ Tagged ::= SEQUENCE {
 }
 Pair ::= SEQUENCE { d SEQUENCE { e NULL, f V } DEFAULT { e NULL, f two } }
 V ::= INTEGER { two(2) }
-Other ::= SEQUENCE { d REFERENCE DEFAULT { 1 2 } }
-REFERENCE ::= RELATIVE-OID
+Other ::= SEQUENCE { d TRUTH DEFAULT 5 }
+TRUTH ::= BOOLEAN
 END
 ";
 

@@ -1,6 +1,7 @@
 //! Puts the definitions of a text in lists, and numbers the types that have nodes of their own.
 
 use crate::hash::list_of;
+use crate::instances::{Instance, place_nodes};
 use crate::scope::{Place, Scope};
 use asn1_notation::{Entry, Item, NotationError, Problem, error_at, narrow, part_of, wide};
 
@@ -12,10 +13,6 @@ fn list_definition(
     lists: &mut [u32],
 ) -> Result<u32, NotationError> {
     let from = wide(entry.from);
-    if entry.item == Item::SetDefinition {
-        let feature = "a set of values as a type (X.680 16.6)";
-        return Err(error_at(Problem::Unsupported(feature), from));
-    }
     let list = list_of(part_of(text, from, wide(entry.count)));
     let Some(first) = lists.get_mut(list) else {
         return Ok(0);
@@ -43,13 +40,19 @@ pub fn index_definitions(
                 text,
                 tape: &tape[..index],
                 lists,
+                instances: &[],
             };
             if earlier.module_named(entry).is_some() {
                 return Err(error_at(Problem::Duplicate, wide(entry.from)));
             }
         }
         if entry.item.is_definition() {
-            let scope = Scope { text, tape, lists };
+            let scope = Scope {
+                text,
+                tape,
+                lists,
+                instances: &[],
+            };
             if scope.defined_in(module, entry).is_some() {
                 return Err(error_at(Problem::Duplicate, wide(entry.from)));
             }
@@ -62,45 +65,136 @@ pub fn index_definitions(
     Ok(())
 }
 
-/// Numbers the types that have nodes of their own, from 1 on, and returns how many there are. The
-/// types of values have none.
+/// Where the types of definitions are, as they are numbered.
+#[derive(Clone, Copy)]
+struct Numbering {
+    /// The module.
+    module: usize,
+    /// The index after the types that have no nodes: those of values, of parameters, and of classes.
+    without: usize,
+    /// The parameters of the definition.
+    parameters: usize,
+    /// The index after the parameterized definition.
+    parameterized_to: usize,
+    /// How many types have nodes in the text itself.
+    in_text: u32,
+    /// How many types have nodes in the parameterized definition.
+    in_type: u32,
+}
+
+impl Numbering {
+    /// Takes note of an entry.
+    fn enter(&mut self, scope: Scope<'_>, index: usize) {
+        let place = Place {
+            module: self.module,
+            index,
+            instance: 0,
+        };
+        let entry = scope.entry(index);
+        match entry.item {
+            Item::Module => self.module = index,
+            Item::ValueDefinition | Item::SetDefinition => {
+                let of = scope.type_in(place);
+                self.without = wide(scope.entry(of.index).end);
+            }
+            Item::Parameters => {
+                self.without = wide(entry.end);
+                self.parameters = index;
+                self.in_type = 0;
+            }
+            Item::TypeDefinition if scope.is_parameterized(place) => {
+                self.parameterized_to = wide(entry.end);
+            }
+            _ => {}
+        }
+    }
+
+    /// Returns the number of the next type, and the index of the parameters of the definition that it is
+    /// in, if it has any.
+    fn next(&mut self, index: usize) -> (u32, Option<usize>) {
+        if index < self.parameterized_to {
+            self.in_type = self.in_type.saturating_add(1);
+            (self.in_type, Some(self.parameters))
+        } else {
+            self.in_text = self.in_text.saturating_add(1);
+            (self.in_text, None)
+        }
+    }
+}
+
+/// Sets the link of an entry.
+fn set_link(tape: &mut [Entry], index: usize, link: u32) {
+    if let Some(entry) = tape.get_mut(index) {
+        entry.link = link;
+    }
+}
+
+/// Numbers the types that have nodes of their own, from 1 on in the text itself and in each parameterized
+/// definition, and returns how many nodes all instances have. The types of values have none.
 pub fn number_types(
     text: &[u8],
     tape: &mut [Entry],
     lists: &[u32],
+    instances: &mut [Instance],
 ) -> Result<usize, NotationError> {
-    let mut count = 0usize;
-    let mut module = 0usize;
-    let mut value_end = 0usize;
+    let mut numbering = Numbering {
+        module: 0,
+        without: 0,
+        parameters: 0,
+        parameterized_to: 0,
+        in_text: 0,
+        in_type: 0,
+    };
     for index in 0..tape.len() {
-        let Some(entry) = tape.get(index).copied() else {
-            break;
+        let scope = Scope {
+            text,
+            tape,
+            lists,
+            instances,
         };
-        match entry.item {
-            Item::Module => module = index,
-            Item::ValueDefinition => value_end = wide(entry.end),
-            _ => {}
-        }
-        if !entry.item.is_type() {
+        numbering.enter(scope, index);
+        if !scope.entry(index).item.is_type() || index < numbering.without {
             continue;
         }
-        let scope = Scope { text, tape, lists };
-        if !has_node(scope, Place { module, index })? || index < value_end {
-            continue;
-        }
-        count = count.saturating_add(1);
-        let link = narrow(count);
-        if let Some(kept) = tape.get_mut(index) {
-            *kept = Entry { link, ..entry };
+        let place = Place {
+            module: numbering.module,
+            index,
+            instance: 0,
+        };
+        let has_node = if index < numbering.parameterized_to {
+            may_have_node(scope, place)
+        } else {
+            has_node(scope, place)?
+        };
+        if has_node {
+            let (link, parameters) = numbering.next(index);
+            set_link(tape, index, link);
+            if let Some(parameters) = parameters {
+                set_link(tape, parameters, link);
+            }
         }
     }
-    Ok(count)
+    Ok(place_nodes(tape, instances, wide(numbering.in_text)))
+}
+
+/// Returns whether a type of a parameterized definition has a node of its own in each instance.
+fn may_have_node(scope: Scope<'_>, place: Place) -> bool {
+    match scope.item(place) {
+        Item::Reference | Item::ExternalReference => {
+            scope.find_in(place, Item::Constraint).is_some()
+        }
+        Item::Tagged | Item::Selection | Item::Class => false,
+        _ => true,
+    }
 }
 
 /// Returns whether a type has a node of its own: one that is no name and has no tag, or a name with
 /// constraints that its encoding depends on.
 fn has_node(scope: Scope<'_>, place: Place) -> Result<bool, NotationError> {
     let base = scope.base(place)?;
+    if scope.item(base) == Item::Class {
+        return Ok(false);
+    }
     if base.index == place.index {
         return Ok(true);
     }
@@ -122,7 +216,11 @@ fn has_node(scope: Scope<'_>, place: Place) -> Result<bool, NotationError> {
 pub fn check_imports(scope: Scope<'_>) -> Result<(), NotationError> {
     let mut module = 0usize;
     for index in 0..scope.most() {
-        let place = Place { module, index };
+        let place = Place {
+            module,
+            index,
+            instance: 0,
+        };
         match scope.item(place) {
             Item::Module => module = index,
             Item::Imports => check_group(scope, place)?,

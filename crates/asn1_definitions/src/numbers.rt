@@ -23,15 +23,6 @@ impl<'r> Scope<'r> {
         }
     }
 
-    /// Returns the definition of a value that a name refers to.
-    fn value_definition(self, place: Place) -> Result<Place, NotationError> {
-        let found = self.definition(place)?;
-        if self.item(found) != Item::ValueDefinition {
-            return Err(self.error(Problem::NotA("a value"), place));
-        }
-        Ok(found)
-    }
-
     /// Returns the number that a value is, through names. The names of numbers that the INTEGER
     /// `governor` has are looked up first (X.680 19).
     pub fn number(self, place: Place, governor: Option<Place>) -> Result<i128, NotationError> {
@@ -41,19 +32,17 @@ impl<'r> Scope<'r> {
             let entry = self.entry(found.index);
             match entry.item {
                 Item::Number | Item::Negative => return self.literal(entry, found),
-                Item::ValueReference | Item::ExternalValue => {
+                Item::ValueReference | Item::ExternalValue | Item::PieceName => {
                     if let Some(value) = self.named_number(entry, governor) {
                         governor = None;
                         found = value;
                         continue;
                     }
-                    let definition = self.value_definition(found)?;
-                    governor = Some(self.base(self.type_in(definition))?);
-                    match self.value_in(definition) {
-                        Some(value) => found = value,
-                        None => break,
-                    }
+                    let (value, of) = self.named_value(found)?;
+                    governor = Some(self.base(of)?);
+                    found = value;
                 }
+                Item::Broken => return Err(self.error(Problem::Consequence, place)),
                 _ => return Err(self.error(Problem::Expected("a number"), place)),
             }
         }
@@ -63,7 +52,7 @@ impl<'r> Scope<'r> {
     /// Returns the value of a name among the named numbers of an INTEGER. `None` if it is none.
     fn named_number(self, name: Entry, governor: Option<Place>) -> Option<Place> {
         let governor = governor?;
-        if name.item != Item::ValueReference || self.item(governor) != Item::Integer {
+        if name.item == Item::ExternalValue || self.item(governor) != Item::Integer {
             return None;
         }
         self.value_in(self.named_in(governor, Item::Name, name)?)
@@ -77,11 +66,10 @@ impl<'r> Scope<'r> {
             match entry.item {
                 Item::Text => return Ok(self.text_of(entry)),
                 Item::ValueReference | Item::ExternalValue => {
-                    match self.value_in(self.value_definition(found)?) {
-                        Some(value) => found = value,
-                        None => break,
-                    }
+                    let (value, _) = self.named_value(found)?;
+                    found = value;
                 }
+                Item::Broken => return Err(self.error(Problem::Consequence, place)),
                 Item::Braces => {
                     let feature = "a character by its number (X.680 41.8)";
                     return Err(self.error(Problem::Unsupported(feature), place));

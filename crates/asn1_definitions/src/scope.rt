@@ -1,6 +1,8 @@
 //! What the names of a text refer to.
 
+use crate::fields::Field;
 use crate::hash::list_of;
+use crate::instances::Instance;
 use asn1_notation::{Entry, Item, NO_ENTRY, NotationError, Problem, error_at, part_of, wide};
 
 /// How many names may refer to names, one after another.
@@ -13,6 +15,8 @@ pub struct Place {
     pub module: usize,
     /// The index of the entry.
     pub index: usize,
+    /// The instance that it is in.
+    pub instance: usize,
 }
 
 /// The entries inside another, one after another.
@@ -46,8 +50,8 @@ impl Inside {
 /// A text, its entries, and its definitions in lists by the hash of their names.
 ///
 /// A list is one more than the index of its first definition, or 0 if it is empty. The link of a
-/// definition is the same of the next one. The link of a type is one more than its node, or 0 if it
-/// has no node of its own.
+/// definition is the same of the next one. The link of a type is one more than its node among those of
+/// its instance, or 0 if it has no node of its own.
 #[derive(Clone, Copy, Drop)]
 pub struct Scope<'r> {
     /// The text.
@@ -56,6 +60,8 @@ pub struct Scope<'r> {
     pub tape: &'r [Entry],
     /// The first definition of each list.
     pub lists: &'r [u32],
+    /// The instances of parameterized types.
+    pub instances: &'r [Instance],
 }
 
 impl<'r> Scope<'r> {
@@ -194,31 +200,9 @@ impl<'r> Scope<'r> {
         None
     }
 
-    /// Returns the definition that a module imports under a name. `None` if there is none.
-    fn imported(self, module: usize, name: Entry) -> Option<Place> {
-        let mut inside = self.inside(Place {
-            module,
-            index: module,
-        });
-        for _ in 0..self.most() {
-            let index = inside.next(self.tape)?;
-            let group = Place { module, index };
-            if self.item(group) == Item::Imports
-                && self.named_in(group, Item::Import, name).is_some()
-            {
-                let from = self.find_in(group, Item::ImportModule)?;
-                let module = self.module_named(self.entry(from.index))?;
-                let index = self.defined_in(module, name)?;
-                return Some(Place { module, index });
-            }
-        }
-        None
-    }
-
     /// Returns the definition of a name, which may be after that of its module.
     pub fn definition(self, place: Place) -> Result<Place, NotationError> {
         let entry = self.entry(place.index);
-        let undefined = self.error(Problem::Undefined, place);
         match entry.item {
             Item::ExternalReference | Item::ExternalValue => {
                 let Some(module) = self.module_named(entry) else {
@@ -226,13 +210,24 @@ impl<'r> Scope<'r> {
                 };
                 let name = self.entry(place.index.saturating_add(1));
                 match self.defined_in(module, name) {
-                    Some(index) => Ok(Place { module, index }),
-                    None => Err(undefined),
+                    Some(index) => Ok(Place {
+                        module,
+                        index,
+                        instance: 0,
+                    }),
+                    None => Err(self.error(Problem::Undefined, place)),
                 }
             }
             _ => match self.defined_in(place.module, entry) {
-                Some(index) => Ok(Place { index, ..place }),
-                None => self.imported(place.module, entry).ok_or(undefined),
+                Some(index) => Ok(Place {
+                    index,
+                    instance: 0,
+                    ..place
+                }),
+                None => match self.imported(place.module, entry) {
+                    Some(found) => Ok(found),
+                    None => Err(self.undefined(place)),
+                },
             },
         }
     }
@@ -244,6 +239,7 @@ impl<'r> Scope<'r> {
         for _ in 0..MAX_STEPS {
             match self.item(found) {
                 Item::Reference | Item::ExternalReference => found = self.target(found)?,
+                Item::Broken => return Err(self.error(Problem::Consequence, choice)),
                 Item::Tagged => found = self.type_in(found),
                 _ => break,
             }
@@ -257,20 +253,46 @@ impl<'r> Scope<'r> {
         }
     }
 
-    /// Returns the type that a name refers to.
-    fn target(self, place: Place) -> Result<Place, NotationError> {
-        let found = self.definition(place)?;
-        if self.item(found) != Item::TypeDefinition {
-            return Err(self.error(Problem::NotA("a type"), place));
+    /// Returns the type, the class or the braces of the set of objects that a name refers to.
+    pub(crate) fn target(self, place: Place) -> Result<Place, NotationError> {
+        if let Some((_, argument)) = self.argument(place) {
+            return Ok(argument);
         }
-        Ok(self.type_in(found))
+        let found = self.definition(place)?;
+        match self.item(found) {
+            Item::TypeDefinition => self.instantiated(place, found),
+            Item::SetDefinition => match self.find_in(found, Item::Braces) {
+                Some(braces) => Ok(braces),
+                None => Err(self.error(Problem::Consequence, place)),
+            },
+            _ => Err(self.error(Problem::NotA("a type"), place)),
+        }
+    }
+
+    /// Returns the value that a name refers to, and its type.
+    pub fn named_value(self, place: Place) -> Result<(Place, Place), NotationError> {
+        if let Some((parameter, argument)) = self.argument(place) {
+            return Ok((argument, self.type_in(parameter)));
+        }
+        let found = self.definition(place)?;
+        if self.item(found) != Item::ValueDefinition {
+            return Err(self.error(Problem::NotA("a value"), place));
+        }
+        match self.value_in(found) {
+            Some(value) => Ok((value, self.type_in(found))),
+            None => Err(self.error(Problem::NotA("a value"), place)),
+        }
     }
 
     /// Returns the type that a name refers to, that a selection type is, or that has a tag here. `None`
     /// if a type is none of them.
     pub fn inner(self, place: Place) -> Result<Option<Place>, NotationError> {
         Ok(match self.item(place) {
-            Item::Reference | Item::ExternalReference => Some(self.target(place)?),
+            Item::Reference | Item::ExternalReference | Item::Literal => Some(self.target(place)?),
+            Item::FieldType => match self.field_of(place)? {
+                Field::Type(of) => Some(of),
+                Field::Open | Field::Identifier => None,
+            },
             Item::Selection => Some(self.selected(place)?),
             Item::Tagged => Some(self.type_in(place)),
             _ => None,
@@ -304,17 +326,26 @@ impl<'r> Scope<'r> {
         Err(self.error(Problem::Circular, place))
     }
 
+    /// Returns the node that a type has of its own. `None` if it has none.
+    pub fn own_node(self, place: Place) -> Option<usize> {
+        let link = self.entry(place.index).link;
+        if link == 0 {
+            return None;
+        }
+        let first = self.instance(place.instance).first_node;
+        Some(first.saturating_add(wide(link - 1)))
+    }
+
     /// Returns the node of a type: its own, or that of the type that it refers to.
     pub fn node_of(self, place: Place) -> Result<usize, NotationError> {
         let mut found = place;
         for _ in 0..MAX_STEPS {
-            let link = self.entry(found.index).link;
-            if link != 0 {
-                return Ok(wide(link - 1));
+            if let Some(node) = self.own_node(found) {
+                return Ok(node);
             }
             match self.inner(found)? {
                 Some(inner) => found = inner,
-                None => break,
+                None => return Err(self.error(Problem::NotA("a type"), place)),
             }
         }
         Err(self.error(Problem::Circular, place))

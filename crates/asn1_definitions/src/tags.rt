@@ -76,6 +76,7 @@ impl<'r> Scope<'r> {
             Item::BitString => Some(universal(3)),
             Item::OctetString => Some(universal(4)),
             Item::ObjectIdentifier => Some(universal(6)),
+            Item::FieldType if !self.is_open(place) => Some(universal(6)),
             Item::Enumerated => Some(universal(10)),
             Item::Sequence | Item::SequenceOf => Some(universal(16)),
             Item::Set | Item::SetOf => Some(universal(17)),

@@ -79,9 +79,9 @@ impl<'a, 's, 't> Maker<'a, 's, 't> {
             },
             object,
         )?;
-        let mut used = self.components(depth, components.root, object)?;
+        let mut used = self.components(depth, components.root, components.root, object)?;
         if is_extended {
-            let added = self.additions(depth, components.additions, object)?;
+            let added = self.additions(depth, components, object)?;
             used = used.saturating_add(added);
         }
         if used < self.tree.count_in(object) {
@@ -90,18 +90,19 @@ impl<'a, 's, 't> Maker<'a, 's, 't> {
         Ok(())
     }
 
-    /// Appends the components of rows. Returns how many keys they have.
+    /// Appends the components of rows, of a SEQUENCE or SET with a root. Returns how many keys they have.
     #[cycle(making)]
     fn components(
         &mut self,
         depth: usize,
         rows: Rows,
+        root: Rows,
         object: usize,
     ) -> Result<usize, JsonError<'s>> {
         let mut used = 0usize;
         for index in 0..rows.count as usize {
             let row = rows.from.saturating_add(index);
-            let added = self.component(depth, row, false, object)?;
+            let added = self.component(depth, row, root, false, object)?;
             used = used.saturating_add(added);
         }
         Ok(used)
@@ -113,6 +114,7 @@ impl<'a, 's, 't> Maker<'a, 's, 't> {
         &mut self,
         depth: usize,
         row: usize,
+        root: Rows,
         is_addition: bool,
         object: usize,
     ) -> Result<usize, JsonError<'s>> {
@@ -122,7 +124,9 @@ impl<'a, 's, 't> Maker<'a, 's, 't> {
             return self.group(depth, member.node, object);
         }
         if let Some(value) = self.tree.member(object, name) {
-            self.value(depth, member.node, value)?;
+            if !self.open(depth, member.node, root, object, value)? {
+                self.value(depth, member.node, value)?;
+            }
             return Ok(1);
         }
         if let Presence::Mandatory = member.presence
@@ -155,7 +159,7 @@ impl<'a, 's, 't> Maker<'a, 's, 't> {
             },
             object,
         )?;
-        self.components(depth - 1, root, object)
+        self.components(depth - 1, root, root, object)
     }
 
     /// Appends the additions, and those that the schema does not know. Returns how many keys they
@@ -164,9 +168,10 @@ impl<'a, 's, 't> Maker<'a, 's, 't> {
     fn additions(
         &mut self,
         depth: usize,
-        rows: Rows,
+        components: Components,
         object: usize,
     ) -> Result<usize, JsonError<'s>> {
+        let rows = components.additions;
         let unknown = self.tree.member(object, UNKNOWN);
         let known = rows.count as usize;
         let more = match unknown {
@@ -177,7 +182,7 @@ impl<'a, 's, 't> Maker<'a, 's, 't> {
         let mut used = 0usize;
         for index in 0..known {
             let row = rows.from.saturating_add(index);
-            let added = self.component(depth, row, true, object)?;
+            let added = self.component(depth, row, components.root, true, object)?;
             used = used.saturating_add(added);
         }
         if let Some(array) = unknown {

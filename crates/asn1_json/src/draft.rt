@@ -3,6 +3,17 @@
 use asn1_schema::{Part, Span};
 use std::alloc::{AllocError, Global};
 
+/// The value of an open type whose contents are in the JSON, and are to be encoded.
+#[derive(Clone, Copy, Debug, PartialEq, Eq)]
+pub struct Pending {
+    /// The index of its part.
+    pub part: usize,
+    /// The node of the type of its contents.
+    pub node: usize,
+    /// The item with the value of its contents.
+    pub item: usize,
+}
+
 /// The parts of a value, the octets in which they have their bits, and the item of the JSON that each
 /// part comes from.
 #[derive(Drop)]
@@ -10,6 +21,7 @@ pub struct Draft {
     parts: Vec<Part>,
     octets: Vec<u8>,
     items: Vec<usize>,
+    pending: Vec<Pending>,
 }
 
 impl Draft {
@@ -19,7 +31,34 @@ impl Draft {
             parts: Vec::new(alloc),
             octets: Vec::new(alloc),
             items: Vec::new(alloc),
+            pending: Vec::new(alloc),
         }
+    }
+
+    /// Returns the values of open types whose contents are to be encoded. Until `set_octets` says what
+    /// their octets are, they have none.
+    pub fn pending(&self) -> &[Pending] {
+        self.pending.as_slice()
+    }
+
+    /// Appends a value of an open type whose contents are the value of an item.
+    pub(crate) fn push_pending(&mut self, node: usize, item: usize) -> Result<(), AllocError> {
+        let part = self.parts.len();
+        self.pending.push(Pending { part, node, item })?;
+        self.push(Part::Octets(Span { at: 0, count: 0 }), item)
+    }
+
+    /// Sets the octets of a part.
+    ///
+    /// # Errors
+    ///
+    /// Returns an error if out of memory.
+    pub fn set_octets(&mut self, part: usize, octets: &[u8]) -> Result<(), AllocError> {
+        let span = self.add(octets)?;
+        if let Some(place) = self.parts.as_mut_slice().get_mut(part) {
+            *place = Part::Octets(span);
+        }
+        Ok(())
     }
 
     /// Returns the parts.
@@ -69,7 +108,34 @@ impl Draft {
         if let Some(part) = self.parts.as_mut_slice().get_mut(from) {
             *part = Part::Absent;
         }
-        let removed = end.saturating_sub(from).saturating_sub(1);
+        self.remove(from.saturating_add(1), end);
+    }
+
+    /// Removes the additions of a SEQUENCE or SET if all of them are absent, so that it has none.
+    /// `additions` is the index of the part that counts them, and `sequence` that of the SEQUENCE or SET.
+    pub fn remove_absent_additions(&mut self, sequence: usize, additions: usize) {
+        let Some(Part::Additions(count)) = self.parts.as_slice().get(additions).copied() else {
+            return;
+        };
+        let from = additions.saturating_add(1);
+        let end = from.saturating_add(count);
+        let all = self.parts.as_slice().get(from..end).unwrap_or(&[]);
+        if all.len() != count || all.iter().any(|part| *part != Part::Absent) {
+            return;
+        }
+        if let Some(Part::Sequence { is_extended, .. }) = self
+            .parts
+            .as_mut_slice()
+            .get_mut(sequence)
+        {
+            *is_extended = false;
+        }
+        self.remove(additions, end);
+    }
+
+    /// Removes the parts from one index to another.
+    fn remove(&mut self, from: usize, end: usize) {
+        let removed = end.saturating_sub(from);
         let count = self.parts.len();
         for index in end..count {
             let to = index.saturating_sub(removed);

@@ -91,12 +91,15 @@ impl<'a> Printer<'a> {
         let schema = self.schema;
         let enumeral = schema.enumerals(node).get(index).ok_or(NO_VALUE)?;
         let name = str::from_utf8(schema.text_of(enumeral.name)).map_err(|_| NO_VALUE)?;
-        self.string(name)
+        self.word(name)
     }
 
     /// Prints a value of an ENUMERATED that the schema does not know, by its index among the
     /// additions.
     fn unknown_enumeral(&mut self, index: Natural) -> Result<(), PrintError> {
+        if let Some(out) = self.notation() {
+            return Ok(out.comment("an unknown value")?);
+        }
         self.begin_object()?;
         self.key("unknown")?;
         self.natural(index)?;
@@ -105,6 +108,9 @@ impl<'a> Printer<'a> {
 
     /// Prints a value of an ENUMERATED that the schema does not know, by its contents octets.
     fn other_enumeral(&mut self, at: usize) -> Result<(), PrintError> {
+        if let Some(out) = self.notation() {
+            return Ok(out.comment("an unknown value")?);
+        }
         self.begin_object()?;
         self.key("unknown")?;
         self.unknown(at)?;
@@ -115,13 +121,16 @@ impl<'a> Printer<'a> {
     /// also has the number of bits.
     fn bit_string(&mut self, of: Node, span: Span) -> Result<(), PrintError> {
         let octets = octets_of(self.alloc, self.message, span)?.ok_or(NO_VALUE)?;
+        if let Some(out) = self.notation() {
+            return Ok(out.bits(octets.as_slice(), span.count)?);
+        }
         let digits = hex_of(self.alloc, octets.as_slice())?;
         if is_fixed(of) {
-            return self.string(digits.as_str());
+            return self.digits(digits.as_str());
         }
         self.begin_object()?;
         self.key("value")?;
-        self.string(digits.as_str())?;
+        self.digits(digits.as_str())?;
         self.key("length")?;
         self.natural(Natural::Small(span.count as u64))?;
         self.end_object()
@@ -129,17 +138,23 @@ impl<'a> Printer<'a> {
 
     /// Prints octets, by what their type is.
     fn octets(&mut self, of: Node, octets: &[u8]) -> Result<(), PrintError> {
-        let text = match of {
-            Node::OctetString { .. } => hex_of(self.alloc, octets)?,
-            Node::ObjectIdentifier => dotted_of(self.alloc, octets)?.ok_or(LARGE_ARC)?,
-            Node::RelativeIdentifier => relative_of(self.alloc, octets)?.ok_or(LARGE_ARC)?,
+        match of {
+            Node::OctetString { .. } => self.digits(hex_of(self.alloc, octets)?.as_str()),
+            Node::ObjectIdentifier => {
+                let text = dotted_of(self.alloc, octets)?.ok_or(LARGE_ARC)?;
+                self.identifier(text.as_str())
+            }
+            Node::RelativeIdentifier => {
+                let text = relative_of(self.alloc, octets)?.ok_or(LARGE_ARC)?;
+                self.identifier(text.as_str())
+            }
+            Node::Real => return self.real(octets),
             Node::Utf8String => {
                 let text = str::from_utf8(octets).map_err(|_| NO_CHARACTER)?;
-                return self.string(text);
+                self.string(text)
             }
-            _ => return Err(NO_VALUE),
-        };
-        self.string(text.as_str())
+            _ => Err(NO_VALUE),
+        }
     }
 
     /// Prints the octets of a value that the schema does not know.
@@ -148,7 +163,7 @@ impl<'a> Printer<'a> {
             return Err(NO_VALUE);
         };
         let octets = octets_of(self.alloc, self.message, span)?.ok_or(NO_VALUE)?;
-        self.string(hex_of(self.alloc, octets.as_slice())?.as_str())
+        self.digits(hex_of(self.alloc, octets.as_slice())?.as_str())
     }
 
     /// Prints the octets of an addition that the schema does not know, or `null` if it is absent.
@@ -166,10 +181,41 @@ impl<'a> Printer<'a> {
         index: Natural,
         at: usize,
     ) -> Result<(), PrintError> {
-        self.key("...")?;
+        if let Some(out) = self.notation() {
+            return Ok(out.comment("an unknown alternative")?);
+        }
+        self.begin_alternative("...")?;
         self.begin_array()?;
         self.natural(index)?;
         self.unknown(at)?;
+        self.end_array()?;
+        self.end_alternative()
+    }
+
+    /// Prints an alternative that the schema does not know, by its octets.
+    pub(crate) fn other_alternative(&mut self, at: usize) -> Result<(), PrintError> {
+        if let Some(out) = self.notation() {
+            return Ok(out.comment("an unknown alternative")?);
+        }
+        self.begin_alternative("...")?;
+        self.unknown(at)?;
+        self.end_alternative()
+    }
+
+    /// Prints so many additions that the schema does not know, from a part on.
+    pub(crate) fn unknown_additions(
+        &mut self,
+        from: usize,
+        count: usize,
+    ) -> Result<(), PrintError> {
+        if let Some(out) = self.notation() {
+            return Ok(out.comment("unknown additions")?);
+        }
+        self.key("...")?;
+        self.begin_array()?;
+        for index in from..from.saturating_add(count) {
+            self.unknown_or_absent(index)?;
+        }
         self.end_array()
     }
 }

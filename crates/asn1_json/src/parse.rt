@@ -72,8 +72,8 @@ impl<'s, T: Drop> From<AllocFailed<T>> for JsonError<'s> {
 ///
 /// # Errors
 ///
-/// Returns the first item that does not fit the type. That the value meets the type's constraints is
-/// left to an encoder.
+/// Returns the first item that does not fit the type: contents of an open type must be hexadecimal digits.
+/// That the value meets the type's constraints is left to an encoder.
 pub fn parse_value<'s>(
     alloc: Global,
     schema: &'s Schema,
@@ -81,13 +81,34 @@ pub fn parse_value<'s>(
     depth: usize,
     node: usize,
 ) -> Result<Draft, JsonError<'s>> {
+    let draft = parse_value_at(alloc, schema, tree, depth, node, 0)?;
+    match draft.pending().first() {
+        Some(open) => Err(expected(open.item, "hexadecimal digits")),
+        None => Ok(draft),
+    }
+}
+
+/// Makes the parts of a value of the type at a node from an item of a tree and those inside it. Contents
+/// of open types that are values are left in `Draft::pending`.
+///
+/// # Errors
+///
+/// Returns the first item that does not fit the type.
+pub fn parse_value_at<'s>(
+    alloc: Global,
+    schema: &'s Schema,
+    tree: &Tree<'_>,
+    depth: usize,
+    node: usize,
+    item: usize,
+) -> Result<Draft, JsonError<'s>> {
     let mut maker = Maker {
         alloc,
         schema,
         tree,
         draft: Draft::new(alloc),
     };
-    maker.value(depth, node, 0)?;
+    maker.value(depth, node, item)?;
     let Maker { draft, .. } = maker;
     Ok(draft)
 }

@@ -3,6 +3,7 @@
 ghost use Rattle.std.specs.Prelude.{◌≡◌, ◌+◌, ◌-◌, ◌^◌, ◌<◌, ◌≤◌, IfOk, None, Some};
 ghost use Rattle.std.specs.Str.{IsUtf8};
 
+use crate::opens::Contents;
 use crate::printer::{NO_VALUE, Printer};
 use asn1_resolve::Schema;
 use asn1_schema::{Node, Part, Rows};
@@ -48,9 +49,50 @@ pub fn print_value(
 ) -> Result<Vec<u8>, PrintError>
     ensures { IfOk result (λ text. IsUtf8 text.items) }
 {
-    let mut printer = Printer::new(alloc, schema, message, parts);
+    print_with_contents(alloc, schema, message, parts, &[], depth, node)
+}
+
+/// Prints a value as `print_value`, and the contents of open types in it as `{"containing": value}`.
+/// `contents` must be in the order of the values that they are in, and there in that of their parts.
+///
+/// # Errors
+///
+/// Returns `NoValue` if the parts are no value of the type: a decoder gives no such parts.
+pub fn print_with_contents(
+    alloc: Global,
+    schema: &Schema,
+    message: &[u8],
+    parts: &[Part],
+    contents: &[Contents],
+    depth: usize,
+    node: usize,
+) -> Result<Vec<u8>, PrintError>
+    ensures { IfOk result (λ text. IsUtf8 text.items) }
+{
+    let mut printer = Printer::new(alloc, schema, message, parts, contents);
     printer.value(depth, node, 0)?;
     Ok(printer.into_octets())
+}
+
+/// Prints a value as `print_with_contents`, in the value notation of X.680. What the schema does not know
+/// is in comments.
+///
+/// # Errors
+///
+/// Returns `NoValue` if the parts are no value of the type: a decoder gives no such parts.
+pub fn print_in_notation(
+    alloc: Global,
+    schema: &Schema,
+    message: &[u8],
+    parts: &[Part],
+    contents: &[Contents],
+    depth: usize,
+    node: usize,
+) -> Result<String, PrintError> {
+    let printer = Printer::new(alloc, schema, message, parts, contents);
+    let mut printer = printer.in_notation();
+    printer.value(depth, node, 0)?;
+    Ok(printer.into_text())
 }
 
 impl<'a> Printer<'a> {
@@ -81,10 +123,35 @@ impl<'a> Printer<'a> {
             } => self.choice(depth - 1, alternatives, additions, at),
             Node::Open { inner } => self.value(depth - 1, inner, at),
             leaf => {
-                self.leaf(node, leaf, at)?;
+                match self.contents_at(at) {
+                    Some((index, contents)) => self.contents(depth - 1, index, contents)?,
+                    None => self.leaf(node, leaf, at)?,
+                }
                 Ok(at.saturating_add(1))
             }
         }
+    }
+
+    /// Prints the contents of an open type as an object with one member.
+    #[cycle(printing)]
+    fn contents(
+        &mut self,
+        depth: usize,
+        index: usize,
+        contents: &'a Contents,
+    ) -> Result<(), PrintError> {
+        let inside = self.inside;
+        let message = self.message;
+        let parts = self.parts;
+        self.begin_contents(contents.value.node)?;
+        self.inside = index.saturating_add(1);
+        self.message = contents.octets.as_slice();
+        self.parts = contents.parts.as_slice();
+        self.value(depth, contents.value.node, 0)?;
+        self.inside = inside;
+        self.message = message;
+        self.parts = parts;
+        self.end_alternative()
     }
 
     /// Prints a SEQUENCE or a SET as an object.
@@ -160,14 +227,8 @@ impl<'a> Printer<'a> {
         if unknown == 0 {
             return Ok(next);
         }
-        self.key("...")?;
-        self.begin_array()?;
-        let end = next.saturating_add(unknown);
-        for index in next..end {
-            self.unknown_or_absent(index)?;
-        }
-        self.end_array()?;
-        Ok(end)
+        self.unknown_additions(next, unknown)?;
+        Ok(next.saturating_add(unknown))
     }
 
     /// Prints a SEQUENCE OF or a SET OF as an array.
@@ -179,6 +240,7 @@ impl<'a> Printer<'a> {
         self.begin_array()?;
         let mut next = at.saturating_add(1);
         for _ in 0..count {
+            self.begin_item()?;
             next = self.value(depth, item, next)?;
         }
         self.end_array()?;
@@ -195,27 +257,25 @@ impl<'a> Printer<'a> {
         at: usize,
     ) -> Result<usize, PrintError> {
         let next = at.saturating_add(1);
-        self.begin_object()?;
-        let end = match self.part(at)? {
+        match self.part(at)? {
             Part::Chosen(index) => {
                 let row = row_of(alternatives, additions, index).ok_or(NO_VALUE)?;
                 let node = self.member(row)?.node;
-                self.member_key(row)?;
-                self.value(depth, node, next)?
+                self.begin_member(row)?;
+                let end = self.value(depth, node, next)?;
+                self.end_alternative()?;
+                Ok(end)
             }
             Part::UnknownChosen(index) => {
                 self.unknown_alternative(index, next)?;
-                next.saturating_add(1)
+                Ok(next.saturating_add(1))
             }
             Part::Unknown(_) => {
-                self.key("...")?;
-                self.unknown(at)?;
-                next
+                self.other_alternative(at)?;
+                Ok(next)
             }
-            _ => return Err(NO_VALUE),
-        };
-        self.end_object()?;
-        Ok(end)
+            _ => Err(NO_VALUE),
+        }
     }
 }
 

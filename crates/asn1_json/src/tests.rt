@@ -1,6 +1,6 @@
 use crate::decimal::minimal_of;
 use crate::parse::parse_value;
-use crate::print::print_value;
+use crate::print::{print_in_notation, print_value};
 use crate::tree::Tree;
 use asn1_resolve::Schema;
 use asn1_schema::Part;
@@ -37,6 +37,18 @@ const RECORD: &str = "{
   ]
 }";
 
+/// The same value (X.680 19.9, 20.8, 22.9, 25.18, 26.3, 29.11, 41.8).
+const NOTATION: &str = "{
+  id -340282366920938463463374607431768211456,
+  name \"Ann\",
+  bits '101'B,
+  kind green,
+  list {
+    a : NULL,
+    b : TRUE
+  }
+}";
+
 #[test]
 fn a_value_is_printed_as_it_was_read(rt: HostRuntime) -> Result<(), Fail> {
     let alloc = rt.alloc();
@@ -58,6 +70,8 @@ fn a_value_is_printed_as_it_was_read(rt: HostRuntime) -> Result<(), Fail> {
     let octets = print_value(alloc, &schema, draft.octets(), draft.parts(), 10, node)?;
     let text = str::from_utf8(octets.as_slice()).map_err(|_| "no text")?;
     assert!(rt; text == RECORD);
+    let text = print_in_notation(alloc, &schema, draft.octets(), draft.parts(), &[], 10, node)?;
+    assert!(rt; text.as_str() == NOTATION);
     Ok(())
 }
 

@@ -35,7 +35,8 @@ impl<'a, 's, 't> Maker<'a, 's, 't> {
                 let octets = self.octets(item)?;
                 Part::Octets(self.draft.add(octets.as_slice())?)
             }
-            Node::Text { .. } => self.characters(item)?,
+            Node::Text { .. } | Node::Time { .. } => self.characters(item)?,
+            Node::Real => self.real(item)?,
             Node::Utf8String => {
                 let text = self.text(item)?;
                 Part::Octets(self.draft.add(text.as_bytes())?)

@@ -11,6 +11,13 @@ impl<'m, 'a> Parser<'m, 'a> {
     fn range(&mut self, depth: usize) -> Result<(), NotationError> {
         let index = self.begin(Item::Values);
         self.value(depth)?;
+        self.range_end(depth)?;
+        self.close(index);
+        Ok(())
+    }
+
+    /// Reads what follows the first value of a range, if it is one.
+    fn range_end(&mut self, depth: usize) -> Result<(), NotationError> {
         if self.sees_symbol(Symbol::Less) {
             self.add_next(Item::Above);
             if !self.sees_symbol(Symbol::Range) {
@@ -23,6 +30,29 @@ impl<'m, 'a> Parser<'m, 'a> {
             }
             self.value(depth)?;
         }
+        Ok(())
+    }
+
+    /// Reads the name of a value or of a type after that of its module, or a field of a class.
+    #[cycle(constraints)]
+    fn dotted(&mut self, depth: usize) -> Result<(), NotationError> {
+        let index = self.begin(Item::Contained);
+        let inner = self.begin(Item::Reference);
+        self.take();
+        self.expect_symbol(Symbol::Dot)?;
+        if self.sees(TokenKind::Lower) {
+            self.turn_into(index, Item::Values);
+            self.turn_into(inner, Item::ExternalValue);
+            self.add_next(Item::ValueReference);
+            self.close(inner);
+            self.range_end(depth)?;
+        } else {
+            self.after_dot(inner)?;
+            if self.sees_symbol(Symbol::OpenParenthesis) {
+                self.constraint(depth)?;
+            }
+            self.close(inner);
+        }
         self.close(index);
         Ok(())
     }
@@ -32,7 +62,8 @@ impl<'m, 'a> Parser<'m, 'a> {
         let index = self.begin(Item::Contained);
         let name = self.expect(TokenKind::Upper, "the name of a type")?;
         if self.sees_symbol(Symbol::OpenBrace) {
-            return Err(self.error(Problem::Unsupported("a parameterized type (X.683 9)")));
+            let feature = "a parameterized type as a constraint (X.683 9)";
+            return Err(self.error(Problem::Unsupported(feature)));
         }
         self.add(Item::Reference, None, name);
         self.close(index);
@@ -75,21 +106,33 @@ impl<'m, 'a> Parser<'m, 'a> {
         let index = self.begin(Item::Constraint);
         self.expect_symbol(Symbol::OpenParenthesis)?;
         if self.sees_symbol(Symbol::OpenBrace) && self.sees_second_upper() {
-            return Err(self.error(Problem::Unsupported("a table constraint (X.682 10)")));
+            self.table()?;
+            self.exception()?;
+            self.expect_symbol(Symbol::CloseParenthesis)?;
+            self.close(index);
+            return Ok(());
         }
         self.union(depth - 1)?;
-        if self.accept_symbol(Symbol::Comma) {
-            if !self.sees_symbol(Symbol::Ellipsis) {
-                return Err(self.expected(Symbol::Ellipsis.quoted()));
-            }
-            self.add_next(Item::Ellipsis);
-            if self.accept_symbol(Symbol::Comma) {
-                self.union(depth - 1)?;
-            }
-        }
+        self.marker(depth - 1)?;
         self.exception()?;
         self.expect_symbol(Symbol::CloseParenthesis)?;
         self.close(index);
+        Ok(())
+    }
+
+    /// Reads an extension marker and the elements after it, if there is one.
+    #[cycle(constraints)]
+    pub fn marker(&mut self, depth: usize) -> Result<(), NotationError> {
+        if !self.accept_symbol(Symbol::Comma) {
+            return Ok(());
+        }
+        if !self.sees_symbol(Symbol::Ellipsis) {
+            return Err(self.expected(Symbol::Ellipsis.quoted()));
+        }
+        self.add_next(Item::Ellipsis);
+        if self.accept_symbol(Symbol::Comma) {
+            self.union(depth)?;
+        }
         Ok(())
     }
 
@@ -170,7 +213,8 @@ impl<'m, 'a> Parser<'m, 'a> {
                 self.take();
                 self.contained()
             }
-            TokenKind::Upper if !self.sees_second_symbol(Symbol::Dot) => self.contained(),
+            TokenKind::Upper if self.sees_second_symbol(Symbol::Dot) => self.dotted(depth - 1),
+            TokenKind::Upper => self.contained(),
             TokenKind::Word(Word::Constrained) => {
                 self.add_next(Item::UserDefined);
                 self.expect_word(Word::By)?;

@@ -63,6 +63,12 @@ pub enum Problem {
     /// A constraint permits no value.
     #[error("the constraint permits no value")]
     Empty,
+    /// A type has more or fewer arguments than its definition has parameters (X.683 9.5).
+    #[error("the number of arguments is not that of the parameters")]
+    Arguments,
+    /// The name is of a definition with an error, which has a report of its own.
+    #[error("the definition of the name has an error")]
+    Consequence,
     /// The notation is correct and not supported.
     #[error("{0} is not supported")]
     Unsupported(&'static str),

@@ -28,7 +28,7 @@ pub fn next_token(text: &[u8], from: usize) -> Token {
         match gap_length(rest) {
             Ok(0) => return token_at(rest, at),
             Ok(gap) => rest = &rest[gap..],
-            Err(problem) => return invalid(problem, at),
+            Err(problem) => return invalid(problem, at, text.len()),
         }
     }
     let end = text.len();
@@ -41,14 +41,14 @@ pub fn next_token(text: &[u8], from: usize) -> Token {
     }
 }
 
-/// Returns the item of text that is none.
-fn invalid(problem: Problem, at: usize) -> Token {
+/// Returns the item of text that is none, and is followed by what is at another octet.
+fn invalid(problem: Problem, at: usize, end: usize) -> Token {
     Token {
         kind: TokenKind::Invalid(problem),
         at,
         from: at,
         count: 0,
-        end: at,
+        end,
     }
 }
 
@@ -64,7 +64,7 @@ fn token_at(rest: &[u8], at: usize) -> Token
             count: found.end - found.skip,
             end: at.saturating_add(found.length),
         },
-        Err(problem) => invalid(problem, at),
+        Err(problem) => invalid(problem, at, at.saturating_add(1)),
     }
 }
 
@@ -248,10 +248,33 @@ fn number(rest: &[u8]) -> Result<Lexeme, Problem>
     if rest[0] == b'0' && 1 < whole {
         return Err(Problem::LeadingZero);
     }
+    let mut end = whole;
     if octet_at(rest, whole) == b'.' && octet_at(rest, whole + 1).is_ascii_digit() {
-        return Ok(plain(TokenKind::Real, digits(rest, whole + 1)));
+        end = digits(rest, whole + 1);
+    }
+    end = exponent(rest, end);
+    if whole < end {
+        return Ok(plain(TokenKind::Real, end));
     }
     Ok(plain(TokenKind::Number, whole))
+}
+
+/// Returns the index after an exponent of ten, as `E3` or `e-3`: the index before it if there is none.
+fn exponent(rest: &[u8], from: usize) -> usize
+    requires { from ≤ length rest.now }
+    ensures { (from ≤ result) × (result ≤ length rest.now) }
+{
+    let letter = octet_at(rest, from);
+    if letter != b'e' && letter != b'E' {
+        return from;
+    }
+    if octet_at(rest, from + 1).is_ascii_digit() {
+        return digits(rest, from + 1);
+    }
+    if octet_at(rest, from + 1) == b'-' && octet_at(rest, from + 2).is_ascii_digit() {
+        return digits(rest, from + 2);
+    }
+    from
 }
 
 /// Returns a string in double quotes, in which two of them are one (X.680 12.14). `None` if it has

@@ -4,12 +4,14 @@
 //! the text. Every text has a result: work and depth are bounded.
 #![tactic(auto)]
 
+mod classes;
 mod components;
 mod constraints;
 mod error;
 mod lexer;
 mod modules;
 mod parser;
+mod references;
 mod report;
 mod sink;
 mod tape;
@@ -22,7 +24,7 @@ mod word;
 
 pub use error::{NotationError, Problem, error_at};
 pub use lexer::part_of;
-pub use modules::parse;
+pub use modules::{Counts, parse, parse_all};
 pub use report::Report;
 pub use sink::Sink;
 pub use tape::{Entry, Item, NO_ENTRY, narrow, wide};

@@ -2,9 +2,19 @@
 
 use crate::error::{NotationError, Problem};
 use crate::parser::{MAX_DEPTH, Parser};
+use crate::sink::Sink;
 use crate::tape::{Entry, Item, narrow};
 use crate::token::{Symbol, TokenKind};
 use crate::word::Word;
+
+/// How many entries and errors a text has.
+#[derive(Clone, Copy, Debug, PartialEq, Eq)]
+pub struct Counts {
+    /// How many entries there are.
+    pub entries: usize,
+    /// How many errors there are.
+    pub errors: usize,
+}
 
 /// Reads the modules of a text as entries, and returns how many there are.
 ///
@@ -14,24 +24,61 @@ use crate::word::Word;
 ///
 /// Returns the first problem of the text.
 pub fn parse(text: &[u8], room: &mut [Entry]) -> Result<usize, NotationError> {
-    let mut parser = Parser::new(text, room);
-    if narrow(text.len()) == u32::MAX {
-        return Err(parser.error(Problem::TooLong));
+    let mut errors = [NO_ERROR];
+    let counts = parse_all(text, room, &mut errors);
+    if counts.errors == 0 {
+        Ok(counts.entries)
+    } else {
+        Err(errors[0])
     }
-    parser.module()?;
-    for _ in 0..parser.left() {
-        if parser.sees(TokenKind::End) {
-            break;
-        }
-        parser.module()?;
-    }
-    parser.expect(TokenKind::End, "the end of the text")?;
-    Ok(parser.count())
 }
 
+/// Reads the modules of a text as entries, and returns how many there are, and how many errors. A
+/// definition with an error has one entry inside, `Broken`, and the next definition follows it.
+///
+/// `room` receives the entries, and `errors` the errors. Where they hold fewer, the first ones are in
+/// them.
+pub fn parse_all(text: &[u8], room: &mut [Entry], errors: &mut [NotationError]) -> Counts {
+    let mut found = Sink::new(errors);
+    let mut parser = Parser::new(text, room);
+    if let Err(error) = parser.modules(text, &mut found) {
+        found.push(error);
+    }
+    Counts {
+        entries: parser.count(),
+        errors: found.count(),
+    }
+}
+
+/// An error that says nothing.
+const NO_ERROR: NotationError = NotationError {
+    problem: Problem::TooLong,
+    at: 0,
+};
+
 impl<'m, 'a> Parser<'m, 'a> {
+    /// Reads the modules of a text.
+    fn modules(
+        &mut self,
+        text: &[u8],
+        errors: &mut Sink<'_, NotationError>,
+    ) -> Result<(), NotationError> {
+        if narrow(text.len()) == u32::MAX {
+            return Err(self.error(Problem::TooLong));
+        }
+        self.module(errors)?;
+        for _ in 0..self.left() {
+            if self.sees(TokenKind::End) {
+                break;
+            }
+            self.module(errors)?;
+        }
+        self.expect(TokenKind::End, "the end of the text")?;
+        Ok(())
+    }
+
     /// Reads a module. Its object identifier names it and has no entry.
-    fn module(&mut self) -> Result<(), NotationError> {
+    fn module(&mut self, errors: &mut Sink<'_, NotationError>) -> Result<(), NotationError> {
         let name = self.expect(TokenKind::Upper, "the name of a module")?;
         if self.sees_symbol(Symbol::OpenBrace) {
             self.identifier()?;
@@ -50,8 +97,9 @@ impl<'m, 'a> Parser<'m, 'a> {
         self.expect_word(Word::Begin)?;
         self.exports()?;
         self.imports()?;
-        self.definitions()?;
-        self.expect_word(Word::End)?;
+        if self.definitions(errors)? {
+            self.expect_word(Word::End)?;
+        }
         self.close(index);
         Ok(())
     }
@@ -97,7 +145,7 @@ impl<'m, 'a> Parser<'m, 'a> {
             match self.kind() {
                 TokenKind::Upper
                 | TokenKind::Lower
-                | TokenKind::Symbol(Symbol::Comma)
+                | TokenKind::Symbol(Symbol::Comma | Symbol::OpenBrace | Symbol::CloseBrace)
                 | TokenKind::Word(Word::All) => {
                     self.take();
                 }
@@ -129,6 +177,7 @@ impl<'m, 'a> Parser<'m, 'a> {
                 TokenKind::Upper | TokenKind::Lower => self.add_next(Item::Import),
                 _ => return Err(self.expected("a name to import")),
             }
+            self.empty_braces()?;
             if !self.accept_symbol(Symbol::Comma) {
                 break;
             }
@@ -143,60 +192,122 @@ impl<'m, 'a> Parser<'m, 'a> {
         Ok(())
     }
 
-    /// Reads the definitions of a module.
-    fn definitions(&mut self) -> Result<(), NotationError> {
+    /// Takes the braces after the name of a parameterized definition (X.680 13.1).
+    fn empty_braces(&mut self) -> Result<(), NotationError> {
+        if self.accept_symbol(Symbol::OpenBrace) {
+            self.expect_symbol(Symbol::CloseBrace)?;
+        }
+        Ok(())
+    }
+
+    /// Reads the definitions of a module. After one with an error it goes on at the next one, and returns
+    /// whether there is one.
+    fn definitions(&mut self, errors: &mut Sink<'_, NotationError>) -> Result<bool, NotationError> {
         for _ in 0..self.left() {
             if self.sees_word(Word::End) {
                 break;
             }
-            match self.kind() {
-                TokenKind::Upper => self.type_definition()?,
-                TokenKind::Lower => self.value_definition()?,
+            let item = match self.kind() {
+                TokenKind::Upper => Item::TypeDefinition,
+                TokenKind::Lower => Item::ValueDefinition,
                 _ => return Err(self.expected("a definition or `END`")),
+            };
+            let index = self.begin(item);
+            let read = match item {
+                Item::TypeDefinition => self.type_definition(index),
+                _ => self.value_definition(),
+            };
+            if let Err(error) = read {
+                errors.push(error);
+                self.break_off(index);
+                if !self.go_to_definition() {
+                    return Ok(false);
+                }
             }
+            self.close(index);
         }
-        Ok(())
+        Ok(true)
     }
 
-    /// Reads the definition of a type, or of a set of values.
-    fn type_definition(&mut self) -> Result<(), NotationError> {
-        if self.sees_second_symbol(Symbol::OpenBrace) {
+    /// Goes to the next definition, which has a name at the beginning of a line or before `::=`, or to
+    /// END. Returns whether there is one.
+    fn go_to_definition(&mut self) -> bool {
+        for _ in 0..self.left() {
+            let is_definition = match self.kind() {
+                TokenKind::Word(Word::End) => true,
+                TokenKind::Upper | TokenKind::Lower => {
+                    self.is_at_line_start() || self.sees_second_symbol(Symbol::Assign)
+                }
+                TokenKind::End => return false,
+                _ => false,
+            };
+            if is_definition {
+                return true;
+            }
             self.take();
-            let feature = "a parameterized definition (X.683 8)";
-            return Err(self.error(Problem::Unsupported(feature)));
         }
-        if !self.sees_second_symbol(Symbol::Assign) {
-            return self.set_definition();
-        }
-        let index = self.begin(Item::TypeDefinition);
-        self.take();
-        self.take();
-        self.any_type(MAX_DEPTH)?;
-        self.close(index);
-        Ok(())
+        false
     }
 
-    /// Reads the definition of a set of values (X.680 16.6).
-    fn set_definition(&mut self) -> Result<(), NotationError> {
-        let index = self.begin(Item::SetDefinition);
+    /// Reads the definition of a type, a class, or a set of values or of objects.
+    fn type_definition(&mut self, index: usize) -> Result<(), NotationError> {
         self.take();
+        let is_parameterized = self.sees_symbol(Symbol::OpenBrace);
+        if is_parameterized {
+            self.parameters()?;
+        }
+        if !self.sees_symbol(Symbol::Assign) {
+            if is_parameterized {
+                let feature = "a parameterized set (X.683 8.2)";
+                return Err(self.error(Problem::Unsupported(feature)));
+            }
+            return self.set_definition(index);
+        }
+        self.take();
+        match self.kind() {
+            TokenKind::Word(Word::Class) => self.class_definition(),
+            TokenKind::Word(Word::TypeIdentifier) if !self.sees_second_symbol(Symbol::Dot) => {
+                self.builtin_class();
+                Ok(())
+            }
+            _ => self.any_type(MAX_DEPTH),
+        }
+    }
+
+    /// Reads the definition of a set of values (X.680 16.6) or of objects (X.681 12), after its name. A set
+    /// of values is the type with a constraint.
+    fn set_definition(&mut self, index: usize) -> Result<(), NotationError> {
+        let is_class = self.sees_capitals();
+        let of = self.count();
         self.any_type(MAX_DEPTH)?;
         self.expect_symbol(Symbol::Assign)?;
+        if is_class {
+            self.turn_into(index, Item::SetDefinition);
+            return self.object_braces(MAX_DEPTH);
+        }
+        let constraint = self.begin(Item::Constraint);
         self.expect_symbol(Symbol::OpenBrace)?;
         self.union(MAX_DEPTH)?;
+        self.marker(MAX_DEPTH)?;
         self.expect_symbol(Symbol::CloseBrace)?;
-        self.close(index);
+        self.close(constraint);
+        self.close(of);
         Ok(())
     }
 
-    /// Reads the definition of a value.
+    /// Reads the definition of a value or of an object (X.681 11).
     fn value_definition(&mut self) -> Result<(), NotationError> {
-        let index = self.begin(Item::ValueDefinition);
         self.take();
+        if self.sees_symbol(Symbol::OpenBrace) {
+            let feature = "a parameterized value (X.683 8.2)";
+            return Err(self.error(Problem::Unsupported(feature)));
+        }
+        let is_class = self.sees_capitals();
         self.any_type(MAX_DEPTH)?;
         self.expect_symbol(Symbol::Assign)?;
-        self.value(MAX_DEPTH)?;
-        self.close(index);
-        Ok(())
+        if is_class && self.sees_symbol(Symbol::OpenBrace) {
+            return self.object_braces(MAX_DEPTH);
+        }
+        self.value(MAX_DEPTH)
     }
 }

@@ -1,7 +1,7 @@
 //! The parser's position in a text, and the entries that it writes.
 
 use crate::error::{NotationError, Problem, error_at};
-use crate::lexer::next_token;
+use crate::lexer::{next_token, part_of};
 use crate::sink::Sink;
 use crate::tape::{Entry, Item, NO_ENTRY, narrow};
 use crate::token::{Symbol, Token, TokenKind};
@@ -71,6 +71,24 @@ impl<'m, 'a> Parser<'m, 'a> {
         match self.second.kind {
             TokenKind::Word(found) => found == word,
             _ => false,
+        }
+    }
+
+    /// Returns whether the next item is a name of capitals, digits and hyphens, as those of classes and
+    /// the words of their notation are (X.681 7.1, 7.9).
+    pub fn sees_capitals(&self) -> bool {
+        let name = part_of(self.text, self.first.from, self.first.count);
+        self.sees(TokenKind::Upper) && !name.iter().any(|octet| octet.is_ascii_lowercase())
+    }
+
+    /// Returns whether the next item begins a line.
+    pub fn is_at_line_start(&self) -> bool {
+        match self.first.at.checked_sub(1) {
+            None => true,
+            Some(before) => match part_of(self.text, before, 1) {
+                [octet] => *octet == b'\n' || *octet == b'\r',
+                _ => false,
+            },
         }
     }
 
@@ -187,6 +205,37 @@ impl<'m, 'a> Parser<'m, 'a> {
     pub fn begin(&mut self, item: Item) -> usize {
         let token = self.first;
         self.open(item, None, token)
+    }
+
+    /// Says that an entry is another item.
+    pub fn turn_into(&mut self, index: usize, item: Item) {
+        if let Some(entry) = self.tape.get(index) {
+            self.tape.set(index, Entry { item, ..entry });
+        }
+    }
+
+    /// Says that an entry is named by another item.
+    pub fn rename(&mut self, index: usize, token: Token) {
+        if let Some(entry) = self.tape.get(index) {
+            let from = narrow(token.from);
+            let count = narrow(token.count);
+            self.tape.set(
+                index,
+                Entry {
+                    from,
+                    count,
+                    ..entry
+                },
+            );
+        }
+    }
+
+    /// Ends a definition with an error: what was read of it is replaced.
+    pub fn break_off(&mut self, index: usize) {
+        self.tape.truncate(index.saturating_add(1));
+        let broken = self.begin(Item::Broken);
+        self.close(broken);
+        self.close(index);
     }
 
     /// Ends an entry: all entries after it are inside.

@@ -59,6 +59,12 @@ impl<'m, T: Copy> Sink<'m, T> {
         }
     }
 
+    /// Returns the rows, as far as the room holds them.
+    pub fn rows(&self) -> &[T] {
+        let end = self.count.min(self.room.len());
+        &self.room[..end]
+    }
+
     /// Returns the rows from an index on, as far as the room holds them.
     pub fn rows_from(&mut self, from: usize) -> &mut [T] {
         let end = self.count.min(self.room.len());

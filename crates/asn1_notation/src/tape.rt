@@ -16,12 +16,37 @@ pub enum Item {
     Import,
     /// The module that names are imported from.
     ImportModule,
-    /// { type }
+    /// { maybe Parameters, type or Class }
     TypeDefinition,
-    /// { type, value }
+    /// A value or an object. { type, value or Braces }
     ValueDefinition,
-    /// A type that is a set of values (X.680 16.6). { type, Union }
+    /// A set of objects (X.681 12). A set of values (X.680 16.6) is a `TypeDefinition` of its type with a
+    /// constraint. { type, Braces }
     SetDefinition,
+    /// The parameters of a definition (X.683 8.3). { Parameter.. }
+    Parameters,
+    /// A parameter. { maybe type }
+    Parameter,
+    /// What a definition with an error is in its place: a type and a value.
+    Broken,
+
+    /// CLASS (X.681 9.3), or TYPE-IDENTIFIER by its word. { Field.., maybe Syntax }
+    Class,
+    /// A field, named without its `&`. { maybe type, maybe Optional or Default }
+    Field,
+    /// WITH SYNTAX. { Literal, FieldName, Comma, OpenOptional, CloseOptional .. }
+    Syntax,
+    /// A word of capitals in WITH SYNTAX or in the definition of an object. There it may also name a
+    /// type.
+    Literal,
+    /// The name of a field, without its `&`.
+    FieldName,
+    /// `[` in WITH SYNTAX.
+    OpenOptional,
+    /// `]` in WITH SYNTAX.
+    CloseOptional,
+    /// `|` in braces.
+    Bar,
 
     /// A type whose word says what it is. { Constraint.. }, as each type
     Plain,
@@ -47,10 +72,15 @@ pub enum Item {
     SetOf,
     /// A type with a tag, whose class is the word. { value, maybe Explicit or Implicit, type }
     Tagged,
-    /// The name of a type.
+    /// The name of a type. { maybe Arguments, Constraint.. }
     Reference,
-    /// `Module.Type`, named by the module. { ExternalName }
+    /// `Module.Type`, named by the module. { ExternalName, maybe Arguments, Constraint.. }
     ExternalReference,
+    /// `CLASS.&field`, named by the class (X.681 14.1), or of TYPE-IDENTIFIER by its word.
+    /// { FieldName, Constraint.. }
+    FieldType,
+    /// The arguments of a type (X.683 9.5). { type, value or Braces .. }
+    Arguments,
     /// The name of a type after that of its module.
     ExternalName,
     /// `name < Type`. { type }
@@ -95,15 +125,22 @@ pub enum Item {
     ExternalValue,
     /// `name : value`. { value }
     Alternative,
-    /// `{ .. }`. { values, PieceName, Comma .. }
+    /// `{ .. }`. { values, PieceName, Comma .. }, and in an object or a set of objects also { types,
+    /// Literal, FieldName, Bar, Ellipsis .. }
     Braces,
     /// A name in braces. { maybe value }
     PieceName,
     /// A comma in braces.
     Comma,
 
-    /// A constraint in parentheses. { Union, maybe Ellipsis, maybe Union }
+    /// A constraint in parentheses. { Union, maybe Ellipsis, maybe Union } or { Table }
     Constraint,
+    /// A table constraint (X.682 10). { Reference or ExternalReference, At.. }
+    Table,
+    /// `@` and the path of a component. { Level.., PieceName.. }
+    At,
+    /// A dot after `@`.
+    Level,
     /// { Intersection.. }
     Union,
     /// { elements, each maybe followed by Except }
@@ -122,7 +159,7 @@ pub enum Item {
     Size,
     /// FROM. { Constraint }
     From,
-    /// A type whose values are meant. { Reference }
+    /// A type whose values are meant. { type }
     Contained,
     /// WITH COMPONENT. { Constraint }
     WithComponent,
@@ -195,6 +232,9 @@ impl Item {
             | Item::Tagged
             | Item::Reference
             | Item::ExternalReference
+            | Item::FieldType
+            | Item::Class
+            | Item::Broken
             | Item::Selection => true,
             _ => false,
         }
@@ -213,6 +253,7 @@ impl Item {
             | Item::ValueReference
             | Item::ExternalValue
             | Item::Alternative
+            | Item::Broken
             | Item::Braces => true,
             _ => false,
         }

@@ -102,6 +102,7 @@ impl Symbol {
             Symbol::Semicolon => "`;`",
             Symbol::Dot => "`.`",
             Symbol::Less => "`<`",
+            Symbol::Ampersand => "`&`",
             _ => "a symbol",
         }
     }

@@ -44,8 +44,6 @@ fn is_plain(word: Word) -> bool {
 /// Returns what of X.680 to X.683 a word begins that is not supported.
 fn unsupported(word: Word) -> Option<&'static str> {
     Some(match word {
-        Word::Class => "an information object class (X.681 9)",
-        Word::TypeIdentifier => "TYPE-IDENTIFIER (X.681 A)",
         Word::Instance => "INSTANCE OF (X.681 C)",
         Word::Embedded => "EMBEDDED PDV (X.680 36)",
         Word::Character => "CHARACTER STRING (X.680 44)",
@@ -160,39 +158,24 @@ impl<'m, 'a> Parser<'m, 'a> {
                 self.two_words(Item::ObjectIdentifier, Word::Identifier)
             }
             TokenKind::Word(Word::Any) => self.any(),
+            TokenKind::Word(Word::TypeIdentifier) => self.builtin_field(),
             TokenKind::Word(word) => self.one_word(word),
-            TokenKind::Upper => self.reference(),
             _ => Err(self.expected("a type")),
         }
     }
 
-    /// Begins the name of a type, which may be after that of its module.
-    fn reference(&mut self) -> Result<usize, NotationError> {
-        if !self.sees_second_symbol(Symbol::Dot) {
-            let index = self.begin(Item::Reference);
-            self.take();
-            self.no_parameters()?;
-            return Ok(index);
+    /// Begins the name of a type, which may be after that of its module, or a field of a class.
+    #[cycle(types)]
+    fn reference(&mut self, depth: usize) -> Result<usize, NotationError> {
+        let token = self.take();
+        let index = self.open(Item::Reference, None, token);
+        if self.accept_symbol(Symbol::Dot) {
+            self.after_dot(index)?;
         }
-        let index = self.begin(Item::ExternalReference);
-        self.take();
-        self.take();
-        if self.sees_symbol(Symbol::Ampersand) {
-            let feature = "a field of an information object class (X.681 14)";
-            return Err(self.error(Problem::Unsupported(feature)));
-        }
-        let name = self.expect(TokenKind::Upper, "the name of a type")?;
-        self.no_parameters()?;
-        self.add(Item::ExternalName, None, name);
-        Ok(index)
-    }
-
-    /// Returns an error if the next item begins the arguments of a type.
-    fn no_parameters(&mut self) -> Result<(), NotationError> {
         if self.sees_symbol(Symbol::OpenBrace) {
-            return Err(self.error(Problem::Unsupported("a parameterized type (X.683 9)")));
+            self.arguments(depth)?;
         }
-        Ok(())
+        Ok(index)
     }
 
     /// Takes the class of a tag (X.680 31.2). `None` is the class context-specific.
@@ -240,6 +223,7 @@ impl<'m, 'a> Parser<'m, 'a> {
                 self.any_type(depth - 1)?;
                 index
             }
+            TokenKind::Upper => self.reference(depth - 1)?,
             _ => self.simple_type()?,
         };
         for _ in 0..self.left() {

@@ -133,6 +133,12 @@ impl<'m, 'a> Parser<'m, 'a> {
         if !self.sees(TokenKind::Lower) || self.sees_second_symbol(Symbol::Colon) {
             return self.value(depth);
         }
+        self.named_piece(depth)
+    }
+
+    /// Reads a name in braces, which may be followed by a value in parentheses.
+    #[cycle(values)]
+    pub fn named_piece(&mut self, depth: usize) -> Result<(), NotationError> {
         let index = self.begin(Item::PieceName);
         self.take();
         if self.accept_symbol(Symbol::OpenParenthesis) {

@@ -192,12 +192,25 @@ const WORDS: [(&str, Word); 90] = [
 impl Word {
     /// Returns the word with a text. `None` if the text is no reserved word.
     pub fn of_text(text: &[u8]) -> Option<Word> {
+        if !text.first()?.is_ascii_uppercase() {
+            return None;
+        }
+        let found = WORDS.binary_search_by(|row| row.0.as_bytes().cmp(text));
+        let (_, word) = WORDS.get(found.ok()?)?;
+        Some(*word)
+    }
+
+    /// Returns whether the word has no small letters.
+    pub fn is_capitals(self) -> bool {
         for (word_text, word) in &WORDS {
-            if word_text.as_bytes() == text {
-                return Some(*word);
+            if *word == self {
+                return !word_text
+                    .as_bytes()
+                    .iter()
+                    .any(|octet| octet.is_ascii_lowercase());
             }
         }
-        None
+        false
     }
 
     /// Returns the text of the word, in quotes for a message.
@@ -212,7 +225,7 @@ impl Word {
 }
 
 /// The words that a message can ask for, with their text in quotes.
-const QUOTED: [(&str, Word); 13] = [
+const QUOTED: [(&str, Word); 14] = [
     ("`BEGIN`", Word::Begin),
     ("`BY`", Word::By),
     ("`COMPONENTS`", Word::Components),
@@ -224,6 +237,7 @@ const QUOTED: [(&str, Word); 13] = [
     ("`IMPLIED`", Word::Implied),
     ("`OF`", Word::Of),
     ("`STRING`", Word::String),
+    ("`SYNTAX`", Word::Syntax),
     ("`TAGS`", Word::Tags),
     ("`WITH`", Word::With),
 ];

@@ -13,7 +13,7 @@
 //! of its type's alphabet, if that is another one. They are the words of the tests of PER.
 
 use asn1_resolve::Schema;
-use asn1_schema::{Length, Node, Presence, Range, Rows};
+use asn1_schema::{Length, Node, Presence, Range, Rows, TimeKind};
 use asn1_test_rows::{RowError, wrong};
 use std::alloc::Global;
 
@@ -165,6 +165,13 @@ fn word_of(alloc: Global, schema: &Schema, node: &Node) -> Result<String, RowErr
         Node::ObjectIdentifier => Ok(String::from_str(alloc, "oid")?),
         Node::RelativeIdentifier => Ok(String::from_str(alloc, "relative")?),
         Node::Utf8String => Ok(String::from_str(alloc, "utf8")?),
+        Node::Real => Ok(String::from_str(alloc, "real")?),
+        Node::Time {
+            kind: TimeKind::Utc,
+        } => Ok(String::from_str(alloc, "utc")?),
+        Node::Time {
+            kind: TimeKind::Generalized,
+        } => Ok(String::from_str(alloc, "generalized")?),
         Node::Integer | Node::IntegerBetween { .. } | Node::IntegerAtLeast { .. } => {
             integer_word(alloc, node)
         }

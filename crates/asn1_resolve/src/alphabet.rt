@@ -67,7 +67,7 @@ pub fn whole_alphabet(word: Word) -> Option<Rows> {
     let (from, count) = match word {
         Word::NumericString => (0, 2),
         Word::PrintableString => (2, 7),
-        Word::VisibleString | Word::Iso646String | Word::UtcTime | Word::GeneralizedTime => (9, 1),
+        Word::VisibleString | Word::Iso646String => (9, 1),
         Word::Ia5String => (10, 1),
         Word::BmpString => (11, 1),
         Word::UniversalString => (12, 1),

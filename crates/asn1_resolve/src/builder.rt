@@ -1,5 +1,6 @@
 //! The tables that are made, in the caller's room.
 
+use crate::objects::{ObjectRow, OpenRow};
 use crate::tag_tables::{NO_FIRST_TAGS, NO_TYPE_TAGS};
 use asn1_definitions::Place;
 use asn1_notation::{NotationError, Problem, Sink, error_at};
@@ -8,7 +9,7 @@ use asn1_schema_values::NameSpan;
 use asn1_x690::{FirstTags, Tag, TypeTags};
 
 /// How many components and tags the names of a text may lead to.
-const MAX_STEPS: usize = 1 << 20;
+const MAX_STEPS: usize = 1 << 18;
 
 /// A value of an ENUMERATED.
 #[derive(Clone, Copy, Debug, PartialEq, Eq)]
@@ -131,6 +132,10 @@ pub struct Builder<'m> {
     pub first_rows: Sink<'m, Tag>,
     /// The node of which each node is a copy with other tags.
     pub sources: Sink<'m, usize>,
+    /// The open types whose contents another component tells.
+    pub opens: Sink<'m, OpenRow>,
+    /// Their objects.
+    pub objects: Sink<'m, ObjectRow>,
     pub(crate) steps: usize,
 }
 
@@ -169,7 +174,22 @@ impl<'m> Builder<'m> {
             member_tags: Sink::new(&mut []),
             first_rows: Sink::new(&mut []),
             sources: Sink::new(&mut []),
+            opens: Sink::new(&mut []),
+            objects: Sink::new(&mut []),
             steps: 0,
+        }
+    }
+
+    /// Returns the tables with room for open types and their objects.
+    pub fn with_objects(
+        self,
+        opens: &'m mut [OpenRow],
+        objects: &'m mut [ObjectRow],
+    ) -> Builder<'m> {
+        Builder {
+            opens: Sink::new(opens),
+            objects: Sink::new(objects),
+            ..self
         }
     }
 

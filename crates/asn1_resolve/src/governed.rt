@@ -1,6 +1,6 @@
 //! What values are of: a type, as its definition and its tables say it.
 
-use crate::builder::Enumeral;
+use crate::builder::{DefaultText, Enumeral};
 use asn1_definitions::{MAX_STEPS, Place, Scope};
 use asn1_notation::{Item, part_of};
 use asn1_schema::{Member, Node, Rows};
@@ -15,6 +15,7 @@ pub(crate) struct Types<'r> {
     pub(crate) members: &'r [Member],
     pub(crate) member_names: &'r [NameSpan],
     pub(crate) enumerals: &'r [Enumeral],
+    pub(crate) defaults: &'r [DefaultText],
 }
 
 /// A value: its entry, the entry of its type, and the node of its type.
@@ -57,12 +58,9 @@ impl<'r> Types<'r> {
                 let node = governed.node;
                 return Some(Governed { value, of, node });
             }
-            let definition = self.scope.definition(value).ok()?;
-            if self.scope.item(definition) != Item::ValueDefinition {
-                return None;
-            }
-            of = self.scope.base(self.scope.type_in(definition)).ok()?;
-            value = self.scope.value_in(definition)?;
+            let (named, named_of) = self.scope.named_value(value).ok()?;
+            of = self.scope.base(named_of).ok()?;
+            value = named;
         }
         None
     }

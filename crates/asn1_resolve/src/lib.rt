@@ -6,12 +6,20 @@
 
 mod alphabet;
 mod builder;
+mod contents;
 mod enumerated;
+mod error;
 mod governed;
+mod leaves;
 mod members;
 mod modules;
 mod nodes;
+mod objects;
+mod open;
+mod open_types;
 mod pieces;
+mod problems;
+mod room;
 mod schema;
 mod spans;
 mod strings;
@@ -21,5 +29,9 @@ mod tests;
 mod values;
 
 pub use builder::{Builder, DefaultText, Draft, Enumeral, Key, NO_DRAFT, NO_KEY, NamedType};
+pub use error::SchemaError;
 pub use modules::resolve;
-pub use schema::{Schema, SchemaError};
+pub use objects::{ObjectRow, OpenRow};
+pub use open::{Key as OpenKey, OpenObject, OpenType};
+pub use problems::{MAX_PROBLEMS, problems_of};
+pub use schema::Schema;

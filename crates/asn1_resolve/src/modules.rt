@@ -2,26 +2,31 @@
 
 use crate::alphabet::WHOLE_ALPHABETS;
 use crate::builder::{Builder, NO_SOURCE, NamedType};
+use crate::objects::check_objects;
 use crate::spans::span_of;
 use crate::tag_tables::NO_TYPE_TAGS;
-use asn1_definitions::{LISTS, Place, Scope, check_imports, index_definitions, number_types};
-use asn1_notation::{Entry, Item, NotationError, wide};
+use asn1_definitions::{
+    Instance, LISTS, Place, Scope, check_imports, find_instances, index_definitions, number_types,
+};
+use asn1_notation::{Entry, Item, NotationError, Problem, Sink, error_at};
 
 /// Makes the tables of the types that the entries of a text define.
 ///
-/// `tables` must be empty. Where their room is too small they have the first rows, and count all.
-/// Only with room for all of them are equal names and tags found.
+/// `instances` receives the instances of parameterized types, and must have room for all of them.
+/// `tables` must be empty. Where their room is too small they have the first rows, and count all. Only
+/// with room for all of them are equal names and tags found.
 ///
 /// # Errors
 ///
-/// Returns the first problem that is found.
+/// Returns the first problem that is found: `TooMuchWork` if `instances` has too little room.
 pub fn resolve(
     text: &[u8],
     tape: &mut [Entry],
+    instances: &mut [Instance],
     tables: &mut Builder<'_>,
 ) -> Result<(), NotationError> {
     let mut lists = [0u32; LISTS];
-    resolve_lists(text, tape, &mut lists, tables)
+    resolve_lists(text, tape, &mut lists, instances, tables)
 }
 
 /// Makes the tables, and the lists of definitions.
@@ -29,12 +34,26 @@ pub(crate) fn resolve_lists(
     text: &[u8],
     tape: &mut [Entry],
     lists: &mut [u32; LISTS],
+    instances: &mut [Instance],
     tables: &mut Builder<'_>,
 ) -> Result<(), NotationError> {
     index_definitions(text, tape, lists)?;
-    let count = number_types(text, tape, lists)?;
-    let scope = Scope { text, tape, lists };
+    let room = instances.len();
+    let mut found = Sink::new(instances);
+    find_instances(text, tape, lists, &mut found)?;
+    if room < found.count() {
+        return Err(error_at(Problem::TooMuchWork, 0));
+    }
+    let instances = found.rows_from(0);
+    let count = number_types(text, tape, lists, instances)?;
+    let scope = Scope {
+        text,
+        tape,
+        lists,
+        instances,
+    };
     check_imports(scope)?;
+    check_objects(scope)?;
     for range in &WHOLE_ALPHABETS {
         tables.ranges.push(*range);
     }
@@ -45,27 +64,45 @@ pub(crate) fn resolve_lists(
         tables.type_tags.push(NO_TYPE_TAGS);
         tables.sources.push(NO_SOURCE);
     }
-    tables.add_tags(scope)?;
-    tables.add_nodes(scope)?;
+    for instance in 0..scope.instances.len() {
+        tables.add_tags(scope, instance)?;
+    }
+    for instance in 0..scope.instances.len() {
+        tables.add_nodes(scope, instance)?;
+    }
     tables.add_names(scope)?;
+    for instance in 1..scope.instances.len() {
+        tables.add_name_of_instance(scope, instance);
+    }
     tables.fill_copies();
     Ok(())
 }
 
 impl<'m> Builder<'m> {
-    /// Sets the node of each type that has one.
-    fn add_nodes(&mut self, scope: Scope<'_>) -> Result<(), NotationError> {
-        let mut module = 0usize;
-        for index in 0..scope.most() {
-            let entry = scope.entry(index);
-            if entry.item == Item::Module {
-                module = index;
+    /// Sets the node of each type of an instance that has one.
+    fn add_nodes(&mut self, scope: Scope<'_>, instance: usize) -> Result<(), NotationError> {
+        let mut definition = Place {
+            instance,
+            ..scope.instance(instance).definition
+        };
+        let mut walk = scope.walk(instance);
+        for _ in 0..scope.most() {
+            let Some(place) = walk.next(scope) else {
+                break;
+            };
+            let item = scope.item(place);
+            if item.is_definition() {
+                definition = place;
             }
-            if entry.item.is_type() && entry.link != 0 {
-                let row = wide(entry.link - 1);
-                let (node, enumerals) = self.node(scope, Place { module, index })?;
+            if item.is_type()
+                && let Some(row) = scope.own_node(place)
+            {
+                let (node, enumerals) = self.node(scope, place)?;
                 self.nodes.set(row, node);
                 self.node_enumerals.set(row, enumerals);
+                if scope.is_open(place) {
+                    self.add_open(scope, place, definition, row)?;
+                }
             }
         }
         Ok(())
@@ -73,19 +110,32 @@ impl<'m> Builder<'m> {
 
     /// Adds the types that have names, and names their nodes.
     fn add_names(&mut self, scope: Scope<'_>) -> Result<(), NotationError> {
-        let mut module = 0usize;
-        for index in 0..scope.most() {
-            let place = Place { module, index };
-            match scope.item(place) {
-                Item::Module => module = index,
-                Item::TypeDefinition => self.add_name(scope, place)?,
-                _ => {}
+        let mut walk = scope.walk(0);
+        for _ in 0..scope.most() {
+            let Some(place) = walk.next(scope) else {
+                break;
+            };
+            if scope.item(place) == Item::TypeDefinition && !scope.is_parameterized(place) {
+                self.add_name(scope, place)?;
             }
         }
         Ok(())
     }
 
-    /// Adds the type of a definition, and names its node, unless that is of another definition.
+    /// Names the node of the type of an instance, if it has one of its own.
+    fn add_name_of_instance(&mut self, scope: Scope<'_>, instance: usize) {
+        let definition = scope.instance(instance).definition;
+        let of = scope.type_in(Place {
+            instance,
+            ..definition
+        });
+        if let Some(node) = scope.own_node(of) {
+            self.node_names.set(node, span_of(scope, definition));
+        }
+    }
+
+    /// Adds the type of a definition, and names its node, unless that is of another definition. A class
+    /// is none.
     fn add_name(&mut self, scope: Scope<'_>, place: Place) -> Result<(), NotationError> {
         let name = span_of(scope, place);
         let module = span_of(
@@ -96,6 +146,9 @@ impl<'m> Builder<'m> {
             },
         );
         let of = scope.type_in(place);
+        if scope.item(scope.base(of)?) == Item::Class {
+            return Ok(());
+        }
         let named = scope.node_of(of)?;
         let node = self.used_node(scope, of, None, false)?;
         self.types.push(NamedType { module, name, node });
@@ -106,7 +159,7 @@ impl<'m> Builder<'m> {
             }
             own = scope.type_in(own);
         }
-        if node != named || scope.entry(own.index).link != 0 {
+        if node != named || scope.own_node(own).is_some() {
             self.node_names.set(node, name);
         }
         Ok(())

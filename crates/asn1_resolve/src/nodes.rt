@@ -4,7 +4,7 @@ use crate::alphabet::{push_ranges, whole_alphabet, within};
 use crate::builder::{Builder, NO_ROWS};
 use asn1_definitions::{Hull, Permitted, Place, Scope, permitted_by};
 use asn1_notation::{Item, NotationError, Problem, Word};
-use asn1_schema::{Bounds, Length, LowerBound, Node, Rows};
+use asn1_schema::{Bounds, Length, LowerBound, Node, Rows, TimeKind};
 
 /// Sizes without a constraint.
 const ANY_LENGTH: Length = Length::AtLeast { least: 0 };
@@ -49,7 +49,6 @@ fn length_of(sizes: Option<Hull>) -> Option<(Length, bool)> {
 /// Returns the name of a type that is not supported, of those that are one word.
 fn unsupported(word: Option<Word>) -> &'static str {
     match word {
-        Some(Word::Real) => "REAL (X.680 21)",
         Some(Word::External) => "EXTERNAL (X.680 37)",
         Some(Word::Time) => "TIME (X.680 38)",
         Some(Word::Date) => "DATE (X.680 38)",
@@ -96,6 +95,11 @@ impl<'m> Builder<'m> {
             Item::Enumerated => return self.enumerated(scope, base),
             Item::Sequence | Item::Set | Item::Choice => self.components(scope, base)?,
             Item::ObjectIdentifier => Node::ObjectIdentifier,
+            // PER encodes an open type as the octets of its value (X.691 11.2.1).
+            Item::FieldType if scope.is_open(base) => UNBOUNDED_OCTETS,
+            Item::FieldType => Node::ObjectIdentifier,
+            Item::Broken => Node::Null,
+            Item::Class | Item::Braces => return Err(scope.error(Problem::NotA("a type"), place)),
             Item::Plain => self.one_word(scope, place, base)?,
             _ => self.constrained(scope, place, base)?,
         };
@@ -156,6 +160,13 @@ impl<'m> Builder<'m> {
             Some(Word::Boolean) => Node::Boolean,
             Some(Word::RelativeOid) => Node::RelativeIdentifier,
             Some(Word::Utf8String) => Node::Utf8String,
+            Some(Word::Real) => Node::Real,
+            Some(Word::UtcTime) => Node::Time {
+                kind: TimeKind::Utc,
+            },
+            Some(Word::GeneralizedTime) => Node::Time {
+                kind: TimeKind::Generalized,
+            },
             Some(
                 Word::TeletexString
                 | Word::T61String

@@ -2,147 +2,51 @@
 
 ghost use Rattle.std.specs.Prelude.{◌≡◌};
 
+use crate::builder;
 use crate::builder::{
     Builder, DefaultText, Draft, Enumeral, Key, NO_DRAFT, NO_KEY, NO_MEMBER, NO_NAME, NO_ROWS,
     NamedType,
 };
-use crate::governed::Types;
-use crate::modules::{resolve, resolve_lists};
+use crate::error::SchemaError;
+use crate::modules::resolve_lists;
+use crate::objects::{ObjectRow, OpenRow};
+use crate::open::{OpenObject, OpenType};
+use crate::room::{
+    Counts, NO_DEFAULT, NO_ENUMERAL, NO_OBJECT, NO_OPEN, NO_RANGE, NO_TYPE, counts_of,
+    instances_of, tape_of,
+};
 use crate::tag_tables::{NO_FIRST_TAGS, NO_TAG, NO_TYPE_TAGS};
 use crate::values::Values;
-use asn1_definitions::{LISTS, Place, Scope};
-use asn1_notation::{Entry, NO_ENTRY, NotationError, narrow, parse, part_of};
+use asn1_definitions::{LISTS, Scope};
+use asn1_notation::{Entry, part_of};
 use asn1_schema::{Member, Node, Part, Range, Rows, Tables};
 use asn1_schema_values::{NameSpan, Names};
 use asn1_x690::{FirstTags, Tag, TagTables, TypeTags};
 use std::alloc::{AllocError, Global};
-use thiserror::Error;
 
 /// The types of a text's modules, as tables.
 #[derive(Drop)]
 pub struct Schema {
-    text: String,
-    nodes: Vec<Node>,
-    node_names: Vec<NameSpan>,
-    node_enumerals: Vec<Rows>,
-    members: Vec<Member>,
-    member_names: Vec<NameSpan>,
-    ranges: Vec<Range>,
-    enumerals: Vec<Enumeral>,
-    defaults: Vec<DefaultText>,
-    types: Vec<NamedType>,
-    type_tags: Vec<TypeTags>,
-    member_tags: Vec<FirstTags>,
-    tags: Vec<Tag>,
-    numbers: Vec<i128>,
-    default_parts: Vec<Option<Rows>>,
-    value_parts: Vec<Part>,
-    value_octets: Vec<u8>,
-}
-
-/// Why there are no tables of a text.
-#[derive(Clone, Copy, Debug, PartialEq, Eq, Drop, Error)]
-pub enum SchemaError {
-    /// The text has a problem.
-    #[error("{0}")]
-    Notation(NotationError),
-    /// Out of memory.
-    #[error("out of memory")]
-    Memory,
-}
-
-impl From<AllocError> for SchemaError {
-    fn from(_error: AllocError) -> SchemaError {
-        SchemaError::Memory
-    }
-}
-
-impl From<NotationError> for SchemaError {
-    fn from(error: NotationError) -> SchemaError {
-        SchemaError::Notation(error)
-    }
-}
-
-const NO_RANGE: Range = Range { first: 0, last: 0 };
-
-const NO_ENUMERAL: Enumeral = Enumeral {
-    name: NO_NAME,
-    number: 0,
-};
-
-const NO_PLACE: Place = Place {
-    module: 0,
-    index: 0,
-};
-
-const NO_DEFAULT: DefaultText = DefaultText {
-    value: NO_NAME,
-    node: 0,
-    at: NO_PLACE,
-    of: NO_PLACE,
-};
-
-const NO_TYPE: NamedType = NamedType {
-    module: NO_NAME,
-    name: NO_NAME,
-    node: 0,
-};
-
-/// How many rows each table has.
-#[derive(Clone, Copy)]
-struct Counts {
-    nodes: usize,
-    members: usize,
-    ranges: usize,
-    enumerals: usize,
-    defaults: usize,
-    types: usize,
-    drafts: usize,
-    tags: usize,
-    names: usize,
-    tag_rows: usize,
-    first_rows: usize,
-}
-
-/// Returns how many rows the tables of a text have.
-fn counts_of(text: &[u8], tape: &mut [Entry]) -> Result<Counts, NotationError> {
-    let mut tables = Builder::new(
-        &mut [],
-        &mut [],
-        &mut [],
-        &mut [],
-        &mut [],
-        &mut [],
-        &mut [],
-        &mut [],
-        &mut [],
-        &mut [],
-        &mut [],
-        &mut [],
-    );
-    resolve(text, tape, &mut tables)?;
-    Ok(Counts {
-        nodes: tables.nodes.most(),
-        members: tables.members.most(),
-        ranges: tables.ranges.most(),
-        enumerals: tables.enumerals.most(),
-        defaults: tables.defaults.most(),
-        types: tables.types.most(),
-        drafts: tables.drafts.most(),
-        tags: tables.tags.most(),
-        names: tables.names.most(),
-        tag_rows: tables.tag_rows.most(),
-        first_rows: tables.first_rows.most(),
-    })
-}
-
-/// Returns the entries of a text.
-fn tape_of(alloc: Global, text: &[u8]) -> Result<Vec<Entry>, SchemaError> {
-    let mut tape: Vec<Entry> = Vec::new(alloc);
-    let count = parse(text, &mut [])?;
-    tape.resize(count, NO_ENTRY)?;
-    parse(text, tape.as_mut_slice())?;
-    Ok(tape)
+    pub(crate) text: String,
+    pub(crate) nodes: Vec<Node>,
+    pub(crate) node_names: Vec<NameSpan>,
+    pub(crate) node_enumerals: Vec<Rows>,
+    pub(crate) members: Vec<Member>,
+    pub(crate) member_names: Vec<NameSpan>,
+    pub(crate) ranges: Vec<Range>,
+    pub(crate) enumerals: Vec<Enumeral>,
+    pub(crate) defaults: Vec<DefaultText>,
+    pub(crate) types: Vec<NamedType>,
+    pub(crate) type_tags: Vec<TypeTags>,
+    pub(crate) member_tags: Vec<FirstTags>,
+    pub(crate) tags: Vec<Tag>,
+    pub(crate) numbers: Vec<i128>,
+    pub(crate) default_parts: Vec<Option<Rows>>,
+    pub(crate) value_parts: Vec<Part>,
+    pub(crate) value_octets: Vec<u8>,
+    pub(crate) opens: Vec<OpenType>,
+    pub(crate) open_siblings: Vec<NameSpan>,
+    pub(crate) open_objects: Vec<OpenObject>,
 }
 
 impl Schema {
@@ -166,6 +70,9 @@ impl Schema {
             default_parts: Vec::new(alloc),
             value_parts: Vec::new(alloc),
             value_octets: Vec::new(alloc),
+            opens: Vec::new(alloc),
+            open_siblings: Vec::new(alloc),
+            open_objects: Vec::new(alloc),
         };
         schema.nodes.resize(counts.nodes, Node::Null)?;
         schema.node_names.resize(counts.nodes, NO_NAME)?;
@@ -188,9 +95,19 @@ impl Schema {
     ///
     /// Returns the first problem of the text that is found, or `Memory`.
     pub fn parse(alloc: Global, text: &str) -> Result<Schema, SchemaError> {
+        let mut tape = tape_of(alloc, text.as_bytes())?;
+        Schema::of_entries(alloc, text, &mut tape)
+    }
+
+    /// Makes the tables of the modules that the entries of a text are.
+    pub(crate) fn of_entries(
+        alloc: Global,
+        text: &str,
+        tape: &mut Vec<Entry>,
+    ) -> Result<Schema, SchemaError> {
         let octets = text.as_bytes();
-        let mut tape = tape_of(alloc, octets)?;
-        let counts = counts_of(octets, tape.as_mut_slice())?;
+        let mut instances = instances_of(alloc, octets, tape.as_mut_slice())?;
+        let counts = counts_of(octets, tape.as_mut_slice(), instances.as_mut_slice())?;
         let mut schema = Schema::with_room(alloc, text, counts)?;
         let mut drafts: Vec<Draft> = Vec::new(alloc);
         let mut tags: Vec<Key> = Vec::new(alloc);
@@ -198,6 +115,10 @@ impl Schema {
         drafts.resize(counts.drafts, NO_DRAFT)?;
         tags.resize(counts.tags, NO_KEY)?;
         names.resize(counts.names, NO_KEY)?;
+        let mut opens: Vec<OpenRow> = Vec::new(alloc);
+        let mut objects: Vec<ObjectRow> = Vec::new(alloc);
+        opens.resize(counts.opens, NO_OPEN)?;
+        objects.resize(counts.objects, NO_OBJECT)?;
         let mut first_rows: Vec<Tag> = Vec::new(alloc);
         let mut sources: Vec<usize> = Vec::new(alloc);
         first_rows.resize(counts.first_rows, NO_TAG)?;
@@ -216,48 +137,36 @@ impl Schema {
             tags.as_mut_slice(),
             names.as_mut_slice(),
         );
-        let mut tables = tables.with_tags(
+        let tables = tables.with_tags(
             schema.type_tags.as_mut_slice(),
             schema.tags.as_mut_slice(),
             schema.member_tags.as_mut_slice(),
             first_rows.as_mut_slice(),
             sources.as_mut_slice(),
         );
+        let mut tables = tables.with_objects(opens.as_mut_slice(), objects.as_mut_slice());
         let mut lists = [0u32; LISTS];
-        resolve_lists(octets, tape.as_mut_slice(), &mut lists, &mut tables)?;
+        resolve_lists(
+            octets,
+            tape.as_mut_slice(),
+            &mut lists,
+            instances.as_mut_slice(),
+            &mut tables,
+        )?;
         schema.finish_tags(first_rows.as_slice())?;
         let scope = Scope {
             text: octets,
             tape: tape.as_slice(),
             lists: &lists,
+            instances: instances.as_slice(),
         };
-        schema.add_values(alloc, scope)?;
-        Ok(schema)
-    }
-
-    /// Sets the parts of the values after DEFAULT.
-    fn add_values(&mut self, alloc: Global, scope: Scope<'_>) -> Result<(), AllocError> {
         let mut values = Values::new(alloc);
-        let mut found: Vec<Option<Rows>> = Vec::new(alloc);
-        let types = Types {
-            scope,
-            nodes: self.nodes.as_slice(),
-            node_enumerals: self.node_enumerals.as_slice(),
-            members: self.members.as_slice(),
-            member_names: self.member_names.as_slice(),
-            enumerals: self.enumerals.as_slice(),
-        };
-        for default in self.defaults.as_slice() {
-            let rows = values.add_default(types, *default)?;
-            found.push(rows.map(|(from, count)| Rows {
-                from,
-                count: narrow(count),
-            }))?;
-        }
-        self.default_parts = found;
-        self.value_parts = values.parts;
-        self.value_octets = values.octets;
-        Ok(())
+        schema.add_values(alloc, scope, &mut values)?;
+        schema.add_opens(scope, &mut values, opens.as_slice(), objects.as_slice())?;
+        schema.add_copied_opens(sources.as_slice())?;
+        schema.value_parts = values.parts;
+        schema.value_octets = values.octets;
+        Ok(schema)
     }
 
     /// Appends the first tags to the other tags, and the numbers of values to a table of their own.

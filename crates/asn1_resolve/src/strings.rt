@@ -2,11 +2,19 @@
 
 use crate::governed::Types;
 use crate::pieces::Pieces;
-use asn1_definitions::Place;
+use asn1_definitions::{MAX_STEPS, Place};
 use asn1_notation::Item;
 use asn1_oid::ObjectIdentifier;
 use std::alloc::{AllocError, Global};
 use std::str;
+
+/// The characters that end a line (X.680 12.1.6), and those with spaces and tabs.
+const LINE_ENDS: [char; 4] = ['\n', '\r', '\u{b}', '\u{c}'];
+
+const WHITE_SPACE: [char; 6] = [' ', '\t', '\n', '\r', '\u{b}', '\u{c}'];
+
+/// How deep the names of identifiers may be nested.
+const MAX_NESTING: usize = 50;
 
 /// The most bits of a BIT STRING that is written by names.
 const MAX_NAMED: i128 = 1 << 16;
@@ -46,25 +54,40 @@ pub(crate) fn bits_of_digits(
     Ok(Some((octets, count)))
 }
 
-/// Returns the characters between the quotes of a string on one line (X.680 12.14). `None` if it has
-/// several lines, or is no UTF-8.
+/// Returns the characters between the quotes of a string (X.680 12.14). The end of a line, and the white
+/// space before and after it, are no characters of the string. `None` if the text is no UTF-8.
 pub(crate) fn characters_of(alloc: Global, inside: &[u8]) -> Result<Option<String>, AllocError> {
     let Ok(inside) = str::from_utf8(inside) else {
         return Ok(None);
     };
     let mut characters = String::new(alloc);
+    let mut rest = inside;
+    for _ in 0..inside.len() {
+        let Some(end) = rest.find(LINE_ENDS) else {
+            break;
+        };
+        let line = rest.get(..end).unwrap_or("");
+        push_unquoted(&mut characters, line.trim_end_matches([' ', '\t']))?;
+        rest = rest
+            .get(end..)
+            .unwrap_or("")
+            .trim_start_matches(WHITE_SPACE);
+    }
+    push_unquoted(&mut characters, rest)?;
+    Ok(Some(characters))
+}
+
+/// Appends characters, of which two quotes are one.
+fn push_unquoted(characters: &mut String, line: &str) -> Result<(), AllocError> {
     let mut is_quote = false;
-    for character in inside.chars() {
-        if character == '\n' || character == '\r' {
-            return Ok(None);
-        }
+    for character in line.chars() {
         let is_second = character == '"' && is_quote;
         if !is_second {
             characters.push(character)?;
         }
         is_quote = character == '"' && !is_second;
     }
-    Ok(Some(characters))
+    Ok(())
 }
 
 /// Returns the number of an arc by its name, at a level below the root and an arc (X.660 A.2 to A.5).
@@ -145,12 +168,71 @@ impl<'r> Types<'r> {
                 Some(number) => self.scope.number(number, None).ok(),
                 None => {
                     let name = self.scope.text_of(self.scope.entry(piece.index));
-                    return arc_named(name, level, first);
+                    if let Some(arc) = arc_named(name, level, first) {
+                        return Some(arc);
+                    }
+                    self.scope.number(piece, None).ok()
                 }
             },
             _ => None,
         };
         u64::try_from(number?).ok()
+    }
+
+    /// Appends the arcs of an identifier in braces to a text, joined by full stops. A value that is named
+    /// first has the first arcs (X.680 32.3, 33.3). Returns whether each arc has a number or a name of X.660.
+    fn append_arcs(
+        self,
+        text: &mut String,
+        braces: Place,
+        is_relative: bool,
+        depth: usize,
+    ) -> Result<bool, AllocError> {
+        if depth == 0 {
+            return Ok(false);
+        }
+        let mut pieces = Pieces::new(self, braces);
+        let mut first = 0u64;
+        for number in 0..self.scope.most() {
+            let Some(piece) = pieces.next(self) else {
+                break;
+            };
+            // The names of X.660 are those of the first arcs of an OBJECT IDENTIFIER.
+            let level = if is_relative { 2 } else { number };
+            if let Some(arc) = self.arc(piece, level, first) {
+                if number == 0 {
+                    first = arc;
+                }
+                if !text.is_empty() {
+                    text.push('.')?;
+                }
+                write!(text, "{arc}")?;
+                continue;
+            }
+            let Some(inner) = self.named_braces(piece) else {
+                return Ok(false);
+            };
+            if !self.append_arcs(text, inner, is_relative, depth - 1)? {
+                return Ok(false);
+            }
+        }
+        Ok(true)
+    }
+
+    /// Returns the braces of the value that a name in braces is. `None` if it is none.
+    fn named_braces(self, piece: Place) -> Option<Place> {
+        let mut found = piece;
+        for _ in 0..MAX_STEPS {
+            match self.scope.item(found) {
+                Item::Braces => return Some(found),
+                Item::PieceName | Item::ValueReference | Item::ExternalValue => {
+                    let (value, _) = self.scope.named_value(found).ok()?;
+                    found = value;
+                }
+                _ => return None,
+            }
+        }
+        None
     }
 
     /// Returns the contents octets of an OBJECT IDENTIFIER in braces (X.690 8.19). `None` if an arc has
@@ -161,21 +243,8 @@ impl<'r> Types<'r> {
         braces: Place,
     ) -> Result<Option<Vec<u8>>, AllocError> {
         let mut text = String::new(alloc);
-        let mut pieces = Pieces::new(self, braces);
-        let mut first = 0u64;
-        for level in 0..self.scope.most() {
-            let Some(piece) = pieces.next(self) else {
-                break;
-            };
-            let Some(arc) = self.arc(piece, level, first) else {
-                return Ok(None);
-            };
-            if level == 0 {
-                first = arc;
-            } else {
-                text.push('.')?;
-            }
-            write!(text, "{arc}")?;
+        if !self.append_arcs(&mut text, braces, false, MAX_NESTING)? {
+            return Ok(None);
         }
         let identifier = match ObjectIdentifier::parse(alloc, text.as_str()) {
             Ok(identifier) => identifier,
@@ -191,4 +260,40 @@ impl<'r> Types<'r> {
             }
         }
     }
+
+    /// Returns the contents octets of a RELATIVE-OID in braces (X.690 8.20). `None` if an arc has no
+    /// number.
+    pub(crate) fn relative_identifier(
+        self,
+        alloc: Global,
+        braces: Place,
+    ) -> Result<Option<Vec<u8>>, AllocError> {
+        let mut text = String::new(alloc);
+        if !self.append_arcs(&mut text, braces, true, MAX_NESTING)? {
+            return Ok(None);
+        }
+        let mut octets = Vec::new(alloc);
+        for arc in text.as_str().split('.') {
+            let Ok(arc) = arc.parse::<u64>() else {
+                return Ok(None);
+            };
+            push_arc(&mut octets, arc)?;
+        }
+        Ok(Some(octets))
+    }
+}
+
+/// Appends the subidentifier of an arc (X.690 8.20.2): seven bits an octet, of which all but the last one
+/// begin with 1.
+fn push_arc(octets: &mut Vec<u8>, arc: u64) -> Result<(), AllocError> {
+    let mut has_begun = false;
+    for index in 0..10u32 {
+        let shift = 63 - 7 * index;
+        let digit = ((arc >> shift) % 128) as u8;
+        has_begun = has_begun || digit != 0 || shift == 0;
+        if has_begun {
+            octets.push(if shift == 0 { digit } else { digit | 128 })?;
+        }
+    }
+    Ok(())
 }

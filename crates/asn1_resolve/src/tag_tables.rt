@@ -3,7 +3,7 @@
 use crate::alphabet::character_size;
 use crate::builder::{ANY_TAG, Builder, NO_SOURCE};
 use asn1_definitions::{MAX_STEPS, Place, Scope, context};
-use asn1_notation::{Item, NotationError, Problem, Word, narrow, wide};
+use asn1_notation::{Item, NotationError, Problem, Word, narrow};
 use asn1_schema::{Node, Rows};
 use asn1_x690::{CharacterSize, Class, FirstTags, Tag, TypeTags};
 
@@ -44,9 +44,10 @@ pub(crate) fn tag_of_order(order: u64) -> Tag {
     }
 }
 
-/// Returns whether a type is ANY.
+/// Returns whether a type is ANY or an open type.
 pub(crate) fn is_any(scope: Scope<'_>, place: Place) -> bool {
-    scope.item(place) == Item::Plain && scope.entry(place.index).word == Some(Word::Any)
+    scope.is_open(place)
+        || scope.item(place) == Item::Plain && scope.entry(place.index).word == Some(Word::Any)
 }
 
 /// Returns whether a type has no tag: a CHOICE or ANY, before which a tag is explicit (X.680 31.2.7,
@@ -90,7 +91,7 @@ fn has_tag_before_name(scope: Scope<'_>, place: Place) -> Result<bool, NotationE
     let mut found = place;
     let mut is_tagged = false;
     for _ in 0..MAX_STEPS {
-        if scope.entry(found.index).link != 0 {
+        if scope.own_node(found).is_some() {
             return Ok(false);
         }
         match scope.item(found) {
@@ -165,28 +166,31 @@ impl<'m> Builder<'m> {
         Ok(())
     }
 
-    /// Sets the tags of each type that has a node: those with the tags that are written before it.
-    pub(crate) fn add_tags(&mut self, scope: Scope<'_>) -> Result<(), NotationError> {
-        let mut module = 0usize;
+    /// Sets the tags of each type of an instance that has a node: those with the tags that are written
+    /// before it.
+    pub(crate) fn add_tags(
+        &mut self,
+        scope: Scope<'_>,
+        instance: usize,
+    ) -> Result<(), NotationError> {
         let mut tagged_to = 0usize;
-        for index in 0..scope.most() {
-            let place = Place { module, index };
+        let mut walk = scope.walk(instance);
+        for _ in 0..scope.most() {
+            let Some(place) = walk.next(scope) else {
+                break;
+            };
             let item = scope.item(place);
-            if item == Item::Module {
-                module = index;
-            }
             // The types inside a type with a tag come after it, and their tags with it.
-            if !item.is_type() || index < tagged_to {
+            if !item.is_type() || place.index < tagged_to {
                 continue;
             }
             let own = without_tags(scope, place);
             if item == Item::Tagged {
                 tagged_to = own.index.saturating_add(1);
             }
-            let link = scope.entry(own.index).link;
-            if link != 0 {
+            if let Some(node) = scope.own_node(own) {
                 let tags = self.push_tags(scope, place, None)?;
-                self.set_tags(scope, wide(link - 1), place, tags)?;
+                self.set_tags(scope, node, place, tags)?;
             }
         }
         Ok(())
@@ -207,7 +211,7 @@ impl<'m> Builder<'m> {
         }
         let tags = self.push_tags(scope, place, automatic)?;
         let own = without_tags(scope, place);
-        if scope.entry(own.index).link != 0 && !is_included {
+        if scope.own_node(own).is_some() && !is_included {
             self.set_tags(scope, node, place, tags)?;
             return Ok(node);
         }

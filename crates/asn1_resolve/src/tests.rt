@@ -1,3 +1,4 @@
+use crate::problems::problems_of;
 use crate::schema::Schema;
 use asn1_schema::{Length, Node, Part, Span};
 use std::test::Fail;
@@ -116,5 +117,29 @@ fn default_values_have_their_octets(rt: HostRuntime) -> Result<(), Fail> {
     // 1000001 of seven bits; 1.2.840.113549; 1.0.8571, which is 66 * 128 + 123; and C0 F0.
     let expected = [0x82, 42, 134, 72, 134, 247, 13, 40, 194, 123, 0xC0, 0xF0];
     assert!(rt; octets == expected.as_slice());
+    Ok(())
+}
+
+const WRONG: &str = "M DEFINITIONS ::= BEGIN
+A ::= SEQUENCE { a INTEGER b BOOLEAN }
+B ::= SEQUENCE { a A, b Unknown }
+C ::= SEQUENCE { b B, n INTEGER (0..size) }
+size INTEGER ::= 07
+D ::= CHOICE { a INTEGER, b INTEGER }
+E ::= D
+E ::= NULL
+END
+";
+
+/// One problem a definition: line 2 lacks a comma, lines 3 and 5 have one each, and so have 6 and 8. Those
+/// of line 4 are others' problems.
+#[test]
+fn finds_several_problems(rt: HostRuntime) -> Result<(), Fail> {
+    let problems = problems_of(rt.alloc(), WRONG)?;
+    let mut lines: Vec<usize> = Vec::new(rt.alloc());
+    for problem in problems.as_slice() {
+        lines.push(asn1_notation::Report::new(WRONG, *problem).line())?;
+    }
+    assert!(rt; lines.as_slice() == [2usize, 3, 5, 6, 8].as_slice());
     Ok(())
 }

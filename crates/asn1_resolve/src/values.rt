@@ -2,22 +2,35 @@
 
 use crate::builder::DefaultText;
 use crate::governed::{Governed, Types};
+use crate::open::Key;
 use crate::pieces::Pieces;
-use crate::strings::{bits_of_digits, characters_of};
-use asn1_definitions::Place;
-use asn1_notation::{Item, Word};
-use asn1_schema::{Characters, Codes, Node, Part, Presence, Rows, Span};
+use asn1_notation::Item;
+use asn1_schema::{Node, Part, Presence, Rows, Span};
 use std::alloc::{AllocError, Global};
 
 /// How deep a value may be nested.
 const DEPTH: usize = 32;
 
+/// How many values those of a text may have in all, with the default values that they are compared with.
+const MAX_VALUES: usize = 1 << 20;
+
 /// Values in parts, and the octets in which they have their strings.
 #[derive(Drop)]
 pub(crate) struct Values {
-    alloc: Global,
+    pub(crate) alloc: Global,
     pub(crate) parts: Vec<Part>,
     pub(crate) octets: Vec<u8>,
+    /// How many values may still be read.
+    left: usize,
+}
+
+/// Returns the value of a DEFAULT. `None` if it has none.
+fn governed_by(types: Types<'_>, default: DefaultText) -> Option<Governed> {
+    Some(Governed {
+        value: types.scope.value_in(default.at)?,
+        of: default.of,
+        node: default.node,
+    })
 }
 
 impl Values {
@@ -27,6 +40,7 @@ impl Values {
             alloc,
             parts: Vec::new(alloc),
             octets: Vec::new(alloc),
+            left: MAX_VALUES,
         }
     }
 
@@ -37,15 +51,20 @@ impl Values {
         types: Types<'_>,
         default: DefaultText,
     ) -> Result<Option<(usize, usize)>, AllocError> {
+        match governed_by(types, default) {
+            Some(governed) => self.add(types, governed),
+            None => Ok(None),
+        }
+    }
+
+    /// Appends the parts of a value. Returns where they are; `None` if the value is not read, or is none of
+    /// its type.
+    pub(crate) fn add(
+        &mut self,
+        types: Types<'_>,
+        governed: Governed,
+    ) -> Result<Option<(usize, usize)>, AllocError> {
         let from = self.parts.len();
-        let Some(value) = types.scope.value_in(default.at) else {
-            return Ok(None);
-        };
-        let governed = Governed {
-            value,
-            of: default.of,
-            node: default.node,
-        };
         if self.value(types, governed, DEPTH)? {
             return Ok(Some((from, self.parts.len().saturating_sub(from))));
         }
@@ -54,7 +73,7 @@ impl Values {
     }
 
     /// Appends octets. Returns their bits.
-    fn add(&mut self, octets: &[u8]) -> Result<Span, AllocError> {
+    pub(crate) fn add_octets(&mut self, octets: &[u8]) -> Result<Span, AllocError> {
         let at = self.octets.len().saturating_mul(8);
         self.octets.extend_from_slice(octets)?;
         let count = octets.len().saturating_mul(8);
@@ -80,9 +99,10 @@ impl Values {
         governed: Governed,
         depth: usize,
     ) -> Result<bool, AllocError> {
-        if depth == 0 {
+        if depth == 0 || self.left == 0 {
             return Ok(false);
         }
+        self.left -= 1;
         let Some(found) = types.through_names(governed) else {
             return Ok(false);
         };
@@ -153,16 +173,64 @@ impl Values {
                 self.parts.push(Part::Absent)?;
                 Ok(true)
             }
-            // A component that is written with its own default value must be absent.
-            Some(_) if matches!(member.presence, Presence::Default { .. }) => Ok(false),
             Some((name, value)) => {
                 let Some(of) = types.component(governed.of, name) else {
                     return Ok(false);
                 };
                 let node = member.node;
-                self.value(types, Governed { value, of, node }, depth)
+                let from = self.parts.len();
+                if !self.value(types, Governed { value, of, node }, depth)? {
+                    return Ok(false);
+                }
+                match member.presence {
+                    Presence::Default { value } => self.leave_out(types, from, value, depth),
+                    _ => Ok(true),
+                }
             }
         }
+    }
+
+    /// Makes the component whose parts are those from an index on absent, if they are those of its default
+    /// value. Returns whether the default value is read.
+    #[cycle(values)]
+    fn leave_out(
+        &mut self,
+        types: Types<'_>,
+        from: usize,
+        default: usize,
+        depth: usize,
+    ) -> Result<bool, AllocError> {
+        let Some(default) = types.defaults.get(default).copied() else {
+            return Ok(false);
+        };
+        let end = self.parts.len();
+        let Some(governed) = governed_by(types, default) else {
+            return Ok(false);
+        };
+        if !self.value(types, governed, depth)? {
+            return Ok(false);
+        }
+        let is_default = self.has_equal(from, end);
+        self.parts.truncate(end);
+        if is_default {
+            self.parts.truncate(from);
+            self.parts.push(Part::Absent)?;
+        }
+        Ok(true)
+    }
+
+    /// Returns whether the parts from one index to another are those from there on.
+    fn has_equal(&self, from: usize, end: usize) -> bool {
+        let parts = self.parts.as_slice();
+        let one = Key {
+            parts: parts.get(from..end).unwrap_or(&[]),
+            octets: self.octets.as_slice(),
+        };
+        let two = Key {
+            parts: parts.get(end..).unwrap_or(&[]),
+            octets: self.octets.as_slice(),
+        };
+        one.parts.len() == two.parts.len() && one.begins_with(two)
     }
 
     /// Appends the parts of a SEQUENCE OF or a SET OF.
@@ -235,114 +303,5 @@ impl Values {
         self.parts.push(Part::Chosen(index))?;
         let node = member.node;
         self.value(types, Governed { value, of, node }, depth)
-    }
-
-    /// Returns the part of a value of one part. `None` if it is not read, or is none of its type.
-    fn leaf(
-        &mut self,
-        types: Types<'_>,
-        governed: Governed,
-        node: Node,
-    ) -> Result<Option<Part>, AllocError> {
-        let entry = types.scope.entry(governed.value.index);
-        match node {
-            Node::Null if entry.word == Some(Word::Null) => Ok(Some(Part::Null)),
-            Node::Boolean if entry.word == Some(Word::True) => Ok(Some(Part::Truth(true))),
-            Node::Boolean if entry.word == Some(Word::False) => Ok(Some(Part::Truth(false))),
-            Node::Integer | Node::IntegerAtLeast { .. } | Node::IntegerBetween { .. } => {
-                let number = types.number(governed.of, governed.value);
-                Ok(number.map(Part::Integer))
-            }
-            Node::Enumerated { .. } => {
-                let index = types.enumeral(governed.node, governed.value);
-                Ok(index.map(Part::Enumerated))
-            }
-            Node::BitString { .. } => self.bit_string(types, governed),
-            Node::OctetString { .. } => self.octet_string(types, governed),
-            Node::ObjectIdentifier if entry.item == Item::Braces => {
-                match types.identifier(self.alloc, governed.value)? {
-                    None => Ok(None),
-                    Some(contents) => Ok(Some(Part::Octets(self.add(contents.as_slice())?))),
-                }
-            }
-            Node::Text { .. } | Node::Utf8String if entry.item == Item::Text => {
-                self.text(types.scope.text_of(entry), node)
-            }
-            _ => Ok(None),
-        }
-    }
-
-    /// Returns the bits that a binary or hexadecimal string is.
-    fn digits(
-        &self,
-        types: Types<'_>,
-        value: Place,
-    ) -> Result<Option<(Vec<u8>, usize)>, AllocError> {
-        let entry = types.scope.entry(value.index);
-        let width = match entry.item {
-            Item::Bits => 1,
-            Item::Hex => 4,
-            _ => return Ok(None),
-        };
-        bits_of_digits(self.alloc, types.scope.text_of(entry), width)
-    }
-
-    /// Returns the part of a BIT STRING.
-    fn bit_string(
-        &mut self,
-        types: Types<'_>,
-        governed: Governed,
-    ) -> Result<Option<Part>, AllocError> {
-        let found = if types.scope.item(governed.value) == Item::Braces {
-            types.named_bits(self.alloc, governed.of, governed.value)?
-        } else {
-            self.digits(types, governed.value)?
-        };
-        match found {
-            None => Ok(None),
-            Some((octets, count)) => {
-                let at = self.add(octets.as_slice())?.at;
-                Ok(Some(Part::Bits(Span { at, count })))
-            }
-        }
-    }
-
-    /// Returns the part of an OCTET STRING. ANY has no value here.
-    fn octet_string(
-        &mut self,
-        types: Types<'_>,
-        governed: Governed,
-    ) -> Result<Option<Part>, AllocError> {
-        if types.scope.item(governed.of) != Item::OctetString {
-            return Ok(None);
-        }
-        match self.digits(types, governed.value)? {
-            None => Ok(None),
-            Some((octets, _)) => Ok(Some(Part::Octets(self.add(octets.as_slice())?))),
-        }
-    }
-
-    /// Returns the part of a string of characters, by the text between its quotes.
-    fn text(&mut self, inside: &[u8], node: Node) -> Result<Option<Part>, AllocError> {
-        let Some(characters) = characters_of(self.alloc, inside)? else {
-            return Ok(None);
-        };
-        let characters = characters.as_str();
-        if let Node::Utf8String = node {
-            return Ok(Some(Part::Octets(self.add(characters.as_bytes())?)));
-        }
-        let at = self.octets.len().saturating_mul(8);
-        let mut count = 0usize;
-        for character in characters.chars() {
-            let number: u32 = character.into();
-            self.add(number.to_be_bytes().as_slice())?;
-            count = count.saturating_add(1);
-        }
-        Ok(Some(Part::Text(Characters {
-            at,
-            count,
-            width: 32,
-            codes: Codes::Numbers,
-        })))
     }
 }

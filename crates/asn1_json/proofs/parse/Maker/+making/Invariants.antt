@@ -24,3 +24,6 @@ decreases-list l = 8 * l.depth + 1
 
 abbrev pub decreases-choice : goal.decreases-choice
 decreases-choice l = 8 * l.depth + 1
+
+abbrev pub decreases-open : goal.decreases-open
+decreases-open l = 8 * l.depth + 1

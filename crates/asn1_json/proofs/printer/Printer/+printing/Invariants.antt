@@ -21,3 +21,6 @@ decreases-list l = 8 * l.depth + 1
 
 abbrev pub decreases-choice : goal.decreases-choice
 decreases-choice l = 8 * l.depth + 1
+
+abbrev pub decreases-contents : goal.decreases-contents
+decreases-contents l = 8 * l.depth + 1

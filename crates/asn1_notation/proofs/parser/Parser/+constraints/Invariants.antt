@@ -24,3 +24,9 @@ decreases-inner_constraint l = 8 * l.depth + 2
 
 abbrev pub decreases-applied : goal.decreases-applied
 decreases-applied l = 8 * l.depth + 1
+
+abbrev pub decreases-dotted : goal.decreases-dotted
+decreases-dotted l = 8 * l.depth + 1
+
+abbrev pub decreases-marker : goal.decreases-marker
+decreases-marker l = 8 * l.depth + 4

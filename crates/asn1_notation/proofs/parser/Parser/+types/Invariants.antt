@@ -21,3 +21,18 @@ decreases-tagged l = 8 * l.depth + 1
 
 abbrev pub decreases-type_constraint : goal.decreases-type_constraint
 decreases-type_constraint l = 8 * l.depth + 1
+
+abbrev pub decreases-reference : goal.decreases-reference
+decreases-reference l = 8 * l.depth + 4
+
+abbrev pub decreases-arguments : goal.decreases-arguments
+decreases-arguments l = 8 * l.depth + 3
+
+abbrev pub decreases-argument : goal.decreases-argument
+decreases-argument l = 8 * l.depth + 2
+
+abbrev pub decreases-object_braces : goal.decreases-object_braces
+decreases-object_braces l = 8 * l.depth + 0
+
+abbrev pub decreases-object_piece : goal.decreases-object_piece
+decreases-object_piece l = 8 * l.depth + 1

@@ -5,13 +5,16 @@ abbrev pub decreases-value : goal.decreases-value
 decreases-value l = 8 * l.depth + 0
 
 abbrev pub decreases-sequence : goal.decreases-sequence
-decreases-sequence l = 8 * l.depth + 2
+decreases-sequence l = 8 * l.depth + 3
 
 abbrev pub decreases-component : goal.decreases-component
-decreases-component l = 8 * l.depth + 1
+decreases-component l = 8 * l.depth + 2
 
 abbrev pub decreases-list : goal.decreases-list
 decreases-list l = 8 * l.depth + 1
 
 abbrev pub decreases-choice : goal.decreases-choice
 decreases-choice l = 8 * l.depth + 1
+
+abbrev pub decreases-leave_out : goal.decreases-leave_out
+decreases-leave_out l = 8 * l.depth + 1

@@ -1,0 +1,148 @@
+//! The room that the tables of a text take.
+
+use crate::builder::{Builder, DefaultText, Enumeral, NO_NAME, NamedType};
+use crate::error::SchemaError;
+use crate::modules::resolve;
+use crate::objects::{ObjectRow, OpenRow};
+use asn1_definitions::{Instance, LISTS, NO_INSTANCE, Place, find_instances, index_definitions};
+use asn1_notation::{Entry, Item, NO_ENTRY, NotationError, Sink, parse};
+use asn1_schema::Range;
+use std::alloc::Global;
+
+pub(crate) const NO_RANGE: Range = Range { first: 0, last: 0 };
+
+pub(crate) const NO_ENUMERAL: Enumeral = Enumeral {
+    name: NO_NAME,
+    number: 0,
+};
+
+pub(crate) const NO_PLACE: Place = Place {
+    module: 0,
+    index: 0,
+    instance: 0,
+};
+
+pub(crate) const NO_DEFAULT: DefaultText = DefaultText {
+    value: NO_NAME,
+    node: 0,
+    at: NO_PLACE,
+    of: NO_PLACE,
+};
+
+pub(crate) const NO_OPEN: OpenRow = OpenRow {
+    node: 0,
+    sibling: NO_NAME,
+    of: NO_PLACE,
+    key_node: 0,
+    from: 0,
+    count: 0,
+};
+
+pub(crate) const NO_OBJECT: ObjectRow = ObjectRow {
+    key: NO_PLACE,
+    node: 0,
+};
+
+/// How often the room for instances may double.
+const ROUNDS: usize = 18;
+
+pub(crate) const NO_TYPE: NamedType = NamedType {
+    module: NO_NAME,
+    name: NO_NAME,
+    node: 0,
+};
+
+/// How many rows each table has.
+#[derive(Clone, Copy)]
+pub(crate) struct Counts {
+    pub(crate) nodes: usize,
+    pub(crate) members: usize,
+    pub(crate) ranges: usize,
+    pub(crate) enumerals: usize,
+    pub(crate) defaults: usize,
+    pub(crate) types: usize,
+    pub(crate) drafts: usize,
+    pub(crate) tags: usize,
+    pub(crate) names: usize,
+    pub(crate) tag_rows: usize,
+    pub(crate) first_rows: usize,
+    pub(crate) opens: usize,
+    pub(crate) objects: usize,
+}
+
+/// Returns how many rows the tables of a text have.
+pub(crate) fn counts_of(
+    text: &[u8],
+    tape: &mut [Entry],
+    instances: &mut [Instance],
+) -> Result<Counts, NotationError> {
+    let mut tables = Builder::new(
+        &mut [],
+        &mut [],
+        &mut [],
+        &mut [],
+        &mut [],
+        &mut [],
+        &mut [],
+        &mut [],
+        &mut [],
+        &mut [],
+        &mut [],
+        &mut [],
+    );
+    resolve(text, tape, instances, &mut tables)?;
+    Ok(Counts {
+        nodes: tables.nodes.most(),
+        members: tables.members.most(),
+        ranges: tables.ranges.most(),
+        enumerals: tables.enumerals.most(),
+        defaults: tables.defaults.most(),
+        types: tables.types.most(),
+        drafts: tables.drafts.most(),
+        tags: tables.tags.most(),
+        names: tables.names.most(),
+        tag_rows: tables.tag_rows.most(),
+        first_rows: tables.first_rows.most(),
+        opens: tables.opens.most(),
+        objects: tables.objects.most(),
+    })
+}
+
+/// Returns the entries of a text.
+pub(crate) fn tape_of(alloc: Global, text: &[u8]) -> Result<Vec<Entry>, SchemaError> {
+    let mut tape: Vec<Entry> = Vec::new(alloc);
+    let count = parse(text, &mut [])?;
+    tape.resize(count, NO_ENTRY)?;
+    parse(text, tape.as_mut_slice())?;
+    Ok(tape)
+}
+
+/// Returns room for the instances of the parameterized types of a text.
+pub(crate) fn instances_of(
+    alloc: Global,
+    text: &[u8],
+    tape: &mut [Entry],
+) -> Result<Vec<Instance>, SchemaError> {
+    let mut lists = [0u32; LISTS];
+    index_definitions(text, tape, &mut lists)?;
+    let mut instances: Vec<Instance> = Vec::new(alloc);
+    let mut room = 1usize;
+    for entry in tape.iter() {
+        if entry.item == Item::Arguments {
+            room = room.saturating_add(1);
+        }
+    }
+    // The room doubles until it holds all.
+    for _ in 0..ROUNDS {
+        instances.resize(room, NO_INSTANCE)?;
+        let mut found = Sink::new(instances.as_mut_slice());
+        find_instances(text, tape, &lists, &mut found)?;
+        let count = found.count();
+        if count <= room {
+            instances.truncate(count);
+            break;
+        }
+        room = count.saturating_mul(2);
+    }
+    Ok(instances)
+}
