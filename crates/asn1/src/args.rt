@@ -9,6 +9,8 @@ use std::alloc::{AllocError, Global};
 /// The names of rules and of forms.
 static RULES: [&str; 3] = ["der", "uper", "aper"];
 
+static PRINTED: [&str; 2] = ["json", "text"];
+
 static FORMS: [&str; 4] = ["binary", "hex", "base64", "pem"];
 
 /// The greatest depth that may be chosen, and the most parts.
@@ -64,6 +66,8 @@ pub struct Options<'m> {
     pub from: Option<Form>,
     /// The form of the output.
     pub to: Form,
+    /// Whether values are printed in the value notation of X.680, and not as JSON.
+    pub is_notation: bool,
     /// Whether octets may follow a value.
     pub is_prefix: bool,
     /// A value may be nested less deep than this.
@@ -93,6 +97,7 @@ impl<'m> Options<'m> {
             type_name: value_of(matches, "type"),
             from: Form::named(from),
             to: Form::named(to).unwrap_or(Form::Binary),
+            is_notation: value_of(matches, "to") == "text",
             is_prefix: matches.get_flag("rest"),
             depth: matches.get_one("depth").unwrap_or(DEPTH),
             parts: matches.get_one("parts").unwrap_or(PARTS),
@@ -129,6 +134,13 @@ fn form<'a>(alloc: Global, name: &'a str, help: &'a str) -> Arg<'a> {
     option(alloc, name, "FORM", help).value_parser(ValueParser::Names(names))
 }
 
+/// Returns the option that says how values are printed.
+fn printed<'a>(alloc: Global) -> Arg<'a> {
+    let names: &'a [&'a str] = &PRINTED;
+    let help = "How values are printed: JSON, or the value notation of X.680 [default: json]";
+    option(alloc, "to", "HOW", help).value_parser(ValueParser::Names(names))
+}
+
 /// Returns the option that names a file to read.
 fn input<'a>(alloc: Global) -> Arg<'a> {
     let help = "The file to read in place of standard input";
@@ -162,11 +174,12 @@ fn decode<'a>(alloc: Global) -> Result<Command<'a>, AllocError> {
     let rest = "Permit octets after the value";
     let most = "The most parts of a value: components, items and alternatives [default: 1000000]";
     Command::new(alloc, "decode")
-        .about("Print the JSON of the values that octets encode")
+        .about("Print the values that octets encode")
         .after_help("Example: asn1 decode --rules uper --type Person people.asn1 < person.bin")
         .arg(rules(alloc))?
         .arg(type_name(alloc))?
         .arg(form(alloc, "from", from))?
+        .arg(printed(alloc))?
         .arg(input(alloc))?
         .arg(
             Arg::new(alloc, "rest")

@@ -1,11 +1,11 @@
-//! From octets to JSON.
+//! From octets to text.
 
 ghost use Rattle.std.specs.Prelude.{◌*◌, ◌^◌, ◌<◌, length};
 
 use crate::codec::{Codec, Fault, FaultKind, Target};
 use crate::stop::Stop;
 use crate::types::words_of;
-use asn1_json::{PrintError, print_value};
+use asn1_json::{Contents, PrintError, print_in_notation, print_with_contents};
 use asn1_resolve::Schema;
 use asn1_schema::Part;
 use asn1_schema_values::Path;
@@ -30,15 +30,29 @@ pub struct Decoder<'s> {
     pub target: Target,
     /// The most parts of a value.
     pub parts: usize,
+    /// Whether values are printed in the value notation of X.680, and not as JSON.
+    pub is_notation: bool,
 }
 
 impl<'s> Decoder<'s> {
-    /// Returns the JSON of the value that octets encode, followed by the end of a line.
+    /// Returns the JSON or the value notation of the value that octets encode, followed by the end of a
+    /// line.
     ///
     /// # Errors
     ///
     /// Returns the first fault in words, or what exceeds a limit.
-    pub fn json_of(&self, octets: &[u8]) -> Result<Vec<u8>, Stop> {
+    pub fn text_of(&self, octets: &[u8]) -> Result<Vec<u8>, Stop> {
+        let parts = self.parts_of(octets)?;
+        let contents = self.opened(octets, parts.as_slice())?;
+        self.print(octets, parts.as_slice(), contents.as_slice())
+    }
+
+    /// Returns the parts of the value that octets encode.
+    ///
+    /// # Errors
+    ///
+    /// Returns the first fault in words, or what exceeds a limit.
+    pub fn parts_of(&self, octets: &[u8]) -> Result<Vec<Part>, Stop> {
         if octets.len() > MOST_OCTETS {
             return Err(Stop::Memory);
         }
@@ -57,7 +71,7 @@ impl<'s> Decoder<'s> {
             count = self.decode(octets, parts.as_mut_slice())?;
         }
         parts.truncate(count);
-        self.print(octets, parts.as_slice())
+        Ok(parts)
     }
 
     /// Decodes a value. Returns how many parts it has.
@@ -80,9 +94,16 @@ impl<'s> Decoder<'s> {
     }
 
     /// Prints the value of parts.
-    fn print(&self, octets: &[u8], parts: &[Part]) -> Result<Vec<u8>, Stop> {
+    fn print(&self, octets: &[u8], parts: &[Part], contents: &[Contents]) -> Result<Vec<u8>, Stop> {
         let Target { node, depth, .. } = self.target;
-        match print_value(self.alloc, self.schema, octets, parts, depth, node) {
+        let schema = self.schema;
+        let printed = if self.is_notation {
+            let text = print_in_notation(self.alloc, schema, octets, parts, contents, depth, node);
+            text.map(String::into_bytes)
+        } else {
+            print_with_contents(self.alloc, schema, octets, parts, contents, depth, node)
+        };
+        match printed {
             Ok(mut text) => {
                 text.push(b'\n')?;
                 Ok(text)

@@ -50,6 +50,17 @@ struct Item {
     to: usize,
 }
 
+/// Removes the additions among which an absent part is, if all of them are absent.
+fn leave_out_additions(draft: &mut Draft, part: usize) {
+    let parts = draft.parts();
+    let Some(additions) = holder_of(parts, part) else {
+        return;
+    };
+    if let Some(sequence) = holder_of(parts, additions) {
+        draft.remove_absent_additions(sequence, additions);
+    }
+}
+
 /// What encodes values of a type.
 #[derive(Clone, Copy)]
 pub struct Encoder<'s> {
@@ -162,6 +173,7 @@ impl<'s> Encoder<'s> {
                 Rejection::Misfit(MisfitKind::DefaultValue) => {
                     let end = end_of(draft.parts(), found.part);
                     draft.set_absent(found.part, end.unwrap_or(found.part));
+                    leave_out_additions(draft, found.part);
                     return Ok(());
                 }
                 Rejection::Misfit(MisfitKind::NotAscending) => {

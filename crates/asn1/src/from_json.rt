@@ -1,13 +1,17 @@
 //! From JSON to octets.
 
+use crate::codec::Target;
 use crate::encode::{EncodeError, Encoder};
 use crate::places::line_and_column;
 use crate::reasons::{Reason, is_long};
 use crate::stop::Stop;
-use asn1_json::{Draft, JsonProblem, Tree, TreeError, parse_value, path_of};
+use asn1_json::{Draft, JsonProblem, Tree, TreeError, parse_value_at, path_of};
 use json::Scratch;
 use std::alloc::{AllocError, Global};
 use std::{fmt, str};
+
+/// How deep open types may be nested in the contents of others.
+const MAX_OPEN: usize = 50;
 
 /// A text of JSON and its items.
 #[derive(Clone, Copy)]
@@ -41,19 +45,20 @@ impl<'a, 't> Json<'a, 't> {
         format!(in self.alloc; "{name}:{line}:{column}: {path}: {problem}")
     }
 
-    /// Makes the parts of the value.
+    /// Makes the parts of the value of an item.
     ///
     /// # Errors
     ///
     /// Returns the first item that does not fit the type.
-    fn draft(&self, encoder: &Encoder<'_>) -> Result<Draft, Stop> {
+    fn draft(&self, encoder: &Encoder<'_>, item: usize) -> Result<Draft, Stop> {
         let target = encoder.target;
-        match parse_value(
+        match parse_value_at(
             self.alloc,
             encoder.schema,
             self.tree,
             target.depth,
             target.node,
+            item,
         ) {
             Ok(draft) => Ok(draft),
             Err(error) if error.problem == JsonProblem::Memory => Err(Stop::Memory),
@@ -67,7 +72,36 @@ impl<'a, 't> Json<'a, 't> {
     ///
     /// Returns the first item that does not fit the type.
     fn encode(&self, encoder: &Encoder<'_>) -> Result<Vec<u8>, Stop> {
-        let mut draft = self.draft(encoder)?;
+        self.encode_item(encoder, 0, MAX_OPEN)
+    }
+
+    /// Encodes the value of an item. Open types may be nested less deep than `depth`.
+    ///
+    /// # Errors
+    ///
+    /// Returns the first item that does not fit the type.
+    fn encode_item(
+        &self,
+        encoder: &Encoder<'_>,
+        item: usize,
+        depth: usize,
+    ) -> Result<Vec<u8>, Stop> {
+        if depth == 0 {
+            return Err(self.error_at(item, JsonProblem::TooDeep));
+        }
+        let mut draft = self.draft(encoder, item)?;
+        let pending = Vec::from_slice(self.alloc, draft.pending())?;
+        for open in pending.as_slice() {
+            let inner = Encoder {
+                target: Target {
+                    node: open.node,
+                    ..encoder.target
+                },
+                ..*encoder
+            };
+            let octets = self.encode_item(&inner, open.item, depth - 1)?;
+            draft.set_octets(open.part, octets.as_slice())?;
+        }
         match encoder.encode(&mut draft) {
             Ok(octets) => Ok(octets),
             Err(EncodeError::Memory) => Err(Stop::Memory),

@@ -9,6 +9,7 @@ mod encode;
 mod forms;
 mod from_json;
 mod modules;
+mod opened;
 mod pem;
 mod places;
 mod reasons;

@@ -3,7 +3,7 @@
 use crate::stop::Stop;
 use asn1_defaults::DefaultError;
 use asn1_notation::{NotationError, Problem, Report};
-use asn1_resolve::{Schema, SchemaError};
+use asn1_resolve::{MAX_PROBLEMS, Schema, SchemaError, problems_of};
 use std::alloc::{AllocError, Global};
 
 /// A file of modules.
@@ -85,13 +85,30 @@ impl<'a> Modules<'a> {
     ///
     /// # Errors
     ///
-    /// Returns the report of the first problem.
+    /// Returns the reports of the problems.
     pub fn schema(&self) -> Result<Schema, Stop> {
         match Schema::parse(self.alloc, self.text.as_str()) {
             Ok(schema) => Ok(schema),
-            Err(SchemaError::Notation(error)) => Err(Stop::call(self.report(error))),
+            Err(SchemaError::Notation(_)) => Err(Stop::call(self.reports())),
             Err(SchemaError::Memory) => Err(Stop::Memory),
         }
+    }
+
+    /// Returns the reports of the problems, one after another.
+    fn reports(&self) -> Result<String, AllocError> {
+        let problems = problems_of(self.alloc, self.text.as_str())?;
+        let mut text = String::new(self.alloc);
+        for problem in problems.as_slice() {
+            if !text.is_empty() {
+                text.push('\n')?;
+            }
+            let report = self.report(*problem)?;
+            text.push_str(report.as_str())?;
+        }
+        if MAX_PROBLEMS <= problems.len() {
+            text.push_str("\nthe problems after these are not shown")?;
+        }
+        Ok(text)
     }
 
     /// Returns why default values have no encodings.

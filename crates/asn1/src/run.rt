@@ -228,9 +228,10 @@ fn decode<R: Runtime + AllocGlobal>(
         codec: &codec,
         target,
         parts: options.parts,
+        is_notation: options.is_notation,
     };
     for (index, value) in values.as_slice().iter().enumerate() {
-        match decoder.json_of(value.as_slice()) {
+        match decoder.text_of(value.as_slice()) {
             Ok(text) => write_whole(rt, text.as_slice())?,
             Err(Stop::Input(text)) if values.len() > 1 => {
                 let number = index.saturating_add(1);

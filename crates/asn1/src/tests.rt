@@ -228,8 +228,9 @@ fn decoded(
         codec: &codec,
         target,
         parts,
+        is_notation: false,
     };
-    Ok(decoder.json_of(octets))
+    Ok(decoder.text_of(octets))
 }
 
 // The octets are those of Erlang's asn1ct.
@@ -270,6 +271,85 @@ fn a_fault_has_its_offset_and_its_component(rt: HostRuntime) -> Result<(), Fail>
             Err(Stop::Input(text)) => assert!(rt; text.as_str() == wanted),
             _ => return Err("no error".into()),
         }
+    }
+    Ok(())
+}
+
+const OBJECTS: &str = "Objects DEFINITIONS AUTOMATIC TAGS ::= BEGIN
+KIND ::= CLASS { &id INTEGER (0..255) UNIQUE, &Type } WITH SYNTAX { ID &id TYPE &Type }
+Kinds KIND ::= { { ID 1 TYPE Pair } | { ID 2 TYPE Thing {{Kinds}} }, ... }
+Thing {KIND:Set} ::= SEQUENCE { id KIND.&id ({Set}), value KIND.&Type ({Set}{@id}) }
+Pair ::= SEQUENCE { a INTEGER (0..255), b BOOLEAN DEFAULT FALSE, ..., c BOOLEAN DEFAULT TRUE }
+Any ::= Thing {{Kinds}}
+END
+";
+
+// An open type has a length octet and whole octets (X.691 11.2). Of the object 7 the schema knows nothing.
+#[test]
+fn objects_tell_the_contents_of_open_types(rt: HostRuntime) -> Result<(), Fail> {
+    let alloc = rt.alloc();
+    for (json, wanted) in [
+        (
+            "{\"id\": 1, \"value\": {\"containing\": {\"a\": 5, \"b\": false, \"c\": true}}}",
+            [1, 2, 0x01, 0x40].as_slice(),
+        ),
+        (
+            "{\"id\": 2, \"value\": {\"containing\": {\"id\": 7, \"value\": \"ABCD\"}}}",
+            [2, 4, 7, 2, 0xAB, 0xCD].as_slice(),
+        ),
+        (
+            "{\"value\": \"0140\", \"id\": 1}",
+            [1, 2, 0x01, 0x40].as_slice(),
+        ),
+    ] {
+        let octets = encoded(alloc, OBJECTS, "Any", json)??;
+        assert!(rt; octets.as_slice() == wanted);
+    }
+    match encoded(
+        alloc,
+        OBJECTS,
+        "Any",
+        "{\"id\": 7, \"value\": {\"containing\": 5}}",
+    )? {
+        Err(Stop::Input(text)) => {
+            let wanted =
+                "a.json:1:20: $.value: expected hexadecimal digits, since no object has this value";
+            assert!(rt; text.as_str() == wanted);
+        }
+        _ => return Err("no error".into()),
+    }
+    Ok(())
+}
+
+/// X.681 14.6: a value of an open type follows the name of its type.
+#[test]
+fn contents_are_printed_in_the_value_notation(rt: HostRuntime) -> Result<(), Fail> {
+    let alloc = rt.alloc();
+    let schema = Schema::parse(alloc, OBJECTS)?;
+    let node = node_of(&schema, "Any").ok_or("no type")?;
+    let codec = Codec::new(alloc, &schema, node, Rules::Uper)?;
+    let target = Target {
+        node,
+        depth: 50,
+        is_prefix: false,
+    };
+    let decoder = Decoder {
+        alloc,
+        schema: &schema,
+        codec: &codec,
+        target,
+        parts: 100,
+        is_notation: true,
+    };
+    let text = decoder.text_of(&[1, 2, 0x01, 0x40])?;
+    let wanted = b"{\n  id 1,\n  value Pair : {\n    a 5\n  }\n}\n";
+    assert!(rt; text.as_slice() == wanted.as_slice());
+    match decoder.text_of(&[1, 1, 0x01]) {
+        Err(Stop::Input(text)) => {
+            let wanted = "in the contents of an open type: offset 0, bit 2, a: bits are missing";
+            assert!(rt; text.as_str() == wanted);
+        }
+        _ => return Err("no error".into()),
     }
     Ok(())
 }

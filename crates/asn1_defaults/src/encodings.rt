@@ -101,7 +101,7 @@ impl DefaultEncodings {
             octets: Vec::new(alloc),
             spans: Vec::new(alloc),
         };
-        let is_reached = reached_from(alloc, schema.tables(), node)?;
+        let is_reached = reached_from(alloc, schema, node)?;
         let mut probe = Probe::new(alloc, schema)?;
         for (index, default) in schema.defaults().iter().enumerate() {
             let is_wanted = is_reached.as_slice().get(default.node).copied();

@@ -1,5 +1,6 @@
 //! The types that a type leads to.
 
+use asn1_resolve::Schema;
 use asn1_schema::{Node, Rows, Tables};
 use std::alloc::{AllocError, Global};
 
@@ -21,6 +22,16 @@ impl Visits {
         Ok(())
     }
 
+    /// Adds the types that the contents of an open type may have.
+    fn add_objects(&mut self, schema: &Schema, node: usize) -> Result<(), AllocError> {
+        if let Some(open) = schema.open_type(node) {
+            for object in schema.objects_of(open) {
+                self.add(object.node)?;
+            }
+        }
+        Ok(())
+    }
+
     fn add_members(&mut self, tables: Tables<'_>, rows: Rows) -> Result<(), AllocError> {
         let end = rows.from.saturating_add(rows.count as usize);
         for member in tables.members.get(rows.from..end).unwrap_or(&[]) {
@@ -30,12 +41,13 @@ impl Visits {
     }
 }
 
-/// Returns of each node whether a type leads to it.
+/// Returns of each node whether a type leads to it, also as the contents of an open type.
 pub(crate) fn reached_from(
     alloc: Global,
-    tables: Tables<'_>,
+    schema: &Schema,
     node: usize,
 ) -> Result<Vec<bool>, AllocError> {
+    let tables = schema.tables();
     let mut visits = Visits {
         left: Vec::new(alloc),
         is_visited: Vec::new(alloc),
@@ -64,6 +76,7 @@ pub(crate) fn reached_from(
             }
             Some(Node::SequenceOf { item, .. } | Node::SetOf { item, .. }) => visits.add(*item)?,
             Some(Node::Open { inner }) => visits.add(*inner)?,
+            Some(Node::OctetString { .. }) => visits.add_objects(schema, next)?,
             _ => {}
         }
     }
