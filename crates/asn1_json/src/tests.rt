@@ -1,6 +1,7 @@
 use crate::decimal::minimal_of;
 use crate::parse::parse_value;
 use crate::print::{print_in_notation, print_value};
+use crate::reals::{Real, append_decimal, append_float, real_of};
 use crate::tree::Tree;
 use asn1_resolve::Schema;
 use asn1_schema::Part;
@@ -14,6 +15,11 @@ Record ::= SEQUENCE {
     name IA5String OPTIONAL,
     bits BIT STRING,
     kind ENUMERATED { red, green },
+    from UTCTime,
+    to GeneralizedTime,
+    size REAL,
+    price REAL,
+    most REAL,
     list SEQUENCE OF CHOICE { a NULL, b BOOLEAN }
 }
 END
@@ -27,6 +33,13 @@ const RECORD: &str = "{
     \"length\": 3
   },
   \"kind\": \"green\",
+  \"from\": \"991231235959Z\",
+  \"to\": \"20000229120000.5Z\",
+  \"size\": -1.5,
+  \"price\": {
+    \"base10Value\": 1995E-2
+  },
+  \"most\": \"INF\",
   \"list\": [
     {
       \"a\": null
@@ -37,12 +50,17 @@ const RECORD: &str = "{
   ]
 }";
 
-/// The same value (X.680 19.9, 20.8, 22.9, 25.18, 26.3, 29.11, 41.8).
+/// The same value (X.680 19.9, 20.8, 21.6, 22.9, 25.18, 26.3, 29.11, 41.8).
 const NOTATION: &str = "{
   id -340282366920938463463374607431768211456,
   name \"Ann\",
   bits '101'B,
   kind green,
+  from \"991231235959Z\",
+  to \"20000229120000.5Z\",
+  size -1.5,
+  price 1995E-2,
+  most PLUS-INFINITY,
   list {
     a : NULL,
     b : TRUE
@@ -63,7 +81,7 @@ fn a_value_is_printed_as_it_was_read(rt: HostRuntime) -> Result<(), Fail> {
     assert!(rt;
         *first
             == Part::Sequence {
-                count: 5,
+                count: 10,
                 is_extended: false
             }
     );
@@ -87,4 +105,48 @@ fn octets_of_a_number_are_minimal(rt: HostRuntime) {
     ] {
         assert!(rt; minimal_of(octets) == minimal);
     }
+}
+
+/// X.690 11.3.1: by the definition of IEEE 754, with an odd mantissa.
+#[test]
+fn a_number_of_64_bits_has_an_odd_mantissa(rt: HostRuntime) -> Result<(), Fail> {
+    for (number, wanted) in [
+        (1.0f64, [0x80u8, 0, 1].as_slice()),
+        (-1.5, [0xC0, 0xFF, 3].as_slice()),
+        (0.0, [].as_slice()),
+        (
+            0.1,
+            [0x80, 0xC9, 0x0C, 0xCC, 0xCC, 0xCC, 0xCC, 0xCC, 0xCD].as_slice(),
+        ),
+        (5e-324, [0x81, 0xFB, 0xCE, 1].as_slice()),
+        (
+            1e300,
+            [0x81, 0x03, 0xB2, 0x05, 0xF9, 0x0F, 0x22, 0x00, 0x1D, 0x67].as_slice(),
+        ),
+    ] {
+        let mut octets = Vec::new(rt.alloc());
+        append_float(&mut octets, number)?;
+        assert_eq!(rt; octets.as_slice(), wanted);
+        assert!(rt; real_of(wanted) == Some(Real::Binary(number)));
+    }
+    Ok(())
+}
+
+/// X.690 11.3.2: neither zeros at the end nor a sign before an exponent, but for `+0`.
+#[test]
+fn a_decimal_number_has_digits_and_an_exponent(rt: HostRuntime) -> Result<(), Fail> {
+    for (text, wanted) in [
+        ("25e-3", "\u{3}25.E-3"),
+        ("-0.0025", "\u{3}-25.E-4"),
+        ("100", "\u{3}1.E2"),
+        ("1E+5", "\u{3}1.E5"),
+        ("0.0", ""),
+        ("12.50", "\u{3}125.E-1"),
+        ("7", "\u{3}7.E+0"),
+    ] {
+        let mut octets = Vec::new(rt.alloc());
+        assert!(rt; append_decimal(&mut octets, rt.alloc(), text)?);
+        assert_eq!(rt; octets.as_slice(), wanted.as_bytes());
+    }
+    Ok(())
 }
