@@ -27,8 +27,8 @@ pub struct FoundElement {
 pub struct Explanation<'s> {
     /// The fault.
     pub fault: Fault,
-    /// The element that is there, where its tag or form is another one than the type asks for, or it
-    /// follows the last value. It is absent where there is no whole element.
+    /// The element with the fault: its tag or form is not the one that the type has, or it follows the
+    /// last value. It is absent for other faults, and where no whole header is found.
     pub found: Option<FoundElement>,
     /// What the type asks for.
     pub expected: Expected<'s>,
@@ -48,7 +48,7 @@ fn begin_at(octets: &[u8], at: usize) -> State
     }
 }
 
-/// Returns the header of the element at an index, if a whole one is there.
+/// Returns the header of the element at an index. `None` if it has a fault.
 fn header_at(octets: &[u8], at: usize) -> Option<Header>
     requires size { 8 * length octets.now < 2 ^ 64 }
     requires inside { at ≤ 8 * length octets.now }
@@ -64,8 +64,8 @@ fn header_at(octets: &[u8], at: usize) -> Option<Header>
     }
 }
 
-/// Returns the element whose contents octets begin at an index. It is looked for from the first one
-/// on, and in those that reach the index.
+/// Returns the element whose contents octets begin at an index. It walks over the elements from the first
+/// one, and into each that reaches the index.
 #[cold]
 fn element_before(octets: &[u8], from: usize) -> Option<FoundElement>
     requires { 8 * length octets.now < 2 ^ 64 }
@@ -112,8 +112,8 @@ fn element_at(octets: &[u8], at: usize) -> Option<FoundElement>
     }
 }
 
-/// Explains the first fault of a message, which [`decode`](crate::decode) returned for it: reads again
-/// what is there.
+/// Explains the first fault of a message, which [`decode`](crate::decode) returned for it. It reads the
+/// element with the fault again.
 #[cold]
 pub fn explain<'s>(context: &Context<'s>, fault: Fault) -> Explanation<'s>
     requires { 8 * length context.now.octets.now < 2 ^ 64 }
