@@ -6,6 +6,7 @@
 
 mod alphabet;
 mod builder;
+mod built_in;
 mod contents;
 mod enumerated;
 mod error;

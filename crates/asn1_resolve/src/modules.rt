@@ -2,6 +2,7 @@
 
 use crate::alphabet::WHOLE_ALPHABETS;
 use crate::builder::{Builder, NO_SOURCE, NamedType};
+use crate::built_in::check_constraints;
 use crate::objects::check_objects;
 use crate::spans::span_of;
 use crate::tag_tables::NO_TYPE_TAGS;
@@ -54,6 +55,9 @@ pub(crate) fn resolve_lists(
     };
     check_imports(scope)?;
     check_objects(scope)?;
+    for instance in 0..scope.instances.len() {
+        check_constraints(scope, instance)?;
+    }
     for range in &WHOLE_ALPHABETS {
         tables.ranges.push(*range);
     }

@@ -2,7 +2,7 @@
 
 use crate::builder::Builder;
 use crate::open_types::Governing;
-use asn1_definitions::{MAX_STEPS, Place, Scope};
+use asn1_definitions::{MAX_STEPS, PARAMETERIZED, Place, Scope};
 use asn1_notation::{Item, NotationError, Problem, Word, wide};
 use asn1_schema_values::NameSpan;
 
@@ -41,6 +41,26 @@ fn check_word(scope: Scope<'_>, place: Place) -> Result<(), NotationError> {
     Ok(())
 }
 
+/// Returns whether the entry after another one is in braces.
+fn is_followed_by_braces(scope: Scope<'_>, place: Place) -> bool {
+    let index = wide(scope.entry(place.index).end);
+    scope.item(Place { index, ..place }) == Item::Braces
+}
+
+/// Returns whether the last field of an object is a set: its name begins with a capital (X.681 9.2).
+fn is_set_of_object(scope: Scope<'_>, place: Place) -> bool {
+    let mut inside = scope.inside(place);
+    let mut is_set = false;
+    for _ in 0..scope.most() {
+        let Some(index) = inside.next(scope.tape) else {
+            break;
+        };
+        let name = scope.text_of(scope.entry(index));
+        is_set = name.first().is_some_and(|octet| octet.is_ascii_uppercase());
+    }
+    is_set
+}
+
 /// Returns an error if a set of objects is not of its class, or its type is no class.
 fn check_set(scope: Scope<'_>, definition: Place) -> Result<(), NotationError> {
     let of = scope.type_in(definition);
@@ -62,11 +82,14 @@ fn check_set(scope: Scope<'_>, definition: Place) -> Result<(), NotationError> {
         match scope.item(element) {
             Item::Comma | Item::Bar | Item::Ellipsis => {}
             Item::Braces => scope.check_object(class, element)?,
+            Item::PieceName | Item::Literal if is_followed_by_braces(scope, element) => {
+                return Err(scope.error(Problem::Unsupported(PARAMETERIZED), element));
+            }
             Item::Literal => {
                 check_word(scope, element)?;
                 scope.braces_of(element)?;
             }
-            Item::PieceName | Item::Reference | Item::ExternalReference => {
+            Item::PieceName | Item::FromObject | Item::Reference | Item::ExternalReference => {
                 scope.braces_of(element)?;
             }
             _ => return Err(scope.error(Problem::Expected("an object or a set"), element)),
@@ -83,6 +106,7 @@ pub(crate) fn check_objects(scope: Scope<'_>) -> Result<(), NotationError> {
             break;
         };
         match scope.item(place) {
+            _ if scope.is_parameterized(place) => {}
             Item::SetDefinition => check_set(scope, place)?,
             Item::ValueDefinition => {
                 let class = scope.base(scope.type_in(place))?;
@@ -118,7 +142,10 @@ impl<'m> Builder<'m> {
             self.step(scope.at(element))?;
             match scope.item(element) {
                 Item::Comma | Item::Bar | Item::Ellipsis => {}
-                Item::Braces | Item::PieceName => {
+                Item::FromObject if is_set_of_object(scope, element) => {
+                    self.add_objects(scope, element, governing, steps - 1)?;
+                }
+                Item::Braces | Item::PieceName | Item::FromObject => {
                     let object = scope.braces_of(element)?;
                     self.add_object(scope, object, governing)?;
                 }

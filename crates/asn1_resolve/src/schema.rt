@@ -7,6 +7,7 @@ use crate::builder::{
     Builder, DefaultText, Draft, Enumeral, Key, NO_DRAFT, NO_KEY, NO_MEMBER, NO_NAME, NO_ROWS,
     NamedType,
 };
+use crate::built_in::{refer_to_associated_types, with_associated_types};
 use crate::error::SchemaError;
 use crate::modules::resolve_lists;
 use crate::objects::{ObjectRow, OpenRow};
@@ -18,7 +19,7 @@ use crate::room::{
 use crate::tag_tables::{NO_FIRST_TAGS, NO_TAG, NO_TYPE_TAGS};
 use crate::values::Values;
 use asn1_definitions::{LISTS, Scope};
-use asn1_notation::{Entry, part_of};
+use asn1_notation::{Entry, parse, part_of};
 use asn1_schema::{Member, Node, Part, Range, Rows, Tables};
 use asn1_schema_values::{NameSpan, Names};
 use asn1_x690::{FirstTags, Tag, TagTables, TypeTags};
@@ -95,8 +96,26 @@ impl Schema {
     ///
     /// Returns the first problem of the text that is found, or `Memory`.
     pub fn parse(alloc: Global, text: &str) -> Result<Schema, SchemaError> {
-        let mut tape = tape_of(alloc, text.as_bytes())?;
-        Schema::of_entries(alloc, text, &mut tape)
+        let whole = with_associated_types(alloc, text)?;
+        if text.len() < whole.len() {
+            // An error of the text must not be one of the definitions after it.
+            parse(text.as_bytes(), &mut [])?;
+        }
+        let mut tape = tape_of(alloc, whole.as_str().as_bytes())?;
+        refer_to_associated_types(tape.as_mut_slice(), text.len());
+        let mut schema = Schema::of_entries(alloc, whole.as_str(), &mut tape)?;
+        schema.leave_types_from(text.len());
+        Ok(schema)
+    }
+
+    /// Removes the names of types that are defined from an octet of the text on.
+    fn leave_types_from(&mut self, end: usize) {
+        let types = self.types.as_slice();
+        let count = types
+            .iter()
+            .position(|named| end <= named.name.from)
+            .unwrap_or(types.len());
+        self.types.truncate(count);
     }
 
     /// Makes the tables of the modules that the entries of a text are.
