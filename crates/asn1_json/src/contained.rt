@@ -8,7 +8,7 @@ use asn1_resolve::OpenKey;
 use asn1_schema::Rows;
 use std::str;
 
-/// How deep the component may be nested that tells what the contents of an open type are.
+/// The most levels of nesting of the component that determines the type of the contents of an open type.
 const KEY_DEPTH: usize = 3;
 
 impl<'a, 's, 't> Maker<'a, 's, 't> {

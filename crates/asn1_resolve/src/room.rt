@@ -108,12 +108,20 @@ pub(crate) fn counts_of(
     })
 }
 
-/// Returns the entries of a text.
+/// How many octets of a text there are at least for an entry in most modules.
+const OCTETS_OF_ENTRY: usize = 4;
+
+/// Returns the entries of a text. The text is read once, and a second time if it has more entries than the
+/// first room holds.
 pub(crate) fn tape_of(alloc: Global, text: &[u8]) -> Result<Vec<Entry>, SchemaError> {
     let mut tape: Vec<Entry> = Vec::new(alloc);
-    let count = parse(text, &mut [])?;
-    tape.resize(count, NO_ENTRY)?;
-    parse(text, tape.as_mut_slice())?;
+    tape.resize(text.len() / OCTETS_OF_ENTRY, NO_ENTRY)?;
+    let count = parse(text, tape.as_mut_slice())?;
+    if count > tape.len() {
+        tape.resize(count, NO_ENTRY)?;
+        parse(text, tape.as_mut_slice())?;
+    }
+    tape.truncate(count);
     Ok(tape)
 }
 

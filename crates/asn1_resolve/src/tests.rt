@@ -143,3 +143,14 @@ fn finds_several_problems(rt: HostRuntime) -> Result<(), Fail> {
     assert!(rt; lines.as_slice() == [2usize, 3, 5, 6, 8].as_slice());
     Ok(())
 }
+
+/// A text of short words has more entries than the first room holds.
+#[test]
+fn a_text_with_many_entries_is_read_whole(rt: HostRuntime) -> Result<(), Fail> {
+    let text =
+        "M DEFINITIONS::=BEGIN A::=ENUMERATED{a,b,c,d,e,f,g,h,i,j,k,l,m,n,o,p,q,r,s,t,u,v,w,x,y,z}END";
+    let schema = Schema::parse(rt.alloc(), text)?;
+    let node = schema.node_named("A").ok_or("no type")?;
+    assert!(rt; schema.enumerals(node).len() == 26);
+    Ok(())
+}
