@@ -187,6 +187,7 @@ fn may_have_node(scope: Scope<'_>, place: Place) -> bool {
     match scope.item(place) {
         Item::Reference | Item::ExternalReference | Item::TypeFromObject => {
             scope.find_in(place, Item::Constraint).is_some()
+                || scope.find_in(place, Item::Containing).is_some()
         }
         Item::Tagged | Item::Selection | Item::Class => false,
         _ => true,
@@ -203,7 +204,9 @@ fn has_node(scope: Scope<'_>, place: Place) -> Result<bool, NotationError> {
     if base.index == place.index {
         return Ok(true);
     }
-    if scope.find_in(place, Item::Constraint).is_none() {
+    if scope.find_in(place, Item::Constraint).is_none()
+        && scope.find_in(place, Item::Containing).is_none()
+    {
         return Ok(false);
     }
     Ok(match scope.item(base) {

@@ -1,4 +1,4 @@
-//! The open types among the parts of a message (X.682 10).
+//! The open types among the parts of a message (X.682 10), and OCTET STRINGs with CONTAINING (X.682 11).
 
 use crate::bits::{octets_in, octets_of};
 use crate::print::row_of;
@@ -7,7 +7,8 @@ use asn1_schema::{Node, Part, Rows};
 use asn1_schema_values::end_of_values;
 use std::alloc::{AllocError, Global};
 
-/// A value of an open type. Another component determines the type of its contents (X.682 10).
+/// A value of an open type whose contents another component tells (X.682 10), or of an OCTET STRING with
+/// CONTAINING (X.682 11).
 #[derive(Clone, Copy, Debug, PartialEq, Eq)]
 pub struct OpenValue {
     /// The index of its part.
@@ -47,8 +48,8 @@ pub fn octets_of_part(
     }
 }
 
-/// Returns the values of open types among the parts of a value of the type at a node. It leaves out those
-/// for which the schema does not know the type of the contents. The value must be nested less deep than
+/// Returns the values of open types, and of OCTET STRINGs with CONTAINING, among the parts of a value of
+/// the type at a node. It leaves out those for which the schema does not know the type of the contents. The value must be nested less deep than
 /// `depth`.
 ///
 /// # Errors
@@ -130,6 +131,15 @@ impl<'a> Finder<'a> {
                 _ => Ok(next),
             },
             Node::Open { inner } => self.value(depth - 1, inner, at),
+            Node::OctetString { .. } => {
+                if let Some(inner) = self.schema.contents_type(node) {
+                    self.found.push(OpenValue {
+                        part: at,
+                        node: inner,
+                    })?;
+                }
+                Ok(next)
+            }
             _ => Ok(next),
         }
     }

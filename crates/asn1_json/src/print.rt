@@ -125,7 +125,10 @@ impl<'a> Printer<'a> {
             Node::Open { inner } => self.value(depth - 1, inner, at),
             leaf => {
                 match self.contents_at(at) {
-                    Some((index, contents)) => self.contents(depth - 1, index, contents)?,
+                    Some((index, contents)) => {
+                        let is_containing = self.schema.contents_type(node).is_some();
+                        self.contents(depth - 1, is_containing, index, contents)?;
+                    }
                     None => self.leaf(node, leaf, at)?,
                 }
                 Ok(at.saturating_add(1))
@@ -133,18 +136,20 @@ impl<'a> Printer<'a> {
         }
     }
 
-    /// Prints the contents of an open type as an object with one member.
+    /// Prints the contents of an open type, or of an OCTET STRING with CONTAINING, as an object with one
+    /// member.
     #[cycle(printing)]
     fn contents(
         &mut self,
         depth: usize,
+        is_containing: bool,
         index: usize,
         contents: &'a Contents,
     ) -> Result<(), PrintError> {
         let inside = self.inside;
         let message = self.message;
         let parts = self.parts;
-        self.begin_contents(contents.value.node)?;
+        self.begin_contents(contents.value.node, is_containing)?;
         self.inside = index.saturating_add(1);
         self.message = contents.octets.as_slice();
         self.parts = contents.parts.as_slice();

@@ -10,6 +10,7 @@ use asn1_definitions::{
     Instance, LISTS, Place, Scope, check_imports, find_instances, index_definitions, number_types,
 };
 use asn1_notation::{Entry, Item, NotationError, Problem, Sink, error_at};
+use asn1_schema::Node;
 
 /// Makes the tables of the types that the entries of a text define.
 ///
@@ -106,6 +107,8 @@ impl<'m> Builder<'m> {
                 self.node_enumerals.set(row, enumerals);
                 if scope.is_open(place) {
                     self.add_open(scope, place, definition, row)?;
+                } else if let Node::OctetString { .. } = node {
+                    self.add_containing(scope, place, row)?;
                 }
             }
         }

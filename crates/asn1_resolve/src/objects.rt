@@ -2,6 +2,7 @@
 
 use crate::builder::Builder;
 use crate::open_types::Governing;
+use crate::room::{NO_OPEN, NO_PLACE};
 use asn1_definitions::{MAX_STEPS, PARAMETERIZED, Place, Scope};
 use asn1_notation::{Item, NotationError, Problem, Word, wide};
 use asn1_schema_values::NameSpan;
@@ -15,7 +16,8 @@ pub struct ObjectRow {
     pub(crate) node: usize,
 }
 
-/// An open type whose contents another component tells.
+/// An open type whose contents another component tells, or an OCTET STRING with CONTAINING, which has one
+/// object and no component.
 #[derive(Clone, Copy, Debug, PartialEq, Eq)]
 pub struct OpenRow {
     /// The open type.
@@ -176,6 +178,35 @@ impl<'m> Builder<'m> {
         }
         let node = self.used_node(scope, of, None, false)?;
         self.objects.push(ObjectRow { key, node });
+        Ok(())
+    }
+
+    /// Appends an OCTET STRING whose contents are a value of a type (X.682 11), unless ENCODED BY names the
+    /// rules that encode it.
+    pub(crate) fn add_containing(
+        &mut self,
+        scope: Scope<'_>,
+        place: Place,
+        node: usize,
+    ) -> Result<(), NotationError> {
+        let Some(containing) = scope.find_in(place, Item::Containing) else {
+            return Ok(());
+        };
+        if scope.value_in(containing).is_some() {
+            return Ok(());
+        }
+        let inner = self.used_node(scope, scope.type_in(containing), None, false)?;
+        let from = self.objects.count();
+        self.objects.push(ObjectRow {
+            key: NO_PLACE,
+            node: inner,
+        });
+        self.opens.push(OpenRow {
+            node,
+            from,
+            count: 1,
+            ..NO_OPEN
+        });
         Ok(())
     }
 

@@ -154,3 +154,35 @@ fn a_text_with_many_entries_is_read_whole(rt: HostRuntime) -> Result<(), Fail> {
     assert!(rt; schema.enumerals(node).len() == 26);
     Ok(())
 }
+
+/// An OCTET STRING with CONTAINING tells its contents, also through names and tags, and without ENCODED BY.
+#[test]
+fn octet_strings_contain_values(rt: HostRuntime) -> Result<(), Fail> {
+    let text = "M DEFINITIONS IMPLICIT TAGS ::= BEGIN
+A ::= OCTET STRING (CONTAINING B)
+B ::= SEQUENCE { a A OPTIONAL, b [1] A, c O (SIZE (9)) (CONTAINING BOOLEAN) }
+O ::= OCTET STRING
+E ::= OCTET STRING (CONTAINING B ENCODED BY { 2 1 1 })
+END";
+    let schema = Schema::parse(rt.alloc(), text)?;
+    let node = schema.node_named("B").ok_or("no type")?;
+    let of = schema.node_named("A").ok_or("no type")?;
+    assert!(rt; schema.contents_type(of) == Some(node));
+    assert!(rt; schema.open_type(of).is_none());
+    for name in ["O", "E", "B"] {
+        let node = schema.node_named(name).ok_or("no type")?;
+        assert!(rt; schema.contents_type(node).is_none());
+    }
+    let Some(Node::Sequence { root, .. }) = schema.tables().nodes.get(node).copied() else {
+        assert!(rt; false);
+        return Ok(());
+    };
+    let contents = |index: usize| {
+        let member = schema.tables().members.get(root.from.saturating_add(index))?;
+        schema.contents_type(member.node)
+    };
+    assert!(rt; contents(0) == Some(node) && contents(1) == Some(node));
+    let last = contents(2).ok_or("no contents")?;
+    assert!(rt; matches!(schema.tables().nodes.get(last), Some(Node::Boolean)));
+    Ok(())
+}
