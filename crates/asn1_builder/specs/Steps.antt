@@ -316,7 +316,7 @@ Ends d new = ((of : Components) × EndsComponents d of new) ⊎ ((at item : ℕ)
 -- why no value is ended
 abbrev pub EndsNone : Draft → BuildError → Type 0
 EndsNone d error.NotBegun = d.frames ≡ []
-EndsNone d error.Unfinished = (d.next ≢ None)
+EndsNone d error.Unfinished = ((of : Components) × (innermost d.frames ≡ Some (frame.Components of)) × (d.next ≢ None))
     ⊎ ((at item : ℕ) × (innermost d.frames ≡ Some (frame.Items at item))
     × ((count : ℕ) → HasValues d.parts (at + 1) count (length d.parts) → ⊥))
 EndsNone d error.Mandatory = (of : Components) × (innermost d.frames ≡ Some (frame.Components of)) × (of.is_extended ≡ false)
