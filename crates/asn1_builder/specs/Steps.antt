@@ -206,37 +206,75 @@ named d of is_addition index node = record d {
   next = Some node;
 }
 
--- a component of the innermost SEQUENCE or SET is named, whose value comes next
-pub record NamesComponent (d : Draft) (name : List ℕ) (new : Draft) : Type 0 where
-  pub of : Components
-  pub innermost_is : innermost d.frames ≡ Some (frame.Components of)
-  pub complete : d.next ≡ None
-  pub is_addition : Bool
-  pub index : ℕ
-  pub place : IsPlace d.names of.root of.additions name is_addition index
+-- the component of an index is reached: those that are passed over may be absent, and its value comes next
+pub record Reaches (d : Draft) (of : Components) (is_addition : Bool) (index : ℕ) (new : Draft) : Type 0 where
   pub comes : is_passed of.is_extended is_addition of.passed index ≡ false
   pub others : RootMayBeAbsent d of is_addition index
   pub member : Member
   pub member_is : member_of d (rows_by is_addition of.root of.additions) index ≡ Some member
   pub new_is : new ≡ named d of is_addition index member.node
 
--- why no component of this name may come next
+-- why it is not reached
+abbrev pub ReachesNone : Draft → Components → Bool → ℕ → BuildError → Type 0
+ReachesNone d of is_addition index error.Passed = is_passed of.is_extended is_addition of.passed index ≡ true
+ReachesNone d of is_addition index error.Mandatory = RootMayBeAbsent d of is_addition index → ⊥
+ReachesNone d of is_addition index error.NoNode = member_of d (rows_by is_addition of.root of.additions) index ≡ None
+ReachesNone d of is_addition index error.Memory = ⊤
+ReachesNone d of is_addition index _ = ⊥
+
+-- the innermost value is a SEQUENCE or a SET, in which no value is awaited; or why it is not
+abbrev pub IsInside : Draft → Components → Type 0
+IsInside d of = (innermost d.frames ≡ Some (frame.Components of)) × (d.next ≡ None)
+
+abbrev pub IsInsideNone : Draft → BuildError → Type 0
+IsInsideNone d error.NoSequence = (of : Components) → innermost d.frames ≡ Some (frame.Components of) → ⊥
+IsInsideNone d error.Unfinished = d.next ≢ None
+IsInsideNone d _ = ⊥
+
+-- a component of the innermost SEQUENCE or SET is told, and reached
+pub record TellsComponent (d : Draft) (At : Components → Bool → ℕ → Type 0) (new : Draft) : Type 0 where
+  pub of : Components
+  pub inside : IsInside d of
+  pub is_addition : Bool
+  pub index : ℕ
+  pub at : At of is_addition index
+  pub reaches : Reaches d of is_addition index new
+
+pub record ReachesNoneAt (d : Draft) (At : Components → Bool → ℕ → Type 0) (e : BuildError) : Type 0 where
+  pub of : Components
+  pub innermost_is : innermost d.frames ≡ Some (frame.Components of)
+  pub is_addition : Bool
+  pub index : ℕ
+  pub at : At of is_addition index
+  pub none : ReachesNone d of is_addition index e
+
+-- why none is told, or reached
+abbrev pub TellsNone : Draft → (Components → Bool → ℕ → Type 0) → (Components → Type 0) → BuildError → Type 0
+TellsNone d At Lacks error.NoSequence = IsInsideNone d error.NoSequence
+TellsNone d At Lacks error.Unfinished = IsInsideNone d error.Unfinished
+TellsNone d At Lacks error.NoComponent = (of : Components) × (innermost d.frames ≡ Some (frame.Components of)) × Lacks of
+TellsNone d At Lacks e = ReachesNoneAt d At e
+
+-- a component is told by its name
+abbrev pub IsNamed : Draft → List ℕ → Components → Bool → ℕ → Type 0
+IsNamed d name of is_addition index = IsPlace d.names of.root of.additions name is_addition index
+
+abbrev pub NamesComponent : Draft → List ℕ → Draft → Type 0
+NamesComponent d name new = TellsComponent d (IsNamed d name) new
+
 abbrev pub NamesNoComponent : Draft → List ℕ → BuildError → Type 0
-NamesNoComponent d name error.NoSequence = (of : Components) → innermost d.frames ≡ Some (frame.Components of) → ⊥
-NamesNoComponent d name error.Unfinished = d.next ≢ None
-NamesNoComponent d name error.NoComponent = (of : Components) × (innermost d.frames ≡ Some (frame.Components of))
-    × IsNoPlace d.names of.root of.additions name
-NamesNoComponent d name error.Passed = (of : Components) × (is_addition : Bool) × (index : ℕ)
-    × (innermost d.frames ≡ Some (frame.Components of)) × IsPlace d.names of.root of.additions name is_addition index
-    × (is_passed of.is_extended is_addition of.passed index ≡ true)
-NamesNoComponent d name error.Mandatory = (of : Components) × (is_addition : Bool) × (index : ℕ)
-    × (innermost d.frames ≡ Some (frame.Components of)) × IsPlace d.names of.root of.additions name is_addition index
-    × (RootMayBeAbsent d of is_addition index → ⊥)
-NamesNoComponent d name error.NoNode = (of : Components) × (is_addition : Bool) × (index : ℕ)
-    × (innermost d.frames ≡ Some (frame.Components of)) × IsPlace d.names of.root of.additions name is_addition index
-    × (member_of d (rows_by is_addition of.root of.additions) index ≡ None)
-NamesNoComponent d name error.Memory = ⊤
-NamesNoComponent d name _ = ⊥
+NamesNoComponent d name e = TellsNone d (IsNamed d name) (λ of. IsNoPlace d.names of.root of.additions name) e
+
+-- a component is told by its index: those of the root, and then the additions
+abbrev pub IsIndexed : ℕ → Components → Bool → ℕ → Type 0
+IsIndexed position of false index = (position ≡ index) × (index < of.root.count)
+IsIndexed position of true index = (position ≡ of.root.count + index) × (index < of.additions.count)
+
+abbrev pub IndexesComponent : Draft → ℕ → Draft → Type 0
+IndexesComponent d position new = TellsComponent d (IsIndexed position) new
+
+abbrev pub IndexesNoComponent : Draft → ℕ → BuildError → Type 0
+IndexesNoComponent d position e = TellsNone d (IsIndexed position) (λ of. of.root.count + of.additions.count ≤ position) e
 
 -- ---- an alternative is chosen
 

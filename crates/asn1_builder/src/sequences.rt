@@ -1,8 +1,8 @@
 //! SEQUENCE and SET: components by their names.
 
-ghost use Rattle.std.specs.Prelude.{◌≡◌, ◌↔◌, ◌++◌, IsTrue, MatchResult, Ok, false, true};
+ghost use Rattle.std.specs.Prelude.{◌≡◌, ◌↔◌, ◌++◌, ◌+◌, ◌<◌, ◌≤◌, ◌^◌, IsTrue, MatchOption, MatchResult, Ok, false, true};
 ghost use Rattle.asn1_builder.specs.Drafts.{draft_of};
-ghost use Rattle.asn1_builder.specs.Steps.{IsStep, MayBeAbsent, NamesComponent, NamesNoComponent, RootMayBeAbsent, absent, is_passed as is_passed_by, passed_over, with_frames, with_innermost, with_marker, with_parts};
+ghost use Rattle.asn1_builder.specs.Steps.{IndexesComponent, IndexesNoComponent, IsIndexed, IsInside, IsInsideNone, IsStep, MayBeAbsent, NamesComponent, NamesNoComponent, Reaches, ReachesNone, RootMayBeAbsent, absent, is_passed as is_passed_by, passed_over, with_frames, with_innermost, with_marker, with_parts};
 
 use crate::builder::Builder;
 use crate::error::BuildError;
@@ -19,6 +19,22 @@ fn is_passed(of: &Components, is_addition: bool, index: usize) -> bool
         (false, true) => false,
         _ => index < of.passed,
     }
+}
+
+/// Returns whether the component of an index is an addition, and its index in the root or among the
+/// additions.
+fn place_at(of: &Components, index: usize) -> Option<(bool, usize)>
+    ensures { MatchOption result (of.now.root.count + of.now.additions.count ≤ index)
+        (λ p. IsIndexed index of.now p.0 p.1 × (p.1 < 2 ^ 32)) }
+{
+    let known = of.root.count as usize;
+    if index < known {
+        return Some((false, index));
+    }
+    if index - known < of.additions.count as usize {
+        return Some((true, index - known));
+    }
+    None
 }
 
 impl<'s> Builder<'s> {
@@ -122,10 +138,53 @@ impl<'s> Builder<'s> {
         }
     }
 
+    /// Passes over the components before one, whose value comes next.
+    fn reach(&mut self, of: &Components, is_addition: bool, index: usize) -> Result<(), BuildError>
+        requires { index < 2 ^ 32 }
+        ensures { MatchResult result
+            (λ _. Reaches (draft_of self.old) of.now is_addition index (draft_of self.new))
+            (λ e. ReachesNone (draft_of self.old) of.now is_addition index e
+            × (draft_of self.new ≡ draft_of self.old)) }
+    {
+        if is_passed(of, is_addition, index) {
+            return Err(BuildError::Passed);
+        }
+        if !self.root_may_be_absent(of, is_addition, index) {
+            return Err(BuildError::Mandatory);
+        }
+        let rows = if is_addition { of.additions } else { of.root };
+        let Some(node) = node_of(&self.tables, rows, index) else {
+            return Err(BuildError::NoNode);
+        };
+        self.append_passed(of, is_addition, index)?;
+        self.mark_extended(of, is_addition);
+        self.set_innermost(Frame::Components(Components {
+            is_extended: is_addition,
+            passed: index + 1,
+            ..*of
+        }));
+        self.next = Some(node);
+        Ok(())
+    }
+
+    /// Returns the SEQUENCE or SET that was begun last, where a component of it may be told.
+    fn inside(&self) -> Result<Components, BuildError>
+        ensures { MatchResult result (λ of. IsInside (draft_of self.now) of)
+            (λ e. IsInsideNone (draft_of self.now) e) }
+    {
+        let Some(Frame::Components(of)) = self.innermost() else {
+            return Err(BuildError::NoSequence);
+        };
+        if self.next.is_some() {
+            return Err(BuildError::Unfinished);
+        }
+        Ok(of)
+    }
+
     /// Names the component of the SEQUENCE or SET that was begun last, whose value comes next.
     ///
-    /// Components come in the order of the type. Those that are passed over are absent: they are
-    /// OPTIONAL, have a DEFAULT, or are additions. An addition group has no name, and is a SEQUENCE.
+    /// Components come in the order of the type, those of a SET in the canonical order of their tags.
+    /// Those that are passed over are absent: they are OPTIONAL, have a DEFAULT, or are additions.
     ///
     /// # Errors
     ///
@@ -138,33 +197,34 @@ impl<'s> Builder<'s> {
             (λ e. NamesNoComponent (draft_of self.old) name.now e
             × (draft_of self.new ≡ draft_of self.old)) }
     {
-        let Some(Frame::Components(of)) = self.innermost() else {
-            return Err(BuildError::NoSequence);
-        };
-        if self.next.is_some() {
-            return Err(BuildError::Unfinished);
+        match self.inside() {
+            Err(error) => Err(error),
+            Ok(of) => match place_of(&self.names, of.root, of.additions, name) {
+                None => Err(BuildError::NoComponent),
+                Some((is_addition, index)) => self.reach(&of, is_addition, index),
+            },
         }
-        let Some((is_addition, index)) = place_of(&self.names, of.root, of.additions, name) else {
-            return Err(BuildError::NoComponent);
-        };
-        if is_passed(&of, is_addition, index) {
-            return Err(BuildError::Passed);
+    }
+
+    /// Tells the component of the SEQUENCE or SET that was begun last by its index, as [`Self::component`]
+    /// does by its name: from 0 on those of the root, and then the additions. An addition group has no
+    /// name; it is one addition, a SEQUENCE.
+    ///
+    /// # Errors
+    ///
+    /// Returns the errors of [`Self::component`].
+    pub fn component_at(&mut self, index: usize) -> Result<(), BuildError>
+        ensures { MatchResult result
+            (λ _. IndexesComponent (draft_of self.old) index (draft_of self.new))
+            (λ e. IndexesNoComponent (draft_of self.old) index e
+            × (draft_of self.new ≡ draft_of self.old)) }
+    {
+        match self.inside() {
+            Err(error) => Err(error),
+            Ok(of) => match place_at(&of, index) {
+                None => Err(BuildError::NoComponent),
+                Some((is_addition, place)) => self.reach(&of, is_addition, place),
+            },
         }
-        if !self.root_may_be_absent(&of, is_addition, index) {
-            return Err(BuildError::Mandatory);
-        }
-        let rows = if is_addition { of.additions } else { of.root };
-        let Some(node) = node_of(&self.tables, rows, index) else {
-            return Err(BuildError::NoNode);
-        };
-        self.append_passed(&of, is_addition, index)?;
-        self.mark_extended(&of, is_addition);
-        self.set_innermost(Frame::Components(Components {
-            is_extended: is_addition,
-            passed: index + 1,
-            ..of
-        }));
-        self.next = Some(node);
-        Ok(())
     }
 }
