@@ -1,7 +1,9 @@
 -- Where values end, by a count of the values that are still to come.
-use Rattle.std.proofs.Common.{◌≡◌, ℕ, zero, suc, ◌+◌, ◌-◌, ◌≤◌, ◌<◌, List, [], ◌∷◌, ◌++◌, length, take, drop, Option, Some, None, refl, sym, ap, ◌∙◌, subst, arith, append_assoc, zero-add, add-zero, get_or}
-use Rattle.std.proofs.Math.Seq.{take-append_seam, drop-cons}
-use Rattle.std.proofs.lemmas.List.{length-append, length-drop, take-append-drop, drop-drop}
+use Rattle.std.proofs.Common.{◌≡◌, ℕ, zero, suc, ◌+◌, ◌-◌, ◌≤◌, ◌<◌, List, [], ◌∷◌, ◌++◌, length, take, drop, Option, Some, None, refl, sym, ap, ◌∙◌, subst, arith, append_assoc, zero-add, add-zero, get_or, inl, inr}
+use Rattle.std.proofs.Math.Seq.{take-append_seam, drop-append_seam, drop-cons}
+use Rattle.std.proofs.lemmas.Bool.Decides.{leb_tells}
+use Rattle.std.proofs.lemmas.List.{length-append, length-drop, length-take, take-append-drop, drop-drop}
+use Rattle.std.specs.Prelude.{slice_range}
 use Rattle.asn1_schema.specs.declared.part.Part.{Part}
 use Rattle.asn1_schema_values.specs.Extents.{AreValues, none, more, HasValues, held_by}
 
@@ -153,3 +155,102 @@ one_end parts at n end other one two =
     let within = one.within in
     let inside = two.within in
     omega arith
+
+-- ---- values one after another, up to the last part
+
+some_parts : {n : ℕ} {values : List Part} → AreValues n values → 0 < n → 0 < length values
+some_parts none some = absurd (omega arith)
+some_parts (more p h o) some = omega arith
+
+-- a value has a part
+pub goes_on : (parts : List Part) (at end : ℕ) → HasValues parts at 1 end → at < end
+goes_on parts at end has =
+    let some = some_parts has.values (omega arith) in
+    let size = length-take (end - at) (drop at parts) in
+    let ordered = has.ordered in
+    omega arith
+
+-- values, and others after them
+passes_on : (parts : List Part) (at n end : ℕ) → HasValues parts at n end → (m : ℕ)
+    → rest_after (n + m) (drop at parts) ≡ rest_after m (drop end parts)
+passes_on parts at n end has m =
+    let size = end - at in
+    let ordered = has.ordered in
+    let to : at + size ≡ end = omega arith in
+    let front = take size (drop at parts) in
+    let back : drop size (drop at parts) ≡ drop end parts =
+    drop-drop size at parts ∙ ap (λ (i : ℕ). drop i parts) to in
+    let whole : drop at parts ≡ front ++ drop end parts =
+    sym (take-append-drop size (drop at parts)) ∙ ap (λ (xs : List Part). front ++ xs) back in
+    ap (rest_after (n + m)) whole ∙ passes has.values m (drop end parts)
+
+pub one_more : (parts : List Part) (from count at end : ℕ) → HasValues parts from count at → HasValues parts at 1 end
+    → HasValues parts from (count + 1) end
+one_more parts from count at end before value =
+    let first = before.ordered in
+    let second = value.ordered in
+    has_values parts from (count + 1) end (omega arith) value.within
+    (passes_on parts from count at before 1 ∙ ends parts at 1 end value)
+
+pub no_values : (parts : List Part) (from : ℕ) → from ≤ length parts → HasValues parts from 0 from
+no_values parts from within = has_values parts from 0 from (omega arith) within refl
+
+-- where values do not go on, they do not end with the last part
+module _ (parts : List Part) (from count at : ℕ) (before : HasValues parts from count at) (inside : at < length parts)
+    (never : (end : ℕ) → HasValues parts at 1 end → ⊥) where
+  fewer : (n m : ℕ) → n + m ≡ count → HasValues parts from n (length parts) → ⊥
+  fewer n m e has =
+      let two : Parted n m (slice_range parts from at) = parted n m before.values (sym e) in
+      let all = ends parts from n (length parts) has in
+      let ordered = before.ordered in
+      let to : from + (at - from) ≡ at = omega arith in
+      let back : drop (at - from) (drop from parts) ≡ drop at parts =
+      drop-drop (at - from) from parts ∙ ap (λ (i : ℕ). drop i parts) to in
+      let whole : drop from parts ≡ two.first ++ (two.second ++ drop at parts) =
+      sym (take-append-drop (at - from) (drop from parts))
+      ∙ ap (λ (xs : List Part). slice_range parts from at ++ xs) back
+      ∙ ap (λ (xs : List Part). xs ++ drop at parts) two.whole
+      ∙ append_assoc two.first two.second (drop at parts) in
+      let zero_more : n + 0 ≡ n = add-zero n in
+      let here : rest_after n (drop from parts) ≡ Some (two.second ++ drop at parts) =
+      ap (rest_after n) whole
+      ∙ ap (λ (i : ℕ). rest_after i (two.first ++ (two.second ++ drop at parts))) (sym zero_more)
+      ∙ passes two.are 0 (two.second ++ drop at parts) in
+      let same : two.second ++ drop at parts ≡ drop (length parts) parts = cc in
+      let sizes = ap length same in
+      let sum = length-append two.second (drop at parts) in
+      let left = length-drop at parts in
+      let right = length-drop (length parts) parts in
+      omega arith
+
+  others : (m : ℕ) → HasValues parts from (count + suc m) (length parts) → ⊥
+  others m has =
+      let all = ends parts from (count + suc m) (length parts) has in
+      let on = passes_on parts from count at before (suc m) in
+      let is : rest_after (suc m) (drop at parts) ≡ Some (drop (length parts) parts) = sym on ∙ all in
+      let b = begins (drop at parts) (drop (length parts) parts) (suc m) is in
+      let two : Parted 1 m b.values = parted 1 m b.are (omega arith) in
+      let end = at + length two.first in
+      let rest = two.second ++ drop (length parts) parts in
+      let whole : drop at parts ≡ two.first ++ rest =
+      b.whole ∙ ap (λ (xs : List Part). xs ++ drop (length parts) parts) two.whole
+      ∙ append_assoc two.first two.second (drop (length parts) parts) in
+      let after : drop end parts ≡ rest =
+      sym (drop-drop (length two.first) at parts) ∙ ap (drop (length two.first)) whole ∙ drop-append_seam two.first rest in
+      let one : rest_after 1 (drop at parts) ≡ Some (drop end parts) =
+      ap (rest_after 1) whole ∙ passes two.are 0 rest ∙ ap (λ (xs : List Part). Some xs) (sym after) in
+      let sizes = ap length whole in
+      let sum = length-append two.first rest in
+      let left = length-drop at parts in
+      never end (has_values parts at 1 end (omega arith) (omega arith) one)
+
+  pub never_end : (n : ℕ) → HasValues parts from n (length parts) → ⊥
+  never_end n has =
+      elim (leb_tells n count) [
+        | inl less ↦ let below : n ≤ count = less.1 in fewer n (count - n) (omega arith) has
+        | inr above ↦
+            let beyond : count < n = above.1 in
+            let sum : n ≡ count + suc (n - count - 1) = omega arith in
+            let P : ℕ → Type 0 = λ i. HasValues parts from i (length parts) in
+            others (n - count - 1) (subst P sum has)
+      ]

@@ -2,3 +2,5 @@
 mod ExtentLemmas
 mod ValueLemmas
 mod ComponentLemmas
+mod TableLemmas
+mod RangeLemmas

@@ -3,3 +3,4 @@ pub mod Extents
 pub mod Names
 pub mod Values
 pub mod Leaves
+pub mod Tables

@@ -57,6 +57,27 @@ pub fn end_of(parts: &[Part], at: usize) -> Option<usize>
     end_of_values(parts, at, 1)
 }
 
+/// Returns how many values the parts from an index on are, one after another. `None` if they are no
+/// values, as where the last one is not whole.
+///
+/// It goes over each of their parts once, whatever their depth.
+pub fn values_from(parts: &[Part], from: usize) -> Option<usize>
+    ensures { MatchOption result
+        ((count : ℕ) → HasValues parts.now from count (length parts.now) → ⊥)
+        (λ count. HasValues parts.now from count (length parts.now)) }
+{
+    if from > parts.len() {
+        return None;
+    }
+    let mut at = from;
+    let mut count = 0;
+    while at < parts.len() {
+        at = end_of(parts, at)?;
+        count += 1;
+    }
+    Some(count)
+}
+
 /// Returns the index after a part. `None` if there is no such part.
 pub(crate) fn after(parts: &[Part], at: usize) -> Option<usize>
     ensures { MatchOption result (length parts.now ≤ at) (λ next. next ≡ at + 1) }

@@ -1,3 +1,5 @@
+use crate::checks::check;
+use crate::faults::{NodeFault, TableFault};
 use crate::names::{NameSpan, Names};
 use crate::path::Path;
 use asn1_schema::{Length, Member, Node, Part, Presence, Range, Rows, Tables};
@@ -126,6 +128,122 @@ fn a_path_leads_to_what_follows_the_parts(rt: HostRuntime) -> Result<(), Fail> {
     for (count, path) in expected.iter().enumerate() {
         let parts = open.get(..count).ok_or("too few parts")?;
         assert!(rt; is_path(alloc, path_after(tables, names, parts), path)?);
+    }
+    Ok(())
+}
+
+/// Returns whether the first fault of tables with so many types and members has a text.
+fn has_fault(alloc: Global, nodes: usize, members: usize, expected: &str) -> Result<bool, Fail> {
+    let (all_nodes, all_members) = (NODES, MEMBERS);
+    let ranges: [Range; 0] = [];
+    let tables = Tables {
+        nodes: all_nodes.get(..nodes).ok_or("too few types")?,
+        members: all_members.get(..members).ok_or("too few members")?,
+        ranges: &ranges,
+    };
+    match check(&tables) {
+        Ok(()) => Ok(expected.is_empty()),
+        Err(fault) => {
+            let text = format!(in alloc; "{fault}")?;
+            Ok(text.as_str() == expected)
+        }
+    }
+}
+
+#[test]
+fn a_fault_of_tables_has_a_text(rt: HostRuntime) -> Result<(), Fail> {
+    let alloc = rt.alloc();
+    assert!(rt; has_fault(alloc, 5, 5, "")?);
+    assert!(rt;
+        has_fault(
+            alloc,
+            5,
+            1,
+            "type 0: the rows of its components exceed the table"
+        )?
+    );
+    assert!(rt;
+        has_fault(
+            alloc,
+            5,
+            2,
+            "type 0: the rows of its additions exceed the table"
+        )?
+    );
+    assert!(rt;
+        has_fault(
+            alloc,
+            5,
+            4,
+            "type 3: the rows of its alternatives exceed the table"
+        )?
+    );
+    assert!(rt;
+        has_fault(
+            alloc,
+            3,
+            5,
+            "type 2: it names a type that the tables do not have"
+        )?
+    );
+    assert!(rt;
+        has_fault(
+            alloc,
+            4,
+            5,
+            "member 3: it names a type that the tables do not have"
+        )?
+    );
+    Ok(())
+}
+
+#[test]
+fn the_alphabet_of_a_string_is_checked(rt: HostRuntime) -> Result<(), Fail> {
+    let members: [Member; 0] = [];
+    let ranges = [
+        Range {
+            first: 48,
+            last: 57,
+        },
+        Range {
+            first: 65,
+            last: 90,
+        },
+        Range {
+            first: 48,
+            last: 48,
+        },
+        Range {
+            first: 91,
+            last: 91,
+        },
+    ];
+    let whole = Rows { from: 0, count: 2 };
+    let expected = [
+        (0, 2, None),
+        (2, 1, None),
+        (3, 1, Some(NodeFault::NotWithin)),
+        (1, 2, Some(NodeFault::NotAscending)),
+        (0, 0, Some(NodeFault::NoRange)),
+        (3, 2, Some(NodeFault::Alphabet)),
+    ];
+    for (from, count, fault) in expected {
+        let nodes = [Node::Text {
+            length: Length::AtLeast { least: 0 },
+            is_extensible: false,
+            alphabet: Rows { from, count },
+            whole,
+        }];
+        let tables = Tables {
+            nodes: &nodes,
+            members: &members,
+            ranges: &ranges,
+        };
+        let found = match check(&tables) {
+            Err(TableFault::Type { row: 0, fault }) => Some(fault),
+            _ => None,
+        };
+        assert!(rt; found == fault);
     }
     Ok(())
 }

@@ -1,0 +1,5 @@
+//! Tests of `asn1_builder`.
+#![tactic(auto)]
+
+#[cfg(test)]
+mod parts;
