@@ -4,12 +4,13 @@ use crate::scope::{Place, Scope};
 use asn1_notation::{Entry, Item, NotationError, Problem, wide};
 
 impl<'r> Scope<'r> {
-    /// Returns the definition that a module imports under a name. `None` if there is none.
-    pub(crate) fn imported(self, module: usize, name: Entry) -> Option<Place> {
-        let import = self.listed_in(module, name, true)?;
+    /// Returns the definition that a module imports under a name, by the index of the name's list. `None` if
+    /// there is none.
+    pub(crate) fn imported(self, list: usize, module: usize, name: Entry) -> Option<Place> {
+        let import = self.listed_in(list, module, name, true)?;
         let from = self.module_after(import)?;
         let module = self.module_named(self.entry(from))?;
-        let index = self.defined_in(module, name)?;
+        let index = self.listed_in(list, module, name, false)?;
         Some(Place {
             module,
             index,

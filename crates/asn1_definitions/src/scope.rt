@@ -171,13 +171,20 @@ impl<'r> Scope<'r> {
 
     /// Returns the definition of a name in a module itself. `None` if there is none.
     pub fn defined_in(self, module: usize, name: Entry) -> Option<usize> {
-        self.listed_in(module, name, false)
+        self.listed_in(list_of(self.text_of(name)), module, name, false)
     }
 
-    /// Returns the definition, or the import, of a name in a module. `None` if there is none.
-    pub(crate) fn listed_in(self, module: usize, name: Entry, is_import: bool) -> Option<usize> {
+    /// Returns the definition, or the import, of a name in a module, by the index of the name's list. `None`
+    /// if there is none.
+    pub(crate) fn listed_in(
+        self,
+        list: usize,
+        module: usize,
+        name: Entry,
+        is_import: bool,
+    ) -> Option<usize> {
         let end = wide(self.entry(module).end);
-        let mut next = *self.lists.get(list_of(self.text_of(name)))?;
+        let mut next = *self.lists.get(list)?;
         for _ in 0..self.most() {
             if next == 0 {
                 return None;
@@ -227,17 +234,23 @@ impl<'r> Scope<'r> {
                     None => Err(self.error(Problem::Undefined, place)),
                 }
             }
-            _ => match self.defined_in(place.module, entry) {
-                Some(index) => Ok(Place {
-                    index,
-                    instance: 0,
-                    ..place
-                }),
-                None => match self.imported(place.module, entry) {
-                    Some(found) => Ok(found),
-                    None => Err(self.undefined(place)),
-                },
-            },
+            _ => self.definition_here(place, entry),
+        }
+    }
+
+    /// Returns the definition of a name in its module itself, or in one that it is imported from.
+    fn definition_here(self, place: Place, name: Entry) -> Result<Place, NotationError> {
+        let list = list_of(self.text_of(name));
+        if let Some(index) = self.listed_in(list, place.module, name, false) {
+            return Ok(Place {
+                index,
+                instance: 0,
+                ..place
+            });
+        }
+        match self.imported(list, place.module, name) {
+            Some(found) => Ok(found),
+            None => Err(self.undefined(place)),
         }
     }
 

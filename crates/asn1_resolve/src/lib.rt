@@ -28,6 +28,7 @@ mod tag_tables;
 #[cfg(test)]
 mod tests;
 mod values;
+mod workroom;
 
 pub use builder::{Builder, DefaultText, Draft, Enumeral, Key, NO_DRAFT, NO_KEY, NamedType};
 pub use error::SchemaError;

@@ -178,7 +178,10 @@ END";
         return Ok(());
     };
     let contents = |index: usize| {
-        let member = schema.tables().members.get(root.from.saturating_add(index))?;
+        let member = schema
+            .tables()
+            .members
+            .get(root.from.saturating_add(index))?;
         schema.contents_type(member.node)
     };
     assert!(rt; contents(0) == Some(node) && contents(1) == Some(node));
