@@ -70,7 +70,8 @@ pub(crate) struct Counts {
     pub(crate) objects: usize,
 }
 
-/// How many components, tags or names one type has at most, unless it has more.
+/// How many components, tags or names one type has at most, and how many ranges of characters all types
+/// have, unless they have more.
 const FEW: usize = 128;
 
 impl Counts {
@@ -79,7 +80,7 @@ impl Counts {
         let mut counts = Counts {
             nodes: 0,
             members: 0,
-            ranges: WHOLE_ALPHABETS.len(),
+            ranges: WHOLE_ALPHABETS.len() + FEW,
             enumerals: 0,
             defaults: 0,
             types: 0,
@@ -101,6 +102,9 @@ impl Counts {
                 counts.add_all(entries);
             }
         }
+        // A field of a class that is an ENUMERATED has its values once more for each use.
+        let again = counts.enumerals.saturating_add(counts.opens);
+        counts.enumerals = again.saturating_mul(2);
         counts.tag_rows = counts.nodes.saturating_mul(2);
         counts.first_rows = counts.members.saturating_mul(2);
         counts.objects = counts.opens.saturating_mul(4);
