@@ -17,7 +17,7 @@ _asn1() {
     case $before in
         --rules) words="der uper aper" ;;
         --from) words="binary hex base64 pem" ;;
-        --to) [ "$task" = decode ] && words="json text" || words="binary hex base64 pem" ;;
+        --to) [ "$task" = decode ] && words="json text tree" || words="binary hex base64 pem" ;;
         --type) words=$(_asn1_types) ;;
         --depth | --parts) return ;;
         --input)

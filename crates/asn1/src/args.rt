@@ -9,7 +9,7 @@ use std::alloc::{AllocError, Global};
 /// The names of rules and of forms.
 static RULES: [&str; 3] = ["der", "uper", "aper"];
 
-static PRINTED: [&str; 2] = ["json", "text"];
+static PRINTED: [&str; 3] = ["json", "text", "tree"];
 
 static FORMS: [&str; 4] = ["binary", "hex", "base64", "pem"];
 
@@ -55,6 +55,28 @@ impl Task {
     }
 }
 
+/// How values are printed.
+#[derive(Clone, Copy, Debug, PartialEq, Eq)]
+pub enum Output {
+    /// As JSON (X.697).
+    Json,
+    /// In the value notation of X.680.
+    Notation,
+    /// As a tree: a line for each value.
+    Tree,
+}
+
+impl Output {
+    /// Returns how values are printed by a name. Without a name it is as JSON.
+    fn named(name: &str) -> Output {
+        match name {
+            "text" => Output::Notation,
+            "tree" => Output::Tree,
+            _ => Output::Json,
+        }
+    }
+}
+
 /// What the words after a subcommand say.
 #[derive(Clone, Copy, Debug)]
 pub struct Options<'m> {
@@ -66,8 +88,8 @@ pub struct Options<'m> {
     pub from: Option<Form>,
     /// The form of the output.
     pub to: Form,
-    /// Whether values are printed in the value notation of X.680, and not as JSON.
-    pub is_notation: bool,
+    /// How values are printed.
+    pub printed: Output,
     /// Whether octets may follow a value.
     pub is_prefix: bool,
     /// A value may be nested less deep than this.
@@ -97,7 +119,7 @@ impl<'m> Options<'m> {
             type_name: value_of(matches, "type"),
             from: Form::named(from),
             to: Form::named(to).unwrap_or(Form::Binary),
-            is_notation: value_of(matches, "to") == "text",
+            printed: Output::named(to),
             is_prefix: matches.get_flag("rest"),
             depth: matches.get_one("depth").unwrap_or(DEPTH),
             parts: matches.get_one("parts").unwrap_or(PARTS),
@@ -137,7 +159,8 @@ fn form<'a>(alloc: Global, name: &'a str, help: &'a str) -> Arg<'a> {
 /// Returns the option that says how values are printed.
 fn printed<'a>(alloc: Global) -> Arg<'a> {
     let names: &'a [&'a str] = &PRINTED;
-    let help = "How values are printed: JSON, or the value notation of X.680 [default: json]";
+    let help =
+        "How values are printed: JSON, the value notation of X.680, or a tree [default: json]";
     option(alloc, "to", "HOW", help).value_parser(ValueParser::Names(names))
 }
 

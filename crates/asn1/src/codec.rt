@@ -1,11 +1,12 @@
 //! What decodes and encodes values, by rules.
 
-ghost use Rattle.std.specs.Prelude.{◌*◌, ◌-◌, ◌^◌, ◌<◌, length};
+ghost use Rattle.std.specs.Prelude.{◌≡◌, ◌*◌, ◌-◌, ◌^◌, ◌<◌, length};
 
 use crate::rules::Rules;
 use asn1_defaults::{DefaultEncodings, DefaultError};
 use asn1_resolve::Schema;
 use asn1_schema::Part;
+use asn1_x690_decode::{Explanation, explain};
 use asn1_x691_encode::Misfit;
 use std::alloc::Global;
 use thiserror::Error;
@@ -83,6 +84,11 @@ impl Codec {
         Ok(Codec { rules, defaults })
     }
 
+    /// Returns whether the rules are DER.
+    pub fn is_der(&self) -> bool {
+        self.rules == Rules::Der
+    }
+
     /// Decodes a value. `parts` receives its first parts, as many as it has room for. Returns how many
     /// parts the value has.
     ///
@@ -104,6 +110,36 @@ impl Codec {
             Rules::Uper => decode_per(schema, defaults, false, target, octets, parts),
             Rules::Aper => decode_per(schema, defaults, true, target, octets, parts),
         }
+    }
+
+    /// Explains a fault that [`Codec::decode`] returned for octets. `None` for a fault of PER.
+    pub fn explain<'x>(
+        &'x self,
+        schema: &'x Schema,
+        octets: &'x [u8],
+        fault: Fault,
+    ) -> Option<Explanation<'x>>
+        requires { 8 * length octets.now < 2 ^ 64 }
+    {
+        let FaultKind::Der(kind) = fault.kind else {
+            return None;
+        };
+        let context = der_context(schema, &self.defaults, octets);
+        let Fault {
+            node,
+            at,
+            parts,
+            ..
+        } = fault;
+        Some(explain(
+            &context,
+            asn1_x690_decode::Fault {
+                node,
+                at,
+                parts,
+                kind,
+            },
+        ))
     }
 
     /// Encodes a value of the type at a node into the caller's octets. The result tells how many octets
@@ -132,6 +168,22 @@ impl Codec {
     }
 }
 
+/// Returns what the decoder of DER is given.
+fn der_context<'x>(
+    schema: &'x Schema,
+    encodings: &'x DefaultEncodings,
+    octets: &'x [u8],
+) -> asn1_x690_decode::Context<'x>
+    ensures { result.octets.now ≡ octets.now }
+{
+    asn1_x690_decode::Context {
+        tables: schema.tables(),
+        tags: schema.tag_tables(),
+        defaults: encodings.defaults(),
+        octets,
+    }
+}
+
 /// Decodes a value of DER.
 fn decode_der<'x>(
     schema: &'x Schema,
@@ -142,12 +194,7 @@ fn decode_der<'x>(
 ) -> Result<usize, Fault>
     requires { 8 * length octets.now < 2 ^ 64 }
 {
-    let context = asn1_x690_decode::Context {
-        tables: schema.tables(),
-        tags: schema.tag_tables(),
-        defaults: encodings.defaults(),
-        octets,
-    };
+    let context = der_context(schema, encodings, octets);
     let Target { node, depth, .. } = target;
     let decoded = if target.is_prefix {
         match asn1_x690_decode::decode_prefix(&context, depth, node, parts) {

@@ -2,13 +2,16 @@
 
 ghost use Rattle.std.specs.Prelude.{◌*◌, ◌^◌, ◌<◌, length};
 
-use crate::codec::{Codec, Fault, FaultKind, Target};
+use crate::args::Output;
+use crate::codec::{Codec, Fault, Target};
 use crate::stop::Stop;
+use crate::tree::{Source, value_tree};
 use crate::types::words_of;
 use asn1_json::{Contents, PrintError, print_in_notation, print_with_contents};
 use asn1_resolve::Schema;
 use asn1_schema::Part;
 use asn1_schema_values::Path;
+use asn1_x690_decode::{Explanation, Reason};
 use std::alloc::{AllocError, Global};
 
 /// How many parts there is room for before their number is known.
@@ -30,13 +33,12 @@ pub struct Decoder<'s> {
     pub target: Target,
     /// The most parts of a value.
     pub parts: usize,
-    /// Whether values are printed in the value notation of X.680, and not as JSON.
-    pub is_notation: bool,
+    /// How values are printed.
+    pub printed: Output,
 }
 
 impl<'s> Decoder<'s> {
-    /// Returns the JSON or the value notation of the value that octets encode, followed by the end of a
-    /// line.
+    /// Returns the text of the value that octets encode, followed by the end of a line.
     ///
     /// # Errors
     ///
@@ -88,7 +90,8 @@ impl<'s> Decoder<'s> {
                     node: self.target.node,
                     parts: parts.get(..count).unwrap_or(&[]),
                 };
-                Err(Stop::input(fault_text(self.alloc, self.schema, path, fault)))
+                let explained = self.codec.explain(self.schema, octets, fault);
+                Err(Stop::input(fault_text(self.alloc, self.schema, path, fault, explained)))
             }
         }
     }
@@ -97,15 +100,28 @@ impl<'s> Decoder<'s> {
     fn print(&self, octets: &[u8], parts: &[Part], contents: &[Contents]) -> Result<Vec<u8>, Stop> {
         let Target { node, depth, .. } = self.target;
         let schema = self.schema;
-        let printed = if self.is_notation {
-            let text = print_in_notation(self.alloc, schema, octets, parts, contents, depth, node);
-            text.map(String::into_bytes)
-        } else {
-            print_with_contents(self.alloc, schema, octets, parts, contents, depth, node)
+        let printed = match self.printed {
+            Output::Json => {
+                print_with_contents(self.alloc, schema, octets, parts, contents, depth, node)
+            }
+            Output::Notation => {
+                let text = print_in_notation(
+                    self.alloc, schema, octets, parts, contents, depth, node,
+                );
+                text.map(String::into_bytes)
+            }
+            Output::Tree => {
+                let source = Source { octets, parts };
+                let is_der = self.codec.is_der();
+                let text = value_tree(self.alloc, schema, source, contents, is_der, depth, node);
+                text.map(String::into_bytes)
+            }
         };
         match printed {
             Ok(mut text) => {
-                text.push(b'\n')?;
+                if self.printed != Output::Tree {
+                    text.push(b'\n')?;
+                }
                 Ok(text)
             }
             Err(PrintError::Memory) => Err(Stop::Memory),
@@ -114,8 +130,8 @@ impl<'s> Decoder<'s> {
     }
 }
 
-/// Returns a fault in words: the offset of its octet, for PER the bit in it, the path to the value, or
-/// what the node is if the path has no names, and the kind of the fault.
+/// Returns a fault in words: the offset of its octet, for PER the bit in it; the path to the value, or the
+/// name of its type if the path has no steps; and why no value is encoded there.
 ///
 /// # Errors
 ///
@@ -125,18 +141,24 @@ fn fault_text(
     schema: &Schema,
     path: Path<'_>,
     fault: Fault,
+    explained: Option<Explanation<'_>>,
 ) -> Result<String, AllocError> {
-    let (offset, bit) = (fault.at / 8, fault.at % 8);
-    let mut text = format!(in alloc; "offset {offset}")?;
-    if let FaultKind::Per(_) = fault.kind {
-        write!(text, ", bit {bit}")?;
-    }
+    let (mut text, reason) = match explained {
+        Some(explanation) => (
+            format!(in alloc; "offset {}", explanation.offset())?,
+            format!(in alloc; "{}", Reason { explanation })?,
+        ),
+        None => (
+            format!(in alloc; "offset {}, bit {}", fault.at / 8, fault.at % 8)?,
+            format!(in alloc; "{}", fault.kind)?,
+        ),
+    };
     let steps = format!(in alloc; "{path}")?;
     if steps.is_empty() {
         let words = words_of(alloc, schema, fault.node)?;
-        write!(text, ": {words}{}", fault.kind)?;
+        write!(text, ": {words}{reason}")?;
     } else {
-        write!(text, ", {steps}: {}", fault.kind)?;
+        write!(text, ", {steps}: {reason}")?;
     }
     Ok(text)
 }

@@ -37,7 +37,7 @@ impl Form {
     }
 }
 
-/// What is wrong with an input of a form.
+/// Why an input of a form is invalid.
 #[derive(Clone, Copy, Debug, PartialEq, Eq, Error)]
 pub enum FormProblem {
     /// An octet is no hexadecimal digit.
@@ -66,13 +66,13 @@ pub enum FormProblem {
     Memory,
 }
 
-/// What is wrong with an input, and the index of the octet where it is.
+/// The first invalid octet of an input.
 #[derive(Clone, Copy, Debug, PartialEq, Eq, Error)]
 #[error("octet {at}: {problem}")]
 pub struct FormError {
     /// The index of the octet.
     pub at: usize,
-    /// What is wrong.
+    /// Why it is invalid.
     pub problem: FormProblem,
 }
 

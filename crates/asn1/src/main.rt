@@ -5,9 +5,13 @@ mod args;
 mod codec;
 mod decode;
 mod dump;
+mod elements;
 mod encode;
+#[cfg(test)]
+mod fault_tests;
 mod forms;
 mod from_json;
+mod lines;
 mod modules;
 mod opened;
 mod pem;
@@ -20,6 +24,9 @@ mod show;
 mod stop;
 #[cfg(test)]
 mod tests;
+mod tree;
+#[cfg(test)]
+mod tree_tests;
 mod types;
 
 use crate::run::run;

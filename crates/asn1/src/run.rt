@@ -228,7 +228,7 @@ fn decode<R: Runtime + AllocGlobal>(
         codec: &codec,
         target,
         parts: options.parts,
-        is_notation: options.is_notation,
+        printed: options.printed,
     };
     for (index, value) in values.as_slice().iter().enumerate() {
         match decoder.text_of(value.as_slice()) {

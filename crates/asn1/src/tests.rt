@@ -1,3 +1,4 @@
+use crate::args::Output;
 use crate::codec::{Codec, Target};
 use crate::decode::Decoder;
 use crate::dump::tree_of;
@@ -228,7 +229,7 @@ fn decoded(
         codec: &codec,
         target,
         parts,
-        is_notation: false,
+        printed: Output::Json,
     };
     Ok(decoder.text_of(octets))
 }
@@ -339,7 +340,7 @@ fn contents_are_printed_in_the_value_notation(rt: HostRuntime) -> Result<(), Fai
         codec: &codec,
         target,
         parts: 100,
-        is_notation: true,
+        printed: Output::Notation,
     };
     let text = decoder.text_of(&[1, 2, 0x01, 0x40])?;
     let wanted = b"{\n  id 1,\n  value Pair : {\n    a 5\n  }\n}\n";
