@@ -15,8 +15,7 @@ impl<'a, 's, 't> Maker<'a, 's, 't> {
     /// Appends an OCTET STRING with CONTAINING (X.682 11) whose contents are in the JSON: an object with a
     /// member `containing`. Returns whether it is one.
     pub(crate) fn containing(&mut self, node: usize, item: usize) -> Result<bool, JsonError<'s>> {
-        let (Some(inner), Kind::Object) =
-            (self.schema.contents_type(node), self.item(item)?.kind)
+        let (Some(inner), Kind::Object) = (self.schema.contents_type(node), self.item(item)?.kind)
         else {
             return Ok(false);
         };
