@@ -47,19 +47,43 @@ impl<'r> Scope<'r> {
         self.find_in(place, Item::FieldName).unwrap_or(place)
     }
 
+    /// Returns the name of the field after another one inside a type, as `&b` in `CLASS.&a.&b`. `None` if
+    /// there is none.
+    pub fn next_field_name(self, place: Place, name: Place) -> Option<Place> {
+        let index = wide(self.entry(name.index).end);
+        let next = Place { index, ..place };
+        if index < wide(self.entry(place.index).end) && self.item(next) == Item::FieldName {
+            Some(next)
+        } else {
+            None
+        }
+    }
+
+    /// Returns the field of a class with a name.
+    fn field_in(self, class: Place, name: Place) -> Result<Place, NotationError> {
+        let entry = self.entry(name.index);
+        self.named_in(class, Item::Field, entry)
+            .ok_or(self.error(Problem::Undefined, name))
+    }
+
     /// Returns what the field of a class is.
     pub fn field_of(self, place: Place) -> Result<Field, NotationError> {
-        let name = self.field_name(place);
+        let mut name = self.field_name(place);
         if self.is_builtin(place) {
             return self.builtin_field(name);
         }
-        let class = self.class_of(place)?;
+        let mut class = self.class_of(place)?;
+        for _ in 0..self.most() {
+            let Some(next) = self.next_field_name(place, name) else {
+                break;
+            };
+            class = self.class_of(self.type_in(self.field_in(class, name)?))?;
+            name = next;
+        }
         if self.is_builtin(class) {
             return self.builtin_field(name);
         }
-        let Some(field) = self.named_in(class, Item::Field, self.entry(name.index)) else {
-            return Err(self.error(Problem::Undefined, name));
-        };
+        let field = self.field_in(class, name)?;
         if self.find_in(field, Item::FieldName).is_some() {
             let feature = "a field whose type is another field (X.681 9.8)";
             return Err(self.error(Problem::Unsupported(feature), name));
@@ -267,12 +291,26 @@ impl<'r> Scope<'r> {
         Ok(())
     }
 
-    /// Returns the braces of an object or of a set of objects, through names.
+    /// Returns the braces of an object or of a set of objects, through names and fields of objects.
     pub fn braces_of(self, place: Place) -> Result<Place, NotationError> {
         let mut found = place;
         for _ in 0..MAX_STEPS {
+            found = self.named_braces(found)?;
             match self.item(found) {
-                Item::Braces => return Ok(found),
+                Item::FromObject => found = self.from_object(found)?,
+                _ => return Ok(found),
+            }
+        }
+        Err(self.error(Problem::Circular, place))
+    }
+
+    /// Returns the braces of an object or of a set of objects, or the field of an object that it is, through
+    /// names.
+    pub(crate) fn named_braces(self, place: Place) -> Result<Place, NotationError> {
+        let mut found = place;
+        for _ in 0..MAX_STEPS {
+            match self.item(found) {
+                Item::Braces | Item::FromObject => return Ok(found),
                 Item::Broken => return Err(self.error(Problem::Consequence, place)),
                 _ => {}
             }

@@ -1,7 +1,7 @@
 //! The hash of names.
 
-/// How many lists of definitions there are.
-pub const LISTS: usize = 256;
+/// How many lists of definitions and imports there are.
+pub const LISTS: usize = 1024;
 
 /// Returns the hash of a name, as FNV-1a has it.
 pub fn hash_of(name: &[u8]) -> u64 {
@@ -15,5 +15,5 @@ pub fn hash_of(name: &[u8]) -> u64 {
 /// Returns the index of the list of a name.
 pub fn list_of(name: &[u8]) -> usize {
     let hash = hash_of(name);
-    usize::from((hash & 0xFF) as u8)
+    usize::from((hash & 0x3FF) as u16)
 }

@@ -1,31 +1,32 @@
 //! Names that a module imports (X.680 13.1).
 
 use crate::scope::{Place, Scope};
-use asn1_notation::{Entry, Item, NotationError, Problem};
+use asn1_notation::{Entry, Item, NotationError, Problem, wide};
 
 impl<'r> Scope<'r> {
-    /// Returns the definition that a module imports under a name. `None` if there is none.
-    pub(crate) fn imported(self, module: usize, name: Entry) -> Option<Place> {
-        let home = Place {
+    /// Returns the definition that a module imports under a name, by the index of the name's list. `None` if
+    /// there is none.
+    pub(crate) fn imported(self, list: usize, module: usize, name: Entry) -> Option<Place> {
+        let import = self.listed_in(list, module, name, true)?;
+        let from = self.module_after(import)?;
+        let module = self.module_named(self.entry(from))?;
+        let index = self.listed_in(list, module, name, false)?;
+        Some(Place {
             module,
-            index: module,
+            index,
             instance: 0,
-        };
-        let mut inside = self.inside(home);
+        })
+    }
+
+    /// Returns the entry of the module that a name is imported from: the first one after the names.
+    fn module_after(self, import: usize) -> Option<usize> {
+        let mut index = import;
         for _ in 0..self.most() {
-            let index = inside.next(self.tape)?;
-            let group = Place { index, ..home };
-            if self.item(group) == Item::Imports
-                && self.named_in(group, Item::Import, name).is_some()
-            {
-                let from = self.find_in(group, Item::ImportModule)?;
-                let module = self.module_named(self.entry(from.index))?;
-                let index = self.defined_in(module, name)?;
-                return Some(Place {
-                    module,
-                    index,
-                    instance: 0,
-                });
+            let entry = *self.tape.get(index)?;
+            match entry.item {
+                Item::ImportModule => return Some(index),
+                Item::Import => index = wide(entry.end),
+                _ => return None,
             }
         }
         None

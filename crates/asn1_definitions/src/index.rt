@@ -1,12 +1,12 @@
-//! Puts the definitions of a text in lists, and numbers the types that have nodes of their own.
+//! Puts the definitions and imports of a text in lists, and numbers the types that have nodes of their own.
 
 use crate::hash::list_of;
 use crate::instances::{Instance, place_nodes};
 use crate::scope::{Place, Scope};
 use asn1_notation::{Entry, Item, NotationError, Problem, error_at, narrow, part_of, wide};
 
-/// Puts a definition in the list of its name, and returns its link.
-fn list_definition(
+/// Puts a definition or an import in the list of its name, and returns its link.
+fn put_in_list(
     text: &[u8],
     entry: Entry,
     index: usize,
@@ -22,7 +22,7 @@ fn list_definition(
     Ok(link)
 }
 
-/// Puts each definition in the list of its name.
+/// Puts each definition and each import in the list of its name.
 pub fn index_definitions(
     text: &[u8],
     tape: &mut [Entry],
@@ -56,7 +56,9 @@ pub fn index_definitions(
             if scope.defined_in(module, entry).is_some() {
                 return Err(error_at(Problem::Duplicate, wide(entry.from)));
             }
-            link = list_definition(text, entry, index, lists)?;
+        }
+        if entry.item.is_definition() || entry.item == Item::Import {
+            link = put_in_list(text, entry, index, lists)?;
         }
         if let Some(kept) = tape.get_mut(index) {
             *kept = Entry { link, ..entry };
@@ -93,6 +95,9 @@ impl Numbering {
         let entry = scope.entry(index);
         match entry.item {
             Item::Module => self.module = index,
+            Item::ValueDefinition | Item::SetDefinition if scope.is_parameterized(place) => {
+                self.without = wide(entry.end);
+            }
             Item::ValueDefinition | Item::SetDefinition => {
                 let of = scope.type_in(place);
                 self.without = wide(scope.entry(of.index).end);
@@ -180,8 +185,9 @@ pub fn number_types(
 /// Returns whether a type of a parameterized definition has a node of its own in each instance.
 fn may_have_node(scope: Scope<'_>, place: Place) -> bool {
     match scope.item(place) {
-        Item::Reference | Item::ExternalReference => {
+        Item::Reference | Item::ExternalReference | Item::TypeFromObject => {
             scope.find_in(place, Item::Constraint).is_some()
+                || scope.find_in(place, Item::Containing).is_some()
         }
         Item::Tagged | Item::Selection | Item::Class => false,
         _ => true,
@@ -198,7 +204,9 @@ fn has_node(scope: Scope<'_>, place: Place) -> Result<bool, NotationError> {
     if base.index == place.index {
         return Ok(true);
     }
-    if scope.find_in(place, Item::Constraint).is_none() {
+    if scope.find_in(place, Item::Constraint).is_none()
+        && scope.find_in(place, Item::Containing).is_none()
+    {
         return Ok(false);
     }
     Ok(match scope.item(base) {

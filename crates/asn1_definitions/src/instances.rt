@@ -23,6 +23,9 @@ pub struct Instance {
     pub first_inner: usize,
 }
 
+/// What is an error where it is used.
+pub const PARAMETERIZED: &str = "a parameterized object or set (X.683 8.2)";
+
 const TEXT: Place = Place {
     module: 0,
     index: 0,
@@ -47,8 +50,8 @@ pub struct Walk {
 impl Walk {
     /// Returns the next entry. `None` if there is none.
     ///
-    /// The entries of a parameterized type belong to its instances: in the text itself its definition is
-    /// followed by the next one.
+    /// The entries of a parameterized definition belong to its instances: in the text itself it is followed
+    /// by the next one.
     pub fn next(&mut self, scope: Scope<'_>) -> Option<Place> {
         if self.end <= self.place.index {
             return None;
@@ -87,7 +90,7 @@ impl<'r> Scope<'r> {
 
     /// Returns whether a definition has parameters.
     pub fn is_parameterized(self, definition: Place) -> bool {
-        self.item(definition) == Item::TypeDefinition
+        self.item(definition).is_definition()
             && end_of_parameters(self.tape, definition.index).is_some()
     }
 
@@ -190,6 +193,9 @@ impl<'r> Scope<'r> {
         if !self.is_parameterized(definition) {
             return Err(self.error(Problem::Arguments, name));
         }
+        if self.item(definition) != Item::TypeDefinition {
+            return Err(self.error(Problem::Unsupported(PARAMETERIZED), name));
+        }
         let parameters = Place {
             index: definition.index.saturating_add(1),
             ..definition
@@ -233,8 +239,8 @@ fn next_use(scope: Scope<'_>, walk: &mut Walk) -> Option<(Place, Place)> {
     None
 }
 
-/// Numbers the arguments in each parameterized type and in the text without them, from 1 on, in their
-/// links.
+/// Numbers the arguments in each parameterized definition and in the text without them, from 1 on, in
+/// their links.
 fn number_arguments(tape: &mut [Entry]) {
     let mut in_text = 0u32;
     let mut in_type = 0u32;
@@ -244,7 +250,7 @@ fn number_arguments(tape: &mut [Entry]) {
         let Some(entry) = tape.get_mut(index) else {
             break;
         };
-        if entry.item == Item::TypeDefinition && parameters_end.is_some() {
+        if entry.item.is_definition() && parameters_end.is_some() {
             in_type = 0;
             type_end = wide(entry.end);
         }

@@ -5,6 +5,7 @@
 mod characters;
 mod constraints;
 mod fields;
+mod from_objects;
 mod hash;
 mod imports;
 mod index;
@@ -18,7 +19,7 @@ pub use constraints::permitted_by;
 pub use fields::Field;
 pub use hash::{LISTS, hash_of};
 pub use index::{check_imports, index_definitions, number_types};
-pub use instances::{Instance, MAX_INSTANCES, NO_INSTANCE, Walk, find_instances};
+pub use instances::{Instance, MAX_INSTANCES, NO_INSTANCE, PARAMETERIZED, Walk, find_instances};
 pub use permitted::{Hull, Permitted};
 pub use scope::{Inside, MAX_STEPS, Place, Scope};
 pub use tags::{Tag, context};

@@ -42,6 +42,10 @@ impl<'r> Scope<'r> {
                     governor = Some(self.base(of)?);
                     found = value;
                 }
+                Item::FromObject => {
+                    governor = None;
+                    found = self.from_object(found)?;
+                }
                 Item::Broken => return Err(self.error(Problem::Consequence, place)),
                 _ => return Err(self.error(Problem::Expected("a number"), place)),
             }
@@ -69,6 +73,7 @@ impl<'r> Scope<'r> {
                     let (value, _) = self.named_value(found)?;
                     found = value;
                 }
+                Item::FromObject => found = self.from_object(found)?,
                 Item::Broken => return Err(self.error(Problem::Consequence, place)),
                 Item::Braces => {
                     let feature = "a character by its number (X.680 41.8)";

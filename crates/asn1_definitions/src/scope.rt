@@ -47,10 +47,10 @@ impl Inside {
     }
 }
 
-/// A text, its entries, and its definitions in lists by the hash of their names.
+/// A text, its entries, and its definitions and imports in lists by the hash of their names.
 ///
-/// A list is one more than the index of its first definition, or 0 if it is empty. The link of a
-/// definition is the same of the next one. The link of a type is one more than its node among those of
+/// A list is one more than the index of its first definition or import, or 0 if it is empty. The link of
+/// each is the same of the next one. The link of a type is one more than its node among those of
 /// its instance, or 0 if it has no node of its own.
 #[derive(Clone, Copy, Drop)]
 pub struct Scope<'r> {
@@ -171,15 +171,31 @@ impl<'r> Scope<'r> {
 
     /// Returns the definition of a name in a module itself. `None` if there is none.
     pub fn defined_in(self, module: usize, name: Entry) -> Option<usize> {
+        self.listed_in(list_of(self.text_of(name)), module, name, false)
+    }
+
+    /// Returns the definition, or the import, of a name in a module, by the index of the name's list. `None`
+    /// if there is none.
+    pub(crate) fn listed_in(
+        self,
+        list: usize,
+        module: usize,
+        name: Entry,
+        is_import: bool,
+    ) -> Option<usize> {
         let end = wide(self.entry(module).end);
-        let mut next = *self.lists.get(list_of(self.text_of(name)))?;
+        let mut next = *self.lists.get(list)?;
         for _ in 0..self.most() {
             if next == 0 {
                 return None;
             }
             let index = wide(next - 1);
             let entry = self.entry(index);
-            if module < index && index < end && self.is_same(entry, name) {
+            if module < index
+                && index < end
+                && is_import == (entry.item == Item::Import)
+                && self.is_same(entry, name)
+            {
                 return Some(index);
             }
             next = entry.link;
@@ -218,17 +234,23 @@ impl<'r> Scope<'r> {
                     None => Err(self.error(Problem::Undefined, place)),
                 }
             }
-            _ => match self.defined_in(place.module, entry) {
-                Some(index) => Ok(Place {
-                    index,
-                    instance: 0,
-                    ..place
-                }),
-                None => match self.imported(place.module, entry) {
-                    Some(found) => Ok(found),
-                    None => Err(self.undefined(place)),
-                },
-            },
+            _ => self.definition_here(place, entry),
+        }
+    }
+
+    /// Returns the definition of a name in its module itself, or in one that it is imported from.
+    fn definition_here(self, place: Place, name: Entry) -> Result<Place, NotationError> {
+        let list = list_of(self.text_of(name));
+        if let Some(index) = self.listed_in(list, place.module, name, false) {
+            return Ok(Place {
+                index,
+                instance: 0,
+                ..place
+            });
+        }
+        match self.imported(list, place.module, name) {
+            Some(found) => Ok(found),
+            None => Err(self.undefined(place)),
         }
     }
 
@@ -278,6 +300,10 @@ impl<'r> Scope<'r> {
         if self.item(found) != Item::ValueDefinition {
             return Err(self.error(Problem::NotA("a value"), place));
         }
+        if self.is_parameterized(found) {
+            let feature = "a parameterized value (X.683 8.2)";
+            return Err(self.error(Problem::Unsupported(feature), place));
+        }
         match self.value_in(found) {
             Some(value) => Ok((value, self.type_in(found))),
             None => Err(self.error(Problem::NotA("a value"), place)),
@@ -293,6 +319,7 @@ impl<'r> Scope<'r> {
                 Field::Type(of) => Some(of),
                 Field::Open | Field::Identifier => None,
             },
+            Item::TypeFromObject => Some(self.type_from_object(place)?),
             Item::Selection => Some(self.selected(place)?),
             Item::Tagged => Some(self.type_in(place)),
             _ => None,

@@ -125,11 +125,11 @@ impl<'r> Scope<'r> {
     /// Returns whether the components of a type have an extension marker: one is written, or its
     /// module implies it (X.680 13.4).
     pub fn is_extensible(self, place: Place) -> bool {
-        let module = Place {
-            index: place.module,
-            ..place
-        };
-        self.find_in(place, Item::Ellipsis).is_some()
-            || self.find_in(module, Item::ExtensibilityImplied).is_some()
+        self.find_in(place, Item::Ellipsis).is_some() || self.implies_extensions(place)
+    }
+
+    /// Returns whether the module of an entry has EXTENSIBILITY IMPLIED, which is its first entry.
+    fn implies_extensions(self, place: Place) -> bool {
+        self.entry(place.module.saturating_add(1)).item == Item::ExtensibilityImplied
     }
 }

@@ -1,4 +1,4 @@
-//! Open types from JSON.
+//! Open types, and OCTET STRINGs with CONTAINING, from JSON.
 
 use crate::draft::Draft;
 use crate::parse::{JsonError, Maker, expected};
@@ -8,10 +8,27 @@ use asn1_resolve::OpenKey;
 use asn1_schema::Rows;
 use std::str;
 
-/// How deep the component may be nested that tells what the contents of an open type are.
+/// The most levels of nesting of the component that determines the type of the contents of an open type.
 const KEY_DEPTH: usize = 3;
 
 impl<'a, 's, 't> Maker<'a, 's, 't> {
+    /// Appends an OCTET STRING with CONTAINING (X.682 11) whose contents are in the JSON: an object with a
+    /// member `containing`. Returns whether it is one.
+    pub(crate) fn containing(&mut self, node: usize, item: usize) -> Result<bool, JsonError<'s>> {
+        let (Some(inner), Kind::Object) =
+            (self.schema.contents_type(node), self.item(item)?.kind)
+        else {
+            return Ok(false);
+        };
+        match self.tree.member(item, CONTAINING) {
+            Some(contents) if self.tree.count_in(item) == 1 => {
+                self.draft.push_pending(inner, contents)?;
+                Ok(true)
+            }
+            _ => Err(expected(item, "hexadecimal digits, or an object with `containing`")),
+        }
+    }
+
     /// Appends a value of an open type whose contents are in the JSON: an object with a member
     /// `containing`. Returns whether it is one.
     #[cycle(making)]

@@ -29,7 +29,7 @@ pub use draft::{Draft, Pending};
 pub use opens::{Contents, OpenValue, octets_of_part, open_values};
 pub use parse::{JsonError, JsonProblem, parse_value, parse_value_at};
 pub use place::{line_and_column, path_of};
-pub use print::{PrintError, print_in_notation, print_value, print_with_contents};
+pub use print::{PrintError, print_in_notation, print_value, print_with_contents, row_of};
 pub use tree::{Item, Kind, Tree, TreeError};
 
 #[cfg(test)]

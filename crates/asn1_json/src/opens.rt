@@ -1,12 +1,14 @@
-//! The open types among the parts of a message (X.682 10).
+//! The open types among the parts of a message (X.682 10), and OCTET STRINGs with CONTAINING (X.682 11).
 
 use crate::bits::{octets_in, octets_of};
+use crate::print::row_of;
 use asn1_resolve::{OpenKey, OpenType, Schema};
 use asn1_schema::{Node, Part, Rows};
 use asn1_schema_values::end_of_values;
 use std::alloc::{AllocError, Global};
 
-/// The value of an open type, whose contents another component tells.
+/// A value of an open type whose contents another component tells (X.682 10), or of an OCTET STRING with
+/// CONTAINING (X.682 11).
 #[derive(Clone, Copy, Debug, PartialEq, Eq)]
 pub struct OpenValue {
     /// The index of its part.
@@ -18,8 +20,8 @@ pub struct OpenValue {
 /// The contents of an open type, decoded.
 #[derive(Debug, Drop)]
 pub struct Contents {
-    /// What has the open type among its parts: 0 for the message, otherwise one more than the index of its
-    /// contents.
+    /// Which value contains the open type: 0 for the message, otherwise one more than the index of the
+    /// contents of another open type.
     pub inside: usize,
     /// The value.
     pub value: OpenValue,
@@ -29,7 +31,7 @@ pub struct Contents {
     pub parts: Vec<Part>,
 }
 
-/// Returns the octets that a part of a message has. `None` if it is none of octets.
+/// Returns the octets of a part of a message. `None` if the part has no octets.
 ///
 /// # Errors
 ///
@@ -46,8 +48,9 @@ pub fn octets_of_part(
     }
 }
 
-/// Returns the values of open types among the parts of a value of the type at a node, those whose contents
-/// are of a type that the schema knows. A value may be nested less deep than `depth`.
+/// Returns the values of open types, and of OCTET STRINGs with CONTAINING, among the parts of a value of
+/// the type at a node. It leaves out those for which the schema does not know the type of the contents. The value must be nested less deep than
+/// `depth`.
 ///
 /// # Errors
 ///
@@ -88,7 +91,8 @@ struct Siblings {
 }
 
 impl<'a> Finder<'a> {
-    /// Returns the node of a member.
+    /// Returns the node of the type of a member. It is `usize::MAX`, which is no node, if the schema has no
+    /// such member.
     fn node_of(&self, row: usize) -> usize {
         match self.schema.tables().members.get(row) {
             Some(member) => member.node,
@@ -120,13 +124,22 @@ impl<'a> Finder<'a> {
                 additions,
                 ..
             } => match self.parts.get(at).copied() {
-                Some(Part::Chosen(index)) => {
-                    let row = row_of(alternatives, additions, index);
-                    self.value(depth - 1, self.node_of(row), next)
-                }
+                Some(Part::Chosen(index)) => match row_of(alternatives, additions, index) {
+                    Some(row) => self.value(depth - 1, self.node_of(row), next),
+                    None => Ok(next),
+                },
                 _ => Ok(next),
             },
             Node::Open { inner } => self.value(depth - 1, inner, at),
+            Node::OctetString { .. } => {
+                if let Some(inner) = self.schema.contents_type(node) {
+                    self.found.push(OpenValue {
+                        part: at,
+                        node: inner,
+                    })?;
+                }
+                Ok(next)
+            }
             _ => Ok(next),
         }
     }
@@ -219,14 +232,5 @@ impl<'a> Finder<'a> {
             self.found.push(OpenValue { part, node })?;
         }
         Ok(())
-    }
-}
-
-/// Returns the row of an alternative, or a row that there is not.
-fn row_of(alternatives: Rows, additions: Rows, index: usize) -> usize {
-    match index.checked_sub(alternatives.count as usize) {
-        None => alternatives.from.saturating_add(index),
-        Some(added) if added < additions.count as usize => additions.from.saturating_add(added),
-        Some(_) => usize::MAX,
     }
 }

@@ -8,7 +8,7 @@ use std::alloc::{AllocError, AllocFailed, Global};
 use std::str;
 use thiserror::Error;
 
-/// What is wrong with an item.
+/// Why an item is invalid.
 #[derive(Clone, Copy, Debug, PartialEq, Eq, Error)]
 pub enum JsonProblem<'s> {
     /// Another value was expected.
@@ -40,12 +40,12 @@ pub enum JsonProblem<'s> {
     Memory,
 }
 
-/// What is wrong with JSON, and the index of the item.
+/// The first invalid item of JSON.
 #[derive(Clone, Copy, Debug, PartialEq, Eq)]
 pub struct JsonError<'s> {
     /// The index of the item in its tree.
     pub item: usize,
-    /// What is wrong with it.
+    /// Why it is invalid.
     pub problem: JsonProblem<'s>,
 }
 

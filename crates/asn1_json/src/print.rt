@@ -38,7 +38,7 @@ impl From<AllocError> for PrintError {
 ///
 /// # Errors
 ///
-/// Returns `NoValue` if the parts are no value of the type: a decoder gives no such parts.
+/// Returns `NoValue` if the parts are no value of the type: a decoder returns no such parts.
 pub fn print_value(
     alloc: Global,
     schema: &Schema,
@@ -52,12 +52,13 @@ pub fn print_value(
     print_with_contents(alloc, schema, message, parts, &[], depth, node)
 }
 
-/// Prints a value as `print_value`, and the contents of open types in it as `{"containing": value}`.
-/// `contents` must be in the order of the values that they are in, and there in that of their parts.
+/// Prints a value as [`print_value`] does, and the contents of open types in it as
+/// `{"containing": value}`. `contents` must be sorted by [`Contents::inside`], and then by the index of
+/// the part of the open type. Otherwise some contents are printed as hexadecimal digits.
 ///
 /// # Errors
 ///
-/// Returns `NoValue` if the parts are no value of the type: a decoder gives no such parts.
+/// Returns `NoValue` if the parts are no value of the type: a decoder returns no such parts.
 pub fn print_with_contents(
     alloc: Global,
     schema: &Schema,
@@ -74,12 +75,12 @@ pub fn print_with_contents(
     Ok(printer.into_octets())
 }
 
-/// Prints a value as `print_with_contents`, in the value notation of X.680. What the schema does not know
-/// is in comments.
+/// Prints a value in the value notation of X.680. `contents` must be sorted as for
+/// [`print_with_contents`]. A comment replaces each value that the schema does not know.
 ///
 /// # Errors
 ///
-/// Returns `NoValue` if the parts are no value of the type: a decoder gives no such parts.
+/// Returns `NoValue` if the parts are no value of the type: a decoder returns no such parts.
 pub fn print_in_notation(
     alloc: Global,
     schema: &Schema,
@@ -124,7 +125,10 @@ impl<'a> Printer<'a> {
             Node::Open { inner } => self.value(depth - 1, inner, at),
             leaf => {
                 match self.contents_at(at) {
-                    Some((index, contents)) => self.contents(depth - 1, index, contents)?,
+                    Some((index, contents)) => {
+                        let is_containing = self.schema.contents_type(node).is_some();
+                        self.contents(depth - 1, is_containing, index, contents)?;
+                    }
                     None => self.leaf(node, leaf, at)?,
                 }
                 Ok(at.saturating_add(1))
@@ -132,18 +136,20 @@ impl<'a> Printer<'a> {
         }
     }
 
-    /// Prints the contents of an open type as an object with one member.
+    /// Prints the contents of an open type, or of an OCTET STRING with CONTAINING, as an object with one
+    /// member.
     #[cycle(printing)]
     fn contents(
         &mut self,
         depth: usize,
+        is_containing: bool,
         index: usize,
         contents: &'a Contents,
     ) -> Result<(), PrintError> {
         let inside = self.inside;
         let message = self.message;
         let parts = self.parts;
-        self.begin_contents(contents.value.node)?;
+        self.begin_contents(contents.value.node, is_containing)?;
         self.inside = index.saturating_add(1);
         self.message = contents.octets.as_slice();
         self.parts = contents.parts.as_slice();
@@ -279,8 +285,9 @@ impl<'a> Printer<'a> {
     }
 }
 
-/// Returns the row of an alternative. `None` if there is none.
-fn row_of(alternatives: Rows, additions: Rows, index: usize) -> Option<usize>
+/// Returns the row of an alternative in the table of members, by its index among the alternatives of the
+/// root and then the additions. `None` if there is no such alternative.
+pub fn row_of(alternatives: Rows, additions: Rows, index: usize) -> Option<usize>
     ensures root { index < alternatives.count → alternatives.from + index < 2 ^ 64
         → result ≡ Some (alternatives.from + index) }
     ensures added { alternatives.count ≤ index → index < alternatives.count + additions.count

@@ -195,12 +195,19 @@ impl<'a> Printer<'a> {
         Ok(())
     }
 
-    /// Prints what precedes the contents of an open type at a node (X.681 14.6).
-    pub(crate) fn begin_contents(&mut self, node: usize) -> Result<(), PrintError> {
+    /// Prints what precedes the contents of an open type (X.681 14.6), or of an OCTET STRING with
+    /// CONTAINING (X.680 23.3), whose type is at a node.
+    pub(crate) fn begin_contents(
+        &mut self,
+        node: usize,
+        is_containing: bool,
+    ) -> Result<(), PrintError> {
         let name = self.schema.names().of_node(node).unwrap_or(&[]);
         let name = str::from_utf8(name).unwrap_or("");
         if let Some(out) = self.notation() {
-            if !name.is_empty() {
+            if is_containing {
+                out.push("CONTAINING ")?;
+            } else if !name.is_empty() {
                 out.push(name)?;
                 out.push(" : ")?;
             }

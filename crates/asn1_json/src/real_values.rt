@@ -3,7 +3,7 @@
 use crate::parse::{JsonError, Maker, expected};
 use crate::print::PrintError;
 use crate::printer::{NO_VALUE, Printer};
-use crate::reals::{Real, append_decimal, append_float, real_of};
+use crate::reals::{Real, append_decimal, append_float, real_of, special_of};
 use crate::tree::Kind;
 use asn1_schema::Part;
 use ryu::Buffer;
@@ -70,35 +70,36 @@ impl<'a, 's, 't> Maker<'a, 's, 't> {
                 }
                 _ => false,
             },
-            Kind::Text("INF") => append_one(&mut octets, 0x40)?,
-            Kind::Text("-INF") => append_one(&mut octets, 0x41)?,
-            Kind::Text("NaN") => append_one(&mut octets, 0x42)?,
-            Kind::Text("-0") => append_one(&mut octets, 0x43)?,
+            Kind::Text(name) => match special_of(name) {
+                Some(octet) => {
+                    octets.push(octet)?;
+                    true
+                }
+                None => false,
+            },
             _ => self.decimal(item, &mut octets)?,
         };
         if !is_one {
             return Err(expected(
                 item,
-                "a number of 64 bits, INF, -INF, NaN, -0, or an object with `base10Value`",
+                "a number of 64 bits, INF, -INF, NaN, -0, or an object with `base10Value` alone",
             ));
         }
         Ok(Part::Octets(self.draft.add(octets.as_slice())?))
     }
 
-    /// Appends the contents octets of an object with a number of base 10. Returns whether it is one.
+    /// Appends the contents octets of an object whose only member is `base10Value`, a number. Returns
+    /// `false` for any other item.
     fn decimal(&self, item: usize, octets: &mut Vec<u8>) -> Result<bool, JsonError<'s>> {
         let Some(value) = self.tree.member(item, "base10Value") else {
             return Ok(false);
         };
+        if self.tree.count_in(item) != 1 {
+            return Ok(false);
+        }
         match self.item(value)?.kind {
             Kind::Number(text) => Ok(append_decimal(octets, self.alloc, text)?),
             _ => Ok(false),
         }
     }
-}
-
-/// Appends the contents octets of a special value.
-fn append_one(octets: &mut Vec<u8>, octet: u8) -> Result<bool, std::alloc::AllocError> {
-    octets.push(octet)?;
-    Ok(true)
 }

@@ -3,6 +3,9 @@
 use std::alloc::{AllocError, Global};
 use std::num::{f64_from_bits_with_nan, f64_to_bits_with_nan};
 
+/// The contents octet of minus zero (X.690 8.5.9).
+const MINUS_ZERO: u8 = 0x43;
+
 /// The value of a REAL.
 #[derive(Clone, Copy, Debug, PartialEq)]
 pub(crate) enum Real<'o> {
@@ -14,7 +17,8 @@ pub(crate) enum Real<'o> {
     Decimal(&'o [u8]),
 }
 
-/// Returns the number of octets of two's complement, at most two.
+/// Returns the exponent in one or two octets of two's complement (X.690 8.5.7.4). `None` for any other
+/// number of octets.
 fn exponent_of(octets: &[u8]) -> Option<i32> {
     match octets {
         [one] => Some(i8::from_be_bytes([*one]) as i32),
@@ -23,7 +27,8 @@ fn exponent_of(octets: &[u8]) -> Option<i32> {
     }
 }
 
-/// Returns the number of at most seven octets.
+/// Returns the mantissa in octets of an unsigned number, the highest octet first (X.690 8.5.7.5). `None`
+/// for more than seven octets.
 fn mantissa_of(octets: &[u8]) -> Option<u64> {
     if octets.len() > 7 {
         return None;
@@ -71,8 +76,8 @@ fn binary_of(first: u8, rest: &[u8]) -> Option<f64> {
     Some(f64_from_bits_with_nan(sign | bits))
 }
 
-/// Returns the value that contents octets are. There is none where they are a number of base 2 that
-/// 64 bits do not hold.
+/// Returns the value that contents octets encode. `None` for a number of base 2 that 64 bits of IEEE 754
+/// do not hold, and for a first octet that encodes no value.
 pub(crate) fn real_of(octets: &[u8]) -> Option<Real<'_>> {
     let Some((first, rest)) = octets.split_first() else {
         return Some(Real::Binary(0.0));
@@ -82,8 +87,20 @@ pub(crate) fn real_of(octets: &[u8]) -> Option<Real<'_>> {
         0x40 => Some(Real::Named("INF")),
         0x41 => Some(Real::Named("-INF")),
         0x42 => Some(Real::Named("NaN")),
-        0x43 => Some(Real::Named("-0")),
+        MINUS_ZERO => Some(Real::Named("-0")),
         first if first >= 128 => Some(Real::Binary(binary_of(first, rest)?)),
+        _ => None,
+    }
+}
+
+/// Returns the contents octet of a special value by its name in JSON (X.690 8.5.9, X.697). `None` if
+/// there is none with this name.
+pub(crate) fn special_of(name: &str) -> Option<u8> {
+    match name {
+        "INF" => Some(0x40),
+        "-INF" => Some(0x41),
+        "NaN" => Some(0x42),
+        "-0" => Some(MINUS_ZERO),
         _ => None,
     }
 }
@@ -118,7 +135,7 @@ pub(crate) fn append_float(octets: &mut Vec<u8>, number: f64) -> Result<(), Allo
     }
     if biased == 0 && fraction == 0 {
         if is_negative {
-            octets.push(0x43)?;
+            octets.push(MINUS_ZERO)?;
         }
         return Ok(());
     }
@@ -141,8 +158,9 @@ pub(crate) fn append_float(octets: &mut Vec<u8>, number: f64) -> Result<(), Allo
     append_minimal(octets, mantissa.wrapping_shr(zeros))
 }
 
-/// Appends the contents octets of a decimal number in the text of JSON. Returns whether there is one:
-/// an exponent must be below 10^9.
+/// Appends the contents octets of base 10 of a number of JSON, in the form of X.690 11.3.2. Zero has no
+/// octets, and minus zero is a special value (X.690 8.5.2, 8.5.9). Returns `false` and appends nothing if
+/// 32 bits do not hold the exponent in the text.
 pub(crate) fn append_decimal(
     octets: &mut Vec<u8>,
     alloc: Global,
@@ -172,6 +190,9 @@ pub(crate) fn append_decimal(
     let digits = all.as_str().trim_start_matches('0');
     let kept = digits.trim_end_matches('0');
     if kept.is_empty() {
+        if !sign.is_empty() {
+            octets.push(MINUS_ZERO)?;
+        }
         return Ok(true);
     }
     let zeros = digits.len().saturating_sub(kept.len());

@@ -1,7 +1,7 @@
 use crate::decimal::minimal_of;
 use crate::parse::parse_value;
 use crate::print::{print_in_notation, print_value};
-use crate::reals::{Real, append_decimal, append_float, real_of};
+use crate::reals::{Real, append_decimal, append_float, real_of, special_of};
 use crate::tree::Tree;
 use asn1_resolve::Schema;
 use asn1_schema::Part;
@@ -132,7 +132,8 @@ fn a_number_of_64_bits_has_an_odd_mantissa(rt: HostRuntime) -> Result<(), Fail> 
     Ok(())
 }
 
-/// X.690 11.3.2: neither zeros at the end nor a sign before an exponent, but for `+0`.
+/// X.690 11.3.2: neither zeros at the end nor a sign before an exponent, but for `+0`. X.690 8.5.2, 8.5.9:
+/// zero has no octets, and minus zero has one.
 #[test]
 fn a_decimal_number_has_digits_and_an_exponent(rt: HostRuntime) -> Result<(), Fail> {
     for (text, wanted) in [
@@ -141,12 +142,52 @@ fn a_decimal_number_has_digits_and_an_exponent(rt: HostRuntime) -> Result<(), Fa
         ("100", "\u{3}1.E2"),
         ("1E+5", "\u{3}1.E5"),
         ("0.0", ""),
+        ("-0.0", "\u{43}"),
+        ("-0e5", "\u{43}"),
         ("12.50", "\u{3}125.E-1"),
         ("7", "\u{3}7.E+0"),
     ] {
         let mut octets = Vec::new(rt.alloc());
         assert!(rt; append_decimal(&mut octets, rt.alloc(), text)?);
         assert_eq!(rt; octets.as_slice(), wanted.as_bytes());
+    }
+    Ok(())
+}
+
+/// X.690 8.5.9, by the names of X.697.
+#[test]
+fn a_special_value_has_one_octet(rt: HostRuntime) {
+    for (name, octet) in [("INF", 0x40), ("-INF", 0x41), ("NaN", 0x42), ("-0", 0x43)] {
+        assert!(rt; special_of(name) == Some(octet));
+        assert!(rt; real_of(&[octet]) == Some(Real::Named(name)));
+    }
+    assert!(rt; special_of("inf").is_none());
+}
+
+#[test]
+fn a_number_of_base_10_is_alone_in_its_object(rt: HostRuntime) -> Result<(), Fail> {
+    let alloc = rt.alloc();
+    let schema = Schema::parse(alloc, "M DEFINITIONS ::= BEGIN R ::= REAL END")?;
+    let node = schema.node_named("R").ok_or("no type")?;
+    for (text, is_read) in [
+        ("{\"base10Value\": 15}", true),
+        ("{\"base10Value\": 15, \"base\": 10}", false),
+        ("{\"base\": 10, \"base10Value\": 15}", false),
+        ("{\"base10Value\": 15, \"base10Value\": 15}", false),
+        ("{\"base10Value\": \"15\"}", false),
+    ] {
+        let mut scratch = Scratch::new(alloc);
+        let tree = Tree::parse(alloc, text, &mut scratch)?;
+        match parse_value(alloc, &schema, &tree, 10, node) {
+            Ok(draft) => {
+                assert!(rt; is_read);
+                assert!(rt; draft.octets() == b"\x0315.E+0".as_slice());
+            }
+            Err(error) => {
+                assert!(rt; !is_read);
+                assert!(rt; error.item == 0);
+            }
+        }
     }
     Ok(())
 }

@@ -32,6 +32,9 @@ impl<'a, 's, 't> Maker<'a, 's, 't> {
             Node::Enumerated { .. } => self.enumerated(node, item)?,
             Node::BitString { .. } => self.bit_string(of, item)?,
             Node::OctetString { .. } => {
+                if self.containing(node, item)? {
+                    return Ok(());
+                }
                 let octets = self.octets(item)?;
                 Part::Octets(self.draft.add(octets.as_slice())?)
             }

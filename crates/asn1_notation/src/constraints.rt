@@ -1,9 +1,10 @@
 //! Constraints (X.680 49 to 51).
 
 use crate::error::{NotationError, Problem};
-use crate::parser::Parser;
+use crate::parser::{MAX_DEPTH, Parser};
 use crate::tape::Item;
 use crate::token::{Symbol, TokenKind};
+use crate::types::is_plain;
 use crate::word::Word;
 
 impl<'m, 'a> Parser<'m, 'a> {
@@ -89,10 +90,10 @@ impl<'m, 'a> Parser<'m, 'a> {
         Err(self.expected(Symbol::CloseBrace.quoted()))
     }
 
-    /// Reads the number after `!` (X.680 53).
+    /// Reads the value after `!`, which may be after its type (X.680 53).
     pub fn exception(&mut self) -> Result<(), NotationError> {
         if self.accept_symbol(Symbol::Exclamation) {
-            self.value(1)?;
+            self.value(MAX_DEPTH)?;
         }
         Ok(())
     }
@@ -221,6 +222,13 @@ impl<'m, 'a> Parser<'m, 'a> {
                 self.skip_braces()
             }
             TokenKind::Word(Word::With) => self.inner_constraint(depth - 1),
+            TokenKind::Word(word) if is_plain(word) && word != Word::Null => {
+                let index = self.begin(Item::Contained);
+                let inner = self.one_word(word)?;
+                self.close(inner);
+                self.close(index);
+                Ok(())
+            }
             _ => self.range(depth),
         }
     }

@@ -117,7 +117,8 @@ fn octet_at(octets: &[u8], index: usize) -> u8
     }
 }
 
-/// Returns how many octets of white space, or of one comment, a text begins with.
+/// Returns how many octets of white space, or of one comment, a text begins with. A NO-BREAK SPACE is
+/// white space.
 fn gap_length(rest: &[u8]) -> Result<usize, Problem>
     ensures { IfOk result (λ n. n ≤ length rest.now) }
 {
@@ -126,6 +127,9 @@ fn gap_length(rest: &[u8]) -> Result<usize, Problem>
     }
     if octet_at(rest, 0) == b'/' && octet_at(rest, 1) == b'*' {
         return block_comment(rest).ok_or(Problem::OpenComment);
+    }
+    if octet_at(rest, 0) == 0xC2 && octet_at(rest, 1) == 0xA0 {
+        return Ok(2);
     }
     Ok(
         rest.iter()

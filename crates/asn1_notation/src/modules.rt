@@ -4,7 +4,7 @@ use crate::error::{NotationError, Problem};
 use crate::parser::{MAX_DEPTH, Parser};
 use crate::sink::Sink;
 use crate::tape::{Entry, Item, narrow};
-use crate::token::{Symbol, TokenKind};
+use crate::token::{Symbol, Token, TokenKind};
 use crate::word::Word;
 
 /// How many entries and errors a text has.
@@ -185,11 +185,44 @@ impl<'m, 'a> Parser<'m, 'a> {
         self.expect_word(Word::From)?;
         let module = self.expect(TokenKind::Upper, "the name of a module")?;
         self.add(Item::ImportModule, None, module);
-        if self.sees_symbol(Symbol::OpenBrace) {
-            self.identifier()?;
-        }
+        self.imported_identifier()?;
+        self.selection()?;
         self.close(index);
         Ok(())
+    }
+
+    /// Takes the object identifier after the name of a module, or the name of its value. A name before a
+    /// comma, a brace or FROM is the next name that is imported (X.680 13.1).
+    fn imported_identifier(&mut self) -> Result<(), NotationError> {
+        let is_symbol = self.sees_second_symbol(Symbol::Comma)
+            || self.sees_second_symbol(Symbol::OpenBrace)
+            || self.sees_second_word(Word::From);
+        match self.kind() {
+            TokenKind::Symbol(Symbol::OpenBrace) => self.identifier(),
+            TokenKind::Lower if !is_symbol => {
+                self.take();
+                Ok(())
+            }
+            TokenKind::Upper if self.sees_second_symbol(Symbol::Dot) => {
+                self.take();
+                self.take();
+                self.expect(TokenKind::Lower, "the name of a value")?;
+                Ok(())
+            }
+            _ => Ok(()),
+        }
+    }
+
+    /// Takes WITH SUCCESSORS or WITH DESCENDANTS (X.680 13.1).
+    fn selection(&mut self) -> Result<(), NotationError> {
+        if !self.accept_word(Word::With) {
+            return Ok(());
+        }
+        if self.accept_word(Word::Successors) || self.accept_word(Word::Descendants) {
+            Ok(())
+        } else {
+            Err(self.expected("`SUCCESSORS` or `DESCENDANTS`"))
+        }
     }
 
     /// Takes the braces after the name of a parameterized definition (X.680 13.1).
@@ -229,8 +262,8 @@ impl<'m, 'a> Parser<'m, 'a> {
         Ok(true)
     }
 
-    /// Goes to the next definition, which has a name at the beginning of a line or before `::=`, or to
-    /// END. Returns whether there is one.
+    /// Goes to the next definition, which has a name at the beginning of a line, before `::=`, or before
+    /// a name of its line that is before `::=`; or to END. Returns whether there is one.
     fn go_to_definition(&mut self) -> bool {
         for _ in 0..self.left() {
             let is_definition = match self.kind() {
@@ -244,23 +277,34 @@ impl<'m, 'a> Parser<'m, 'a> {
             if is_definition {
                 return true;
             }
-            self.take();
+            let before = self.take();
+            if self.is_governor_after(before) {
+                self.put_back(before);
+                return true;
+            }
         }
         false
+    }
+
+    /// Returns whether the next item, before `::=`, is the type or the class after a name of its line.
+    fn is_governor_after(&self, before: Token) -> bool {
+        let is_name = match before.kind {
+            TokenKind::Upper | TokenKind::Lower => true,
+            _ => false,
+        };
+        is_name
+            && self.sees(TokenKind::Upper)
+            && self.sees_second_symbol(Symbol::Assign)
+            && self.is_on_line_of(before)
     }
 
     /// Reads the definition of a type, a class, or a set of values or of objects.
     fn type_definition(&mut self, index: usize) -> Result<(), NotationError> {
         self.take();
-        let is_parameterized = self.sees_symbol(Symbol::OpenBrace);
-        if is_parameterized {
+        if self.sees_symbol(Symbol::OpenBrace) {
             self.parameters()?;
         }
         if !self.sees_symbol(Symbol::Assign) {
-            if is_parameterized {
-                let feature = "a parameterized set (X.683 8.2)";
-                return Err(self.error(Problem::Unsupported(feature)));
-            }
             return self.set_definition(index);
         }
         self.take();
@@ -277,7 +321,7 @@ impl<'m, 'a> Parser<'m, 'a> {
     /// Reads the definition of a set of values (X.680 16.6) or of objects (X.681 12), after its name. A set
     /// of values is the type with a constraint.
     fn set_definition(&mut self, index: usize) -> Result<(), NotationError> {
-        let is_class = self.sees_capitals();
+        let is_class = self.sees_class();
         let of = self.count();
         self.any_type(MAX_DEPTH)?;
         self.expect_symbol(Symbol::Assign)?;
@@ -299,10 +343,9 @@ impl<'m, 'a> Parser<'m, 'a> {
     fn value_definition(&mut self) -> Result<(), NotationError> {
         self.take();
         if self.sees_symbol(Symbol::OpenBrace) {
-            let feature = "a parameterized value (X.683 8.2)";
-            return Err(self.error(Problem::Unsupported(feature)));
+            self.parameters()?;
         }
-        let is_class = self.sees_capitals();
+        let is_class = self.sees_class();
         self.any_type(MAX_DEPTH)?;
         self.expect_symbol(Symbol::Assign)?;
         if is_class && self.sees_symbol(Symbol::OpenBrace) {

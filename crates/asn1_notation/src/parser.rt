@@ -81,6 +81,11 @@ impl<'m, 'a> Parser<'m, 'a> {
         self.sees(TokenKind::Upper) && !name.iter().any(|octet| octet.is_ascii_lowercase())
     }
 
+    /// Returns whether the next item names a class: as `sees_capitals` does, or TYPE-IDENTIFIER.
+    pub fn sees_class(&self) -> bool {
+        self.sees_capitals() || self.sees_word(Word::TypeIdentifier)
+    }
+
     /// Returns whether the next item begins a line.
     pub fn is_at_line_start(&self) -> bool {
         match self.first.at.checked_sub(1) {
@@ -90,6 +95,20 @@ impl<'m, 'a> Parser<'m, 'a> {
                 _ => false,
             },
         }
+    }
+
+    /// Returns whether an item before the next one is on the line of the next one.
+    pub fn is_on_line_of(&self, before: Token) -> bool {
+        let count = self.first.at.saturating_sub(before.end);
+        !part_of(self.text, before.end, count)
+            .iter()
+            .any(|octet| *octet == b'\n' || *octet == b'\r')
+    }
+
+    /// Puts back the item that was taken last.
+    pub fn put_back(&mut self, token: Token) {
+        self.second = self.first;
+        self.first = token;
     }
 
     /// Returns a number that is at least that of the items that are left.

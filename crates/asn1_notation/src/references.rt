@@ -4,7 +4,7 @@
 use crate::error::{NotationError, Problem};
 use crate::parser::Parser;
 use crate::tape::Item;
-use crate::token::{Symbol, TokenKind};
+use crate::token::{Symbol, Token, TokenKind};
 use crate::word::Word;
 
 /// Returns whether a word is a value. NULL is read as a type.
@@ -63,10 +63,11 @@ impl<'m, 'a> Parser<'m, 'a> {
             }
             TokenKind::Symbol(Symbol::Ampersand) => {
                 self.turn_into(index, Item::FieldType);
-                self.field_name()?;
-                if self.sees_symbol(Symbol::Dot) {
-                    let feature = "a field of a field (X.681 14)";
-                    return Err(self.error(Problem::Unsupported(feature)));
+                for _ in 0..self.left() {
+                    self.field_name()?;
+                    if !self.accept_symbol(Symbol::Dot) {
+                        break;
+                    }
                 }
                 Ok(())
             }
@@ -86,9 +87,25 @@ impl<'m, 'a> Parser<'m, 'a> {
         }
     }
 
-    /// Begins a field of TYPE-IDENTIFIER (X.681 A).
+    /// Begins what a field of an object is (X.681 15), after the name of the object: further fields are
+    /// those of the object that the field before is.
+    pub fn fields_of_object(&mut self, item: Item, name: Token) -> Result<usize, NotationError> {
+        let index = self.open(item, None, name);
+        for _ in 0..self.left() {
+            if !self.accept_symbol(Symbol::Dot) {
+                break;
+            }
+            self.field_name()?;
+        }
+        Ok(index)
+    }
+
+    /// Begins TYPE-IDENTIFIER as a class, or one of its fields (X.681 A).
     pub fn builtin_field(&mut self) -> Result<usize, NotationError> {
         let token = self.take();
+        if !self.sees_symbol(Symbol::Dot) {
+            return Ok(self.open(Item::Class, Some(Word::TypeIdentifier), token));
+        }
         let index = self.open(Item::FieldType, Some(Word::TypeIdentifier), token);
         self.expect_symbol(Symbol::Dot)?;
         self.field_name()?;
@@ -157,7 +174,9 @@ impl<'m, 'a> Parser<'m, 'a> {
             TokenKind::Symbol(Symbol::OpenBracket) => self.any_type(depth),
             TokenKind::Symbol(symbol) => self.separator(symbol),
             TokenKind::Lower if self.sees_second_symbol(Symbol::Less) => self.any_type(depth),
-            TokenKind::Lower if self.sees_second_symbol(Symbol::Colon) => self.value(depth),
+            TokenKind::Lower
+                if self.sees_second_symbol(Symbol::Colon) || self.sees_second_symbol(Symbol::Dot) =>
+                { self.value(depth) }
             TokenKind::Lower => self.named_piece(depth),
             TokenKind::Upper if self.is_literal_next() => {
                 self.add_next(Item::Literal);

@@ -18,10 +18,10 @@ pub enum Item {
     ImportModule,
     /// { maybe Parameters, type or Class }
     TypeDefinition,
-    /// A value or an object. { type, value or Braces }
+    /// A value or an object. { maybe Parameters, type, value or Braces }
     ValueDefinition,
     /// A set of objects (X.681 12). A set of values (X.680 16.6) is a `TypeDefinition` of its type with a
-    /// constraint. { type, Braces }
+    /// constraint. { maybe Parameters, type, Braces }
     SetDefinition,
     /// The parameters of a definition (X.683 8.3). { Parameter.. }
     Parameters,
@@ -48,7 +48,8 @@ pub enum Item {
     /// `|` in braces.
     Bar,
 
-    /// A type whose word says what it is. { Constraint.. }, as each type
+    /// A type whose word says what it is. { maybe ExternalName, Constraint.. }: each type has its
+    /// constraints inside. EXTERNAL, EMBEDDED PDV, CHARACTER STRING and INSTANCE OF have an ExternalName.
     Plain,
     /// OCTET STRING.
     OctetString,
@@ -76,9 +77,11 @@ pub enum Item {
     Reference,
     /// `Module.Type`, named by the module. { ExternalName, maybe Arguments, Constraint.. }
     ExternalReference,
-    /// `CLASS.&field`, named by the class (X.681 14.1), or of TYPE-IDENTIFIER by its word.
-    /// { FieldName, Constraint.. }
+    /// `CLASS.&field`, named by the class (X.681 14.1), or of TYPE-IDENTIFIER by its word: each further
+    /// field is one of the class of the field before it. { FieldName.., Constraint.. }
     FieldType,
+    /// A type that a field of an object is, named by the object (X.681 15). { FieldName.., Constraint.. }
+    TypeFromObject,
     /// The arguments of a type (X.683 9.5). { type, value or Braces .. }
     Arguments,
     /// The name of a type after that of its module.
@@ -123,7 +126,10 @@ pub enum Item {
     ValueReference,
     /// `Module.value`, named by the module. { ValueReference }
     ExternalValue,
-    /// `name : value`. { value }
+    /// A value, an object or a set that a field of an object is, named by the object (X.681 15).
+    /// { FieldName.. }
+    FromObject,
+    /// `name : value`, or `Type : value`. { value }
     Alternative,
     /// `{ .. }`. { values, PieceName, Comma .. }, and in an object or a set of objects also { types,
     /// Literal, FieldName, Bar, Ellipsis .. }
@@ -233,6 +239,7 @@ impl Item {
             | Item::Reference
             | Item::ExternalReference
             | Item::FieldType
+            | Item::TypeFromObject
             | Item::Class
             | Item::Broken
             | Item::Selection => true,
@@ -252,6 +259,7 @@ impl Item {
             | Item::Hex
             | Item::ValueReference
             | Item::ExternalValue
+            | Item::FromObject
             | Item::Alternative
             | Item::Broken
             | Item::Braces => true,

@@ -7,12 +7,11 @@ use crate::token::{Symbol, TokenKind};
 use crate::word::Word;
 
 /// Returns whether a word alone is a type.
-fn is_plain(word: Word) -> bool {
+pub(crate) fn is_plain(word: Word) -> bool {
     match word {
         Word::Boolean
         | Word::Null
         | Word::Real
-        | Word::External
         | Word::Time
         | Word::Date
         | Word::TimeOfDay
@@ -39,16 +38,6 @@ fn is_plain(word: Word) -> bool {
         | Word::ObjectDescriptor => true,
         _ => false,
     }
-}
-
-/// Returns what of X.680 to X.683 a word begins that is not supported.
-fn unsupported(word: Word) -> Option<&'static str> {
-    Some(match word {
-        Word::Instance => "INSTANCE OF (X.681 C)",
-        Word::Embedded => "EMBEDDED PDV (X.680 36)",
-        Word::Character => "CHARACTER STRING (X.680 44)",
-        _ => return None,
-    })
 }
 
 impl<'m, 'a> Parser<'m, 'a> {
@@ -111,10 +100,7 @@ impl<'m, 'a> Parser<'m, 'a> {
     }
 
     /// Begins a type that is one word.
-    fn one_word(&mut self, word: Word) -> Result<usize, NotationError> {
-        if let Some(feature) = unsupported(word) {
-            return Err(self.error(Problem::Unsupported(feature)));
-        }
+    pub fn one_word(&mut self, word: Word) -> Result<usize, NotationError> {
         if !is_plain(word) {
             return Err(self.expected("a type"));
         }
@@ -131,6 +117,36 @@ impl<'m, 'a> Parser<'m, 'a> {
             self.expect(TokenKind::Lower, "the name of a component")?;
         }
         Ok(index)
+    }
+
+    /// Begins EXTERNAL, EMBEDDED PDV, CHARACTER STRING or INSTANCE OF, which have an associated type. The
+    /// entry inside has the place of the name of that type.
+    fn associated(&mut self, word: Word) -> Result<usize, NotationError> {
+        let token = self.take();
+        let index = self.open(Item::Plain, Some(word), token);
+        self.add(Item::ExternalName, None, token);
+        match word {
+            Word::Embedded => self.expect_word(Word::Pdv)?,
+            Word::Character => self.expect_word(Word::String)?,
+            Word::Instance => {
+                self.expect_word(Word::Of)?;
+                self.class_name()?;
+            }
+            _ => {}
+        }
+        Ok(index)
+    }
+
+    /// Takes the name of a class, which may be after that of its module.
+    fn class_name(&mut self) -> Result<(), NotationError> {
+        if self.accept_word(Word::TypeIdentifier) {
+            return Ok(());
+        }
+        self.expect(TokenKind::Upper, "the name of a class")?;
+        if self.accept_symbol(Symbol::Dot) {
+            self.expect(TokenKind::Upper, "the name of a class")?;
+        }
+        Ok(())
     }
 
     /// Begins a type with no other type inside.
@@ -159,6 +175,9 @@ impl<'m, 'a> Parser<'m, 'a> {
             }
             TokenKind::Word(Word::Any) => self.any(),
             TokenKind::Word(Word::TypeIdentifier) => self.builtin_field(),
+            TokenKind::Word(
+                word @ (Word::External | Word::Embedded | Word::Character | Word::Instance),
+            ) => self.associated(word),
             TokenKind::Word(word) => self.one_word(word),
             _ => Err(self.expected("a type")),
         }
@@ -216,6 +235,10 @@ impl<'m, 'a> Parser<'m, 'a> {
                 self.collection(Item::Sequence, Item::SequenceOf, depth - 1)?
             }
             TokenKind::Word(Word::Set) => self.collection(Item::Set, Item::SetOf, depth - 1)?,
+            TokenKind::Lower if self.sees_second_symbol(Symbol::Dot) => {
+                let name = self.take();
+                self.fields_of_object(Item::TypeFromObject, name)?
+            }
             TokenKind::Lower => {
                 let index = self.begin(Item::Selection);
                 self.take();

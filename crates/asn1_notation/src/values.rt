@@ -46,6 +46,11 @@ impl<'m, 'a> Parser<'m, 'a> {
             return Ok(());
         }
         let name = self.expect(TokenKind::Lower, "the name of a value")?;
+        if self.sees_symbol(Symbol::Dot) {
+            let index = self.fields_of_object(Item::FromObject, name)?;
+            self.close(index);
+            return Ok(());
+        }
         self.add(Item::ValueReference, None, name);
         Ok(())
     }
@@ -90,13 +95,21 @@ impl<'m, 'a> Parser<'m, 'a> {
         if self.sees_symbol(Symbol::OpenBrace) {
             return self.braces(depth - 1);
         }
-        if self.sees(TokenKind::Lower) && self.sees_second_symbol(Symbol::Colon) {
+        if self.sees_second_symbol(Symbol::Colon) && self.sees_name_or_word() {
             return self.alternative(depth - 1);
         }
         self.short_value()
     }
 
-    /// Reads a value after the name of its alternative.
+    /// Returns whether the next item is a name or a reserved word.
+    fn sees_name_or_word(&self) -> bool {
+        match self.kind() {
+            TokenKind::Lower | TokenKind::Upper | TokenKind::Word(_) => true,
+            _ => false,
+        }
+    }
+
+    /// Reads a value after the name of its alternative, or after its type (X.681 14.6).
     #[cycle(values)]
     fn alternative(&mut self, depth: usize) -> Result<(), NotationError> {
         let index = self.begin(Item::Alternative);
@@ -130,7 +143,10 @@ impl<'m, 'a> Parser<'m, 'a> {
             self.add_next(Item::Comma);
             return Ok(());
         }
-        if !self.sees(TokenKind::Lower) || self.sees_second_symbol(Symbol::Colon) {
+        if !self.sees(TokenKind::Lower)
+            || self.sees_second_symbol(Symbol::Colon)
+            || self.sees_second_symbol(Symbol::Dot)
+        {
             return self.value(depth);
         }
         self.named_piece(depth)

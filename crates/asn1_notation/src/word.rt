@@ -25,6 +25,7 @@ pub enum Word {
     DateTime,
     Default,
     Definitions,
+    Descendants,
     Duration,
     Embedded,
     Encoded,
@@ -76,6 +77,7 @@ pub enum Word {
     Settings,
     Size,
     String,
+    Successors,
     Syntax,
     T61String,
     Tags,
@@ -96,7 +98,7 @@ pub enum Word {
 }
 
 /// The reserved words with their text, in the order of its octets.
-const WORDS: [(&str, Word); 90] = [
+const WORDS: [(&str, Word); 92] = [
     ("ABSENT", Word::Absent),
     ("ALL", Word::All),
     ("ANY", Word::Any),
@@ -119,6 +121,7 @@ const WORDS: [(&str, Word); 90] = [
     ("DEFAULT", Word::Default),
     ("DEFINED", Word::Defined),
     ("DEFINITIONS", Word::Definitions),
+    ("DESCENDANTS", Word::Descendants),
     ("DURATION", Word::Duration),
     ("EMBEDDED", Word::Embedded),
     ("ENCODED", Word::Encoded),
@@ -170,6 +173,7 @@ const WORDS: [(&str, Word); 90] = [
     ("SETTINGS", Word::Settings),
     ("SIZE", Word::Size),
     ("STRING", Word::String),
+    ("SUCCESSORS", Word::Successors),
     ("SYNTAX", Word::Syntax),
     ("T61String", Word::T61String),
     ("TAGS", Word::Tags),
@@ -225,7 +229,7 @@ impl Word {
 }
 
 /// The words that a message can ask for, with their text in quotes.
-const QUOTED: [(&str, Word); 14] = [
+const QUOTED: [(&str, Word); 15] = [
     ("`BEGIN`", Word::Begin),
     ("`BY`", Word::By),
     ("`COMPONENTS`", Word::Components),
@@ -236,6 +240,7 @@ const QUOTED: [(&str, Word); 14] = [
     ("`IDENTIFIER`", Word::Identifier),
     ("`IMPLIED`", Word::Implied),
     ("`OF`", Word::Of),
+    ("`PDV`", Word::Pdv),
     ("`STRING`", Word::String),
     ("`SYNTAX`", Word::Syntax),
     ("`TAGS`", Word::Tags),

@@ -1,5 +1,6 @@
 //! The values of a schema as parts, and the contents of its open types.
 
+use crate::builder::NO_ROWS;
 use crate::error::SchemaError;
 use crate::governed::{Governed, Types};
 use crate::objects::{ObjectRow, OpenRow};
@@ -75,6 +76,11 @@ impl Schema {
             let from = self.open_objects.len();
             let end = open.from.saturating_add(open.count);
             for object in objects.get(open.from..end).unwrap_or(&[]) {
+                if open.sibling.count == 0 {
+                    let node = object.node;
+                    self.open_objects.push(OpenObject { key: NO_ROWS, node })?;
+                    continue;
+                }
                 let governed = Governed {
                     value: object.key,
                     of: open.of,
@@ -108,19 +114,35 @@ impl Schema {
             return Ok(());
         }
         for (node, source) in sources.iter().enumerate() {
-            if let Some(open) = self.open_type(*source) {
+            if let Some(open) = self.open_row(*source) {
                 self.opens.push(OpenType { node, ..open })?;
             }
         }
         Ok(())
     }
 
-    /// Returns the open type at a node. `None` if the type is no open type, or no other component of its
-    /// SEQUENCE or SET tells what its contents are.
-    pub fn open_type(&self, node: usize) -> Option<OpenType> {
+    /// Returns the open type, or the OCTET STRING with CONTAINING, at a node.
+    fn open_row(&self, node: usize) -> Option<OpenType> {
         let opens = self.opens.as_slice();
         let index = opens.binary_search_by_key(&node, |open| open.node).ok()?;
         opens.get(index).copied()
+    }
+
+    /// Returns the open type at a node. `None` if the type is no open type, or no other component of its
+    /// SEQUENCE or SET tells what its contents are.
+    pub fn open_type(&self, node: usize) -> Option<OpenType> {
+        self.open_row(node)
+            .filter(|open| !self.sibling_of(*open).is_empty())
+    }
+
+    /// Returns the node of the type whose value an OCTET STRING has as its contents (X.682 11). `None` if
+    /// the type has no CONTAINING, or one with ENCODED BY.
+    pub fn contents_type(&self, node: usize) -> Option<usize> {
+        let row = self.open_row(node)?;
+        if !self.sibling_of(row).is_empty() {
+            return None;
+        }
+        Some(self.objects_of(row).first()?.node)
     }
 
     /// Returns the name of the component that tells what the contents of an open type are.

@@ -6,6 +6,7 @@
 
 mod alphabet;
 mod builder;
+mod built_in;
 mod contents;
 mod enumerated;
 mod error;
@@ -27,6 +28,7 @@ mod tag_tables;
 #[cfg(test)]
 mod tests;
 mod values;
+mod workroom;
 
 pub use builder::{Builder, DefaultText, Draft, Enumeral, Key, NO_DRAFT, NO_KEY, NamedType};
 pub use error::SchemaError;

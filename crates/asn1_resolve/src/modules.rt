@@ -2,6 +2,7 @@
 
 use crate::alphabet::WHOLE_ALPHABETS;
 use crate::builder::{Builder, NO_SOURCE, NamedType};
+use crate::built_in::check_constraints;
 use crate::objects::check_objects;
 use crate::spans::span_of;
 use crate::tag_tables::NO_TYPE_TAGS;
@@ -9,6 +10,7 @@ use asn1_definitions::{
     Instance, LISTS, Place, Scope, check_imports, find_instances, index_definitions, number_types,
 };
 use asn1_notation::{Entry, Item, NotationError, Problem, Sink, error_at};
+use asn1_schema::Node;
 
 /// Makes the tables of the types that the entries of a text define.
 ///
@@ -54,6 +56,9 @@ pub(crate) fn resolve_lists(
     };
     check_imports(scope)?;
     check_objects(scope)?;
+    for instance in 0..scope.instances.len() {
+        check_constraints(scope, instance)?;
+    }
     for range in &WHOLE_ALPHABETS {
         tables.ranges.push(*range);
     }
@@ -102,6 +107,8 @@ impl<'m> Builder<'m> {
                 self.node_enumerals.set(row, enumerals);
                 if scope.is_open(place) {
                     self.add_open(scope, place, definition, row)?;
+                } else if let Node::OctetString { .. } = node {
+                    self.add_containing(scope, place, row)?;
                 }
             }
         }

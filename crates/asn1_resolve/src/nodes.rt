@@ -50,6 +50,9 @@ fn length_of(sizes: Option<Hull>) -> Option<(Length, bool)> {
 fn unsupported(word: Option<Word>) -> &'static str {
     match word {
         Some(Word::External) => "EXTERNAL (X.680 37)",
+        Some(Word::Embedded) => "EMBEDDED PDV (X.680 36)",
+        Some(Word::Character) => "CHARACTER STRING (X.680 44)",
+        Some(Word::Instance) => "INSTANCE OF (X.681 C)",
         Some(Word::Time) => "TIME (X.680 38)",
         Some(Word::Date) => "DATE (X.680 38)",
         Some(Word::TimeOfDay) => "TIME-OF-DAY (X.680 38)",

@@ -2,7 +2,8 @@
 
 use crate::builder::Builder;
 use crate::open_types::Governing;
-use asn1_definitions::{MAX_STEPS, Place, Scope};
+use crate::room::{NO_OPEN, NO_PLACE};
+use asn1_definitions::{MAX_STEPS, PARAMETERIZED, Place, Scope};
 use asn1_notation::{Item, NotationError, Problem, Word, wide};
 use asn1_schema_values::NameSpan;
 
@@ -15,7 +16,8 @@ pub struct ObjectRow {
     pub(crate) node: usize,
 }
 
-/// An open type whose contents another component tells.
+/// An open type whose contents another component tells, or an OCTET STRING with CONTAINING, which has one
+/// object and no component.
 #[derive(Clone, Copy, Debug, PartialEq, Eq)]
 pub struct OpenRow {
     /// The open type.
@@ -41,6 +43,26 @@ fn check_word(scope: Scope<'_>, place: Place) -> Result<(), NotationError> {
     Ok(())
 }
 
+/// Returns whether the entry after another one is in braces.
+fn is_followed_by_braces(scope: Scope<'_>, place: Place) -> bool {
+    let index = wide(scope.entry(place.index).end);
+    scope.item(Place { index, ..place }) == Item::Braces
+}
+
+/// Returns whether the last field of an object is a set: its name begins with a capital (X.681 9.2).
+fn is_set_of_object(scope: Scope<'_>, place: Place) -> bool {
+    let mut inside = scope.inside(place);
+    let mut is_set = false;
+    for _ in 0..scope.most() {
+        let Some(index) = inside.next(scope.tape) else {
+            break;
+        };
+        let name = scope.text_of(scope.entry(index));
+        is_set = name.first().is_some_and(|octet| octet.is_ascii_uppercase());
+    }
+    is_set
+}
+
 /// Returns an error if a set of objects is not of its class, or its type is no class.
 fn check_set(scope: Scope<'_>, definition: Place) -> Result<(), NotationError> {
     let of = scope.type_in(definition);
@@ -62,11 +84,14 @@ fn check_set(scope: Scope<'_>, definition: Place) -> Result<(), NotationError> {
         match scope.item(element) {
             Item::Comma | Item::Bar | Item::Ellipsis => {}
             Item::Braces => scope.check_object(class, element)?,
+            Item::PieceName | Item::Literal if is_followed_by_braces(scope, element) => {
+                return Err(scope.error(Problem::Unsupported(PARAMETERIZED), element));
+            }
             Item::Literal => {
                 check_word(scope, element)?;
                 scope.braces_of(element)?;
             }
-            Item::PieceName | Item::Reference | Item::ExternalReference => {
+            Item::PieceName | Item::FromObject | Item::Reference | Item::ExternalReference => {
                 scope.braces_of(element)?;
             }
             _ => return Err(scope.error(Problem::Expected("an object or a set"), element)),
@@ -83,6 +108,7 @@ pub(crate) fn check_objects(scope: Scope<'_>) -> Result<(), NotationError> {
             break;
         };
         match scope.item(place) {
+            _ if scope.is_parameterized(place) => {}
             Item::SetDefinition => check_set(scope, place)?,
             Item::ValueDefinition => {
                 let class = scope.base(scope.type_in(place))?;
@@ -118,7 +144,10 @@ impl<'m> Builder<'m> {
             self.step(scope.at(element))?;
             match scope.item(element) {
                 Item::Comma | Item::Bar | Item::Ellipsis => {}
-                Item::Braces | Item::PieceName => {
+                Item::FromObject if is_set_of_object(scope, element) => {
+                    self.add_objects(scope, element, governing, steps - 1)?;
+                }
+                Item::Braces | Item::PieceName | Item::FromObject => {
                     let object = scope.braces_of(element)?;
                     self.add_object(scope, object, governing)?;
                 }
@@ -149,6 +178,35 @@ impl<'m> Builder<'m> {
         }
         let node = self.used_node(scope, of, None, false)?;
         self.objects.push(ObjectRow { key, node });
+        Ok(())
+    }
+
+    /// Appends an OCTET STRING whose contents are a value of a type (X.682 11), unless ENCODED BY names the
+    /// rules that encode it.
+    pub(crate) fn add_containing(
+        &mut self,
+        scope: Scope<'_>,
+        place: Place,
+        node: usize,
+    ) -> Result<(), NotationError> {
+        let Some(containing) = scope.find_in(place, Item::Containing) else {
+            return Ok(());
+        };
+        if scope.value_in(containing).is_some() {
+            return Ok(());
+        }
+        let inner = self.used_node(scope, scope.type_in(containing), None, false)?;
+        let from = self.objects.count();
+        self.objects.push(ObjectRow {
+            key: NO_PLACE,
+            node: inner,
+        });
+        self.opens.push(OpenRow {
+            node,
+            from,
+            count: 1,
+            ..NO_OPEN
+        });
         Ok(())
     }
 

@@ -146,7 +146,8 @@ fn table_of(scope: Scope<'_>, place: Place) -> Option<Place> {
 
 impl Governing {
     /// Returns what the contents of an open type depend on. `None` if the type has no table constraint
-    /// with the path of one component, or the path leads to no component of the same SEQUENCE or SET.
+    /// with the path of one component, the path leads to no component of the same SEQUENCE or SET, or one
+    /// of the two is a field of a field.
     pub(crate) fn of(
         scope: Scope<'_>,
         place: Place,
@@ -168,14 +169,21 @@ impl Governing {
         if scope.item(of) != Item::FieldType {
             return Err(scope.error(Problem::NotA("a component with a field of the class"), path));
         }
+        let field = scope.field_name(place);
+        let key = scope.field_name(of);
+        if scope.next_field_name(place, field).is_some()
+            || scope.next_field_name(of, key).is_some()
+        {
+            return Ok(None);
+        }
         Ok(Some(Governing {
             class: class_or_field(scope, place)?,
             set: Place {
                 index: table.index.saturating_add(1),
                 ..table
             },
-            field: scope.entry(scope.field_name(place).index),
-            key: scope.entry(scope.field_name(of).index),
+            field: scope.entry(field.index),
+            key: scope.entry(key.index),
             sibling,
         }))
     }

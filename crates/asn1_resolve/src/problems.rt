@@ -1,5 +1,6 @@
 //! The problems of a text, as many as are found.
 
+use crate::built_in::{refer_to_associated_types, with_associated_types};
 use crate::error::SchemaError;
 use crate::schema::Schema;
 use asn1_notation::{Entry, Item, NO_ENTRY, NotationError, Problem, narrow, parse_all, wide};
@@ -24,13 +25,21 @@ const NO_PROBLEM: NotationError = NotationError {
 ///
 /// Returns an error if out of memory.
 pub fn problems_of(alloc: Global, text: &str) -> Result<Vec<NotationError>, AllocError> {
+    let from = text.len();
+    let whole = with_associated_types(alloc, text)?;
     let mut found: Vec<NotationError> = Vec::new(alloc);
-    let mut tape: Vec<Entry> = Vec::new(alloc);
     found.resize(MAX_PROBLEMS, NO_PROBLEM)?;
-    let counts = parse_all(text.as_bytes(), &mut [], found.as_mut_slice());
-    found.truncate(counts.errors);
-    tape.resize(counts.entries, NO_ENTRY)?;
-    parse_all(text.as_bytes(), tape.as_mut_slice(), &mut []);
+    let own = parse_all(text.as_bytes(), &mut [], found.as_mut_slice());
+    found.truncate(own.errors);
+    // A module without END would go on in the definitions of the associated types.
+    let counts = parse_all(whole.as_str().as_bytes(), &mut [], &mut []);
+    let text = if counts.errors == own.errors {
+        whole.as_str()
+    } else {
+        text
+    };
+    let mut tape = all_entries(alloc, text)?;
+    refer_to_associated_types(tape.as_mut_slice(), from);
     for _ in 0..MAX_ROUNDS {
         match Schema::of_entries(alloc, text, &mut tape) {
             Ok(_) => break,
@@ -44,6 +53,15 @@ pub fn problems_of(alloc: Global, text: &str) -> Result<Vec<NotationError>, Allo
     }
     found.as_mut_slice().sort_unstable_by_key(|error| error.at);
     Ok(found)
+}
+
+/// Returns the entries of a text, also where it has errors.
+fn all_entries(alloc: Global, text: &str) -> Result<Vec<Entry>, AllocError> {
+    let mut tape: Vec<Entry> = Vec::new(alloc);
+    let counts = parse_all(text.as_bytes(), &mut [], &mut []);
+    tape.resize(counts.entries, NO_ENTRY)?;
+    parse_all(text.as_bytes(), tape.as_mut_slice(), &mut []);
+    Ok(tape)
 }
 
 /// Adds a problem, unless it is that of another definition. Returns whether there is room for more.

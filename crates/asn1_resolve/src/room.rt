@@ -1,11 +1,11 @@
 //! The room that the tables of a text take.
 
+use crate::alphabet::WHOLE_ALPHABETS;
 use crate::builder::{Builder, DefaultText, Enumeral, NO_NAME, NamedType};
 use crate::error::SchemaError;
-use crate::modules::resolve;
 use crate::objects::{ObjectRow, OpenRow};
 use asn1_definitions::{Instance, LISTS, NO_INSTANCE, Place, find_instances, index_definitions};
-use asn1_notation::{Entry, Item, NO_ENTRY, NotationError, Sink, parse};
+use asn1_notation::{Entry, Item, NO_ENTRY, Sink, parse, wide};
 use asn1_schema::Range;
 use std::alloc::Global;
 
@@ -70,50 +70,114 @@ pub(crate) struct Counts {
     pub(crate) objects: usize,
 }
 
-/// Returns how many rows the tables of a text have.
-pub(crate) fn counts_of(
-    text: &[u8],
-    tape: &mut [Entry],
-    instances: &mut [Instance],
-) -> Result<Counts, NotationError> {
-    let mut tables = Builder::new(
-        &mut [],
-        &mut [],
-        &mut [],
-        &mut [],
-        &mut [],
-        &mut [],
-        &mut [],
-        &mut [],
-        &mut [],
-        &mut [],
-        &mut [],
-        &mut [],
-    );
-    resolve(text, tape, instances, &mut tables)?;
-    Ok(Counts {
-        nodes: tables.nodes.most(),
-        members: tables.members.most(),
-        ranges: tables.ranges.most(),
-        enumerals: tables.enumerals.most(),
-        defaults: tables.defaults.most(),
-        types: tables.types.most(),
-        drafts: tables.drafts.most(),
-        tags: tables.tags.most(),
-        names: tables.names.most(),
-        tag_rows: tables.tag_rows.most(),
-        first_rows: tables.first_rows.most(),
-        opens: tables.opens.most(),
-        objects: tables.objects.most(),
-    })
+/// How many components, tags or names one type has at most, and how many ranges of characters all types
+/// have, unless they have more.
+const FEW: usize = 128;
+
+impl Counts {
+    /// Returns a guess of how many rows the tables of a text have, by its entries.
+    pub(crate) fn guess(tape: &[Entry], instances: &[Instance]) -> Counts {
+        let mut counts = Counts {
+            nodes: 0,
+            members: 0,
+            ranges: WHOLE_ALPHABETS.len() + FEW,
+            enumerals: 0,
+            defaults: 0,
+            types: 0,
+            drafts: FEW,
+            tags: FEW,
+            names: FEW,
+            tag_rows: 0,
+            first_rows: 0,
+            opens: 0,
+            objects: 0,
+        };
+        counts.add_all(tape);
+        for instance in instances {
+            let from = instance.definition.index;
+            if let Some(definition) = tape.get(from)
+                && let Some(entries) = tape.get(from..wide(definition.end))
+                && definition.item.is_definition()
+            {
+                counts.add_all(entries);
+            }
+        }
+        // A field of a class that is an ENUMERATED has its values once more for each use.
+        let again = counts.enumerals.saturating_add(counts.opens);
+        counts.enumerals = again.saturating_mul(2);
+        counts.tag_rows = counts.nodes.saturating_mul(2);
+        counts.first_rows = counts.members.saturating_mul(2);
+        counts.objects = counts.opens.saturating_mul(4);
+        counts
+    }
+
+    /// Adds the rows that entries may have.
+    fn add_all(&mut self, entries: &[Entry]) {
+        for entry in entries {
+            match entry.item {
+                Item::Component => self.members = self.members.saturating_add(1),
+                Item::From => self.ranges = self.ranges.saturating_add(4),
+                Item::Name => self.enumerals = self.enumerals.saturating_add(1),
+                Item::Default => self.defaults = self.defaults.saturating_add(1),
+                Item::TypeDefinition => self.types = self.types.saturating_add(1),
+                Item::Table | Item::Containing => self.opens = self.opens.saturating_add(1),
+                item if item.is_type() => self.nodes = self.nodes.saturating_add(1),
+                _ => {}
+            }
+        }
+    }
+
+    /// Returns how many rows tables have.
+    pub(crate) fn of(tables: &Builder<'_>) -> Counts {
+        Counts {
+            nodes: tables.nodes.most(),
+            members: tables.members.most(),
+            ranges: tables.ranges.most(),
+            enumerals: tables.enumerals.most(),
+            defaults: tables.defaults.most(),
+            types: tables.types.most(),
+            drafts: tables.drafts.most(),
+            tags: tables.tags.most(),
+            names: tables.names.most(),
+            tag_rows: tables.tag_rows.most(),
+            first_rows: tables.first_rows.most(),
+            opens: tables.opens.most(),
+            objects: tables.objects.most(),
+        }
+    }
+
+    /// Returns whether so many rows fit in room for others.
+    pub(crate) fn fit(self, room: Counts) -> bool {
+        self.nodes <= room.nodes
+            && self.members <= room.members
+            && self.ranges <= room.ranges
+            && self.enumerals <= room.enumerals
+            && self.defaults <= room.defaults
+            && self.types <= room.types
+            && self.drafts <= room.drafts
+            && self.tags <= room.tags
+            && self.names <= room.names
+            && self.tag_rows <= room.tag_rows
+            && self.first_rows <= room.first_rows
+            && self.opens <= room.opens
+            && self.objects <= room.objects
+    }
 }
 
-/// Returns the entries of a text.
+/// How many octets of a text there are at least for an entry in most modules.
+const OCTETS_OF_ENTRY: usize = 4;
+
+/// Returns the entries of a text. The text is read once, and a second time if it has more entries than the
+/// first room holds.
 pub(crate) fn tape_of(alloc: Global, text: &[u8]) -> Result<Vec<Entry>, SchemaError> {
     let mut tape: Vec<Entry> = Vec::new(alloc);
-    let count = parse(text, &mut [])?;
-    tape.resize(count, NO_ENTRY)?;
-    parse(text, tape.as_mut_slice())?;
+    tape.resize(text.len() / OCTETS_OF_ENTRY, NO_ENTRY)?;
+    let count = parse(text, tape.as_mut_slice())?;
+    if count > tape.len() {
+        tape.resize(count, NO_ENTRY)?;
+        parse(text, tape.as_mut_slice())?;
+    }
+    tape.truncate(count);
     Ok(tape)
 }
 

@@ -3,22 +3,17 @@
 ghost use Rattle.std.specs.Prelude.{◌≡◌};
 
 use crate::builder;
-use crate::builder::{
-    Builder, DefaultText, Draft, Enumeral, Key, NO_DRAFT, NO_KEY, NO_MEMBER, NO_NAME, NO_ROWS,
-    NamedType,
-};
+use crate::builder::{Builder, DefaultText, Enumeral, NO_MEMBER, NO_NAME, NO_ROWS, NamedType};
+use crate::built_in::{refer_to_associated_types, with_associated_types};
 use crate::error::SchemaError;
 use crate::modules::resolve_lists;
-use crate::objects::{ObjectRow, OpenRow};
 use crate::open::{OpenObject, OpenType};
-use crate::room::{
-    Counts, NO_DEFAULT, NO_ENUMERAL, NO_OBJECT, NO_OPEN, NO_RANGE, NO_TYPE, counts_of,
-    instances_of, tape_of,
-};
+use crate::room::{Counts, NO_DEFAULT, NO_ENUMERAL, NO_RANGE, NO_TYPE, instances_of, tape_of};
 use crate::tag_tables::{NO_FIRST_TAGS, NO_TAG, NO_TYPE_TAGS};
 use crate::values::Values;
-use asn1_definitions::{LISTS, Scope};
-use asn1_notation::{Entry, part_of};
+use crate::workroom::Workroom;
+use asn1_definitions::{Instance, LISTS, Scope};
+use asn1_notation::{Entry, NotationError, parse, part_of};
 use asn1_schema::{Member, Node, Part, Range, Rows, Tables};
 use asn1_schema_values::{NameSpan, Names};
 use asn1_x690::{FirstTags, Tag, TagTables, TypeTags};
@@ -95,8 +90,26 @@ impl Schema {
     ///
     /// Returns the first problem of the text that is found, or `Memory`.
     pub fn parse(alloc: Global, text: &str) -> Result<Schema, SchemaError> {
-        let mut tape = tape_of(alloc, text.as_bytes())?;
-        Schema::of_entries(alloc, text, &mut tape)
+        let whole = with_associated_types(alloc, text)?;
+        if text.len() < whole.len() {
+            // An error of the text must not be one of the definitions after it.
+            parse(text.as_bytes(), &mut [])?;
+        }
+        let mut tape = tape_of(alloc, whole.as_str().as_bytes())?;
+        refer_to_associated_types(tape.as_mut_slice(), text.len());
+        let mut schema = Schema::of_entries(alloc, whole.as_str(), &mut tape)?;
+        schema.leave_types_from(text.len());
+        Ok(schema)
+    }
+
+    /// Removes the names of types that are defined from an octet of the text on.
+    fn leave_types_from(&mut self, end: usize) {
+        let types = self.types.as_slice();
+        let count = types
+            .iter()
+            .position(|named| end <= named.name.from)
+            .unwrap_or(types.len());
+        self.types.truncate(count);
     }
 
     /// Makes the tables of the modules that the entries of a text are.
@@ -107,66 +120,93 @@ impl Schema {
     ) -> Result<Schema, SchemaError> {
         let octets = text.as_bytes();
         let mut instances = instances_of(alloc, octets, tape.as_mut_slice())?;
-        let counts = counts_of(octets, tape.as_mut_slice(), instances.as_mut_slice())?;
-        let mut schema = Schema::with_room(alloc, text, counts)?;
-        let mut drafts: Vec<Draft> = Vec::new(alloc);
-        let mut tags: Vec<Key> = Vec::new(alloc);
-        let mut names: Vec<Key> = Vec::new(alloc);
-        drafts.resize(counts.drafts, NO_DRAFT)?;
-        tags.resize(counts.tags, NO_KEY)?;
-        names.resize(counts.names, NO_KEY)?;
-        let mut opens: Vec<OpenRow> = Vec::new(alloc);
-        let mut objects: Vec<ObjectRow> = Vec::new(alloc);
-        opens.resize(counts.opens, NO_OPEN)?;
-        objects.resize(counts.objects, NO_OBJECT)?;
-        let mut first_rows: Vec<Tag> = Vec::new(alloc);
-        let mut sources: Vec<usize> = Vec::new(alloc);
-        first_rows.resize(counts.first_rows, NO_TAG)?;
-        sources.resize(counts.nodes, 0)?;
-        let tables = Builder::new(
-            schema.nodes.as_mut_slice(),
-            schema.node_names.as_mut_slice(),
-            schema.node_enumerals.as_mut_slice(),
-            schema.members.as_mut_slice(),
-            schema.member_names.as_mut_slice(),
-            schema.ranges.as_mut_slice(),
-            schema.enumerals.as_mut_slice(),
-            schema.defaults.as_mut_slice(),
-            schema.types.as_mut_slice(),
-            drafts.as_mut_slice(),
-            tags.as_mut_slice(),
-            names.as_mut_slice(),
-        );
-        let tables = tables.with_tags(
-            schema.type_tags.as_mut_slice(),
-            schema.tags.as_mut_slice(),
-            schema.member_tags.as_mut_slice(),
-            first_rows.as_mut_slice(),
-            sources.as_mut_slice(),
-        );
-        let mut tables = tables.with_objects(opens.as_mut_slice(), objects.as_mut_slice());
-        let mut lists = [0u32; LISTS];
-        resolve_lists(
-            octets,
-            tape.as_mut_slice(),
-            &mut lists,
-            instances.as_mut_slice(),
-            &mut tables,
+        let guess = Counts::guess(tape.as_slice(), instances.as_slice());
+        let mut schema = Schema::with_room(alloc, text, guess)?;
+        let mut room = Workroom::new(alloc, guess)?;
+        let tape = tape.as_mut_slice();
+        let mut counts = schema.fill(&mut room, octets, tape, instances.as_mut_slice())?;
+        if !counts.fit(guess) {
+            schema = Schema::with_room(alloc, text, counts)?;
+            room = Workroom::new(alloc, counts)?;
+            counts = schema.fill(&mut room, octets, tape, instances.as_mut_slice())?;
+        }
+        schema.keep(counts);
+        schema.finish_tags(
+            room.first_rows
+                .as_slice()
+                .get(..counts.first_rows)
+                .unwrap_or(&[]),
         )?;
-        schema.finish_tags(first_rows.as_slice())?;
         let scope = Scope {
             text: octets,
-            tape: tape.as_slice(),
-            lists: &lists,
+            tape,
+            lists: &room.lists,
             instances: instances.as_slice(),
         };
         let mut values = Values::new(alloc);
         schema.add_values(alloc, scope, &mut values)?;
-        schema.add_opens(scope, &mut values, opens.as_slice(), objects.as_slice())?;
-        schema.add_copied_opens(sources.as_slice())?;
+        let opens = room.opens.as_slice().get(..counts.opens).unwrap_or(&[]);
+        schema.add_opens(scope, &mut values, opens, room.objects.as_slice())?;
+        let sources = room.sources.as_slice().get(..counts.nodes).unwrap_or(&[]);
+        schema.add_copied_opens(sources)?;
         schema.value_parts = values.parts;
         schema.value_octets = values.octets;
         Ok(schema)
+    }
+
+    /// Makes the tables in the room that there is, and returns how many rows they have. Where they have
+    /// more than the room holds, the first ones are made.
+    fn fill(
+        &mut self,
+        room: &mut Workroom,
+        text: &[u8],
+        tape: &mut [Entry],
+        instances: &mut [Instance],
+    ) -> Result<Counts, NotationError> {
+        let tables = Builder::new(
+            self.nodes.as_mut_slice(),
+            self.node_names.as_mut_slice(),
+            self.node_enumerals.as_mut_slice(),
+            self.members.as_mut_slice(),
+            self.member_names.as_mut_slice(),
+            self.ranges.as_mut_slice(),
+            self.enumerals.as_mut_slice(),
+            self.defaults.as_mut_slice(),
+            self.types.as_mut_slice(),
+            room.drafts.as_mut_slice(),
+            room.tags.as_mut_slice(),
+            room.names.as_mut_slice(),
+        );
+        let tables = tables.with_tags(
+            self.type_tags.as_mut_slice(),
+            self.tags.as_mut_slice(),
+            self.member_tags.as_mut_slice(),
+            room.first_rows.as_mut_slice(),
+            room.sources.as_mut_slice(),
+        );
+        let mut tables = tables.with_objects(
+            room.opens.as_mut_slice(),
+            room.objects.as_mut_slice(),
+        );
+        room.lists = [0u32; LISTS];
+        resolve_lists(text, tape, &mut room.lists, instances, &mut tables)?;
+        Ok(Counts::of(&tables))
+    }
+
+    /// Removes the rows after those that the tables have.
+    fn keep(&mut self, counts: Counts) {
+        self.nodes.truncate(counts.nodes);
+        self.node_names.truncate(counts.nodes);
+        self.node_enumerals.truncate(counts.nodes);
+        self.members.truncate(counts.members);
+        self.member_names.truncate(counts.members);
+        self.ranges.truncate(counts.ranges);
+        self.enumerals.truncate(counts.enumerals);
+        self.defaults.truncate(counts.defaults);
+        self.types.truncate(counts.types);
+        self.type_tags.truncate(counts.nodes);
+        self.member_tags.truncate(counts.members);
+        self.tags.truncate(counts.tag_rows);
     }
 
     /// Appends the first tags to the other tags, and the numbers of values to a table of their own.

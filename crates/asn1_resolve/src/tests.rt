@@ -143,3 +143,49 @@ fn finds_several_problems(rt: HostRuntime) -> Result<(), Fail> {
     assert!(rt; lines.as_slice() == [2usize, 3, 5, 6, 8].as_slice());
     Ok(())
 }
+
+/// A text of short words has more entries than the first room holds.
+#[test]
+fn a_text_with_many_entries_is_read_whole(rt: HostRuntime) -> Result<(), Fail> {
+    let text =
+        "M DEFINITIONS::=BEGIN A::=ENUMERATED{a,b,c,d,e,f,g,h,i,j,k,l,m,n,o,p,q,r,s,t,u,v,w,x,y,z}END";
+    let schema = Schema::parse(rt.alloc(), text)?;
+    let node = schema.node_named("A").ok_or("no type")?;
+    assert!(rt; schema.enumerals(node).len() == 26);
+    Ok(())
+}
+
+/// An OCTET STRING with CONTAINING tells its contents, also through names and tags, and without ENCODED BY.
+#[test]
+fn octet_strings_contain_values(rt: HostRuntime) -> Result<(), Fail> {
+    let text = "M DEFINITIONS IMPLICIT TAGS ::= BEGIN
+A ::= OCTET STRING (CONTAINING B)
+B ::= SEQUENCE { a A OPTIONAL, b [1] A, c O (SIZE (9)) (CONTAINING BOOLEAN) }
+O ::= OCTET STRING
+E ::= OCTET STRING (CONTAINING B ENCODED BY { 2 1 1 })
+END";
+    let schema = Schema::parse(rt.alloc(), text)?;
+    let node = schema.node_named("B").ok_or("no type")?;
+    let of = schema.node_named("A").ok_or("no type")?;
+    assert!(rt; schema.contents_type(of) == Some(node));
+    assert!(rt; schema.open_type(of).is_none());
+    for name in ["O", "E", "B"] {
+        let node = schema.node_named(name).ok_or("no type")?;
+        assert!(rt; schema.contents_type(node).is_none());
+    }
+    let Some(Node::Sequence { root, .. }) = schema.tables().nodes.get(node).copied() else {
+        assert!(rt; false);
+        return Ok(());
+    };
+    let contents = |index: usize| {
+        let member = schema
+            .tables()
+            .members
+            .get(root.from.saturating_add(index))?;
+        schema.contents_type(member.node)
+    };
+    assert!(rt; contents(0) == Some(node) && contents(1) == Some(node));
+    let last = contents(2).ok_or("no contents")?;
+    assert!(rt; matches!(schema.tables().nodes.get(last), Some(Node::Boolean)));
+    Ok(())
+}

@@ -6,7 +6,7 @@ use Rattle.asn1_schema.specs.Times.{IsDigit, AreDigits}
 abbrev pub AreOctets : List ℕ → Type 0
 AreOctets octets = (i : ℕ) → slice_index octets i < 256
 
--- ---- plus zero, and the values that are no numbers or minus zero (8.5.2, 8.5.9)
+-- ---- PLUS-INFINITY, MINUS-INFINITY, NOT-A-NUMBER and minus zero, in this order (8.5.3, 8.5.9)
 
 abbrev pub IsSpecial : List ℕ → Type 0
 IsSpecial octets = (length octets ≡ 1) × (64 ≤ slice_index octets 0) × (slice_index octets 0 ≤ 67)

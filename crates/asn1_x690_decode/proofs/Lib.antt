@@ -9,3 +9,4 @@ pub mod ChoiceSteps
 pub mod ListSteps
 pub mod ValueSteps
 pub mod MessageSteps
+pub mod ExplanationSteps

@@ -6,7 +6,7 @@ use asn1_x690::{FirstTags, Tag, TagTables};
 use asn1_x690_fields::{FoundIdentifier, has_tag, is_identifier, tags_in};
 use std::fmt;
 
-/// How many open types may be in one another.
+/// The most open types that [`Expected`] looks through, one inside the other.
 const OPEN_TYPES: usize = 8;
 
 /// What a type asks for. Its `Display` names the tags with which a value of it begins, as
@@ -65,7 +65,7 @@ impl Expected<'_> {
         }
     }
 
-    /// Returns the first tags of the member so many after the first of rows.
+    /// Returns the first tags of the member at an index in rows. `None` if there is no such member.
     fn first_tags(&self, rows: Rows, index: usize) -> Option<FirstTags> {
         if index >= rows.count as usize {
             return None;
@@ -88,7 +88,7 @@ impl Expected<'_> {
     }
 
     /// Returns whether the type asks for the tag of an identifier, in either form.
-    pub fn has_tag(&self, found: &FoundIdentifier) -> bool {
+    pub(crate) fn has_tag(&self, found: &FoundIdentifier) -> bool {
         let node = self.inner_node();
         for tag in self.tags_of(node) {
             if is_identifier(found, *tag, found.is_constructed) {
@@ -115,8 +115,8 @@ impl Expected<'_> {
         false
     }
 
-    /// Writes the tags of the members of rows, after so many of them all. Returns how many are written
-    /// then.
+    /// Writes the tags of the members of rows into a list of `all` tags, of which `before` are already
+    /// written. Returns how many tags are written after the call.
     fn write_members<W: fmt::Write>(
         &self,
         f: &mut fmt::Formatter<W>,

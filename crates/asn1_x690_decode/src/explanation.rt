@@ -1,8 +1,8 @@
 //! What a message has at its first fault, and what was expected there.
 
-ghost use Rattle.std.specs.Prelude.{◌≡◌, ◌≤◌, ◌<◌, ◌^◌, ◌*◌, ℕ, length, IfSome};
+ghost use Rattle.std.specs.Prelude.{◌≡◌, ◌≢◌, ◌≤◌, ◌<◌, ◌^◌, ◌*◌, ◌/◌, ℕ, length, IfSome, IfNone};
 ghost use Rattle.asn1_x690.specs.declared.fault.FaultKind.TheVariants.{OtherTag, Extra};
-ghost use Rattle.asn1_x690_decode.specs.Explanations.{state_at, IsElementAt};
+ghost use Rattle.asn1_x690_decode.specs.Explanations.{IsElementAt, HasNoElementAt};
 
 use crate::context::Context;
 use crate::expected::Expected;
@@ -21,47 +21,37 @@ pub struct FoundElement {
     pub identifier: FoundIdentifier,
 }
 
-/// Why a message has a fault. Its `Display` says what was expected and what was found, as
-/// `offset 12: unexpected tag: expected [0], found SEQUENCE`.
+/// Why a message has a fault. Its `Display` writes the offset and the [`Reason`], as
+/// `offset 12: expected [0], found SEQUENCE`.
 #[derive(Clone, Copy, Debug)]
 pub struct Explanation<'s> {
     /// The fault.
     pub fault: Fault,
-    /// The element with the fault: its tag or form is not the one that the type has, or it follows the
-    /// last value. It is absent for other faults, and where no whole header is found.
+    /// The element that has another tag or form than the type asks for, or that follows the last value.
+    /// It is absent for other faults, and where no whole element is found.
     pub found: Option<FoundElement>,
     /// What the type asks for.
     pub expected: Expected<'s>,
 }
 
-/// Returns a decoder before a bit of octets.
-fn begin_at(octets: &[u8], at: usize) -> State
-    requires { 8 * length octets.now < 2 ^ 64 }
-    ensures { result ≡ state_at octets.now at }
+/// Returns the header of the element that begins at the bit of an index. `None` if no element begins there:
+/// octets are missing, or its identifier or its length is invalid.
+pub fn header_at(octets: &[u8], at: usize) -> Option<Header>
+    requires size { 8 * length octets.now < 2 ^ 64 }
+    requires inside { at ≤ 8 * length octets.now }
+    ensures is { IfSome result (λ h. IsElementAt octets.now at h.from h.to h.identifier) }
+    ensures absent { IfNone result (HasNoElementAt octets.now at) }
+    ensures begins { IfSome result (λ h. at < h.from) }
+    ensures ordered { IfSome result (λ h. h.from ≤ h.to) }
 {
-    State {
+    let mut state = State {
         at,
         end: 8 * octets.len(),
         count: 0,
         node: 0,
         kind: FaultKind::Short,
-    }
-}
-
-/// Returns the header of the element at an index. `None` if it has a fault.
-fn header_at(octets: &[u8], at: usize) -> Option<Header>
-    requires size { 8 * length octets.now < 2 ^ 64 }
-    requires inside { at ≤ 8 * length octets.now }
-    ensures is { IfSome result (λ h. IsElementAt octets.now at h.from h.identifier) }
-    ensures begins { IfSome result (λ h. at < h.from) }
-    ensures ordered { IfSome result (λ h. h.from ≤ h.to) }
-    ensures ends { IfSome result (λ h. h.to ≤ 8 * length octets.now) }
-{
-    let mut state = begin_at(octets, at);
-    match next_header(octets, 0, &mut state) {
-        None => None,
-        Some(header) => Some(header),
-    }
+    };
+    next_header(octets, 0, &mut state)
 }
 
 /// Returns the element whose contents octets begin at an index. It walks over the elements from the first
@@ -69,7 +59,7 @@ fn header_at(octets: &[u8], at: usize) -> Option<Header>
 #[cold]
 fn element_before(octets: &[u8], from: usize) -> Option<FoundElement>
     requires { 8 * length octets.now < 2 ^ 64 }
-    ensures { IfSome result (λ e. IsElementAt octets.now e.at from e.identifier) }
+    ensures { IfSome result (λ e. (to : ℕ) × IsElementAt octets.now e.at from to e.identifier) }
 {
     let mut at = 0;
     while at < from && at < 8 * octets.len() {
@@ -93,12 +83,13 @@ fn element_before(octets: &[u8], from: usize) -> Option<FoundElement>
     None
 }
 
-/// Returns the element at an index.
+/// Returns the element at an index. `None` if no element begins there.
 #[cold]
 fn element_at(octets: &[u8], at: usize) -> Option<FoundElement>
     requires { 8 * length octets.now < 2 ^ 64 }
     ensures at { IfSome result (λ e. e.at ≡ at) }
-    ensures is { IfSome result (λ e. (from : ℕ) × IsElementAt octets.now at from e.identifier) }
+    ensures is { IfSome result (λ e. (from : ℕ) × (to : ℕ) × IsElementAt octets.now at from to e.identifier) }
+    ensures absent { IfNone result (HasNoElementAt octets.now at) }
 {
     if at > 8 * octets.len() {
         return None;
@@ -118,10 +109,18 @@ fn element_at(octets: &[u8], at: usize) -> Option<FoundElement>
 pub fn explain<'s>(context: &Context<'s>, fault: Fault) -> Explanation<'s>
     requires { 8 * length context.now.octets.now < 2 ^ 64 }
     ensures fault { result.fault ≡ fault }
+    ensures node { result.expected.node ≡ fault.node }
     ensures tag { fault.kind ≡ OtherTag
-        → IfSome result.found (λ e. IsElementAt context.now.octets.now e.at fault.at e.identifier) }
+        → IfSome result.found (λ e. (to : ℕ) × IsElementAt context.now.octets.now e.at fault.at to e.identifier) }
     ensures extra { fault.kind ≡ Extra
-        → IfSome result.found (λ e. (from : ℕ) × IsElementAt context.now.octets.now fault.at from e.identifier) }
+        → IfSome result.found (λ e. (from : ℕ) × (to : ℕ)
+        × IsElementAt context.now.octets.now fault.at from to e.identifier) }
+    ensures extra_at { fault.kind ≡ Extra → IfSome result.found (λ e. e.at ≡ fault.at) }
+    ensures extra_absent { fault.kind ≡ Extra
+        → IfNone result.found (HasNoElementAt context.now.octets.now fault.at) }
+
+    // No other fault is that of an element.
+    ensures absent { fault.kind ≢ OtherTag → fault.kind ≢ Extra → result.found ≡ None }
 {
     let found = match fault.kind {
         FaultKind::OtherTag => element_before(context.octets, fault.at),
@@ -139,32 +138,59 @@ pub fn explain<'s>(context: &Context<'s>, fault: Fault) -> Explanation<'s>
     }
 }
 
+impl Explanation<'_> {
+    /// Returns the offset of the first octet of the element that was found. Without one, returns the offset
+    /// of the fault.
+    pub fn offset(&self) -> usize
+        ensures found { IfSome self.now.found (λ e. result ≡ e.at / 8) }
+        ensures absent { IfNone self.now.found (result ≡ self.now.fault.at / 8) }
+    {
+        match self.found {
+            Some(element) => element.at / 8,
+            None => self.fault.at / 8,
+        }
+    }
+}
+
 impl fmt::Display for Explanation<'_> {
     fn fmt<W: fmt::Write>(&self, f: &mut fmt::Formatter<W>) -> fmt::Result {
-        let at = match self.found {
-            Some(element) => element.at,
-            None => self.fault.at,
+        let reason = Reason { explanation: *self };
+        write!(f, "offset {}: {reason}", self.offset())
+    }
+}
+
+/// What was expected and what was found at a fault. Its `Display` writes it without the offset, as
+/// `expected UTCTime or GeneralizedTime, found SEQUENCE`.
+#[derive(Clone, Copy, Debug)]
+pub struct Reason<'s> {
+    /// The fault, and what was expected and found.
+    pub explanation: Explanation<'s>,
+}
+
+impl fmt::Display for Reason<'_> {
+    fn fmt<W: fmt::Write>(&self, f: &mut fmt::Formatter<W>) -> fmt::Result {
+        let Explanation {
+            fault,
+            found,
+            expected,
+        } = self.explanation;
+        match fault.kind {
+            FaultKind::OtherTag => write!(f, "expected {expected}")?,
+            FaultKind::Missing => write!(f, "{}: expected {expected}", fault.kind)?,
+            _ => write!(f, "{}", fault.kind)?,
+        }
+        let Some(element) = found else {
+            return Ok(());
         };
-        write!(f, "offset {}: ", at / 8)?;
-        match self.fault.kind {
-            FaultKind::OtherTag => write!(f, "unexpected tag: expected {}", self.expected)?,
-            FaultKind::Missing => write!(f, "{}: expected {}", self.fault.kind, self.expected)?,
-            _ => write!(f, "{}", self.fault.kind)?,
-        }
-        match self.found {
-            None => Ok(()),
-            Some(element) => {
-                let form = if self.expected.has_tag(&element.identifier) {
-                    form_of(element.identifier.is_constructed)
-                } else {
-                    ""
-                };
-                let name = TagName {
-                    identifier: element.identifier,
-                };
-                write!(f, ", found {form}{name}")
-            }
-        }
+        let form = if expected.has_tag(&element.identifier) {
+            form_of(element.identifier.is_constructed)
+        } else {
+            ""
+        };
+        let name = TagName {
+            identifier: element.identifier,
+        };
+        write!(f, ", found {form}{name}")
     }
 }
 

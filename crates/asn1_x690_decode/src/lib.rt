@@ -18,6 +18,6 @@ mod tagged;
 pub use asn1_x691_fields::Defaults;
 pub use context::Context;
 pub use expected::Expected;
-pub use explanation::{Explanation, FoundElement, explain};
+pub use explanation::{Explanation, FoundElement, Reason, explain, header_at};
 pub use message::{Fault, Prefix, decode, decode_prefix};
 pub use tag_name::TagName;

@@ -55,7 +55,7 @@ fn move_on(octets: &mut [u8], count: usize, index: usize)
 }
 
 /// Moves `count` octets after the first one to those from an index on.
-// By one index at a time, since a turn by more clears a room of 4,096 octets.
+// One index at a time, since `rotate_right` by more than one clears 4,096 octets of its own.
 fn move_contents(octets: &mut [u8], count: usize, first: usize)
     requires some { 1 ≤ first }
     requires room { first + count ≤ length octets.old }

@@ -7,7 +7,7 @@ ghost use Rattle.asn1_x691_fields.specs.Characters.{AreAscending};
 
 use asn1_schema::Range;
 
-/// Of up to so many ranges the number of characters is summed in a word.
+/// The greatest number of ranges whose characters are counted in 64 bits: each has at most 2^32 of them.
 pub(crate) const MOST_RANGES: usize = 1048576;
 
 /// What all ranges of an alphabet tell together.

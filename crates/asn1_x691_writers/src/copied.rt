@@ -8,7 +8,7 @@ ghost use Rattle.asn1_x691_writers.specs.Copied.{AreCopied};
 use asn1_schema::{Characters, Codes, Range};
 use asn1_x691_fields::{Alphabet, are_codes, ranges_in};
 
-/// Returns whether ranges are the same, if they are so many.
+/// Returns whether two tables have the same ranges in the same order.
 fn are_same(some: &[Range], others: &[Range]) -> bool
     ensures { result ≡ true → some.now ≡ others.now }
 {
