@@ -29,7 +29,12 @@ fn schema_of(alloc: Global, name: &str) -> Result<(Schema, usize), Fail> {
 }
 
 /// Returns whether a value has this encoding in the UNALIGNED variant.
-fn is_encoded(schema: &Schema, node: usize, built: &Built, expected: &[u8]) -> Result<bool, Fail>
+fn is_encoded<'x>(
+    schema: &'x Schema,
+    node: usize,
+    built: &'x Built,
+    expected: &[u8],
+) -> Result<bool, Fail>
     requires octets { 8 * length built.now.octets.items < 2 ^ 64 }
     requires parts { length built.now.parts.items < 2 ^ 64 - 1 }
 {
