@@ -2,4 +2,8 @@
 #![tactic(auto)]
 
 #[cfg(test)]
+mod encoded;
+#[cfg(test)]
 mod parts;
+#[cfg(test)]
+mod record;
