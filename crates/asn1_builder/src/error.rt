@@ -1,4 +1,4 @@
-//! Why a call of a builder is rejected.
+//! The errors of a builder.
 
 use thiserror::Error;
 
@@ -23,7 +23,7 @@ pub enum BuildError {
     /// The type has no component or alternative with this name.
     #[error("the type has no such component")]
     NoComponent,
-    /// The component was named before, or follows none of those that were named.
+    /// The component was named before, or precedes one that was.
     #[error("the component has been passed")]
     Passed,
     /// A component that must be present is passed over.

@@ -16,7 +16,8 @@ use asn1_schema::Node;
 ///
 /// `instances` receives the instances of parameterized types, and must have room for all of them.
 /// `tables` must be empty. Where their room is too small they have the first rows, and count all. Only
-/// with room for all of them are equal names and tags found.
+/// with room for all of them are equal names and tags found. EXTERNAL, EMBEDDED PDV, CHARACTER STRING and
+/// INSTANCE OF are errors here: `Schema::parse` has the definitions of their associated types.
 ///
 /// # Errors
 ///

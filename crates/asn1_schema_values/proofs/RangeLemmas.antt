@@ -33,7 +33,7 @@ where_is r n =
       | inr a ↦ inr (inl a.1)
     ]
 
--- a walk does not go back
+-- `past_all` is no less than its number
 pub past_all_more : (ranges : List Range) (n : ℕ) → n ≤ past_all ranges n
 past_all_more [] n = omega arith
 past_all_more (r ∷ ranges) n =
@@ -43,7 +43,7 @@ past_all_more (r ∷ ranges) n =
       | inr out ↦ let e = past_out r n out in omega (arith, e, onward)
     ]
 
--- what a walk goes past is in the ranges
+-- each number from n on that `past_all` skips is in the ranges
 pub found : (ranges : List Range) (n c : ℕ) → n ≤ c → c < past_all ranges n → HasCharacter ranges c
 found [] n c from below = absurd (omega arith)
 found (r ∷ ranges) n c from below =

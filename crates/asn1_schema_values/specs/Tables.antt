@@ -116,7 +116,7 @@ Keeps fault.NoRange t n = IfSome (alphabets_of n) (λ a. AlphabetsKeep fault.NoR
 Keeps fault.NotAscending t n = IfSome (alphabets_of n) (λ a. AlphabetsKeep fault.NotAscending t.ranges.now a.0 a.1)
 Keeps fault.NotWithin t n = IfSome (alphabets_of n) (λ a. AlphabetsKeep fault.NotWithin t.ranges.now a.0 a.1)
 
--- a type has no fault but one of its alphabet
+-- a type has no fault, other than one of its alphabets
 pub record KeepsIndexes (t : Tables) (n : Node) : Type 0 where
   pub type_is : Keeps fault.NoType t n
   pub components : Keeps fault.Components t n
