@@ -173,7 +173,7 @@ abbrev pub MayBeAbsent : Draft → Rows → ℕ → ℕ → Type 0
 MayBeAbsent d root from to = (k : ℕ) → from ≤ k → k < to
     → (m : Member) × (member_of d root k ≡ Some m) × (m.presence ≢ Mandatory)
 
--- the first component of the root that is not passed over
+-- the first component of the root that is not skipped
 abbrev pub root_end : Components → Bool → ℕ → ℕ
 root_end of false index = index
 root_end of true index = of.root.count
@@ -186,7 +186,7 @@ RootMayBeAbsent d of is_addition index = of.is_extended ≡ false → MayBeAbsen
 abbrev pub absent : ℕ → List Part
 absent count = replicate count part.Absent
 
--- the parts of what is passed over: the components before the one that is named; and with the first addition how many there are
+-- the parts of what is skipped: the components before the one that is named; and with the first addition how many there are
 abbrev pub passed_over : Bool → Bool → Components → ℕ → List Part
 passed_over false true of index = absent (of.root.count - of.passed) ++ part.Additions of.additions.count ∷ absent index
 passed_over _ _ of index = absent (index - of.passed)
@@ -206,7 +206,7 @@ named d of is_addition index node = record d {
   next = Some node;
 }
 
--- the component of an index is reached: those that are passed over may be absent, and its value comes next
+-- the component of an index is reached: those that are skipped may be absent, and its value comes next
 pub record Reaches (d : Draft) (of : Components) (is_addition : Bool) (index : ℕ) (new : Draft) : Type 0 where
   pub comes : is_passed of.is_extended is_addition of.passed index ≡ false
   pub others : RootMayBeAbsent d of is_addition index

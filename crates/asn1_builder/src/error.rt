@@ -26,7 +26,7 @@ pub enum BuildError {
     /// The component was named before, or precedes one that was.
     #[error("the component has been passed")]
     Passed,
-    /// A component that must be present is passed over.
+    /// A component that must be present is skipped.
     #[error("a mandatory component is absent")]
     Mandatory,
     /// A component or an alternative was named, but has no value yet; or a value was not ended.

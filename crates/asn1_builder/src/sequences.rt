@@ -97,7 +97,7 @@ impl<'s> Builder<'s> {
         Ok(())
     }
 
-    /// Appends the parts of what is passed over.
+    /// Appends the parts of what is skipped.
     fn append_passed(
         &mut self,
         of: &Components,
@@ -138,7 +138,7 @@ impl<'s> Builder<'s> {
         }
     }
 
-    /// Passes over the components before one, whose value comes next.
+    /// Skips the components before one, whose value comes next.
     fn reach(&mut self, of: &Components, is_addition: bool, index: usize) -> Result<(), BuildError>
         requires { index < 2 ^ 32 }
         ensures { MatchResult result
@@ -184,12 +184,12 @@ impl<'s> Builder<'s> {
     /// Names the component of the SEQUENCE or SET that was begun last, whose value comes next.
     ///
     /// Components come in the order of the type, those of a SET in the canonical order of their tags.
-    /// Those that are passed over are absent: they are OPTIONAL, have a DEFAULT, or are additions.
+    /// Those that are skipped are absent: they are OPTIONAL, have a DEFAULT, or are additions.
     ///
     /// # Errors
     ///
     /// Returns an error if no SEQUENCE or SET was begun last, if a value of it is not finished, if it has
-    /// no such component or this was passed, if a mandatory component would be passed over, if the
+    /// no such component or this was named or skipped, if a mandatory component would be skipped, if the
     /// tables have no such row, or out of memory.
     pub fn component(&mut self, name: &str) -> Result<(), BuildError>
         ensures { MatchResult result
