@@ -1,4 +1,0 @@
-use Rattle.asn1_compose.proofs.named.NamedFormat.take.Goals as goal
-
-pub returns-in-Ok-clause-read : goal.returns-in-Ok-clause-read
-returns-in-Ok-clause-read g c = c.in-Ok.ensures.read

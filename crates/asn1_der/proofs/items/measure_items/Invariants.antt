@@ -1,8 +1,0 @@
-use Rattle.std.proofs.Common.{map, take}
-use Rattle.asn1_der.specs.Items.{AreItems}
-use Rattle.asn1_compose.specs.Spelling.{Measures}
-use Rattle.asn1_der.proofs.items.measure_items.Given as goal
-
-abbrev pub invariant-loop-index : goal.invariant-loop-index
-invariant-loop-index g l =
-    Measures (λ ys r. AreItems (g.F.Element.spells l.item) ys r) (map g.F.Element.plain (take l.index l.values)) l.total

@@ -1,5 +1,0 @@
-use Rattle.std.proofs.Common.{rules}
-use Rattle.asn1_der.proofs.mapped_contents.MappedContents.check.Goals as goal
-
-pub returns-clause-checked : goal.returns-clause-checked
-returns-clause-checked c = search rules

@@ -1,5 +1,0 @@
-use Rattle.std.proofs.Common.{rules}
-use Rattle.asn1_der.proofs.mapped_element.MappedElement.skip.Goals as goal
-
-pub returns-clause-skipped : goal.returns-clause-skipped
-returns-clause-skipped c = search rules

@@ -1,5 +1,0 @@
-use Rattle.std.proofs.Common.{rules}
-use Rattle.asn1_der.proofs.ordered_elements.SequenceOrderedContents.compare.Goals as goal
-
-pub returns : goal.returns
-returns c = search rules

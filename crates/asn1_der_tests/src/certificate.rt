@@ -1,5 +1,0 @@
-//! The lines of a certificate: worked certificates, and damaged ones.
-
-mod certificates;
-mod program;
-mod values;

@@ -1,3 +1,0 @@
-pub mod HeldLaws
-pub mod CharacterSteps
-pub mod TableSteps

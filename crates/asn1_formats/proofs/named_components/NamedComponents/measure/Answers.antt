@@ -1,5 +1,0 @@
-use Rattle.std.proofs.Common.{rules}
-use Rattle.asn1_formats.proofs.named_components.NamedComponents.measure.Goals as goal
-
-pub returns-in-Ok-clause-measured : goal.returns-in-Ok-clause-measured
-returns-in-Ok-clause-measured c = search rules

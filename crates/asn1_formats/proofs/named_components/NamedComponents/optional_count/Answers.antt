@@ -1,5 +1,0 @@
-use Rattle.std.proofs.Common.{rules}
-use Rattle.asn1_formats.proofs.named_components.NamedComponents.optional_count.Goals as goal
-
-pub returns : goal.returns
-returns c = search rules

@@ -1,5 +1,0 @@
-use Rattle.std.proofs.Common.{rules}
-use Rattle.asn1_formats.proofs.required.RequiredComponents.skip.Goals as goal
-
-pub returns-clause-skipped : goal.returns-clause-skipped
-returns-clause-skipped c = search rules

@@ -1,2 +1,0 @@
-pub mod FragmentSteps
-pub mod PartSteps

@@ -1,6 +1,0 @@
-use Rattle.std.proofs.Common.{arith}
-use Rattle.std.proofs.lemmas.Grind.{common_steps}
-use Rattle.asn1_per.proofs.extensible_size.ExtensibleSizeFormat.append.Goals as goal
-
-pub returns-in-Ok-append-clause-written : goal.returns-in-Ok-append-clause-written
-returns-in-Ok-append-clause-written c = grind (arith, common_steps)
