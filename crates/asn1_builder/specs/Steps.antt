@@ -145,7 +145,7 @@ begun d = begun_as (expected_type d) d
 
 -- ---- a component is named
 
--- the member of this name is the one of an index in the root, or else among the additions
+-- the member of this name is the one of an index in the root, or otherwise among the additions
 abbrev pub IsPlace : Names → Rows → Rows → List ℕ → Bool → ℕ → Type 0
 IsPlace names root additions name false index = IsFirstNamed names root name (root.from + index)
 IsPlace names root additions name true index = IsNotNamed names root name × IsFirstNamed names additions name (additions.from + index)

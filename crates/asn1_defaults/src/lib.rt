@@ -10,8 +10,6 @@ mod encodings;
 mod probe;
 mod reach;
 mod rules;
-#[cfg(test)]
-mod tests;
 
 pub use encodings::{DefaultEncodings, DefaultError};
 pub use rules::Rules;

@@ -22,8 +22,11 @@ impl Visits {
         Ok(())
     }
 
-    /// Adds the types that the contents of an open type may have.
-    fn add_objects(&mut self, schema: &Schema, node: usize) -> Result<(), AllocError> {
+    /// Adds the types that the contents of an open type, or of a string with CONTAINING, may have.
+    fn add_contents(&mut self, schema: &Schema, node: usize) -> Result<(), AllocError> {
+        if let Some(inner) = schema.contents_type(node) {
+            self.add(inner)?;
+        }
         if let Some(open) = schema.open_type(node) {
             for object in schema.objects_of(open) {
                 self.add(object.node)?;
@@ -41,7 +44,7 @@ impl Visits {
     }
 }
 
-/// Returns of each node whether a type leads to it, also as the contents of an open type.
+/// Returns of each node whether a type leads to it, also as the contents of an open type or of a string.
 pub(crate) fn reached_from(
     alloc: Global,
     schema: &Schema,
@@ -76,7 +79,9 @@ pub(crate) fn reached_from(
             }
             Some(Node::SequenceOf { item, .. } | Node::SetOf { item, .. }) => visits.add(*item)?,
             Some(Node::Open { inner }) => visits.add(*inner)?,
-            Some(Node::OctetString { .. }) => visits.add_objects(schema, next)?,
+            Some(Node::OctetString { .. } | Node::BitString { .. }) => {
+                visits.add_contents(schema, next)?;
+            }
             _ => {}
         }
     }

@@ -17,3 +17,4 @@ pub mod EachLaws
 pub mod FieldLaws
 pub mod ExampleLaws
 pub mod CharacterLaws
+pub mod ValueLaws

@@ -6,6 +6,7 @@ pub mod Times
 pub mod Reals
 pub mod CharactersOfParts
 pub mod PiecesOfParts
+pub mod Values
 pub mod Room
 pub mod Fields
 pub mod TypeEncodings

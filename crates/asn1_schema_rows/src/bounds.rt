@@ -50,3 +50,11 @@ pub(crate) fn length_of(alloc: Global, text: &str) -> Result<Length, RowError> {
         range: greatest.saturating_sub(least),
     })
 }
+
+/// Returns a count as the tables have it.
+pub(crate) fn small(alloc: Global, count: usize) -> Result<u32, RowError> {
+    match u32::try_from(count) {
+        Ok(count) => Ok(count),
+        Err(_) => Err(wrong(alloc, "the type", "type of so few parts")),
+    }
+}

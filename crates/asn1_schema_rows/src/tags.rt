@@ -1,6 +1,6 @@
 //! Automatic tags (X.680 25.8), and the numbers of ENUMERATED.
 
-use asn1_schema::{Node, Range, Rows, TimeKind};
+use asn1_schema::{Member, Node, Range, Rows, TimeKind};
 use asn1_x690::{CharacterSize, Class, FirstTags, Tag, TagTables, TypeTags};
 use std::alloc::{AllocError, Global};
 
@@ -112,6 +112,14 @@ impl TagRows {
         Ok(())
     }
 
+    /// Returns whether the type at a node has a tag.
+    pub(crate) fn has_tags(&self, node: usize) -> bool {
+        match self.types.as_slice().get(node) {
+            Some(of) => of.tags.count > 0,
+            None => false,
+        }
+    }
+
     /// Has each element be a value of the type at a node, which has no tag then.
     pub(crate) fn permit_any(&mut self, node: usize) {
         if let Some(of) = self.types.as_mut_slice().get_mut(node) {
@@ -130,19 +138,56 @@ impl TagRows {
     /// Adds a member of the type at a node, with a tag of the context. It replaces the type's own tag, and
     /// is around a type that has none.
     pub(crate) fn add_member(&mut self, node: usize, number: u64) -> Result<(), AllocError> {
+        let tags = self.tag_type(node, number)?;
+        self.members.push(FirstTags {
+            tags,
+            is_any: false,
+            group: None,
+        })?;
+        Ok(())
+    }
+
+    /// Gives the type at a node a tag of the context.
+    fn tag_type(&mut self, node: usize, number: u64) -> Result<Rows, AllocError> {
         let from = self.tags.len();
         self.tags.push(Tag {
             class: Class::Context,
             number,
         })?;
         let tags = Rows { from, count: 1 };
-        self.members.push(FirstTags {
-            tags,
-            is_any: false,
-        })?;
         if let Some(of) = self.types.as_mut_slice().get_mut(node) {
             *of = TypeTags { tags, ..*of };
         }
+        Ok(tags)
+    }
+
+    /// Gives the components of an addition group, which are already members, tags of the context from a
+    /// number on, and adds the group as a member.
+    pub(crate) fn add_group(
+        &mut self,
+        members: &[Member],
+        group: Rows,
+        number: u64,
+    ) -> Result<(), AllocError> {
+        let from = self.tags.len();
+        for index in 0..group.count {
+            let row = group.from.saturating_add(index as usize);
+            if let Some(member) = members.get(row) {
+                let number = number.saturating_add(u64::from(index));
+                let tags = self.tag_type(member.node, number)?;
+                if let Some(of) = self.members.as_mut_slice().get_mut(row) {
+                    *of = FirstTags { tags, ..*of };
+                }
+            }
+        }
+        self.members.push(FirstTags {
+            tags: Rows {
+                from,
+                count: group.count,
+            },
+            is_any: false,
+            group: Some(group),
+        })?;
         Ok(())
     }
 }

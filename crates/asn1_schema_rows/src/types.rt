@@ -4,7 +4,7 @@
 //! null  bool  int  int:0..  int:0..7  intx:0..7  enum:LAST  enumx:LAST:ADDITIONS
 //! bits:0..  bits:3..3  bitsx:1..2  named:0..  octets:..  of:0.. ITEM  ofx:1..2 ITEM  setof:0.. ITEM  open TYPE
 //! text:0..4:48-57  textx:1..2:65-66:32-126   oid  relative  utf8  any
-//! seq:ROOT ..  seqx:ROOT:ADDITIONS ..
+//! seq:ROOT ..  seqx:ROOT:ADDITIONS ..  group:COUNT ..
 //! choice:ROOT ..  choicex:ROOT:ADDITIONS ..
 //! ```
 //!
@@ -13,11 +13,13 @@
 //! The bits of `named` have names. A text has ranges of characters by their numbers: of its alphabet, and
 //! of its type's alphabet.
 //!
+//! A `group` is an addition group: in DER its components are those of the SEQUENCE; in PER it is `seq`.
+//!
 //! Components and alternatives have automatic tags (X.680 25.8): from 0 on, those of the root before the
 //! additions. The values of an ENUMERATED are numbered from 0 on. The second alphabet of a text tells of
 //! which type it is.
 
-use crate::bounds::{integer_of, length_of};
+use crate::bounds::{integer_of, length_of, small};
 use crate::tags::{TagRows, universal_number};
 use asn1_schema::{Length, Member, Node, Presence, Range, Rows, Span, TimeKind};
 use asn1_test_rows::{RowError, parse_word, wrong};
@@ -58,13 +60,17 @@ struct Types {
 impl Types {
     /// Adds a type.
     fn add(&mut self, node: Node) -> Result<(), RowError> {
-        let index = self.nodes.len();
         let alphabet = match node {
             Node::Text { whole, .. } => self.ranges.as_slice().get(whole.from).copied(),
             _ => None,
         };
-        self.tags
-            .add_type(&node, universal_number(&node, alphabet))?;
+        self.add_with(node, universal_number(&node, alphabet))
+    }
+
+    /// Adds a type with the number of its universal tag, if it has one.
+    fn add_with(&mut self, node: Node, number: Option<u64>) -> Result<(), RowError> {
+        let index = self.nodes.len();
+        self.tags.add_type(&node, number)?;
         self.nodes.push(node)?;
         self.left.push(Member {
             node: index,
@@ -95,16 +101,47 @@ impl Types {
     /// Takes so many types as rows of the table of members. The first has this automatic tag.
     fn take_rows(&mut self, alloc: Global, count: usize, tag: usize) -> Result<Rows, RowError> {
         let from = self.members.len();
-        for i in 0..count {
+        let mut tag = tag as u64;
+        for _ in 0..count {
             let member = self.take(alloc)?;
-            self.tags
-                .add_member(member.node, tag.saturating_add(i) as u64)?;
+            match self.group_at(member.node) {
+                Some(group) => {
+                    let members = self.members.as_slice();
+                    self.tags.add_group(members, group, tag)?;
+                    tag = tag.saturating_add(u64::from(group.count));
+                }
+                None => {
+                    self.tags.add_member(member.node, tag)?;
+                    tag = tag.saturating_add(1);
+                }
+            }
             self.members.push(member)?;
         }
         Ok(Rows {
             from,
             count: small(alloc, count)?,
         })
+    }
+
+    /// Returns the components of an addition group, which is a SEQUENCE without tags.
+    fn group_at(&self, node: usize) -> Option<Rows> {
+        match self.nodes.as_slice().get(node) {
+            Some(Node::Sequence { root, .. }) if !self.tags.has_tags(node) => Some(*root),
+            _ => None,
+        }
+    }
+
+    /// Adds an addition group of so many components.
+    fn add_group(&mut self, alloc: Global, count: usize) -> Result<(), RowError> {
+        let root = self.take_rows(alloc, count, 0)?;
+        self.add_with(
+            Node::Sequence {
+                root,
+                is_extensible: false,
+                additions: Rows { from: 0, count: 0 },
+            },
+            None,
+        )
     }
 
     /// Adds ranges of characters, as `32-32.48-57`.
@@ -319,14 +356,6 @@ fn read_text(
     })
 }
 
-/// Returns a count as the tables have it.
-fn small(alloc: Global, count: usize) -> Result<u32, RowError> {
-    match u32::try_from(count) {
-        Ok(count) => Ok(count),
-        Err(_) => Err(wrong(alloc, "the type", "type of so few parts")),
-    }
-}
-
 /// Reads a word that has counts: of its root, and of its additions.
 fn read_counted(
     alloc: Global,
@@ -347,6 +376,7 @@ fn read_counted(
             is_extensible,
             additions: small(alloc, second)?,
         }),
+        "group" => types.add_group(alloc, first),
         "seq" => {
             let root = types.take_rows(alloc, first, 0)?;
             let additions = types.take_rows(alloc, second, first)?;

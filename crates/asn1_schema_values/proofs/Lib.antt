@@ -4,3 +4,4 @@ mod ValueLemmas
 mod ComponentLemmas
 mod TableLemmas
 mod RangeLemmas
+mod PieceLemmas

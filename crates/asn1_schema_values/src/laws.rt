@@ -1,6 +1,9 @@
 //! What the definitions keep.
 
-ghost use Rattle.std.specs.Prelude.{◌≡◌, ℕ};
+ghost use Rattle.std.specs.Prelude.{◌≡◌, ◌≤◌, ℕ, List, Bool, length, map, take};
+ghost use Rattle.asn1_schema.specs.declared.tables.Range as range;
+ghost use Rattle.asn1_schema.specs.PiecesOfParts.{piece_of};
+ghost use Rattle.asn1_schema.specs.Values.{AreValues};
 ghost use Rattle.asn1_schema_values.specs.Extents.{HasValues};
 ghost use Rattle.asn1_schema_values.specs.Tables.{AreWellFormed, IsClosed};
 
@@ -10,6 +13,13 @@ use asn1_schema::{Part, Tables};
 pub fn laws_of_extents(parts: &[Part])
     ensures { (at n end other : ℕ) → HasValues parts.now at n end → HasValues parts.now at n other
         → end ≡ other }
+{}
+
+/// States that parts end values where the pieces that they are do; it does nothing. So the parts that a
+/// decoder returns are one value, whose end is their number.
+pub fn laws_of_pieces(parts: &[Part])
+    ensures { (ranges : List range.Range) (list : List Bool) (n count : ℕ) → count ≤ length parts.now
+        → AreValues n (map (piece_of ranges list) (take count parts.now)) → HasValues parts.now 0 n count }
 {}
 
 /// States that each row and each type that a type of well-formed tables names is in the tables; it does

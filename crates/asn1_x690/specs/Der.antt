@@ -22,7 +22,7 @@ use Rattle.asn1_x690.specs.declared.tables.Identifier.{Identifier}
 use Rattle.asn1_x690.specs.declared.tables.TypeTags.{TypeTags}
 use Rattle.asn1_x690.specs.declared.tables.FirstTags.{FirstTags}
 use Rattle.asn1_x690.specs.Elements.{identifier, any_element}
-use Rattle.asn1_x690.specs.TypeContents.{TypeContents, ToldContents, ByHeader, headed, invalid_header, only_header, any_header, either, only_value, told, invalid_told, nothing_more, present, required, perhaps, to_end, renamed, some_or_none}
+use Rattle.asn1_x690.specs.TypeContents.{TypeContents, ToldContents, ByHeader, headed, invalid_header, only_header, any_header, either, only_value, told, invalid_told, nothing_more, present, required, perhaps, prefixed, to_end, renamed, some_or_none}
 use Rattle.asn1_x690.specs.Leaves.{IsBoolean, IsNull, IsInteger, IsEnumerated, IsBitString, AreOctets, IsKept, IsObjectIdentifier, IsRelativeIdentifier, IsUtf8Text, width_of, AreCharacters, IsTimeText, HasSize, IsBetween, IsAtLeast, AreTrimmed, AreSized, IsText, IsPermittedValue, leaf_of}
 
 -- the tables that the types of a schema share
@@ -122,10 +122,22 @@ module _ (E : ℕ → ByHeader FaultKind Identifier) (context : Context) (node :
   components (suc count) from F =
       component (slice_get context.members from) (slice_get context.firsts from) (components count (from + 1) F)
 
+  -- An addition group that is present where the next tag is one of its components'. They are components of the type itself (8.9.2),
+  -- so no element is around them; a part before theirs tells how many there are.
+  abbrev pub group : FirstTags → Rows → ToldContents FaultKind ℕ → ToldContents FaultKind ℕ
+  group first rows F =
+      perhaps (BeginsWith context.tags first) node
+      (prefixed (Sequence rows.count false) node (components rows.count rows.from F)) F
+
+  abbrev pub addition_by : Option Rows → FirstTags → TypeEncoding FaultKind → ToldContents FaultKind ℕ → ToldContents FaultKind ℕ
+  addition_by None first A F = optional (Some first) A F
+  addition_by (Some rows) first A F = group first rows F
+
   -- an addition that the schema knows
   abbrev pub addition : Option Member → Option FirstTags → ToldContents FaultKind ℕ → ToldContents FaultKind ℕ
   addition None first F = no_member node
-  addition (Some m) first F = optional first (value_by m.presence (element m.node (E m.node))) F
+  addition (Some m) None F = no_member node
+  addition (Some m) (Some first) F = addition_by first.group first (value_by m.presence (element m.node (E m.node))) F
 
   abbrev pub additions : ℕ → ℕ → ToldContents FaultKind ℕ → ToldContents FaultKind ℕ
   additions zero from F = F

@@ -29,7 +29,7 @@ abbrev of_tag : ℕ → TypeTags
 of_tag i = record { tags = rows i 1; numbers = 0; characters = One; is_any = false }
 
 abbrev first_tag : ℕ → FirstTags
-first_tag i = record { tags = rows i 1; is_any = false }
+first_tag i = record { tags = rows i 1; is_any = false; group = None }
 
 -- SEQUENCE is 16, IA5String 22 and BOOLEAN 1 (X.680 8.4)
 abbrev pub example_context : Context

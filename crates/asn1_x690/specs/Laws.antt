@@ -6,7 +6,10 @@ pub mod ContentsLaws
 pub mod HeadedLaws
 pub mod TypeContentsLaws
 pub mod ToldLaws
+pub mod GroupLaws
 pub mod EndLaws
 pub mod LeafLaws
 pub mod TypeLaws
+pub mod GivesLaws
+pub mod ValueLaws
 pub mod ExampleLaws

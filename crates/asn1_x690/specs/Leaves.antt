@@ -1,4 +1,4 @@
--- Types of one part in DER (X.690 8.2 to 8.4, 8.6 to 8.8, 8.19, 8.20, 8.23, 8.25, 8.26, 11.1, 11.2, 11.7, 11.8): which contents octets encode which value.
+-- Types of one part in DER (X.690 8.2 to 8.4, 8.6 to 8.8, 8.19, 8.20, 8.23, 8.25, 11.1, 11.2, 11.7, 11.8): which contents octets encode which value.
 use Rattle.std.specs.Prelude.{◌≡◌, ℕ, ℤ, ◌+◌, ◌*◌, ◌%◌, ◌^◌, ◌<◌, ◌≤◌, ◌≤ℤ◌, ◌+ℤ◌, pos, ◌⊎◌, ⊤, Bool, true, false, List, [], ◌∷◌, ◌++◌, length, slice_get, Some}
 use Rattle.std.specs.Str.{IsUtf8}
 use Rattle.asn1_bits.specs.Bits.{bits, digits}
@@ -85,7 +85,7 @@ AreCharacters width [] list = list ≡ []
 AreCharacters width (c ∷ text) list =
     (rest : List Bool) × (c < 2 ^ width) × AreCharacters width text rest × (list ≡ digits c width ++ rest)
 
--- UTCTime (8.25, 11.8) and GeneralizedTime (8.26, 11.7): a character in each octet
+-- UTCTime (8.25, 11.8) and GeneralizedTime (8.25, 11.7): a character in each octet
 abbrev pub IsTimeText : TimeKind → List ℕ → List Bool → Type 0
 IsTimeText kind text list = AreCharacters 8 text list × IsTime kind text
 

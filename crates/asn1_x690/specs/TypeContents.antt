@@ -172,6 +172,16 @@ perhaps C node G F = record {
       × (G.misfit x tape e ⊎ (AfterParts (FillsWith G x) (λ list rest. ¬ (C list)) tape × IsAtPart NoEncoding node tape e)));
 }
 
+-- a part, and contents
+abbrev pub PrefixedMisfit : {K X : Type 0} → Piece → ℕ → ToldContents K X → X → Piece → Parts → Misfit → Type 0
+PrefixedMisfit q node F x p rest e = ((p ≡ q) × F.misfit x rest e) ⊎ (¬ (p ≡ q) × IsAtPart OtherPart node (p ∷ rest) e)
+
+abbrev pub prefixed : {K X : Type 0} → Piece → ℕ → ToldContents K X → ToldContents K X
+prefixed q node F = record {
+  contents = mapped (λ v. (v.0, q ∷ v.1)) F.contents;
+  misfit = λ x. FirstPart node (PrefixedMisfit q node F x);
+}
+
 -- values to the end, each of which may depend on the bits of the one before it, and their number
 abbrev pub to_end : {K : Type 0} → K → ℕ → (List Bool → TypeEncoding K) → ToldContents K ℕ
 to_end extra node A = record {

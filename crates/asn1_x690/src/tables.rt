@@ -64,10 +64,12 @@ pub struct TypeTags {
 /// The tags with which a value of a member may begin.
 #[derive(Clone, Copy, Debug, PartialEq, Eq)]
 pub struct FirstTags {
-    /// The tags, in the table of tags.
+    /// The tags, in the table of tags. Those of an addition group are the tags of all its components.
     pub tags: Rows,
     /// Whether it may begin with any tag.
     pub is_any: bool,
+    /// Of an addition group: its components, in the table of members. No element is around them.
+    pub group: Option<Rows>,
 }
 
 /// The tables that DER needs beside those of a schema: tags, and numbers of ENUMERATED.

@@ -1,5 +1,5 @@
 -- Steps over the items of a list, which are in order in a SET OF.
-use Rattle.std.proofs.Common.{◌≡◌, ℕ, ◌+◌, List, [], Bool, true, false, length, refl, sym, ◌∙◌, ap, arith, inl, inr}
+use Rattle.std.proofs.Common.{◌≡◌, ℕ, ◌+◌, List, [], ◌∷◌, Bool, true, false, length, refl, sym, ◌∙◌, ap, arith, inl, inr}
 use Rattle.std.specs.Prelude.{◌⊎◌}
 use Rattle.std.specs.declared.cmp.Ordering.TheVariants.{Less}
 use Rattle.std.proofs.lemmas.List.{append-nil, length-append}
@@ -14,6 +14,11 @@ use Rattle.asn1_x690.specs.Der as der
 use Rattle.asn1_x690.specs.Laws.TypeLaws.{encoding_at_good}
 use Rattle.asn1_x690_decode.specs.declared.context.Context.{Context}
 use Rattle.asn1_x690_decode.specs.Tables.{tables_of, types, elements}
+
+-- bits are not before none
+pub none_before : (l : List Bool) → bits_cmp l [] ≡ Less → ⊥
+none_before [] e = cc
+none_before (b ∷ l) e = cc
 
 module _ (c : Context) (depth node item : ℕ) where
   abbrev A : TypeEncoding FaultKind

@@ -1,10 +1,11 @@
 -- Steps over components: what is said of the bits after some is said of all.
-use Rattle.std.proofs.Common.{◌≡◌, ℕ, zero, suc, ◌+◌, ◌-◌, ◌<◌, List, [], ◌++◌, Bool, true, false, refl, sym, ◌∙◌, ap, subst, arith, append_assoc, Option, Some, None, inl, inr}
+use Rattle.std.proofs.Common.{◌≡◌, ℕ, zero, suc, ◌+◌, ◌-◌, ◌<◌, List, [], ◌++◌, Bool, false, refl, sym, ◌∙◌, ap, subst, arith, append_assoc, Option, Some, None, inl, inr}
 use Rattle.std.specs.Prelude.{slice_get}
 use Rattle.std.proofs.lemmas.List.{append-nil}
 use Rattle.asn1_schema.specs.declared.part.Part.{Part}
 use Rattle.asn1_schema.specs.declared.tables.Range.{Range}
 use Rattle.asn1_schema.specs.declared.tables.Member.{Member}
+use Rattle.asn1_schema.specs.declared.tables.Rows.{Rows}
 use Rattle.asn1_schema.specs.declared.tables.Presence.{Presence}
 use Rattle.asn1_schema.specs.declared.tables.Presence.TheVariants as presence
 use Rattle.asn1_schema.specs.Pieces.{Parts}
@@ -20,7 +21,7 @@ use Rattle.asn1_x690_fields.specs.declared.state.State.{State}
 use Rattle.asn1_x690_fields.specs.Outcomes.{rest}
 use Rattle.asn1_x690_decode.specs.declared.context.Context.{Context}
 use Rattle.asn1_x690_decode.specs.Tables.{tables_of, types}
-use Rattle.asn1_x690_decode.specs.Members.{AreSteps, StepsFault, is_required, value_of, IsComponentBy, ComponentFaultBy, IsComponentOf, ComponentFaultOf, IsComponent, ComponentFault}
+use Rattle.asn1_x690_decode.specs.Members.{AreSteps, StepsFault, is_required, value_of, IsComponentBy, ComponentFaultBy, IsComponentOf, ComponentFaultOf, IsComponent, ComponentFault, IsAdditionBy, AdditionFaultBy, IsAdditionOf, AdditionFaultOf, IsAddition, AdditionFault}
 use Rattle.asn1_x690_decode.specs.Decoding.{IsFound}
 use Rattle.asn1_x690_decode.proofs.StateSteps.{grown_over, none_grown}
 
@@ -147,7 +148,7 @@ module _ {X : Type 0} (c : Context) (depth node : ℕ) (F : ToldContents FaultKi
   -- by whether it must be present
 
   by_done : (p : Presence) (n : ℕ) (A : TypeEncoding FaultKind) (first : Option FirstTags) (l : List Bool) (xs : Parts) (others : List Bool)
-      (x : X) (ys : Parts) → IsComponentBy c depth node (is_required false p) A first l xs others → F.contents.fills (x, ys) others
+      (x : X) (ys : Parts) → IsComponentBy c depth node (is_required p) A first l xs others → F.contents.fills (x, ys) others
       → (Component p first n A).contents.fills (x, xs ++ ys) l
   by_done presence.Mandatory n A first l xs others x ys p q =
       inr (
@@ -167,7 +168,7 @@ module _ {X : Type 0} (c : Context) (depth node : ℕ) (F : ToldContents FaultKi
   by_done (presence.Default v) n A first l xs others x ys p q = optional_done A first l xs others x ys p q
 
   by_later : (p : Presence) (n : ℕ) (A : TypeEncoding FaultKind) (first : Option FirstTags) (l : List Bool) (xs : Parts) (others : List Bool)
-      (e : Fault FaultKind) → IsComponentBy c depth node (is_required false p) A first l xs others → F.contents.fault others e
+      (e : Fault FaultKind) → IsComponentBy c depth node (is_required p) A first l xs others → F.contents.fault others e
       → (Component p first n A).contents.fault l e
   by_later presence.Mandatory n A first l xs others e p w =
       inr (p.0, inr (record { value = xs; rest = others; starts = p.1; holds = w }))
@@ -175,7 +176,7 @@ module _ {X : Type 0} (c : Context) (depth node : ℕ) (F : ToldContents FaultKi
   by_later (presence.Default v) n A first l xs others e p w = optional_later A first l xs others e p w
 
   by_fault : (p : Presence) (n : ℕ) (A : TypeEncoding FaultKind) (first : Option FirstTags) (l : List Bool) (e : Fault FaultKind)
-      → ComponentFaultBy c depth node (is_required false p) n A first l e → (Component p first n A).contents.fault l e
+      → ComponentFaultBy c depth node (is_required p) n A first l e → (Component p first n A).contents.fault l e
   by_fault presence.Mandatory n A first l e (inl w) = inl w
   by_fault presence.Mandatory n A first l e (inr w) = inr (w.0, inl w.1)
   by_fault presence.Optional n A first l e w = optional_fault n A first l e w
@@ -184,19 +185,19 @@ module _ {X : Type 0} (c : Context) (depth node : ℕ) (F : ToldContents FaultKi
   -- ---- of the table of members
 
   one_done : (m : Option Member) (first : Option FirstTags) (l : List Bool) (xs : Parts) (others : List Bool) (x : X) (ys : Parts)
-      → IsComponentOf c depth node false m first l xs others → F.contents.fills (x, ys) others
+      → IsComponentOf c depth node m first l xs others → F.contents.fills (x, ys) others
       → (der.component E (tables_of c) node m first F).contents.fills (x, xs ++ ys) l
   one_done None first l xs others x ys p q = absurd p
   one_done (Some m) first l xs others x ys p q = by_done m.presence m.node (value_of c depth node m) first l xs others x ys p q
 
   one_later : (m : Option Member) (first : Option FirstTags) (l : List Bool) (xs : Parts) (others : List Bool) (e : Fault FaultKind)
-      → IsComponentOf c depth node false m first l xs others → F.contents.fault others e
+      → IsComponentOf c depth node m first l xs others → F.contents.fault others e
       → (der.component E (tables_of c) node m first F).contents.fault l e
   one_later None first l xs others e p w = absurd p
   one_later (Some m) first l xs others e p w = by_later m.presence m.node (value_of c depth node m) first l xs others e p w
 
   one_fault : (m : Option Member) (first : Option FirstTags) (l : List Bool) (e : Fault FaultKind)
-      → ComponentFaultOf c depth node false m first l e → (der.component E (tables_of c) node m first F).contents.fault l e
+      → ComponentFaultOf c depth node m first l e → (der.component E (tables_of c) node m first F).contents.fault l e
   one_fault None first l e w = w
   one_fault (Some m) first l e w = by_fault m.presence m.node (value_of c depth node m) first l e w
 
@@ -207,10 +208,10 @@ module _ {X : Type 0} (c : Context) (depth node : ℕ) (F : ToldContents FaultKi
   Components count from = der.components (types c depth) (tables_of c) node count from F
 
   abbrev S : ℕ → List Bool → Parts → List Bool → Type 0
-  S = IsComponent c depth node false
+  S = IsComponent c depth node
 
   abbrev W : ℕ → List Bool → Fault FaultKind → Type 0
-  W = ComponentFault c depth node false
+  W = ComponentFault c depth node
 
   pub components_done : (count from : ℕ) (l : List Bool) (xs : Parts) (others : List Bool) (x : X) (ys : Parts)
       → AreSteps S count from l xs others → F.contents.fills (x, ys) others → (Components count from).contents.fills (x, xs ++ ys) l
@@ -240,46 +241,71 @@ module _ {X : Type 0} (c : Context) (depth node : ℕ) (F : ToldContents FaultKi
 
 -- ---- additions, each of which may be absent
 
-added_required : (p : Presence) → is_required true p ≡ false
-added_required presence.Mandatory = refl
-added_required presence.Optional = refl
-added_required (presence.Default v) = refl
-
 module _ (c : Context) (depth node : ℕ) (F : ToldContents FaultKind ℕ) where
   abbrev Addition : Option Member → Option FirstTags → ToldContents FaultKind ℕ
   Addition m first = der.addition (types c depth) (tables_of c) node m first F
 
+  abbrev AdditionBy : Option Rows → FirstTags → TypeEncoding FaultKind → ToldContents FaultKind ℕ
+  AdditionBy rows first A = der.addition_by (types c depth) (tables_of c) node rows first A F
+
+  by_group_done : (rows : Option Rows) (m : Member) (first : FirstTags) (l : List Bool) (xs : Parts) (others : List Bool) (x : ℕ) (ys : Parts)
+      → IsAdditionBy c depth node rows m first l xs others → F.contents.fills (x, ys) others
+      → (AdditionBy rows first (value_of c depth node m)).contents.fills (x, xs ++ ys) l
+  by_group_done None m first l xs others x ys p q = optional_done c depth node F (value_of c depth node m) (Some first) l xs others x ys p q
+  by_group_done (Some rows) m first l xs others x ys (inl p) q =
+      let g = p.1 in
+      subst (λ (zs : Parts). (AdditionBy (Some rows) first (value_of c depth node m)).contents.fills (x, zs ++ ys) l) (sym g.2)
+      (inl (
+        p.0,
+        ((x, g.0 ++ ys), components_done c depth node F rows.count rows.from l g.0 others x ys g.1 q, refl),
+      ))
+  by_group_done (Some rows) m first l xs others x ys (inr p) q =
+      subst (λ (zs : Parts). (AdditionBy (Some rows) first (value_of c depth node m)).contents.fills (x, zs ++ ys) l) (sym p.1)
+      (inr (p.0, ((x, ys), subst (λ (k : List Bool). F.contents.fills (x, ys) k) p.2 q, refl)))
+
+  by_group_later : (rows : Option Rows) (m : Member) (first : FirstTags) (l : List Bool) (xs : Parts) (others : List Bool) (e : Fault FaultKind)
+      → IsAdditionBy c depth node rows m first l xs others → F.contents.fault others e
+      → (AdditionBy rows first (value_of c depth node m)).contents.fault l e
+  by_group_later None m first l xs others e p w = optional_later c depth node F (value_of c depth node m) (Some first) l xs others e p w
+  by_group_later (Some rows) m first l xs others e (inl p) w =
+      let g = p.1 in
+      inl (p.0, components_later c depth node F rows.count rows.from l g.0 others e g.1 w)
+  by_group_later (Some rows) m first l xs others e (inr p) w =
+      inr (p.0, subst (λ (k : List Bool). F.contents.fault k e) p.2 w)
+
+  by_group_fault : (rows : Option Rows) (m : Member) (first : FirstTags) (l : List Bool) (e : Fault FaultKind)
+      → AdditionFaultBy c depth node rows m first l e → (AdditionBy rows first (value_of c depth node m)).contents.fault l e
+  by_group_fault None m first l e w = optional_fault c depth node F m.node (value_of c depth node m) (Some first) l e w
+  by_group_fault (Some rows) m first l e w = inl (w.0, components_fault c depth node F rows.count rows.from l e w.1)
+
   added_done : (m : Option Member) (first : Option FirstTags) (l : List Bool) (xs : Parts) (others : List Bool) (x : ℕ) (ys : Parts)
-      → IsComponentOf c depth node true m first l xs others → F.contents.fills (x, ys) others
+      → IsAdditionOf c depth node m first l xs others → F.contents.fills (x, ys) others
       → (Addition m first).contents.fills (x, xs ++ ys) l
   added_done None first l xs others x ys p q = absurd p
-  added_done (Some m) first l xs others x ys p q =
-      optional_done c depth node F (value_of c depth node m) first l xs others x ys
-      (subst (λ (b : Bool). IsComponentBy c depth node b (value_of c depth node m) first l xs others) (added_required m.presence) p) q
+  added_done (Some m) None l xs others x ys p q = absurd p
+  added_done (Some m) (Some first) l xs others x ys p q = by_group_done first.group m first l xs others x ys p q
 
   added_later : (m : Option Member) (first : Option FirstTags) (l : List Bool) (xs : Parts) (others : List Bool) (e : Fault FaultKind)
-      → IsComponentOf c depth node true m first l xs others → F.contents.fault others e → (Addition m first).contents.fault l e
+      → IsAdditionOf c depth node m first l xs others → F.contents.fault others e → (Addition m first).contents.fault l e
   added_later None first l xs others e p w = absurd p
-  added_later (Some m) first l xs others e p w =
-      optional_later c depth node F (value_of c depth node m) first l xs others e
-      (subst (λ (b : Bool). IsComponentBy c depth node b (value_of c depth node m) first l xs others) (added_required m.presence) p) w
+  added_later (Some m) None l xs others e p w = absurd p
+  added_later (Some m) (Some first) l xs others e p w = by_group_later first.group m first l xs others e p w
 
   added_fault : (m : Option Member) (first : Option FirstTags) (l : List Bool) (e : Fault FaultKind)
-      → ComponentFaultOf c depth node true m first l e → (Addition m first).contents.fault l e
+      → AdditionFaultOf c depth node m first l e → (Addition m first).contents.fault l e
   added_fault None first l e w = w
-  added_fault (Some m) first l e w =
-      optional_fault c depth node F m.node (value_of c depth node m) first l e
-      (subst (λ (b : Bool). ComponentFaultBy c depth node b m.node (value_of c depth node m) first l e) (added_required m.presence) w)
+  added_fault (Some m) None l e w = w
+  added_fault (Some m) (Some first) l e w = by_group_fault first.group m first l e w
 
 module _ (c : Context) (depth node : ℕ) (F : ToldContents FaultKind ℕ) where
   abbrev Known : ℕ → ℕ → ToldContents FaultKind ℕ
   Known count from = der.additions (types c depth) (tables_of c) node count from F
 
   abbrev T : ℕ → List Bool → Parts → List Bool → Type 0
-  T = IsComponent c depth node true
+  T = IsAddition c depth node
 
   abbrev V : ℕ → List Bool → Fault FaultKind → Type 0
-  V = ComponentFault c depth node true
+  V = AdditionFault c depth node
 
   pub additions_done : (count from : ℕ) (l : List Bool) (xs : Parts) (others : List Bool) (x : ℕ) (ys : Parts)
       → AreSteps T count from l xs others → F.contents.fills (x, ys) others → (Known count from).contents.fills (x, xs ++ ys) l

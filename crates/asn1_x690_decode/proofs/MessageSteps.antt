@@ -8,11 +8,12 @@ use Rattle.asn1_schema.specs.declared.tables.Range.{Range}
 use Rattle.asn1_schema.specs.Room.{Holds}
 use Rattle.asn1_schema.specs.Encodings.{Starts, IsAt}
 use Rattle.asn1_x690.specs.declared.fault.FaultKind.TheVariants.{Extra}
+use Rattle.asn1_x690.specs.Laws.ValueLaws.{value_at}
 use Rattle.asn1_x690_fields.specs.declared.state.State.{State}
 use Rattle.asn1_x690_fields.specs.Outcomes.{rest, fault_of, IsWithin}
 use Rattle.asn1_x690_fields.specs.Steps.{rest_length}
 use Rattle.asn1_x690_decode.specs.declared.context.Context.{Context}
-use Rattle.asn1_x690_decode.specs.Tables.{elements}
+use Rattle.asn1_x690_decode.specs.Tables.{tables_of, elements}
 use Rattle.asn1_x690_decode.specs.Decoding.{IsMoved, IsFound}
 use Rattle.asn1_x690_decode.specs.Messages.{messages, IsComplete, IsFirstFault, IsPrefix, IsFirstFaultOfPrefix}
 use Rattle.asn1_x690_decode.proofs.TagSteps.{only_done}
@@ -50,6 +51,7 @@ module _ (c : Context) (depth node : ℕ) (first : State) (at : first.at ≡ 0) 
           parts = f.parts;
           encoded = subst (λ (l : List Bool). (messages c depth node).fills f.parts l) whole
               (only_done Extra node (elements c depth node) list first last f.parts f.are (omega (arith, n, over)));
+          value = value_at c.tables.nodes.now (tables_of c) depth node f.parts f.are.front f.are.encoded;
           held = held f none;
         }
 
@@ -61,6 +63,7 @@ module _ (c : Context) (depth node : ℕ) (first : State) (at : first.at ≡ 0) 
           starts = subst (λ (l : List Bool). Starts (elements c depth node).encoding.encodes l f.parts (drop last.at list)) whole
               (subst (λ (l : List Bool). Starts (elements c depth node).encoding.encodes (rest list first) f.parts (drop last.at l))
               (take_all last.end list (omega (arith, e))) f.are);
+          value = value_at c.tables.nodes.now (tables_of c) depth node f.parts f.are.front f.are.encoded;
           held = held f none;
         }
 

@@ -17,7 +17,7 @@ use Rattle.asn1_x690_fields.specs.declared.state.State.{State}
 use Rattle.asn1_x690_fields.specs.Outcomes.{rest, fault_of}
 use Rattle.asn1_x690_decode.specs.declared.context.Context.{Context}
 use Rattle.asn1_x690_decode.specs.Tables.{tables_of, types}
-use Rattle.asn1_x690_decode.specs.Members.{AreSteps, StepsFault, IsComponent, ComponentFault}
+use Rattle.asn1_x690_decode.specs.Members.{AreSteps, StepsFault, IsComponent, ComponentFault, IsAddition, AdditionFault}
 use Rattle.asn1_x690_decode.specs.Decoding.{ContentsOutcome}
 use Rattle.asn1_x690_decode.proofs.StateSteps.{grown_over}
 use Rattle.asn1_x690_decode.proofs.MemberSteps.{components_done, components_later, components_fault, additions_done, additions_later, additions_fault}
@@ -42,10 +42,10 @@ module _ (c : Context) (depth node : ℕ) (root known : Rows) where
   Extension = der.extension (types c depth) (tables_of c) node known
 
   abbrev Are : List Bool → Parts → List Bool → Type 0
-  Are = AreSteps (IsComponent c depth node false) root.count root.from
+  Are = AreSteps (IsComponent c depth node) root.count root.from
 
   pub root_fault : (b : Bool) (l : List Bool) (e : Fault FaultKind)
-      → StepsFault (IsComponent c depth node false) (ComponentFault c depth node false) root.count root.from l e
+      → StepsFault (IsComponent c depth node) (ComponentFault c depth node) root.count root.from l e
       → (Whole b).contents.fault l e
   root_fault false l e w = inl (components_fault c depth node Nothing root.count root.from l e w)
   root_fault true l e w = inl (components_fault c depth node Extension root.count root.from l e w)
@@ -109,10 +109,10 @@ module _ (c : Context) (depth node : ℕ) (root known : Rows) where
   Elements = to_end Extra node (λ before. element node (any_value Unknown node))
 
   abbrev AreKnown : List Bool → Parts → List Bool → Type 0
-  AreKnown = AreSteps (IsComponent c depth node true) known.count known.from
+  AreKnown = AreSteps (IsAddition c depth node) known.count known.from
 
   pub known_fault : (l : List Bool) (e : Fault FaultKind)
-      → StepsFault (IsComponent c depth node true) (ComponentFault c depth node true) known.count known.from l e → Added.contents.fault l e
+      → StepsFault (IsAddition c depth node) (AdditionFault c depth node) known.count known.from l e → Added.contents.fault l e
   known_fault l e w = inl (additions_fault c depth node Others known.count known.from l e w)
 
   pub unknown_fault : (l : List Bool) (xs : Parts) (others : List Bool) (e : Fault FaultKind) → AreKnown l xs others
@@ -130,7 +130,7 @@ module _ (c : Context) (depth node : ℕ) (root known : Rows) where
 -- ---- additions after the root
 
 module _ (c : Context) (depth node : ℕ) (root known : Rows) (old mid new : State) (was next is : List Part) (xs : Parts)
-    (p : AreSteps (IsComponent c depth node false) root.count root.from (rest (bits c.octets.now) old) xs (rest (bits c.octets.now) mid))
+    (p : AreSteps (IsComponent c depth node) root.count root.from (rest (bits c.octets.now) old) xs (rest (bits c.octets.now) mid))
     (some : 0 < length (rest (bits c.octets.now) mid))
     (grown : IsGrown c.tables.ranges.now (bits c.octets.now) was old.count next mid.count (Sequence root.count true ∷ xs)) where
   pub extended_outcome : (r : Bool) → ContentsOutcome c (Added c depth node root known).contents mid new next is r

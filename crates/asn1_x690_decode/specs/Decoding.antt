@@ -2,19 +2,23 @@
 use Rattle.std.specs.Prelude.{◌≡◌, ℕ, ◌-◌, ◌%◌, ◌≤◌, Bool, true, false, List, [], ◌∷◌, length, Option, Some, None, Result, Ok, Err}
 use Rattle.asn1_bits.specs.Bits.{bits}
 use Rattle.asn1_schema.specs.declared.part.Part.{Part}
+use Rattle.asn1_schema.specs.declared.part.Span.{Span}
 use Rattle.asn1_schema.specs.declared.tables.Range.{Range}
+use Rattle.asn1_schema.specs.declared.tables.Node.{Node}
 use Rattle.asn1_schema.specs.Encodings.{Fault, Encoding, Contents, Starts}
 use Rattle.asn1_schema.specs.Pieces.{Parts}
-use Rattle.asn1_schema.specs.PiecesOfParts.{piece_of, bits_at}
+use Rattle.asn1_schema.specs.PiecesOfParts.{piece_of, bits_at, bits_of}
 use Rattle.asn1_schema.specs.Room.{IsGrown}
 use Rattle.asn1_x690.specs.declared.fault.FaultKind.{FaultKind}
 use Rattle.asn1_x690.specs.declared.tables.Identifier.{Identifier}
+use Rattle.asn1_x690.specs.declared.tables.TypeTags.{TypeTags}
 use Rattle.asn1_x690.specs.Elements.{any_element}
 use Rattle.asn1_x690.specs.TypeContents.{TypeContents}
 use Rattle.asn1_x690_fields.specs.declared.state.State.{State}
 use Rattle.asn1_x690_fields.specs.declared.identifier.FoundIdentifier.{FoundIdentifier}
 use Rattle.asn1_x690_fields.specs.Outcomes.{rest, fault_of, IsIdentifier}
 use Rattle.asn1_x690_decode.specs.declared.context.Context.{Context}
+use Rattle.asn1_x690_decode.specs.Tables.{contents_by}
 
 -- bits were passed
 pub record IsMoved (list : List Bool) (old new : State) : Type 0 where
@@ -65,3 +69,12 @@ pub record IsInside (list : List Bool) (start : ℕ) (found : FoundIdentifier) (
 abbrev pub IsLeaf : Context → TypeContents FaultKind → ℕ → List Bool → Result Part FaultKind → Type 0
 IsLeaf c F node contents (Ok p) = F.contents.fills (piece_of c.tables.ranges.now (bits c.octets.now) p ∷ []) contents
 IsLeaf c F node contents (Err kind) = F.contents.fault contents (record { node = node; left = length contents; kind = kind })
+
+-- the same, by the node and the tags of the type
+abbrev pub IsLeafOf : Context → ℕ → TypeTags → Node → Span → Result Part FaultKind → Type 0
+IsLeafOf c node tags is span r =
+    (depth : ℕ) → IsLeaf c (contents_by c depth node tags is) node (bits_of (bits c.octets.now) span) r
+
+-- the contents octets that are left
+abbrev pub span_of : State → Span
+span_of s = record { at = s.at; count = s.end - s.at }

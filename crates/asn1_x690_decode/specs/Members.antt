@@ -1,10 +1,11 @@
 -- Components one after another, as the beginning of contents.
-use Rattle.std.specs.Prelude.{◌≡◌, ℕ, zero, suc, ◌+◌, ◌⊎◌, Bool, true, false, not, List, [], ◌∷◌, ◌++◌, Option, Some, None, slice_get}
+use Rattle.std.specs.Prelude.{◌≡◌, ℕ, zero, suc, ◌+◌, ◌⊎◌, Bool, true, false, List, [], ◌∷◌, ◌++◌, Option, Some, None, slice_get}
 use Rattle.asn1_schema.specs.declared.tables.Presence.{Presence}
 use Rattle.asn1_schema.specs.declared.tables.Presence.TheVariants as presence
 use Rattle.asn1_schema.specs.declared.tables.Member.{Member}
+use Rattle.asn1_schema.specs.declared.tables.Rows.{Rows}
 use Rattle.asn1_schema.specs.Encodings.{Fault, Starts, IsAt}
-use Rattle.asn1_schema.specs.Pieces.{Absent, Parts}
+use Rattle.asn1_schema.specs.Pieces.{Absent, Sequence, Parts}
 use Rattle.asn1_schema.specs.TypeEncodings.{TypeEncoding}
 use Rattle.asn1_x690.specs.declared.fault.FaultKind.{FaultKind}
 use Rattle.asn1_x690.specs.declared.fault.FaultKind.TheVariants.{Missing, NoNode}
@@ -26,11 +27,11 @@ StepsFault S W zero from list e = ⊥
 StepsFault S W (suc count) from list e =
     W from list e ⊎ ((xs : Parts) × (mid : List Bool) × S from list xs mid × StepsFault S W count (from + 1) mid e)
 
--- whether a component must be present: additions may all be absent
-abbrev pub is_required : Bool → Presence → Bool
-is_required are_additions presence.Mandatory = not are_additions
-is_required are_additions presence.Optional = false
-is_required are_additions (presence.Default value) = false
+-- whether a component must be present
+abbrev pub is_required : Presence → Bool
+is_required presence.Mandatory = true
+is_required presence.Optional = false
+is_required (presence.Default value) = false
 
 module _ (c : Context) (depth node : ℕ) where
   -- the value of a component
@@ -51,20 +52,61 @@ module _ (c : Context) (depth node : ℕ) where
   ComponentFaultBy false inner A None list e = IsAt NoNode node list e
   ComponentFaultBy false inner A (Some first) list e = BeginsWith c.tags.tags.now first list × A.encoding.fault list e
 
-  module _ (are_additions : Bool) where
-    abbrev pub IsComponentOf : Option Member → Option FirstTags → List Bool → Parts → List Bool → Type 0
-    IsComponentOf None first list parts others = ⊥
-    IsComponentOf (Some m) first list parts others =
-        IsComponentBy (is_required are_additions m.presence) (value_of m) first list parts others
+  abbrev pub IsComponentOf : Option Member → Option FirstTags → List Bool → Parts → List Bool → Type 0
+  IsComponentOf None first list parts others = ⊥
+  IsComponentOf (Some m) first list parts others = IsComponentBy (is_required m.presence) (value_of m) first list parts others
 
-    abbrev pub ComponentFaultOf : Option Member → Option FirstTags → List Bool → Fault FaultKind → Type 0
-    ComponentFaultOf None first list e = IsAt NoNode node list e
-    ComponentFaultOf (Some m) first list e =
-        ComponentFaultBy (is_required are_additions m.presence) m.node (value_of m) first list e
+  abbrev pub ComponentFaultOf : Option Member → Option FirstTags → List Bool → Fault FaultKind → Type 0
+  ComponentFaultOf None first list e = IsAt NoNode node list e
+  ComponentFaultOf (Some m) first list e = ComponentFaultBy (is_required m.presence) m.node (value_of m) first list e
 
-    -- a component of the table of members, by its index
-    abbrev pub IsComponent : ℕ → List Bool → Parts → List Bool → Type 0
-    IsComponent i = IsComponentOf (slice_get c.tables.members.now i) (slice_get c.tags.members.now i)
+  -- a component of the table of members, by its index
+  abbrev pub IsComponent : ℕ → List Bool → Parts → List Bool → Type 0
+  IsComponent i = IsComponentOf (slice_get c.tables.members.now i) (slice_get c.tags.members.now i)
 
-    abbrev pub ComponentFault : ℕ → List Bool → Fault FaultKind → Type 0
-    ComponentFault i = ComponentFaultOf (slice_get c.tables.members.now i) (slice_get c.tags.members.now i)
+  abbrev pub ComponentFault : ℕ → List Bool → Fault FaultKind → Type 0
+  ComponentFault i = ComponentFaultOf (slice_get c.tables.members.now i) (slice_get c.tags.members.now i)
+
+  -- the components of an addition group, after the part that tells how many there are
+  abbrev pub AreGrouped : Rows → List Bool → Parts → List Bool → Type 0
+  AreGrouped rows list parts others =
+      (xs : Parts) × AreSteps IsComponent rows.count rows.from list xs others × (parts ≡ Sequence rows.count false ∷ xs)
+
+  abbrev pub GroupedFault : Rows → List Bool → Fault FaultKind → Type 0
+  GroupedFault rows = StepsFault IsComponent ComponentFault rows.count rows.from
+
+  -- an addition, each of which may be absent: a value, or the components of an addition group
+  abbrev pub IsAdditionBy : Option Rows → Member → FirstTags → List Bool → Parts → List Bool → Type 0
+  IsAdditionBy None m first list parts others = IsComponentBy false (value_of m) (Some first) list parts others
+  IsAdditionBy (Some rows) m first list parts others =
+      (BeginsWith c.tags.tags.now first list × AreGrouped rows list parts others)
+      ⊎ (¬ (BeginsWith c.tags.tags.now first list) × (parts ≡ Absent ∷ []) × (others ≡ list))
+
+  abbrev pub AdditionFaultBy : Option Rows → Member → FirstTags → List Bool → Fault FaultKind → Type 0
+  AdditionFaultBy None m first list e = ComponentFaultBy false m.node (value_of m) (Some first) list e
+  AdditionFaultBy (Some rows) m first list e = BeginsWith c.tags.tags.now first list × GroupedFault rows list e
+
+  abbrev pub IsAdditionOf : Option Member → Option FirstTags → List Bool → Parts → List Bool → Type 0
+  IsAdditionOf None first list parts others = ⊥
+  IsAdditionOf (Some m) None list parts others = ⊥
+  IsAdditionOf (Some m) (Some first) list parts others = IsAdditionBy first.group m first list parts others
+
+  abbrev pub AdditionFaultOf : Option Member → Option FirstTags → List Bool → Fault FaultKind → Type 0
+  AdditionFaultOf None first list e = IsAt NoNode node list e
+  AdditionFaultOf (Some m) None list e = IsAt NoNode node list e
+  AdditionFaultOf (Some m) (Some first) list e = AdditionFaultBy first.group m first list e
+
+  abbrev pub IsAddition : ℕ → List Bool → Parts → List Bool → Type 0
+  IsAddition i = IsAdditionOf (slice_get c.tables.members.now i) (slice_get c.tags.members.now i)
+
+  abbrev pub AdditionFault : ℕ → List Bool → Fault FaultKind → Type 0
+  AdditionFault i = AdditionFaultOf (slice_get c.tables.members.now i) (slice_get c.tags.members.now i)
+
+  -- a component or an addition
+  abbrev pub IsMember : Bool → ℕ → List Bool → Parts → List Bool → Type 0
+  IsMember false = IsComponent
+  IsMember true = IsAddition
+
+  abbrev pub MemberFault : Bool → ℕ → List Bool → Fault FaultKind → Type 0
+  MemberFault false = ComponentFault
+  MemberFault true = AdditionFault

@@ -5,6 +5,7 @@ use Rattle.asn1_schema.specs.declared.part.Part.{Part}
 use Rattle.asn1_schema.specs.Encodings.{Contents, Starts, only}
 use Rattle.asn1_schema.specs.Pieces.{Parts}
 use Rattle.asn1_schema.specs.Room.{Holds}
+use Rattle.asn1_schema.specs.Values.{AreValues}
 use Rattle.asn1_x690.specs.declared.fault.FaultKind.{FaultKind}
 use Rattle.asn1_x690.specs.declared.fault.FaultKind.TheVariants.{Extra}
 use Rattle.asn1_x690.specs.Der.{encoding_at}
@@ -17,10 +18,11 @@ use Rattle.asn1_x690_decode.specs.Tables.{tables_of, elements}
 abbrev pub messages : Context → ℕ → ℕ → Contents FaultKind Parts
 messages c depth node = only Extra node (encoding_at c.tables.nodes.now (tables_of c) depth node).encoding
 
--- the octets are a message, and the room holds the first parts of its value; the count is theirs
+-- the octets are a message, its parts are one value, and the room holds the first of them; the count is theirs
 pub record IsComplete (c : Context) (depth node : ℕ) (room : List Part) (count : ℕ) : Type 0 where
   pub parts : Parts
   pub encoded : (messages c depth node).fills parts (bits c.octets.now)
+  pub value : AreValues 1 parts
   pub held : Holds c.tables.ranges.now (bits c.octets.now) room count parts
 
 -- the first fault of the octets as a message
@@ -29,10 +31,11 @@ IsFirstFault c depth node e =
     (messages c depth node).fault (bits c.octets.now)
     (record { node = e.node; left = length (bits c.octets.now) - e.at; kind = e.kind })
 
--- the octets begin with an element that encodes a value of the type
+-- the octets begin with an element that encodes a value of the type, whose parts are one value
 pub record IsPrefix (c : Context) (depth node : ℕ) (room : List Part) (p : Prefix) : Type 0 where
   pub parts : Parts
   pub starts : Starts (elements c depth node).encoding.encodes (bits c.octets.now) parts (drop p.bits (bits c.octets.now))
+  pub value : AreValues 1 parts
   pub held : Holds c.tables.ranges.now (bits c.octets.now) room p.parts parts
 
 -- the first fault of the octets as the beginning of such an element

@@ -54,6 +54,13 @@ is_structured (type.SequenceOf size is_extensible item) = true
 is_structured (type.SetOf size is_extensible item) = true
 is_structured n = false
 
+-- the most frequent types of one part
+abbrev pub is_frequent : Node → Bool
+is_frequent type.Boolean = true
+is_frequent (type.OctetString size is_extensible) = true
+is_frequent type.ObjectIdentifier = true
+is_frequent n = false
+
 abbrev pub identifier_by : Bool → Tag → Identifier
 identifier_by is_constructed tag = record { tag = tag; is_constructed = is_constructed }
 

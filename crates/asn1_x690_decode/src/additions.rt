@@ -8,12 +8,15 @@ ghost use Rattle.asn1_x690.specs.TypeContents.{to_end, told};
 ghost use Rattle.asn1_x690.specs.Der.{additions, unknown_additions, always, any_value, element};
 ghost use Rattle.asn1_x690_fields.specs.Outcomes.{IsWithin};
 ghost use Rattle.asn1_x690_decode.specs.Tables.{tables_of, types};
-ghost use Rattle.asn1_x690_decode.specs.Decoding.{IsMoved, ContentsOutcome, ToldOutcome};
+ghost use Rattle.asn1_x690_decode.specs.Members.{IsAddition, AdditionFault, AreGrouped, GroupedFault};
+ghost use Rattle.asn1_x690_decode.specs.Decoding.{IsMoved, Outcome, ContentsOutcome, ToldOutcome};
 
 use crate::context::Context;
-use crate::sequence::decode_members;
+use crate::members::{first_at, member_at};
+use crate::sequence::{begins_with, decode_members, decode_value};
 use asn1_schema::{Part, Rows, Span, push_part, replace_part};
-use asn1_x690_fields::{State, next_header};
+use asn1_x690::FaultKind;
+use asn1_x690_fields::{State, fail, next_header};
 
 /// Decodes the additions to the end, after their number.
 #[cycle(decoding)]
@@ -47,6 +50,70 @@ pub(crate) fn decode_additions(
             true
         }
     }
+}
+
+/// Decodes the addition so many after an index of the table of members. It may be absent.
+#[inline(always)]
+#[cycle(decoding)]
+pub(crate) fn decode_addition(
+    context: &Context<'_>,
+    depth: usize,
+    node: usize,
+    from: usize,
+    index: usize,
+    state: &mut State,
+    parts: &mut [Part],
+) -> bool
+    requires size { 8 * length context.now.octets.now < 2 ^ 64 }
+    requires within { IsWithin (bits context.now.octets.now) state.old }
+    ensures moved { IsMoved (bits context.now.octets.now) state.old state.new }
+    ensures did { Outcome context.now
+        (IsAddition context.now depth node (from + index))
+        (AdditionFault context.now depth node (from + index))
+        state.old state.new parts.old parts.new result }
+{
+    let Some(member) = member_at(context.tables.members, from, index) else {
+        fail(state, node, FaultKind::NoNode);
+        return false;
+    };
+    let Some(first) = first_at(context.tags.members, from, index) else {
+        fail(state, node, FaultKind::NoNode);
+        return false;
+    };
+    if !begins_with(context, first, state) {
+        state.count = push_part(parts, state.count, Part::Absent);
+        return true;
+    }
+    match first.group {
+        None => decode_value(context, depth, node, member, state, parts),
+        Some(rows) => decode_group(context, depth, node, rows, state, parts),
+    }
+}
+
+/// Decodes the components of an addition group, which no element is around, after the part that tells
+/// how many there are.
+#[inline(never)]
+#[cycle(decoding)]
+fn decode_group(
+    context: &Context<'_>,
+    depth: usize,
+    node: usize,
+    rows: Rows,
+    state: &mut State,
+    parts: &mut [Part],
+) -> bool
+    requires size { 8 * length context.now.octets.now < 2 ^ 64 }
+    requires within { IsWithin (bits context.now.octets.now) state.old }
+    ensures moved { IsMoved (bits context.now.octets.now) state.old state.new }
+    ensures did { Outcome context.now (AreGrouped context.now depth node rows) (GroupedFault context.now depth node rows)
+        state.old state.new parts.old parts.new result }
+{
+    let sequence = Part::Sequence {
+        count: rows.count as usize,
+        is_extended: false,
+    };
+    state.count = push_part(parts, state.count, sequence);
+    decode_members(context, depth, node, false, rows, state, parts)
 }
 
 /// Keeps elements that the schema does not know, to the end, and returns how many there are.

@@ -50,7 +50,7 @@ fn find_alternative(context: &Context<'_>, rows: Rows, found: &FoundIdentifier) 
         let Some(first) = first_at(context.tags.members, rows.from, index) else {
             return Alternative::Missing;
         };
-        if has_tag(context.tags.tags, first, found) {
+        if has_tag(context.tags.tags, *first, found) {
             return Alternative::Found {
                 index,
                 node: member.node,

@@ -8,8 +8,8 @@ ghost use Rattle.asn1_schema.specs.PiecesOfParts.{piece_of, bits_of};
 ghost use Rattle.asn1_schema.specs.Room.{IsGrown};
 ghost use Rattle.asn1_x690_leaves.specs.Told.{AreOctetsOf};
 ghost use Rattle.asn1_x690_fields.specs.Outcomes.{IsWithin};
-ghost use Rattle.asn1_x690_decode.specs.Tables.{is_structured, contents_by};
-ghost use Rattle.asn1_x690_decode.specs.Decoding.{AreContents, IsMoved, IsLeaf, ContentsOutcome};
+ghost use Rattle.asn1_x690_decode.specs.Tables.{is_structured, is_frequent, contents_by};
+ghost use Rattle.asn1_x690_decode.specs.Decoding.{AreContents, IsMoved, IsLeaf, IsLeafOf, ContentsOutcome, span_of};
 
 use crate::context::Context;
 use crate::tagged::Type;
@@ -69,19 +69,18 @@ fn enumerated_by(
     enumerated(context.octets, span, numbers, is_extensible)
 }
 
-/// Reads contents octets as a value of a type of one part.
+/// Reads contents octets as a value of a type of one part, of one of the rarer types.
 #[inline(always)]
 fn read_leaf(context: &Context<'_>, of: &Type<'_>, span: Span) -> Result<Part, FaultKind>
     requires size { 8 * length context.now.octets.now < 2 ^ 64 }
     requires contents { AreOctetsOf (bits context.now.octets.now) span }
     requires leaf { is_structured of.now.is.now ≡ false }
-    ensures { (depth : ℕ) → IsLeaf context.now (contents_by context.now depth of.now.node of.now.tags.now of.now.is.now) of.now.node
-        (bits_of (bits context.now.octets.now) span) result }
+    requires rare { is_frequent of.now.is.now ≡ false }
+    ensures { IsLeafOf context.now of.now.node of.now.tags.now of.now.is.now span result }
 {
     let octets = context.octets;
     match *of.is {
         Node::Null => null(octets, span),
-        Node::Boolean => boolean(octets, span),
         Node::IntegerBetween {
             bounds,
             is_extensible,
@@ -101,11 +100,6 @@ fn read_leaf(context: &Context<'_>, of: &Type<'_>, span: Span) -> Result<Part, F
             is_extensible,
             has_names,
         } => bit_string(octets, span, length, is_extensible, has_names),
-        Node::OctetString {
-            length,
-            is_extensible,
-        } => octet_string(octets, span, length, is_extensible),
-        Node::ObjectIdentifier => object_identifier(octets, span),
         Node::RelativeIdentifier => relative_identifier(octets, span),
         Node::Utf8String => utf8_string(octets, span),
         Node::Real => real(octets, span),
@@ -128,6 +122,45 @@ fn read_leaf(context: &Context<'_>, of: &Type<'_>, span: Span) -> Result<Part, F
     }
 }
 
+/// Returns the contents octets, which are all that is left.
+#[inline(always)]
+fn contents_of(state: &State) -> Span
+    requires { state.now.at ≤ state.now.end }
+    ensures { result ≡ span_of state.now }
+{
+    Span {
+        at: state.at,
+        count: state.end - state.at,
+    }
+}
+
+/// Stores the part that contents octets are, or sets the fault before them.
+#[inline(always)]
+fn finish_leaf(
+    context: &Context<'_>,
+    of: &Type<'_>,
+    read: Result<Part, FaultKind>,
+    state: &mut State,
+    parts: &mut [Part],
+) -> bool
+    requires size { 8 * length context.now.octets.now < 2 ^ 64 }
+    requires contents { AreContents (bits context.now.octets.now) state.old }
+    requires read { IsLeafOf context.now of.now.node of.now.tags.now of.now.is.now (span_of state.old) read }
+    ensures moved { IsMoved (bits context.now.octets.now) state.old state.new }
+    ensures all { result ≡ true → state.new.at ≡ state.old.end }
+    ensures did { (depth : ℕ) → ContentsOutcome context.now (contents_by context.now depth of.now.node of.now.tags.now of.now.is.now).contents
+        state.old state.new parts.old parts.new result }
+{
+    let _len = context.octets.len();
+    match read {
+        Ok(part) => keep(part, state, parts),
+        Err(kind) => {
+            fail(state, of.node, kind);
+            false
+        }
+    }
+}
+
 /// Decodes contents octets as a value of a type of one part.
 #[inline(always)]
 pub(crate) fn decode_leaf(
@@ -144,15 +177,66 @@ pub(crate) fn decode_leaf(
     ensures did { (depth : ℕ) → ContentsOutcome context.now (contents_by context.now depth of.now.node of.now.tags.now of.now.is.now).contents
         state.old state.new parts.old parts.new result }
 {
-    let span = Span {
-        at: state.at,
-        count: state.end - state.at,
-    };
-    match read_leaf(context, of, span) {
-        Ok(part) => keep(part, state, parts),
-        Err(kind) => {
-            fail(state, of.node, kind);
-            false
+    let span = contents_of(state);
+    match *of.is {
+        Node::ObjectIdentifier => {
+            let read = object_identifier(context.octets, span);
+            finish_leaf(context, of, read, state, parts)
         }
+        Node::OctetString {
+            length,
+            is_extensible,
+        } => {
+            let read = octet_string(context.octets, span, length, is_extensible);
+            finish_leaf(context, of, read, state, parts)
+        }
+        Node::Boolean => {
+            let read = boolean(context.octets, span);
+            finish_leaf(context, of, read, state, parts)
+        }
+        _ => decode_rare_leaf(context, of, state, parts),
     }
+}
+
+/// Decodes contents octets as a value of one of the rarer types of one part. Copies the type, so that
+/// the caller can keep its own in registers.
+#[inline(always)]
+fn decode_rare_leaf(
+    context: &Context<'_>,
+    of: &Type<'_>,
+    state: &mut State,
+    parts: &mut [Part],
+) -> bool
+    requires size { 8 * length context.now.octets.now < 2 ^ 64 }
+    requires contents { AreContents (bits context.now.octets.now) state.old }
+    requires leaf { is_structured of.now.is.now ≡ false }
+    requires rare { is_frequent of.now.is.now ≡ false }
+    ensures moved { IsMoved (bits context.now.octets.now) state.old state.new }
+    ensures all { result ≡ true → state.new.at ≡ state.old.end }
+    ensures did { (depth : ℕ) → ContentsOutcome context.now (contents_by context.now depth of.now.node of.now.tags.now of.now.is.now).contents
+        state.old state.new parts.old parts.new result }
+{
+    let own = *of;
+    decode_rare_leaf_of(context, &own, state, parts)
+}
+
+/// Decodes contents octets as a value of one of the rarer types of one part.
+#[inline(never)]
+fn decode_rare_leaf_of(
+    context: &Context<'_>,
+    of: &Type<'_>,
+    state: &mut State,
+    parts: &mut [Part],
+) -> bool
+    requires size { 8 * length context.now.octets.now < 2 ^ 64 }
+    requires contents { AreContents (bits context.now.octets.now) state.old }
+    requires leaf { is_structured of.now.is.now ≡ false }
+    requires rare { is_frequent of.now.is.now ≡ false }
+    ensures moved { IsMoved (bits context.now.octets.now) state.old state.new }
+    ensures all { result ≡ true → state.new.at ≡ state.old.end }
+    ensures did { (depth : ℕ) → ContentsOutcome context.now (contents_by context.now depth of.now.node of.now.tags.now of.now.is.now).contents
+        state.old state.new parts.old parts.new result }
+{
+    let read = read_leaf(context, of, contents_of(state));
+    finish_leaf(context, of, read, state, parts)
 }

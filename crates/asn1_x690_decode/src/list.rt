@@ -84,7 +84,7 @@ fn decode_items(
         if !decode_element(context, depth, item, state, parts) {
             return None;
         }
-        if is_set && is_before(context.octets, before, from, state.at) {
+        if is_set && before < from && is_before(context.octets, before, from, state.at) {
             state.at = from;
             state.count = first;
             fail(state, node, FaultKind::NotAscending);

@@ -7,16 +7,16 @@ ghost use Rattle.asn1_x690.specs.Der.{sequence_by};
 ghost use Rattle.asn1_x690.specs.Der.{BeginsWith};
 ghost use Rattle.asn1_x690_fields.specs.Outcomes.{IsWithin, rest};
 ghost use Rattle.asn1_x690_decode.specs.Tables.{tables_of, types};
-ghost use Rattle.asn1_x690_decode.specs.Members.{AreSteps, StepsFault, IsComponent, ComponentFault, value_of};
+ghost use Rattle.asn1_x690_decode.specs.Members.{AreSteps, StepsFault, IsComponent, ComponentFault, IsMember, MemberFault, value_of};
 ghost use Rattle.asn1_x690_decode.specs.Decoding.{IsMoved, Outcome, ContentsOutcome, ElementOutcome};
 
-use crate::additions::decode_additions;
+use crate::additions::{decode_addition, decode_additions};
 use crate::context::Context;
 use crate::element::decode_element;
 use crate::members::{first_at, is_required, member_at};
 use asn1_schema::{Member, Part, Presence, Rows, push_part, replace_part};
 use asn1_x690::{FaultKind, FirstTags};
-use asn1_x690_fields::{State, fail, has_tag, next_identifier};
+use asn1_x690_fields::{State, fail, has_tag, next_identifier, short_identifier_at};
 use asn1_x691_fields::is_default;
 
 /// Decodes contents octets as a SEQUENCE.
@@ -80,9 +80,9 @@ pub(crate) fn decode_members(
     requires within { IsWithin (bits context.now.octets.now) state.old }
     ensures moved { IsMoved (bits context.now.octets.now) state.old state.new }
     ensures did { Outcome context.now
-        (AreSteps (IsComponent context.now depth node are_additions) rows.count rows.from)
-        (StepsFault (IsComponent context.now depth node are_additions)
-        (ComponentFault context.now depth node are_additions) rows.count rows.from)
+        (AreSteps (IsMember context.now depth node are_additions) rows.count rows.from)
+        (StepsFault (IsMember context.now depth node are_additions)
+        (MemberFault context.now depth node are_additions) rows.count rows.from)
         state.old state.new parts.old parts.new result }
 {
     for index in 0..rows.count as usize {
@@ -102,7 +102,7 @@ pub(crate) fn decode_members(
     true
 }
 
-/// Decodes the component so many after an index of the table of members.
+/// Decodes the component or the addition so many after an index of the table of members.
 #[inline(always)]
 #[cycle(decoding)]
 fn decode_member(
@@ -119,8 +119,35 @@ fn decode_member(
     requires within { IsWithin (bits context.now.octets.now) state.old }
     ensures moved { IsMoved (bits context.now.octets.now) state.old state.new }
     ensures did { Outcome context.now
-        (IsComponent context.now depth node are_additions (from + index))
-        (ComponentFault context.now depth node are_additions (from + index))
+        (IsMember context.now depth node are_additions (from + index))
+        (MemberFault context.now depth node are_additions (from + index))
+        state.old state.new parts.old parts.new result }
+{
+    if are_additions {
+        decode_addition(context, depth, node, from, index, state, parts)
+    } else {
+        decode_component(context, depth, node, from, index, state, parts)
+    }
+}
+
+/// Decodes the component so many after an index of the table of members.
+#[inline(always)]
+#[cycle(decoding)]
+fn decode_component(
+    context: &Context<'_>,
+    depth: usize,
+    node: usize,
+    from: usize,
+    index: usize,
+    state: &mut State,
+    parts: &mut [Part],
+) -> bool
+    requires size { 8 * length context.now.octets.now < 2 ^ 64 }
+    requires within { IsWithin (bits context.now.octets.now) state.old }
+    ensures moved { IsMoved (bits context.now.octets.now) state.old state.new }
+    ensures did { Outcome context.now
+        (IsComponent context.now depth node (from + index))
+        (ComponentFault context.now depth node (from + index))
         state.old state.new parts.old parts.new result }
 {
     match member_at(context.tables.members, from, index) {
@@ -129,7 +156,7 @@ fn decode_member(
             false
         }
         Some(member) => {
-            if is_required(are_additions, member.presence) {
+            if is_required(member.presence) {
                 if state.at == state.end {
                     fail(state, member.node, FaultKind::Missing);
                     return false;
@@ -154,35 +181,49 @@ fn decode_member(
 }
 
 /// Returns whether the next bits are identifier octets of one of the tags.
-#[inline(never)]
-fn begins_with(context: &Context<'_>, first: FirstTags, state: &State) -> bool
+#[inline(always)]
+pub(crate) fn begins_with(context: &Context<'_>, first: &FirstTags, state: &State) -> bool
     requires size { 8 * length context.now.octets.now < 2 ^ 64 }
     requires within { IsWithin (bits context.now.octets.now) state.now }
-    ensures yes { result ≡ true → BeginsWith context.now.tags.tags.now first (rest (bits context.now.octets.now) state.now) }
-    ensures no { result ≡ false → BeginsWith context.now.tags.tags.now first (rest (bits context.now.octets.now) state.now) → ⊥ }
+    ensures yes { result ≡ true → BeginsWith context.now.tags.tags.now first.now (rest (bits context.now.octets.now) state.now) }
+    ensures no { result ≡ false → BeginsWith context.now.tags.tags.now first.now (rest (bits context.now.octets.now) state.now) → ⊥ }
+{
+    match short_identifier_at(context.octets, state) {
+        None => begins_with_octets(context, first, state),
+        Some(short) => has_tag(context.tags.tags, *first, &short),
+    }
+}
+
+/// Returns what [`begins_with`] does, for identifiers of any number of octets.
+#[inline(never)]
+fn begins_with_octets(context: &Context<'_>, first: &FirstTags, state: &State) -> bool
+    requires size { 8 * length context.now.octets.now < 2 ^ 64 }
+    requires within { IsWithin (bits context.now.octets.now) state.now }
+    ensures yes { result ≡ true → BeginsWith context.now.tags.tags.now first.now (rest (bits context.now.octets.now) state.now) }
+    ensures no { result ≡ false → BeginsWith context.now.tags.tags.now first.now (rest (bits context.now.octets.now) state.now) → ⊥ }
 {
     let mut ahead = *state;
     match next_identifier(context.octets, 0, &mut ahead) {
         None => false,
-        Some(found) => has_tag(context.tags.tags, first, &found),
+        Some(found) => has_tag(context.tags.tags, *first, &found),
     }
 }
 
 /// Decodes the value of a component, which must not be its default value.
 #[inline(never)]
 #[cycle(decoding)]
-fn decode_value(
+pub(crate) fn decode_value(
     context: &Context<'_>,
     depth: usize,
     node: usize,
-    member: Member,
+    member: &Member,
     state: &mut State,
     parts: &mut [Part],
 ) -> bool
     requires size { 8 * length context.now.octets.now < 2 ^ 64 }
     requires within { IsWithin (bits context.now.octets.now) state.old }
     ensures moved { IsMoved (bits context.now.octets.now) state.old state.new }
-    ensures did { ElementOutcome context.now (value_of context.now depth node member).encoding state.old state.new
+    ensures did { ElementOutcome context.now (value_of context.now depth node member.now).encoding state.old state.new
         parts.old parts.new result }
 {
     let (start, first) = (state.at, state.count);

@@ -1,6 +1,6 @@
 //! Decodes contents octets by the tags of their type (X.690 8.14).
 
-ghost use Rattle.std.specs.Prelude.{◌≡◌, ◌≤◌, ◌<◌, ◌^◌, ◌*◌, true, length};
+ghost use Rattle.std.specs.Prelude.{◌≡◌, ◌≤◌, ◌<◌, ◌^◌, ◌*◌, true, false, length};
 ghost use Rattle.asn1_bits.specs.Bits.{bits};
 ghost use Rattle.asn1_x690.specs.declared.fault.FaultKind.TheVariants.{Extra};
 ghost use Rattle.asn1_x690.specs.declared.tables.Identifier.{Identifier};
@@ -106,10 +106,35 @@ pub(crate) fn decode_by_tags(
     }
 }
 
-/// Decodes the contents octets of an EXPLICIT tag: an element, and nothing after it.
-#[inline(never)]
+/// Decodes the contents octets of an EXPLICIT tag: an element, and nothing after it. Copies the type,
+/// so that the caller can keep its own in registers.
+#[inline(always)]
 #[cycle(decoding)]
 fn decode_in_tag(
+    context: &Context<'_>,
+    depth: usize,
+    of: &Type<'_>,
+    tags: &[Tag],
+    state: &mut State,
+    parts: &mut [Part],
+) -> bool
+    requires size { 8 * length context.now.octets.now < 2 ^ 64 }
+    requires contents { AreContents (bits context.now.octets.now) state.old }
+    ensures moved { IsMoved (bits context.now.octets.now) state.old state.new }
+    ensures all { result ≡ true → state.new.at ≡ state.old.end }
+    ensures did { ContentsOutcome context.now
+        (only_value Extra of.now.node (element of.now.node
+        (tagged_by context.now depth of.now.node of.now.tags.now of.now.is.now tags.now))).contents
+        state.old state.new parts.old parts.new result }
+{
+    let own = *of;
+    decode_in_tag_of(context, depth, &own, tags, state, parts)
+}
+
+/// Decodes the contents octets of an EXPLICIT tag.
+#[inline(never)]
+#[cycle(decoding)]
+fn decode_in_tag_of(
     context: &Context<'_>,
     depth: usize,
     of: &Type<'_>,
@@ -151,8 +176,10 @@ fn decode_in_tag(
     }
 }
 
-/// Decodes the contents octets of an element as those of a type without contents of its own.
-#[inline(never)]
+/// Decodes the contents octets of an element as those of a type without contents of its own. An element
+/// of ANY is kept. Otherwise copies the type and the element, so that the caller can keep its own in
+/// registers.
+#[inline(always)]
 #[cycle(decoding)]
 fn decode_bare(
     context: &Context<'_>,
@@ -179,6 +206,33 @@ fn decode_bare(
         };
         return keep(Part::Octets(whole), state, parts);
     }
+    let own = *of;
+    let copy = *element;
+    decode_bare_of(context, depth, &own, &copy, state, parts)
+}
+
+/// Decodes the contents octets of an element as those of a CHOICE, or of a type in an open type.
+#[inline(never)]
+#[cycle(decoding)]
+fn decode_bare_of(
+    context: &Context<'_>,
+    depth: usize,
+    of: &Type<'_>,
+    element: &Element,
+    state: &mut State,
+    parts: &mut [Part],
+) -> bool
+    requires size { 8 * length context.now.octets.now < 2 ^ 64 }
+    requires contents { AreContents (bits context.now.octets.now) state.old }
+    requires before { element.now.start ≤ state.old.at }
+    requires known { of.now.tags.now.is_any ≡ false }
+    ensures moved { IsMoved (bits context.now.octets.now) state.old state.new }
+    ensures all { result ≡ true → state.new.at ≡ state.old.end }
+    ensures did { (id : Identifier)
+        → IsInside (bits context.now.octets.now) element.now.start element.now.identifier id state.old
+        → ContentsOutcome context.now ((bare_by context.now depth of.now.node of.now.tags.now.is_any of.now.is.now).contents id)
+        state.old state.new parts.old parts.new result }
+{
     match *of.is {
         Node::Choice {
             alternatives,

@@ -6,7 +6,7 @@ use Rattle.asn1_schema.specs.declared.part.Part.{Part}
 use Rattle.asn1_schema.specs.declared.tables.Node.{Node}
 use Rattle.asn1_schema.specs.declared.tables.Node.TheVariants as type
 use Rattle.asn1_schema.specs.Encodings.{Starts}
-use Rattle.asn1_schema.specs.Pieces.{Parts, Octets, Unknown}
+use Rattle.asn1_schema.specs.Pieces.{Parts, Octets, Sequence, Unknown}
 use Rattle.asn1_schema.specs.TypeEncodings.{Misfit, TypeEncoding}
 use Rattle.asn1_x690.specs.declared.fault.FaultKind.{FaultKind}
 use Rattle.asn1_x690.specs.declared.fault.FaultKind.TheVariants.{Extra, Missing, OtherTag}
@@ -17,7 +17,7 @@ use Rattle.asn1_x690.specs.declared.tables.FirstTags.{FirstTags}
 use Rattle.asn1_schema.specs.declared.tables.Rows.{Rows}
 use Rattle.asn1_x690.specs.Der as der
 use Rattle.asn1_x690.specs.Elements.{identifier, any_element}
-use Rattle.asn1_x690.specs.TypeContents.{TypeContents, ToldContents, ByHeader, FillsWith, nothing_more, required, present, to_end, renamed, invalid_header, only_value, only_header}
+use Rattle.asn1_x690.specs.TypeContents.{TypeContents, ToldContents, ByHeader, FillsWith, nothing_more, required, present, prefixed, to_end, renamed, invalid_header, only_value, only_header}
 use Rattle.asn1_x690_fields.specs.declared.identifier.FoundIdentifier.{FoundIdentifier}
 use Rattle.asn1_x690_fields.specs.Outcomes.{IsIdentifier}
 use Rattle.asn1_x690_writers.specs.Leaf.{leaf_in, IsLeftOut}
@@ -29,6 +29,7 @@ use Rattle.asn1_x691_writers.specs.Written.{IsGrown}
 use Rattle.asn1_x690_encode.specs.declared.context.Context.{Context}
 use Rattle.asn1_x690_encode.specs.declared.inner.Inner.{Inner}
 use Rattle.asn1_x690_encode.specs.declared.inner.Inner.TheVariants.{Own, Tagged, Around}
+use Rattle.asn1_x690_encode.specs.declared.sequence.LeftAdditions.{LeftAdditions}
 use Rattle.asn1_x690_encode.specs.declared.sequence.Tail.{Tail}
 use Rattle.asn1_x690_encode.specs.declared.sequence.Tail.TheVariants as ending
 use Rattle.asn1_x690_encode.specs.declared.choice.Others.{Others}
@@ -118,30 +119,38 @@ unknown_in node known = renamed (λ n. known + n) node (to_end Extra node (λ be
 abbrev pub extension_in : Context → ℕ → ℕ → Rows → ToldContents FaultKind Bool
 extension_in c depth node known = der.extension (types c depth) (tables_of c) node known
 
--- what follows components or additions, and what it tells
+-- the additions that are left
+abbrev pub added_in : Context → ℕ → ℕ → LeftAdditions → ToldContents FaultKind ℕ
+added_in c depth node left = der.additions (types c depth) (tables_of c) node left.rows.count left.rows.from (unknown_in node left.known)
+
+-- what follows components, and what it tells
 abbrev pub told_by : Tail → Type 0
 told_by ending.End = ⊤
 told_by (ending.Extension known is_extended) = Bool
-told_by (ending.Unknown known count) = ℕ
+told_by (ending.Additions left) = ℕ
 
 abbrev pub told_of : (tail : Tail) → told_by tail
 told_of ending.End = tt
 told_of (ending.Extension known is_extended) = is_extended
-told_of (ending.Unknown known count) = count
+told_of (ending.Additions left) = left.count
 
 abbrev pub after_root : Context → ℕ → ℕ → (tail : Tail) → ToldContents FaultKind (told_by tail)
 after_root c depth node ending.End = nothing_more Extra node
 after_root c depth node (ending.Extension known is_extended) = extension_in c depth node known
-after_root c depth node (ending.Unknown known count) = unknown_in node known
+after_root c depth node (ending.Additions left) = added_in c depth node left
 
--- components, or additions where unknown ones follow
+-- so many components, and what follows them
 abbrev pub components_in : Context → ℕ → ℕ → ℕ → ℕ → (tail : Tail) → ToldContents FaultKind (told_by tail)
-components_in c depth node count from ending.End =
-    der.components (types c depth) (tables_of c) node count from (after_root c depth node ending.End)
-components_in c depth node count from (ending.Extension known is_extended) =
-    der.components (types c depth) (tables_of c) node count from (after_root c depth node (ending.Extension known is_extended))
-components_in c depth node count from (ending.Unknown known n) =
-    der.additions (types c depth) (tables_of c) node count from (after_root c depth node (ending.Unknown known n))
+components_in c depth node count from tail = der.components (types c depth) (tables_of c) node count from (after_root c depth node tail)
+
+-- an addition group, and its components after their part, before others
+abbrev pub group_in : Context → ℕ → ℕ → FirstTags → Rows → LeftAdditions → ToldContents FaultKind ℕ
+group_in c depth node first rows others = der.group (types c depth) (tables_of c) node first rows (added_in c depth node others)
+
+abbrev pub grouped_in : Context → ℕ → ℕ → Rows → LeftAdditions → ToldContents FaultKind ℕ
+grouped_in c depth node rows others =
+    prefixed (Sequence rows.count false) node
+    (der.components (types c depth) (tables_of c) node rows.count rows.from (added_in c depth node others))
 
 -- a value that is not the default
 abbrev pub value_in : Context → ℕ → ℕ → Presence → ℕ → TypeEncoding FaultKind

@@ -1,5 +1,5 @@
 -- Which types have tags around a value that has its own header, and which components must be present.
-use Rattle.std.specs.Prelude.{ℕ, Bool, true, false}
+use Rattle.std.specs.Prelude.{ℕ, ◌+◌, ◌*◌, ◌^◌, Bool, true, false}
 use Rattle.asn1_schema.specs.declared.tables.Presence.{Presence}
 use Rattle.asn1_schema.specs.declared.tables.Presence.TheVariants.{Mandatory}
 use Rattle.asn1_schema.specs.declared.tables.Node.{Node}
@@ -30,11 +30,10 @@ abbrev pub identifier_by : Bool → Tag → Identifier
 identifier_by false tag = primitive tag
 identifier_by true tag = constructed tag
 
--- no addition must be present
-abbrev pub is_required : Presence → Tail → Bool
-is_required Mandatory (ending.Unknown known count) = false
-is_required Mandatory tail = true
-is_required p tail = false
+-- whether a component must be present
+abbrev pub is_required : Presence → Bool
+is_required Mandatory = true
+is_required p = false
 
 -- how many lists of members may follow
 abbrev pub rank_of : Others → ℕ
@@ -42,7 +41,8 @@ rank_of others.Nothing = 0
 rank_of (others.Additions before known) = 1
 rank_of others.Unknown = 0
 
+-- what may follow components, as a number that grows with it
 abbrev pub size_of : Tail → ℕ
-size_of ending.End = 1
-size_of (ending.Extension known is_extended) = 3
-size_of (ending.Unknown known count) = 1
+size_of ending.End = 0
+size_of (ending.Extension known is_extended) = 2 ^ 69 + 1
+size_of (ending.Additions left) = 2 ^ 36 * left.rows.count + 2

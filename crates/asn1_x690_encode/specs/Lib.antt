@@ -17,4 +17,5 @@ pub mod ListSteps
 pub mod ChoiceSteps
 pub mod AnySteps
 pub mod AdditionSteps
+pub mod GroupSteps
 pub mod SetSteps

@@ -17,7 +17,6 @@ use Rattle.asn1_x690.specs.TypeContents.{ByHeader, ToldContents, TypeContents, o
 use Rattle.asn1_x690_encode.specs.declared.context.Context.{Context}
 use Rattle.asn1_schema.specs.declared.tables.Rows.{Rows}
 use Rattle.asn1_x690_encode.specs.declared.sequence.Tail.{Tail}
-use Rattle.asn1_x690_encode.specs.declared.sequence.Tail.TheVariants as ending
 use Rattle.asn1_x690_encode.specs.Encoding.{tables_of, types, headed_by, tagged_in, value_in, element_in, after_root, components_in, required_in, optional_in, told_by, alternatives_in, others_by}
 use Rattle.asn1_x690_encode.specs.Kinds.{is_headed, is_required}
 
@@ -71,118 +70,76 @@ pub tagged_more : (node : ℕ) (id : Tag → Identifier) (F : TypeContents Fault
 tagged_more node id F t [] P f p = absurd (f refl)
 tagged_more node id F t (u ∷ tags) P f p = p
 
--- ---- components, and additions
+-- ---- components
 
 module _ (c : Context) (depth node : ℕ) where
-  -- a member that is a component, or an addition
-  abbrev member_by : (tail : Tail) → Presence → Option FirstTags → ℕ → ToldContents FaultKind (told_by tail) → ToldContents FaultKind (told_by tail)
-  member_by ending.End p first inner F =
-      der.component_by (types c depth) (tables_of c) node p first inner (value_in c depth node p inner) F
-  member_by (ending.Extension known b) p first inner F =
-      der.component_by (types c depth) (tables_of c) node p first inner (value_in c depth node p inner) F
-  member_by (ending.Unknown known n) p first inner F = der.optional (types c depth) (tables_of c) node first (value_in c depth node p inner) F
+  module _ (tail : Tail) where
+    abbrev component_in : Presence → Option FirstTags → ℕ → ToldContents FaultKind (told_by tail) → ToldContents FaultKind (told_by tail)
+    component_in p first inner F =
+        der.component_by (types c depth) (tables_of c) node p first inner (value_in c depth node p inner) F
 
-  pub none_left : (tail : Tail) (count from : ℕ) (P : ToldContents FaultKind (told_by tail) → Type 0) → count ≡ 0
-      → P (after_root c depth node tail) → P (components_in c depth node count from tail)
-  none_left ending.End count from P e p = subst (λ (k : ℕ). P (components_in c depth node k from ending.End)) (sym e) p
-  none_left (ending.Extension known b) count from P e p =
-      subst (λ (k : ℕ). P (components_in c depth node k from (ending.Extension known b))) (sym e) p
-  none_left (ending.Unknown known n) count from P e p =
-      subst (λ (k : ℕ). P (components_in c depth node k from (ending.Unknown known n))) (sym e) p
+    pub none_left : (count from : ℕ) (P : ToldContents FaultKind (told_by tail) → Type 0) → count ≡ 0
+        → P (after_root c depth node tail) → P (components_in c depth node count from tail)
+    none_left count from P e p = subst (λ (k : ℕ). P (components_in c depth node k from tail)) (sym e) p
 
-  pub at_no_member : (tail : Tail) (count from : ℕ) (P : ToldContents FaultKind (told_by tail) → Type 0) → 0 < count
-      → slice_get c.tables.members.now from ≡ None → P (der.no_member node) → P (components_in c depth node count from tail)
-  at_no_member tail zero from P some e p = absurd (omega (arith, some))
-  at_no_member ending.End (suc k) from P some e p =
-      subst
-      (λ (x : Option Member). P (der.component (types c depth) (tables_of c) node x (slice_get c.tags.members.now from)
-      (components_in c depth node k (from + 1) ending.End))) (sym e) p
-  at_no_member (ending.Extension known b) (suc k) from P some e p =
-      subst
-      (λ (x : Option Member). P (der.component (types c depth) (tables_of c) node x (slice_get c.tags.members.now from)
-      (components_in c depth node k (from + 1) (ending.Extension known b)))) (sym e) p
-  at_no_member (ending.Unknown known n) (suc k) from P some e p =
-      subst
-      (λ (x : Option Member). P (der.addition (types c depth) (tables_of c) node x (slice_get c.tags.members.now from)
-      (components_in c depth node k (from + 1) (ending.Unknown known n)))) (sym e) p
+    pub at_no_member : (count from : ℕ) (P : ToldContents FaultKind (told_by tail) → Type 0) → 0 < count
+        → slice_get c.tables.members.now from ≡ None → P (der.no_member node) → P (components_in c depth node count from tail)
+    at_no_member zero from P some e p = absurd (omega (arith, some))
+    at_no_member (suc k) from P some e p =
+        subst
+        (λ (x : Option Member). P (der.component (types c depth) (tables_of c) node x (slice_get c.tags.members.now from)
+        (components_in c depth node k (from + 1) tail))) (sym e) p
 
-  at_member : (tail : Tail) (count from : ℕ) (m : Member) (P : ToldContents FaultKind (told_by tail) → Type 0) → 0 < count
-      → slice_get c.tables.members.now from ≡ Some m
-      → P (member_by tail m.presence (slice_get c.tags.members.now from) m.node (components_in c depth node (count - 1) (from + 1) tail))
-      → P (components_in c depth node count from tail)
-  at_member tail zero from m P some e p = absurd (omega (arith, some))
-  at_member ending.End (suc k) from m P some e p =
-      let same : suc k - 1 ≡ k = omega arith in
-      subst
-      (λ (x : Option Member). P (der.component (types c depth) (tables_of c) node x (slice_get c.tags.members.now from)
-      (components_in c depth node k (from + 1) ending.End))) (sym e)
-      (subst
-      (λ (i : ℕ). P (member_by ending.End m.presence (slice_get c.tags.members.now from) m.node
-      (components_in c depth node i (from + 1) ending.End))) same p)
-  at_member (ending.Extension known b) (suc k) from m P some e p =
-      let same : suc k - 1 ≡ k = omega arith in
-      subst
-      (λ (x : Option Member). P (der.component (types c depth) (tables_of c) node x (slice_get c.tags.members.now from)
-      (components_in c depth node k (from + 1) (ending.Extension known b)))) (sym e)
-      (subst
-      (λ (i : ℕ). P (member_by (ending.Extension known b) m.presence (slice_get c.tags.members.now from) m.node
-      (components_in c depth node i (from + 1) (ending.Extension known b)))) same p)
-  at_member (ending.Unknown known n) (suc k) from m P some e p =
-      let same : suc k - 1 ≡ k = omega arith in
-      subst
-      (λ (x : Option Member). P (der.addition (types c depth) (tables_of c) node x (slice_get c.tags.members.now from)
-      (components_in c depth node k (from + 1) (ending.Unknown known n)))) (sym e)
-      (subst
-      (λ (i : ℕ). P (member_by (ending.Unknown known n) m.presence (slice_get c.tags.members.now from) m.node
-      (components_in c depth node i (from + 1) (ending.Unknown known n)))) same p)
-
-  by_required : (tail : Tail) (p : Presence) (first : Option FirstTags) (inner : ℕ) (F : ToldContents FaultKind (told_by tail))
-      (P : ToldContents FaultKind (told_by tail) → Type 0) → is_required p tail ≡ true
-      → P (required Missing inner (present (element_in c depth inner) F)) → P (member_by tail p first inner F)
-  by_required ending.End presence.Mandatory first inner F P e q = q
-  by_required ending.End presence.Optional first inner F P e q = absurd cc
-  by_required ending.End (presence.Default value) first inner F P e q = absurd cc
-  by_required (ending.Extension known b) presence.Mandatory first inner F P e q = q
-  by_required (ending.Extension known b) presence.Optional first inner F P e q = absurd cc
-  by_required (ending.Extension known b) (presence.Default value) first inner F P e q = absurd cc
-  by_required (ending.Unknown known n) presence.Mandatory first inner F P e q = absurd cc
-  by_required (ending.Unknown known n) presence.Optional first inner F P e q = absurd cc
-  by_required (ending.Unknown known n) (presence.Default value) first inner F P e q = absurd cc
-
-  by_optional : (tail : Tail) (p : Presence) (first : Option FirstTags) (inner : ℕ) (F : ToldContents FaultKind (told_by tail))
-      (P : ToldContents FaultKind (told_by tail) → Type 0) → is_required p tail ≡ false
-      → P (der.optional (types c depth) (tables_of c) node first (value_in c depth node p inner) F) → P (member_by tail p first inner F)
-  by_optional ending.End presence.Mandatory first inner F P e q = absurd cc
-  by_optional ending.End presence.Optional first inner F P e q = q
-  by_optional ending.End (presence.Default value) first inner F P e q = q
-  by_optional (ending.Extension known b) presence.Mandatory first inner F P e q = absurd cc
-  by_optional (ending.Extension known b) presence.Optional first inner F P e q = q
-  by_optional (ending.Extension known b) (presence.Default value) first inner F P e q = q
-  by_optional (ending.Unknown known n) p first inner F P e q = q
-
-  module _ (tail : Tail) (count from : ℕ) (m : Member) (P : ToldContents FaultKind (told_by tail) → Type 0) (some : 0 < count)
-      (e : slice_get c.tables.members.now from ≡ Some m) where
-    abbrev F : ToldContents FaultKind (told_by tail)
-    F = components_in c depth node (count - 1) (from + 1) tail
-
-    pub required_first : is_required m.presence tail ≡ true → P (required_in c depth node m.node (count - 1) (from + 1) tail)
+    at_member : (count from : ℕ) (m : Member) (P : ToldContents FaultKind (told_by tail) → Type 0) → 0 < count
+        → slice_get c.tables.members.now from ≡ Some m
+        → P (component_in m.presence (slice_get c.tags.members.now from) m.node (components_in c depth node (count - 1) (from + 1) tail))
         → P (components_in c depth node count from tail)
-    required_first is p =
-        at_member tail count from m P some e (by_required tail m.presence (slice_get c.tags.members.now from) m.node F P is p)
-
-    pub optional_first : (first : FirstTags) → is_required m.presence tail ≡ false → slice_get c.tags.members.now from ≡ Some first
-        → P (optional_in c depth node m.presence first m.node (count - 1) (from + 1) tail) → P (components_in c depth node count from tail)
-    optional_first first is f p =
-        at_member tail count from m P some e (by_optional tail m.presence (slice_get c.tags.members.now from) m.node F P is
+    at_member zero from m P some e p = absurd (omega (arith, some))
+    at_member (suc k) from m P some e p =
+        let same : suc k - 1 ≡ k = omega arith in
+        subst
+        (λ (x : Option Member). P (der.component (types c depth) (tables_of c) node x (slice_get c.tags.members.now from)
+        (components_in c depth node k (from + 1) tail))) (sym e)
         (subst
-        (λ (x : Option FirstTags). P (der.optional (types c depth) (tables_of c) node x (value_in c depth node m.presence m.node) F)) (sym f) p))
+        (λ (i : ℕ). P (component_in m.presence (slice_get c.tags.members.now from) m.node (components_in c depth node i (from + 1) tail))) same p)
 
-    pub no_first : is_required m.presence tail ≡ false → slice_get c.tags.members.now from ≡ None → P (der.no_member node)
-        → P (components_in c depth node count from tail)
-    no_first is f p =
-        at_member tail count from m P some e (by_optional tail m.presence (slice_get c.tags.members.now from) m.node F P is
-        (subst
-        (λ (x : Option FirstTags). P (der.optional (types c depth) (tables_of c) node x (value_in c depth node m.presence m.node) F)) (sym f) p))
+    by_required : (p : Presence) (first : Option FirstTags) (inner : ℕ) (F : ToldContents FaultKind (told_by tail))
+        (P : ToldContents FaultKind (told_by tail) → Type 0) → is_required p ≡ true
+        → P (required Missing inner (present (element_in c depth inner) F)) → P (component_in p first inner F)
+    by_required presence.Mandatory first inner F P e q = q
+    by_required presence.Optional first inner F P e q = absurd cc
+    by_required (presence.Default value) first inner F P e q = absurd cc
+
+    by_optional : (p : Presence) (first : Option FirstTags) (inner : ℕ) (F : ToldContents FaultKind (told_by tail))
+        (P : ToldContents FaultKind (told_by tail) → Type 0) → is_required p ≡ false
+        → P (der.optional (types c depth) (tables_of c) node first (value_in c depth node p inner) F) → P (component_in p first inner F)
+    by_optional presence.Mandatory first inner F P e q = absurd cc
+    by_optional presence.Optional first inner F P e q = q
+    by_optional (presence.Default value) first inner F P e q = q
+
+    module _ (count from : ℕ) (m : Member) (P : ToldContents FaultKind (told_by tail) → Type 0) (some : 0 < count)
+        (e : slice_get c.tables.members.now from ≡ Some m) where
+      abbrev F : ToldContents FaultKind (told_by tail)
+      F = components_in c depth node (count - 1) (from + 1) tail
+
+      pub required_first : is_required m.presence ≡ true → P (required_in c depth node m.node (count - 1) (from + 1) tail)
+          → P (components_in c depth node count from tail)
+      required_first is p =
+          at_member count from m P some e (by_required m.presence (slice_get c.tags.members.now from) m.node F P is p)
+
+      pub optional_first : (first : FirstTags) → is_required m.presence ≡ false → slice_get c.tags.members.now from ≡ Some first
+          → P (optional_in c depth node m.presence first m.node (count - 1) (from + 1) tail) → P (components_in c depth node count from tail)
+      optional_first first is f p =
+          at_member count from m P some e (by_optional m.presence (slice_get c.tags.members.now from) m.node F P is
+          (subst
+          (λ (x : Option FirstTags). P (der.optional (types c depth) (tables_of c) node x (value_in c depth node m.presence m.node) F)) (sym f) p))
+
+      pub no_first : is_required m.presence ≡ false → slice_get c.tags.members.now from ≡ None → P (der.no_member node)
+          → P (components_in c depth node count from tail)
+      no_first is f p =
+          at_member count from m P some e (by_optional m.presence (slice_get c.tags.members.now from) m.node F P is
+          (subst
+          (λ (x : Option FirstTags). P (der.optional (types c depth) (tables_of c) node x (value_in c depth node m.presence m.node) F)) (sym f) p))
 
 -- ---- alternatives
 

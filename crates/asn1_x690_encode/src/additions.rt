@@ -5,11 +5,12 @@ ghost use Rattle.asn1_schema.specs.declared.part.Part.TheVariants.{Additions as 
 ghost use Rattle.asn1_schema.specs.declared.tables.Range.{Range};
 ghost use Rattle.asn1_schema.specs.Pieces.{Additions};
 ghost use Rattle.asn1_x691_writers.specs.Put.{piece_in};
-ghost use Rattle.asn1_x690_encode.specs.Encoding.{ToldOutcome, extension_in, unknown_in};
+ghost use Rattle.asn1_x690_encode.specs.Encoding.{ToldOutcome, added_in, extension_in, unknown_in};
 
 use crate::any::{AnyPart, encode_any};
-use crate::context::{Context, part_at};
-use crate::sequence::{Tail, encode_components};
+use crate::context::{Context, first_tags_at, member_at, part_at};
+use crate::group::encode_group;
+use crate::sequence::{LeftAdditions, Tail, encode_optional};
 use asn1_schema::{MisfitKind, Part, Rows};
 use asn1_x690_fields::FoundIdentifier;
 use asn1_x691_writers::{Writer, reject};
@@ -54,16 +55,12 @@ pub(crate) fn encode_additions(
             }
             Some(count) => {
                 state.next += 1;
-                let begins = encode_components(
-                    context,
-                    depth,
-                    node,
-                    known.count as usize,
-                    known.from,
-                    &Tail::Unknown(known.count, count),
-                    octets,
-                    state,
-                )?;
+                let left = LeftAdditions {
+                    rows: known,
+                    known: known.count,
+                    count,
+                };
+                let begins = encode_known(context, depth, node, left, octets, state)?;
                 if begins.is_none() {
                     state.next = first;
                     reject(state, node, MisfitKind::NoAddition);
@@ -72,6 +69,87 @@ pub(crate) fn encode_additions(
                 Some(begins)
             }
         },
+    }
+}
+
+/// Encodes the additions that are left. Returns the first identifier, if there is one.
+#[inline(always)]
+#[cycle(encoding)]
+pub(crate) fn encode_known(
+    context: &Context<'_>,
+    depth: usize,
+    node: usize,
+    left: LeftAdditions,
+    octets: &mut [u8],
+    state: &mut Writer,
+) -> Option<Option<FoundIdentifier>>
+    requires size { 8 * length octets.old < 2 ^ 64 }
+    requires source { 8 * length context.now.source.now < 2 ^ 64 }
+    requires parts { length context.now.parts.now < 2 ^ 64 - 1 }
+    requires whole { state.old.at % 8 ≡ 0 }
+    ensures { ToldOutcome context.now (added_in context.now depth node left) left.count octets.old state.old octets.new state.new result }
+{
+    if left.rows.count == 0 {
+        return encode_unknown(
+            context,
+            node,
+            left.known as usize,
+            left.count,
+            octets,
+            state,
+        );
+    }
+    encode_addition(context, depth, node, left, octets, state)
+}
+
+/// Encodes the first addition that is left and those after it, as components are encoded that may be absent.
+/// There is one at least that the schema knows.
+#[inline(never)]
+#[cycle(encoding)]
+fn encode_addition(
+    context: &Context<'_>,
+    depth: usize,
+    node: usize,
+    left: LeftAdditions,
+    octets: &mut [u8],
+    state: &mut Writer,
+) -> Option<Option<FoundIdentifier>>
+    requires size { 8 * length octets.old < 2 ^ 64 }
+    requires source { 8 * length context.now.source.now < 2 ^ 64 }
+    requires parts { length context.now.parts.now < 2 ^ 64 - 1 }
+    requires whole { state.old.at % 8 ≡ 0 }
+    requires some { 0 < left.rows.count }
+    ensures { ToldOutcome context.now (added_in context.now depth node left) left.count octets.old state.old octets.new state.new result }
+{
+    let from = left.rows.from;
+    let Some(member) = member_at(context.tables.members, from) else {
+        reject(state, node, MisfitKind::NoNode);
+        return None;
+    };
+    let Some(first) = first_tags_at(context.tags.members, from) else {
+        reject(state, node, MisfitKind::NoNode);
+        return None;
+    };
+    let rows = Rows {
+        from: from + 1,
+        count: left.rows.count - 1,
+    };
+    let others = LeftAdditions { rows, ..left };
+    match first.group {
+        None => encode_optional(
+            context,
+            depth,
+            node,
+            member.presence,
+            first,
+            member.node,
+            0,
+            0,
+            &Tail::Additions(others),
+            octets,
+            state,
+        ),
+        Some(group) => encode_group(context, depth, node, first, group, others, octets, state),
     }
 }
 

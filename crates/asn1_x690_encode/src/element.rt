@@ -89,6 +89,30 @@ pub(crate) fn encode_tagged(
     }
 }
 
+/// Encodes an element of tags, the last of which is the type's own, within an element of another tag.
+#[inline(never)]
+#[cycle(encoding)]
+fn encode_tagged_within(
+    context: &Context<'_>,
+    depth: usize,
+    node: usize,
+    kind: &Node,
+    types: &TypeTags,
+    tags: &[Tag],
+    octets: &mut [u8],
+    state: &mut Writer,
+) -> Option<FoundIdentifier>
+    requires size { 8 * length octets.old < 2 ^ 64 }
+    requires source { 8 * length context.now.source.now < 2 ^ 64 }
+    requires parts { length context.now.parts.now < 2 ^ 64 - 1 }
+    requires whole { state.old.at % 8 ≡ 0 }
+    requires kind { HasType context.now node kind.now types.now }
+    requires few { length tags.now < 2 ^ 32 }
+    ensures { ElementOutcome context.now (tagged_in context.now depth node types.now kind.now tags.now) octets.old state.old octets.new state.new result }
+{
+    encode_tagged(context, depth, node, kind, types, tags, octets, state)
+}
+
 /// Encodes an element of tags around a value that has its own header.
 #[inline(never)]
 #[cycle(encoding)]
@@ -132,6 +156,7 @@ pub(crate) fn encode_around(
 
 /// Encodes an element of an identifier. The contents are encoded after one octet, and moved where
 /// their length takes more.
+#[inline(always)]
 #[cycle(encoding)]
 fn encode_enclosed(
     context: &Context<'_>,
@@ -151,7 +176,7 @@ fn encode_enclosed(
     ensures { ElementOutcome context.now (enclosed_in context.now depth node id inner.entry) octets.old state.old octets.new state.new result }
 {
     let first = state.next;
-    let start = put_identifier(octets, state.at, id);
+    let start = put_identifier(octets, state.at, &id);
     let before = (start / 8).min(octets.len());
     let (_, tail) = octets.split_at_mut(before);
     state.at = 8;
@@ -192,7 +217,7 @@ fn encode_inner(
         Inner::Own(kind, types) => encode_contents(
             context, depth, node, kind, types, octets, state,
         ),
-        Inner::Tagged(kind, types, tags) => encode_tagged(
+        Inner::Tagged(kind, types, tags) => encode_tagged_within(
             context, depth, node, kind, types, tags, octets, state,
         ).is_some(),
         Inner::Around(kind, types, tags) => encode_around(

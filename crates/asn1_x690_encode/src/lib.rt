@@ -7,6 +7,7 @@ mod choice;
 mod context;
 mod element;
 mod first_tags;
+mod group;
 mod inner;
 mod leaf;
 mod list;

@@ -34,8 +34,28 @@ fn is_headed(is_any: bool, kind: &Node) -> bool
 /// state on, which is the first of an octet, and takes its parts from the next one on. Returns its
 /// identifier. Otherwise the state has the reason, and the next part is the one that does not fit. A
 /// value may be nested less deep than `depth`.
+#[inline(never)]
 #[cycle(encoding)]
 pub(crate) fn encode_node(
+    context: &Context<'_>,
+    depth: usize,
+    node: usize,
+    octets: &mut [u8],
+    state: &mut Writer,
+) -> Option<FoundIdentifier>
+    requires size { 8 * length octets.old < 2 ^ 64 }
+    requires source { 8 * length context.now.source.now < 2 ^ 64 }
+    requires parts { length context.now.parts.now < 2 ^ 64 - 1 }
+    requires whole { state.old.at % 8 ≡ 0 }
+    ensures { ElementOutcome context.now (types context.now depth node) octets.old state.old octets.new state.new result }
+{
+    encode_node_here(context, depth, node, octets, state)
+}
+
+/// Encodes a value as [`encode_node`] does, in the place of a call.
+#[inline(always)]
+#[cycle(encoding)]
+pub(crate) fn encode_node_here(
     context: &Context<'_>,
     depth: usize,
     node: usize,

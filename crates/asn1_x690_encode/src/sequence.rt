@@ -11,10 +11,10 @@ ghost use Rattle.asn1_x691_writers.specs.Put.{piece_in};
 ghost use Rattle.asn1_x690_encode.specs.Kinds.{is_required};
 ghost use Rattle.asn1_x690_encode.specs.Encoding.{ContentsOutcome, ToldOutcome, after_root, components_in, optional_in, required_in, tables_of, tape, told_by, told_of, types};
 
-use crate::additions::{encode_additions, encode_unknown};
+use crate::additions::{encode_additions, encode_known};
 use crate::context::{Context, first_tags_at, member_at, part_at};
 use crate::first_tags::{begins_with, has_tag};
-use crate::node::encode_node;
+use crate::node::encode_node_here;
 use crate::value::encode_value;
 use asn1_schema::{MisfitKind, Part, Presence, Rows};
 use asn1_x690::FirstTags;
@@ -28,13 +28,23 @@ pub(crate) enum Tail {
     End,
     /// The additions that the schema knows, and unknown ones; or no additions, as the value says.
     Extension(Rows, bool),
-    /// The last of so many additions, after so many that the schema knows.
-    Unknown(u32, usize),
+    /// Additions.
+    Additions(LeftAdditions),
 }
 
-/// Returns whether so many components of a root follow a part, and whether additions follow them as
-/// asked.
-fn is_sequence(part: Part, count: usize, is_extended: bool) -> bool
+/// Additions that are left.
+#[derive(Clone, Copy, Debug)]
+pub(crate) struct LeftAdditions {
+    /// Those that the schema knows.
+    pub(crate) rows: Rows,
+    /// How many additions the schema knows, with those that are not left.
+    pub(crate) known: u32,
+    /// How many additions there are, with those that are not left.
+    pub(crate) count: usize,
+}
+
+/// Returns whether so many components follow a part, and whether additions follow them as asked.
+pub(crate) fn is_sequence(part: Part, count: usize, is_extended: bool) -> bool
     ensures is { result ≡ true → part ≡ SequencePart count is_extended }
     ensures other { (ranges : List Range) (source : List ℕ) → result ≡ false → piece_in ranges source part ≡ Sequence count is_extended → ⊥ }
 {
@@ -169,8 +179,9 @@ pub(crate) fn encode_extensible_sequence(
     }
 }
 
-/// Encodes so many components, which are members from an index on, and what follows them. Additions
-/// are encoded as components are that may be absent. Returns the first identifier, if there is one.
+/// Encodes so many components, which are members from an index on, and what follows them. Returns the first
+/// identifier, if there is one.
+#[inline(always)]
 #[cycle(encoding)]
 pub(crate) fn encode_components(
     context: &Context<'_>,
@@ -193,12 +204,37 @@ pub(crate) fn encode_components(
     if count == 0 {
         return encode_tail(context, depth, node, tail, octets, state);
     }
+    encode_first(context, depth, node, count, from, tail, octets, state)
+}
+
+/// Encodes components as [`encode_components`] does. There is one at least.
+#[inline(never)]
+#[cycle(encoding)]
+fn encode_first(
+    context: &Context<'_>,
+    depth: usize,
+    node: usize,
+    count: usize,
+    from: usize,
+    tail: &Tail,
+    octets: &mut [u8],
+    state: &mut Writer,
+) -> Option<Option<FoundIdentifier>>
+    requires size { 8 * length octets.old < 2 ^ 64 }
+    requires source { 8 * length context.now.source.now < 2 ^ 64 }
+    requires parts { length context.now.parts.now < 2 ^ 64 - 1 }
+    requires whole { state.old.at % 8 ≡ 0 }
+    requires some { 0 < count }
+    requires few { count < 2 ^ 32 }
+    ensures { ToldOutcome context.now (components_in context.now depth node count from tail.now) (told_of tail.now) octets.old state.old
+        octets.new state.new result }
+{
     let Some(member) = member_at(context.tables.members, from) else {
         reject(state, node, MisfitKind::NoNode);
         return None;
     };
     let inner = member.node;
-    if is_required(member.presence, tail) {
+    if is_required(member.presence) {
         return encode_required(
             context,
             depth,
@@ -230,20 +266,18 @@ pub(crate) fn encode_components(
     )
 }
 
-/// Returns whether a component must be present, before so much more of the contents. No addition must.
-fn is_required(presence: Presence, tail: &Tail) -> bool
-    ensures { result ≡ is_required presence tail.now }
+/// Returns whether a component must be present.
+fn is_required(presence: Presence) -> bool
+    ensures { result ≡ is_required presence }
 {
     match presence {
-        Presence::Mandatory => match *tail {
-            Tail::Unknown(_, _) => false,
-            _ => true,
-        },
+        Presence::Mandatory => true,
         _ => false,
     }
 }
 
-/// Encodes what follows components or additions.
+/// Encodes what follows components.
+#[inline(always)]
 #[cycle(encoding)]
 fn encode_tail(
     context: &Context<'_>,
@@ -267,9 +301,7 @@ fn encode_tail(
             }
             encode_additions(context, depth, node, known, octets, state)
         }
-        Tail::Unknown(known, count) => {
-            encode_unknown(context, node, known as usize, count, octets, state)
-        }
+        Tail::Additions(left) => encode_known(context, depth, node, left, octets, state),
     }
 }
 
@@ -294,7 +326,7 @@ fn encode_required(
     ensures { ToldOutcome context.now (required_in context.now depth node inner count from tail.now) (told_of tail.now) octets.old state.old
         octets.new state.new result }
 {
-    let found = encode_node(context, depth, inner, octets, state)?;
+    let found = encode_node_here(context, depth, inner, octets, state)?;
     encode_components(context, depth, node, count, from, tail, octets, state)?;
     Some(Some(found))
 }
@@ -302,7 +334,7 @@ fn encode_required(
 /// Encodes a component that may be absent, and those after it. It is present exactly where the next
 /// element has one of its first tags.
 #[cycle(encoding)]
-fn encode_optional(
+pub(crate) fn encode_optional(
     context: &Context<'_>,
     depth: usize,
     node: usize,

@@ -1,16 +1,20 @@
 -- Identifiers and headers of elements.
-use Rattle.std.proofs.Common.{◌≡◌, ℕ, ◌+◌, ◌-◌, ◌*◌, ◌%◌, ◌^◌, ◌<◌, ◌≤◌, List, [], Bool, refl, ap, subst, arith, inl, inr, Some}
+use Rattle.std.proofs.Common.{◌≡◌, ℕ, ◌+◌, ◌-◌, ◌*◌, ◌/◌, ◌%◌, ◌^◌, ◌<◌, ◌≤◌, List, [], ◌++◌, Bool, length, take, drop, refl, ◌∙◌, ap, subst, arith, inl, inr, Some}
+use Rattle.std.proofs.Math.Seq.{take-add}
+use Rattle.std.proofs.lemmas.List.{drop-drop}
+use Rattle.asn1_bits.specs.Bits.{number as number_of}
+use Rattle.asn1_bits.specs.NumberLaws.{number-append, number-lt}
 use Rattle.asn1_schema.specs.Encodings.{Fault, Starts, number}
 use Rattle.asn1_schema.specs.Fields.{raw_bits}
 use Rattle.asn1_schema.specs.PiecesOfParts.{bits_at}
 use Rattle.asn1_x690.specs.declared.fault.FaultKind.{FaultKind}
 use Rattle.asn1_x690.specs.declared.fault.FaultKind.TheVariants.{Short}
 use Rattle.asn1_x690.specs.declared.tables.Identifier.{Identifier}
-use Rattle.asn1_x690.specs.Elements.{identifier_of, long_number, number_after, identifier, length_octets, contents_after, any_element}
+use Rattle.asn1_x690.specs.Elements.{identifier_of, long_number, number_after, identifier, length_after, length_octets, contents_after, any_element}
 use Rattle.asn1_x690_fields.specs.declared.state.State.{State}
 use Rattle.asn1_x690_fields.specs.declared.identifier.FoundIdentifier.{FoundIdentifier}
-use Rattle.asn1_x690_fields.specs.Outcomes.{rest, fault_of, IsReadAs, IsIdentifier, IsLength, IsHeader}
-use Rattle.asn1_x690_fields.specs.Steps.{then_starts, then_fault}
+use Rattle.asn1_x690_fields.specs.Outcomes.{rest, fault_of, IsReadAs, IsIdentifier, IsLength, IsHeader, IsElement}
+use Rattle.asn1_x690_fields.specs.Steps.{front_length, number_starts, bits_start, then_starts, then_fault}
 
 -- ---- identifiers
 
@@ -83,3 +87,50 @@ module _ (node : ℕ) (list : List Bool) (old mid next new : State) (found : Fou
         element_starts node (rest list old) (rest list mid) i.0 i.2 l.0 (rest list next) l.2 (bits_at list at (8 * count)) (rest list new)
             (subst (λ (n : ℕ). Starts (raw_bits (8 * n) Short node).encodes (rest list next) (bits_at list at (8 * count)) (rest list new)) same s),
       )
+
+-- ---- an element with a header of two octets
+
+-- the number of two octets by each of them
+record AreTwo (both first second : ℕ) : Type 0 where
+  is_first : both / 256 ≡ first
+  is_second : both % 256 ≡ second
+
+two_octets : (list : List Bool) (at both : ℕ) → at + 16 ≤ length list → both ≡ number_of (take 16 (drop at list))
+    → AreTwo both (number_of (take 8 (drop at list))) (number_of (take 8 (drop (at + 8) list)))
+two_octets list at both h is =
+    let second = take 8 (drop (at + 8) list) in
+    let size : length second ≡ 8 = front_length list (at + 8) 8 (omega (arith, h)) in
+    let below : number_of second < 256 = subst (λ (n : ℕ). number_of second < 2 ^ n) size (number-lt second) in
+    let e : both ≡ number_of (take 8 (drop at list)) * 256 + number_of second =
+    is ∙ ap number_of (take-add 8 8 (drop at list) ∙ ap (λ (l : List Bool). take 8 (drop at list) ++ take 8 l) (drop-drop 8 at list))
+    ∙ number-append (take 8 (drop at list)) second
+    ∙ ap (λ (n : ℕ). number_of (take 8 (drop at list)) * 2 ^ n + number_of second) size in
+    record { is_first = omega (arith, e, below); is_second = omega (arith, e, below) }
+
+pub short_element : (list : List Bool) (s : State) (node both : ℕ) (found : FoundIdentifier) → s.at + 16 + 8 * (both % 256) ≤ s.end
+    → s.end ≤ length list → both ≡ number_of (take 16 (drop s.at list)) → both / 256 % 32 < 31 → both % 256 < 128
+    → IsIdentifier found (identifier_of (both / 256) (both / 256 % 32))
+    → IsElement list (rest list s) node (record { identifier = found; from = s.at + 16; to = s.at + 16 + 8 * (both % 256) })
+    (drop (s.at + 16 + 8 * (both % 256)) (take s.end list))
+short_element list s node both found ends inside is low few shown =
+    let first = both / 256 in
+    let count = both % 256 in
+    let two = two_octets list s.at both (omega (arith, ends, inside)) is in
+    let mid : State = record { at = s.at + 8; end = s.end; count = s.count; node = s.node; kind = s.kind } in
+    let next : State = record { at = s.at + 8 + 8; end = s.end; count = s.count; node = s.node; kind = s.kind } in
+    let i = short_identifier node first (rest list s) (rest list mid)
+    (number_starts list s 8 node (omega (arith, ends)) inside first two.is_first) low in
+    let l : Starts (length_octets node).encodes (rest list mid) count (rest list next) =
+    then_starts (number 8 Short node) (λ f n. n) (λ f. length_after node f) (rest list mid) (rest list next) (rest list next) count count
+    (number_starts list mid 8 node (omega (arith, ends)) inside count two.is_second)
+    (record { front = []; encoded = inl (few, (refl, refl)); parts = refl }) in
+    let c = bits_start list next (8 * count) node (omega (arith, ends)) inside in
+    let same : s.at + 8 + 8 ≡ s.at + 16 = omega arith in
+    let e : 8 * count ≡ s.at + 16 + 8 * count - (s.at + 16) = omega arith in (
+      (identifier_of first (first % 32), bits_at list (s.at + 16) (8 * count)),
+      record { identifier = shown; contents = ap (λ (n : ℕ). bits_at list (s.at + 16) n) e },
+      subst (λ (n : ℕ). Starts (any_element node).encodes (rest list s) (identifier_of first (first % 32), bits_at list n (8 * count))
+          (drop (n + 8 * count) (take s.end list))) same
+          (element_starts node (rest list s) (rest list mid) (identifier_of first (first % 32)) i count (rest list next) l
+          (take (8 * count) (drop next.at list)) (drop (next.at + 8 * count) (take s.end list)) c),
+    )

@@ -4,6 +4,7 @@ use Rattle.asn1_schema.specs.Encodings.{Fault, Encoding, Starts}
 use Rattle.asn1_schema.specs.PiecesOfParts.{bits_at}
 use Rattle.asn1_x690.specs.declared.fault.FaultKind.{FaultKind}
 use Rattle.asn1_x690.specs.declared.tables.Identifier.{Identifier}
+use Rattle.asn1_x690.specs.Elements.{any_element}
 use Rattle.asn1_x690_fields.specs.declared.state.State.{State}
 use Rattle.asn1_x690_fields.specs.declared.identifier.FoundIdentifier.{FoundIdentifier}
 use Rattle.asn1_x690_fields.specs.declared.header.Header.{Header}
@@ -55,3 +56,8 @@ pub record IsIdentifier (found : FoundIdentifier) (id : Identifier) : Type 0 whe
 pub record IsHeader (list : List Bool) (header : Header) (v : Identifier × List Bool) : Type 0 where
   pub identifier : IsIdentifier header.identifier v.0
   pub contents : v.1 ≡ bits_at list header.from (header.to - header.from)
+
+-- the bits begin with an element that has this header; other bits follow it
+abbrev pub IsElement : List Bool → List Bool → ℕ → Header → List Bool → Type 0
+IsElement list left node header others =
+    (v : Identifier × List Bool) × IsHeader list header v × Starts (any_element node).encodes left v others

@@ -13,7 +13,7 @@ mod tags;
 
 pub use header::{Header, next_header};
 pub use heads::{next_octet, next_octets};
-pub use identifier::{FoundIdentifier, next_identifier};
+pub use identifier::{FoundIdentifier, next_identifier, short_identifier_at};
 pub use length::next_length;
 pub use state::{State, fail};
 pub use tags::{has_tag, is_identifier, tags_in};

@@ -18,6 +18,7 @@ use asn1_x690::FaultKind;
 /// # Errors
 ///
 /// Returns [`FaultKind::Contents`] if the contents are other octets.
+#[inline(always)]
 pub fn boolean(octets: &[u8], span: Span) -> Result<Part, FaultKind>
     requires size { 8 * length octets.now < 2 ^ 64 }
     requires contents { AreOctetsOf (bits octets.now) span }

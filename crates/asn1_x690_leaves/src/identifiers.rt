@@ -16,6 +16,7 @@ use asn1_x690::FaultKind;
 use asn1_x691_fields::are_subidentifiers as are_at_any_bit;
 
 /// Returns whether octets are subidentifiers one after another (8.19.2).
+#[inline(always)]
 fn are_series(octets: &[u8]) -> bool
     ensures { result ≡ are_in_series false octets.now }
 {
@@ -34,6 +35,7 @@ fn are_series(octets: &[u8]) -> bool
 
 /// Returns whether octets are subidentifiers one after another, of which there is one at least
 /// (8.19.2, 8.20.2).
+#[inline(never)]
 pub fn are_subidentifiers(octets: &[u8], span: Span) -> bool
     requires size { 8 * length octets.now < 2 ^ 64 }
     requires contents { AreOctetsOf (bits octets.now) span }
@@ -42,8 +44,20 @@ pub fn are_subidentifiers(octets: &[u8], span: Span) -> bool
 {
     match whole_octets(octets, span) {
         Some(own) => span.count > 0 && are_series(own),
-        None => are_at_any_bit(octets, span),
+        None => are_between_octets(octets, span),
     }
+}
+
+/// Returns the same of octets that begin at any bit.
+#[cold]
+#[inline(never)]
+fn are_between_octets(octets: &[u8], span: Span) -> bool
+    requires size { 8 * length octets.now < 2 ^ 64 }
+    requires contents { AreOctetsOf (bits octets.now) span }
+    ensures yes { result ≡ true → IsRelativeIdentifier (bits_of (bits octets.now) span) }
+    ensures no { result ≡ false → IsRelativeIdentifier (bits_of (bits octets.now) span) → ⊥ }
+{
+    are_at_any_bit(octets, span)
 }
 
 /// Reads an OBJECT IDENTIFIER. Its arcs may be of any size.
@@ -51,6 +65,7 @@ pub fn are_subidentifiers(octets: &[u8], span: Span) -> bool
 /// # Errors
 ///
 /// Returns [`FaultKind::Contents`] if the octets are no subidentifiers, or if there are none.
+#[inline(always)]
 pub fn object_identifier(octets: &[u8], span: Span) -> Result<Part, FaultKind>
     requires size { 8 * length octets.now < 2 ^ 64 }
     requires contents { AreOctetsOf (bits octets.now) span }

@@ -19,6 +19,7 @@ use asn1_x691_fields::is_utf8;
 /// # Errors
 ///
 /// Returns [`FaultKind::NotPermitted`] if it has another size than its constraint permits.
+#[inline(always)]
 pub fn octet_string(
     octets: &[u8],
     span: Span,

@@ -1,4 +1,4 @@
-//! UTCTime (X.690 8.25, 11.8) and GeneralizedTime (8.26, 11.7).
+//! UTCTime (X.690 8.25, 11.8) and GeneralizedTime (8.25, 11.7).
 
 ghost use Rattle.std.specs.Prelude.{◌*◌, ◌<◌, ◌^◌, List, length};
 ghost use Rattle.asn1_bits.specs.Bits.{bits};

@@ -8,7 +8,8 @@
 //! seq1 i5`; its components have automatic tags. The answer is the parts or the first fault; a row of
 //! `der-error` has the text of the fault, and one of `der-explained` what was expected and what was
 //! found. What is decoded is encoded again and measured, unless it
-//! has a part that the encoder leaves. `scripts/x691-vectors` makes them with another compiler, and
+//! has a part that the encoder leaves. A row of `der-as` has two types: a value of the first is encoded as
+//! one of the second, which makes octets or is a misfit of the part of an index. `scripts/x691-vectors` makes them with another compiler, and
 //! `scripts/x690-model` damages their messages.
 #![tactic(auto)]
 
@@ -16,7 +17,7 @@ ghost use Rattle.std.specs.Prelude.{◌≡◌};
 
 use asn1_schema::{Part, Tables};
 use asn1_schema_rows::{Schema, Source, schema_of, text_of};
-use asn1_test_rows::{Answers, RowError, octets, run, wrong};
+use asn1_test_rows::{Answers, RowError, hex_of, octets, run, wrong};
 use asn1_x690::Class;
 use asn1_x690_decode::{Context, Defaults, decode, explain};
 use asn1_x690_elements::decode_elements;
@@ -131,6 +132,59 @@ fn is_encoded_again(
     }
 }
 
+/// Encodes a value of one type as one of another. Returns the octets or the misfit.
+fn encoded_as(
+    alloc: Global,
+    octets: &[u8],
+    from: &Schema,
+    to: &Schema,
+) -> Result<String, RowError> {
+    if octets.len() > 1_000_000 {
+        return Err(wrong(alloc, "octets", "short message"));
+    }
+    let mut parts = vec![in alloc; Part::Absent; ROOM]?;
+    let context = context_of(octets, from);
+    let Ok(count) = decode(&context, DEPTH, from.node, parts.as_mut_slice()) else {
+        return Err(wrong(alloc, "octets", "message of the first type"));
+    };
+    let Some(parts) = parts.as_slice().get(..count) else {
+        return Err(wrong(alloc, "octets", "value of few parts"));
+    };
+    if parts.len() > ROOM {
+        return Err(wrong(alloc, "octets", "value of few parts"));
+    }
+    let of = context_of(octets, to);
+    let value = Value {
+        tables: of.tables,
+        tags: of.tags,
+        defaults: of.defaults,
+        parts,
+        source: octets,
+    };
+    let mut message = vec![in alloc; 0u8; octets.len() + 8]?;
+    match encode(&value, DEPTH, to.node, message.as_mut_slice()) {
+        Ok(encoded) => match message.as_slice().get(..encoded.octets) {
+            Some(message) => hex_of(alloc, message),
+            None => Err(wrong(alloc, "octets", "message of few octets")),
+        },
+        Err(misfit) => Ok(format!(in alloc; "{:?} part {}", misfit.reason, misfit.part)?),
+    }
+}
+
+/// Answers a row of two types, which `as` separates.
+fn answer_as(alloc: Global, octets: &[u8], words: &[&str]) -> Result<String, RowError> {
+    let Some(place) = words.iter().position(|word| *word == "as") else {
+        return Err(wrong(alloc, "the row", "row of two types"));
+    };
+    let (from, rest) = words.split_at(place);
+    let Some((_, to)) = rest.split_first() else {
+        return Err(wrong(alloc, "the row", "row of two types"));
+    };
+    let from = schema_of(alloc, false, from)?;
+    let to = schema_of(alloc, false, to)?;
+    encoded_as(alloc, octets, &from, &to)
+}
+
 /// Returns what octets are decoded by.
 fn context_of<'s>(octets: &'s [u8], schema: &'s Schema) -> Context<'s>
     ensures { result.octets.now ≡ octets.now }
@@ -211,6 +265,10 @@ impl Answers for Calls {
                 let message = octets(alloc, message)?;
                 let schema = schema_of(alloc, false, words)?;
                 decoded(alloc, false, message.as_slice(), &schema)
+            }
+            ("der-as", [message, words @ ..]) => {
+                let message = octets(alloc, message)?;
+                answer_as(alloc, message.as_slice(), words)
             }
             ("der-error", [message, words @ ..]) => {
                 let message = octets(alloc, message)?;

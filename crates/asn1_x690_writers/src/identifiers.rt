@@ -40,14 +40,26 @@ fn first_octet(id: Identifier, low: u64) -> u64
 
 /// Writes identifier octets. Returns the index after them.
 #[inline(always)]
-pub fn put_identifier(octets: &mut [u8], at: usize, id: Identifier) -> usize
+pub fn put_identifier(octets: &mut [u8], at: usize, id: &Identifier) -> usize
     requires { 8 * length octets.old < 2 ^ 64 }
-    ensures { IsWritten identifier id octets.old at octets.new result }
+    ensures { IsWritten identifier id.now octets.old at octets.new result }
 {
     if id.tag.number < 31 {
-        return put_octet(octets, at, first_octet(id, id.tag.number) as u8);
+        return put_octet(octets, at, first_octet(*id, id.tag.number) as u8);
     }
-    put_long_identifier(octets, at, id)
+    put_high_identifier(octets, at, id)
+}
+
+/// Writes identifier octets of a number from 31 on, and returns the index after them. Copies the
+/// identifier, so that the caller can keep its own in registers.
+#[inline(always)]
+fn put_high_identifier(octets: &mut [u8], at: usize, id: &Identifier) -> usize
+    requires size { 8 * length octets.old < 2 ^ 64 }
+    requires long { 31 ≤ id.now.tag.number }
+    ensures { IsWritten identifier id.now octets.old at octets.new result }
+{
+    let own = *id;
+    put_long_identifier(octets, at, own)
 }
 
 /// Writes identifier octets of a number from 31 on (8.1.2.4). Returns the index after them.

@@ -36,7 +36,7 @@ fn width_of(characters: CharacterSize) -> usize
 /// Returns whether the characters of a part are numbers of so many bits in the source, so that they are
 /// written as they are there.
 #[inline(always)]
-fn are_plain(source: &[u8], width: usize, text: Characters) -> bool
+pub(crate) fn are_plain(source: &[u8], width: usize, text: Characters) -> bool
     requires source { 8 * length source.now < 2 ^ 64 }
     requires some { 0 < width }
     ensures { result ≡ true → ArePlain source.now width text }

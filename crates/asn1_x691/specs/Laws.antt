@@ -13,6 +13,7 @@ pub mod GoodTypes
 pub mod LeafLaws
 pub mod ItemLaws
 pub mod TypeLaws
+pub mod ValueLaws
 pub mod PhaseLaws
 pub mod TypePhaseLaws
 pub mod SetLaws

@@ -2,6 +2,7 @@
 
 ghost use Rattle.std.specs.Prelude.{◌≡◌, ℕ, List, Bool, false, [], ◌∷◌, Option};
 ghost use Rattle.asn1_schema.specs.Pieces.{Parts};
+ghost use Rattle.asn1_schema.specs.Values.{AreValues};
 ghost use Rattle.asn1_schema.specs.Encodings.{DecodesOne, EncodesOne, NamesFault};
 ghost use Rattle.asn1_schema.specs.TypeEncodings.{EncodesUniquely, NamesEachMisfit};
 ghost use Rattle.asn1_x691.specs.Fragments.{string, octets};
@@ -142,6 +143,11 @@ pub fn laws_of_types()
         (members : List member.Member) (ranges : List range.Range) (defaults : ℕ → ℕ → Option (List Bool)) (depth place at : ℕ)
         → RejectsMore IsNoLimit (type_at limits aligned nodes members ranges defaults depth place at).encoding
         (type_at no_limits aligned nodes members ranges defaults depth place at).encoding }
+    // The parts of a value are one value: as many values follow each part as it holds.
+    ensures value { (limits : Limits) (aligned : Bool) (nodes : List node.Node) (members : List member.Member)
+        (ranges : List range.Range) (defaults : ℕ → ℕ → Option (List Bool)) (depth place at : ℕ) (parts : Parts) (list : List Bool)
+        → (type_at limits aligned nodes members ranges defaults depth place at).encoding.encodes parts list
+        → AreValues 1 parts }
     // There are values: 01 encodes SEQUENCE { a ENUMERATED OPTIONAL, b BOOLEAN } without `a`,
     // where `b` is true.
     ensures is { (type_at no_limits false example_nodes example_members [] no_defaults 2 0 0).encoding.encodes

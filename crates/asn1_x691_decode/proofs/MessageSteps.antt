@@ -7,12 +7,14 @@ use Rattle.asn1_schema.specs.declared.part.Part.{Part}
 use Rattle.asn1_schema.specs.declared.tables.Range.{Range}
 use Rattle.asn1_schema.specs.Encodings.{Fault, Starts}
 use Rattle.asn1_x691.specs.declared.fault.FaultKind.{FaultKind}
+use Rattle.asn1_schema.specs.Laws.ValueLaws.{GivesValues}
 use Rattle.asn1_x691.specs.OpenTypes.{complete}
+use Rattle.asn1_x691.specs.Laws.ValueLaws.{value_at, complete_gives}
 use Rattle.asn1_x691_fields.specs.declared.state.State.{State}
 use Rattle.asn1_x691_fields.specs.Outcomes.{rest, position, fault_of, IsWithin, IsMoved}
 use Rattle.asn1_x691_decode.specs.declared.context.Context.{Context}
 use Rattle.asn1_x691_decode.specs.Room.{Holds}
-use Rattle.asn1_x691_decode.specs.Decoding.{IsDecoded, IsFilled, types}
+use Rattle.asn1_x691_decode.specs.Decoding.{IsDecoded, IsFilled, types, decoder_limits, defaults_in}
 use Rattle.asn1_x691_decode.specs.Messages.{named, IsComplete, IsFirstFault, IsPrefix, IsFirstFaultOfPrefix}
 
 pub holds_none : (ranges : List Range) (list : List Bool) (room : List Part) → Holds ranges list room 0 []
@@ -42,11 +44,15 @@ module _ (c : Context) (s : State) (at : s.at ≡ 0) (first : s.first ≡ 0) (en
       let e : new.end - new.at ≡ length list - new.at = omega (arith, g.same_end, end, length-bits c.octets.now) in
       rw e refl
 
+  gives_one : (depth node : ℕ) → GivesValues 1 (types c depth node)
+  gives_one depth node = value_at decoder_limits c.is_aligned c.tables.nodes.now c.tables.members.now c.tables.ranges.now (defaults_in c) depth node
+
   pub complete_message : (depth node : ℕ) (new : State) (was now : List Part) → s.count ≡ 0
       → IsFilled c.tables.ranges.now (complete node (types c depth node)).fills list s new was now → IsComplete c depth node now new.count
   complete_message depth node new was now none f = record {
     parts = f.parts;
     encodes = subst (λ (l : List Bool). (complete node (types c depth node)).fills f.parts l) the_whole f.fills;
+    value = complete_gives node (types c depth node) (gives_one depth node) f.parts (rest list s) f.fills;
     held = f.grown [] (subst (λ (n : ℕ). Holds c.tables.ranges.now list was n []) (sym none) (holds_none c.tables.ranges.now list was));
   }
 
@@ -68,6 +74,7 @@ module _ (c : Context) (s : State) (at : s.at ≡ 0) (first : s.first ≡ 0) (en
         starts = subst (λ (n : ℕ). Starts (types c depth node n).encoding.encodes list d.parts (drop new.at list)) no_position
             (subst (λ (l : List Bool). Starts (types c depth node (position s)).encoding.encodes l d.parts (drop new.at list)) the_whole
             (subst (λ (l : List Bool). Starts (types c depth node (position s)).encoding.encodes (rest list s) d.parts l) e d.starts));
+        value = gives_one depth node (position s) d.parts d.starts.front d.starts.encoded;
         held = d.grown [] (subst (λ (n : ℕ). Holds c.tables.ranges.now list was n []) (sym none) (holds_none c.tables.ranges.now list was));
       }
 

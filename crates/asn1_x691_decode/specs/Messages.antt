@@ -4,6 +4,7 @@ use Rattle.asn1_bits.specs.Bits.{bits}
 use Rattle.asn1_schema.specs.declared.part.Part.{Part}
 use Rattle.asn1_schema.specs.Pieces.{Parts}
 use Rattle.asn1_schema.specs.Encodings.{Fault, Starts}
+use Rattle.asn1_schema.specs.Values.{AreValues}
 use Rattle.asn1_x691.specs.declared.fault.FaultKind.{FaultKind}
 use Rattle.asn1_schema.specs.TypeEncodings.{TypeEncoding}
 use Rattle.asn1_x691.specs.OpenTypes.{complete}
@@ -23,19 +24,21 @@ module _ (c : Context) where
   abbrev pub named : FoundFault → Fault FaultKind
   named e = record { node = e.node; left = length message - e.at; kind = e.kind }
 
-  -- the message is the complete encoding of these parts, of which the room holds the first
+  -- the message is the complete encoding of these parts, which are one value, and of which the room holds the first
   pub record IsComplete (depth node : ℕ) (room : List Part) (count : ℕ) : Type 0 where
     pub parts : Parts
     pub encodes : (complete node (types c depth node)).fills parts message
+    pub value : AreValues 1 parts
     pub held : Holds c.tables.ranges.now message room count parts
 
   abbrev pub IsFirstFault : ℕ → ℕ → FoundFault → Type 0
   IsFirstFault depth node e = (complete node (types c depth node)).fault message (named e)
 
-  -- so many first bits of the message encode these parts
+  -- so many first bits of the message encode these parts, which are one value
   pub record IsPrefix (depth node : ℕ) (room : List Part) (p : Prefix) : Type 0 where
     pub parts : Parts
     pub starts : Starts (types c depth node 0).encoding.encodes message parts (drop p.bits message)
+    pub value : AreValues 1 parts
     pub held : Holds c.tables.ranges.now message room p.parts parts
 
   abbrev pub IsFirstFaultOfPrefix : ℕ → ℕ → FoundFault → Type 0

@@ -18,6 +18,7 @@ use asn1_x691_fields::{State, fail, next_bits, next_octets, next_small_length};
 
 /// Decodes the additions of a SEQUENCE: their number, the bits that tell which of them are present,
 /// and these (X.691 19.7 to 19.9).
+#[inline(never)]
 #[cycle(decoding)]
 pub(crate) fn decode_extension(
     context: &Context<'_>,

@@ -18,6 +18,7 @@ use asn1_x691::FaultKind;
 use asn1_x691_fields::{State, fail, next_bit, next_constrained, next_small_number};
 
 /// Decodes a CHOICE (X.691 23).
+#[inline(never)]
 #[cycle(decoding)]
 pub(crate) fn decode_choice(
     context: &Context<'_>,

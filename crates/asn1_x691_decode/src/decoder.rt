@@ -2,27 +2,24 @@
 
 ghost use Rattle.std.specs.Prelude.{◌≡◌, ◌≤◌, ◌<◌, ◌^◌, ◌*◌, ◌+◌, ◌-◌, true, false, length, slice_get, Some};
 ghost use Rattle.asn1_bits.specs.Bits.{bits};
-ghost use Rattle.asn1_schema.specs.Pieces.{Truth};
-ghost use Rattle.asn1_schema.specs.Encodings.{anywhere};
-ghost use Rattle.asn1_x691.specs.Strings.{bit};
-ghost use Rattle.asn1_schema.specs.TypeEncodings.{leaf};
 ghost use Rattle.asn1_x691.specs.Fragments.{octets};
 ghost use Rattle.asn1_x691_fields.specs.Outcomes.{IsWithin, IsMoved, IsPlaced};
 ghost use Rattle.asn1_x691_decode.specs.Decoding.{Outcome, types};
 
 use crate::choice::decode_choice;
 use crate::context::Context;
+use crate::leaves::{
+    decode_bit_string, decode_boolean, decode_enumerated, decode_integer, decode_integer_at_least,
+    decode_integer_between, decode_object_identifier, decode_octet_string, decode_real,
+    decode_relative_identifier, decode_text, decode_time, decode_utf8_string,
+};
 use crate::list::decode_list;
 use crate::open_type::decode_enclosed;
-use crate::room::{keep, push};
+use crate::room::push;
 use crate::sequence::decode_sequence;
 use asn1_schema::{Member, Node, Part, Presence};
 use asn1_x691::FaultKind;
-use asn1_x691_fields::{
-    State, fail, next_bit, next_bit_string, next_enumerated, next_integer,
-    next_integer_at_least_by, next_integer_between_by, next_object_identifier, next_octet_string,
-    next_real, next_relative_identifier, next_text, next_time, next_utf8_string,
-};
+use asn1_x691_fields::{State, fail};
 
 /// Returns the type at a node.
 #[inline(always)]
@@ -33,23 +30,6 @@ fn node_at(nodes: &[Node], node: usize) -> Option<Node>
         Some(nodes[node])
     } else {
         None
-    }
-}
-
-/// Decodes a BOOLEAN (X.691 12).
-fn decode_boolean(context: &Context<'_>, node: usize, state: &mut State, parts: &mut [Part]) -> bool
-    requires size { 8 * length context.now.octets.now < 2 ^ 64 }
-    requires within { IsWithin (bits context.now.octets.now) state.old }
-    ensures moved { IsMoved (bits context.now.octets.now) state.old state.new }
-    ensures did { Outcome context.now (λ at. (leaf (anywhere (bit node)) Truth node at).encoding)
-        state.old state.new parts.old parts.new result }
-{
-    match next_bit(context.octets, node, state) {
-        None => false,
-        Some(bit) => {
-            push(parts, state, Part::Truth(bit));
-            true
-        }
     }
 }
 
@@ -175,93 +155,42 @@ pub(crate) fn decode_node(
                 bounds,
                 is_extensible,
             },
-        ) => {
-            let part = next_integer_between_by(
-                context.octets,
-                context.is_aligned,
-                bounds,
-                is_extensible,
-                node,
-                state,
-            );
-            keep(part, parts, state)
-        }
+        ) => decode_integer_between(context, bounds, is_extensible, node, state, parts),
         Some(
             Node::IntegerAtLeast {
                 bound,
                 is_extensible,
             },
-        ) => {
-            let part = next_integer_at_least_by(
-                context.octets,
-                context.is_aligned,
-                bound,
-                is_extensible,
-                node,
-                state,
-            );
-            keep(part, parts, state)
-        }
-        Some(Node::Integer) => keep(
-            next_integer(context.octets, context.is_aligned, node, state),
-            parts,
-            state,
-        ),
+        ) => decode_integer_at_least(context, bound, is_extensible, node, state, parts),
+        Some(Node::Integer) => decode_integer(context, node, state, parts),
         Some(
             Node::Enumerated {
                 last,
                 is_extensible,
                 additions,
             },
-        ) => {
-            let part = next_enumerated(
-                context.octets,
-                context.is_aligned,
-                last as usize,
-                is_extensible,
-                additions as usize,
-                node,
-                state,
-            );
-            keep(part, parts, state)
-        }
+        ) => decode_enumerated(context, last, is_extensible, additions, node, state, parts),
         Some(
             Node::BitString {
                 length,
                 is_extensible,
                 has_names,
             },
-        ) => {
-            let part = next_bit_string(
-                context.octets,
-                context.is_aligned,
-                length,
-                is_extensible,
-                has_names,
-                node,
-                state,
-            );
-            keep(part, parts, state)
-        }
+        ) => decode_bit_string(
+            context,
+            length,
+            is_extensible,
+            has_names,
+            node,
+            state,
+            parts,
+        ),
         Some(
             Node::OctetString {
                 length,
                 is_extensible,
             },
-        ) => {
-            keep(
-                next_octet_string(
-                    context.octets,
-                    context.is_aligned,
-                    length,
-                    is_extensible,
-                    node,
-                    state,
-                ),
-                parts,
-                state,
-            )
-        }
+        ) => decode_octet_string(context, length, is_extensible, node, state, parts),
         Some(
             Node::Text {
                 length,
@@ -269,44 +198,20 @@ pub(crate) fn decode_node(
                 alphabet,
                 whole,
             },
-        ) => {
-            let part = next_text(
-                context.octets,
-                context.is_aligned,
-                context.tables.ranges,
-                length,
-                is_extensible,
-                alphabet,
-                whole,
-                node,
-                state,
-            );
-            keep(part, parts, state)
-        }
-        Some(Node::ObjectIdentifier) => keep(
-            next_object_identifier(context.octets, context.is_aligned, node, state),
-            parts,
+        ) => decode_text(
+            context,
+            length,
+            is_extensible,
+            alphabet,
+            whole,
+            node,
             state,
-        ),
-        Some(Node::RelativeIdentifier) => keep(
-            next_relative_identifier(context.octets, context.is_aligned, node, state),
             parts,
-            state,
         ),
-        Some(Node::Utf8String) => keep(
-            next_utf8_string(context.octets, context.is_aligned, node, state),
-            parts,
-            state,
-        ),
-        Some(Node::Real) => keep(
-            next_real(context.octets, context.is_aligned, node, state),
-            parts,
-            state,
-        ),
-        Some(Node::Time { kind }) => keep(
-            next_time(context.octets, context.is_aligned, kind, node, state),
-            parts,
-            state,
-        ),
+        Some(Node::ObjectIdentifier) => decode_object_identifier(context, node, state, parts),
+        Some(Node::RelativeIdentifier) => decode_relative_identifier(context, node, state, parts),
+        Some(Node::Utf8String) => decode_utf8_string(context, node, state, parts),
+        Some(Node::Real) => decode_real(context, node, state, parts),
+        Some(Node::Time { kind }) => decode_time(context, kind, node, state, parts),
     }
 }

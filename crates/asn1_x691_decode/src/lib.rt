@@ -8,6 +8,7 @@ mod complete;
 mod context;
 mod decoder;
 mod laws;
+mod leaves;
 mod list;
 mod message;
 mod open_type;

@@ -15,6 +15,7 @@ use asn1_x691_fields::{
 };
 
 /// Decodes a SEQUENCE OF, or a SET OF.
+#[inline(never)]
 #[cycle(decoding)]
 pub(crate) fn decode_list(
     context: &Context<'_>,

@@ -16,6 +16,7 @@ use asn1_x691::FaultKind;
 use asn1_x691_fields::{State, fail, next_octets};
 
 /// Decodes an open type (X.691 11.2): octets that are a complete encoding, after their number.
+#[inline(never)]
 #[cycle(decoding)]
 pub(crate) fn decode_enclosed(
     context: &Context<'_>,
@@ -75,6 +76,7 @@ pub(crate) fn decode_complete(
 }
 
 /// Decodes a value that is not the default value of the component.
+#[inline(always)]
 #[cycle(decoding)]
 pub(crate) fn decode_value(
     context: &Context<'_>,
@@ -101,6 +103,7 @@ pub(crate) fn decode_value(
 }
 
 /// Decodes a value that is not a default value (X.691 19.5).
+#[inline(never)]
 #[cycle(decoding)]
 fn decode_other_than(
     context: &Context<'_>,

@@ -16,6 +16,7 @@ use asn1_x691::FaultKind;
 use asn1_x691_fields::{State, fail, next_bit, next_bits};
 
 /// Decodes a SEQUENCE (X.691 19).
+#[inline(never)]
 #[cycle(decoding)]
 pub(crate) fn decode_sequence(
     context: &Context<'_>,
@@ -68,6 +69,7 @@ pub(crate) fn decode_sequence(
 
 /// Decodes the root of a SEQUENCE: the bits that tell which components are present, and these
 /// (X.691 19.2 to 19.4).
+#[inline(never)]
 #[cycle(decoding)]
 pub(crate) fn decode_root(
     context: &Context<'_>,
@@ -100,6 +102,7 @@ pub(crate) fn decode_root(
 }
 
 /// Decodes components, of which bits tell whether they are present.
+#[inline(always)]
 #[cycle(decoding)]
 pub(crate) fn decode_components(
     context: &Context<'_>,
@@ -139,6 +142,7 @@ pub(crate) fn decode_components(
 }
 
 /// Decodes a component, where it is present.
+#[inline(always)]
 #[cycle(decoding)]
 pub(crate) fn decode_component(
     context: &Context<'_>,

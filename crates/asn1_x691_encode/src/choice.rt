@@ -16,6 +16,7 @@ use asn1_schema::{MisfitKind, Part, Rows};
 use asn1_x691_writers::{Writer, put_bit, put_constrained, reject};
 
 /// Encodes a CHOICE without an extension marker (X.691 23.6).
+#[inline(never)]
 #[cycle(encoding)]
 pub(crate) fn encode_choice(
     context: &Context<'_>,
@@ -38,6 +39,7 @@ pub(crate) fn encode_choice(
 }
 
 /// Encodes a CHOICE that has an extension marker (X.691 23.5 to 23.8).
+#[inline(never)]
 #[cycle(encoding)]
 pub(crate) fn encode_extensible_choice(
     context: &Context<'_>,

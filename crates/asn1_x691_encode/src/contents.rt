@@ -11,6 +11,7 @@ use asn1_schema::{MisfitKind, Part};
 use asn1_x691_writers::{ContentsKind, Writer, leave, put_contents, reject};
 
 /// Encodes octets of this kind (X.691 24, 25, 30.6).
+#[inline(never)]
 pub(crate) fn encode_contents(
     context: &Context<'_>,
     kind: ContentsKind,

@@ -19,6 +19,7 @@ use asn1_x691_writers::{
 };
 
 /// Encodes a BOOLEAN (X.691 12).
+#[inline(never)]
 pub(crate) fn encode_boolean(
     context: &Context<'_>,
     node: usize,
@@ -37,6 +38,7 @@ pub(crate) fn encode_boolean(
 }
 
 /// Encodes an INTEGER without bounds (X.691 13.2.4).
+#[inline(never)]
 pub(crate) fn encode_integer(
     context: &Context<'_>,
     node: usize,
@@ -65,6 +67,7 @@ pub(crate) fn encode_integer(
 }
 
 /// Encodes an INTEGER between two bounds (X.691 13.2.2).
+#[inline(never)]
 pub(crate) fn encode_between(
     context: &Context<'_>,
     bounds: Bounds,
@@ -97,6 +100,7 @@ pub(crate) fn encode_between(
 }
 
 /// Encodes an INTEGER with a least value (X.691 13.2.3).
+#[inline(never)]
 pub(crate) fn encode_at_least(
     context: &Context<'_>,
     bound: LowerBound,
@@ -129,6 +133,7 @@ pub(crate) fn encode_at_least(
 }
 
 /// Encodes an ENUMERATED (X.691 14).
+#[inline(never)]
 pub(crate) fn encode_enumerated(
     context: &Context<'_>,
     last: usize,
@@ -163,6 +168,7 @@ pub(crate) fn encode_enumerated(
 }
 
 /// Encodes a BIT STRING (X.691 16).
+#[inline(never)]
 pub(crate) fn encode_bits(
     context: &Context<'_>,
     size: Length,
@@ -197,6 +203,7 @@ pub(crate) fn encode_bits(
 }
 
 /// Encodes an OCTET STRING (X.691 17).
+#[inline(never)]
 pub(crate) fn encode_octets(
     context: &Context<'_>,
     size: Length,

@@ -18,6 +18,7 @@ use asn1_schema::{Length, MisfitKind, Part};
 use asn1_x691_writers::{Writer, is_of_root, put_bit, put_constrained, put_length, reject};
 
 /// Encodes a SEQUENCE OF or a SET OF (X.691 20, 22).
+#[inline(never)]
 #[cycle(encoding)]
 pub(crate) fn encode_list_by(
     context: &Context<'_>,

@@ -23,6 +23,7 @@ fn put_beginning(octets: &mut [u8], at: usize, is_aligned: bool) -> usize
 
 /// Encodes an open type that holds a value of the type at the node `inner`, which must not be the
 /// default one (X.691 11.2): octets that are its complete encoding, after their number.
+#[inline(never)]
 #[cycle(encoding)]
 pub(crate) fn encode_open_type(
     context: &Context<'_>,

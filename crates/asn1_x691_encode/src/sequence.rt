@@ -18,6 +18,7 @@ use asn1_schema::{Member, MisfitKind, Part, Presence, Rows};
 use asn1_x691_writers::{Writer, after, put_bit, put_zeros, reject, set_bit};
 
 /// Encodes a SEQUENCE without an extension marker (X.691 19.2 to 19.4).
+#[inline(never)]
 #[cycle(encoding)]
 pub(crate) fn encode_sequence(
     context: &Context<'_>,
@@ -46,6 +47,7 @@ pub(crate) fn encode_sequence(
 }
 
 /// Encodes a SEQUENCE that has an extension marker (X.691 19.1).
+#[inline(never)]
 #[cycle(encoding)]
 pub(crate) fn encode_extensible_sequence(
     context: &Context<'_>,

@@ -12,6 +12,7 @@ use asn1_schema::{Length, MisfitKind, Rows, TimeKind};
 use asn1_x691_writers::{Writer, put_text, put_time, reject};
 
 /// Encodes a string of characters (X.691 30.1 to 30.5).
+#[inline(never)]
 pub(crate) fn encode_text(
     context: &Context<'_>,
     size: Length,
@@ -50,6 +51,7 @@ pub(crate) fn encode_text(
 }
 
 /// Encodes a time of this kind (X.691 30, X.680 46, 47).
+#[inline(never)]
 pub(crate) fn encode_time(
     context: &Context<'_>,
     kind: TimeKind,

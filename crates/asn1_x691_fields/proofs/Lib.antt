@@ -2,3 +2,5 @@
 pub mod NumberLemmas
 pub mod AlphabetLemmas
 pub mod CompareSteps
+pub mod WordLemmas
+pub mod CodeLemmas

@@ -1,4 +1,4 @@
--- What the first bits of octets tell of the number that they spell.
+-- What the first bits of octets tell of the number that they encode.
 use Rattle.std.proofs.Common.{◌≡◌, ◌≢◌, ℕ, pos, negsuc, suc, ◌+◌, ◌-◌, ◌*◌, ◌^◌, ◌<◌, ◌≤◌, List, [], ◌∷◌, Bool, true, false, length, take, drop, ◌∙◌, ap, subst, inl, inr, arith}
 use Rattle.std.specs.Prelude.{◌⊎◌}
 use Rattle.std.proofs.Math.Nat.{pow-suc, mul-le-mul_right}

@@ -7,7 +7,7 @@ ghost use Rattle.asn1_x691.specs.Alphabets.{IsIn, HasCode, count_of as count_in,
 ghost use Rattle.asn1_x691_fields.specs.Characters.{IsAlphabet, AreAscending, rows_of, character_by};
 
 use crate::numbers::width_to;
-use crate::range_sums::{MOST_RANGES, fits, sums_of};
+use crate::range_sums::{fits, sums_of};
 use asn1_schema::{Range, Rows};
 
 /// An alphabet, and how its characters are encoded.
@@ -33,9 +33,20 @@ pub fn alphabet_of(ranges: &[Range], is_aligned: bool) -> Alphabet<'_>
     ensures ranges { result.ranges.now ≡ ranges.now }
     ensures variant { result.is_aligned ≡ is_aligned }
 {
-    if ranges.len() > MOST_RANGES {
+    if ranges.len() >= 1 << 32 {
         return alphabet_of_many(ranges, is_aligned);
     }
+    alphabet_of_few(ranges, is_aligned)
+}
+
+/// Returns the alphabet of fewer than 2^32 ranges.
+#[inline(always)]
+pub fn alphabet_of_few(ranges: &[Range], is_aligned: bool) -> Alphabet<'_>
+    requires { length ranges.now < 2 ^ 32 }
+    ensures is { IsAlphabet result }
+    ensures ranges { result.ranges.now ≡ ranges.now }
+    ensures variant { result.is_aligned ≡ is_aligned }
+{
     let sums = sums_of(ranges);
     let width = width_of(sums.count as u128, is_aligned);
     Alphabet {
@@ -68,6 +79,7 @@ fn alphabet_of_many(ranges: &[Range], is_aligned: bool) -> Alphabet<'_>
 }
 
 /// Returns rows of the table of ranges, those that it has.
+#[inline(always)]
 pub fn ranges_in(table: &[Range], rows: Rows) -> &[Range]
     ensures { result.now ≡ rows_of table.now rows }
 {
@@ -90,6 +102,7 @@ fn count_of(ranges: &[Range]) -> u128
 }
 
 /// Returns in how many bits one of so many characters is (X.691 30.5.2, 30.5.3).
+#[inline(always)]
 fn width_of(count: u128, is_aligned: bool) -> usize
     ensures value { result ≡ width_for is_aligned count }
     ensures most { result ≤ 128 }

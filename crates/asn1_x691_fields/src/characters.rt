@@ -5,15 +5,18 @@ ghost use Rattle.asn1_bits.specs.Bits.{bits, number as number_of};
 ghost use Rattle.asn1_schema.specs.Encodings.{Starts, number, anywhere, each};
 ghost use Rattle.asn1_schema.specs.PiecesOfParts.{bits_at};
 ghost use Rattle.asn1_x691.specs.declared.fault.FaultKind.TheVariants.{Short};
+ghost use Rattle.asn1_x691.specs.Alphabets.{width_of};
 ghost use Rattle.asn1_x691.specs.Characters.{character, characters};
+ghost use Rattle.asn1_x691_fields.specs.declared.alphabets.Alphabet as the_alphabet;
 ghost use Rattle.asn1_x691_fields.specs.Outcomes.{IsWithin, IsOnward, IsRead, rest};
 ghost use Rattle.asn1_x691_fields.specs.Characters.{IsAlphabet, character_by, characters_at};
 
-use crate::alphabets::{Alphabet, has_code};
+use crate::alphabets::{Alphabet, alphabet_of, has_code};
 use crate::bits::number_at;
-use crate::code_runs::are_codes;
+use crate::code_runs::are_quick_codes;
 use crate::state::{State, fail};
 use asn1_bits::read_wide;
+use asn1_schema::Range;
 use asn1_x691::FaultKind;
 
 /// Reads a code of `width` bits, at most 128.
@@ -71,8 +74,9 @@ fn next_character(
     Some(())
 }
 
-/// Reads so many characters whose codes are all of characters, and returns the index of the first
-/// bit. Reads nothing where there is a fault, or where a code has more than 57 bits.
+/// Reads so many characters, if it is quick to tell that their codes are all of characters. Returns the
+/// index of the first bit. Otherwise it reads nothing.
+#[inline(always)]
 fn next_codes(
     octets: &[u8],
     alphabet: &Alphabet<'_>,
@@ -88,13 +92,10 @@ fn next_codes(
     ensures read { (node : ℕ) → IfSome result (λ at. Starts (each (character alphabet.now.is_aligned alphabet.now.ranges.now node) count).encodes
         (rest (bits octets.now) state.old) (characters_at alphabet.now (bits octets.now) at count) (rest (bits octets.now) state.new)) }
 {
-    if alphabet.width > 57 {
-        return None;
-    }
     let at = state.at;
     match alphabet.width.checked_mul(count) {
         Some(size) if size <= state.end - at => {
-            if !are_codes(octets, alphabet, at, count) {
+            if !are_quick_codes(octets, alphabet, at, count) {
                 return None;
             }
             state.at = at + size;
@@ -105,6 +106,7 @@ fn next_codes(
 }
 
 /// Reads so many characters, and returns the index of the first bit.
+#[inline(always)]
 pub(crate) fn next_characters(
     octets: &[u8],
     alphabet: &Alphabet<'_>,
@@ -123,11 +125,39 @@ pub(crate) fn next_characters(
     if let Some(at) = next_codes(octets, alphabet, count, state) {
         return Some(at);
     }
-    next_each(octets, alphabet, count, node, state)
+    next_of_any(
+        octets,
+        alphabet.ranges,
+        alphabet.is_aligned,
+        count,
+        node,
+        state,
+    )
+}
+
+/// Reads so many characters of any alphabet, and returns the index of the first bit.
+#[inline(never)]
+fn next_of_any(
+    octets: &[u8],
+    ranges: &[Range],
+    is_aligned: bool,
+    count: usize,
+    node: usize,
+    state: &mut State,
+) -> Option<usize>
+    requires size { 8 * length octets.now < 2 ^ 64 }
+    requires within { IsWithin (bits octets.now) state.old }
+    ensures onward { IsOnward (bits octets.now) state.old state.new }
+    ensures inside { IfSome result (λ at. at + width_of is_aligned ranges.now * count ≤ 8 * length octets.now) }
+    ensures read { (a : the_alphabet.Alphabet) → IsAlphabet a → a.ranges.now ≡ ranges.now → a.is_aligned ≡ is_aligned
+        → IsRead (characters is_aligned ranges.now node count) (λ at. characters_at a (bits octets.now) at count)
+        (bits octets.now) state.old state.new result }
+{
+    let alphabet = alphabet_of(ranges, is_aligned);
+    next_each(octets, &alphabet, count, node, state)
 }
 
 /// Reads so many characters one after another, and returns the index of the first bit.
-#[cold]
 fn next_each(
     octets: &[u8],
     alphabet: &Alphabet<'_>,

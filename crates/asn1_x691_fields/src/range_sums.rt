@@ -7,9 +7,6 @@ ghost use Rattle.asn1_x691_fields.specs.Characters.{AreAscending};
 
 use asn1_schema::Range;
 
-/// The greatest number of ranges whose characters are counted in 64 bits: each has at most 2^32 of them.
-pub(crate) const MOST_RANGES: usize = 1048576;
-
 /// What all ranges of an alphabet tell together.
 #[derive(Clone, Copy, Debug)]
 pub(crate) struct RangeSums {
@@ -21,11 +18,11 @@ pub(crate) struct RangeSums {
     pub(crate) are_ascending: bool,
 }
 
-/// Returns what ranges tell together.
+/// Returns what ranges tell together. Each has at most 2^32 characters, so there are fewer than 2^64.
+#[inline(always)]
 pub(crate) fn sums_of(ranges: &[Range]) -> RangeSums
-    requires { length ranges.now ≤ 1048576 }
+    requires { length ranges.now < 2 ^ 32 }
     ensures count { result.count ≡ count_of ranges.now }
-    ensures few { result.count ≤ 2 ^ 52 }
     ensures end { result.end ≡ end_of ranges.now }
     ensures small { (c : ℕ) → IsIn ranges.now c → c < 2 ^ 32 }
     ensures ascending { result.are_ascending ≡ true → AreAscending 0 ranges.now }
@@ -47,6 +44,7 @@ pub(crate) fn sums_of(ranges: &[Range]) -> RangeSums
 }
 
 /// Returns whether each number below an end has at most `width` bits.
+#[inline(always)]
 pub(crate) fn fits(end: u64, width: usize) -> bool
     ensures yes { result ≡ true → end ≤ 2 ^ width }
     ensures no { result ≡ false → 2 ^ width < end }

@@ -19,6 +19,7 @@ use asn1_schema::Length;
 use asn1_x691::FaultKind;
 
 /// Reads characters of a number of the root. Returns their number, and the index of the first bit.
+#[inline(always)]
 pub(crate) fn next_text_of(
     octets: &[u8],
     alphabet: &Alphabet<'_>,
@@ -51,6 +52,7 @@ pub(crate) fn next_text_of(
 
 /// Reads the number of the characters, which has no fragment, and the characters. Returns the number, and
 /// the index of the first bit.
+#[inline(always)]
 fn next_counted_characters(
     octets: &[u8],
     alphabet: &Alphabet<'_>,
@@ -77,6 +79,7 @@ fn next_counted_characters(
 }
 
 /// Reads characters after their number, which is not below the least (X.691 30.5.7).
+#[inline(always)]
 pub(crate) fn next_long_text(
     octets: &[u8],
     alphabet: &Alphabet<'_>,
@@ -127,6 +130,7 @@ pub(crate) fn next_added_text(
 
 /// Reads characters whose number has an upper bound: where it is not fixed, it precedes them
 /// (X.691 30.5.6, 30.5.7).
+#[inline(always)]
 fn next_sized_text(
     octets: &[u8],
     alphabet: &Alphabet<'_>,
@@ -152,6 +156,7 @@ fn next_sized_text(
 
 /// Reads so many characters. They begin at an octet in the ALIGNED variant, unless there are none or
 /// they have few bits (X.691 30.5.6, 30.5.7).
+#[inline(always)]
 fn next_characters_of(
     octets: &[u8],
     alphabet: &Alphabet<'_>,
@@ -178,6 +183,7 @@ fn next_characters_of(
 
 /// Returns whether so many characters of `width` bits, of a size from `least` to `least + range`, begin
 /// where they are, and not at an octet in the ALIGNED variant (X.691 30.5.6, 30.5.7).
+#[inline(always)]
 pub fn is_inline_text(width: usize, least: usize, range: usize, count: usize) -> bool
     requires width { width ≤ 128 }
     ensures is { result ≡ true → IsInlineText width least range count }

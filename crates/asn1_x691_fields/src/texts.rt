@@ -1,6 +1,6 @@
 //! Strings of characters of known alphabets (X.691 30.1 to 30.5).
 
-ghost use Rattle.std.specs.Prelude.{◌≡◌, ◌<◌, ◌^◌, ◌*◌, ◌∷◌, [], List, Bool, length};
+ghost use Rattle.std.specs.Prelude.{◌≡◌, ◌<◌, ◌^◌, ◌*◌, ◌∷◌, [], List, Bool, true, length};
 ghost use Rattle.asn1_bits.specs.Bits.{bits};
 ghost use Rattle.asn1_schema.specs.declared.tables.Range as the_range;
 ghost use Rattle.asn1_schema.specs.Pieces.{Text};
@@ -11,21 +11,20 @@ ghost use Rattle.asn1_x691.specs.Leaves.{text as text_in};
 ghost use Rattle.asn1_x691_fields.specs.Outcomes.{IsWithin, IsOnward, IsRead, IsPlaced};
 ghost use Rattle.asn1_x691_fields.specs.Characters.{rows_of, characters_at, codes_by};
 
-use crate::alphabets::{Alphabet, alphabet_of, ranges_in};
+use crate::alphabets::{Alphabet, alphabet_of_few, ranges_in};
 use crate::heads::next_bit;
 use crate::sized_texts::{next_added_text, next_text_of};
 use crate::state::State;
 use asn1_schema::{Characters, Codes, Length, Part, Range, Rows};
 
-/// Reads a string of characters by its size constraint and its alphabet, which are rows of a table
-/// of ranges. A size that is none of the root goes with the alphabet of the whole type (X.691 30.4,
+/// Reads a string of characters whose size constraint has an extension marker. Its alphabet is rows of a
+/// table of ranges. A size that is none of the root goes with the alphabet of the whole type (X.691 30.4,
 /// 30.5).
-pub fn next_text(
+pub fn next_extensible_text(
     octets: &[u8],
     is_aligned: bool,
     table: &[Range],
     size: Length,
-    is_extensible: bool,
     alphabet: Rows,
     whole: Rows,
     node: usize,
@@ -35,12 +34,9 @@ pub fn next_text(
     requires within { IsWithin (bits octets.now) state.old }
     requires placed { IsPlaced is_aligned state.old }
     ensures onward { IsOnward (bits octets.now) state.old state.new }
-    ensures read { IsRead (λ at. (text_in 0 is_aligned node size is_extensible (rows_of table.now alphabet) (rows_of table.now whole) at).encoding)
+    ensures read { IsRead (λ at. (text_in 0 is_aligned node size true (rows_of table.now alphabet) (rows_of table.now whole) at).encoding)
         (λ p. piece_of table.now (bits octets.now) p ∷ []) (bits octets.now) state.old state.new result }
 {
-    if !is_extensible {
-        return next_text_of_root(octets, is_aligned, table, size, alphabet, node, state);
-    }
     let is_added = next_bit(octets, node, state)?;
     next_text_by_bit(
         octets, is_aligned, table, size, is_added, alphabet, whole, node, state,
@@ -48,6 +44,7 @@ pub fn next_text(
 }
 
 /// Reads characters after the extension bit.
+#[inline(never)]
 fn next_text_by_bit(
     octets: &[u8],
     is_aligned: bool,
@@ -73,8 +70,10 @@ fn next_text_by_bit(
     next_text_of_root(octets, is_aligned, table, size, alphabet, node, state)
 }
 
-/// Reads characters of a number of the root.
-fn next_text_of_root(
+/// Reads characters of a number of the root, by their alphabet, which is rows of a table of ranges
+/// (X.691 30.5).
+#[inline(always)]
+pub fn next_text_of_root(
     octets: &[u8],
     is_aligned: bool,
     table: &[Range],
@@ -90,12 +89,13 @@ fn next_text_of_root(
     ensures read { IsRead (λ at. (leaf (text_of 0 is_aligned (rows_of table.now rows) node size) Text node at).encoding)
         (λ p. piece_of table.now (bits octets.now) p ∷ []) (bits octets.now) state.old state.new result }
 {
-    let alphabet = alphabet_of(ranges_in(table, rows), is_aligned);
+    let alphabet = alphabet_of_few(ranges_in(table, rows), is_aligned);
     let (count, at) = next_text_of(octets, &alphabet, size, node, state)?;
     Some(part_of(&alphabet, rows, count, at))
 }
 
 /// Reads characters of a number that is none of the root (X.691 30.4).
+#[inline(never)]
 fn next_text_of_addition(
     octets: &[u8],
     is_aligned: bool,
@@ -112,12 +112,13 @@ fn next_text_of_addition(
     ensures read { IsRead (λ at. (leaf (added_text 0 is_aligned (rows_of table.now rows) node size) Text node at).encoding)
         (λ p. piece_of table.now (bits octets.now) p ∷ []) (bits octets.now) state.old state.new result }
 {
-    let alphabet = alphabet_of(ranges_in(table, rows), is_aligned);
+    let alphabet = alphabet_of_few(ranges_in(table, rows), is_aligned);
     let (count, at) = next_added_text(octets, &alphabet, size, node, state)?;
     Some(part_of(&alphabet, rows, count, at))
 }
 
 /// Returns the part of so many characters from bit `at` on, whose alphabet is rows of a table.
+#[inline(always)]
 fn part_of(alphabet: &Alphabet<'_>, rows: Rows, count: usize, at: usize) -> Part
     ensures { (table : List the_range.Range) (list : List Bool) → alphabet.now.ranges.now ≡ rows_of table rows
         → piece_of table list result ≡ Text (characters_at alphabet.now list at count) }
@@ -131,6 +132,7 @@ fn part_of(alphabet: &Alphabet<'_>, rows: Rows, count: usize, at: usize) -> Part
 }
 
 /// Returns what codes tell, that are numbers, or indices among rows of a table.
+#[inline(always)]
 fn codes_of(are_numbers: bool, rows: Rows) -> Codes
     ensures { result ≡ codes_by are_numbers rows }
 {

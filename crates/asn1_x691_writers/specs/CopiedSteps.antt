@@ -1,5 +1,5 @@
 -- What follows of characters whose codes are those of an alphabet.
-use Rattle.std.proofs.Common.{◌≡◌, ℕ, zero, suc, ◌+◌, ◌*◌, ◌≤◌, Bool, true, false, List, [], ◌∷◌, length, map, take, drop, sym, ◌∙◌, ap, subst, arith}
+use Rattle.std.proofs.Common.{◌≡◌, refl, ℕ, zero, suc, ◌+◌, ◌*◌, ◌≤◌, Bool, true, false, List, [], ◌∷◌, length, map, take, drop, sym, ◌∙◌, ap, subst, arith}
 use Rattle.std.proofs.lemmas.List.{length-drop}
 use Rattle.asn1_bits.specs.Bits.{bits}
 use Rattle.asn1_bits.specs.DigitLaws.{length-bits}
@@ -14,7 +14,7 @@ use Rattle.asn1_x691.specs.Characters.{character}
 use Rattle.asn1_x691_fields.specs.declared.alphabets.Alphabet.{Alphabet}
 use Rattle.asn1_x691_fields.specs.Characters.{IsAlphabet, AreCodes, rows_of, character_by, characters_at}
 use Rattle.asn1_x691_fields.specs.TextSteps.{codes_encode}
-use Rattle.asn1_x691_writers.specs.Copied.{AreCopied}
+use Rattle.asn1_x691_writers.specs.Copied.{AreCopied, HaveCodesOf}
 use Rattle.asn1_x691_writers.specs.Texts.{AreIn}
 
 -- codes of the alphabet are of characters in it
@@ -39,6 +39,11 @@ module _ (a : Alphabet) (table : List Range) (list : List Bool) (text : Characte
   same_indices rows is e ranges =
       same_width (Indices rows) is ∙ ap (λ (r : List Range). map (character_at r) numbers) ranges
       ∙ sym (ap (λ (b : Bool). map (character_by b a.ranges.now) numbers) e)
+
+  pub same_codes : (codes : Codes) → text.codes ≡ codes → HaveCodesOf a table codes
+      → characters_of table list text ≡ characters_at a list text.at text.count
+  same_codes Numbers is h = same_numbers is h
+  same_codes (Indices rows) is h = same_indices rows is h.0 h.1
 
 module _ (a : Alphabet) (source : List ℕ) (table : List Range) (text : Characters) (c : AreCopied a source table text) where
   pub copied_in : AreIn a.ranges.now (characters_of table (bits source) text)

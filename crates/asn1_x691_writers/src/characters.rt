@@ -9,11 +9,11 @@ ghost use Rattle.asn1_schema.specs.Encodings.{anywhere};
 ghost use Rattle.asn1_x691.specs.Alphabets.{IsIn};
 ghost use Rattle.asn1_x691.specs.Characters.{character as character_in, characters};
 ghost use Rattle.asn1_x691_fields.specs.Characters.{IsAlphabet};
+ghost use Rattle.asn1_x691_writers.specs.Copied.{AreCopied};
 ghost use Rattle.asn1_x691_writers.specs.Texts.{AreIn};
 ghost use Rattle.asn1_x691_writers.specs.Written.{IsWritten};
 
 use crate::bits::{put_bits, put_wide, read_few};
-use crate::copied::are_copied;
 use crate::held::strip_zeros;
 use crate::spans::clip;
 use asn1_bits::read_wide;
@@ -135,19 +135,21 @@ impl NumberSource for PartCharacters<'_> {
     }
 }
 
-/// Returns whether all characters of a part are in an alphabet.
+/// Returns whether all characters of a part are in an alphabet. `is_copied` tells that they have its codes.
 pub(crate) fn are_in(
     alphabet: &Alphabet<'_>,
     source: &[u8],
     table: &[Range],
     text: Characters,
+    is_copied: bool,
 ) -> bool
     requires source { 8 * length source.now < 2 ^ 64 }
     requires is { IsAlphabet alphabet.now }
+    requires copied { is_copied ≡ true → AreCopied alphabet.now source.now table.now text }
     ensures yes { result ≡ true → AreIn alphabet.now.ranges.now (characters_of table.now (bits source.now) text) }
     ensures no { result ≡ false → AreIn alphabet.now.ranges.now (characters_of table.now (bits source.now) text) → ⊥ }
 {
-    if are_copied(alphabet, source, table, text) {
+    if is_copied {
         return true;
     }
     let mut left = text;
@@ -172,8 +174,9 @@ fn put_character(octets: &mut [u8], at: usize, alphabet: &Alphabet<'_>, characte
     put_wide(octets, at, code_of(alphabet, character), alphabet.width)
 }
 
-/// Writes the characters of a part, which are in the alphabet, by their codes. Returns the index
-/// after them.
+/// Writes the characters of a part, which are in the alphabet, by their codes. `is_copied` tells that they
+/// have these codes. Returns the index after them.
+#[inline(always)]
 pub(crate) fn put_characters(
     octets: &mut [u8],
     at: usize,
@@ -181,15 +184,17 @@ pub(crate) fn put_characters(
     source: &[u8],
     table: &[Range],
     text: Characters,
+    is_copied: bool,
 ) -> usize
     requires size { 8 * length octets.old < 2 ^ 64 }
     requires source { 8 * length source.now < 2 ^ 64 }
     requires is { IsAlphabet alphabet.now }
     requires within { AreIn alphabet.now.ranges.now (characters_of table.now (bits source.now) text) }
+    requires copied { is_copied ≡ true → AreCopied alphabet.now source.now table.now text }
     ensures { (node : ℕ) → IsWritten alphabet.now.is_aligned (characters alphabet.now.is_aligned alphabet.now.ranges.now node text.count)
         (characters_of table.now (bits source.now) text) octets.old at octets.new result }
 {
-    if are_copied(alphabet, source, table, text) {
+    if is_copied {
         let size = alphabet.width * text.count;
         return put_bits(octets, at, source, text.at, size);
     }
@@ -198,6 +203,7 @@ pub(crate) fn put_characters(
 
 /// Writes the characters of a part, which are in the alphabet, one after another by their codes.
 /// Returns the index after them.
+#[inline(never)]
 fn put_each(
     octets: &mut [u8],
     at: usize,

@@ -15,15 +15,17 @@ ghost use Rattle.asn1_x691_writers.specs.Put.{IsPut, piece_in};
 
 use crate::booleans::put_bit;
 use crate::characters::are_in;
+use crate::copied::{are_copied, are_quickly_copied};
 use crate::sized_strings::is_of_root;
-use crate::sized_texts::{put_added_text, put_text_of};
+use crate::sized_texts::{put_added_text, put_copied_text, put_text_of};
 use crate::state::{Writer, reject};
 use asn1_schema::{Characters, Length, MisfitKind, Part, Range, Rows};
-use asn1_x691_fields::{alphabet_of, ranges_in};
+use asn1_x691_fields::{alphabet_of_few, ranges_in};
 
 /// Writes a string of characters by its size constraint and its alphabet, which are rows of a table
 /// of ranges. A size that is none of the root goes with the alphabet of the whole type (X.691 30.4,
 /// 30.5).
+#[inline(always)]
 pub fn put_text(
     octets: &mut [u8],
     is_aligned: bool,
@@ -58,6 +60,7 @@ pub fn put_text(
 }
 
 /// Writes characters of a type without an extension marker.
+#[inline(always)]
 fn put_text_of_root(
     octets: &mut [u8],
     is_aligned: bool,
@@ -77,15 +80,48 @@ fn put_text_of_root(
     if !is_of_root(size, text.count) {
         return reject(state, node, MisfitKind::NoEncoding);
     }
-    let alphabet = alphabet_of(ranges_in(table, rows), is_aligned);
-    if !are_in(&alphabet, source, table, text) {
+    let alphabet = alphabet_of_few(ranges_in(table, rows), is_aligned);
+    if text.count < 16384 && are_quickly_copied(&alphabet, rows, source, table, text) {
+        state.at = put_copied_text(octets, state.at, &alphabet, size, source, table, text);
+        return true;
+    }
+    put_any_text_of_root(
+        octets, is_aligned, table, size, rows, source, text, node, state,
+    )
+}
+
+/// Writes characters of a number of the root, whatever their codes.
+#[inline(never)]
+fn put_any_text_of_root(
+    octets: &mut [u8],
+    is_aligned: bool,
+    table: &[Range],
+    size: Length,
+    rows: Rows,
+    source: &[u8],
+    text: Characters,
+    node: usize,
+    state: &mut Writer,
+) -> bool
+    requires size { 8 * length octets.old < 2 ^ 64 }
+    requires source { 8 * length source.now < 2 ^ 64 }
+    requires root { IsOfRoot size text.count }
+    ensures { IsPut is_aligned (leaf (text_of most_fragments is_aligned (rows_of table.now rows) node size) Text node)
+        (Text (characters_of table.now (bits source.now) text)) octets.old state.old octets.new state.new result }
+{
+    let alphabet = alphabet_of_few(ranges_in(table, rows), is_aligned);
+    let is_copied = are_copied(&alphabet, source, table, text);
+    if !are_in(&alphabet, source, table, text, is_copied) {
         return reject(state, node, MisfitKind::NoEncoding);
     }
-    state.at = put_text_of(octets, state.at, &alphabet, size, source, table, text);
+    state.at = put_text_of(
+        octets, state.at, &alphabet, size, source, table, text, is_copied,
+    );
     true
 }
 
 /// Writes characters of a type with an extension marker.
+#[inline(never)]
 fn put_text_by_bit(
     octets: &mut [u8],
     is_aligned: bool,
@@ -132,12 +168,15 @@ fn put_text_after_zero(
         (text_in most_fragments is_aligned node size true (rows_of table.now rows) whole)
         (Text (characters_of table.now (bits source.now) text)) octets.old state.old octets.new state.new result }
 {
-    let alphabet = alphabet_of(ranges_in(table, rows), is_aligned);
-    if !are_in(&alphabet, source, table, text) {
+    let alphabet = alphabet_of_few(ranges_in(table, rows), is_aligned);
+    let is_copied = are_copied(&alphabet, source, table, text);
+    if !are_in(&alphabet, source, table, text, is_copied) {
         return reject(state, node, MisfitKind::NoEncoding);
     }
     let after = put_bit(octets, state.at, false);
-    state.at = put_text_of(octets, after, &alphabet, size, source, table, text);
+    state.at = put_text_of(
+        octets, after, &alphabet, size, source, table, text, is_copied,
+    );
     true
 }
 
@@ -161,11 +200,12 @@ fn put_text_after_one(
         (text_in most_fragments is_aligned node size true root (rows_of table.now rows))
         (Text (characters_of table.now (bits source.now) text)) octets.old state.old octets.new state.new result }
 {
-    let alphabet = alphabet_of(ranges_in(table, rows), is_aligned);
-    if !are_in(&alphabet, source, table, text) {
+    let alphabet = alphabet_of_few(ranges_in(table, rows), is_aligned);
+    let is_copied = are_copied(&alphabet, source, table, text);
+    if !are_in(&alphabet, source, table, text, is_copied) {
         return reject(state, node, MisfitKind::NoEncoding);
     }
     let after = put_bit(octets, state.at, true);
-    state.at = put_added_text(octets, after, &alphabet, source, table, text);
+    state.at = put_added_text(octets, after, &alphabet, source, table, text, is_copied);
     true
 }

@@ -11,6 +11,7 @@ ghost use Rattle.asn1_x691.specs.Leaves.{time};
 ghost use Rattle.asn1_x691_writers.specs.Put.{IsPut, piece_in};
 
 use crate::characters::{PartCharacters, are_in};
+use crate::copied::are_copied;
 use crate::sized_texts::put_text_of;
 use crate::state::{Writer, reject};
 use asn1_schema::{Characters, Length, MisfitKind, Part, Range, TimeKind, is_time};
@@ -69,7 +70,8 @@ fn put_characters_of_time(
         return reject(state, node, MisfitKind::NoEncoding);
     }
     let alphabet = visible(is_aligned);
-    if !are_in(&alphabet, source, table, text) {
+    let is_copied = are_copied(&alphabet, source, table, text);
+    if !are_in(&alphabet, source, table, text, is_copied) {
         return reject(state, node, MisfitKind::NoEncoding);
     }
     state.at = put_text_of(
@@ -80,6 +82,7 @@ fn put_characters_of_time(
         source,
         table,
         text,
+        is_copied,
     );
     true
 }

@@ -46,7 +46,7 @@ invalid_sound {X = X} kind node = record {
   inside = λ list e p. at_inside kind node list e p;
 }
 
--- the digits of a number in front of a list are so many
+-- the digits of a number before a list are so many
 pub number_size : (width : ℕ) (list : List Bool) (n : ℕ) (rest : List Bool) → (s : Starts (IsNumber width) list n rest)
     → length s.front ≡ width
 number_size width list n rest s = ap length s.encoded.1 ∙ length-digits n width
@@ -78,7 +78,7 @@ number_sound width short node = record {
   inside = λ list e p. at_inside _ node list e p.1;
 }
 
--- a rule whose faults are those of a part, each of a kind of its own, in front of it
+-- a rule whose faults are those of a part, each of a kind of its own, before it
 pub at_front_sound : {K X F : Type 0} (P : X → List Bool → Type 0) (W : List Bool → F → Type 0) (kind : F → K) (node : ℕ)
     → DecodesOne P → NamesFault P W
     → IsSound (record { encodes = P; fault = λ list e. (f : F) × W list f × IsAt (kind f) node list e })

@@ -77,7 +77,7 @@ module _ {K X : Type 0} (A : ℕ → Encoding K X) (is : X → Piece) (B : X →
   abbrev W : Parts → Misfit → Type 0
   W tape e = (part A is B node at).misfit tape e
 
-  -- what is wrong with the value's part, or with those after it
+  -- the fault of the part of the value, or of those after it
   abbrev V : X → Parts → Parts → Misfit → Type 0
   V x tape rest e =
       (¬ (CanEncode (A at).encodes x) × IsAtPart NoEncoding node tape e)
@@ -270,7 +270,7 @@ module _ {K : Type 0} (A : ℕ → TypeEncoding K) (B : List Bool → ℕ → Ty
   begin : (tape zs rest : Parts) (l : List Bool) (r : T zs l) → tape ≡ zs ++ rest → tape ≡ r.value.0 ++ (r.after ++ rest)
   begin tape zs rest l r s = s ∙ ap (λ (ys : Parts). ys ++ rest) r.is ∙ append_assoc r.value.0 r.after rest
 
-  -- the second value as its bits in front tell it
+  -- the second value as its bits before tell it
   told : (zs : Parts) (l : List Bool) (r : T zs l) → (B r.front (at + length r.front)).encoding.encodes r.after r.rest
   told zs l r = subst (λ (k : List Bool). (B k (at + length r.front)).encoding.encodes r.after r.rest) (sym r.first.1) r.second
 

@@ -70,7 +70,7 @@ pub made : (P : Parts → List Bool → Type 0) (tape xs rest : Parts) (l : List
     → AfterParts P (λ k r. ⊤) tape
 made P tape xs rest l p s = record { parts = xs; list = l; rest = rest; encodes = p; are = s; holds = tt }
 
--- what holds after parts in front holds after any that are
+-- what holds after parts before holds after any that are
 pub moved_parts : (P : Parts → List Bool → Type 0) (W : Parts → Misfit → Type 0) → EncodesUniquely P W
     → (V : List Bool → Parts → Type 0) (tape xs rest : Parts) (a : List Bool) → AfterParts P V tape → P xs a → tape ≡ xs ++ rest
     → V a rest

@@ -24,13 +24,14 @@ use Rattle.asn1_x690.specs.declared.tables.CharacterSize.TheVariants.{One, Two, 
 use Rattle.asn1_x690.specs.declared.tables.TypeTags.{TypeTags}
 use Rattle.asn1_x690.specs.declared.tables.FirstTags.{FirstTags}
 use Rattle.asn1_x690.specs.Elements.{any_element}
-use Rattle.asn1_x690.specs.TypeContents.{TypeContents, ToldContents, ByHeader, only_value, present, to_end, told}
+use Rattle.asn1_x690.specs.TypeContents.{TypeContents, ToldContents, ByHeader, only_value, present, prefixed, to_end, told}
 use Rattle.asn1_x690.specs.Leaves.{IsObjectIdentifier, IsRelativeIdentifier, IsUtf8Text, IsBoolean, IsNull, IsInteger, IsEnumerated, IsBitString, AreOctets, IsKept, width_of, AreCharacters, IsTimeText, HasSize, IsBetween, IsAtLeast, AreTrimmed, AreSized, IsText, IsPermittedValue, leaf_of}
-use Rattle.asn1_x690.specs.Der.{Context, rows_of, no_type, element, any_value, primitive, constructed, around, tagged, HasTag, BeginsWith, always, value_by, optional, component_by, component, components, addition, additions, unknown_additions, extension, sequence_by, in_order, sequence_of, alternative, alternatives, choice_by, leaf, structured, enumerated, type_by, type_if, type_of, type_at, encoding_at}
+use Rattle.asn1_x690.specs.Der.{Context, rows_of, no_type, element, any_value, primitive, constructed, around, tagged, HasTag, BeginsWith, always, value_by, optional, component_by, component, components, group, addition_by, addition, additions, unknown_additions, extension, sequence_by, in_order, sequence_of, alternative, alternatives, choice_by, leaf, structured, enumerated, type_by, type_if, type_of, type_at, encoding_at}
 use Rattle.asn1_x690.specs.Laws.ElementLaws.{any_element_sound, any_element_one, element_some, contents_fewer}
 use Rattle.asn1_x690.specs.Laws.HeadedLaws.{IsGoodContents, IsGoodByHeader, headed_good, headed_present, invalid_header_good, only_header_good, any_header_good, NeverBegins, either_good}
 use Rattle.asn1_x690.specs.Laws.TypeContentsLaws.{IsGoodTold, only_value_good, told_good}
 use Rattle.asn1_x690.specs.Laws.ToldLaws.{TakeBits, invalid_told_good, nothing_more_good, present_good, present_some, present_present, required_good, perhaps_good}
+use Rattle.asn1_x690.specs.Laws.GroupLaws.{prefixed_good, prefixed_present}
 use Rattle.asn1_x690.specs.Laws.EndLaws.{to_end_good, renamed_good, some_or_none_good}
 use Rattle.asn1_x690.specs.Laws.LeafLaws.{OneToOne, leaf_of_good, boolean_one, null_one, integer_one, enumerated_one, enumerated_present, bit_string_one, octets_one, kept_one, characters_one, time_one}
 
@@ -140,11 +141,24 @@ module _ (E : ℕ → ByHeader FaultKind Identifier) (e : (n : ℕ) → IsGoodBy
       component_good (slice_get context.members from) (slice_get context.firsts from) (components E context node count (from + 1) F)
       (components_good count (from + 1) F f)
 
+  group_good : (first : FirstTags) (rows : Rows) (F : ToldContents FaultKind ℕ) → IsGoodTold F → IsGoodTold (group E context node first rows F)
+  group_good first rows F f =
+      let G = components E context node rows.count rows.from F in
+      perhaps_good (BeginsWith context.tags first) node (prefixed (Sequence rows.count false) node G) F
+      (prefixed_good (Sequence rows.count false) node G (components_good rows.count rows.from F f)) f
+      (prefixed_present (Sequence rows.count false) node G (λ e. cc))
+
+  addition_by_good : (rows : Option Rows) (first : FirstTags) (A : TypeEncoding FaultKind) (F : ToldContents FaultKind ℕ) → IsValue A
+      → IsGoodTold F → IsGoodTold (addition_by E context node rows first A F)
+  addition_by_good None first A F a f = optional_good (Some first) A F a f
+  addition_by_good (Some rows) first A F a f = group_good first rows F f
+
   addition_good : (m : Option Member) (first : Option FirstTags) (F : ToldContents FaultKind ℕ) → IsGoodTold F
       → IsGoodTold (addition E context node m first F)
   addition_good None first F f = invalid_told_good NoNode misfit.NoNode node
-  addition_good (Some m) first F f =
-      optional_good first (value_by E context node m.presence (element m.node (E m.node))) F (member_value m) f
+  addition_good (Some m) None F f = invalid_told_good NoNode misfit.NoNode node
+  addition_good (Some m) (Some first) F f =
+      addition_by_good first.group first (value_by E context node m.presence (element m.node (E m.node))) F (member_value m) f
 
   additions_good : (count from : ℕ) (F : ToldContents FaultKind ℕ) → IsGoodTold F → IsGoodTold (additions E context node count from F)
   additions_good zero from F f = f

@@ -1,5 +1,5 @@
 -- Law of whole octets: the contents of an element are whole octets.
-use Rattle.std.proofs.Common.{◌≡◌, ℕ, ◌*◌, ◌%◌, Bool, List, length, ap, arith}
+use Rattle.std.proofs.Common.{◌≡◌, ℕ, ◌%◌, Bool, List, length, ap, arith}
 use Rattle.asn1_x690.specs.declared.tables.Identifier.{Identifier}
 use Rattle.asn1_x690.specs.Elements.{contents_after, any_element}
 

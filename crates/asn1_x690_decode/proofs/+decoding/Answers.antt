@@ -22,14 +22,14 @@ element::decode_element-returns-in-Some-clause-did = elements.decode_element-ret
 pub tagged::decode_by_tags-returns-else-not-is_identifier-2-clause-did : goal.tagged::decode_by_tags-returns-else-not-is_identifier-2-clause-did
 tagged::decode_by_tags-returns-else-not-is_identifier-2-clause-did = tagged.decode_by_tags-returns-else-not-is_identifier-2-clause-did
 
-pub tagged::decode_in_tag-returns-then-not-is_decoded-clause-did : goal.tagged::decode_in_tag-returns-then-not-is_decoded-clause-did
-tagged::decode_in_tag-returns-then-not-is_decoded-clause-did = tagged.decode_in_tag-returns-then-not-is_decoded-clause-did
+pub tagged::decode_in_tag_of-returns-then-not-is_decoded-clause-did : goal.tagged::decode_in_tag_of-returns-then-not-is_decoded-clause-did
+tagged::decode_in_tag_of-returns-then-not-is_decoded-clause-did = tagged.decode_in_tag_of-returns-then-not-is_decoded-clause-did
 
-pub tagged::decode_in_tag-returns-then-state-end-clause-did : goal.tagged::decode_in_tag-returns-then-state-end-clause-did
-tagged::decode_in_tag-returns-then-state-end-clause-did = tagged.decode_in_tag-returns-then-state-end-clause-did
+pub tagged::decode_in_tag_of-returns-then-state-end-clause-did : goal.tagged::decode_in_tag_of-returns-then-state-end-clause-did
+tagged::decode_in_tag_of-returns-then-state-end-clause-did = tagged.decode_in_tag_of-returns-then-state-end-clause-did
 
-pub tagged::decode_in_tag-returns-else-state-end-clause-did : goal.tagged::decode_in_tag-returns-else-state-end-clause-did
-tagged::decode_in_tag-returns-else-state-end-clause-did = tagged.decode_in_tag-returns-else-state-end-clause-did
+pub tagged::decode_in_tag_of-returns-else-state-end-clause-did : goal.tagged::decode_in_tag_of-returns-else-state-end-clause-did
+tagged::decode_in_tag_of-returns-else-state-end-clause-did = tagged.decode_in_tag_of-returns-else-state-end-clause-did
 
 pub tagged::decode_bare-returns-then-of-clause-did : goal.tagged::decode_bare-returns-then-of-clause-did
 tagged::decode_bare-returns-then-of-clause-did = tagged.decode_bare-returns-then-of-clause-did
@@ -82,11 +82,11 @@ sequence::decode_members-returns-then-not-decode_member-clause-did = sequences.d
 pub sequence::decode_members-returns-clause-did : goal.sequence::decode_members-returns-clause-did
 sequence::decode_members-returns-clause-did = sequences.decode_members-returns-clause-did
 
-pub sequence::decode_member-returns-then-is_required-clause-did : goal.sequence::decode_member-returns-then-is_required-clause-did
-sequence::decode_member-returns-then-is_required-clause-did = sequences.decode_member-returns-then-is_required-clause-did
+pub sequence::decode_component-returns-then-is_required-clause-did : goal.sequence::decode_component-returns-then-is_required-clause-did
+sequence::decode_component-returns-then-is_required-clause-did = sequences.decode_component-returns-then-is_required-clause-did
 
-pub sequence::decode_member-returns-else-begins_with-clause-did : goal.sequence::decode_member-returns-else-begins_with-clause-did
-sequence::decode_member-returns-else-begins_with-clause-did = sequences.decode_member-returns-else-begins_with-clause-did
+pub sequence::decode_component-returns-else-begins_with-clause-did : goal.sequence::decode_component-returns-else-begins_with-clause-did
+sequence::decode_component-returns-else-begins_with-clause-did = sequences.decode_component-returns-else-begins_with-clause-did
 
 pub sequence::decode_value-is_default-requires-clause-inside : goal.sequence::decode_value-is_default-requires-clause-inside
 sequence::decode_value-is_default-requires-clause-inside = sequences.decode_value-is_default-requires-clause-inside
@@ -120,6 +120,12 @@ additions::decode_additions-returns-in-None-clause-did = additions.decode_additi
 
 pub additions::decode_additions-returns-in-Some-clause-did : goal.additions::decode_additions-returns-in-Some-clause-did
 additions::decode_additions-returns-in-Some-clause-did = additions.decode_additions-returns-in-Some-clause-did
+
+pub additions::decode_addition-returns-then-not-begins_with-clause-did : goal.additions::decode_addition-returns-then-not-begins_with-clause-did
+additions::decode_addition-returns-then-not-begins_with-clause-did = additions.decode_addition-returns-then-not-begins_with-clause-did
+
+pub additions::decode_group-returns-clause-did : goal.additions::decode_group-returns-clause-did
+additions::decode_group-returns-clause-did = additions.decode_group-returns-clause-did
 
 pub list::decode_items-loop-state-init : goal.list::decode_items-loop-state-init
 list::decode_items-loop-state-init = lists.decode_items-loop-state-init

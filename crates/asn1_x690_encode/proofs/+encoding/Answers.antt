@@ -4,6 +4,7 @@ mod Nodes
 mod Sequences
 mod Extensions
 mod Additions
+mod Groups
 mod Choices
 mod Lists
 mod Sets
@@ -13,6 +14,7 @@ use Rattle.asn1_x690_encode.proofs.+encoding.Answers.Nodes as nodes
 use Rattle.asn1_x690_encode.proofs.+encoding.Answers.Sequences as sequences
 use Rattle.asn1_x690_encode.proofs.+encoding.Answers.Extensions as extensions
 use Rattle.asn1_x690_encode.proofs.+encoding.Answers.Additions as additions
+use Rattle.asn1_x690_encode.proofs.+encoding.Answers.Groups as groups
 use Rattle.asn1_x690_encode.proofs.+encoding.Answers.Choices as choices
 use Rattle.asn1_x690_encode.proofs.+encoding.Answers.Lists as lists
 use Rattle.asn1_x690_encode.proofs.+encoding.Answers.Sets as sets
@@ -40,11 +42,11 @@ element::encode_enclosed-returns = elements.encode_enclosed-returns
 pub element::encode_enclosed-returns-then-not-encode_inner : goal.element::encode_enclosed-returns-then-not-encode_inner
 element::encode_enclosed-returns-then-not-encode_inner = elements.encode_enclosed-returns-then-not-encode_inner
 
-pub node::encode_node-returns-then-is_headed : goal.node::encode_node-returns-then-is_headed
-node::encode_node-returns-then-is_headed = nodes.encode_node-returns-then-is_headed
+pub node::encode_node_here-returns-then-is_headed : goal.node::encode_node_here-returns-then-is_headed
+node::encode_node_here-returns-then-is_headed = nodes.encode_node_here-returns-then-is_headed
 
-pub node::encode_node-returns : goal.node::encode_node-returns
-node::encode_node-returns = nodes.encode_node-returns
+pub node::encode_node_here-returns : goal.node::encode_node_here-returns
+node::encode_node_here-returns = nodes.encode_node_here-returns
 
 pub node::encode_contents-returns-else-is_extensible : goal.node::encode_contents-returns-else-is_extensible
 node::encode_contents-returns-else-is_extensible = nodes.encode_contents-returns-else-is_extensible
@@ -67,23 +69,23 @@ node::encode_headed-returns-in-Choice = nodes.encode_headed-returns-in-Choice
 pub sequence::encode_components-returns-then-count-eq0 : goal.sequence::encode_components-returns-then-count-eq0
 sequence::encode_components-returns-then-count-eq0 = sequences.encode_components-returns-then-count-eq0
 
-pub sequence::encode_components-returns-then-is_required : goal.sequence::encode_components-returns-then-is_required
-sequence::encode_components-returns-then-is_required = sequences.encode_components-returns-then-is_required
+pub sequence::encode_first-returns-then-is_required : goal.sequence::encode_first-returns-then-is_required
+sequence::encode_first-returns-then-is_required = sequences.encode_first-returns-then-is_required
 
-pub sequence::encode_components-returns : goal.sequence::encode_components-returns
-sequence::encode_components-returns = sequences.encode_components-returns
+pub sequence::encode_first-returns : goal.sequence::encode_first-returns
+sequence::encode_first-returns = sequences.encode_first-returns
 
-pub sequence::encode_components-returns-in_default : goal.sequence::encode_components-returns-in_default
-sequence::encode_components-returns-in_default = sequences.encode_components-returns-in_default
+pub sequence::encode_first-returns-in_default : goal.sequence::encode_first-returns-in_default
+sequence::encode_first-returns-in_default = sequences.encode_first-returns-in_default
 
-pub sequence::encode_components-returns-in_default-first_tags_at : goal.sequence::encode_components-returns-in_default-first_tags_at
-sequence::encode_components-returns-in_default-first_tags_at = sequences.encode_components-returns-in_default-first_tags_at
+pub sequence::encode_first-returns-in_default-first_tags_at : goal.sequence::encode_first-returns-in_default-first_tags_at
+sequence::encode_first-returns-in_default-first_tags_at = sequences.encode_first-returns-in_default-first_tags_at
 
-pub sequence::encode_components-overflow_add-from : goal.sequence::encode_components-overflow_add-from
-sequence::encode_components-overflow_add-from = sequences.encode_components-overflow_add-from
+pub sequence::encode_first-overflow_add-from : goal.sequence::encode_first-overflow_add-from
+sequence::encode_first-overflow_add-from = sequences.encode_first-overflow_add-from
 
-pub sequence::encode_components-overflow_add-from-2 : goal.sequence::encode_components-overflow_add-from-2
-sequence::encode_components-overflow_add-from-2 = sequences.encode_components-overflow_add-from-2
+pub sequence::encode_first-overflow_add-from-2 : goal.sequence::encode_first-overflow_add-from-2
+sequence::encode_first-overflow_add-from-2 = sequences.encode_first-overflow_add-from-2
 
 pub sequence::encode_tail-returns-in-End : goal.sequence::encode_tail-returns-in-End
 sequence::encode_tail-returns-in-End = extensions.encode_tail-returns-in-End
@@ -94,8 +96,8 @@ sequence::encode_tail-returns-then-not-is_extended = extensions.encode_tail-retu
 pub sequence::encode_tail-returns-else-not-is_extended : goal.sequence::encode_tail-returns-else-not-is_extended
 sequence::encode_tail-returns-else-not-is_extended = extensions.encode_tail-returns-else-not-is_extended
 
-pub sequence::encode_tail-returns-in-Unknown : goal.sequence::encode_tail-returns-in-Unknown
-sequence::encode_tail-returns-in-Unknown = extensions.encode_tail-returns-in-Unknown
+pub sequence::encode_tail-returns-in-Additions : goal.sequence::encode_tail-returns-in-Additions
+sequence::encode_tail-returns-in-Additions = extensions.encode_tail-returns-in-Additions
 
 pub sequence::encode_required-encode_components-requires : goal.sequence::encode_required-encode_components-requires
 sequence::encode_required-encode_components-requires = sequences.encode_required-encode_components-requires
@@ -159,6 +161,39 @@ additions::encode_additions-returns-then-is_none = additions.encode_additions-re
 
 pub additions::encode_additions-returns-else-is_none : goal.additions::encode_additions-returns-else-is_none
 additions::encode_additions-returns-else-is_none = additions.encode_additions-returns-else-is_none
+
+pub additions::encode_known-returns-then-left-eq0 : goal.additions::encode_known-returns-then-left-eq0
+additions::encode_known-returns-then-left-eq0 = additions.encode_known-returns-then-left-eq0
+
+pub additions::encode_addition-returns-in-None : goal.additions::encode_addition-returns-in-None
+additions::encode_addition-returns-in-None = additions.encode_addition-returns-in-None
+
+pub additions::encode_addition-returns-in-Some-group : goal.additions::encode_addition-returns-in-Some-group
+additions::encode_addition-returns-in-Some-group = additions.encode_addition-returns-in-Some-group
+
+pub group::encode_group-returns-then-begins_with : goal.group::encode_group-returns-then-begins_with
+group::encode_group-returns-then-begins_with = groups.encode_group-returns-then-begins_with
+
+pub group::encode_group-returns-then-is_absent : goal.group::encode_group-returns-then-is_absent
+group::encode_group-returns-then-is_absent = groups.encode_group-returns-then-is_absent
+
+pub group::encode_group-returns-in_err-begins-2 : goal.group::encode_group-returns-in_err-begins-2
+group::encode_group-returns-in_err-begins-2 = groups.encode_group-returns-in_err-begins-2
+
+pub group::encode_group-returns-then-not-begins_with : goal.group::encode_group-returns-then-not-begins_with
+group::encode_group-returns-then-not-begins_with = groups.encode_group-returns-then-not-begins_with
+
+pub group::encode_group-returns : goal.group::encode_group-returns
+group::encode_group-returns = groups.encode_group-returns
+
+pub group::encode_grouped-returns-then-not-is_sequence : goal.group::encode_grouped-returns-then-not-is_sequence
+group::encode_grouped-returns-then-not-is_sequence = groups.encode_grouped-returns-then-not-is_sequence
+
+pub group::encode_grouped-overflow_add-state : goal.group::encode_grouped-overflow_add-state
+group::encode_grouped-overflow_add-state = groups.encode_grouped-overflow_add-state
+
+pub group::encode_grouped-returns : goal.group::encode_grouped-returns
+group::encode_grouped-returns = groups.encode_grouped-returns
 
 pub choice::encode_alternatives-returns-in-None : goal.choice::encode_alternatives-returns-in-None
 choice::encode_alternatives-returns-in-None = choices.encode_alternatives-returns-in-None

@@ -6,19 +6,25 @@ use Rattle.asn1_x690_encode.specs.SetSteps.{AreSetItems}
 use Rattle.asn1_x690_encode.proofs.+encoding.Given as goal
 
 abbrev pub decreases-node::encode_node : goal.decreases-node::encode_node
-decreases-node::encode_node l = 2 ^ 80 * l.depth
+decreases-node::encode_node l = 2 ^ 80 * l.depth + 1
+
+abbrev pub decreases-node::encode_node_here : goal.decreases-node::encode_node_here
+decreases-node::encode_node_here l = 2 ^ 80 * l.depth
 
 abbrev pub decreases-element::encode_tagged : goal.decreases-element::encode_tagged
-decreases-element::encode_tagged l = 2 ^ 80 * l.depth + 2 ^ 70 + 4 * length l.tags.now + 3
+decreases-element::encode_tagged l = 2 ^ 80 * l.depth + 2 ^ 70 + 8 * length l.tags.now + 3
+
+abbrev pub decreases-element::encode_tagged_within : goal.decreases-element::encode_tagged_within
+decreases-element::encode_tagged_within l = 2 ^ 80 * l.depth + 2 ^ 70 + 8 * length l.tags.now + 4
 
 abbrev pub decreases-element::encode_around : goal.decreases-element::encode_around
-decreases-element::encode_around l = 2 ^ 80 * l.depth + 2 ^ 70 + 4 * length l.tags.now + 3
+decreases-element::encode_around l = 2 ^ 80 * l.depth + 2 ^ 70 + 8 * length l.tags.now + 3
 
 abbrev pub decreases-element::encode_enclosed : goal.decreases-element::encode_enclosed
-decreases-element::encode_enclosed l = 2 ^ 80 * l.depth + 2 ^ 70 + 4 * inner_size l.inner + 5
+decreases-element::encode_enclosed l = 2 ^ 80 * l.depth + 2 ^ 70 + 8 * inner_size l.inner + 10
 
 abbrev pub decreases-element::encode_inner : goal.decreases-element::encode_inner
-decreases-element::encode_inner l = 2 ^ 80 * l.depth + 2 ^ 70 + 4 * inner_size l.inner + 4
+decreases-element::encode_inner l = 2 ^ 80 * l.depth + 2 ^ 70 + 8 * inner_size l.inner + 9
 
 abbrev pub decreases-node::encode_headed : goal.decreases-node::encode_headed
 decreases-node::encode_headed l = 2 ^ 80 * l.depth + 2 ^ 70 + 2
@@ -33,19 +39,34 @@ abbrev pub decreases-sequence::encode_extensible_sequence : goal.decreases-seque
 decreases-sequence::encode_extensible_sequence l = 2 ^ 80 * l.depth + 2 ^ 70 + 1
 
 abbrev pub decreases-sequence::encode_components : goal.decreases-sequence::encode_components
-decreases-sequence::encode_components l = 2 ^ 80 * l.depth + 2 ^ 50 + 2 ^ 60 * size_of l.tail.now + 4 * l.count
+decreases-sequence::encode_components l = 2 ^ 80 * l.depth + 2 ^ 50 + size_of l.tail.now + 4 * l.count + 1
+
+abbrev pub decreases-sequence::encode_first : goal.decreases-sequence::encode_first
+decreases-sequence::encode_first l = 2 ^ 80 * l.depth + 2 ^ 50 + size_of l.tail.now + 4 * l.count
 
 abbrev pub decreases-sequence::encode_required : goal.decreases-sequence::encode_required
-decreases-sequence::encode_required l = 2 ^ 80 * l.depth + 2 ^ 50 + 2 ^ 60 * size_of l.tail.now + 4 * l.count + 2
+decreases-sequence::encode_required l = 2 ^ 80 * l.depth + 2 ^ 50 + size_of l.tail.now + 4 * l.count + 2
 
 abbrev pub decreases-sequence::encode_optional : goal.decreases-sequence::encode_optional
-decreases-sequence::encode_optional l = 2 ^ 80 * l.depth + 2 ^ 50 + 2 ^ 60 * size_of l.tail.now + 4 * l.count + 2
+decreases-sequence::encode_optional l = 2 ^ 80 * l.depth + 2 ^ 50 + size_of l.tail.now + 4 * l.count + 2
 
 abbrev pub decreases-sequence::encode_tail : goal.decreases-sequence::encode_tail
-decreases-sequence::encode_tail l = 2 ^ 80 * l.depth + 2 ^ 49 + 2 ^ 60 * size_of l.tail.now
+decreases-sequence::encode_tail l = 2 ^ 80 * l.depth + 2 ^ 50 + size_of l.tail.now
 
 abbrev pub decreases-additions::encode_additions : goal.decreases-additions::encode_additions
-decreases-additions::encode_additions l = 2 ^ 80 * l.depth + 2 ^ 60 * 2
+decreases-additions::encode_additions l = 2 ^ 80 * l.depth + 2 ^ 50 + 2 ^ 69
+
+abbrev pub decreases-additions::encode_known : goal.decreases-additions::encode_known
+decreases-additions::encode_known l = 2 ^ 80 * l.depth + 2 ^ 50 + 2 ^ 36 * l.left.rows.count + 1
+
+abbrev pub decreases-additions::encode_addition : goal.decreases-additions::encode_addition
+decreases-additions::encode_addition l = 2 ^ 80 * l.depth + 2 ^ 50 + 2 ^ 36 * l.left.rows.count
+
+abbrev pub decreases-group::encode_group : goal.decreases-group::encode_group
+decreases-group::encode_group l = 2 ^ 80 * l.depth + 2 ^ 50 + 2 ^ 36 * l.others.rows.count + 2 ^ 35 + 1
+
+abbrev pub decreases-group::encode_grouped : goal.decreases-group::encode_grouped
+decreases-group::encode_grouped l = 2 ^ 80 * l.depth + 2 ^ 50 + 2 ^ 36 * l.others.rows.count + 2 ^ 35
 
 abbrev pub decreases-value::encode_value : goal.decreases-value::encode_value
 decreases-value::encode_value l = 2 ^ 80 * l.depth + 2 ^ 40

@@ -12,9 +12,9 @@ use Rattle.asn1_x690_decode.specs.Tables.{types, elements}
 use Rattle.asn1_x690_decode.proofs.StateSteps.{grown_over, fault_here, none_moved, moved_over, moved_within, front_is, some_front}
 use Rattle.asn1_x690_decode.proofs.ElementSteps.{element_fails, element_found}
 use Rattle.asn1_x690_decode.proofs.ItemSteps.{begins, ends, fails, goes_on}
-use Rattle.asn1_x690_decode.proofs.ListSteps.{Item, item_starts, item_fault, misplaced}
+use Rattle.asn1_x690_decode.proofs.ListSteps.{Item, none_before, item_starts, item_fault, misplaced}
 use Rattle.asn1_x690_decode.proofs.+decoding.Goals as goal
-use Rattle.asn1_x690_decode.proofs.+decoding.Goals.{list::decode_items-else-is_set-via-then-is_set+else-is_before, list::decode_items-else-is_set-via-else-is_set}
+use Rattle.asn1_x690_decode.proofs.+decoding.Goals.{list::decode_items-else-is_set-via-then-is_set+then-before-from+else-is_before, list::decode_items-else-is_set-via-then-is_set+else-before-from, list::decode_items-else-is_set-via-else-is_set}
 
 pub decode_items-loop-state-init : goal.list::decode_items-loop-state-init
 decode_items-loop-state-init t c =
@@ -85,7 +85,13 @@ decode_items-loop-state-preserved t c =
     c.if-not-decode_element.false d.ensures.did in
     let front = front_is (elements context a.depth a.item).encoding.encodes list l.state d.new.state f.parts d.ensures.moved f.are in
     let not : a.is_set ≡ true → bits_cmp f.are.front before ≡ Less → ⊥ = elim c.else-is_set.branch [
-      | list::decode_items-else-is_set-via-then-is_set+else-is_before w ↦
+      | list::decode_items-else-is_set-via-then-is_set+else-before-from w ↦
+          λ e less.
+          let order = l.invariant.order in
+          let none : l.state.at - l.before ≡ 0 = omega (arith, order, w.if-before-from.false) in
+          none_before f.are.front
+          (subst (λ (k : List Bool). bits_cmp f.are.front k ≡ Less) (ap (λ (n : ℕ). bits_at list l.before n) none) less)
+      | list::decode_items-else-is_set-via-then-is_set+then-before-from+else-is_before w ↦
           λ e less.
           let k : true ≡ false = sym (w.is_before.ensures.1 (subst (λ (k : List Bool). bits_cmp k before ≡ Less) front less)) ∙ w.if-is_before.false in
           cc

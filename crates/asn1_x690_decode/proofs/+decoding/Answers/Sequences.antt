@@ -8,7 +8,7 @@ use Rattle.asn1_x690_fields.specs.declared.state.State.{State}
 use Rattle.asn1_x690_fields.specs.Outcomes.{rest, fault_of}
 use Rattle.asn1_x690_fields.specs.Steps.{rest_length}
 use Rattle.asn1_x690_decode.specs.Tables.{types, elements}
-use Rattle.asn1_x690_decode.specs.Members.{AreSteps, StepsFault, IsComponent, ComponentFault}
+use Rattle.asn1_x690_decode.specs.Members.{AreSteps, StepsFault, IsComponent, ComponentFault, IsMember, MemberFault}
 use Rattle.asn1_x690_decode.specs.Decoding.{ContentsOutcome}
 use Rattle.asn1_x690_decode.proofs.StateSteps.{grown_over, fault_here, none_moved, moved_over, front_is, by_true, by_false}
 use Rattle.asn1_x690_decode.proofs.ElementSteps.{element_found}
@@ -23,7 +23,7 @@ decode_members-loop-index-init t c =
     let context = a.context.now in
     record {
       moved = none_moved (bits context.octets.now) a.state.now a.state.now c.requires.within refl refl;
-      underway = begins_members (IsComponent context a.depth a.node a.are_additions) (ComponentFault context a.depth a.node a.are_additions)
+      underway = begins_members (IsMember context a.depth a.node a.are_additions) (MemberFault context a.depth a.node a.are_additions)
           a.rows.count a.rows.from context.tables.ranges.now (bits context.octets.now) a.state.now a.parts.now;
     }
 
@@ -36,11 +36,11 @@ decode_members-loop-index-preserved t c =
     let d = c.decode_member in
     record {
       moved = moved_over list a.state.now l.state d.new.state l.invariant.moved d.ensures.moved;
-      underway = next_member (IsComponent context a.depth a.node a.are_additions) (ComponentFault context a.depth a.node a.are_additions)
+      underway = next_member (IsMember context a.depth a.node a.are_additions) (MemberFault context a.depth a.node a.are_additions)
           a.rows.count a.rows.from context.tables.ranges.now list a.state.now l.state a.parts.now l.parts l.index l.invariant.underway
           c.loop-index-test.true d.new.state d.new.parts
-          (by_true context (IsComponent context a.depth a.node a.are_additions (a.rows.from + l.index))
-          (ComponentFault context a.depth a.node a.are_additions (a.rows.from + l.index)) l.state d.new.state l.parts d.new.parts d.result
+          (by_true context (IsMember context a.depth a.node a.are_additions (a.rows.from + l.index))
+          (MemberFault context a.depth a.node a.are_additions (a.rows.from + l.index)) l.state d.new.state l.parts d.new.parts d.result
           c.if-not-decode_member.false d.ensures.did);
     }
 
@@ -51,11 +51,11 @@ decode_members-returns-then-not-decode_member-clause-did t c =
     let list = bits context.octets.now in
     let l = c.loop-index in
     let d = c.decode_member in
-    member_fails (IsComponent context a.depth a.node a.are_additions) (ComponentFault context a.depth a.node a.are_additions)
+    member_fails (IsMember context a.depth a.node a.are_additions) (MemberFault context a.depth a.node a.are_additions)
     a.rows.count a.rows.from context.tables.ranges.now list a.state.now l.state a.parts.now l.parts l.index l.invariant.underway
     c.loop-index-test.true (fault_of d.new.state)
-    (by_false context (IsComponent context a.depth a.node a.are_additions (a.rows.from + l.index))
-    (ComponentFault context a.depth a.node a.are_additions (a.rows.from + l.index)) l.state d.new.state l.parts d.new.parts d.result
+    (by_false context (IsMember context a.depth a.node a.are_additions (a.rows.from + l.index))
+    (MemberFault context a.depth a.node a.are_additions (a.rows.from + l.index)) l.state d.new.state l.parts d.new.parts d.result
     c.if-not-decode_member.true d.ensures.did)
 
 pub decode_members-returns-clause-did : goal.sequence::decode_members-returns-clause-did
@@ -65,40 +65,40 @@ decode_members-returns-clause-did t c =
     let l = c.loop-index in
     let past = c.loop-index-test.false in
     let most = l.auto.index-end in
-    members_end (IsComponent context a.depth a.node a.are_additions) (ComponentFault context a.depth a.node a.are_additions)
+    members_end (IsMember context a.depth a.node a.are_additions) (MemberFault context a.depth a.node a.are_additions)
     a.rows.count a.rows.from context.tables.ranges.now (bits context.octets.now) a.state.now l.state a.parts.now l.parts l.index
     l.invariant.underway (omega (arith, past, most))
 
-pub decode_member-returns-else-begins_with-clause-did : goal.sequence::decode_member-returns-else-begins_with-clause-did
-decode_member-returns-else-begins_with-clause-did t c =
+pub decode_component-returns-else-begins_with-clause-did : goal.sequence::decode_component-returns-else-begins_with-clause-did
+decode_component-returns-else-begins_with-clause-did t c =
     let a = c.args in
     let context = a.context.now in
     let list = bits context.octets.now in
     let s = a.state.now in
-    let m = c.in-Some.member in
-    let first = c.in-Some-first_at.first in
+    let m = c.in-Some.member.now in
+    let first = c.in-Some-first_at.first.now in
     record {
       parts = Absent ∷ [];
-      are = of_member context a.depth a.node a.are_additions false m first (a.from + a.index) (sym c.member_at.ensures ∙ c.in-Some.is)
-          (sym c.first_at.ensures ∙ c.in-Some-first_at.is) (sym c.is_required.ensures ∙ c.if-is_required.false) (rest list s)
+      are = of_member context a.depth a.node false m first (a.from + a.index) (sym c.in-Some.ensures)
+          (sym c.in-Some-first_at.ensures) (sym c.is_required.ensures ∙ c.if-is_required.false) (rest list s)
           (Absent ∷ []) (rest list s) (inr (c.begins_with.ensures.no c.if-begins_with.false, refl, refl));
       grown = c.push_part-state.ensures.grown context.tables.ranges.now list;
     }
 
-pub decode_member-returns-then-is_required-clause-did : goal.sequence::decode_member-returns-then-is_required-clause-did
-decode_member-returns-then-is_required-clause-did t c =
+pub decode_component-returns-then-is_required-clause-did : goal.sequence::decode_component-returns-then-is_required-clause-did
+decode_component-returns-then-is_required-clause-did t c =
     let a = c.args in
     let context = a.context.now in
     let list = bits context.octets.now in
     let s = a.state.now in
     let d = c.decode_element in
-    let m = c.in-Some.member in
+    let m = c.in-Some.member.now in
     let within = c.requires.within in
     let size = rest_length list s within.inside in
     let more = c.if-state.false in
     required_outcome context a.depth a.node s d.new.state a.parts.now d.new.parts
     (λ e. more (let none : length (rest list s) ≡ 0 = ap length e in omega (arith, size, none, within.ends)))
-    a.are_additions m (a.from + a.index) (sym c.member_at.ensures ∙ c.in-Some.is) (sym c.is_required.ensures ∙ c.if-is_required.true) d.result
+    m (a.from + a.index) (sym c.in-Some.ensures) (sym c.is_required.ensures ∙ c.if-is_required.true) d.result
     d.ensures.did
 
 pub decode_value-is_default-requires-clause-inside : goal.sequence::decode_value-is_default-requires-clause-inside
@@ -115,10 +115,10 @@ decode_value-returns-then-is_default-clause-did t c =
     let list = bits context.octets.now in
     let s = a.state.now in
     let d = c.decode_element in
-    let f = element_found context a.member.node (types context a.depth a.member.node) s d.new.state a.parts.now d.new.parts d.result
+    let f = element_found context a.member.now.node (types context a.depth a.member.now.node) s d.new.state a.parts.now d.new.parts d.result
     c.if-not-decode_element.false d.ensures.did in
-    let front = front_is (elements context a.depth a.member.node).encoding.encodes list s d.new.state f.parts d.ensures.moved f.are in
-    default_fault context a.depth a.node a.member.node c.in-Default.value (rest list s) f.parts (rest list d.new.state) f.are a.member.presence
+    let front = front_is (elements context a.depth a.member.now.node).encoding.encodes list s d.new.state f.parts d.ensures.moved f.are in
+    default_fault context a.depth a.node a.member.now.node c.in-Default.value (rest list s) f.parts (rest list d.new.state) f.are a.member.now.presence
     (fault_of c.fail.new.state) c.in-Default.is (c.is_default.ensures.0 c.if-is_default.true ∙ ap (λ (l : List Bool). Some l) (sym front))
     (fault_here list s c.fail.new.state a.node DefaultValue c.requires.within.inside c.fail.ensures.at
     (c.fail.ensures.end ∙ d.ensures.moved.same_end) c.fail.ensures.node c.fail.ensures.kind)
@@ -130,13 +130,13 @@ decode_value-returns-else-is_default-clause-did t c =
     let list = bits context.octets.now in
     let s = a.state.now in
     let d = c.decode_element in
-    let f = element_found context a.member.node (types context a.depth a.member.node) s d.new.state a.parts.now d.new.parts d.result
+    let f = element_found context a.member.now.node (types context a.depth a.member.now.node) s d.new.state a.parts.now d.new.parts d.result
     c.if-not-decode_element.false d.ensures.did in
-    let front = front_is (elements context a.depth a.member.node).encoding.encodes list s d.new.state f.parts d.ensures.moved f.are in
+    let front = front_is (elements context a.depth a.member.now.node).encoding.encodes list s d.new.state f.parts d.ensures.moved f.are in
     record {
       parts = f.parts;
-      are = other_value context a.depth a.node a.member.node c.in-Default.value (rest list s) f.parts (rest list d.new.state) f.are
-          a.member.presence c.in-Default.is
+      are = other_value context a.depth a.node a.member.now.node c.in-Default.value (rest list s) f.parts (rest list d.new.state) f.are
+          a.member.now.presence c.in-Default.is
           (λ e. let k : true ≡ false = sym (c.is_default.ensures.1 (e ∙ ap (λ (l : List Bool). Some l) front)) ∙ c.if-is_default.false in cc);
       grown = f.grown;
     }
@@ -151,8 +151,8 @@ decode_sequence-returns-then-not-decode_members-clause-did t c =
     let mid : State = record { at = s.at; end = s.end; count = c.push_part-state.result; node = s.node; kind = s.kind } in
     let d = c.decode_members in
     root_fault context a.depth a.node a.root a.known a.is_extensible (rest list s) (fault_of d.new.state)
-    (by_false context (AreSteps (IsComponent context a.depth a.node false) a.root.count a.root.from)
-    (StepsFault (IsComponent context a.depth a.node false) (ComponentFault context a.depth a.node false) a.root.count a.root.from) mid
+    (by_false context (AreSteps (IsComponent context a.depth a.node) a.root.count a.root.from)
+    (StepsFault (IsComponent context a.depth a.node) (ComponentFault context a.depth a.node) a.root.count a.root.from) mid
     d.new.state c.push_part-state.new.parts d.new.parts d.result c.if-not-decode_members.true d.ensures.did)
 
 pub decode_sequence-returns-then-state-clause-did : goal.sequence::decode_sequence-returns-then-state-clause-did
@@ -164,8 +164,8 @@ decode_sequence-returns-then-state-clause-did t c =
     let s = a.state.now in
     let mid : State = record { at = s.at; end = s.end; count = c.push_part-state.result; node = s.node; kind = s.kind } in
     let d = c.decode_members in
-    let f = by_true context (AreSteps (IsComponent context a.depth a.node false) a.root.count a.root.from)
-    (StepsFault (IsComponent context a.depth a.node false) (ComponentFault context a.depth a.node false) a.root.count a.root.from) mid
+    let f = by_true context (AreSteps (IsComponent context a.depth a.node) a.root.count a.root.from)
+    (StepsFault (IsComponent context a.depth a.node) (ComponentFault context a.depth a.node) a.root.count a.root.from) mid
     d.new.state c.push_part-state.new.parts d.new.parts d.result c.if-not-decode_members.false d.ensures.did in
     let none = c.if-state.true in
     let size = rest_length list d.new.state d.ensures.moved.inside in
@@ -186,8 +186,8 @@ decode_sequence-returns-then-not-is_extensible-clause-did t c =
     let s = a.state.now in
     let mid : State = record { at = s.at; end = s.end; count = c.push_part-state.result; node = s.node; kind = s.kind } in
     let d = c.decode_members in
-    let f = by_true context (AreSteps (IsComponent context a.depth a.node false) a.root.count a.root.from)
-    (StepsFault (IsComponent context a.depth a.node false) (ComponentFault context a.depth a.node false) a.root.count a.root.from) mid
+    let f = by_true context (AreSteps (IsComponent context a.depth a.node) a.root.count a.root.from)
+    (StepsFault (IsComponent context a.depth a.node) (ComponentFault context a.depth a.node) a.root.count a.root.from) mid
     d.new.state c.push_part-state.new.parts d.new.parts d.result c.if-not-decode_members.false d.ensures.did in
     let ends = d.ensures.moved.ends in
     let not = c.if-state.false in
@@ -208,8 +208,8 @@ decode_sequence-returns-clause-did t c =
     let s = a.state.now in
     let mid : State = record { at = s.at; end = s.end; count = c.push_part-state.result; node = s.node; kind = s.kind } in
     let d = c.decode_members in
-    let f = by_true context (AreSteps (IsComponent context a.depth a.node false) a.root.count a.root.from)
-    (StepsFault (IsComponent context a.depth a.node false) (ComponentFault context a.depth a.node false) a.root.count a.root.from) mid
+    let f = by_true context (AreSteps (IsComponent context a.depth a.node) a.root.count a.root.from)
+    (StepsFault (IsComponent context a.depth a.node) (ComponentFault context a.depth a.node) a.root.count a.root.from) mid
     d.new.state c.push_part-state.new.parts d.new.parts d.result c.if-not-decode_members.false d.ensures.did in
     let x = c.decode_additions in
     let ends = d.ensures.moved.ends in

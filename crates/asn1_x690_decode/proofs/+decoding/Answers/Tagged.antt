@@ -41,8 +41,8 @@ decode_by_tags-returns-else-not-is_identifier-2-clause-did t c id is =
     d.new.state c.args.parts.now d.new.parts d.result
     (in_tag context c.args.depth of.node of.tags.now id b of.is.now tag others not (same_identifier id tag true same.0 same.1)) d.ensures.did)
 
-pub decode_in_tag-returns-then-not-is_decoded-clause-did : goal.tagged::decode_in_tag-returns-then-not-is_decoded-clause-did
-decode_in_tag-returns-then-not-is_decoded-clause-did t c =
+pub decode_in_tag_of-returns-then-not-is_decoded-clause-did : goal.tagged::decode_in_tag_of-returns-then-not-is_decoded-clause-did
+decode_in_tag_of-returns-then-not-is_decoded-clause-did t c =
     let context = c.args.context.now in
     let list = bits context.octets.now in
     let s = c.args.state.now in
@@ -64,8 +64,8 @@ decode_in_tag-returns-then-not-is_decoded-clause-did t c =
     inl (element_fails context node (tagged_by context c.args.depth node of.tags.now of.is.now c.args.tags.now) s new c.args.parts.now d.new.parts
     d.result c.if-not-is_decoded.true o)
 
-pub decode_in_tag-returns-then-state-end-clause-did : goal.tagged::decode_in_tag-returns-then-state-end-clause-did
-decode_in_tag-returns-then-state-end-clause-did t c =
+pub decode_in_tag_of-returns-then-state-end-clause-did : goal.tagged::decode_in_tag_of-returns-then-state-end-clause-did
+decode_in_tag_of-returns-then-state-end-clause-did t c =
     let context = c.args.context.now in
     let list = bits context.octets.now in
     let s = c.args.state.now in
@@ -99,8 +99,8 @@ decode_in_tag-returns-then-state-end-clause-did t c =
       );
     })
 
-pub decode_in_tag-returns-else-state-end-clause-did : goal.tagged::decode_in_tag-returns-else-state-end-clause-did
-decode_in_tag-returns-else-state-end-clause-did t c =
+pub decode_in_tag_of-returns-else-state-end-clause-did : goal.tagged::decode_in_tag_of-returns-else-state-end-clause-did
+decode_in_tag_of-returns-else-state-end-clause-did t c =
     let context = c.args.context.now in
     let list = bits context.octets.now in
     let s = c.args.state.now in

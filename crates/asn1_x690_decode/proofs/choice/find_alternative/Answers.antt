@@ -1,4 +1,4 @@
-use Rattle.std.proofs.Common.{◌≡◌, ℕ, ◌+◌, ◌<◌, sym, ◌∙◌, subst, arith, inl, inr}
+use Rattle.std.proofs.Common.{◌≡◌, ℕ, ◌+◌, ◌<◌, sym, subst, arith, inl, inr}
 use Rattle.std.specs.Prelude.{◌⊎◌}
 use Rattle.std.proofs.lemmas.Bool.{cases_lt}
 use Rattle.asn1_x690_decode.specs.Alternatives.{IsOther}
@@ -13,10 +13,10 @@ loop-index-preserved c id is i lt = elim (before_or_at i c.loop-index.index lt) 
   | inr e ↦
       subst (λ (n : ℕ). IsOther c.args.context.now id (c.args.rows.from + n)) e
       (record {
-        member = c.in-Some.member;
-        first = c.in-Some-first_at.first;
-        is_member = sym c.member_at.ensures ∙ c.in-Some.is;
-        is_first = sym c.first_at.ensures ∙ c.in-Some-first_at.is;
+        member = c.in-Some.member.now;
+        first = c.in-Some-first_at.first.now;
+        is_member = sym c.in-Some.ensures;
+        is_first = sym c.in-Some-first_at.ensures;
         has_not = c.has_tag.ensures.no c.if-has_tag.false id is;
       })
 ]

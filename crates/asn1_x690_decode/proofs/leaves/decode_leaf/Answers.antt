@@ -1,40 +1,44 @@
-use Rattle.std.proofs.Common.{◌≡◌, ◌-◌, ◌∷◌, [], Bool, List, length, refl, sym, subst}
+use Rattle.std.proofs.Common.{sym, subst}
 use Rattle.asn1_bits.specs.Bits.{bits}
-use Rattle.asn1_schema.specs.Encodings.{Fault}
-use Rattle.asn1_schema.specs.PiecesOfParts.{piece_of}
-use Rattle.asn1_x690.specs.declared.fault.FaultKind.{FaultKind}
-use Rattle.asn1_x690_fields.specs.Outcomes.{rest}
-use Rattle.asn1_x690_fields.specs.Steps.{rest_length}
+use Rattle.asn1_schema.specs.declared.tables.Node.{Node}
+use Rattle.asn1_schema.specs.Pieces.{Truth, Octets}
+use Rattle.asn1_schema.specs.PiecesOfParts.{bits_of}
+use Rattle.asn1_x690.specs.Der.{always}
+use Rattle.asn1_x690.specs.Leaves.{IsBoolean, AreOctets, IsKept, IsObjectIdentifier, AreSized}
 use Rattle.asn1_x690_decode.specs.Tables.{contents_by}
-use Rattle.asn1_x690_decode.specs.Decoding.{ContentsOutcome}
-use Rattle.asn1_x690_decode.proofs.LeafSteps.{span_rest}
+use Rattle.asn1_x690_decode.specs.Decoding.{IsLeaf}
+use Rattle.asn1_x690_decode.proofs.LeafSteps.{told_leaf, leaf_at}
 use Rattle.asn1_x690_decode.proofs.leaves.decode_leaf.Goals as goal
 
-pub returns-in-Ok-clause-did : goal.returns-in-Ok-clause-did
-returns-in-Ok-clause-did c depth =
-    let context = c.args.context.now in
-    let list = bits context.octets.now in
-    let s = c.args.state.now in
-    subst (λ (b : Bool). ContentsOutcome context (contents_by context depth c.args.of.now.node c.args.of.now.tags.now c.args.of.now.is.now).contents
-    s c.keep.new.state c.args.parts.now c.keep.new.parts b) (sym c.keep.ensures.is)
-    (record {
-      parts = piece_of context.tables.ranges.now list c.in-Ok.part ∷ [];
-      are = subst (λ (l : List Bool). (contents_by context depth c.args.of.now.node c.args.of.now.tags.now c.args.of.now.is.now).contents.fills
-          (piece_of context.tables.ranges.now list c.in-Ok.part ∷ []) l) (span_rest list s c.requires.contents) (c.in-Ok.ensures depth);
-      grown = c.keep.ensures.grown context.tables.ranges.now list;
-    })
+pub finish_leaf-requires-clause-read : goal.finish_leaf-requires-clause-read
+finish_leaf-requires-clause-read c =
+    leaf_at c.args.context.now c.args.of.now.node c.args.of.now.tags.now c.args.of.now.is.now c.args.state.now c.contents_of-span.result c.object_identifier-read.result
+    c.contents_of-span.ensures
+    (λ depth.
+    let contents = bits_of (bits c.args.context.now.octets.now) c.contents_of-span.result in
+    subst (λ (n : Node). IsLeaf c.args.context.now (contents_by c.args.context.now depth c.args.of.now.node c.args.of.now.tags.now n)
+    c.args.of.now.node contents c.object_identifier-read.result) (sym c.in-ObjectIdentifier.is)
+    (told_leaf (IsKept IsObjectIdentifier) always Octets c.args.context.now c.args.of.now.node contents c.object_identifier-read.result
+    (c.object_identifier-read.ensures c.args.context.now.tables.ranges.now)))
 
-pub returns-in-Err-clause-did : goal.returns-in-Err-clause-did
-returns-in-Err-clause-did c depth =
-    let context = c.args.context.now in
-    let list = bits context.octets.now in
-    let s = c.args.state.now in
-    let new = c.fail.new.state in
-    let size = rest_length list s c.requires.contents.inside in
-    let e : record { node = new.node; left = new.end - new.at; kind = new.kind }
-    ≡ record { node = c.args.of.now.node; left = length (rest list s); kind = c.in-Err.kind } =
-    rw (c.fail.ensures.node, c.fail.ensures.kind, c.fail.ensures.at, c.fail.ensures.end, size) refl in
-    subst (λ (f : Fault FaultKind). (contents_by context depth c.args.of.now.node c.args.of.now.tags.now c.args.of.now.is.now).contents.fault (rest list s) f)
-    (sym e)
-    (subst (λ (l : List Bool). (contents_by context depth c.args.of.now.node c.args.of.now.tags.now c.args.of.now.is.now).contents.fault l
-    (record { node = c.args.of.now.node; left = length l; kind = c.in-Err.kind })) (span_rest list s c.requires.contents) (c.in-Err.ensures depth))
+pub finish_leaf-requires-in-OctetString-clause-read : goal.finish_leaf-requires-in-OctetString-clause-read
+finish_leaf-requires-in-OctetString-clause-read c =
+    leaf_at c.args.context.now c.args.of.now.node c.args.of.now.tags.now c.args.of.now.is.now c.args.state.now c.contents_of-span.result c.octet_string-read.result
+    c.contents_of-span.ensures
+    (λ depth.
+    let contents = bits_of (bits c.args.context.now.octets.now) c.contents_of-span.result in
+    subst (λ (n : Node). IsLeaf c.args.context.now (contents_by c.args.context.now depth c.args.of.now.node c.args.of.now.tags.now n)
+    c.args.of.now.node contents c.octet_string-read.result) (sym c.in-OctetString.is)
+    (told_leaf AreOctets (AreSized c.in-OctetString.is_extensible c.in-OctetString.length) Octets c.args.context.now c.args.of.now.node contents c.octet_string-read.result
+    (c.octet_string-read.ensures c.args.context.now.tables.ranges.now)))
+
+pub finish_leaf-requires-in-Boolean-clause-read : goal.finish_leaf-requires-in-Boolean-clause-read
+finish_leaf-requires-in-Boolean-clause-read c =
+    leaf_at c.args.context.now c.args.of.now.node c.args.of.now.tags.now c.args.of.now.is.now c.args.state.now c.contents_of-span.result c.boolean-read.result
+    c.contents_of-span.ensures
+    (λ depth.
+    let contents = bits_of (bits c.args.context.now.octets.now) c.contents_of-span.result in
+    subst (λ (n : Node). IsLeaf c.args.context.now (contents_by c.args.context.now depth c.args.of.now.node c.args.of.now.tags.now n)
+    c.args.of.now.node contents c.boolean-read.result) (sym c.in-Boolean.is)
+    (told_leaf IsBoolean always Truth c.args.context.now c.args.of.now.node contents c.boolean-read.result
+    (c.boolean-read.ensures c.args.context.now.tables.ranges.now)))

@@ -2,11 +2,11 @@ use Rattle.std.proofs.Common.{List, length, sym, subst}
 use Rattle.asn1_bits.specs.Bits.{bits}
 use Rattle.asn1_schema.specs.declared.tables.Node.{Node}
 use Rattle.asn1_schema.specs.declared.tables.Range.{Range}
-use Rattle.asn1_schema.specs.Pieces.{Null, Truth, Integer, Bits, Octets, Text}
+use Rattle.asn1_schema.specs.Pieces.{Null, Integer, Bits, Octets, Text}
 use Rattle.asn1_schema.specs.PiecesOfParts.{bits_of}
 use Rattle.asn1_x690.specs.Der.{always, rows_of}
 use Rattle.asn1_schema.specs.Reals.{IsReal}
-use Rattle.asn1_x690.specs.Leaves.{IsBoolean, IsNull, IsInteger, IsBitString, AreOctets, IsKept, IsObjectIdentifier, IsRelativeIdentifier, IsUtf8Text, width_of, AreCharacters, IsTimeText, HasSize, IsBetween, IsAtLeast, AreTrimmed, AreSized, IsText}
+use Rattle.asn1_x690.specs.Leaves.{IsNull, IsInteger, IsBitString, IsKept, IsRelativeIdentifier, IsUtf8Text, width_of, AreCharacters, IsTimeText, HasSize, IsBetween, IsAtLeast, AreTrimmed, IsText}
 use Rattle.asn1_x690_leaves.specs.Told.{IsTold}
 use Rattle.asn1_x690_decode.specs.Tables.{contents_by}
 use Rattle.asn1_x690_decode.specs.Decoding.{IsLeaf}
@@ -20,14 +20,6 @@ returns-in-Null c depth =
     c.args.of.now.node contents c.null.result) (sym c.in-Null.is)
     (told_leaf IsNull always (λ u. Null) c.args.context.now c.args.of.now.node contents c.null.result
     (c.null.ensures c.args.context.now.tables.ranges.now))
-
-pub returns-in-Boolean : goal.returns-in-Boolean
-returns-in-Boolean c depth =
-    let contents = bits_of (bits c.args.context.now.octets.now) c.args.span in
-    subst (λ (n : Node). IsLeaf c.args.context.now (contents_by c.args.context.now depth c.args.of.now.node c.args.of.now.tags.now n)
-    c.args.of.now.node contents c.boolean.result) (sym c.in-Boolean.is)
-    (told_leaf IsBoolean always Truth c.args.context.now c.args.of.now.node contents c.boolean.result
-    (c.boolean.ensures c.args.context.now.tables.ranges.now))
 
 pub returns-in-IntegerBetween : goal.returns-in-IntegerBetween
 returns-in-IntegerBetween c depth =
@@ -67,22 +59,6 @@ returns-in-BitString c depth =
     c.args.of.now.node contents c.bit_string.result) (sym c.in-BitString.is)
     (told_leaf IsBitString (λ bits. HasSize c.in-BitString.is_extensible c.in-BitString.length (length bits) × AreTrimmed c.in-BitString.has_names c.in-BitString.length bits) Bits c.args.context.now c.args.of.now.node contents c.bit_string.result
     (c.bit_string.ensures c.args.context.now.tables.ranges.now))
-
-pub returns-in-OctetString : goal.returns-in-OctetString
-returns-in-OctetString c depth =
-    let contents = bits_of (bits c.args.context.now.octets.now) c.args.span in
-    subst (λ (n : Node). IsLeaf c.args.context.now (contents_by c.args.context.now depth c.args.of.now.node c.args.of.now.tags.now n)
-    c.args.of.now.node contents c.octet_string.result) (sym c.in-OctetString.is)
-    (told_leaf AreOctets (AreSized c.in-OctetString.is_extensible c.in-OctetString.length) Octets c.args.context.now c.args.of.now.node contents c.octet_string.result
-    (c.octet_string.ensures c.args.context.now.tables.ranges.now))
-
-pub returns-in-ObjectIdentifier : goal.returns-in-ObjectIdentifier
-returns-in-ObjectIdentifier c depth =
-    let contents = bits_of (bits c.args.context.now.octets.now) c.args.span in
-    subst (λ (n : Node). IsLeaf c.args.context.now (contents_by c.args.context.now depth c.args.of.now.node c.args.of.now.tags.now n)
-    c.args.of.now.node contents c.object_identifier.result) (sym c.in-ObjectIdentifier.is)
-    (told_leaf (IsKept IsObjectIdentifier) always Octets c.args.context.now c.args.of.now.node contents c.object_identifier.result
-    (c.object_identifier.ensures c.args.context.now.tables.ranges.now))
 
 pub returns-in-RelativeIdentifier : goal.returns-in-RelativeIdentifier
 returns-in-RelativeIdentifier c depth =

@@ -42,7 +42,7 @@ pub encode_inner-returns-in-Tagged : goal.element::encode_inner-returns-in-Tagge
 encode_inner-returns-in-Tagged t c =
     let a = c.args in
     let cx = a.context.now in
-    let k = c.encode_tagged in
+    let k = c.encode_tagged_within in
     let i = c.in-Tagged in
     subst
     (λ (x : Inner). ContentsOutcome cx (inner_in cx a.depth a.node x) a.octets.now a.state.now k.new.octets k.new.state c.is_some.result)

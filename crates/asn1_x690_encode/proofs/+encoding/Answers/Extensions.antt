@@ -9,8 +9,8 @@ use Rattle.asn1_x690.specs.declared.fault.FaultKind.TheVariants.{NotPermitted}
 use Rattle.asn1_x690.specs.TypeContents.{told}
 use Rattle.asn1_x691_writers.specs.Put.{piece_in}
 use Rattle.asn1_x690_encode.specs.declared.sequence.Tail.{Tail}
-use Rattle.asn1_x690_encode.specs.declared.sequence.Tail.TheVariants.{Extension, Unknown}
-use Rattle.asn1_x690_encode.specs.Encoding.{ContentsOutcome, ToldOutcome, after_root, extension_in, tape, components_in, told_of}
+use Rattle.asn1_x690_encode.specs.declared.sequence.Tail.TheVariants.{Extension}
+use Rattle.asn1_x690_encode.specs.Encoding.{ContentsOutcome, ToldOutcome, after_root, added_in, extension_in, tape, components_in, told_of}
 use Rattle.asn1_x691_writers.specs.GrownSteps.{grown_none}
 use Rattle.asn1_x690_encode.specs.AdditionSteps.{no_additions}
 use Rattle.asn1_x690_encode.specs.Steps.{part_next, stopped_here}
@@ -45,7 +45,7 @@ encode_tail-returns-then-not-is_extended t c =
     (subst
     (λ (b : Bool). ToldOutcome cx (extension_in cx a.depth a.node i.known) b a.octets.now a.state.now a.octets.now a.state.now (Some None))
     (sym c.if-not-is_extended.true) (no_additions cx a.node
-    (told Additions der.always NotPermitted a.node (components_in cx a.depth a.node i.known.count i.known.from (Unknown i.known.count 0)))
+    (told Additions der.always NotPermitted a.node (added_in cx a.depth a.node (record { rows = i.known; known = i.known.count; count = 0 })))
     a.octets.now a.state.now (grown_none a.octets.now a.state.now.at)))
 
 pub encode_tail-returns-else-not-is_extended : goal.sequence::encode_tail-returns-else-not-is_extended
@@ -61,14 +61,14 @@ encode_tail-returns-else-not-is_extended t c =
     (λ (b : Bool). ToldOutcome cx (extension_in cx a.depth a.node i.known) b a.octets.now a.state.now k.new.octets k.new.state k.result)
     (sym c.if-not-is_extended.false) k.ensures)
 
-pub encode_tail-returns-in-Unknown : goal.sequence::encode_tail-returns-in-Unknown
-encode_tail-returns-in-Unknown t c =
+pub encode_tail-returns-in-Additions : goal.sequence::encode_tail-returns-in-Additions
+encode_tail-returns-in-Additions t c =
     let a = c.args in
     let cx = a.context.now in
-    let k = c.encode_unknown in
+    let k = c.encode_known in
     subst
     (λ (t : Tail). ToldOutcome cx (after_root cx a.depth a.node t) (told_of t) a.octets.now a.state.now k.new.octets k.new.state k.result)
-    (sym c.in-Unknown.is) k.ensures
+    (sym c.in-Additions.is) k.ensures
 
 -- ---- with an extension marker
 

@@ -10,8 +10,8 @@ use Rattle.asn1_x690_encode.specs.Encoding.{ElementOutcome, ContentsOutcome, aro
 use Rattle.asn1_x690_encode.specs.NodeSteps.{at_node, by_headed, by_tagged}
 use Rattle.asn1_x690_encode.proofs.+encoding.Goals as goal
 
-pub encode_node-returns-then-is_headed : goal.node::encode_node-returns-then-is_headed
-encode_node-returns-then-is_headed t c =
+pub encode_node_here-returns-then-is_headed : goal.node::encode_node_here-returns-then-is_headed
+encode_node_here-returns-then-is_headed t c =
     let a = c.args in
     let cx = a.context.now in
     let d = a.depth - 1 in
@@ -23,8 +23,8 @@ encode_node-returns-then-is_headed t c =
     (by_headed cx d a.node y y.is_any n P (sym c.is_headed.ensures ∙ c.if-is_headed.true)
     (subst (λ (l : List Tag). P (around_in cx d a.node y n l)) c.tags_in-tags.ensures.value k.ensures))
 
-pub encode_node-returns : goal.node::encode_node-returns
-encode_node-returns t c =
+pub encode_node_here-returns : goal.node::encode_node_here-returns
+encode_node_here-returns t c =
     let a = c.args in
     let cx = a.context.now in
     let d = a.depth - 1 in

@@ -28,53 +28,53 @@ encode_components-returns-then-count-eq0 t c =
     (λ (F : ToldContents FaultKind (told_by a.tail.now)). ToldOutcome cx F (told_of a.tail.now) a.octets.now a.state.now k.new.octets k.new.state k.result)
     c.if-count-eq0.true k.ensures
 
-pub encode_components-returns-then-is_required : goal.sequence::encode_components-returns-then-is_required
-encode_components-returns-then-is_required t c =
+pub encode_first-returns-then-is_required : goal.sequence::encode_first-returns-then-is_required
+encode_first-returns-then-is_required t c =
     let a = c.args in
     let cx = a.context.now in
     let k = c.encode_required in
     required_first cx a.depth a.node a.tail.now a.count a.from c.in-Some.member
     (λ (F : ToldContents FaultKind (told_by a.tail.now)). ToldOutcome cx F (told_of a.tail.now) a.octets.now a.state.now k.new.octets k.new.state k.result)
-    (omega (arith, c.if-count-eq0.false)) (sym c.in-Some.ensures) (sym c.is_required.ensures ∙ c.if-is_required.true) k.ensures
+    c.requires.some (sym c.in-Some.ensures) (sym c.is_required.ensures ∙ c.if-is_required.true) k.ensures
 
-pub encode_components-returns : goal.sequence::encode_components-returns
-encode_components-returns t c =
+pub encode_first-returns : goal.sequence::encode_first-returns
+encode_first-returns t c =
     let a = c.args in
     let cx = a.context.now in
     let k = c.encode_optional in
     optional_first cx a.depth a.node a.tail.now a.count a.from c.in-Some.member
     (λ (F : ToldContents FaultKind (told_by a.tail.now)). ToldOutcome cx F (told_of a.tail.now) a.octets.now a.state.now k.new.octets k.new.state k.result)
-    (omega (arith, c.if-count-eq0.false)) (sym c.in-Some.ensures) c.in-Some-first_tags_at.first (sym c.is_required.ensures ∙ c.if-is_required.false)
+    c.requires.some (sym c.in-Some.ensures) c.in-Some-first_tags_at.first (sym c.is_required.ensures ∙ c.if-is_required.false)
     (sym c.in-Some-first_tags_at.ensures) k.ensures
 
-pub encode_components-returns-in_default : goal.sequence::encode_components-returns-in_default
-encode_components-returns-in_default t c =
+pub encode_first-returns-in_default : goal.sequence::encode_first-returns-in_default
+encode_first-returns-in_default t c =
     let a = c.args in
     let cx = a.context.now in
     let l = c.reject in
     at_no_member cx a.depth a.node a.tail.now a.count a.from
     (λ (F : ToldContents FaultKind (told_by a.tail.now)). IsStopped cx (F.misfit (told_of a.tail.now)) a.state.now l.new.state)
-    (omega (arith, c.if-count-eq0.false)) (sym c.member_at.ensures ∙ c.in_default.is)
+    c.requires.some (sym c.member_at.ensures ∙ c.in_default.is)
     (inl (misfit_here cx ((der.no_member a.node).misfit (told_of a.tail.now)) a.state.now l.new.state a.node NoNode l.ensures.next l.ensures.node l.ensures.reason refl))
 
-pub encode_components-returns-in_default-first_tags_at : goal.sequence::encode_components-returns-in_default-first_tags_at
-encode_components-returns-in_default-first_tags_at t c =
+pub encode_first-returns-in_default-first_tags_at : goal.sequence::encode_first-returns-in_default-first_tags_at
+encode_first-returns-in_default-first_tags_at t c =
     let a = c.args in
     let cx = a.context.now in
     let l = c.reject-in_default-first_tags_at in
     no_first cx a.depth a.node a.tail.now a.count a.from c.in-Some.member
     (λ (F : ToldContents FaultKind (told_by a.tail.now)). IsStopped cx (F.misfit (told_of a.tail.now)) a.state.now l.new.state)
-    (omega (arith, c.if-count-eq0.false)) (sym c.in-Some.ensures) (sym c.is_required.ensures ∙ c.if-is_required.false)
+    c.requires.some (sym c.in-Some.ensures) (sym c.is_required.ensures ∙ c.if-is_required.false)
     (sym c.first_tags_at.ensures ∙ c.in_default-first_tags_at.is)
     (inl (misfit_here cx ((der.no_member a.node).misfit (told_of a.tail.now)) a.state.now l.new.state a.node NoNode l.ensures.next l.ensures.node l.ensures.reason refl))
 
-pub encode_components-overflow_add-from : goal.sequence::encode_components-overflow_add-from
-encode_components-overflow_add-from t c =
+pub encode_first-overflow_add-from : goal.sequence::encode_first-overflow_add-from
+encode_first-overflow_add-from t c =
     let w = slice_get_within c.args.context.now.tables.members.now c.args.from c.in-Some.member (sym c.in-Some.ensures) in
     omega (arith, w)
 
-pub encode_components-overflow_add-from-2 : goal.sequence::encode_components-overflow_add-from-2
-encode_components-overflow_add-from-2 t c =
+pub encode_first-overflow_add-from-2 : goal.sequence::encode_first-overflow_add-from-2
+encode_first-overflow_add-from-2 t c =
     let w = slice_get_within c.args.context.now.tables.members.now c.args.from c.in-Some.member (sym c.in-Some.ensures) in
     omega (arith, w)
 
@@ -83,7 +83,7 @@ encode_components-overflow_add-from-2 t c =
 pub encode_required-encode_components-requires : goal.sequence::encode_required-encode_components-requires
 encode_required-encode_components-requires t c =
     let a = c.args in
-    let k = c.encode_node in
+    let k = c.encode_node_here in
     let e = c.in_ok-found.ensures in (
       search rules,
       (
@@ -109,7 +109,7 @@ encode_required-returns-in_err-encode_components t c =
     let A = element_in cx a.depth a.inner in
     let F = components_in cx a.depth a.node a.count a.from a.tail.now in
     let x = told_of a.tail.now in
-    let n = c.encode_node in
+    let n = c.encode_node_here in
     let k = c.encode_components in
     let v = as_value cx a.inner (types cx a.depth a.inner) a.octets.now a.state.now n.new.octets n.new.state (Some c.in_ok-found.found) c.in_ok-found.ensures in
     let D = required_in cx a.depth a.node a.inner a.count a.from a.tail.now in
@@ -124,7 +124,7 @@ encode_required-returns t c =
     let A = element_in cx a.depth a.inner in
     let F = components_in cx a.depth a.node a.count a.from a.tail.now in
     let x = told_of a.tail.now in
-    let n = c.encode_node in
+    let n = c.encode_node_here in
     let k = c.encode_components in
     let found = c.in_ok-found.found in
     let v = as_value cx a.inner (types cx a.depth a.inner) a.octets.now a.state.now n.new.octets n.new.state (Some found) c.in_ok-found.ensures in

@@ -9,7 +9,7 @@ pub returns-then-first-lt31-clause-read : goal.returns-then-first-lt31-clause-re
 returns-then-first-lt31-clause-read c =
     let first = c.in_ok-first.first in (
       identifier_of first (first % 32),
-      record { class = c.class_of-class.ensures; form = refl; number = (c.from.ensures, omega arith) },
+      c.short_identifier.ensures,
       short_identifier c.args.node first (rest (bits c.args.octets.now) c.args.state.now)
           (rest (bits c.args.octets.now) c.next_octet.new.state) c.in_ok-first.ensures.read c.if-first-lt31.true,
     )
@@ -19,7 +19,7 @@ returns-clause-read c =
     let first = c.in_ok-first.first in
     let r = c.in_ok-number.ensures.read in (
       identifier_of first r.0,
-      record { class = c.class_of-class.ensures; form = refl; number = r.1 },
+      record { class = c.class_of.ensures; form = c.is_constructed_by.ensures; number = r.1 },
       long_identifier c.args.node first (rest (bits c.args.octets.now) c.args.state.now)
           (rest (bits c.args.octets.now) c.next_octet.new.state) c.in_ok-first.ensures.read r.0
           (rest (bits c.args.octets.now) c.next_long_number.new.state) (omega (arith, c.if-first-lt31.false)) r.2,

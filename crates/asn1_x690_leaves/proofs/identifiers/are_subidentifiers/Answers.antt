@@ -1,13 +1,9 @@
 use Rattle.std.proofs.Common.{false, sym, ◌∙◌, ap, arith}
 use Rattle.asn1_bits.specs.Bits.{bits}
-use Rattle.asn1_bits.specs.DigitLaws.{length-bits}
 use Rattle.asn1_x691_fields.specs.Octets.{are_series}
 use Rattle.asn1_x691_fields.specs.ContentSteps.{are_identifier, are_no_identifier, empty_is_none}
 use Rattle.asn1_x690_leaves.proofs.SpanSteps.{own_octets}
 use Rattle.asn1_x690_leaves.proofs.identifiers.are_subidentifiers.Goals as goal
-
-pub are_subidentifiers-requires-clause-inside : goal.are_subidentifiers-requires-clause-inside
-are_subidentifiers-requires-clause-inside c = let i = c.requires.contents.inside in omega (arith, length-bits c.args.octets.now, i)
 
 pub returns-then-span-gt0-clause-yes : goal.returns-then-span-gt0-clause-yes
 returns-then-span-gt0-clause-yes c e =

@@ -1,14 +1,12 @@
-use Rattle.std.proofs.Common.{◌≡◌, ℕ, ◌/◌, ◌%◌, ◌*◌, ◌<◌, Bool, List, length, take, drop, refl, sym, ◌∙◌, ap, subst, inl, inr, arith}
-use Rattle.std.proofs.lemmas.List.{length-drop, map-id}
+use Rattle.std.proofs.Common.{ℕ, ◌/◌, ◌%◌, ◌*◌, length, drop, refl, sym, ◌∙◌, ap, subst, inl, inr, arith}
+use Rattle.std.proofs.lemmas.List.{map-id}
 use Rattle.std.proofs.Math.Nat.{mul-mod_right}
 use Rattle.asn1_bits.specs.Bits.{bits}
 use Rattle.asn1_bits.specs.DigitLaws.{length-bits}
-use Rattle.asn1_schema.specs.declared.part.Span.{Span}
 use Rattle.asn1_schema.specs.CharactersOfParts.{numbers_in}
 use Rattle.asn1_schema.specs.Pieces.{Text}
 use Rattle.asn1_schema.specs.PiecesOfParts.{bits_of}
 use Rattle.asn1_x690.specs.Leaves.{AreCharacters}
-use Rattle.asn1_x690_leaves.specs.Told.{AreOctetsOf}
 use Rattle.asn1_x690_leaves.proofs.SpanSteps.{span_size}
 use Rattle.asn1_x690_leaves.specs.TextSteps.{whole_count, characters, text_size}
 use Rattle.asn1_x690_leaves.proofs.texts.text.Goals as goal

@@ -1,4 +1,4 @@
-use Rattle.std.proofs.Common.{◌≡◌, ℕ, ◌/◌, ◌%◌, ◌<◌, List, drop, refl, sym, ap, subst, inl, arith}
+use Rattle.std.proofs.Common.{ℕ, ◌/◌, ◌<◌, List, drop, refl, ap, subst, inl, arith}
 use Rattle.std.proofs.lemmas.List.{map-id}
 use Rattle.asn1_bits.specs.Bits.{bits}
 use Rattle.asn1_bits.specs.DigitLaws.{length-bits}

@@ -9,7 +9,7 @@ returns-then-id-lt31 c =
     let f = c.first_octet in
     record {
       list = digits f.result 8;
-      encodes = short_encodes c.args.id f.result f.ensures.below f.ensures.class f.ensures.form f.ensures.low c.if-id-lt31.true;
+      encodes = short_encodes c.args.id.now f.result f.ensures.below f.ensures.class f.ensures.form f.ensures.low c.if-id-lt31.true;
       whole = omega (arith, length-digits f.result 8);
       grown = c.put_octet.ensures;
     }

@@ -4,6 +4,7 @@ use Rattle.asn1_x691.specs.Example.{example_bits}
 use Rattle.asn1_x691.specs.Laws.TypeLaws.{type_at_type}
 use Rattle.asn1_x691.specs.Laws.TypePhaseLaws.{type_at_follows}
 use Rattle.asn1_x691.specs.Laws.TypeLimitLaws.{type_at_narrow}
+use Rattle.asn1_x691.specs.Laws.ValueLaws.{value_at}
 use Rattle.asn1_x691.proofs.laws.laws_of_types.Goals as goal
 
 pub returns-clause-decodes_one : goal.returns-clause-decodes_one
@@ -82,3 +83,6 @@ returns-clause-is c = record {
   is = refl;
   parts = refl;
 }
+
+pub returns-clause-value : goal.returns-clause-value
+returns-clause-value c limits aligned nodes members ranges defaults depth place = value_at limits aligned nodes members ranges defaults depth place

@@ -86,150 +86,107 @@ decode_node-returns-in-Some-SetOf-clause-did t c =
 pub decode_node-returns-in-Some-IntegerBetween-clause-did : goal.decoder::decode_node-returns-in-Some-IntegerBetween-clause-did
 decode_node-returns-in-Some-IntegerBetween-clause-did t c =
     let cx = c.args.context.now in
-    let a = c.args in
     let k = c.in-Some-IntegerBetween in
-    let p = c.keep in
-    at_node cx a.node a.depth (Some (type.IntegerBetween k.bounds k.is_extensible))
-    (λ (B : ℕ → Encoding FaultKind Parts). Outcome cx B a.state.now p.new.state a.parts.now p.new.parts p.result)
-    (omega (arith, c.if-depth-eq0.false)) (sym c.node_at.ensures ∙ k.is ∙ ap (λ (n : Node). Some n) k.field-0-is)
-    (kept_outcome cx (λ at. (integer_between_by cx.is_aligned a.node k.is_extensible k.bounds.least k.bounds.range at).encoding) a.state.now c.next_integer_between_by-part.new.state p.new.state a.parts.now p.new.parts c.next_integer_between_by-part.result p.result
-    c.next_integer_between_by-part.ensures.onward (c.next_integer_between_by-part.ensures.read cx.tables.ranges.now) (record { at = p.ensures.at; first = p.ensures.first; end = p.ensures.end }) p.ensures.kept)
+    let p = c.decode_integer_between in
+    at_node cx c.args.node c.args.depth (Some (type.IntegerBetween k.bounds k.is_extensible))
+    (λ (B : ℕ → Encoding FaultKind Parts). Outcome cx B c.args.state.now p.new.state c.args.parts.now p.new.parts p.result)
+    (omega (arith, c.if-depth-eq0.false)) (sym c.node_at.ensures ∙ k.is ∙ ap (λ (n : Node). Some n) k.field-0-is) p.ensures.did
 
 pub decode_node-returns-in-Some-IntegerAtLeast-clause-did : goal.decoder::decode_node-returns-in-Some-IntegerAtLeast-clause-did
 decode_node-returns-in-Some-IntegerAtLeast-clause-did t c =
     let cx = c.args.context.now in
-    let a = c.args in
     let k = c.in-Some-IntegerAtLeast in
-    let p = c.keep-in-Some-IntegerAtLeast in
-    at_node cx a.node a.depth (Some (type.IntegerAtLeast k.bound k.is_extensible))
-    (λ (B : ℕ → Encoding FaultKind Parts). Outcome cx B a.state.now p.new.state a.parts.now p.new.parts p.result)
-    (omega (arith, c.if-depth-eq0.false)) (sym c.node_at.ensures ∙ k.is ∙ ap (λ (n : Node). Some n) k.field-0-is)
-    (kept_outcome cx (λ at. (integer_at_least_by cx.is_aligned a.node k.is_extensible k.bound.least at).encoding) a.state.now c.next_integer_at_least_by-part.new.state p.new.state a.parts.now p.new.parts c.next_integer_at_least_by-part.result p.result
-    c.next_integer_at_least_by-part.ensures.onward (c.next_integer_at_least_by-part.ensures.read cx.tables.ranges.now) (record { at = p.ensures.at; first = p.ensures.first; end = p.ensures.end }) p.ensures.kept)
+    let p = c.decode_integer_at_least in
+    at_node cx c.args.node c.args.depth (Some (type.IntegerAtLeast k.bound k.is_extensible))
+    (λ (B : ℕ → Encoding FaultKind Parts). Outcome cx B c.args.state.now p.new.state c.args.parts.now p.new.parts p.result)
+    (omega (arith, c.if-depth-eq0.false)) (sym c.node_at.ensures ∙ k.is ∙ ap (λ (n : Node). Some n) k.field-0-is) p.ensures.did
 
 pub decode_node-returns-in-Some-Integer-clause-did : goal.decoder::decode_node-returns-in-Some-Integer-clause-did
 decode_node-returns-in-Some-Integer-clause-did t c =
     let cx = c.args.context.now in
-    let a = c.args in
     let k = c.in-Some-Integer in
-    let p = c.keep-in-Some-Integer in
-    at_node cx a.node a.depth (Some (type.Integer))
-    (λ (B : ℕ → Encoding FaultKind Parts). Outcome cx B a.state.now p.new.state a.parts.now p.new.parts p.result)
-    (omega (arith, c.if-depth-eq0.false)) (sym c.node_at.ensures ∙ k.is ∙ ap (λ (n : Node). Some n) k.field-0-is)
-    (kept_outcome cx (λ at. (integer cx.is_aligned a.node at).encoding) a.state.now c.next_integer.new.state p.new.state a.parts.now p.new.parts c.next_integer.result p.result
-    c.next_integer.ensures.onward (c.next_integer.ensures.read cx.tables.ranges.now) (record { at = p.ensures.at; first = p.ensures.first; end = p.ensures.end }) p.ensures.kept)
+    let p = c.decode_integer in
+    at_node cx c.args.node c.args.depth (Some type.Integer)
+    (λ (B : ℕ → Encoding FaultKind Parts). Outcome cx B c.args.state.now p.new.state c.args.parts.now p.new.parts p.result)
+    (omega (arith, c.if-depth-eq0.false)) (sym c.node_at.ensures ∙ k.is ∙ ap (λ (n : Node). Some n) k.field-0-is) p.ensures.did
 
 pub decode_node-returns-in-Some-Enumerated-clause-did : goal.decoder::decode_node-returns-in-Some-Enumerated-clause-did
 decode_node-returns-in-Some-Enumerated-clause-did t c =
     let cx = c.args.context.now in
-    let a = c.args in
     let k = c.in-Some-Enumerated in
-    let p = c.keep-in-Some-Enumerated in
-    at_node cx a.node a.depth (Some (type.Enumerated k.last k.is_extensible k.additions))
-    (λ (B : ℕ → Encoding FaultKind Parts). Outcome cx B a.state.now p.new.state a.parts.now p.new.parts p.result)
-    (omega (arith, c.if-depth-eq0.false)) (sym c.node_at.ensures ∙ k.is ∙ ap (λ (n : Node). Some n) k.field-0-is)
-    (kept_outcome cx (λ at. (enumerated_by cx.is_aligned a.node k.is_extensible k.last k.additions at).encoding) a.state.now c.next_enumerated-part.new.state p.new.state a.parts.now p.new.parts c.next_enumerated-part.result p.result
-    c.next_enumerated-part.ensures.onward (c.next_enumerated-part.ensures.read cx.tables.ranges.now) (record { at = p.ensures.at; first = p.ensures.first; end = p.ensures.end }) p.ensures.kept)
+    let p = c.decode_enumerated in
+    at_node cx c.args.node c.args.depth (Some (type.Enumerated k.last k.is_extensible k.additions))
+    (λ (B : ℕ → Encoding FaultKind Parts). Outcome cx B c.args.state.now p.new.state c.args.parts.now p.new.parts p.result)
+    (omega (arith, c.if-depth-eq0.false)) (sym c.node_at.ensures ∙ k.is ∙ ap (λ (n : Node). Some n) k.field-0-is) p.ensures.did
 
 pub decode_node-returns-in-Some-BitString-clause-did : goal.decoder::decode_node-returns-in-Some-BitString-clause-did
 decode_node-returns-in-Some-BitString-clause-did t c =
     let cx = c.args.context.now in
-    let a = c.args in
     let k = c.in-Some-BitString in
-    let p = c.keep-in-Some-BitString in
-    at_node cx a.node a.depth (Some (type.BitString k.length k.is_extensible k.has_names))
-    (λ (B : ℕ → Encoding FaultKind Parts). Outcome cx B a.state.now p.new.state a.parts.now p.new.parts p.result)
-    (omega (arith, c.if-depth-eq0.false)) (sym c.node_at.ensures ∙ k.is ∙ ap (λ (n : Node). Some n) k.field-0-is)
-    (kept_outcome cx (λ at. (bit_string 0 cx.is_aligned a.node k.length k.is_extensible k.has_names at).encoding) a.state.now c.next_bit_string-part.new.state p.new.state a.parts.now p.new.parts c.next_bit_string-part.result p.result
-    c.next_bit_string-part.ensures.onward (c.next_bit_string-part.ensures.read cx.tables.ranges.now) (record { at = p.ensures.at; first = p.ensures.first; end = p.ensures.end }) p.ensures.kept)
+    let p = c.decode_bit_string in
+    at_node cx c.args.node c.args.depth (Some (type.BitString k.length k.is_extensible k.has_names))
+    (λ (B : ℕ → Encoding FaultKind Parts). Outcome cx B c.args.state.now p.new.state c.args.parts.now p.new.parts p.result)
+    (omega (arith, c.if-depth-eq0.false)) (sym c.node_at.ensures ∙ k.is ∙ ap (λ (n : Node). Some n) k.field-0-is) p.ensures.did
 
 pub decode_node-returns-in-Some-OctetString-clause-did : goal.decoder::decode_node-returns-in-Some-OctetString-clause-did
 decode_node-returns-in-Some-OctetString-clause-did t c =
     let cx = c.args.context.now in
-    let a = c.args in
     let k = c.in-Some-OctetString in
-    let p = c.keep-in-Some-OctetString in
-    at_node cx a.node a.depth (Some (type.OctetString k.length k.is_extensible))
-    (λ (B : ℕ → Encoding FaultKind Parts). Outcome cx B a.state.now p.new.state a.parts.now p.new.parts p.result)
-    (omega (arith, c.if-depth-eq0.false)) (sym c.node_at.ensures ∙ k.is ∙ ap (λ (n : Node). Some n) k.field-0-is)
-    (kept_outcome cx (λ at. (octet_string most_fragments cx.is_aligned a.node k.length k.is_extensible at).encoding) a.state.now c.next_octet_string.new.state p.new.state a.parts.now p.new.parts c.next_octet_string.result p.result
-    c.next_octet_string.ensures.onward (c.next_octet_string.ensures.read cx.tables.ranges.now) (record { at = p.ensures.at; first = p.ensures.first; end = p.ensures.end }) p.ensures.kept)
+    let p = c.decode_octet_string in
+    at_node cx c.args.node c.args.depth (Some (type.OctetString k.length k.is_extensible))
+    (λ (B : ℕ → Encoding FaultKind Parts). Outcome cx B c.args.state.now p.new.state c.args.parts.now p.new.parts p.result)
+    (omega (arith, c.if-depth-eq0.false)) (sym c.node_at.ensures ∙ k.is ∙ ap (λ (n : Node). Some n) k.field-0-is) p.ensures.did
 
 pub decode_node-returns-in-Some-Text-clause-did : goal.decoder::decode_node-returns-in-Some-Text-clause-did
 decode_node-returns-in-Some-Text-clause-did t c =
     let cx = c.args.context.now in
-    let a = c.args in
     let k = c.in-Some-Text in
-    let p = c.keep-in-Some-Text in
-    at_node cx a.node a.depth (Some (type.Text k.length k.is_extensible k.alphabet k.whole))
-    (λ (B : ℕ → Encoding FaultKind Parts). Outcome cx B a.state.now p.new.state a.parts.now p.new.parts p.result)
-    (omega (arith, c.if-depth-eq0.false)) (sym c.node_at.ensures ∙ k.is ∙ ap (λ (n : Node). Some n) k.field-0-is)
-    (kept_outcome cx (λ at. (text 0 cx.is_aligned a.node k.length k.is_extensible (rows_of cx.tables.ranges.now k.alphabet)
-    (rows_of cx.tables.ranges.now k.whole) at).encoding) a.state.now c.next_text-part.new.state p.new.state a.parts.now p.new.parts
-    c.next_text-part.result p.result c.next_text-part.ensures.onward c.next_text-part.ensures.read
-    (record { at = p.ensures.at; first = p.ensures.first; end = p.ensures.end }) p.ensures.kept)
+    let p = c.decode_text in
+    at_node cx c.args.node c.args.depth (Some (type.Text k.length k.is_extensible k.alphabet k.whole))
+    (λ (B : ℕ → Encoding FaultKind Parts). Outcome cx B c.args.state.now p.new.state c.args.parts.now p.new.parts p.result)
+    (omega (arith, c.if-depth-eq0.false)) (sym c.node_at.ensures ∙ k.is ∙ ap (λ (n : Node). Some n) k.field-0-is) p.ensures.did
 
 pub decode_node-returns-in-Some-ObjectIdentifier-clause-did : goal.decoder::decode_node-returns-in-Some-ObjectIdentifier-clause-did
 decode_node-returns-in-Some-ObjectIdentifier-clause-did t c =
     let cx = c.args.context.now in
-    let a = c.args in
     let k = c.in-Some-ObjectIdentifier in
-    let p = c.keep-in-Some-ObjectIdentifier in
-    at_node cx a.node a.depth (Some type.ObjectIdentifier)
-    (λ (B : ℕ → Encoding FaultKind Parts). Outcome cx B a.state.now p.new.state a.parts.now p.new.parts p.result)
-    (omega (arith, c.if-depth-eq0.false)) (sym c.node_at.ensures ∙ k.is ∙ ap (λ (n : Node). Some n) k.field-0-is)
-    (kept_outcome cx (λ at. (contents 0 cx.is_aligned a.node IsObjectIdentifier at).encoding) a.state.now c.next_object_identifier.new.state p.new.state a.parts.now p.new.parts
-    c.next_object_identifier.result p.result c.next_object_identifier.ensures.onward (c.next_object_identifier.ensures.read cx.tables.ranges.now)
-    (record { at = p.ensures.at; first = p.ensures.first; end = p.ensures.end }) p.ensures.kept)
+    let p = c.decode_object_identifier in
+    at_node cx c.args.node c.args.depth (Some type.ObjectIdentifier)
+    (λ (B : ℕ → Encoding FaultKind Parts). Outcome cx B c.args.state.now p.new.state c.args.parts.now p.new.parts p.result)
+    (omega (arith, c.if-depth-eq0.false)) (sym c.node_at.ensures ∙ k.is ∙ ap (λ (n : Node). Some n) k.field-0-is) p.ensures.did
 
 pub decode_node-returns-in-Some-RelativeIdentifier-clause-did : goal.decoder::decode_node-returns-in-Some-RelativeIdentifier-clause-did
 decode_node-returns-in-Some-RelativeIdentifier-clause-did t c =
     let cx = c.args.context.now in
-    let a = c.args in
     let k = c.in-Some-RelativeIdentifier in
-    let p = c.keep-in-Some-RelativeIdentifier in
-    at_node cx a.node a.depth (Some type.RelativeIdentifier)
-    (λ (B : ℕ → Encoding FaultKind Parts). Outcome cx B a.state.now p.new.state a.parts.now p.new.parts p.result)
-    (omega (arith, c.if-depth-eq0.false)) (sym c.node_at.ensures ∙ k.is ∙ ap (λ (n : Node). Some n) k.field-0-is)
-    (kept_outcome cx (λ at. (contents 0 cx.is_aligned a.node IsRelativeIdentifier at).encoding) a.state.now c.next_relative_identifier.new.state p.new.state a.parts.now p.new.parts
-    c.next_relative_identifier.result p.result c.next_relative_identifier.ensures.onward (c.next_relative_identifier.ensures.read cx.tables.ranges.now)
-    (record { at = p.ensures.at; first = p.ensures.first; end = p.ensures.end }) p.ensures.kept)
+    let p = c.decode_relative_identifier in
+    at_node cx c.args.node c.args.depth (Some type.RelativeIdentifier)
+    (λ (B : ℕ → Encoding FaultKind Parts). Outcome cx B c.args.state.now p.new.state c.args.parts.now p.new.parts p.result)
+    (omega (arith, c.if-depth-eq0.false)) (sym c.node_at.ensures ∙ k.is ∙ ap (λ (n : Node). Some n) k.field-0-is) p.ensures.did
 
 pub decode_node-returns-in-Some-Utf8String-clause-did : goal.decoder::decode_node-returns-in-Some-Utf8String-clause-did
 decode_node-returns-in-Some-Utf8String-clause-did t c =
     let cx = c.args.context.now in
-    let a = c.args in
     let k = c.in-Some-Utf8String in
-    let p = c.keep-in-Some-Utf8String in
-    at_node cx a.node a.depth (Some type.Utf8String)
-    (λ (B : ℕ → Encoding FaultKind Parts). Outcome cx B a.state.now p.new.state a.parts.now p.new.parts p.result)
-    (omega (arith, c.if-depth-eq0.false)) (sym c.node_at.ensures ∙ k.is ∙ ap (λ (n : Node). Some n) k.field-0-is)
-    (kept_outcome cx (λ at. (contents 0 cx.is_aligned a.node IsUtf8Text at).encoding) a.state.now c.next_utf8_string.new.state p.new.state a.parts.now p.new.parts
-    c.next_utf8_string.result p.result c.next_utf8_string.ensures.onward (c.next_utf8_string.ensures.read cx.tables.ranges.now)
-    (record { at = p.ensures.at; first = p.ensures.first; end = p.ensures.end }) p.ensures.kept)
+    let p = c.decode_utf8_string in
+    at_node cx c.args.node c.args.depth (Some type.Utf8String)
+    (λ (B : ℕ → Encoding FaultKind Parts). Outcome cx B c.args.state.now p.new.state c.args.parts.now p.new.parts p.result)
+    (omega (arith, c.if-depth-eq0.false)) (sym c.node_at.ensures ∙ k.is ∙ ap (λ (n : Node). Some n) k.field-0-is) p.ensures.did
 
 pub decode_node-returns-in-Some-Real-clause-did : goal.decoder::decode_node-returns-in-Some-Real-clause-did
 decode_node-returns-in-Some-Real-clause-did t c =
     let cx = c.args.context.now in
-    let a = c.args in
     let k = c.in-Some-Real in
-    let p = c.keep-in-Some-Real in
-    at_node cx a.node a.depth (Some type.Real)
-    (λ (B : ℕ → Encoding FaultKind Parts). Outcome cx B a.state.now p.new.state a.parts.now p.new.parts p.result)
-    (omega (arith, c.if-depth-eq0.false)) (sym c.node_at.ensures ∙ k.is ∙ ap (λ (n : Node). Some n) k.field-0-is)
-    (kept_outcome cx (λ at. (contents 0 cx.is_aligned a.node IsReal at).encoding) a.state.now c.next_real.new.state p.new.state a.parts.now p.new.parts
-    c.next_real.result p.result c.next_real.ensures.onward (c.next_real.ensures.read cx.tables.ranges.now)
-    (record { at = p.ensures.at; first = p.ensures.first; end = p.ensures.end }) p.ensures.kept)
+    let p = c.decode_real in
+    at_node cx c.args.node c.args.depth (Some type.Real)
+    (λ (B : ℕ → Encoding FaultKind Parts). Outcome cx B c.args.state.now p.new.state c.args.parts.now p.new.parts p.result)
+    (omega (arith, c.if-depth-eq0.false)) (sym c.node_at.ensures ∙ k.is ∙ ap (λ (n : Node). Some n) k.field-0-is) p.ensures.did
 
 pub decode_node-returns-in-Some-Time-clause-did : goal.decoder::decode_node-returns-in-Some-Time-clause-did
 decode_node-returns-in-Some-Time-clause-did t c =
     let cx = c.args.context.now in
-    let a = c.args in
     let k = c.in-Some-Time in
-    let p = c.keep-in-Some-Time in
-    at_node cx a.node a.depth (Some (type.Time k.kind))
-    (λ (B : ℕ → Encoding FaultKind Parts). Outcome cx B a.state.now p.new.state a.parts.now p.new.parts p.result)
-    (omega (arith, c.if-depth-eq0.false)) (sym c.node_at.ensures ∙ k.is ∙ ap (λ (n : Node). Some n) k.field-0-is)
-    (kept_outcome cx (λ at. (time 0 cx.is_aligned a.node (IsTime k.kind) at).encoding) a.state.now c.next_time.new.state p.new.state a.parts.now p.new.parts
-    c.next_time.result p.result c.next_time.ensures.onward (c.next_time.ensures.read cx.tables.ranges.now)
-    (record { at = p.ensures.at; first = p.ensures.first; end = p.ensures.end }) p.ensures.kept)
+    let p = c.decode_time in
+    at_node cx c.args.node c.args.depth (Some (type.Time k.kind))
+    (λ (B : ℕ → Encoding FaultKind Parts). Outcome cx B c.args.state.now p.new.state c.args.parts.now p.new.parts p.result)
+    (omega (arith, c.if-depth-eq0.false)) (sym c.node_at.ensures ∙ k.is ∙ ap (λ (n : Node). Some n) k.field-0-is) p.ensures.did

@@ -1,33 +1,24 @@
-use Rattle.std.proofs.Common.{◌≡◌, ℕ, ◌+◌, ◌-◌, ◌*◌, List, sym, ◌∙◌, ap, subst, arith}
+use Rattle.std.proofs.Common.{◌≡◌, ◌≤◌, ◌+◌, ◌*◌, ℕ, zero, suc, List, [], ◌∷◌, drop, true, false, arith}
+use Rattle.std.specs.List.{AllByRecursion}
 use Rattle.asn1_bits.specs.Bits.{bits}
+use Rattle.asn1_schema.specs.CharactersOfParts.{numbers_in}
 use Rattle.asn1_x691.specs.Alphabets.{HasCode}
-use Rattle.asn1_x691_fields.specs.Characters.{character_by, AreCodes}
-use Rattle.asn1_x691_fields.specs.TextSteps.{first_number}
+use Rattle.asn1_x691_fields.specs.Characters.{AreCodes, character_by}
+use Rattle.asn1_x691_fields.proofs.CodeLemmas.{all_codes, codes_all}
 use Rattle.asn1_x691_fields.proofs.code_runs.are_codes.Goals as goal
 
-one_more : (width left more : ℕ) → more + 1 ≡ left → width * left ≡ width * more + width
-one_more width left more e =
-    let f : width * (more + 1) ≡ width * more + width = omega arith in
-    ap (λ (n : ℕ). width * n) (sym e) ∙ f
-
-pub returns-then-not-has_code-clause-no : goal.returns-then-not-has_code-clause-no
-returns-then-not-has_code-clause-no c e p =
+pub returns-in-Some-clause-yes : goal.returns-in-Some-clause-yes
+returns-in-Some-clause-yes c e =
     let a = c.args.alphabet.now in
-    let l = c.loop-left in
-    let apart = first_number a.width l.left (l.left - 1) l.next (bits c.args.octets.now) (omega (arith, c.loop-left-test.true)) in
-    let h = (subst (λ (codes : List ℕ). AreCodes a codes) apart (l.invariant.not_before p)).0 in
-    c.has_code.ensures.no c.if-not-has_code.true (character_by a.are_numbers a.ranges.now c.number_at.result)
-    (subst (λ (n : ℕ). HasCode a.is_aligned a.ranges.now n (character_by a.are_numbers a.ranges.now n)) (sym c.number_at.ensures) h)
+    let v = c.in-Some.interval in
+    all_codes a (λ n. (v.least ≤ n) × (n ≤ v.least + v.range)) (λ i h. c.in-Some.ensures.codes i h.0 h.1)
+    (numbers_in a.width c.args.count (drop c.args.at (bits c.args.octets.now))) (c.are_in.ensures.0 e)
 
-pub loop-left-preserved : goal.loop-left-preserved
-loop-left-preserved c =
+pub returns-in-Some-clause-no : goal.returns-in-Some-clause-no
+returns-in-Some-clause-no c e p =
     let a = c.args.alphabet.now in
-    let l = c.loop-left in
-    let apart = first_number a.width l.left (l.left - 1) l.next (bits c.args.octets.now) (omega (arith, c.loop-left-test.true)) in
-    let h = subst (λ (n : ℕ). HasCode a.is_aligned a.ranges.now n (character_by a.are_numbers a.ranges.now n)) c.number_at.ensures
-    (c.has_code.ensures.yes c.if-not-has_code.false) in
-    record {
-      index = omega (arith, l.invariant.index, one_more a.width l.left (l.left - 1) (omega (arith, c.loop-left-test.true)));
-      others = λ p. l.invariant.others (subst (λ (codes : List ℕ). AreCodes a codes) (sym apart) (h, p));
-      not_before = λ p. (subst (λ (codes : List ℕ). AreCodes a codes) apart (l.invariant.not_before p)).1;
-    }
+    let v = c.in-Some.interval in
+    let all = codes_all a (λ n. (v.least ≤ n) × (n ≤ v.least + v.range)) (λ i d h. c.in-Some.ensures.no_others i d h)
+    (numbers_in a.width c.args.count (drop c.args.at (bits c.args.octets.now))) p in
+    let is = c.are_in.ensures.1 all in
+    cc (is, e)

@@ -18,12 +18,12 @@ returns-clause-read c =
     let size = c.args.size in
     let old = c.args.state.now in
     let new = c.next_added_text.new.state in
-    let a = c.alphabet_of-alphabet.result in
-    let same : a.ranges.now ≡ rows_of table c.args.rows = c.alphabet_of-alphabet.ensures.ranges ∙ c.ranges_in.ensures in
+    let a = c.alphabet_of_few-alphabet.result in
+    let same : a.ranges.now ≡ rows_of table c.args.rows = c.alphabet_of_few-alphabet.ensures.ranges ∙ c.ranges_in.ensures in
     let text = characters_at a list c.in_ok-count.at c.in_ok-count.count in
     leaf_starts (added_text 0 c.args.is_aligned (rows_of table c.args.rows) node size) Text node (position old) (rest list old) (rest list new)
     text (piece_of table list c.part_of.result) (c.part_of.ensures table list same)
     (subst (λ (b : Bool). Starts (added_text 0 b (rows_of table c.args.rows) node size (position old)).encodes (rest list old) text (rest list new))
-    c.alphabet_of-alphabet.ensures.variant
+    c.alphabet_of_few-alphabet.ensures.variant
     (subst (λ (r : List Range). Starts (added_text 0 a.is_aligned r node size (position old)).encodes (rest list old) text (rest list new))
     same c.in_ok-count.ensures.read))

@@ -42,6 +42,6 @@ returns-clause-yes c e =
     let none = none_left c.args.table.now (bits c.args.source.now) c.loop-left.left (omega (arith, c.loop-left-test.false)) in
     c.loop-left.invariant.others (subst (λ (l : List ℕ). AreIn c.args.alphabet.now.ranges.now l) (sym none) tt)
 
-pub returns-then-are_copied-clause-yes : goal.returns-then-are_copied-clause-yes
-returns-then-are_copied-clause-yes c e =
-    copied_in c.args.alphabet.now c.args.source.now c.args.table.now c.args.text (c.are_copied.ensures c.if-are_copied.true)
+pub returns-then-is_copied-clause-yes : goal.returns-then-is_copied-clause-yes
+returns-then-is_copied-clause-yes c e =
+    copied_in c.args.alphabet.now c.args.source.now c.args.table.now c.args.text (c.requires.copied c.if-is_copied.true)

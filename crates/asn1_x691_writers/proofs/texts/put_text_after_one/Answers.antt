@@ -29,7 +29,7 @@ returns-then-not-are_in c root =
     let ranges = rows_of table c.args.rows in
     let A = text_of most_fragments aligned root node size in
     let B = added_text most_fragments aligned ranges node size in
-    let same : c.alphabet_of-alphabet.result.ranges.now ≡ ranges = c.alphabet_of-alphabet.ensures.ranges ∙ c.ranges_in.ensures in
+    let same : c.alphabet_of_few-alphabet.result.ranges.now ≡ ranges = c.alphabet_of_few-alphabet.ensures.ranges ∙ c.ranges_in.ensures in
     rejected aligned (text_in most_fragments aligned node size true root ranges) (Text text) c.args.octets.now c.args.state.now
     c.reject.new.state c.reject.result node NoEncoding
     c.reject.ensures.result c.reject.ensures.at c.reject.ensures.next c.reject.ensures.node c.reject.ensures.reason
@@ -56,9 +56,9 @@ returns c root =
     let now = c.put_added_text-state.new.octets in
     let at = c.put_bit-after.result in
     let new = c.put_added_text-state.result in
-    let a = c.alphabet_of-alphabet.result in
-    let same : a.ranges.now ≡ ranges = c.alphabet_of-alphabet.ensures.ranges ∙ c.ranges_in.ensures in
-    let variant : a.is_aligned ≡ aligned = c.alphabet_of-alphabet.ensures.variant in
+    let a = c.alphabet_of_few-alphabet.result in
+    let same : a.ranges.now ≡ ranges = c.alphabet_of_few-alphabet.ensures.ranges ∙ c.ranges_in.ensures in
+    let variant : a.is_aligned ≡ aligned = c.alphabet_of_few-alphabet.ensures.variant in
     let w : IsWritten aligned B text mid at now new =
     subst (λ (r : List Range). IsWritten aligned (added_text most_fragments aligned r node size) text mid at now new) same
     (subst (λ (b : Bool). IsWritten b (added_text most_fragments b a.ranges.now node size) text mid at now new) variant

@@ -30,7 +30,7 @@ returns-then-not-are_in c whole =
     let ranges = rows_of table c.args.rows in
     let A = text_of most_fragments aligned ranges node size in
     let B = added_text most_fragments aligned whole node size in
-    let same : c.alphabet_of-alphabet.result.ranges.now ≡ ranges = c.alphabet_of-alphabet.ensures.ranges ∙ c.ranges_in.ensures in
+    let same : c.alphabet_of_few-alphabet.result.ranges.now ≡ ranges = c.alphabet_of_few-alphabet.ensures.ranges ∙ c.ranges_in.ensures in
     rejected aligned (text_in most_fragments aligned node size true ranges whole) (Text text) c.args.octets.now c.args.state.now
     c.reject.new.state c.reject.result node NoEncoding
     c.reject.ensures.result c.reject.ensures.at c.reject.ensures.next c.reject.ensures.node c.reject.ensures.reason
@@ -58,9 +58,9 @@ returns c whole =
     let now = c.put_text_of-state.new.octets in
     let at = c.put_bit-after.result in
     let new = c.put_text_of-state.result in
-    let a = c.alphabet_of-alphabet.result in
-    let same : a.ranges.now ≡ ranges = c.alphabet_of-alphabet.ensures.ranges ∙ c.ranges_in.ensures in
-    let variant : a.is_aligned ≡ aligned = c.alphabet_of-alphabet.ensures.variant in
+    let a = c.alphabet_of_few-alphabet.result in
+    let same : a.ranges.now ≡ ranges = c.alphabet_of_few-alphabet.ensures.ranges ∙ c.ranges_in.ensures in
+    let variant : a.is_aligned ≡ aligned = c.alphabet_of_few-alphabet.ensures.variant in
     let w : IsWritten aligned A text mid at now new =
     subst (λ (r : List Range). IsWritten aligned (text_of most_fragments aligned r node size) text mid at now new) same
     (subst (λ (b : Bool). IsWritten b (text_of most_fragments b a.ranges.now node size) text mid at now new) variant

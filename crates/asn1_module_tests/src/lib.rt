@@ -1,0 +1,23 @@
+//! Tests of the crates for modules and for values: the notation, schemas, JSON and the builder.
+//!
+//! They are in a crate of their own, so that no crate is proved a second time for its tests.
+#![tactic(auto)]
+
+#[cfg(test)]
+mod as_json;
+#[cfg(test)]
+mod defaults;
+#[cfg(test)]
+mod encoded;
+#[cfg(test)]
+mod notation;
+#[cfg(test)]
+mod parts;
+#[cfg(test)]
+mod reals;
+#[cfg(test)]
+mod record;
+#[cfg(test)]
+mod resolve;
+#[cfg(test)]
+mod values;

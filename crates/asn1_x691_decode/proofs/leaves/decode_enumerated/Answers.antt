@@ -1,0 +1,12 @@
+use Rattle.asn1_x691.specs.Leaves.{enumerated_by}
+use Rattle.asn1_x691_decode.proofs.Steps.{kept_outcome}
+use Rattle.asn1_x691_decode.proofs.leaves.decode_enumerated.Goals as goal
+
+pub returns-clause-did : goal.returns-clause-did
+returns-clause-did c =
+    let cx = c.args.context.now in
+    let a = c.args in
+    let p = c.next_enumerated-part in
+    let k = c.keep in
+    kept_outcome cx (λ at. (enumerated_by cx.is_aligned a.node a.is_extensible a.last a.additions at).encoding) a.state.now p.new.state k.new.state a.parts.now k.new.parts p.result k.result
+    p.ensures.onward (p.ensures.read cx.tables.ranges.now) (record { at = k.ensures.at; first = k.ensures.first; end = k.ensures.end }) k.ensures.kept

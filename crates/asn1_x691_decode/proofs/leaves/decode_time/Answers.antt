@@ -1,0 +1,13 @@
+use Rattle.asn1_schema.specs.Times.{IsTime}
+use Rattle.asn1_x691.specs.Leaves.{time}
+use Rattle.asn1_x691_decode.proofs.Steps.{kept_outcome}
+use Rattle.asn1_x691_decode.proofs.leaves.decode_time.Goals as goal
+
+pub returns-clause-did : goal.returns-clause-did
+returns-clause-did c =
+    let cx = c.args.context.now in
+    let a = c.args in
+    let p = c.next_time-part in
+    let k = c.keep in
+    kept_outcome cx (λ at. (time 0 cx.is_aligned a.node (IsTime a.kind) at).encoding) a.state.now p.new.state k.new.state a.parts.now k.new.parts p.result k.result
+    p.ensures.onward (p.ensures.read cx.tables.ranges.now) (record { at = k.ensures.at; first = k.ensures.first; end = k.ensures.end }) k.ensures.kept
