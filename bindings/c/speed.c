@@ -2,7 +2,8 @@
  *
  *     cc -std=c11 -O2 bindings/c/speed.c crates/asn1_c/out/libasn1_c.a -o speed && ./speed
  *
- * Beside the calls for numbers stands the same work in C, in the loop itself: what is left is what a call costs beyond it. */
+ * Beside the calls for numbers stands the same work in C, in the loop itself: what is left is what a call costs
+ * beyond it. */
 #define _DEFAULT_SOURCE
 #include "asn1_values.h"
 
@@ -18,13 +19,13 @@ static volatile uint64_t sink;
 
 static inline uint64_t nothing(size_t i)
 {
-    return asn1_integer_is_shortest(octets, i & 0);
+    return asn1v_integer_is_shortest(octets, i & 0);
 }
 
 static inline uint64_t number(size_t i)
 {
     uint64_t value = 0;
-    asn1_read_u64(octets, 1024, i & 4095, 13, &value);
+    asn1v_read_u64(octets, 1024, i & 4095, 13, &value);
     return value;
 }
 
@@ -42,11 +43,11 @@ static inline uint64_t number_in_c(size_t i)
 static inline uint64_t integer(size_t i)
 {
     int64_t value = 0;
-    asn1_integer_to_i64(octets + i % 1000, 3, &value);
+    asn1v_integer_to_i64(octets + i % 1000, 3, &value);
     return (uint64_t)value;
 }
 
-/* The same in C: octets of any length are taken, and one that does not fit is refused. */
+/* The same in C: octets of any length are taken, and one that does not fit is rejected. */
 static inline uint64_t integer_in_c(size_t i)
 {
     const uint8_t *at = octets + i % 1000;
@@ -59,7 +60,7 @@ static inline uint64_t integer_in_c(size_t i)
 static uint64_t text_of(size_t length)
 {
     size_t count = 0;
-    asn1_integer_text(octets, length, room, sizeof room, &count);
+    asn1v_integer_text(octets, length, room, sizeof room, &count);
     return count;
 }
 
@@ -71,57 +72,57 @@ static inline uint64_t text_4096(size_t i) { return text_of(4096 + (i & 0)); }
 static inline uint64_t element(size_t i)
 {
     static const uint8_t list[4] = {0x02, 0x02, 0x10, 0x00};
-    asn1_element found = {0};
-    asn1_der_next(list, sizeof list, i & 0, &found);
+    asn1v_element found = {0};
+    asn1v_der_next(list, sizeof list, i & 0, &found);
     return found.end;
 }
 
 static inline uint64_t moment(size_t i)
 {
     static const uint8_t text[13] = "261126043000Z";
-    asn1_time time = {0};
-    asn1_der_utc_time(text, sizeof text + (i & 0), &time);
+    asn1v_time time = {0};
+    asn1v_der_utc_time(text, sizeof text + (i & 0), &time);
     return time.second;
 }
 
 /* A field of each kind, in the order of the kinds: its shape, and its octets from bit 0 on. */
-static asn1_alphabet digits;
-static const asn1_shape shapes[7] = {{ASN1_NUMBER, 13},        {ASN1_OCTETS, 4},          {ASN1_BITS, 13},
-                                     {ASN1_INTEGER, 2},        {ASN1_COUNTED_INTEGER, 0}, {ASN1_CHARACTER_FIELD, 0},
-                                     {ASN1_IDENTIFIER, 3}};
+static asn1v_alphabet digits;
+static const asn1v_shape shapes[7] = {{ASN1V_NUMBER, 13},   {ASN1V_OCTETS, 4},          {ASN1V_BITS, 13},
+                                      {ASN1V_INTEGER, 2},   {ASN1V_COUNTED_INTEGER, 0}, {ASN1V_CHARACTER_FIELD, 0},
+                                      {ASN1V_IDENTIFIER, 3}};
 static const uint8_t spelled[7][4] = {{0x5A, 0x5A}, {1, 2, 3, 4}, {0x5A, 0x5A}, {0x12, 0x34}, {2, 0x12, 0x34},
                                       {0x50},       {0x2A, 0x86, 0x48}};
 
 /* At bit 3 of these octets lies the field of each kind. */
 static uint8_t at_bit_3[7][8];
-static asn1_field told[7];
+static asn1v_field told[7];
 
 static void prepare(void)
 {
-    asn1_refusal refusal;
+    asn1v_refusal refusal;
     size_t end = 0;
-    asn1_alphabet_new(ASN1_NUMERIC_STRING, false, NULL, 0, false, &digits);
+    asn1v_alphabet_new(ASN1V_NUMERIC_STRING, false, NULL, 0, false, &digits);
     for (size_t kind = 0; kind < 7; kind++) {
-        asn1_or_bits(at_bit_3[kind], 8, 3, spelled[kind], 4, 0, 32);
-        asn1_read_fields(at_bit_3[kind], 8, 3, &digits, 1, &shapes[kind], 1, &told[kind], 1, &end, &refusal);
+        asn1v_or_bits(at_bit_3[kind], 8, 3, spelled[kind], 4, 0, 32);
+        asn1v_read_fields(at_bit_3[kind], 8, 3, &digits, 1, &shapes[kind], 1, &told[kind], 1, &end, &refusal);
     }
 }
 
 static inline uint64_t field_read(size_t kind)
 {
-    asn1_refusal refusal;
-    asn1_field field = {0};
+    asn1v_refusal refusal;
+    asn1v_field field = {0};
     size_t end = 0;
-    asn1_read_fields(at_bit_3[kind], 8, 3, &digits, 1, &shapes[kind], 1, &field, 1, &end, &refusal);
+    asn1v_read_fields(at_bit_3[kind], 8, 3, &digits, 1, &shapes[kind], 1, &field, 1, &end, &refusal);
     return end;
 }
 
 static inline uint64_t field_written(size_t kind)
 {
-    asn1_refusal refusal;
+    asn1v_refusal refusal;
     size_t end = 0;
-    asn1_write_fields(room, sizeof room, 5, at_bit_3[kind], 8, &digits, 1, &shapes[kind], 1, &told[kind], 1, &end,
-                      &refusal);
+    asn1v_write_fields(room, sizeof room, 5, at_bit_3[kind], 8, &digits, 1, &shapes[kind], 1, &told[kind], 1, &end,
+                       &refusal);
     return end;
 }
 
@@ -191,24 +192,24 @@ int main(void)
         size_t calls;
     } rows[] = {
         {"a call that does next to nothing", nothing_loop, CALLS},
-        {"a number of 13 bits at any bit, asn1_read_u64", number_loop, CALLS},
+        {"a number of 13 bits at any bit, asn1v_read_u64", number_loop, CALLS},
         {"the same in C", number_in_c_loop, CALLS},
-        {"the number of three octets, asn1_integer_to_i64", integer_loop, CALLS},
+        {"the number of three octets, asn1v_integer_to_i64", integer_loop, CALLS},
         {"the same in C", integer_in_c_loop, CALLS},
-        {"decimal text of 8 octets, asn1_integer_text", text_8_loop, CALLS},
+        {"decimal text of 8 octets, asn1v_integer_text", text_8_loop, CALLS},
         {"decimal text of 20 octets", text_20_loop, 200},
         {"decimal text of 256 octets", text_256_loop, 20},
         {"decimal text of 4,096 octets: sixteen times as many", text_4096_loop, 1},
-        {"an element of four octets, asn1_der_next", element_loop, CALLS},
-        {"a UTCTime, asn1_der_utc_time", moment_loop, CALLS},
-        {"a number of 13 bits at bit 3, asn1_read_fields", field_read_0_loop, CALLS},
+        {"an element of four octets, asn1v_der_next", element_loop, CALLS},
+        {"a UTCTime, asn1v_der_utc_time", moment_loop, CALLS},
+        {"a number of 13 bits at bit 3, asn1v_read_fields", field_read_0_loop, CALLS},
         {"four octets", field_read_1_loop, CALLS},
         {"13 bits", field_read_2_loop, CALLS},
         {"an integer of two octets", field_read_3_loop, CALLS},
         {"the same, counted", field_read_4_loop, CALLS},
         {"a character of NumericString", field_read_5_loop, CALLS},
         {"an identifier of three octets", field_read_6_loop, CALLS},
-        {"a number of 13 bits at bit 5, asn1_write_fields", field_written_0_loop, CALLS},
+        {"a number of 13 bits at bit 5, asn1v_write_fields", field_written_0_loop, CALLS},
         {"four octets", field_written_1_loop, CALLS},
         {"13 bits", field_written_2_loop, CALLS},
         {"an integer of two octets", field_written_3_loop, CALLS},

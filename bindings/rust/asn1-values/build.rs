@@ -1,23 +1,57 @@
-//! Links the static library, which lies in the folder that `ASN1_VALUES_LIBRARY` names, or else in the repository's
-//! `crates/asn1_c/out`, where `rt lib` writes it.
+//! Links the static library. It is in the folder that `ASN1_VALUES_LIBRARY` names, otherwise in the repository's
+//! `crates/asn1_c/out`; if it is not there yet, `rt lib` proves and builds it.
 
 use std::env;
 use std::path::{Path, PathBuf};
+use std::process::{Command, ExitStatus};
+
+/// The library's file.
+const LIBRARY: &str = "libasn1_c.a";
+
+/// Runs `rt lib` in the folder of the library's source. It takes an hour of processor the first time.
+fn build(source: &Path) -> Result<(), String> {
+    let ran = Command::new("rt").arg("lib").current_dir(source).status();
+    match ran.as_ref().map(ExitStatus::success) {
+        Ok(true) => Ok(()),
+        Ok(false) => Err("`rt lib` failed".into()),
+        Err(error) => Err(format!(
+            "the command `rt` of the kit rattle-kit-13f does not run ({error})"
+        )),
+    }
+}
+
+/// Returns the folder of the library.
+fn folder() -> Result<PathBuf, String> {
+    if let Some(named) = env::var_os("ASN1_VALUES_LIBRARY") {
+        let named = PathBuf::from(named);
+        if named.join(LIBRARY).exists() {
+            return Ok(named);
+        }
+        let named = named.display();
+        return Err(format!(
+            "ASN1_VALUES_LIBRARY names {named}, where there is no {LIBRARY}"
+        ));
+    }
+    let source = Path::new(env!("CARGO_MANIFEST_DIR")).join("../../../crates/asn1_c");
+    let out = source.join("out");
+    if out.join(LIBRARY).exists() {
+        return Ok(out);
+    }
+    if !source.is_dir() {
+        return Err("this copy of the crate is outside of its repository".into());
+    }
+    build(&source).map(|()| out)
+}
 
 fn main() {
     println!("cargo:rerun-if-env-changed=ASN1_VALUES_LIBRARY");
-    let folder = match env::var_os("ASN1_VALUES_LIBRARY") {
-        Some(folder) => PathBuf::from(folder),
-        None => Path::new(env!("CARGO_MANIFEST_DIR")).join("../../../crates/asn1_c/out"),
-    };
-    let library = folder.join("libasn1_c.a");
-    println!("cargo:rerun-if-changed={}", library.display());
-    if !library.exists() {
-        panic!(
-            "{} is not there: run `rt lib` in crates/asn1_c, or set ASN1_VALUES_LIBRARY to the folder of libasn1_c.a",
-            library.display()
-        );
+    if env::var_os("DOCS_RS").is_some() {
+        return;
     }
+    let folder = folder().unwrap_or_else(|why| {
+        panic!("{why}: set ASN1_VALUES_LIBRARY to the folder of {LIBRARY}, which `scripts/install-c` of the repository makes")
+    });
+    println!("cargo:rerun-if-changed={}", folder.join(LIBRARY).display());
     println!("cargo:rustc-link-search=native={}", folder.display());
     println!("cargo:rustc-link-lib=static=asn1_c");
 }

@@ -122,7 +122,7 @@ behind_more : (front : List ℕ) (n : ℕ) (r : Option (List ℕ))
 behind_more front n (Some ns) = ap (λ (l : List ℕ). Some l) (sym (append_assoc front (n ∷ []) ns))
 behind_more front n None = refl
 
--- one number more, and those behind it
+-- one number more, and those after it
 record Splits (all done : List ℕ) (n : ℕ) : Type 0 where
   rest : List ℕ
   parts : all ≡ (done ++ n ∷ []) ++ rest

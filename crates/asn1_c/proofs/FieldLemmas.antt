@@ -137,7 +137,7 @@ next_read octets alphabets from at i ss fs d f in_shapes in_fields p h =
     rw (take_more ss i d in_shapes, take_more_set fs i f in_fields)
     (read_more octets alphabets from at (take i ss) (take i fs) (get_or ss i d) f p h)
 
--- what stands behind it is as before
+-- the fields after it are unchanged
 pub next_kept : (fs old : List Field) (i : ℕ) (f : Field) → drop i fs ≡ drop i old
     → drop (i + 1) (set fs i f) ≡ drop (i + 1) old
 next_kept fs old i f e =

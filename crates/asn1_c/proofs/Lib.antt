@@ -15,7 +15,6 @@ pub mod IntegerLemmas
 pub mod NoneLemmas
 pub mod OctetLemmas
 pub mod PlanLemmas
-pub mod ReportLemmas
 pub mod TextLemmas
 pub mod TextCharacterLemmas
 pub mod Utf8Lemmas

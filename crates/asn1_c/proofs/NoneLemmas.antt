@@ -1,4 +1,4 @@
--- What has a reason has no spelling, and spellings of one field are equally long.
+-- What has a reason has no encoding, and encodings of one field are equally long.
 use Rattle.std.proofs.Common.{◌≡◌, ℕ, ◌+◌, ◌*◌, ◌^◌, ◌≤◌, ℤ, inl, inr, Bool, true, false, List, ◌∷◌, ◌++◌, length, take, drop, refl, sym, ap, subst, ◌∙◌, arith, ◌⊎◌}
 use Rattle.std.proofs.lemmas.Bool.{le-leb, lt-leb}
 use Rattle.std.proofs.lemmas.List.{length-append, length-take, take_at, drop_at, take-take, drop-take}
@@ -63,7 +63,7 @@ same_length source shape f a b x y = elim (either (by_number shape f)) [
   | inr e ↦ (let p = x.lies e in let q = y.lies e in ap length (p.1 ∙ sym q.1))
 ]
 
--- ---- what has a reason has no spelling
+-- ---- what has a reason has no encoding
 
 lying_length : (source : List ℕ) (f : Field) (list : List Bool) → LieIn source f list → length list ≡ f.length
 lying_length source f list lies = ap length lies.1 ∙ length-cut source f.first f.length lies.0

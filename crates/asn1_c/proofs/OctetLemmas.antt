@@ -102,7 +102,7 @@ module _ (octets : List ℕ) (at count : ℕ) (le : at + 8 * count ≤ 8 * lengt
       ∙ ap (λ (k : ℕ). take i (octets_at octets at count) ++ k ∷ []) here
       ∙ sym (take_more (octets_at octets at count) i 0 (omega arith))
 
--- so many octets are spelled by their bits
+-- so many octets are encoded by their bits
 pub octets_spelled : (n : ℕ) (list : List Bool) → length list ≡ 8 * n
     → (o : List ℕ) × (length o ≡ n) × IsSpelledBy (plain.Octets o) list
 octets_spelled n list e = (

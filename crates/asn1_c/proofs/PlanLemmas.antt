@@ -1,4 +1,4 @@
--- How fields are written: what a plan writes, and that it spells the field.
+-- How fields are written: what a plan writes, and that it encodes the field.
 use Rattle.std.proofs.Common.{◌≡◌, ◌≢◌, ℕ, ◌+◌, ◌*◌, ◌^◌, ◌<◌, ◌≤◌, Bool, true, false, List, [], ◌++◌, length, take, drop, refl, sym, ap, subst, ◌∙◌, arith, append-nil, append_assoc}
 use Rattle.std.specs.Prelude.{nat_le, IfOk, Result, Ok, Err}
 use Rattle.std.specs.Int.{cast_signed, w128}
@@ -62,7 +62,7 @@ planned_bits source p no_octet no_number =
     ap (λ (l : List Bool). l ++ (digits p.number p.width ++ cut)) (digits_none p.octet p.lead no_octet)
     ∙ ap (λ (l : List Bool). l ++ cut) (digits_none p.number p.width no_number)
 
--- three writes, one behind another
+-- three writes, one after another
 pub put_all : (source : List ℕ) (p : Plan) (at behind last : ℕ) (old one two three : List Bool)
     → at ≤ length old
     → behind ≡ at + p.lead → last ≡ behind + p.width
@@ -89,7 +89,7 @@ pub view_cut : (v : View) (source : List ℕ) (first len : ℕ)
 unfolding list_of
 view_cut v source first len e = ap list_of e
 
--- ---- what it spells
+-- ---- what it encodes
 
 no_true : (b : Bool) {P : Type 0} → b ≡ true → b ≡ false → P
 no_true b t f = absurd cc

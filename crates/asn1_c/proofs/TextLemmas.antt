@@ -95,7 +95,7 @@ dotted_front x xs i =
       length-append (decimal x) (flat_map (λ arc. full_stop ∷ decimal arc) xs),
     )
 
--- what was put behind what was written
+-- what was put after what was written
 pub put_behind : (front part room : List ℕ) (at : ℕ) → at ≡ length front → at + length part ≤ length room
     → take at (front ++ drop at room) ++ (part ++ drop (at + length part) (front ++ drop at room)) ≡ (front ++ part) ++
     drop (at + length part) room
@@ -108,7 +108,7 @@ put_behind front part room at e le =
     ap (λ l. l ++ (part ++ drop (at + length part) (front ++ drop at room))) f ∙ ap (λ l. front ++ (part ++ l)) b
     ∙ sym (append_assoc front part (drop (at + length part) room))
 
--- what stands behind the full stop
+-- what is after the full stop
 pub digits_behind : (octets : List ℕ) (first n : ℕ) → drop first octets ≡ full_stop ∷ decimal n
     → drop (first + 1) octets ≡ decimal n
 digits_behind octets first n e = sym (drop-drop 1 first octets) ∙ ap (drop 1) e

@@ -8,7 +8,7 @@ use Rattle.asn1_number.specs.OctetLaws.{nine_bits_from_shortest}
 use Rattle.asn1_number.specs.Readings.{IsInRange, UnsignedOf, SignedOf, kind_u64, signed_reading, counted_length}
 use Rattle.asn1_number.specs.ReadingLaws.{unsigned_law, past_sixteen, past_u128}
 
--- more than sixteen shortest octets spell no number of 128 bits in two's complement
+-- more than sixteen shortest octets encode no number of 128 bits in two's complement
 pub past_i128 : (n : ℤ) (o : List ℕ) → IsShortest n o → 16 < length o → IsInRange (SignedOf 16) n → ⊥
 past_i128 n o s more r =
     past_sixteen o s.octets (nine_bits_from_shortest n o s) more (subst (IsInRange (SignedOf 16)) (sym s.value) r)
@@ -38,7 +38,7 @@ one_more_at_most size n o sized s r = elim (cases_lt (size + 1) (length o)) [
   | inr le ↦ le
 ]
 
--- seventeen octets or more that do not begin with zero, or eighteen, spell no number of 128 bits
+-- seventeen octets or more that do not begin with zero, or eighteen, encode no number of 128 bits
 pub no_u128 : (n : ℤ) (o : List ℕ) → IsShortest n o → 16 < length o → (length o ≡ 17 → get_or o 0 0 ≡ 0 → ⊥)
     → IsInRange (UnsignedOf 16) n → ⊥
 no_u128 n o s more none r =

@@ -132,7 +132,7 @@ module _ (source : List ℕ) (alphabets : List Alphabet) where
         front_fits ss fs i d e a.1 b.1 part a.3 (omega arith) b.3 n,
       )
 
-  -- what is refused has no spelling
+  -- what is rejected has no encoding
   pub none_named : (ss : List Shape) (fs : List Field) (r : Refusal) (list : List Bool)
       → IsUnnamedAt source alphabets ss fs r → AreNamed source alphabets ss fs list → ⊥
   none_named [] fs r list u a = absurd (let w = u.within in omega arith)
@@ -145,7 +145,7 @@ module _ (source : List ℕ) (alphabets : List Alphabet) where
       (u.reason (get_or (s ∷ ss) r.field s) (get_or (f ∷ fs) r.field f) (slice_get-get_or (s ∷ ss) r.field s w)
       (slice_get-get_or (f ∷ fs) r.field f (omega arith))) here.1
 
-  -- the refusal of a field, those before which all have their bits
+  -- the error of a field, those before which all have their bits
   pub refused_at : (ss : List Shape) (fs : List Field) (i : ℕ) (d : Shape) (e : Field) (r : Refusal)
       (list : List Bool) → length ss ≡ length fs → i < length ss
       → r.field ≡ i → AreNamed source alphabets (take i ss) (take i fs) list
@@ -168,7 +168,7 @@ module _ (source : List ℕ) (alphabets : List Alphabet) where
   not_past ss fs a list at n total x y e le few (inl past) = omega (arith, all_length ss fs a list x y)
   not_past ss fs a list at n total x y e le few (inr past) = omega (arith, all_length ss fs a list x y)
 
-  -- one field is written behind others
+  -- one field is written after others
   pub put_more : (at place : ℕ) (old now new list part : List Bool) → place ≤ length old
       → at ≡ place + length list → now ≡ overwritten old place list → new ≡ overwritten now at part
       → new ≡ overwritten old place (list ++ part)

@@ -1,58 +1,62 @@
--- Elements of DER that lie in octets (X.690 8.1), and what is wrong with one.
-use Rattle.std.specs.Prelude.{◌≡◌, ◌+◌, ◌-◌, ◌≤◌, ℕ, List, length, take, drop}
+-- Elements of DER that lie in octets (X.690 8.1), and why octets begin with none.
+use Rattle.std.specs.Prelude.{◌≡◌, ◌+◌, ◌-◌, ◌≤◌, ◌^◌, ℕ, List, Bool, take, drop, length}
 use Rattle.asn1_bits.specs.Bits.{bits}
-use Rattle.asn1_der.specs.declared.tag.Tag.{Tag}
-use Rattle.asn1_der.specs.declared.tag.TagFault.{TagFault}
-use Rattle.asn1_der.specs.declared.tag.TagFault.TheVariants as wrong_tag
-use Rattle.asn1_der.specs.declared.length.LengthFault.{LengthFault}
-use Rattle.asn1_der.specs.declared.length.LengthFault.TheVariants as wrong_length
-use Rattle.asn1_der.specs.declared.tlv.ElementFault.{ElementFault}
-use Rattle.asn1_der.specs.declared.tlv.ElementFault.TheVariants as wrong
-use Rattle.asn1_der.specs.Tags.{class_number}
-use Rattle.asn1_der.specs.Elements.{IsElement, AnyFaultIs}
+use Rattle.asn1_schema.specs.Encodings.{Fault, Starts}
+use Rattle.asn1_x690.specs.declared.fault.FaultKind.{FaultKind}
+use Rattle.asn1_x690.specs.declared.fault.FaultKind.TheVariants as kind
+use Rattle.asn1_x690.specs.declared.tables.Class.{Class}
+use Rattle.asn1_x690.specs.declared.tables.Class.TheVariants.{Universal, Application, Context, Private}
+use Rattle.asn1_x690.specs.declared.tables.Identifier.{Identifier}
+use Rattle.asn1_x690.specs.Elements.{any_element}
 use Rattle.asn1_c.specs.declared.elements.Element.{Element}
 
--- so many octets from a place on
+-- so many octets from an offset on
 abbrev pub part : List ℕ → ℕ → ℕ → List ℕ
 part octets first count = take count (drop first octets)
 
--- the octets from the position up to the element's end are an element, and C is told its tag and where its contents lie
+-- bits 8 and 7 of the first octet (8.1.2.2)
+abbrev pub class_number : Class → ℕ
+class_number Universal = 0
+class_number Application = 1
+class_number Context = 2
+class_number Private = 3
+
+-- the octets from the position up to the element's end are an element, and C is told its identifier and where its contents octets lie
 pub record IsElementAt (octets : List ℕ) (position : ℕ) (e : Element) : Type 0 where
-  pub tag : Tag
-  pub class : e.class ≡ class_number tag.class
-  pub constructed : e.constructed ≡ tag.constructed
-  pub number : e.number ≡ tag.number
+  pub identifier : Identifier
+  pub class : e.class ≡ class_number identifier.tag.class
+  pub constructed : e.constructed ≡ identifier.is_constructed
+  pub number : e.number ≡ identifier.tag.number
   pub begins : position ≤ e.first
   pub ends : e.first + e.length ≡ e.end
   pub within : e.end ≤ length octets
-  pub spelled : IsElement tag (bits (part octets e.first e.length)) (bits (part octets position (e.end - position)))
+  pub encoded : (any_element 0).encodes (identifier, bits (part octets e.first e.length)) (bits (part octets position (e.end - position)))
 
--- what can be wrong where any tag is wanted
-abbrev pub IsOfAnyTag : TagFault → Type 0
-IsOfAnyTag (wrong_tag.Other found) = ⊥
-IsOfAnyTag fault = Unit {0}
+-- the octets from the position on begin with an element, and 64 bits do not hold the number of its tag
+pub record HasLargeTagAt (octets : List ℕ) (position : ℕ) : Type 0 where
+  pub element : Identifier × List Bool
+  pub rest : List Bool
+  pub starts : Starts (any_element 0).encodes (bits (drop position octets)) element rest
+  pub large : 2 ^ 64 ≤ element.0.tag.number
 
 -- the code of a fault
-abbrev pub tag_code : TagFault → ℕ
-tag_code (wrong_tag.Short missing) = 28
-tag_code wrong_tag.Padded = 29
-tag_code wrong_tag.Low = 30
-tag_code wrong_tag.Large = 31
-tag_code (wrong_tag.Other found) = 0
+abbrev pub fault_code : FaultKind → ℕ
+fault_code kind.Short = 15
+fault_code kind.NotMinimal = 28
+fault_code kind.Indefinite = 29
+fault_code kind.Reserved = 30
+fault_code kind.OtherTag = 32
+fault_code kind.Missing = 32
+fault_code kind.Extra = 32
+fault_code kind.Contents = 32
+fault_code kind.NotPermitted = 32
+fault_code kind.DefaultValue = 32
+fault_code kind.NotAscending = 32
+fault_code kind.NoNode = 32
+fault_code kind.TooDeep = 32
 
-abbrev pub length_code : LengthFault → ℕ
-length_code (wrong_length.Short missing) = 32
-length_code wrong_length.Indefinite = 33
-length_code wrong_length.Large = 34
-length_code wrong_length.NotShortest = 35
-length_code (wrong_length.Missing m) = 36
-
-abbrev pub element_code : ElementFault → ℕ
-element_code (wrong.Tag fault) = tag_code fault
-element_code (wrong.Length fault) = length_code fault
-
--- what the octets begin with from the position on is no element, and the code is that of the reason
+-- the octets from the position on begin with no element, and the code is that of the first fault
 pub record IsElementFaultAt (octets : List ℕ) (position code : ℕ) : Type 0 where
-  pub fault : ElementFault
-  pub named : element_code fault ≡ code
-  pub reason : AnyFaultIs (bits (drop position octets)) fault
+  pub fault : Fault FaultKind
+  pub named : fault_code fault.kind ≡ code
+  pub first : (any_element 0).fault (bits (drop position octets)) fault

@@ -33,7 +33,7 @@ number_of_words high low = high * 2 ^ 64 + low
 abbrev pub signed_of_words : ℕ → ℕ → ℤ
 signed_of_words high low = cast_signed w128 (number_of_words high low)
 
--- the first bit behind a field
+-- the first bit after a field
 abbrev pub end_of : Field → ℕ
 end_of f = f.first + f.length
 
@@ -41,7 +41,7 @@ end_of f = f.first + f.length
 abbrev pub TellsNone : Field → Type 0
 TellsNone f = (f.high ≡ 0) × (f.low ≡ 0)
 
--- the number of up to sixteen octets, which the field has with some bits in front, is told
+-- the number of up to sixteen octets, which the field has with some bits before, is told
 abbrev pub TellsInteger : ℕ → ℤ → Field → Type 0
 TellsInteger lead n f =
     (f.length ≤ lead + 128 → signed_of_words f.high f.low ≡ n) × (lead + 128 < f.length → TellsNone f)
@@ -55,7 +55,7 @@ Tells (plain.CountedInteger n) f = TellsInteger 8 n f
 Tells (plain.Character alphabet c) f = (f.low ≡ c) × IsCode alphabet c f.high
 Tells field f = TellsNone f
 
--- bits of the octets, from a place on, spell a field of the shape, and C is told it
+-- bits of the octets, from a place on, encode a field of the shape, and C is told it
 pub record IsSpelledAt (octets : List ℕ) (from : ℕ) (shape : plain.Shape) (f : Field) : Type 0 where
   pub field : plain.Field
   pub of_shape : IsOfShape field shape
@@ -75,11 +75,11 @@ AreReadAt octets alphabets from (s ∷ ss) (f ∷ fs) to =
     IsReadAt octets alphabets from s f × AreReadAt octets alphabets (end_of f) ss fs to
 AreReadAt octets alphabets from ss fs to = ⊥
 
--- the refusal has the code, and tells the number
+-- the error has the code, and tells the number
 abbrev pub Says : Refusal → ℕ → ℕ → Type 0
 Says r code n = (r.code ≡ code) × (number_of_words r.high r.low ≡ n)
 
--- the refusal's code is that of the fault, and its number that which the fault has
+-- the error's code is that of the fault, and its number that which the fault has
 abbrev pub Names : Fault → Refusal → Type 0
 Names (NumberWidth width) r = Says r 2 width
 Names (Short n) r = Says r 15 n
@@ -89,7 +89,7 @@ Names (NoCharacter code) r = Says r 14 code
 Names NotIdentifier r = Says r 6 0
 Names ArcOver r = Says r 7 0
 
--- the refusal names the reason why no field of the shape begins what is left
+-- the error names the reason why no field of the shape begins what is left
 pub record NamesReason (shape : plain.Shape) (left : List Bool) (r : Refusal) : Type 0 where
   pub fault : Fault
   pub names : Names fault r
@@ -101,7 +101,7 @@ IsRefusal alphabets s left r =
     (Says r 21 0 × (shape_named alphabets s ≡ None))
     ⊎ ((shape : plain.Shape) × (shape_named alphabets s ≡ Some shape) × NamesReason shape left r)
 
--- the fields before the refused one are read, and at their end no field of its shape begins
+-- the fields before the rejected one are read, and at their end no field of its shape begins
 pub record IsRefusedAt (octets : List ℕ) (alphabets : List Alphabet) (from : ℕ) (ss : List Shape) (fs : List Field)
     (r : Refusal) : Type 0 where
   pub at : ℕ

@@ -4,7 +4,6 @@ pub mod Contents
 pub mod Elements
 pub mod Fields
 pub mod Octets
-pub mod Reports
 pub mod Sets
 pub mod Text
 pub mod Writing

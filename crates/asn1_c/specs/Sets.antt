@@ -52,7 +52,7 @@ IsSpellable name c = (has_character (base_set name) c ≡ true) × IsScalar c
 abbrev pub utf8_of : CharacterSetName → List ℕ → List ℕ
 utf8_of name octets = encode_utf8_all (characters name octets)
 
--- the octets of a character (X.690 8.21): one, or two with the most significant first
+-- the octets of a character (X.690 8.23): one, or two with the most significant first
 abbrev pub octets_of_character : CharacterSetName → ℕ → List ℕ
 octets_of_character Bmp c = c / 256 ∷ c % 256 ∷ []
 octets_of_character name c = c ∷ []

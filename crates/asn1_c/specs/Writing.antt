@@ -33,7 +33,7 @@ IsNumberOf f field = ⊥
 abbrev pub LieIn : List ℕ → Field → List Bool → Type 0
 LieIn source f list = (end_of f ≤ 8 * length source) × (list ≡ take f.length (drop f.first (bits source)))
 
--- the bits spell a field of the shape, which C names by its number or by its place in the source
+-- the bits encode a field of the shape, which C names by its number or by its place in the source
 pub record IsNamedAs (source : List ℕ) (shape : plain.Shape) (f : Field) (list : List Bool) : Type 0 where
   pub field : plain.Field
   pub of_shape : IsOfShape field shape
@@ -45,7 +45,7 @@ abbrev pub IsNamed : List ℕ → List Alphabet → Shape → Field → List Boo
 IsNamed source alphabets s f list =
     (shape : plain.Shape) × (shape_named alphabets s ≡ Some shape) × IsNamedAs source shape f list
 
--- the bits are the concatenation of the fields' spellings
+-- the bits are the concatenation of the fields' encodings
 abbrev pub AreNamed : List ℕ → List Alphabet → List Shape → List Field → List Bool → Type 0
 AreNamed source alphabets [] [] list = list ≡ []
 AreNamed source alphabets (s ∷ ss) (f ∷ fs) list =
@@ -53,9 +53,9 @@ AreNamed source alphabets (s ∷ ss) (f ∷ fs) list =
     × AreNamed source alphabets ss fs rest × (list ≡ front ++ rest)
 AreNamed source alphabets ss fs list = ⊥
 
--- ---- refusals
+-- ---- errors
 
--- the refusal's code is that of the misfit, and its number that which the misfit has
+-- the error's code is that of the misfit, and its number that which the misfit has
 abbrev pub SaysMisfit : Misfit → Refusal → Type 0
 SaysMisfit (WidthOver width) r = Says r 2 width
 SaysMisfit PastWidth r = Says r 5 0
@@ -63,7 +63,7 @@ SaysMisfit (NotInAlphabet c) r = Says r 12 c
 SaysMisfit PastLength r = ⊥
 SaysMisfit TooFewArcs r = ⊥
 
--- the refusal names the reason why the field has no spelling
+-- the error names the reason why the field has no encoding
 pub record NamesMisfit (field : plain.Field) (r : Refusal) : Type 0 where
   pub misfit : Misfit
   pub says : SaysMisfit misfit r
@@ -93,7 +93,7 @@ IsMiscountedThere source f r =
     ⊎ (((end_of f ≤ 8 * length source) × NamesReason plain.OfCountedInteger (drop f.first (bits source)) r)
     ⊎ (Says r 17 f.length × ((g : Field) × IsSpelledAt source f.first plain.OfCountedInteger g × (g.length ≢ f.length))))
 
--- why no bits spell the field; the first reason that applies
+-- why no bits encode the field; the first reason that applies
 abbrev pub IsWrong : List ℕ → plain.Shape → Field → Refusal → Type 0
 IsWrong source (plain.OfNumber width) f r = NamesMisfit (plain.Number (number_of_words f.high f.low) width) r
 IsWrong source (plain.OfOctets count) f r = IsMisplaced source (8 * count) f r
@@ -112,7 +112,7 @@ IsUnnamed source alphabets s f r =
     (Says r 21 0 × (shape_named alphabets s ≡ None))
     ⊎ ((shape : plain.Shape) × (shape_named alphabets s ≡ Some shape) × IsWrong source shape f r)
 
--- bits spell each field before the refused one, and for that one there is the reason
+-- bits encode each field before the rejected one, and for that one there is the reason
 pub record IsUnnamedAt (source : List ℕ) (alphabets : List Alphabet) (ss : List Shape) (fs : List Field) (r : Refusal)
     : Type 0 where
   pub list : List Bool

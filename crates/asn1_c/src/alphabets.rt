@@ -13,7 +13,7 @@ use asn1_values::{
     NumericString, PrintableString, TeletexString, VisibleString,
 };
 
-/// The alphabet of a string, which `asn1_alphabet_new` fills.
+/// The alphabet of a string, which `asn1v_alphabet_new` fills.
 #[repr(C)]
 #[derive(Clone, Copy, Debug)]
 pub struct Alphabet<'s> {
@@ -72,7 +72,7 @@ fn alphabet_for<'s>(
 /// Fills the alphabet of a string. The set is the permitted one where `permitted` says so, and else
 /// not looked at. The alphabet refers to the set, and copies none of it.
 #[unsafe(no_mangle)]
-pub extern "C" fn asn1_alphabet_new<'s>(
+pub extern "C" fn asn1v_alphabet_new<'s>(
     kind: u32,
     permitted: bool,
     set: &'s [u32],
@@ -105,7 +105,7 @@ pub extern "C" fn asn1_alphabet_new<'s>(
 
 /// The code of a character in an alphabet.
 #[unsafe(no_mangle)]
-pub extern "C" fn asn1_alphabet_encode(
+pub extern "C" fn asn1v_alphabet_encode(
     alphabet: &Alphabet<'_>,
     character: u32,
     code: &mut u32,
@@ -132,7 +132,7 @@ pub extern "C" fn asn1_alphabet_encode(
 
 /// The character of a code in an alphabet.
 #[unsafe(no_mangle)]
-pub extern "C" fn asn1_alphabet_decode(
+pub extern "C" fn asn1v_alphabet_decode(
     alphabet: &Alphabet<'_>,
     code: u32,
     character: &mut u32,
@@ -159,7 +159,7 @@ pub extern "C" fn asn1_alphabet_decode(
 
 /// How many bits each code of an alphabet takes, at most 32.
 #[unsafe(no_mangle)]
-pub extern "C" fn asn1_alphabet_width(alphabet: &Alphabet<'_>, width: &mut usize) -> u32
+pub extern "C" fn asn1v_alphabet_width(alphabet: &Alphabet<'_>, width: &mut usize) -> u32
     ensures width { (a : Plain) → alphabet_in alphabet.now ≡ Some a → result ≡ 0
         → width.new ≡ a.width }
     ensures bound { result ≡ 0 → width.new ≤ 32 }

@@ -51,7 +51,7 @@ fn lie_within(place: usize, count: usize, octets: usize) -> bool
 /// The number of `width` bits, at most 64, from bit `position` of the octets on, the first of them
 /// its highest digit.
 #[unsafe(no_mangle)]
-pub extern "C" fn asn1_read_u64(
+pub extern "C" fn asn1v_read_u64(
     octets: &[u8],
     position: usize,
     width: usize,
@@ -74,9 +74,9 @@ pub extern "C" fn asn1_read_u64(
     DONE
 }
 
-/// As `asn1_read_u64`, of at most 128 bits.
+/// As `asn1v_read_u64`, of at most 128 bits.
 #[unsafe(no_mangle)]
-pub extern "C" fn asn1_read_u128(
+pub extern "C" fn asn1v_read_u128(
     octets: &[u8],
     position: usize,
     width: usize,
@@ -104,7 +104,7 @@ pub extern "C" fn asn1_read_u128(
 /// leaves every other bit. Into zeros it copies.
 #[unsafe(no_mangle)]
 #[tactic(auto, unfolding(asn1_bits::specs::View::list_of))]
-pub extern "C" fn asn1_or_bits(
+pub extern "C" fn asn1v_or_bits(
     target: &mut [u8],
     position: usize,
     source: &[u8],
@@ -129,9 +129,9 @@ pub extern "C" fn asn1_or_bits(
 }
 
 /// ORs the `width` lowest binary digits of the number, at most 128, into the target from bit
-/// `position` on, and leaves every other bit. A number that does not fit its width is refused.
+/// `position` on, and leaves every other bit. A number that does not fit its width is rejected.
 #[unsafe(no_mangle)]
-pub extern "C" fn asn1_or_number(
+pub extern "C" fn asn1v_or_number(
     target: &mut [u8],
     position: usize,
     value: &Words,
@@ -187,10 +187,10 @@ fn place_number(target: &mut [u8], position: usize, number: u128, width: usize)
 }
 
 /// Compares two lists of bits: `a_count` bits of `a` from bit `a_first` on, and those of `b`. The
-/// order is -1, 0 or 1: by the first bit that differs, and else by length.
+/// order is -1, 0 or 1: by the first bit that differs, and otherwise by length.
 #[unsafe(no_mangle)]
 #[tactic(auto, unfolding(asn1_bits::specs::View::list_of))]
-pub extern "C" fn asn1_compare_bits(
+pub extern "C" fn asn1v_compare_bits(
     a: &[u8],
     a_first: usize,
     a_count: usize,

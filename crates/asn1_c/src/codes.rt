@@ -50,7 +50,7 @@ pub const SET: u32 = 13;
 /// The number is the code of no character.
 pub const CODE: u32 = 14;
 
-/// The octets end before a field does.
+/// The octets end before a field or an element does.
 pub const SHORT: u32 = 15;
 
 /// The octets are not the dotted text of an identifier whose arcs all fit 32 bits.
@@ -71,7 +71,7 @@ pub const OCTET_COUNT: u32 = 20;
 /// A shape's kind is unknown, or there is no alphabet at the place that it has.
 pub const SHAPE: u32 = 21;
 
-/// A struct is no alphabet as `asn1_alphabet_new` fills it.
+/// A struct is no alphabet as `asn1v_alphabet_new` fills it.
 pub const ALPHABET: u32 = 22;
 
 /// There are more bits, or more octets, than `usize` counts.
@@ -89,56 +89,20 @@ pub const SURROGATE: u32 = 26;
 /// The octets are not UTF-8.
 pub const NOT_UTF8: u32 = 27;
 
-/// The octets end within the identifier octets of an element.
-pub const TAG_CUT: u32 = 28;
+/// The number of a tag or a length has more octets than it needs (X.690 8.1.2.4.2, 10.1).
+pub const NOT_MINIMAL: u32 = 28;
 
-/// The number of a tag begins with an octet that adds nothing to it (X.690 8.1.2.4.2).
-pub const TAG_PADDED: u32 = 29;
+/// A length is indefinite, which DER does not allow (X.690 10.1).
+pub const INDEFINITE: u32 = 29;
 
-/// The number of a tag stands behind the leading octet, which holds it (X.690 8.1.2.3).
-pub const TAG_LOW: u32 = 30;
+/// The first octet of a length is reserved (X.690 8.1.3.5).
+pub const RESERVED: u32 = 30;
 
 /// The number of a tag does not fit 64 bits.
 pub const TAG_LARGE: u32 = 31;
 
-/// The octets end within the length of an element.
-pub const LENGTH_CUT: u32 = 32;
-
-/// A length is indefinite, which DER does not allow (X.690 10.1).
-pub const LENGTH_INDEFINITE: u32 = 33;
-
-/// More than eight octets hold a length.
-pub const LENGTH_LARGE: u32 = 34;
-
-/// Fewer octets hold the length (X.690 10.1).
-pub const LENGTH_PADDED: u32 = 35;
-
-/// The octets end within the contents of an element.
-pub const CONTENTS_CUT: u32 = 36;
-
-/// The contents of a BOOLEAN are not one octet.
-pub const BOOLEAN_OCTETS: u32 = 37;
-
-/// The octet of a BOOLEAN is neither 00 nor FF (X.690 11.1).
-pub const BOOLEAN: u32 = 38;
-
-/// The first octet of a BIT STRING says that more than seven bits are unused, or more than it has.
-pub const UNUSED: u32 = 39;
-
-/// The unused bits of a BIT STRING are not all zero (X.690 11.2.1).
-pub const NOT_ZERO: u32 = 40;
-
-/// The contents of a time have not as many octets as its type.
-pub const TIME_OCTETS: u32 = 41;
-
-/// An octet of a time is no digit, or not the letter that stands at its place.
-pub const TIME_CHARACTER: u32 = 42;
-
-/// There is no such day, or no such time of day.
-pub const NO_TIME: u32 = 43;
-
-/// The octets begin with no report.
-pub const REPORT: u32 = 44;
+/// The contents octets encode no value of the type.
+pub const CONTENTS: u32 = 32;
 
 /// Below, equal and above, as -1, 0 and 1.
 pub(crate) fn number_of_order(order: Ordering) -> i32

@@ -16,7 +16,7 @@ use crate::integer_fields::{read_counted, read_integer};
 use asn1_values::{Shape as Known, read_wide};
 
 /// What C says of a field before it is read: `kind` is 0 for a number of `count` bits, 1 for
-/// `count` octets, 2 for `count` bits, 3 for an integer of `count` octets, 4 for an integer behind
+/// `count` octets, 2 for `count` bits, 3 for an integer of `count` octets, 4 for an integer after
 /// an octet that counts its octets, 5 for a character of the alphabet at the place `count`, and 6
 /// for an identifier whose contents have `count` octets.
 #[repr(C)]
@@ -37,13 +37,13 @@ pub struct Field {
     pub first: usize,
     /// How many bits.
     pub length: usize,
-    /// The upper 64 bits of a number or an integer, the code of a character, else 0.
+    /// The upper 64 bits of a number or an integer, the code of a character, otherwise 0.
     pub high: u64,
-    /// The lower 64 bits, a character, else 0.
+    /// The lower 64 bits, a character, otherwise 0.
     pub low: u64,
 }
 
-/// The first wrong field, counted from 0, and its reason, with the number that the reason has.
+/// The first invalid field, counted from 0, and its reason, with the number that the reason has.
 #[repr(C)]
 #[derive(Clone, Copy, Debug)]
 pub struct Refusal {
@@ -51,7 +51,7 @@ pub struct Refusal {
     pub code: u32,
     /// Which field.
     pub field: usize,
-    /// The upper 64 bits of the number that the reason has, else 0.
+    /// The upper 64 bits of the number that the reason has, otherwise 0.
     pub high: u64,
     /// The lower 64 bits.
     pub low: u64,
@@ -249,9 +249,9 @@ fn read_one(
 }
 
 /// Reads fields of the shapes one after another, from bit `position` on, and tells the first bit
-/// behind them. A refusal names the first wrong field; those before it were read.
+/// after them. An error names the first invalid field; those before it were read.
 #[unsafe(no_mangle)]
-pub extern "C" fn asn1_read_fields(
+pub extern "C" fn asn1v_read_fields(
     octets: &[u8],
     position: usize,
     alphabets: &[Alphabet<'_>],
@@ -279,7 +279,7 @@ pub extern "C" fn asn1_read_fields(
         → drop refusal.new.field fields.new ≡ drop refusal.new.field fields.old }
     ensures kept_end { result ≢ 0 → end.new ≡ end.old }
     ensures kept_refusal { result ≡ 0 → refusal.new ≡ refusal.old }
-    // Where nothing was read, the refusal and the fields are as before.
+    // If nothing was read, `refusal` and the fields are unchanged.
     ensures same_refusal { (result ≡ 1) ⊎ ((result ≡ 3) ⊎ (result ≡ 23)) → refusal.new
         ≡ refusal.old }
     ensures same_fields { (result ≡ 1) ⊎ ((result ≡ 3) ⊎ (result ≡ 23)) → fields.new ≡ fields.old }

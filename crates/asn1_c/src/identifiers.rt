@@ -11,7 +11,7 @@ use asn1_values::{ContentsError, OctetSource, Oid, OidContents, check_contents};
 
 /// Whether the octets are the contents of an identifier whose arcs all fit 32 bits.
 #[unsafe(no_mangle)]
-pub extern "C" fn asn1_oid_check(octets: &[u8]) -> u32
+pub extern "C" fn asn1v_oid_check(octets: &[u8]) -> u32
     ensures done { result ≡ 0
         ↔ ((arcs : List ℕ) × IsContents arcs octets.now × FitU32 arcs) }
     ensures arc_too_large { result ≡ 7
@@ -22,7 +22,7 @@ pub extern "C" fn asn1_oid_check(octets: &[u8]) -> u32
     code_of_contents(&octets)
 }
 
-/// `asn1_oid_check` of any list of octets.
+/// `asn1v_oid_check` of any list of octets.
 pub(crate) fn code_of_contents<S: OctetSource>(source: &S) -> u32
     ensures done { result ≡ 0
         ↔ ((arcs : List ℕ) × IsContents arcs (S.list source.now) × FitU32 arcs) }
@@ -41,7 +41,7 @@ pub(crate) fn code_of_contents<S: OctetSource>(source: &S) -> u32
 
 /// Whether the arcs are those of an identifier.
 #[unsafe(no_mangle)]
-pub extern "C" fn asn1_oid_check_arcs(arcs: &[u32]) -> u32
+pub extern "C" fn asn1v_oid_check_arcs(arcs: &[u32]) -> u32
     ensures done { result ≡ 0 ↔ IsValidArcs arcs.now }
     ensures arcs { result ≢ 0 → result ≡ 8 }
 {
@@ -55,7 +55,7 @@ pub extern "C" fn asn1_oid_check_arcs(arcs: &[u32]) -> u32
 /// How many octets they are is told also where the room is too small.
 #[unsafe(no_mangle)]
 #[tactic(auto, using(asn1_oid::specs::WritingLaws::contents_only))]
-pub extern "C" fn asn1_oid_contents(arcs: &[u32], room: &mut [u8], count: &mut usize) -> u32
+pub extern "C" fn asn1v_oid_contents(arcs: &[u32], room: &mut [u8], count: &mut usize) -> u32
     ensures written { result ≡ 0 → IsContents arcs.now (take count.new room.new) }
     ensures within { result ≡ 0 → count.new ≤ length room.new }
     ensures rest { result ≡ 0 → drop count.new room.new ≡ drop count.new room.old }
@@ -95,7 +95,7 @@ const LARGEST_FIRST: u64 = 4_294_967_375;
 /// Writes the arcs of which the octets are the contents to the front of the room, and tells how
 /// many, also where the room is too small. One arc more than there are octets is always enough.
 #[unsafe(no_mangle)]
-pub extern "C" fn asn1_oid_arcs(octets: &[u8], room: &mut [u32], count: &mut usize) -> u32
+pub extern "C" fn asn1v_oid_arcs(octets: &[u8], room: &mut [u32], count: &mut usize) -> u32
     ensures written { result ≡ 0 → IsContents (take count.new room.new) octets.now }
     ensures within { result ≡ 0 → count.new ≤ length room.new }
     ensures arc_too_large { result ≡ 7
@@ -178,7 +178,7 @@ fn write_arcs(octets: &[u8], room: &mut [u32]) -> Option<usize>
     Some(count)
 }
 
-/// Writes the arcs of one more number behind `count` others, the first two arcs where there are
+/// Writes the arcs of one more number after `count` others, the first two arcs where there are
 /// none, if there is room.
 fn put_number(number: u64, count: usize, room: &mut [u32]) -> Option<usize>
     requires first { count ≡ 0 → number ≤ 4294967375 }

@@ -1,4 +1,4 @@
-//! Integers as fields: their shortest octets (X.690 8.3), and behind an octet that counts them.
+//! Integers as fields: their shortest octets (X.690 8.3), and after an octet that counts them.
 
 ghost use Rattle.std.specs.Prelude.{◌≡◌, ◌+◌, ◌-◌, ◌*◌, ◌^◌, ◌<◌, ◌≤◌, ℕ, ℤ, List, false, IsTrue, ◌↔◌, length, drop, IfOk, IfErr};
 ghost use Rattle.std.specs.Int.{cast_signed, w128};
@@ -92,7 +92,7 @@ pub(crate) fn read_integer(
     }
 }
 
-/// Reads an integer behind the octet that counts its octets (X.690 8.1.3.4).
+/// Reads an integer after the octet that counts its octets (X.690 8.1.3.4).
 pub(crate) fn read_counted(octets: &[u8], at: usize, field: usize) -> Result<Field, Refusal>
     requires few { 8 * length octets.now < 2 ^ 64 }
     requires within { at ≤ 8 * length octets.now }

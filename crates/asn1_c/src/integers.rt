@@ -16,7 +16,7 @@ use std::cmp::Ordering;
 /// Writes the shortest octets of the number into the room, of which eight are always enough. Their
 /// number is told also where the room is too small.
 #[unsafe(no_mangle)]
-pub extern "C" fn asn1_integer_from_i64(number: i64, room: &mut [u8], count: &mut usize) -> u32
+pub extern "C" fn asn1v_integer_from_i64(number: i64, room: &mut [u8], count: &mut usize) -> u32
     ensures written { result ≡ 0 → IsShortest number (take count.new room.new) }
     ensures count { (o : List ℕ) → IsShortest number o → count.new ≡ length o }
     ensures most { count.new ≤ 8 }
@@ -30,9 +30,9 @@ pub extern "C" fn asn1_integer_from_i64(number: i64, room: &mut [u8], count: &mu
     put(octets.as_ref(), room)
 }
 
-/// The number that the octets spell, if it fits 64 bits. They need not be shortest.
+/// The number that the octets encode, if it fits 64 bits. They need not be shortest.
 #[unsafe(no_mangle)]
-pub extern "C" fn asn1_integer_to_i64(octets: &[u8], number: &mut i64) -> u32
+pub extern "C" fn asn1v_integer_to_i64(octets: &[u8], number: &mut i64) -> u32
     ensures read { result ≡ 0 → number.new ≡ signed octets.now }
     ensures fits { result ≡ 0 → IsInRange kind_i64 (signed octets.now) }
     ensures done { 0 < length octets.now → IsInRange kind_i64 (signed octets.now) → result ≡ 0 }
@@ -56,9 +56,9 @@ pub extern "C" fn asn1_integer_to_i64(octets: &[u8], number: &mut i64) -> u32
     }
 }
 
-/// Compares the numbers that two lists of octets spell, of any length: -1, 0 or 1.
+/// Compares the numbers that two lists of octets encode, of any length: -1, 0 or 1.
 #[unsafe(no_mangle)]
-pub extern "C" fn asn1_integer_compare(a: &[u8], b: &[u8], order: &mut i32) -> u32
+pub extern "C" fn asn1v_integer_compare(a: &[u8], b: &[u8], order: &mut i32) -> u32
     ensures order { result ≡ 0
         → order.new ≡ order_number (int_cmp (signed a.now) (signed b.now)) }
     ensures done { result ≡ 0 ↔ ((0 < length a.now) × (0 < length b.now)) }
@@ -100,16 +100,16 @@ fn order_of_shortest(a: &[u8], b: &[u8]) -> Ordering
 
 /// Whether the octets are the shortest of a number (X.690 8.3.2).
 #[unsafe(no_mangle)]
-pub extern "C" fn asn1_integer_is_shortest(octets: &[u8]) -> bool
+pub extern "C" fn asn1v_integer_is_shortest(octets: &[u8]) -> bool
     ensures { IsTrue result ↔ ((n : ℤ) × IsShortest n octets.now) }
 {
     !octets.is_empty() && without_redundant_sign_octets(octets).len() == octets.len()
 }
 
-/// How many of the first octets only repeat the sign: behind them are the shortest octets of the
+/// How many of the first octets only repeat the sign: after them are the shortest octets of the
 /// same number.
 #[unsafe(no_mangle)]
-pub extern "C" fn asn1_integer_redundant(octets: &[u8]) -> usize
+pub extern "C" fn asn1v_integer_redundant(octets: &[u8]) -> usize
     ensures within { result ≤ length octets.now }
     ensures shortest { 0 < length octets.now
         → IsShortest (signed octets.now) (drop result octets.now) }

@@ -1,10 +1,10 @@
-//! The calls of the value layer that need no memory, for C: bits, fields, whole numbers,
+//! The calls of the value layer that allocate nothing, for C: bits, fields, whole numbers,
 //! identifiers, strings and alphabets.
 //!
-//! An export takes numbers, slices and plain structs, and answers a code; 0 says that it is done.
-//! The caller's slices are the room for what is written, and unless a call says else, what is
-//! refused leaves them as they were. Each condition is tested: the one that C must keep is that
-//! pointers and lengths are right.
+//! An export takes numbers, slices and plain structs, and returns a code; 0 says that it is done.
+//! The caller's slices are the room for what is written. After an error they are unchanged, unless
+//! a call says otherwise. Each precondition is tested, but for one that C must meet: pointers and
+//! lengths are right.
 #![tactic(auto)]
 
 mod alphabets;
@@ -24,11 +24,11 @@ mod integer_text;
 mod integers;
 mod octets_at;
 mod plans;
-mod reports;
 mod room;
 mod string_utf8;
 mod strings;
 mod text;
 mod utf8_string;
+mod version;
 mod wide_integers;
 mod writing;

@@ -48,7 +48,7 @@ impl OctetSource for OctetsAt<'_> {
 /// Copies so many octets, which lie one after another from bit `first` on, to the front of the
 /// room.
 #[unsafe(no_mangle)]
-pub extern "C" fn asn1_octets_at(octets: &[u8], first: usize, count: usize, room: &mut [u8]) -> u32
+pub extern "C" fn asn1v_octets_at(octets: &[u8], first: usize, count: usize, room: &mut [u8]) -> u32
     ensures copied { result ≡ 0 → take count room.new ≡ octets_at octets.now first count }
     ensures rest { result ≡ 0 → drop count room.new ≡ drop count room.old }
     ensures too_many { result ≡ 23 ↔ (2 ^ 64 ≤ 8 * length octets.now) }

@@ -68,7 +68,7 @@ impl Plan {
         self.lead as u128 + self.width as u128 + self.length as u128
     }
 
-    /// Writes the bits over those of the target from a bit on, and answers the bit behind them.
+    /// Writes the bits over those of the target from a bit on, and returns the bit after them.
     pub(crate) fn put(&self, target: &mut [u8], at: usize, source: &[u8]) -> usize
         requires sound { IsSound source.now self.now }
         requires within { at + length (planned source.now self.now) ≤ 8 * length target.old }
@@ -179,7 +179,7 @@ fn plan_bits(source: &[u8], field: &Field, count: usize, place: usize) -> Result
     plan_placed(source, field, count as u128, place)
 }
 
-/// The plan of an integer: of its number where its length says at most sixteen octets, else of the
+/// The plan of an integer: of its number where its length says at most sixteen octets, otherwise of the
 /// bits of the source.
 fn plan_integer(source: &[u8], field: &Field, count: usize, place: usize) -> Result<Plan, Refusal>
     requires few { 8 * length source.now < 2 ^ 64 }
@@ -205,7 +205,7 @@ fn plan_integer(source: &[u8], field: &Field, count: usize, place: usize) -> Res
     }
 }
 
-/// The plan of an integer behind the octet that counts its octets.
+/// The plan of an integer after the octet that counts its octets.
 fn plan_counted(source: &[u8], field: &Field, place: usize) -> Result<Plan, Refusal>
     requires few { 8 * length source.now < 2 ^ 64 }
     ensures sound { IfOk result (IsSound source.now) }

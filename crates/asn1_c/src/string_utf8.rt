@@ -14,7 +14,7 @@ use asn1_values::CharacterSetName;
 
 /// Tells how many characters the octets of a string are.
 #[unsafe(no_mangle)]
-pub extern "C" fn asn1_string_count(kind: u32, octets: &[u8], count: &mut usize) -> u32
+pub extern "C" fn asn1v_string_count(kind: u32, octets: &[u8], count: &mut usize) -> u32
     ensures counted { (name : CharacterSetName) → set_named kind ≡ Some name → result ≡ 0
         → count.new * character_octets name ≡ length octets.now }
     ensures odd { (name : CharacterSetName) → set_named kind ≡ Some name
@@ -36,9 +36,9 @@ pub extern "C" fn asn1_string_count(kind: u32, octets: &[u8], count: &mut usize)
 
 /// Writes the characters of a string in UTF-8 to the front of the room, of which three octets for
 /// each character are always enough. How many octets they are is told also where the room is too
-/// small. The place of the first character that is refused is counted in characters.
+/// small. The index of the first character that is rejected is counted in characters.
 #[unsafe(no_mangle)]
-pub extern "C" fn asn1_string_to_utf8(
+pub extern "C" fn asn1v_string_to_utf8(
     kind: u32,
     octets: &[u8],
     room: &mut [u8],
@@ -107,7 +107,7 @@ pub extern "C" fn asn1_string_to_utf8(
     DONE
 }
 
-/// Why a character is not spelled in UTF-8.
+/// Why a character is not encoded in UTF-8.
 fn code_of_unspelled(name: CharacterSetName, character: u32) -> u32
     requires { ¬ (IsSpellable name character) }
     ensures character { result ≡ 12 → has_character (base_set name) character ≡ false }
@@ -161,7 +161,7 @@ fn is_spellable(name: CharacterSetName, character: u32) -> bool
     name.contains(character) && char::from_u32(character).is_some()
 }
 
-/// The place of the first character that is not spelled in UTF-8.
+/// The index of the first character that is not encoded in UTF-8.
 fn first_unspelled(name: CharacterSetName, octets: &[u8]) -> Option<usize>
     ensures wrong { IfSome result (λ i. (i < character_count name octets.now)
         × ¬ (IsSpellable name (character_at name octets.now i))) }

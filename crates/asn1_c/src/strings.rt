@@ -1,4 +1,4 @@
-//! The eight restricted character strings by their octets (X.690 8.21).
+//! The eight restricted character strings by their octets (X.690 8.23).
 
 ghost use Rattle.std.specs.Prelude.{◌≡◌, ◌≢◌, ◌↔◌, ◌<◌, ◌+◌, ◌*◌, ◌/◌, ◌%◌, ℕ, true, false, Some, None, length, slice_index, IfSome, IfNone};
 ghost use Rattle.asn1_characters.specs.Sets.{base_set, has_character};
@@ -73,7 +73,7 @@ pub(crate) fn pair_at(octets: &[u8], i: usize) -> u32
 /// Looks for the first wrong character of a string's octets: one octet a character, two in
 /// BMPString. Its place is counted in characters.
 #[unsafe(no_mangle)]
-pub extern "C" fn asn1_string_check(
+pub extern "C" fn asn1v_string_check(
     kind: u32,
     octets: &[u8],
     place: &mut usize,

@@ -7,10 +7,10 @@ ghost use Rattle.asn1_oid.specs.DottedText.{IsDottedText};
 use crate::codes::{ARCS, DONE, ROOM, TEXT, TOO_MANY};
 use asn1_values::{Oid, parse_arcs};
 
-/// What stands between arcs.
+/// What is between arcs.
 const FULL_STOP: u8 = b'.';
 
-/// The decimal of a number behind a full stop, at the end of the octets.
+/// The decimal of a number after a full stop, at the end of the octets.
 #[derive(Clone, Copy, Debug)]
 struct Decimal {
     octets: [u8; 11],
@@ -60,7 +60,7 @@ impl Decimal {
 /// Writes the dotted text of the arcs to the front of the room, of which eleven octets for each arc
 /// are always enough. How many octets the text has is told also where the room is too small.
 #[unsafe(no_mangle)]
-pub extern "C" fn asn1_oid_text(arcs: &[u32], room: &mut [u8], count: &mut usize) -> u32
+pub extern "C" fn asn1v_oid_text(arcs: &[u32], room: &mut [u8], count: &mut usize) -> u32
     ensures written { result ≡ 0 → take count.new room.new ≡ dotted arcs.now }
     ensures rest { result ≡ 0 → drop count.new room.new ≡ drop count.new room.old }
     ensures count { (result ≡ 0) ⊎ (result ≡ 3) → count.new ≡ length (dotted arcs.now) }
@@ -116,7 +116,7 @@ fn put_text(first: u32, others: &[u32], room: &mut [u8])
     }
 }
 
-/// Writes the octets to a place of the room, and answers the place behind them.
+/// Writes the octets to the room from an index on, and returns the index after them.
 pub(crate) fn put_at(octets: &[u8], room: &mut [u8], at: usize) -> usize
     requires { at + length octets.now ≤ length room.old }
     ensures put { room.new
@@ -132,7 +132,7 @@ pub(crate) fn put_at(octets: &[u8], room: &mut [u8], at: usize) -> usize
 /// as there are octets, and one more, are always enough. How many arcs there are is told also where
 /// the room is too small.
 #[unsafe(no_mangle)]
-pub extern "C" fn asn1_oid_from_text(text: &[u8], room: &mut [u32], count: &mut usize) -> u32
+pub extern "C" fn asn1v_oid_from_text(text: &[u8], room: &mut [u32], count: &mut usize) -> u32
     ensures written { result ≡ 0 → IsDottedText (take count.new room.new) text.now }
     ensures within { result ≡ 0 → count.new ≤ length room.new }
     ensures rest { result ≡ 0 → drop count.new room.new ≡ drop count.new room.old }

@@ -21,7 +21,7 @@ use std::str;
 /// set is counted in characters; of a text that is not UTF-8 it is how many octets its longest
 /// front has that is.
 #[unsafe(no_mangle)]
-pub extern "C" fn asn1_string_from_utf8(
+pub extern "C" fn asn1v_string_from_utf8(
     kind: u32,
     text: &[u8],
     room: &mut [u8],
@@ -135,7 +135,7 @@ fn put_characters(name: CharacterSetName, text: &str, room: &mut [u8])
     }
 }
 
-/// Writes the octets of a character to a place of the room, and answers the place behind them.
+/// Writes the octets of a character to the room from an index on, and returns the index after them.
 fn put_character(name: CharacterSetName, character: u32, room: &mut [u8], at: usize) -> usize
     requires set { has_character (base_set name) character ≡ true }
     requires room { at + character_octets name ≤ length room.old }

@@ -55,7 +55,7 @@ pub(crate) fn put_unsigned(number: u128, room: &mut [u8], count: &mut usize) -> 
 /// Writes the shortest octets of the number into the room, of which nine are always enough. Their
 /// number is told also where the room is too small.
 #[unsafe(no_mangle)]
-pub extern "C" fn asn1_integer_from_u64(number: u64, room: &mut [u8], count: &mut usize) -> u32
+pub extern "C" fn asn1v_integer_from_u64(number: u64, room: &mut [u8], count: &mut usize) -> u32
     ensures written { result ≡ 0 → IsShortest (pos number) (take count.new room.new) }
     ensures count { (o : List ℕ) → IsShortest (pos number) o → count.new ≡ length o }
     ensures most { count.new ≤ 9 }
@@ -68,10 +68,10 @@ pub extern "C" fn asn1_integer_from_u64(number: u64, room: &mut [u8], count: &mu
     put_octets(&shortest, room, count)
 }
 
-/// The number that the octets spell, if it is one of 64 bits without a sign. They need not be
+/// The number that the octets encode, if it is one of 64 bits without a sign. They need not be
 /// shortest.
 #[unsafe(no_mangle)]
-pub extern "C" fn asn1_integer_to_u64(octets: &[u8], number: &mut u64) -> u32
+pub extern "C" fn asn1v_integer_to_u64(octets: &[u8], number: &mut u64) -> u32
     ensures read { result ≡ 0 → pos number.new ≡ signed octets.now }
     ensures fits { result ≡ 0 → IsInRange kind_u64 (signed octets.now) }
     ensures done { 0 < length octets.now → IsInRange kind_u64 (signed octets.now) → result ≡ 0 }
@@ -98,7 +98,7 @@ pub extern "C" fn asn1_integer_to_u64(octets: &[u8], number: &mut u64) -> u32
 /// Writes the shortest octets of a number of 128 bits in two's complement into the room, of which
 /// sixteen are always enough. Their number is told also where the room is too small.
 #[unsafe(no_mangle)]
-pub extern "C" fn asn1_integer_from_i128(number: &Words, room: &mut [u8], count: &mut usize) -> u32
+pub extern "C" fn asn1v_integer_from_i128(number: &Words, room: &mut [u8], count: &mut usize) -> u32
     ensures written { result ≡ 0
         → IsShortest (signed_of_words number.now.high number.now.low) (take count.new room.new) }
     ensures count { (o : List ℕ) → IsShortest (signed_of_words number.now.high number.now.low) o
@@ -112,10 +112,10 @@ pub extern "C" fn asn1_integer_from_i128(number: &Words, room: &mut [u8], count:
     put_signed(number.number().cast_signed(), room, count)
 }
 
-/// The number that the octets spell in two's complement of 128 bits, if it fits these. They need
+/// The number that the octets encode in two's complement of 128 bits, if it fits these. They need
 /// not be shortest.
 #[unsafe(no_mangle)]
-pub extern "C" fn asn1_integer_to_i128(octets: &[u8], number: &mut Words) -> u32
+pub extern "C" fn asn1v_integer_to_i128(octets: &[u8], number: &mut Words) -> u32
     ensures read { result ≡ 0 → signed_of_words number.new.high number.new.low ≡ signed octets.now }
     ensures fits { result ≡ 0 → IsInRange kind_i128 (signed octets.now) }
     ensures done { 0 < length octets.now → IsInRange kind_i128 (signed octets.now) → result ≡ 0 }
@@ -137,7 +137,7 @@ pub extern "C" fn asn1_integer_to_i128(octets: &[u8], number: &mut Words) -> u32
 /// Writes the shortest octets of a number of 128 bits without a sign into the room, of which
 /// seventeen are always enough. Their number is told also where the room is too small.
 #[unsafe(no_mangle)]
-pub extern "C" fn asn1_integer_from_u128(number: &Words, room: &mut [u8], count: &mut usize) -> u32
+pub extern "C" fn asn1v_integer_from_u128(number: &Words, room: &mut [u8], count: &mut usize) -> u32
     ensures written { result ≡ 0 → IsShortest
         (pos (number_of_words number.now.high number.now.low)) (take count.new room.new) }
     ensures count { (o : List ℕ)
@@ -152,10 +152,10 @@ pub extern "C" fn asn1_integer_from_u128(number: &Words, room: &mut [u8], count:
     put_unsigned(number.number(), room, count)
 }
 
-/// The number that the octets spell, if it is one of 128 bits without a sign. They need not be
+/// The number that the octets encode, if it is one of 128 bits without a sign. They need not be
 /// shortest.
 #[unsafe(no_mangle)]
-pub extern "C" fn asn1_integer_to_u128(octets: &[u8], number: &mut Words) -> u32
+pub extern "C" fn asn1v_integer_to_u128(octets: &[u8], number: &mut Words) -> u32
     ensures read { result ≡ 0
         → pos (number_of_words number.new.high number.new.low) ≡ signed octets.now }
     ensures fits { result ≡ 0 → IsInRange kind_u128 (signed octets.now) }
@@ -176,7 +176,7 @@ pub extern "C" fn asn1_integer_to_u128(octets: &[u8], number: &mut Words) -> u32
     }
 }
 
-/// The number of 128 bits without a sign that shortest octets spell.
+/// The number of 128 bits without a sign that shortest octets encode.
 pub(crate) fn u128_of(octets: &[u8]) -> Option<u128>
     requires { IsShortest (signed octets.now) octets.now }
     ensures { MatchOption result (¬ (IsInRange kind_u128 (signed octets.now)))

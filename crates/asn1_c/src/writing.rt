@@ -12,11 +12,11 @@ use crate::fields::{Field, Refusal, Shape, known_shape};
 use crate::plans::{Plan, plan_of};
 
 /// Writes fields of the shapes one after another over the bits of the target from bit `position`
-/// on, and tells the first bit behind them: a number, a character and an integer of up to sixteen
+/// on, and tells the first bit after them: a number, a character and an integer of up to sixteen
 /// octets by its number, any other field by its bits, which lie in the source. Every other bit
-/// stays. A refusal names the first wrong field.
+/// stays. An error names the first invalid field.
 #[unsafe(no_mangle)]
-pub extern "C" fn asn1_write_fields(
+pub extern "C" fn asn1v_write_fields(
     target: &mut [u8],
     position: usize,
     source: &[u8],
@@ -120,7 +120,7 @@ fn plan_one(
     }
 }
 
-/// Writes fields that all have a place, and answers the bit behind them.
+/// Writes fields that all have a place, and returns the bit after them.
 fn put_fields(
     target: &mut [u8],
     position: usize,

@@ -1,4 +1,4 @@
-//! Reads a certificate (X.509, RFC 5280) in DER from standard input, and prints what stands in it: serial number,
+//! Reads a certificate (X.509, RFC 5280) in DER from standard input, and prints what is in it: serial number,
 //! signature algorithm, names and validity. The octets are looked at by the functions of the library alone.
 
 use asn1_values::{

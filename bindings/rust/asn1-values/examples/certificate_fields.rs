@@ -1,5 +1,6 @@
-//! Reads a certificate (X.509, RFC 5280) in DER from standard input as fields of all seven kinds, and writes these fields
-//! again, at bit 0 and at bit 3 of other octets. What is a field of which kind: see `bindings/c/certificate_fields.c`.
+//! Reads a certificate (X.509, RFC 5280) in DER from standard input as fields of all seven kinds, and writes these
+//! fields again, at bit 0 and at bit 3 of other octets. What is a field of which kind: see
+//! `bindings/c/certificate_fields.c`.
 
 use asn1_values::{
     next_element, read_fields, write_fields, Alphabet, Class, DerError, Element, Shape, StringKind,
@@ -28,7 +29,7 @@ impl Shapes {
         self.all.push(Shape::Octets { count });
     }
 
-    /// Adds the shapes of a primitive element whose contents stand behind so many octets.
+    /// Adds the shapes of a primitive element whose contents stand after so many octets.
     fn primitive(&mut self, front: usize, element: &Element<'_>) {
         let count = element.contents.len();
         let number = match element.class {

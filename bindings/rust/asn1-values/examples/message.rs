@@ -1,4 +1,4 @@
-//! A message of three fields, written, read back at the same bit, and refused by its first wrong field.
+//! A message of three fields, written, read back at the same bit, and rejected by its first invalid field.
 
 use asn1_values::{read_fields, write_fields, Bits, Field, Shape};
 

@@ -27,11 +27,11 @@ pub enum StringKind {
     Visible = 7,
 }
 
-/// Whether the octets are the contents of the string (X.690 8.21): one octet a character, two in `BMPString`.
+/// Whether the octets are the contents of the string (X.690 8.23): one octet a character, two in `BMPString`.
 ///
 /// # Errors
 ///
-/// `StringError::Odd` for an odd number of octets of a `BMPString`, else `StringError::Character` with the first
+/// `StringError::Odd` for an odd number of octets of a `BMPString`, otherwise `StringError::Character` with the first
 /// character that is not in the set, and its place.
 ///
 /// ```
@@ -44,7 +44,7 @@ pub fn check_string(kind: StringKind, octets: &[u8]) -> Result<(), StringError> 
     let mut character = 0;
     // SAFETY: pointer and length are those of a slice, and the other two are places of their own.
     let code = unsafe {
-        sys::asn1_string_check(
+        sys::asn1v_string_check(
             kind as u32,
             octets.as_ptr(),
             octets.len(),
@@ -117,8 +117,8 @@ pub struct Alphabet<'s> {
 }
 
 impl<'s> Alphabet<'s> {
-    /// The alphabet of a string with a permitted set, if there is one. Where it is aligned, the width is rounded up to a
-    /// power of two.
+    /// The alphabet of a string with a permitted set, if there is one. Where it is aligned, the width is rounded up to
+    /// a power of two.
     ///
     /// # Errors
     ///
@@ -141,7 +141,7 @@ impl<'s> Alphabet<'s> {
         let mut raw = alphabet.raw();
         // SAFETY: pointer and length are those of a slice, and `raw` is a place of its own.
         let code = unsafe {
-            sys::asn1_alphabet_new(
+            sys::asn1v_alphabet_new(
                 raw.kind,
                 raw.permitted,
                 raw.set,
@@ -156,7 +156,7 @@ impl<'s> Alphabet<'s> {
         }
     }
 
-    /// As `asn1_alphabet_new` fills it.
+    /// As `asn1v_alphabet_new` fills it.
     pub(crate) fn raw(&self) -> sys::Alphabet {
         let set = self.permitted.unwrap_or(&[]);
         sys::Alphabet {
@@ -184,7 +184,7 @@ impl<'s> Alphabet<'s> {
         let raw = self.raw();
         let mut code = 0;
         // SAFETY: `raw` refers to a slice that lives as long as `self`, and `code` is a place of its own.
-        match unsafe { sys::asn1_alphabet_encode(&raw, character, &mut code) } {
+        match unsafe { sys::asn1v_alphabet_encode(&raw, character, &mut code) } {
             sys::DONE => Ok(code),
             _ => Err(AlphabetError::Character(character)),
         }
@@ -205,7 +205,7 @@ impl<'s> Alphabet<'s> {
         let raw = self.raw();
         let mut character = 0;
         // SAFETY: `raw` refers to a slice that lives as long as `self`, and `character` is a place of its own.
-        match unsafe { sys::asn1_alphabet_decode(&raw, code, &mut character) } {
+        match unsafe { sys::asn1v_alphabet_decode(&raw, code, &mut character) } {
             sys::DONE => Ok(character),
             _ => Err(AlphabetError::Code(code)),
         }
@@ -223,7 +223,7 @@ impl<'s> Alphabet<'s> {
         let mut width = 0;
         // SAFETY: `raw` refers to a slice that lives as long as `self`, and `width` is a place of its own. `new` has
         // seen that it is an alphabet, so the answer is always `DONE`.
-        unsafe { sys::asn1_alphabet_width(&raw, &mut width) };
+        unsafe { sys::asn1v_alphabet_width(&raw, &mut width) };
         width
     }
 }

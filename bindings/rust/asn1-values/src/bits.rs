@@ -8,7 +8,7 @@ pub(crate) fn ordering(order: i32) -> Ordering {
 }
 
 /// Some bits of octets, from any bit on. Two are equal where their lists of bits are, wherever they lie, and they are
-/// ordered by the first bit that differs, and else by length.
+/// ordered by the first bit that differs, and otherwise by length.
 ///
 /// ```
 /// use asn1_values::Bits;
@@ -134,7 +134,7 @@ impl<'a> Bits<'a> {
         Some(self.number(i.checked_mul(8)?, 8)? as u8)
     }
 
-    /// Copies the whole octets that lie in the bits one after another to the front of the room, and answers them.
+    /// Copies the whole octets that lie in the bits one after another to the front of the room, and returns them.
     ///
     /// # Errors
     ///
@@ -149,7 +149,7 @@ impl<'a> Bits<'a> {
         let count = self.length / 8;
         // SAFETY: pointers and lengths are those of slices, of which the mutable one overlaps no other.
         let code = unsafe {
-            sys::asn1_octets_at(
+            sys::asn1v_octets_at(
                 self.octets.as_ptr(),
                 self.octets.len(),
                 self.first,
@@ -186,7 +186,7 @@ impl Ord for Bits<'_> {
         // SAFETY: pointers and lengths are those of slices, and `order` is a place of its own. Bits lie within their
         // octets, so the answer is always `DONE`.
         unsafe {
-            sys::asn1_compare_bits(
+            sys::asn1v_compare_bits(
                 self.octets.as_ptr(),
                 self.octets.len(),
                 self.first,
@@ -232,7 +232,7 @@ impl Hash for Bits<'_> {
 ///
 /// # Errors
 ///
-/// `BitsError::Width` for a width over 128, else `BitsError::Outside` where the octets end before.
+/// `BitsError::Width` for a width over 128, otherwise `BitsError::Outside` where the octets end before.
 ///
 /// ```
 /// assert_eq!(asn1_values::read_bits(&[0xB4, 0xA0], 3, 8), Ok(0xA5));
@@ -240,8 +240,9 @@ impl Hash for Bits<'_> {
 pub fn read_bits(octets: &[u8], position: usize, width: usize) -> Result<u128, BitsError> {
     let mut value = Words::ZERO;
     // SAFETY: pointer and length are those of a slice, and `value` is a place of its own.
-    match unsafe { sys::asn1_read_u128(octets.as_ptr(), octets.len(), position, width, &mut value) }
-    {
+    match unsafe {
+        sys::asn1v_read_u128(octets.as_ptr(), octets.len(), position, width, &mut value)
+    } {
         sys::DONE => Ok(value.number()),
         sys::WIDTH => Err(BitsError::Width),
         _ => Err(BitsError::Outside),
@@ -263,7 +264,7 @@ pub fn read_bits(octets: &[u8], position: usize, width: usize) -> Result<u128, B
 pub fn or_bits(target: &mut [u8], position: usize, source: Bits<'_>) -> Result<(), BitsError> {
     // SAFETY: pointers and lengths are those of slices, of which the mutable one overlaps no other.
     let code = unsafe {
-        sys::asn1_or_bits(
+        sys::asn1v_or_bits(
             target.as_mut_ptr(),
             target.len(),
             position,
@@ -301,7 +302,7 @@ pub fn or_number(
     let words = Words::of(value);
     // SAFETY: pointer and length are those of a slice, and `words` is a place of its own.
     let code =
-        unsafe { sys::asn1_or_number(target.as_mut_ptr(), target.len(), position, &words, width) };
+        unsafe { sys::asn1v_or_number(target.as_mut_ptr(), target.len(), position, &words, width) };
     match code {
         sys::DONE => Ok(()),
         sys::WIDTH => Err(BitsError::Width),

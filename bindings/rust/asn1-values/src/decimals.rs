@@ -13,14 +13,14 @@ pub const fn decimal_room(octets: usize) -> usize {
         .saturating_add(2 + 2 * (octets % 2))
 }
 
-/// The decimal text of the number that two's complement octets spell, at the front of the room: [`decimal_room`] says how
-/// much is always enough. The octets need not be the shortest. The time grows as the square of their number past 128 bits:
-/// bound the length of what others send.
+/// The decimal text of the number that two's complement octets encode, at the front of the room: [`decimal_room`] says
+/// how much is always enough. The octets need not be the shortest. The time grows as the square of their number past
+/// 128 bits: bound the length of what others send.
 ///
 /// # Errors
 ///
-/// `IntegerError::Empty` for no octets, `IntegerError::Room` where the room is too short. Where the number fits 128 bits
-/// neither with a sign nor without, that is where it is shorter than `decimal_room` of the shortest octets.
+/// `IntegerError::Empty` for no octets, `IntegerError::Room` where the room is too short. Where the number fits 128
+/// bits neither with a sign nor without, that is where it is shorter than `decimal_room` of the shortest octets.
 ///
 /// ```
 /// assert_eq!(asn1_values::write_decimal(&[0xFF, 0x7F], &mut [0; 40]), Ok("-129"));
@@ -29,7 +29,7 @@ pub fn write_decimal<'a>(octets: &[u8], room: &'a mut [u8]) -> Result<&'a str, I
     let mut count = 0;
     // SAFETY: pointers and lengths are those of slices, of which the mutable one overlaps no other.
     let code = unsafe {
-        sys::asn1_integer_text(
+        sys::asn1v_integer_text(
             octets.as_ptr(),
             octets.len(),
             room.as_mut_ptr(),
@@ -44,7 +44,7 @@ pub fn write_decimal<'a>(octets: &[u8], room: &'a mut [u8]) -> Result<&'a str, I
     }
 }
 
-/// The decimal text of the number that two's complement octets spell. The time grows as that of [`write_decimal`].
+/// The decimal text of the number that two's complement octets encode. The time grows as that of [`write_decimal`].
 ///
 /// # Errors
 ///
@@ -61,15 +61,15 @@ pub fn decimal(octets: &[u8]) -> Result<alloc::string::String, IntegerError> {
     write_decimal(octets, &mut room).map(alloc::string::String::from)
 }
 
-/// The shortest two's complement octets of the number of a decimal text, as [`write_decimal`] writes it, at the front of
-/// the room: half as many octets as the text has, and one more, are always enough. The time grows as the square of the
-/// text's length past 128 bits: bound the length of what others send.
+/// The shortest two's complement octets of the number of a decimal text, as [`write_decimal`] writes it, at the front
+/// of the room: half as many octets as the text has, and one more, are always enough. The time grows as the square of
+/// the text's length past 128 bits: bound the length of what others send.
 ///
 /// # Errors
 ///
-/// `IntegerError::Decimal` for any other text: so for a plus sign, and a zero in front of other digits.
-/// `IntegerError::Room` where the room is too short. Where the number fits 128 bits neither with a sign nor without, that
-/// is where it has fewer octets than are always enough.
+/// `IntegerError::Decimal` for any other text: so for a plus sign, and a zero before other digits. `IntegerError::Room`
+/// where the room is too short. Where the number fits 128 bits neither with a sign nor without, that is where it has
+/// fewer octets than are always enough.
 ///
 /// ```
 /// use asn1_values::{octets_of_decimal, IntegerError};
@@ -82,7 +82,7 @@ pub fn octets_of_decimal<'a>(text: &str, room: &'a mut [u8]) -> Result<&'a [u8],
     let mut count = 0;
     // SAFETY: pointers and lengths are those of a text and of a slice, which do not overlap.
     let code = unsafe {
-        sys::asn1_integer_from_text(
+        sys::asn1v_integer_from_text(
             text.as_ptr(),
             text.len(),
             room.as_mut_ptr(),

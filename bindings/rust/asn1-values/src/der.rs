@@ -54,44 +54,34 @@ impl Element<'_> {
 
 fn error_of(code: u32) -> DerError {
     match code {
-        sys::EMPTY => DerError::Empty,
-        28 => DerError::TagCut,
-        29 => DerError::TagPadded,
-        30 => DerError::TagLow,
+        sys::SHORT => DerError::Short,
+        28 => DerError::NotMinimal,
+        29 => DerError::Indefinite,
+        30 => DerError::Reserved,
         31 => DerError::TagLarge,
-        32 => DerError::LengthCut,
-        33 => DerError::Indefinite,
-        34 => DerError::LengthLarge,
-        35 => DerError::LengthPadded,
-        36 => DerError::ContentsCut,
-        37 => DerError::BooleanOctets,
-        38 => DerError::Boolean,
-        39 => DerError::Unused,
-        40 => DerError::NotZero,
-        41 => DerError::TimeOctets,
-        42 => DerError::TimeCharacter,
-        43 => DerError::NoTime,
+        32 => DerError::Contents,
         _ => DerError::TooMany,
     }
 }
 
-/// The element that the octets begin with, and the octets behind it. The identifier octets and the length are in the
-/// fewest octets, and of the contents only that they are there is looked at (X.690 8.1, 10.1).
+/// Returns the element that the octets begin with, and the octets after it. The identifier octets and the length are
+/// in the minimal number of octets, and the contents octets are not examined (X.690 8.1, 10.1).
 ///
 /// # Errors
 ///
-/// The first that is wrong; for no octets `DerError::TagCut`.
+/// The first fault; for no octets `DerError::Short`. `DerError::TagLarge` if there is an element whose tag has a number
+/// of more than 64 bits.
 ///
 /// ```
 /// use asn1_values::{next_element, DerError};
 /// assert_eq!(next_element(&[4, 1, 7, 9]).unwrap().1, [9]);
 /// assert_eq!(next_element(&[0x30, 0x80, 0, 0]), Err(DerError::Indefinite));
-/// assert_eq!(next_element(&[4, 0x81, 1, 7]), Err(DerError::LengthPadded));
+/// assert_eq!(next_element(&[4, 0x81, 1, 7]), Err(DerError::NotMinimal));
 /// ```
 pub fn next_element(octets: &[u8]) -> Result<(Element<'_>, &[u8]), DerError> {
     let mut found = sys::Element::NONE;
     // SAFETY: pointer and length are those of a slice, which the element does not overlap.
-    let code = unsafe { sys::asn1_der_next(octets.as_ptr(), octets.len(), 0, &mut found) };
+    let code = unsafe { sys::asn1v_der_next(octets.as_ptr(), octets.len(), 0, &mut found) };
     if code != sys::DONE {
         return Err(error_of(code));
     }
@@ -113,17 +103,17 @@ pub fn next_element(octets: &[u8]) -> Result<(Element<'_>, &[u8]), DerError> {
 ///
 /// # Errors
 ///
-/// `DerError::BooleanOctets`, `DerError::Boolean`.
+/// `DerError::Contents`, `DerError::TooMany`.
 ///
 /// ```
 /// use asn1_values::{der_boolean, DerError};
 /// assert_eq!(der_boolean(&[0xFF]), Ok(true));
-/// assert_eq!(der_boolean(&[1]), Err(DerError::Boolean));
+/// assert_eq!(der_boolean(&[1]), Err(DerError::Contents));
 /// ```
 pub fn der_boolean(contents: &[u8]) -> Result<bool, DerError> {
     let mut value = false;
     // SAFETY: pointer and length are those of a slice, which the value does not overlap.
-    match unsafe { sys::asn1_der_boolean(contents.as_ptr(), contents.len(), &mut value) } {
+    match unsafe { sys::asn1v_der_boolean(contents.as_ptr(), contents.len(), &mut value) } {
         sys::DONE => Ok(value),
         code => Err(error_of(code)),
     }
@@ -133,17 +123,17 @@ pub fn der_boolean(contents: &[u8]) -> Result<bool, DerError> {
 ///
 /// # Errors
 ///
-/// `DerError::Empty`, `DerError::Unused`, `DerError::NotZero`, `DerError::TooMany`.
+/// `DerError::Contents`, `DerError::TooMany`.
 ///
 /// ```
 /// use asn1_values::{der_bits, Bits, DerError};
 /// assert_eq!(der_bits(&[4, 0xA0]), Ok(Bits::new(&[0xA0], 0, 4).unwrap()));
-/// assert_eq!(der_bits(&[4, 0xA1]), Err(DerError::NotZero));
+/// assert_eq!(der_bits(&[4, 0xA1]), Err(DerError::Contents));
 /// ```
 pub fn der_bits(contents: &[u8]) -> Result<Bits<'_>, DerError> {
     let mut count = 0;
     // SAFETY: pointer and length are those of a slice, which the count does not overlap.
-    match unsafe { sys::asn1_der_bit_string(contents.as_ptr(), contents.len(), &mut count) } {
+    match unsafe { sys::asn1v_der_bit_string(contents.as_ptr(), contents.len(), &mut count) } {
         sys::DONE => Bits::new(contents, 8, count).ok_or(DerError::TooMany),
         code => Err(error_of(code)),
     }
@@ -188,17 +178,17 @@ impl Time {
 ///
 /// # Errors
 ///
-/// `DerError::TimeOctets`, `DerError::TimeCharacter`, `DerError::NoTime`.
+/// `DerError::Contents`.
 ///
 /// ```
 /// use asn1_values::{der_utc_time, DerError};
 /// assert_eq!(der_utc_time(b"500101000000Z").unwrap().year, 1950);
-/// assert_eq!(der_utc_time(b"500229000000Z"), Err(DerError::NoTime));
+/// assert_eq!(der_utc_time(b"500229000000Z"), Err(DerError::Contents));
 /// ```
 pub fn der_utc_time(contents: &[u8]) -> Result<Time, DerError> {
     let mut time = sys::Time::NONE;
     // SAFETY: pointer and length are those of a slice, which the time does not overlap.
-    match unsafe { sys::asn1_der_utc_time(contents.as_ptr(), contents.len(), &mut time) } {
+    match unsafe { sys::asn1v_der_utc_time(contents.as_ptr(), contents.len(), &mut time) } {
         sys::DONE => Ok(Time::of(time)),
         code => Err(error_of(code)),
     }
@@ -208,7 +198,7 @@ pub fn der_utc_time(contents: &[u8]) -> Result<Time, DerError> {
 ///
 /// # Errors
 ///
-/// `DerError::TimeOctets`, `DerError::TimeCharacter`, `DerError::NoTime`.
+/// `DerError::Contents`.
 ///
 /// ```
 /// assert_eq!(asn1_values::der_generalized_time(b"20500101000000Z").unwrap().year, 2050);
@@ -216,7 +206,7 @@ pub fn der_utc_time(contents: &[u8]) -> Result<Time, DerError> {
 pub fn der_generalized_time(contents: &[u8]) -> Result<Time, DerError> {
     let mut time = sys::Time::NONE;
     // SAFETY: pointer and length are those of a slice, which the time does not overlap.
-    match unsafe { sys::asn1_der_generalized_time(contents.as_ptr(), contents.len(), &mut time) } {
+    match unsafe { sys::asn1v_der_generalized_time(contents.as_ptr(), contents.len(), &mut time) } {
         sys::DONE => Ok(Time::of(time)),
         code => Err(error_of(code)),
     }

@@ -186,40 +186,18 @@ impl fmt::Display for AlphabetError {
 #[derive(Clone, Copy, Debug, PartialEq, Eq, Hash)]
 #[non_exhaustive]
 pub enum DerError {
-    /// The octets end within identifier octets.
-    TagCut,
-    /// The number of a tag begins with an octet that adds nothing to it.
-    TagPadded,
-    /// A number below 31 stands behind the leading octet.
-    TagLow,
-    /// The number of a tag does not fit 64 bits.
-    TagLarge,
-    /// The octets end within a length.
-    LengthCut,
+    /// Octets are missing.
+    Short,
+    /// The number of a tag or a length has more octets than it needs.
+    NotMinimal,
     /// A length is indefinite.
     Indefinite,
-    /// More than eight octets hold a length.
-    LengthLarge,
-    /// Fewer octets hold the length.
-    LengthPadded,
-    /// The octets end within contents.
-    ContentsCut,
-    /// A BOOLEAN has not one octet.
-    BooleanOctets,
-    /// A BOOLEAN is neither 00 nor FF.
-    Boolean,
-    /// A BIT STRING has no octet.
-    Empty,
-    /// A BIT STRING has more unused bits than seven, or than bits.
-    Unused,
-    /// The unused bits of a BIT STRING are not all zero.
-    NotZero,
-    /// A time has not as many octets as its type.
-    TimeOctets,
-    /// An octet of a time is no digit, or not the Z at the end.
-    TimeCharacter,
-    /// There is no such day, or no such time of day.
-    NoTime,
+    /// The first octet of a length is reserved.
+    Reserved,
+    /// The number of a tag does not fit 64 bits.
+    TagLarge,
+    /// The contents octets encode no value of the type.
+    Contents,
     /// There are more bits than `usize` counts.
     TooMany,
 }
@@ -227,23 +205,12 @@ pub enum DerError {
 impl fmt::Display for DerError {
     fn fmt(&self, f: &mut fmt::Formatter<'_>) -> fmt::Result {
         f.write_str(match self {
-            DerError::TagCut => "identifier octets that are cut",
-            DerError::TagPadded => "a padded number of a tag",
-            DerError::TagLow => "a number of a tag below 31 behind the leading octet",
-            DerError::TagLarge => "a number of a tag past 64 bits",
-            DerError::LengthCut => "a length that is cut",
+            DerError::Short => "octets are missing",
+            DerError::NotMinimal => "a number of a tag or a length in more octets than it needs",
             DerError::Indefinite => "an indefinite length",
-            DerError::LengthLarge => "a length in more than eight octets",
-            DerError::LengthPadded => "a length in too many octets",
-            DerError::ContentsCut => "contents that are cut",
-            DerError::BooleanOctets => "a BOOLEAN of not one octet",
-            DerError::Boolean => "a BOOLEAN that is neither 00 nor FF",
-            DerError::Empty => "a BIT STRING of no octet",
-            DerError::Unused => "too many unused bits",
-            DerError::NotZero => "unused bits that are not zero",
-            DerError::TimeOctets => "a time of another number of octets",
-            DerError::TimeCharacter => "a wrong octet in a time",
-            DerError::NoTime => "no such day or time of day",
+            DerError::Reserved => "a length that begins with a reserved octet",
+            DerError::TagLarge => "a number of a tag of more than 64 bits",
+            DerError::Contents => "contents octets that encode no value of the type",
             DerError::TooMany => "too many octets",
         })
     }

@@ -77,7 +77,7 @@ pub enum Shape<'s> {
         /// How many octets.
         octets: usize,
     },
-    /// An integer behind an octet that counts its octets.
+    /// An integer after an octet that counts its octets.
     CountedInteger,
     /// A character of the alphabet.
     Character {

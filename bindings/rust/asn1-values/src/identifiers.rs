@@ -125,14 +125,14 @@ impl core::iter::FusedIterator for Arcs<'_> {}
 ///
 /// # Errors
 ///
-/// `IdentifierError::ArcTooLarge` for contents with a larger arc, else `IdentifierError::Malformed`.
+/// `IdentifierError::ArcTooLarge` for contents with a larger arc, otherwise `IdentifierError::Malformed`.
 ///
 /// ```
 /// assert!(asn1_values::check_contents(&[0x81, 0x34, 0x03]).is_ok());
 /// ```
 pub fn check_contents(octets: &[u8]) -> Result<(), IdentifierError> {
     // SAFETY: pointer and length are those of a slice.
-    match unsafe { sys::asn1_oid_check(octets.as_ptr(), octets.len()) } {
+    match unsafe { sys::asn1v_oid_check(octets.as_ptr(), octets.len()) } {
         sys::DONE => Ok(()),
         code => Err(refusal(code)),
     }
@@ -150,7 +150,7 @@ pub fn check_contents(octets: &[u8]) -> Result<(), IdentifierError> {
 /// ```
 pub fn check_arcs(arcs: &[u32]) -> Result<(), IdentifierError> {
     // SAFETY: pointer and length are those of a slice.
-    match unsafe { sys::asn1_oid_check_arcs(arcs.as_ptr(), arcs.len()) } {
+    match unsafe { sys::asn1v_oid_check_arcs(arcs.as_ptr(), arcs.len()) } {
         sys::DONE => Ok(()),
         code => Err(refusal(code)),
     }
@@ -171,7 +171,7 @@ pub fn write_contents<'a>(arcs: &[u32], room: &'a mut [u8]) -> Result<&'a [u8], 
     let mut count = 0;
     // SAFETY: pointers and lengths are those of slices, of which the mutable one overlaps no other.
     let code = unsafe {
-        sys::asn1_oid_contents(
+        sys::asn1v_oid_contents(
             arcs.as_ptr(),
             arcs.len(),
             room.as_mut_ptr(),
@@ -185,12 +185,12 @@ pub fn write_contents<'a>(arcs: &[u32], room: &'a mut [u8]) -> Result<&'a [u8], 
     }
 }
 
-/// The arcs of which the octets are the contents, at the front of the room: one arc more than there are octets is always
-/// enough.
+/// The arcs of which the octets are the contents, at the front of the room: one arc more than there are octets is
+/// always enough.
 ///
 /// # Errors
 ///
-/// Those of [`check_contents`], else `IdentifierError::Room` where the room is too short.
+/// Those of [`check_contents`], otherwise `IdentifierError::Room` where the room is too short.
 ///
 /// ```
 /// let mut room = [0; 4];
@@ -200,7 +200,7 @@ pub fn write_arcs<'a>(octets: &[u8], room: &'a mut [u32]) -> Result<&'a [u32], I
     let mut count = 0;
     // SAFETY: pointers and lengths are those of slices, of which the mutable one overlaps no other.
     let code = unsafe {
-        sys::asn1_oid_arcs(
+        sys::asn1v_oid_arcs(
             octets.as_ptr(),
             octets.len(),
             room.as_mut_ptr(),
@@ -217,7 +217,7 @@ pub fn write_arcs<'a>(octets: &[u8], room: &'a mut [u32]) -> Result<&'a [u32], I
 fn text_into(arcs: &[u32], room: &mut [u8], count: &mut usize) -> u32 {
     // SAFETY: pointers and lengths are those of slices, of which the mutable one overlaps no other.
     unsafe {
-        sys::asn1_oid_text(
+        sys::asn1v_oid_text(
             arcs.as_ptr(),
             arcs.len(),
             room.as_mut_ptr(),
@@ -230,7 +230,7 @@ fn text_into(arcs: &[u32], room: &mut [u8], count: &mut usize) -> u32 {
 fn arcs_into(text: &str, room: &mut [u32], count: &mut usize) -> u32 {
     // SAFETY: pointers and lengths are those of slices, of which the mutable one overlaps no other.
     unsafe {
-        sys::asn1_oid_from_text(
+        sys::asn1v_oid_from_text(
             text.as_ptr(),
             text.len(),
             room.as_mut_ptr(),
@@ -244,7 +244,8 @@ fn arcs_into(text: &str, room: &mut [u32], count: &mut usize) -> u32 {
 ///
 /// # Errors
 ///
-/// `IdentifierError::Arcs` where they are no identifier's, else `IdentifierError::Room` where the room is too short.
+/// `IdentifierError::Arcs` where they are no identifier's, otherwise `IdentifierError::Room` where the room is too
+/// short.
 ///
 /// ```
 /// let mut room = [0; 22];

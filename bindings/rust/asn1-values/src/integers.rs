@@ -3,7 +3,7 @@ use crate::error::{BitsError, IntegerError};
 use crate::sys;
 use core::cmp::Ordering;
 
-/// A whole number of any size: one of 128 bits by its value, else the shortest octets that it has somewhere.
+/// A whole number of any size: one of 128 bits by its value, otherwise the shortest octets that it has somewhere.
 ///
 /// ```
 /// use asn1_values::Integer;
@@ -28,7 +28,7 @@ impl From<i128> for Integer<'_> {
 }
 
 impl<'a> Integer<'a> {
-    /// The number that two's complement octets spell (X.690 8.3), which need not be the shortest.
+    /// The number that two's complement octets encode (X.690 8.3), which need not be the shortest.
     ///
     /// # Errors
     ///
@@ -79,7 +79,7 @@ impl<'a> Integer<'a> {
         }
     }
 
-    /// Copies its shortest octets to the front of the room, and answers them.
+    /// Copies its shortest octets to the front of the room, and returns them.
     ///
     /// # Errors
     ///
@@ -136,11 +136,11 @@ impl PartialOrd for Integer<'_> {
 pub fn integer_octets(number: i64, room: &mut [u8; 8]) -> &[u8] {
     let mut count = 0;
     // SAFETY: pointer and length are those of the array, and `count` is a place of its own.
-    unsafe { sys::asn1_integer_from_i64(number, room.as_mut_ptr(), room.len(), &mut count) };
+    unsafe { sys::asn1v_integer_from_i64(number, room.as_mut_ptr(), room.len(), &mut count) };
     &room[..count]
 }
 
-/// The number that two's complement octets spell, which need not be the shortest.
+/// The number that two's complement octets encode, which need not be the shortest.
 ///
 /// # Errors
 ///
@@ -152,7 +152,7 @@ pub fn integer_octets(number: i64, room: &mut [u8; 8]) -> &[u8] {
 pub fn integer_from_octets(octets: &[u8]) -> Result<i64, IntegerError> {
     let mut number = 0;
     // SAFETY: pointer and length are those of a slice, and `number` is a place of its own.
-    match unsafe { sys::asn1_integer_to_i64(octets.as_ptr(), octets.len(), &mut number) } {
+    match unsafe { sys::asn1v_integer_to_i64(octets.as_ptr(), octets.len(), &mut number) } {
         sys::DONE => Ok(number),
         sys::EMPTY => Err(IntegerError::Empty),
         _ => Err(IntegerError::Overflow),
@@ -172,8 +172,9 @@ pub fn integer_from_octets(octets: &[u8]) -> Result<i64, IntegerError> {
 pub fn compare_integers(a: &[u8], b: &[u8]) -> Result<Ordering, IntegerError> {
     let mut order = 0;
     // SAFETY: pointers and lengths are those of slices, and `order` is a place of its own.
-    match unsafe { sys::asn1_integer_compare(a.as_ptr(), a.len(), b.as_ptr(), b.len(), &mut order) }
-    {
+    match unsafe {
+        sys::asn1v_integer_compare(a.as_ptr(), a.len(), b.as_ptr(), b.len(), &mut order)
+    } {
         sys::DONE => Ok(ordering(order)),
         _ => Err(IntegerError::Empty),
     }
@@ -187,7 +188,7 @@ pub fn compare_integers(a: &[u8], b: &[u8]) -> Result<Ordering, IntegerError> {
 #[must_use]
 pub fn is_shortest(octets: &[u8]) -> bool {
     // SAFETY: pointer and length are those of a slice.
-    unsafe { sys::asn1_integer_is_shortest(octets.as_ptr(), octets.len()) }
+    unsafe { sys::asn1v_integer_is_shortest(octets.as_ptr(), octets.len()) }
 }
 
 /// The shortest octets of the same number: the end of the list. None for none.
@@ -198,6 +199,6 @@ pub fn is_shortest(octets: &[u8]) -> bool {
 #[must_use]
 pub fn shortest(octets: &[u8]) -> &[u8] {
     // SAFETY: pointer and length are those of a slice.
-    let redundant = unsafe { sys::asn1_integer_redundant(octets.as_ptr(), octets.len()) };
+    let redundant = unsafe { sys::asn1v_integer_redundant(octets.as_ptr(), octets.len()) };
     &octets[redundant..]
 }

@@ -1,7 +1,7 @@
 //! The proved value layer of ASN.1 as a Rust crate: safe functions over the static library that `rt lib` writes.
 //!
-//! What the library's functions answer is proved; what is written here passes slices on, walks over fields and turns
-//! numbers into types, and is tested. Positions and widths are in bits, and the first bit of an octet is its most
+//! What the library's functions return is proved; what is written here hands slices to them, walks over fields and
+//! turns numbers into types, and is tested. Positions and widths are in bits, and the first bit of an octet is its most
 //! significant one.
 //!
 //! Without the feature `std` it is `no_std`; the feature `alloc` adds what gives vectors.
@@ -31,6 +31,7 @@ mod identifiers;
 mod integers;
 mod strings;
 mod sys;
+mod version;
 mod wide_integers;
 
 pub use alphabets::{characters, check_string, Alphabet, Characters, StringKind};
@@ -60,6 +61,7 @@ pub use integers::{
 pub use strings::{count_characters, write_string_from_utf8, write_string_to_utf8};
 #[cfg(feature = "alloc")]
 pub use strings::{string_from_utf8, string_to_utf8};
+pub use version::version;
 pub use wide_integers::{
     i128_from_octets, i128_octets, u128_from_octets, u128_octets, u64_from_octets, u64_octets,
 };

@@ -15,7 +15,7 @@ use crate::sys;
 pub fn count_characters(kind: StringKind, octets: &[u8]) -> Result<usize, StringError> {
     let mut count = 0;
     // SAFETY: pointer and length are those of a slice, and `count` is a place of its own.
-    match unsafe { sys::asn1_string_count(kind as u32, octets.as_ptr(), octets.len(), &mut count) }
+    match unsafe { sys::asn1v_string_count(kind as u32, octets.as_ptr(), octets.len(), &mut count) }
     {
         sys::DONE => Ok(count),
         _ => Err(StringError::Odd),
@@ -49,7 +49,7 @@ fn to_utf8(kind: StringKind, octets: &[u8], room: &mut [u8]) -> Answer {
     // SAFETY: pointers and lengths are those of slices, of which the mutable one overlaps no other, and the last three
     // are places of their own.
     let code = unsafe {
-        sys::asn1_string_to_utf8(
+        sys::asn1v_string_to_utf8(
             kind as u32,
             octets.as_ptr(),
             octets.len(),
@@ -73,7 +73,7 @@ fn from_utf8(kind: StringKind, text: &str, room: &mut [u8]) -> Answer {
     // SAFETY: pointers and lengths are those of a text and of a slice, which do not overlap, and the last three are
     // places of their own.
     let code = unsafe {
-        sys::asn1_string_from_utf8(
+        sys::asn1v_string_from_utf8(
             kind as u32,
             text.as_ptr(),
             text.len(),
@@ -98,8 +98,8 @@ fn from_utf8(kind: StringKind, text: &str, room: &mut [u8]) -> Answer {
 /// # Errors
 ///
 /// `StringError::NoUnicode` for the three strings whose characters are not those of Unicode, `StringError::Odd`, the
-/// first `StringError::Character` or `StringError::Surrogate`, `StringError::TooMany`, else `StringError::Room` where
-/// the room is too short.
+/// first `StringError::Character` or `StringError::Surrogate`, `StringError::TooMany`, otherwise `StringError::Room`
+/// where the room is too short.
 ///
 /// ```
 /// use asn1_values::{write_string_to_utf8, StringKind};
@@ -124,8 +124,8 @@ pub fn write_string_to_utf8<'a>(
 /// # Errors
 ///
 /// `StringError::NoUnicode` for the three strings whose characters are not those of Unicode, the first
-/// `StringError::Character` that is not in the set, `StringError::TooMany`, else `StringError::Room` where the room is
-/// too short.
+/// `StringError::Character` that is not in the set, `StringError::TooMany`, otherwise `StringError::Room` where the
+/// room is too short.
 ///
 /// ```
 /// use asn1_values::{write_string_from_utf8, StringError, StringKind};

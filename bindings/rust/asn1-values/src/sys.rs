@@ -1,4 +1,4 @@
-//! The functions of `asn1_values.h` and the codes of `asn1_codes.h`, as they stand there.
+//! The functions of `asn1_values.h` and the codes of `asn1_codes.h`, as they are there.
 
 #[repr(C)]
 #[derive(Clone, Copy)]
@@ -164,14 +164,15 @@ pub const NO_UNICODE: u32 = 25;
 pub const SURROGATE: u32 = 26;
 
 extern "C" {
-    pub fn asn1_read_u128(
+    pub fn asn1v_version() -> u32;
+    pub fn asn1v_read_u128(
         octets: *const u8,
         octet_count: usize,
         position: usize,
         width: usize,
         value: *mut Words,
     ) -> u32;
-    pub fn asn1_or_bits(
+    pub fn asn1v_or_bits(
         target: *mut u8,
         target_count: usize,
         position: usize,
@@ -180,14 +181,14 @@ extern "C" {
         first: usize,
         count: usize,
     ) -> u32;
-    pub fn asn1_or_number(
+    pub fn asn1v_or_number(
         target: *mut u8,
         target_count: usize,
         position: usize,
         value: *const Words,
         width: usize,
     ) -> u32;
-    pub fn asn1_compare_bits(
+    pub fn asn1v_compare_bits(
         a: *const u8,
         a_count: usize,
         a_first: usize,
@@ -198,101 +199,101 @@ extern "C" {
         b_bits: usize,
         order: *mut i32,
     ) -> u32;
-    pub fn asn1_integer_from_i64(
+    pub fn asn1v_integer_from_i64(
         number: i64,
         room: *mut u8,
         room_count: usize,
         count: *mut usize,
     ) -> u32;
-    pub fn asn1_integer_to_i64(octets: *const u8, octet_count: usize, number: *mut i64) -> u32;
-    pub fn asn1_integer_from_u64(
+    pub fn asn1v_integer_to_i64(octets: *const u8, octet_count: usize, number: *mut i64) -> u32;
+    pub fn asn1v_integer_from_u64(
         number: u64,
         room: *mut u8,
         room_count: usize,
         count: *mut usize,
     ) -> u32;
-    pub fn asn1_integer_to_u64(octets: *const u8, octet_count: usize, number: *mut u64) -> u32;
-    pub fn asn1_integer_from_i128(
+    pub fn asn1v_integer_to_u64(octets: *const u8, octet_count: usize, number: *mut u64) -> u32;
+    pub fn asn1v_integer_from_i128(
         number: *const Words,
         room: *mut u8,
         room_count: usize,
         count: *mut usize,
     ) -> u32;
-    pub fn asn1_integer_to_i128(octets: *const u8, octet_count: usize, number: *mut Words) -> u32;
-    pub fn asn1_integer_from_u128(
+    pub fn asn1v_integer_to_i128(octets: *const u8, octet_count: usize, number: *mut Words) -> u32;
+    pub fn asn1v_integer_from_u128(
         number: *const Words,
         room: *mut u8,
         room_count: usize,
         count: *mut usize,
     ) -> u32;
-    pub fn asn1_integer_to_u128(octets: *const u8, octet_count: usize, number: *mut Words) -> u32;
-    pub fn asn1_integer_text(
+    pub fn asn1v_integer_to_u128(octets: *const u8, octet_count: usize, number: *mut Words) -> u32;
+    pub fn asn1v_integer_text(
         octets: *const u8,
         octet_count: usize,
         room: *mut u8,
         room_count: usize,
         count: *mut usize,
     ) -> u32;
-    pub fn asn1_integer_from_text(
+    pub fn asn1v_integer_from_text(
         text: *const u8,
         text_count: usize,
         room: *mut u8,
         room_count: usize,
         count: *mut usize,
     ) -> u32;
-    pub fn asn1_integer_compare(
+    pub fn asn1v_integer_compare(
         a: *const u8,
         a_count: usize,
         b: *const u8,
         b_count: usize,
         order: *mut i32,
     ) -> u32;
-    pub fn asn1_integer_is_shortest(octets: *const u8, octet_count: usize) -> bool;
-    pub fn asn1_integer_redundant(octets: *const u8, octet_count: usize) -> usize;
-    pub fn asn1_oid_check(octets: *const u8, octet_count: usize) -> u32;
-    pub fn asn1_oid_check_arcs(arcs: *const u32, arc_count: usize) -> u32;
-    pub fn asn1_oid_arcs(
+    pub fn asn1v_integer_is_shortest(octets: *const u8, octet_count: usize) -> bool;
+    pub fn asn1v_integer_redundant(octets: *const u8, octet_count: usize) -> usize;
+    pub fn asn1v_oid_check(octets: *const u8, octet_count: usize) -> u32;
+    pub fn asn1v_oid_check_arcs(arcs: *const u32, arc_count: usize) -> u32;
+    pub fn asn1v_oid_arcs(
         octets: *const u8,
         octet_count: usize,
         room: *mut u32,
         room_count: usize,
         count: *mut usize,
     ) -> u32;
-    pub fn asn1_oid_text(
+    pub fn asn1v_oid_text(
         arcs: *const u32,
         arc_count: usize,
         room: *mut u8,
         room_count: usize,
         count: *mut usize,
     ) -> u32;
-    pub fn asn1_oid_from_text(
+    pub fn asn1v_oid_from_text(
         text: *const u8,
         text_count: usize,
         room: *mut u32,
         room_count: usize,
         count: *mut usize,
     ) -> u32;
-    pub fn asn1_oid_contents(
+    pub fn asn1v_oid_contents(
         arcs: *const u32,
         arc_count: usize,
         room: *mut u8,
         room_count: usize,
         count: *mut usize,
     ) -> u32;
-    pub fn asn1_string_check(
+    pub fn asn1v_string_check(
         kind: u32,
         octets: *const u8,
         octet_count: usize,
         place: *mut usize,
         character: *mut u32,
     ) -> u32;
-    pub fn asn1_string_count(
+    pub fn asn1v_string_count(
         kind: u32,
         octets: *const u8,
         octet_count: usize,
         count: *mut usize,
     ) -> u32;
-    pub fn asn1_string_to_utf8(
+    pub fn asn1v_string_to_utf8(
         kind: u32,
         octets: *const u8,
         octet_count: usize,
@@ -302,7 +303,7 @@ extern "C" {
         place: *mut usize,
         character: *mut u32,
     ) -> u32;
-    pub fn asn1_string_from_utf8(
+    pub fn asn1v_string_from_utf8(
         kind: u32,
         text: *const u8,
         text_count: usize,
@@ -312,7 +313,7 @@ extern "C" {
         place: *mut usize,
         character: *mut u32,
     ) -> u32;
-    pub fn asn1_alphabet_new(
+    pub fn asn1v_alphabet_new(
         kind: u32,
         permitted: bool,
         set: *const u32,
@@ -320,10 +321,10 @@ extern "C" {
         aligned: bool,
         alphabet: *mut Alphabet,
     ) -> u32;
-    pub fn asn1_alphabet_encode(alphabet: *const Alphabet, character: u32, code: *mut u32) -> u32;
-    pub fn asn1_alphabet_decode(alphabet: *const Alphabet, code: u32, character: *mut u32) -> u32;
-    pub fn asn1_alphabet_width(alphabet: *const Alphabet, width: *mut usize) -> u32;
-    pub fn asn1_octets_at(
+    pub fn asn1v_alphabet_encode(alphabet: *const Alphabet, character: u32, code: *mut u32) -> u32;
+    pub fn asn1v_alphabet_decode(alphabet: *const Alphabet, code: u32, character: *mut u32) -> u32;
+    pub fn asn1v_alphabet_width(alphabet: *const Alphabet, width: *mut usize) -> u32;
+    pub fn asn1v_octets_at(
         octets: *const u8,
         octet_count: usize,
         first: usize,
@@ -331,7 +332,7 @@ extern "C" {
         room: *mut u8,
         room_count: usize,
     ) -> u32;
-    pub fn asn1_write_fields(
+    pub fn asn1v_write_fields(
         target: *mut u8,
         target_count: usize,
         position: usize,
@@ -346,7 +347,7 @@ extern "C" {
         end: *mut usize,
         refusal: *mut Refusal,
     ) -> u32;
-    pub fn asn1_read_fields(
+    pub fn asn1v_read_fields(
         octets: *const u8,
         octet_count: usize,
         position: usize,
@@ -359,15 +360,18 @@ extern "C" {
         end: *mut usize,
         refusal: *mut Refusal,
     ) -> u32;
-    pub fn asn1_der_next(
+    pub fn asn1v_der_next(
         octets: *const u8,
         octet_count: usize,
         position: usize,
         element: *mut Element,
     ) -> u32;
-    pub fn asn1_der_boolean(octets: *const u8, octet_count: usize, value: *mut bool) -> u32;
-    pub fn asn1_der_bit_string(octets: *const u8, octet_count: usize, count: *mut usize) -> u32;
-    pub fn asn1_der_utc_time(octets: *const u8, octet_count: usize, time: *mut Time) -> u32;
-    pub fn asn1_der_generalized_time(octets: *const u8, octet_count: usize, time: *mut Time)
-        -> u32;
+    pub fn asn1v_der_boolean(octets: *const u8, octet_count: usize, value: *mut bool) -> u32;
+    pub fn asn1v_der_bit_string(octets: *const u8, octet_count: usize, count: *mut usize) -> u32;
+    pub fn asn1v_der_utc_time(octets: *const u8, octet_count: usize, time: *mut Time) -> u32;
+    pub fn asn1v_der_generalized_time(
+        octets: *const u8,
+        octet_count: usize,
+        time: *mut Time,
+    ) -> u32;
 }

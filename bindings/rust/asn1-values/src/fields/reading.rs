@@ -1,4 +1,4 @@
-//! Reading fields: one call, and the fields that its numbers stand for.
+//! Reading fields: one call, and the fields that its numbers tell.
 
 use super::{Field, Shape};
 use crate::bits::Bits;
@@ -26,7 +26,7 @@ fn raised<'a, 's>(octets: &'a [u8], shape: &Shape<'s>, read: &sys::Field) -> Fie
     }
 }
 
-/// The integer whose octets lie behind so many bits.
+/// The integer whose octets lie after so many bits.
 fn number<'a>(read: &sys::Field, bits: Bits<'a>, lead: usize) -> Integer<'a> {
     match bits.part(lead, bits.len().saturating_sub(lead)) {
         Some(octets) if octets.len() > 128 => Integer(Form::Octets(octets)),
@@ -74,7 +74,7 @@ fn take(
     // SAFETY: pointers and lengths are those of slices, of which the mutable one overlaps no other; alphabets are those
     // that `Alphabet::new` has seen, and the rest are places of their own.
     let code = unsafe {
-        sys::asn1_read_fields(
+        sys::asn1v_read_fields(
             octets.as_ptr(),
             octets.len(),
             position,
@@ -94,7 +94,7 @@ fn take(
     }
 }
 
-/// Reads one field of the shape from bit `position` on: the field, and the first bit behind it.
+/// Reads one field of the shape from bit `position` on: the field, and the first bit after it.
 ///
 /// # Errors
 ///
@@ -122,7 +122,7 @@ pub fn read_field<'a, 's>(
     Ok((raised(octets, shape, &read[0]), end))
 }
 
-/// Reads fields of the shapes, one after another, from bit `position` on: the fields, and the first bit behind them.
+/// Reads fields of the shapes, one after another, from bit `position` on: the fields, and the first bit after them.
 ///
 /// # Errors
 ///

@@ -72,7 +72,7 @@ fn put(target: &mut [u8], at: usize, parts: &Parts<'_>) -> (u32, usize, sys::Ref
     // SAFETY: pointers and lengths are those of slices, of which the mutable one overlaps no other; the alphabet is one
     // that `Alphabet::new` has seen, and the rest are places of their own.
     let code = unsafe {
-        sys::asn1_write_fields(
+        sys::asn1v_write_fields(
             target.as_mut_ptr(),
             target.len(),
             at,
@@ -117,10 +117,11 @@ fn end_of(i: usize, field: &Field<'_, '_>, at: usize) -> Result<Option<usize>, W
 }
 
 /// Writes the fields, one after another, over the bits of the octets from bit `position` on, and answers the first bit
-/// behind them. Every other bit stays. All fields are looked at first: what does not fit is refused, and then no bit has
-/// changed.
+/// after them. Every other bit stays. All fields are looked at first: what does not fit is rejected, and then no bit
+/// has changed.
 ///
-/// Each field is looked at and written by a call that is proved; the walk over the fields is this crate's, and is tested.
+/// Each field is looked at and written by a call that is proved; the walk over the fields is this crate's, and is
+/// tested.
 ///
 /// # Errors
 ///
@@ -141,7 +142,7 @@ pub fn write_fields(
 ) -> Result<usize, WriteError> {
     let mut end = Some(position);
     for (i, field) in fields.iter().enumerate() {
-        // A field behind one that ends past `usize` is looked at all the same.
+        // A field after one that ends past `usize` is looked at all the same.
         let next = end_of(i, field, end.unwrap_or(0))?;
         end = end.and(next);
     }
