@@ -6,7 +6,7 @@ _asn1() {
         [decode]="--rules --type --from --to --input --rest --depth --parts --help"
         [encode]="--rules --type --to --input --depth --help"
         [check]="--help"
-        [types]="--help"
+        [types]="--sizes --help"
         [show]="--type --depth --help"
         [dump]="--from --input --depth --parts --help"
     )

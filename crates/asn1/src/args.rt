@@ -98,6 +98,8 @@ pub struct Options<'m> {
     pub parts: usize,
     /// The name of the input's file. `None` for standard input.
     pub input: Option<&'m str>,
+    /// Whether the bits of types are printed beside their names.
+    pub has_sizes: bool,
 }
 
 /// Returns the value of an option. It is empty if the option is not given.
@@ -124,6 +126,7 @@ impl<'m> Options<'m> {
             depth: matches.get_one("depth").unwrap_or(DEPTH),
             parts: matches.get_one("parts").unwrap_or(PARTS),
             input: matches.get_str("input"),
+            has_sizes: matches.get_flag("sizes"),
         }
     }
 }
@@ -240,7 +243,13 @@ fn check<'a>(alloc: Global) -> Result<Command<'a>, AllocError> {
 fn types<'a>(alloc: Global) -> Result<Command<'a>, AllocError> {
     Command::new(alloc, "types")
         .about("Print the names of the types of modules, one a line")
-        .after_help("Example: asn1 types people.asn1")
+        .after_help("Example: asn1 types --sizes people.asn1")
+        .arg(
+            Arg::new(alloc, "sizes")
+                .long("sizes")
+                .action(ArgAction::SetTrue)
+                .help("Print the least and the most bits of a value in unaligned PER too"),
+        )?
         .arg(modules(alloc))
 }
 

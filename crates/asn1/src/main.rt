@@ -14,6 +14,8 @@ mod from_json;
 mod lines;
 mod modules;
 mod opened;
+#[cfg(test)]
+mod opened_tests;
 mod pem;
 mod places;
 mod reasons;
@@ -21,6 +23,9 @@ mod rules;
 mod run;
 mod sets;
 mod show;
+#[cfg(test)]
+mod size_tests;
+mod sizes;
 mod stop;
 #[cfg(test)]
 mod tests;

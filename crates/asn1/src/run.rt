@@ -10,6 +10,7 @@ use crate::from_json::encode_json;
 use crate::modules::Modules;
 use crate::places::line_and_column;
 use crate::show::words_of_type;
+use crate::sizes::list_with_sizes;
 use crate::stop::Stop;
 use crate::types::{list_of, node_of};
 use asn1_resolve::Schema;
@@ -89,7 +90,11 @@ fn do_task<R: Runtime + AllocGlobal>(rt: &R, matches: &ArgMatches<'_>) -> Result
         Task::Decode => decode(rt, &options, &modules, &schema),
         Task::Encode => encode(rt, &options, &modules, &schema),
         Task::Types => {
-            let list = list_of(rt.alloc(), &schema)?;
+            let list = if options.has_sizes {
+                list_with_sizes(rt.alloc(), &schema)?
+            } else {
+                list_of(rt.alloc(), &schema)?
+            };
             write_whole(rt, list.as_bytes())
         }
         Task::Show => {

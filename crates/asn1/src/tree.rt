@@ -213,7 +213,7 @@ impl<'a> Walk<'a> {
     ) -> Result<(), PrintError> {
         let (inside, source, base) = (self.inside, self.source, self.base);
         let offset = match self.part(part)? {
-            Part::Octets(span) if self.lines.is_der() => {
+            Part::Octets(span) | Part::Bits(span) if self.lines.is_der() => {
                 self.base = base.saturating_add(span.at / 8);
                 Some(0)
             }

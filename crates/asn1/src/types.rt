@@ -29,7 +29,7 @@ pub fn node_of(schema: &Schema, name: &str) -> Option<usize> {
 }
 
 /// Returns whether all types are of one module.
-fn are_of_one_module(schema: &Schema) -> bool {
+pub fn are_of_one_module(schema: &Schema) -> bool {
     let Some(first) = schema.types().first() else {
         return true;
     };
@@ -41,17 +41,26 @@ fn are_of_one_module(schema: &Schema) -> bool {
     true
 }
 
-/// Returns the names of the types, one a line, in the order of the text. Types of several modules have
-/// the names of their modules before their own.
+/// Appends the name of a type. If the types are of several modules, the name of its module is before it.
+pub fn push_name(
+    list: &mut String,
+    schema: &Schema,
+    named: &NamedType,
+    is_one: bool,
+) -> Result<(), AllocError> {
+    if !is_one {
+        list.push_str(name_of(schema.text_of(named.module)))?;
+        list.push('.')?;
+    }
+    list.push_str(name_of(schema.text_of(named.name)))
+}
+
+/// Returns the names of the types, one a line, in the order of the text.
 pub fn list_of(alloc: Global, schema: &Schema) -> Result<String, AllocError> {
     let is_one = are_of_one_module(schema);
     let mut list = String::new(alloc);
     for named in schema.types() {
-        if !is_one {
-            list.push_str(name_of(schema.text_of(named.module)))?;
-            list.push('.')?;
-        }
-        list.push_str(name_of(schema.text_of(named.name)))?;
+        push_name(&mut list, schema, named, is_one)?;
         list.push('\n')?;
     }
     Ok(list)

@@ -13,10 +13,23 @@ const MAX_WORK: usize = 1 << 20;
 enum Role {
     /// Values of an INTEGER, whose names of numbers they can use, or sizes.
     Numbers(Option<Place>),
-    /// Characters.
-    Characters,
+    /// Characters, of a type that has others than those of ASCII or not.
+    Characters { is_wide: bool },
     /// Values of another type. No encoding depends on them.
-    Others,
+    Others { is_wide: bool },
+}
+
+/// Returns the role of the values of a type without a name.
+fn role_of(scope: Scope<'_>, base: Place) -> Role {
+    match scope.item(base) {
+        Item::Integer => Role::Numbers(Some(base)),
+        _ => Role::Others {
+            is_wide: match scope.entry(base.index).word {
+                Some(Word::BmpString | Word::UniversalString) => true,
+                _ => false,
+            },
+        },
+    }
 }
 
 /// The steps that are left.
@@ -90,31 +103,75 @@ impl<'r> Scope<'r> {
     }
 
     /// Returns the characters of a string or of a range of characters.
-    fn characters(self, place: Place) -> Result<u128, NotationError> {
+    fn characters(self, place: Place, is_wide: bool) -> Result<u128, NotationError> {
         let (first, last) = self.ends(place);
         let Some(last) = last else {
-            return match characters_of(self.string(first)?) {
-                Some(characters) => Ok(characters),
-                None => Err(self.not_ascii(first)),
-            };
+            return self.characters_in(first);
         };
         let least = match self.entry(first.index).word {
             Some(Word::Min) => 0,
             _ => self.character(first)?,
         };
         let greatest = match self.entry(last.index).word {
+            Some(Word::Max) if is_wide => return Err(self.not_ascii(last)),
             Some(Word::Max) => 127,
             _ => self.character(last)?,
         };
         Ok(characters_between(least, greatest))
     }
 
-    /// Returns the number of the character that a string of one character has.
+    /// Returns the characters of a value: a string, a character by its number, or a list of these.
+    fn characters_in(self, place: Place) -> Result<u128, NotationError> {
+        let value = self.text_value(place)?;
+        if self.item(value) == Item::Text || self.character_of(value).is_some() {
+            return self.characters_of_one(value);
+        }
+        let mut found = 0u128;
+        let mut inside = self.inside(value);
+        for _ in 0..self.most() {
+            let Some(index) = inside.next(self.tape) else {
+                break;
+            };
+            let piece = Place { index, ..value };
+            if self.item(piece) != Item::Comma {
+                found |= self.characters_of_one(self.text_value(piece)?)?;
+            }
+        }
+        Ok(found)
+    }
+
+    /// Returns the characters of a string, or the one that a tuple or a quadruple is.
+    fn characters_of_one(self, value: Place) -> Result<u128, NotationError> {
+        if self.item(value) == Item::Text {
+            let text = self.text_of(self.entry(value.index));
+            return characters_of(text).ok_or(self.not_ascii(value));
+        }
+        let number = self.number_of_character(value)?;
+        Ok(characters_between(number, number))
+    }
+
+    /// Returns the number of the character that a tuple or a quadruple is.
+    fn number_of_character(self, value: Place) -> Result<u8, NotationError> {
+        let Some(number) = self.character_of(value) else {
+            let expected = "a character by two or four numbers (X.680 41.8)";
+            return Err(self.error(Problem::Expected(expected), value));
+        };
+        match u8::try_from(number) {
+            Ok(number @ 0..=127) => Ok(number),
+            _ => Err(self.not_ascii(value)),
+        }
+    }
+
+    /// Returns the number of the character that a value of one character has.
     fn character(self, place: Place) -> Result<u8, NotationError> {
-        match self.string(place)? {
-            [octet] if *octet < 128 => Ok(*octet),
-            [octet] => Err(self.not_ascii(place)),
-            _ => Err(self.error(Problem::Expected("one character"), place)),
+        let value = self.text_value(place)?;
+        if self.item(value) != Item::Text {
+            return self.number_of_character(value);
+        }
+        match self.text_of(self.entry(value.index)) {
+            [octet @ 0..=127] => Ok(*octet),
+            [0..=127, ..] | [] => Err(self.error(Problem::Expected("one character"), value)),
+            _ => Err(self.not_ascii(value)),
         }
     }
 
@@ -130,11 +187,11 @@ impl<'r> Scope<'r> {
                 values: Some(self.numbers(place, governor)?),
                 ..EVERYTHING
             },
-            Role::Characters => Permitted {
-                alphabet: Some(self.characters(place)?),
+            Role::Characters { is_wide } => Permitted {
+                alphabet: Some(self.characters(place, is_wide)?),
                 ..EVERYTHING
             },
-            Role::Others => EVERYTHING,
+            Role::Others { .. } => EVERYTHING,
         })
     }
 
@@ -164,7 +221,13 @@ impl<'r> Scope<'r> {
                     ..EVERYTHING
                 })
             }
-            Item::From => self.of_element(first, Role::Characters, work, steps - 1),
+            Item::From => {
+                let is_wide = match role {
+                    Role::Others { is_wide } | Role::Characters { is_wide } => is_wide,
+                    Role::Numbers(_) => false,
+                };
+                self.of_element(first, Role::Characters { is_wide }, work, steps - 1)
+            }
             Item::Contained => {
                 let inner = self.permitted(first, work, steps - 1)?;
                 Ok(inner.without_marker())
@@ -234,10 +297,15 @@ impl<'r> Scope<'r> {
             None => EVERYTHING,
         };
         let base = self.base(place)?;
-        let role = match self.item(base) {
-            Item::Integer => Role::Numbers(Some(base)),
-            _ => Role::Others,
-        };
+        let role = role_of(self, base);
+        if let Role::Numbers(_) = role
+            && let Some(values) = self.numbers_of_set(place)?
+        {
+            found = found.followed_by(Permitted {
+                values: Some(values),
+                ..EVERYTHING
+            });
+        }
         let mut inside = self.inside(place);
         for _ in 0..self.most() {
             let Some(index) = inside.next(self.tape) else {

@@ -18,10 +18,15 @@ pub enum Field {
 const OTHER_NOTATION: Problem = Problem::Expected("what the notation of the class has here");
 
 impl<'r> Scope<'r> {
-    /// Returns the class that the name of a class or a field of a class has, through names.
+    /// Returns the class that the name of a class or a field of a class has, through names. That of a set of
+    /// objects is its class (X.681 15).
     pub fn class_of(self, place: Place) -> Result<Place, NotationError> {
         let mut found = place;
         for _ in 0..MAX_STEPS {
+            if let Some((of, _)) = self.set_named(found) {
+                found = of;
+                continue;
+            }
             match self.item(found) {
                 Item::Class => return Ok(found),
                 Item::FieldType | Item::Reference | Item::ExternalReference | Item::Literal =>
@@ -94,6 +99,19 @@ impl<'r> Scope<'r> {
         } else {
             Ok(Field::Open)
         }
+    }
+
+    /// Returns whether a type is a field of a class that is UNIQUE (X.681 9.8).
+    pub fn is_unique(self, place: Place) -> Result<bool, NotationError> {
+        if self.is_builtin(place) {
+            return Ok(true);
+        }
+        let class = self.class_of(place)?;
+        if self.is_builtin(class) {
+            return Ok(true);
+        }
+        let field = self.field_in(class, self.field_name(place))?;
+        Ok(self.find_in(field, Item::Unique).is_some())
     }
 
     /// Returns whether a class, or the class of a field, is TYPE-IDENTIFIER.
@@ -318,7 +336,10 @@ impl<'r> Scope<'r> {
                 found = argument;
                 continue;
             }
-            let definition = self.definition(found)?;
+            let mut definition = self.definition(found)?;
+            if self.item(definition) == Item::SetDefinition {
+                definition = self.instantiated(found, definition)?;
+            }
             match self.find_in(definition, Item::Braces) {
                 Some(braces) => return Ok(braces),
                 None => match self.value_in(definition) {

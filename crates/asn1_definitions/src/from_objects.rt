@@ -1,7 +1,12 @@
-//! What fields of objects are (X.681 15).
+//! What fields of objects and of sets of objects are (X.681 15).
 
+use crate::object_sets::Objects;
+use crate::permitted::Hull;
 use crate::scope::{Place, Scope};
 use asn1_notation::{Item, NotationError, Problem};
+
+/// How many objects a set may have.
+const MAX_OBJECTS: usize = 1 << 16;
 
 impl<'r> Scope<'r> {
     /// Returns the class of the object that an entry is named by, and the entry of the object.
@@ -44,6 +49,71 @@ impl<'r> Scope<'r> {
             found = setting.ok_or(self.error(Problem::Undefined, at))?;
         }
         Ok(found)
+    }
+
+    /// Returns the entry of the class of the set of objects that a field is one of, and an entry that names the
+    /// set or is it. `None` if the field is one of a class.
+    pub(crate) fn set_named(self, place: Place) -> Option<(Place, Place)> {
+        if self.item(place) != Item::FieldType {
+            return None;
+        }
+        if let Some((parameter, argument)) = self.argument(place) {
+            let of = self.type_in(parameter);
+            return if self.item(of).is_type() {
+                Some((of, argument))
+            } else {
+                None
+            };
+        }
+        let definition = self.definition(place).ok()?;
+        if self.item(definition) != Item::SetDefinition {
+            return None;
+        }
+        Some((self.type_in(definition), place))
+    }
+
+    /// Returns whether a type is a field of a set of objects (X.681 15).
+    pub fn is_from_set(self, place: Place) -> bool {
+        self.set_named(place).is_some()
+    }
+
+    /// Returns the numbers that the objects of a set have in a field, as their least and greatest one. `None`
+    /// if the type is no field of a set of objects, or no object has the field.
+    pub(crate) fn numbers_of_set(self, place: Place) -> Result<Option<Hull>, NotationError> {
+        let Some((of, set)) = self.set_named(place) else {
+            return Ok(None);
+        };
+        let class = self.class_of(of)?;
+        let name = self.field_name(place);
+        if self.find_in(self.braces_of(set)?, Item::Ellipsis).is_some() {
+            let feature = "a field of a set of objects with an extension marker (X.681 15)";
+            return Err(self.error(Problem::Unsupported(feature), place));
+        }
+        if let Some(next) = self.next_field_name(place, name) {
+            let feature = "a field of the objects in a field of a set of objects (X.681 15)";
+            return Err(self.error(Problem::Unsupported(feature), next));
+        }
+        let mut found: Option<Hull> = None;
+        let mut objects = Objects::new(self, set)?;
+        for _ in 0..MAX_OBJECTS {
+            let Some(object) = objects.next(self)? else {
+                return Ok(found);
+            };
+            let Some(value) = self.setting(class, object, self.entry(name.index))? else {
+                continue;
+            };
+            let number = Some(self.number(value, None)?);
+            let own = Hull {
+                least: number,
+                greatest: number,
+                is_extensible: false,
+            };
+            found = Some(match found {
+                Some(others) => others.or(own),
+                None => own,
+            });
+        }
+        Err(self.error(Problem::TooMuchWork, place))
     }
 
     /// Returns the type that a field of an object is.

@@ -95,7 +95,7 @@ impl Numbering {
         let entry = scope.entry(index);
         match entry.item {
             Item::Module => self.module = index,
-            Item::ValueDefinition | Item::SetDefinition if scope.is_parameterized(place) => {
+            Item::ValueDefinition if scope.is_parameterized(place) => {
                 self.without = wide(entry.end);
             }
             Item::ValueDefinition | Item::SetDefinition => {
@@ -103,11 +103,14 @@ impl Numbering {
                 self.without = wide(scope.entry(of.index).end);
             }
             Item::Parameters => {
-                self.without = wide(entry.end);
+                self.without = self.without.max(wide(entry.end));
                 self.parameters = index;
                 self.in_type = 0;
             }
-            Item::TypeDefinition if scope.is_parameterized(place) => {
+            _ => {}
+        }
+        match entry.item {
+            Item::TypeDefinition | Item::SetDefinition if scope.is_parameterized(place) => {
                 self.parameterized_to = wide(entry.end);
             }
             _ => {}
@@ -206,6 +209,7 @@ fn has_node(scope: Scope<'_>, place: Place) -> Result<bool, NotationError> {
     }
     if scope.find_in(place, Item::Constraint).is_none()
         && scope.find_in(place, Item::Containing).is_none()
+        && !scope.is_from_set(place)
     {
         return Ok(false);
     }
@@ -220,7 +224,8 @@ fn has_node(scope: Scope<'_>, place: Place) -> Result<bool, NotationError> {
     })
 }
 
-/// Returns an error if a name is imported that its module does not define, or twice.
+/// Returns an error if a name is imported that its module does not define or export, or that is also
+/// defined here.
 pub fn check_imports(scope: Scope<'_>) -> Result<(), NotationError> {
     let mut module = 0usize;
     for index in 0..scope.most() {
@@ -238,8 +243,21 @@ pub fn check_imports(scope: Scope<'_>) -> Result<(), NotationError> {
     Ok(())
 }
 
-/// Returns an error if one of the names imported from a module is not defined there, or is also
-/// defined here.
+/// Returns whether a module exports a name: its EXPORTS has the name, or it has none.
+fn is_exported(scope: Scope<'_>, module: usize, name: Entry) -> bool {
+    let module = Place {
+        module,
+        index: module,
+        instance: 0,
+    };
+    match scope.find_in(module, Item::Exports) {
+        Some(exports) => scope.named_in(exports, Item::Export, name).is_some(),
+        None => true,
+    }
+}
+
+/// Returns an error if one of the names imported from a module is not defined or exported there, or is
+/// also defined here.
 fn check_group(scope: Scope<'_>, group: Place) -> Result<(), NotationError> {
     let Some(from) = scope.find_in(group, Item::ImportModule) else {
         return Ok(());
@@ -259,6 +277,9 @@ fn check_group(scope: Scope<'_>, group: Place) -> Result<(), NotationError> {
         let place = Place { index, ..group };
         if scope.defined_in(module, name).is_none() {
             return Err(scope.error(Problem::Undefined, place));
+        }
+        if !is_exported(scope, module, name) {
+            return Err(scope.error(Problem::NotExported, place));
         }
         if scope.defined_in(group.module, name).is_some() {
             return Err(scope.error(Problem::Duplicate, place));

@@ -1,4 +1,4 @@
-//! The instances of parameterized types (X.683): each use of such a type, with its arguments.
+//! The instances of parameterized types and sets of objects (X.683): each use of one, with its arguments.
 
 use crate::scope::{Place, Scope};
 use asn1_notation::{Entry, Item, NotationError, Problem, Sink, error_at, wide};
@@ -9,7 +9,7 @@ pub const MAX_INSTANCES: usize = 1 << 14;
 /// How deep the uses of parameterized types may be nested.
 const MAX_NESTING: usize = 100;
 
-/// A use of a parameterized type. The first instance is the text itself, without its parameterized
+/// A use of a parameterized type or set of objects. The first instance is the text itself, without its parameterized
 /// types.
 #[derive(Clone, Copy, Debug, PartialEq, Eq)]
 pub struct Instance {
@@ -24,7 +24,8 @@ pub struct Instance {
 }
 
 /// What is an error where it is used.
-pub const PARAMETERIZED: &str = "a parameterized object or set (X.683 8.2)";
+pub const PARAMETERIZED: &str =
+    "a parameterized object, or a set whose name has no small letter (X.683 8.2)";
 
 const TEXT: Place = Place {
     module: 0,
@@ -114,29 +115,31 @@ impl<'r> Scope<'r> {
         }
     }
 
-    /// Returns the type of a definition in the instance that a name with arguments is.
+    /// Returns a definition in the instance that a name with arguments is.
     pub(crate) fn instantiated(
         self,
         name: Place,
         definition: Place,
     ) -> Result<Place, NotationError> {
         let is_parameterized = self.is_parameterized(definition);
-        let of = self.type_in(definition);
-        if self.item(of) == Item::Broken {
-            return Ok(of);
+        if self.item(self.type_in(definition)) == Item::Broken {
+            return Ok(definition);
         }
         match self.find_in(name, Item::Arguments) {
+            None if is_parameterized && self.item(name) == Item::Literal => {
+                Err(self.error(Problem::Unsupported(PARAMETERIZED), name))
+            }
             None if is_parameterized => Err(self.error(Problem::Arguments, name)),
-            None => Ok(of),
+            None => Ok(definition),
             Some(_) if !is_parameterized => Err(self.error(Problem::Arguments, name)),
             Some(arguments) => {
                 let number = wide(self.entry(arguments.index).link).saturating_sub(1);
                 let first = self.instance(name.instance).first_inner;
                 let instance = first.saturating_add(number);
-                Ok(self.type_in(Place {
+                Ok(Place {
                     instance,
                     ..definition
-                }))
+                })
             }
         }
     }
@@ -193,7 +196,7 @@ impl<'r> Scope<'r> {
         if !self.is_parameterized(definition) {
             return Err(self.error(Problem::Arguments, name));
         }
-        if self.item(definition) != Item::TypeDefinition {
+        if self.item(definition) == Item::ValueDefinition {
             return Err(self.error(Problem::Unsupported(PARAMETERIZED), name));
         }
         let parameters = Place {
@@ -214,7 +217,7 @@ impl<'r> Scope<'r> {
             }
             let instance = self.instance(outer);
             if instance.definition == definition {
-                let feature = "a parameterized type inside itself (X.683 9)";
+                let feature = "a parameterized type or set inside itself (X.683 9)";
                 return Err(self.error(Problem::Unsupported(feature), name));
             }
             outer = instance.arguments.instance;

@@ -62,26 +62,64 @@ impl<'r> Scope<'r> {
         self.value_in(self.named_in(governor, Item::Name, name)?)
     }
 
-    /// Returns the string of characters that a value is, through names.
-    pub fn string(self, place: Place) -> Result<&'r [u8], NotationError> {
+    /// Returns the string or the braces that a value of characters is, through names.
+    pub fn text_value(self, place: Place) -> Result<Place, NotationError> {
         let mut found = place;
         for _ in 0..MAX_STEPS {
-            let entry = self.entry(found.index);
-            match entry.item {
-                Item::Text => return Ok(self.text_of(entry)),
-                Item::ValueReference | Item::ExternalValue => {
+            match self.item(found) {
+                Item::Text | Item::Braces => return Ok(found),
+                Item::ValueReference | Item::ExternalValue | Item::PieceName => {
                     let (value, _) = self.named_value(found)?;
                     found = value;
                 }
                 Item::FromObject => found = self.from_object(found)?,
                 Item::Broken => return Err(self.error(Problem::Consequence, place)),
-                Item::Braces => {
-                    let feature = "a character by its number (X.680 41.8)";
-                    return Err(self.error(Problem::Unsupported(feature), place));
-                }
                 _ => return Err(self.error(Problem::Expected("a string"), place)),
             }
         }
         Err(self.error(Problem::Circular, place))
+    }
+
+    /// Returns the numbers in braces, with a comma between each two: of a tuple two, and of a quadruple four.
+    /// `None` if there are others.
+    fn parts_of_character(self, braces: Place) -> Option<(usize, [u32; 4])> {
+        let mut parts = [0u32; 4];
+        let mut count = 0usize;
+        let mut inside = self.inside(braces);
+        for _ in 0..self.most() {
+            let Some(index) = inside.next(self.tape) else {
+                break;
+            };
+            let entry = self.entry(index);
+            if entry.item != Item::Number {
+                return None;
+            }
+            let number = u32::try_from(number_of_digits(self.text_of(entry))?).ok()?;
+            *parts.get_mut(count)? = number;
+            count = count.saturating_add(1);
+            let comma = inside.next(self.tape);
+            if comma.is_some_and(|index| self.entry(index).item != Item::Comma) {
+                return None;
+            }
+        }
+        Some((count, parts))
+    }
+
+    /// Returns the number of the character that a tuple or a quadruple is (X.680 41.8). `None` if the braces
+    /// are neither.
+    pub fn character_of(self, braces: Place) -> Option<u32> {
+        match self.parts_of_character(braces)? {
+            (2, [column @ 0..=7, row @ 0..=15, ..]) => Some(column * 16 + row),
+            (
+                4,
+                [
+                    group @ 0..=127,
+                    plane @ 0..=255,
+                    row @ 0..=255,
+                    cell @ 0..=255,
+                ],
+            ) => { Some(((group * 256 + plane) * 256 + row) * 256 + cell) }
+            _ => None,
+        }
     }
 }

@@ -66,7 +66,7 @@ impl Hull {
     }
 
     /// Returns the hull of the numbers of either.
-    fn or(self, other: Hull) -> Hull {
+    pub fn or(self, other: Hull) -> Hull {
         let least = match (self.least, other.least) {
             (Some(a), Some(b)) => Some(a.min(b)),
             _ => None,

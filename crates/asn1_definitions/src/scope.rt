@@ -282,11 +282,14 @@ impl<'r> Scope<'r> {
         }
         let found = self.definition(place)?;
         match self.item(found) {
-            Item::TypeDefinition => self.instantiated(place, found),
-            Item::SetDefinition => match self.find_in(found, Item::Braces) {
-                Some(braces) => Ok(braces),
-                None => Err(self.error(Problem::Consequence, place)),
-            },
+            Item::TypeDefinition => Ok(self.type_in(self.instantiated(place, found)?)),
+            Item::SetDefinition => {
+                let found = self.instantiated(place, found)?;
+                match self.find_in(found, Item::Braces) {
+                    Some(braces) => Ok(braces),
+                    None => Err(self.error(Problem::Consequence, place)),
+                }
+            }
             _ => Err(self.error(Problem::NotA("a type"), place)),
         }
     }

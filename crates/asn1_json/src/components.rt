@@ -1,5 +1,6 @@
 //! SEQUENCE, SET, CHOICE and lists from JSON.
 
+use crate::opens::group_in;
 use crate::parse::{JsonError, JsonProblem, Maker, at_item, expected};
 use crate::tree::Kind;
 use asn1_schema::{Natural, Node, Part, Presence, Rows};
@@ -38,7 +39,10 @@ impl<'a, 's, 't> Maker<'a, 's, 't> {
                     is_extensible,
                     additions,
                 };
-                self.sequence(depth - 1, components, item)
+                self.around.push(item)?;
+                self.sequence(depth - 1, components, item)?;
+                self.around.pop();
+                Ok(())
             }
             Node::SequenceOf { item: of, .. } | Node::SetOf { item: of, .. } => {
                 self.list(depth - 1, of, item)
@@ -56,7 +60,14 @@ impl<'a, 's, 't> Maker<'a, 's, 't> {
                 self.choice(depth - 1, components, item)
             }
             Node::Open { inner } => self.value(depth - 1, inner, item),
-            leaf => self.leaf(node, leaf, item),
+            leaf => {
+                if let Node::OctetString { .. } = leaf
+                    && self.open(depth - 1, node, item)?
+                {
+                    return Ok(());
+                }
+                self.leaf(node, leaf, item)
+            }
         }
     }
 
@@ -79,7 +90,7 @@ impl<'a, 's, 't> Maker<'a, 's, 't> {
             },
             object,
         )?;
-        let mut used = self.components(depth, components.root, components.root, object)?;
+        let mut used = self.components(depth, components.root, object)?;
         if is_extended {
             let added = self.additions(depth, components, object)?;
             used = used.saturating_add(added);
@@ -90,19 +101,18 @@ impl<'a, 's, 't> Maker<'a, 's, 't> {
         Ok(())
     }
 
-    /// Appends the components of rows, of a SEQUENCE or SET with a root. Returns how many keys they have.
+    /// Appends the components of rows. Returns how many keys they have.
     #[cycle(making)]
     fn components(
         &mut self,
         depth: usize,
         rows: Rows,
-        root: Rows,
         object: usize,
     ) -> Result<usize, JsonError<'s>> {
         let mut used = 0usize;
         for index in 0..rows.count as usize {
             let row = rows.from.saturating_add(index);
-            let added = self.component(depth, row, root, false, object)?;
+            let added = self.component(depth, row, false, object)?;
             used = used.saturating_add(added);
         }
         Ok(used)
@@ -114,7 +124,6 @@ impl<'a, 's, 't> Maker<'a, 's, 't> {
         &mut self,
         depth: usize,
         row: usize,
-        root: Rows,
         is_addition: bool,
         object: usize,
     ) -> Result<usize, JsonError<'s>> {
@@ -124,9 +133,7 @@ impl<'a, 's, 't> Maker<'a, 's, 't> {
             return self.group(depth, member.node, object);
         }
         if let Some(value) = self.tree.member(object, name) {
-            if !self.open(depth, member.node, root, object, value)? {
-                self.value(depth, member.node, value)?;
-            }
+            self.value(depth, member.node, value)?;
             return Ok(1);
         }
         if let Presence::Mandatory = member.presence
@@ -159,7 +166,7 @@ impl<'a, 's, 't> Maker<'a, 's, 't> {
             },
             object,
         )?;
-        self.components(depth - 1, root, root, object)
+        self.components(depth - 1, root, object)
     }
 
     /// Appends the additions, and those that the schema does not know. Returns how many keys they
@@ -182,7 +189,7 @@ impl<'a, 's, 't> Maker<'a, 's, 't> {
         let mut used = 0usize;
         for index in 0..known {
             let row = rows.from.saturating_add(index);
-            let added = self.component(depth, row, components.root, true, object)?;
+            let added = self.component(depth, row, true, object)?;
             used = used.saturating_add(added);
         }
         if let Some(array) = unknown {
@@ -243,7 +250,10 @@ impl<'a, 's, 't> Maker<'a, 's, 't> {
         };
         self.push(Part::Chosen(index), object)?;
         let node = self.member(row, object)?.node;
-        self.value(depth, node, value)
+        self.around.push(object)?;
+        self.value(depth, node, value)?;
+        self.around.pop();
+        Ok(())
     }
 
     /// Returns whether an object has a component of rows.
@@ -257,23 +267,11 @@ impl<'a, 's, 't> Maker<'a, 's, 't> {
         false
     }
 
-    /// Returns the components of an addition group in a row. `None` if the row has no group.
-    fn group_of(&self, row: usize) -> Option<Rows> {
-        if !self.name(row).is_empty() {
-            return None;
-        }
-        let tables = self.schema.tables();
-        match tables.nodes.get(tables.members.get(row)?.node)? {
-            Node::Sequence { root, .. } => Some(*root),
-            _ => None,
-        }
-    }
-
     /// Returns whether an object has an addition, also one that the schema does not know.
     fn has_addition(&self, components: Components, object: usize) -> bool {
         let rows = components.additions;
         for index in 0..rows.count as usize {
-            if let Some(group) = self.group_of(rows.from.saturating_add(index))
+            if let Some(group) = group_in(self.schema, rows.from.saturating_add(index))
                 && self.has_member_of(group, object)
             {
                 return true;
@@ -289,7 +287,7 @@ impl<'a, 's, 't> Maker<'a, 's, 't> {
             return true;
         }
         for index in 0..rows.count as usize {
-            if let Some(group) = self.group_of(rows.from.saturating_add(index))
+            if let Some(group) = group_in(self.schema, rows.from.saturating_add(index))
                 && names.member_named(group, name).is_some()
             {
                 return true;

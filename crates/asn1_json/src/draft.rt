@@ -3,7 +3,8 @@
 use asn1_schema::{Part, Span};
 use std::alloc::{AllocError, Global};
 
-/// The value of an open type whose contents are in the JSON, and are to be encoded.
+/// The value of an open type, or of a string with CONTAINING, whose contents are in the JSON, and are to be
+/// encoded.
 #[derive(Clone, Copy, Debug, PartialEq, Eq)]
 pub struct Pending {
     /// The index of its part.
@@ -35,20 +36,31 @@ impl Draft {
         }
     }
 
-    /// Returns the values of open types whose contents are to be encoded. Until `set_octets` says what
+    /// Returns the values whose contents are to be encoded. Until `set_octets` says what
     /// their octets are, they have none.
     pub fn pending(&self) -> &[Pending] {
         self.pending.as_slice()
     }
 
-    /// Appends a value of an open type whose contents are the value of an item.
-    pub(crate) fn push_pending(&mut self, node: usize, item: usize) -> Result<(), AllocError> {
+    /// Appends a value, also a BIT STRING, whose contents are the value of an item.
+    pub(crate) fn push_pending(
+        &mut self,
+        node: usize,
+        item: usize,
+        is_bits: bool,
+    ) -> Result<(), AllocError> {
         let part = self.parts.len();
         self.pending.push(Pending { part, node, item })?;
-        self.push(Part::Octets(Span { at: 0, count: 0 }), item)
+        let none = Span { at: 0, count: 0 };
+        let none = if is_bits {
+            Part::Bits(none)
+        } else {
+            Part::Octets(none)
+        };
+        self.push(none, item)
     }
 
-    /// Sets the octets of a part.
+    /// Sets the octets of a part, or its bits if it is a BIT STRING.
     ///
     /// # Errors
     ///
@@ -56,7 +68,10 @@ impl Draft {
     pub fn set_octets(&mut self, part: usize, octets: &[u8]) -> Result<(), AllocError> {
         let span = self.add(octets)?;
         if let Some(place) = self.parts.as_mut_slice().get_mut(part) {
-            *place = Part::Octets(span);
+            *place = match *place {
+                Part::Bits(_) => Part::Bits(span),
+                _ => Part::Octets(span),
+            };
         }
         Ok(())
     }

@@ -20,7 +20,6 @@ mod place;
 mod print;
 mod printer;
 mod real_values;
-mod reals;
 mod strings;
 mod tree;
 mod value;
@@ -31,6 +30,3 @@ pub use parse::{JsonError, JsonProblem, parse_value, parse_value_at};
 pub use place::{line_and_column, path_of};
 pub use print::{PrintError, print_in_notation, print_value, print_with_contents, row_of};
 pub use tree::{Item, Kind, Tree, TreeError};
-
-#[cfg(test)]
-mod tests;

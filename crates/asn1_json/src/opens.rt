@@ -1,14 +1,18 @@
-//! The open types among the parts of a message (X.682 10), and OCTET STRINGs with CONTAINING (X.682 11).
+//! The open types among the parts of a message (X.682 10), and strings with CONTAINING (X.682 11).
 
 use crate::bits::{octets_in, octets_of};
 use crate::print::row_of;
-use asn1_resolve::{OpenKey, OpenType, Schema};
+use asn1_resolve::{OpenKey, OpenPath, Schema};
 use asn1_schema::{Node, Part, Rows};
-use asn1_schema_values::end_of_values;
+use asn1_schema_values::{Message, Value, end_of_values};
 use std::alloc::{AllocError, Global};
+use std::str;
 
-/// A value of an open type whose contents another component tells (X.682 10), or of an OCTET STRING with
-/// CONTAINING (X.682 11).
+/// No rows.
+const NO_ROWS: Rows = Rows { from: 0, count: 0 };
+
+/// A value of an open type whose contents other components tell (X.682 10), or of an OCTET STRING or a BIT
+/// STRING with CONTAINING (X.682 11).
 #[derive(Clone, Copy, Debug, PartialEq, Eq)]
 pub struct OpenValue {
     /// The index of its part.
@@ -31,7 +35,7 @@ pub struct Contents {
     pub parts: Vec<Part>,
 }
 
-/// Returns the octets of a part of a message. `None` if the part has no octets.
+/// Returns the octets of a part of a message. `None` if the part has none, or bits that are no whole octets.
 ///
 /// # Errors
 ///
@@ -43,14 +47,15 @@ pub fn octets_of_part(
 ) -> Result<Option<Vec<u8>>, AllocError> {
     match part {
         Part::Octets(span) => octets_of(alloc, message, span),
+        Part::Bits(span) if span.count % 8 == 0 => octets_of(alloc, message, span),
         Part::OctetsInFragments(fragments) => octets_in(alloc, message, fragments),
         _ => Ok(None),
     }
 }
 
-/// Returns the values of open types, and of OCTET STRINGs with CONTAINING, among the parts of a value of
-/// the type at a node. It leaves out those for which the schema does not know the type of the contents. The value must be nested less deep than
-/// `depth`.
+/// Returns the values of open types, and of strings with CONTAINING, among the parts of a value of the type
+/// at a node. It leaves out those for which the schema does not know the type of the contents. The value
+/// must be nested less deep than `depth`.
 ///
 /// # Errors
 ///
@@ -64,9 +69,11 @@ pub fn open_values(
     node: usize,
 ) -> Result<Vec<OpenValue>, AllocError> {
     let mut finder = Finder {
+        alloc,
         schema,
         message,
         parts,
+        around: Vec::new(alloc),
         found: Vec::new(alloc),
     };
     finder.value(depth, node, 0)?;
@@ -74,20 +81,27 @@ pub fn open_values(
     Ok(found)
 }
 
+/// A value of a SEQUENCE, SET or CHOICE around others.
+#[derive(Drop)]
+struct Around {
+    /// Its type.
+    node: usize,
+    /// The index of its part.
+    at: usize,
+    /// The paths from it, and the part that each leads to.
+    known: Vec<(OpenPath, Option<usize>)>,
+}
+
 /// What finds the values of open types.
 #[derive(Drop)]
 struct Finder<'a> {
+    alloc: Global,
     schema: &'a Schema,
     message: &'a [u8],
     parts: &'a [Part],
+    /// The values around the one that is gone over, from the outermost one on.
+    around: Vec<Around>,
     found: Vec<OpenValue>,
-}
-
-/// The components that a component is among: the rows of the root, and the index of the first part.
-#[derive(Clone, Copy)]
-struct Siblings {
-    root: Rows,
-    first: usize,
 }
 
 impl<'a> Finder<'a> {
@@ -115,7 +129,12 @@ impl<'a> Finder<'a> {
                 root,
                 additions,
                 ..
-            } => self.sequence(depth - 1, root, additions, at),
+            } => {
+                self.enter(node, at)?;
+                let next = self.sequence(depth - 1, root, additions, at)?;
+                self.around.pop();
+                Ok(next)
+            }
             Node::SequenceOf { item, .. } | Node::SetOf { item, .. } => {
                 self.list(depth - 1, item, at)
             }
@@ -125,23 +144,30 @@ impl<'a> Finder<'a> {
                 ..
             } => match self.parts.get(at).copied() {
                 Some(Part::Chosen(index)) => match row_of(alternatives, additions, index) {
-                    Some(row) => self.value(depth - 1, self.node_of(row), next),
+                    Some(row) => {
+                        self.enter(node, at)?;
+                        let next = self.value(depth - 1, self.node_of(row), next)?;
+                        self.around.pop();
+                        Ok(next)
+                    }
                     None => Ok(next),
                 },
                 _ => Ok(next),
             },
             Node::Open { inner } => self.value(depth - 1, inner, at),
-            Node::OctetString { .. } => {
-                if let Some(inner) = self.schema.contents_type(node) {
-                    self.found.push(OpenValue {
-                        part: at,
-                        node: inner,
-                    })?;
-                }
+            Node::OctetString { .. } | Node::BitString { .. } => {
+                self.leaf(node, at)?;
                 Ok(next)
             }
             _ => Ok(next),
         }
+    }
+
+    /// Begins with a value around others.
+    fn enter(&mut self, node: usize, at: usize) -> Result<(), AllocError> {
+        let known = Vec::new(self.alloc);
+        self.around.push(Around { node, at, known })?;
+        Ok(())
     }
 
     /// Goes over the items of a SEQUENCE OF or a SET OF.
@@ -173,23 +199,22 @@ impl<'a> Finder<'a> {
         let Some(Part::Sequence { count, is_extended }) = self.parts.get(at).copied() else {
             return Ok(first);
         };
-        let siblings = Siblings { root, first };
-        let next = self.components(depth, siblings, root, count, first)?;
+        let next = self.components(depth, root, count, first)?;
         if !is_extended {
             return Ok(next);
         }
         let Some(Part::Additions(count)) = self.parts.get(next).copied() else {
             return Ok(next);
         };
-        self.components(depth, siblings, additions, count, next.saturating_add(1))
+        self.components(depth, additions, count, next.saturating_add(1))
     }
 
-    /// Goes over so many components of rows.
+    /// Goes over so many components of rows. Those of an addition group are components of the type that the
+    /// group is in.
     #[cycle(finding)]
     fn components(
         &mut self,
         depth: usize,
-        siblings: Siblings,
         rows: Rows,
         count: usize,
         at: usize,
@@ -203,34 +228,164 @@ impl<'a> Finder<'a> {
                 next = next.saturating_add(1);
                 continue;
             }
-            let node = self.node_of(rows.from.saturating_add(index));
-            if let Some(open) = self.schema.open_type(node) {
-                self.add(open, siblings, next)?;
-            }
-            next = self.value(depth, node, next)?;
+            let row = rows.from.saturating_add(index);
+            next = match group_in(self.schema, row) {
+                Some(root) if depth != 0 => self.sequence(depth - 1, root, NO_ROWS, next)?,
+                _ => self.value(depth, self.node_of(row), next)?,
+            };
         }
         Ok(next)
     }
 
-    /// Adds the value of an open type at a part, if the schema knows the type of its contents.
-    fn add(&mut self, open: OpenType, siblings: Siblings, part: usize) -> Result<(), AllocError> {
-        let Ok(name) = std::str::from_utf8(self.schema.sibling_of(open)) else {
+    /// Adds the value at a part of a string with CONTAINING, or of an open type, if the schema knows the type
+    /// of its contents.
+    fn leaf(&mut self, node: usize, part: usize) -> Result<(), AllocError> {
+        if let Some(inner) = self.schema.contents_type(node) {
+            self.found.push(OpenValue { part, node: inner })?;
+        }
+        let Some(open) = self.schema.open_type(node) else {
             return Ok(());
         };
-        let Some(row) = self.schema.names().member_named(siblings.root, name) else {
-            return Ok(());
-        };
-        let before = row.saturating_sub(siblings.root.from);
-        let Some(at) = end_of_values(self.parts, siblings.first, before) else {
-            return Ok(());
-        };
-        let key = OpenKey {
-            parts: self.parts.get(at..).unwrap_or(&[]),
-            octets: self.message,
-        };
-        if let Some(node) = self.schema.contents_of(open, key) {
+        let mut keys = Vec::new(self.alloc);
+        for path in self.schema.paths_of(open) {
+            let Some(at) = self.component(*path)? else {
+                return Ok(());
+            };
+            keys.push(OpenKey {
+                parts: self.parts.get(at..).unwrap_or(&[]),
+                octets: self.message,
+            })?;
+        }
+        if let Some(node) = self.schema.contents_of(open, keys.as_slice()) {
             self.found.push(OpenValue { part, node })?;
         }
         Ok(())
+    }
+
+    /// Returns the index of the first part of the component that a path leads to. `None` if it is absent.
+    fn component(&mut self, path: OpenPath) -> Result<Option<usize>, AllocError> {
+        let outer = self.around.len().checked_sub(path.levels);
+        let Some(outer) = outer.and_then(|outer| outer.checked_sub(1)) else {
+            return Ok(None);
+        };
+        let Some(around) = self.around.as_mut_slice().get_mut(outer) else {
+            return Ok(None);
+        };
+        for (known, at) in around.known.as_slice() {
+            if *known == path {
+                return Ok(*at);
+            }
+        }
+        let message = Message {
+            tables: self.schema.tables(),
+            names: self.schema.names(),
+            octets: self.message,
+            parts: self.parts,
+        };
+        let value = Value {
+            message: &message,
+            node: around.node,
+            at: around.at,
+        };
+        let found = reached_from(self.schema, value, path);
+        around.known.push((path, found))?;
+        Ok(found)
+    }
+}
+
+/// Returns the index of the first part of the component that a path leads to from a value. `None` if it is
+/// absent.
+fn reached_from(schema: &Schema, value: Value<'_>, path: OpenPath) -> Option<usize> {
+    let mut found = value;
+    for name in schema.names_of(path) {
+        let name = str::from_utf8(schema.text_of(*name)).ok()?;
+        found = member_of(schema, found, name)?;
+    }
+    Some(found.at)
+}
+
+/// Returns the component of a SEQUENCE or SET with a name, or the value of a CHOICE whose alternative has the
+/// name. `None` if there is none.
+fn member_of<'v>(schema: &Schema, value: Value<'v>, name: &str) -> Option<Value<'v>> {
+    if let Some((chosen, inner)) = value.choice() {
+        return if chosen == name.as_bytes() {
+            Some(inner)
+        } else {
+            None
+        };
+    }
+    if let Some(found) = value.get(name) {
+        return Some(found);
+    }
+    in_groups(schema, value, name)
+}
+
+/// Returns the component of a SEQUENCE or SET with a name that is in an addition group. `None` if there is
+/// none.
+fn in_groups<'v>(schema: &Schema, value: Value<'v>, name: &str) -> Option<Value<'v>> {
+    let message = value.message;
+    let Node::Sequence { additions, .. } = *message.tables.nodes.get(value.node)? else {
+        return None;
+    };
+    let Part::Sequence {
+        count,
+        is_extended: true,
+    } = *message.parts.get(value.at)?
+    else {
+        return None;
+    };
+    let place = end_of_values(message.parts, value.at.saturating_add(1), count)?;
+    let Part::Additions(count) = *message.parts.get(place)? else {
+        return None;
+    };
+    among_groups(
+        schema,
+        message,
+        additions,
+        count,
+        place.saturating_add(1),
+        name,
+    )
+}
+
+/// Returns the component with a name that is in one of so many addition groups of rows, whose parts begin at an
+/// index. `None` if there is none.
+fn among_groups<'v>(
+    schema: &Schema,
+    message: &'v Message<'v>,
+    rows: Rows,
+    count: usize,
+    first: usize,
+    name: &str,
+) -> Option<Value<'v>> {
+    for index in 0..count {
+        if rows.count as usize <= index {
+            break;
+        }
+        let row = rows.from.saturating_add(index);
+        if group_in(schema, row).is_none() {
+            continue;
+        }
+        let group = Value {
+            message,
+            node: message.tables.members.get(row)?.node,
+            at: end_of_values(message.parts, first, index)?,
+        };
+        if let Some(found) = group.get(name) {
+            return Some(found);
+        }
+    }
+    None
+}
+
+/// Returns the components of the addition group in a row. `None` if the row has none.
+pub(crate) fn group_in(schema: &Schema, row: usize) -> Option<Rows> {
+    if !schema.names().of_member(row)?.is_empty() {
+        return None;
+    }
+    let tables = schema.tables();
+    match *tables.nodes.get(tables.members.get(row)?.node)? {
+        Node::Sequence { root, .. } => Some(root),
+        _ => None,
     }
 }

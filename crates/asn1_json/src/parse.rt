@@ -1,5 +1,6 @@
 //! Makes the parts of a value from JSON.
 
+use crate::contained::FoundOpen;
 use crate::draft::Draft;
 use crate::tree::{Item, Kind, Tree};
 use asn1_resolve::Schema;
@@ -102,12 +103,7 @@ pub fn parse_value_at<'s>(
     node: usize,
     item: usize,
 ) -> Result<Draft, JsonError<'s>> {
-    let mut maker = Maker {
-        alloc,
-        schema,
-        tree,
-        draft: Draft::new(alloc),
-    };
+    let mut maker = Maker::new(alloc, schema, tree);
     maker.value(depth, node, item)?;
     let Maker { draft, .. } = maker;
     Ok(draft)
@@ -120,6 +116,11 @@ pub(crate) struct Maker<'a, 's, 't> {
     pub(crate) schema: &'s Schema,
     pub(crate) tree: &'a Tree<'t>,
     pub(crate) draft: Draft,
+    /// The objects of the SEQUENCE, SET and CHOICE values around the one that is made, from the outermost
+    /// one on.
+    pub(crate) around: Vec<usize>,
+    /// The last open type whose contents were found.
+    pub(crate) last: Option<FoundOpen>,
 }
 
 /// Returns an error at an item.
@@ -133,6 +134,18 @@ pub(crate) fn expected<'s>(item: usize, what: &'static str) -> JsonError<'s> {
 }
 
 impl<'a, 's, 't> Maker<'a, 's, 't> {
+    /// Makes no parts.
+    pub(crate) fn new(alloc: Global, schema: &'s Schema, tree: &'a Tree<'t>) -> Maker<'a, 's, 't> {
+        Maker {
+            alloc,
+            schema,
+            tree,
+            draft: Draft::new(alloc),
+            around: Vec::new(alloc),
+            last: None,
+        }
+    }
+
     /// Returns an item.
     pub(crate) fn item(&self, index: usize) -> Result<Item<'t>, JsonError<'s>> {
         self.tree.item(index).ok_or(expected(index, "a value"))

@@ -3,8 +3,8 @@
 use crate::parse::{JsonError, Maker, expected};
 use crate::print::PrintError;
 use crate::printer::{NO_VALUE, Printer};
-use crate::reals::{Real, append_decimal, append_float, real_of, special_of};
 use crate::tree::Kind;
+use asn1_reals::{Real, append_decimal, append_float, real_of, special_of};
 use asn1_schema::Part;
 use ryu::Buffer;
 use std::str;

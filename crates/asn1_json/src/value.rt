@@ -30,9 +30,14 @@ impl<'a, 's, 't> Maker<'a, 's, 't> {
                 self.integer(of, item)?
             }
             Node::Enumerated { .. } => self.enumerated(node, item)?,
-            Node::BitString { .. } => self.bit_string(of, item)?,
+            Node::BitString { .. } => {
+                if self.containing(node, item, true)? {
+                    return Ok(());
+                }
+                self.bit_string(of, item)?
+            }
             Node::OctetString { .. } => {
-                if self.containing(node, item)? {
+                if self.containing(node, item, false)? {
                     return Ok(());
                 }
                 let octets = self.octets(item)?;

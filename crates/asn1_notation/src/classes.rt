@@ -47,7 +47,9 @@ impl<'m, 'a> Parser<'m, 'a> {
             self.any_type(MAX_DEPTH)?;
         }
         let has_type = is_value || self.count() != index.saturating_add(1);
-        self.accept_word(Word::Unique);
+        if self.sees_word(Word::Unique) {
+            self.add_next(Item::Unique);
+        }
         if self.sees_word(Word::Optional) {
             self.add_next(Item::Optional);
         } else if self.sees_word(Word::Default) {

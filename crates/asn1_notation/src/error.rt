@@ -41,6 +41,9 @@ pub enum Problem {
     /// An imported name comes from a module that the text does not have.
     #[error("the text does not have this module")]
     UnknownModule,
+    /// An imported name is none of those after EXPORTS of its module (X.680 13.8).
+    #[error("the module does not export this name")]
+    NotExported,
     /// A name is defined twice.
     #[error("the name is already in use")]
     Duplicate,

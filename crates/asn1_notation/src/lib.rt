@@ -15,8 +15,6 @@ mod references;
 mod report;
 mod sink;
 mod tape;
-#[cfg(test)]
-mod tests;
 mod token;
 mod types;
 mod values;

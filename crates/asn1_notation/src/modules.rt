@@ -136,22 +136,25 @@ impl<'m, 'a> Parser<'m, 'a> {
         }
     }
 
-    /// Reads EXPORTS, which has no entry.
+    /// Reads EXPORTS. With ALL, as without EXPORTS, it has no entry.
     fn exports(&mut self) -> Result<(), NotationError> {
         if !self.accept_word(Word::Exports) {
             return Ok(());
         }
+        if self.accept_word(Word::All) {
+            return self.expect_symbol(Symbol::Semicolon);
+        }
+        let index = self.begin(Item::Exports);
         for _ in 0..self.left() {
             match self.kind() {
-                TokenKind::Upper
-                | TokenKind::Lower
-                | TokenKind::Symbol(Symbol::Comma | Symbol::OpenBrace | Symbol::CloseBrace)
-                | TokenKind::Word(Word::All) => {
+                TokenKind::Upper | TokenKind::Lower => self.add_next(Item::Export),
+                TokenKind::Symbol(Symbol::Comma | Symbol::OpenBrace | Symbol::CloseBrace) => {
                     self.take();
                 }
                 _ => break,
             }
         }
+        self.close(index);
         self.end_of_list(Symbol::Semicolon, "a name or `;`")
     }
 

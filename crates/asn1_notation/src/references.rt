@@ -149,18 +149,30 @@ impl<'m, 'a> Parser<'m, 'a> {
     /// Reads the braces of an object, of a set of objects, or of a value.
     #[cycle(types)]
     pub fn object_braces(&mut self, depth: usize) -> Result<(), NotationError> {
+        self.object_pieces(depth, Item::Braces, Symbol::OpenBrace, Symbol::CloseBrace)
+    }
+
+    /// Reads the parts of an object, of a set of objects, or of a value between two symbols.
+    #[cycle(types)]
+    fn object_pieces(
+        &mut self,
+        depth: usize,
+        item: Item,
+        first: Symbol,
+        last: Symbol,
+    ) -> Result<(), NotationError> {
         if depth == 0 {
             return Err(self.error(Problem::TooDeep));
         }
-        let index = self.begin(Item::Braces);
-        self.expect_symbol(Symbol::OpenBrace)?;
+        let index = self.begin(item);
+        self.expect_symbol(first)?;
         for _ in 0..self.left() {
-            if self.sees_symbol(Symbol::CloseBrace) {
+            if self.sees_symbol(last) {
                 break;
             }
             self.object_piece(depth - 1)?;
         }
-        self.expect_symbol(Symbol::CloseBrace)?;
+        self.expect_symbol(last)?;
         self.close(index);
         Ok(())
     }
@@ -170,6 +182,10 @@ impl<'m, 'a> Parser<'m, 'a> {
     fn object_piece(&mut self, depth: usize) -> Result<(), NotationError> {
         match self.kind() {
             TokenKind::Symbol(Symbol::OpenBrace) => self.object_braces(depth),
+            TokenKind::Symbol(Symbol::OpenParenthesis) => {
+                let (first, last) = (Symbol::OpenParenthesis, Symbol::CloseParenthesis);
+                self.object_pieces(depth, Item::Union, first, last)
+            }
             TokenKind::Symbol(Symbol::Ampersand) => self.field_name(),
             TokenKind::Symbol(Symbol::OpenBracket) => self.any_type(depth),
             TokenKind::Symbol(symbol) => self.separator(symbol),
@@ -194,12 +210,13 @@ impl<'m, 'a> Parser<'m, 'a> {
         }
     }
 
-    /// Reads a comma, `|`, `...`, or the sign of a number.
+    /// Reads a comma, `|`, `^`, `...`, or the sign of a number.
     fn separator(&mut self, symbol: Symbol) -> Result<(), NotationError> {
         match symbol {
             Symbol::Comma => self.add_next(Item::Comma),
             Symbol::Bar => self.add_next(Item::Bar),
             Symbol::Ellipsis => self.add_next(Item::Ellipsis),
+            Symbol::Caret => self.add_next(Item::Literal),
             _ => return self.value(1),
         }
         Ok(())

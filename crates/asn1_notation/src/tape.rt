@@ -5,11 +5,15 @@ use crate::word::Word;
 /// What an entry is. The comments say what is inside, in braces.
 #[derive(Clone, Copy, PartialEq, Eq)]
 pub enum Item {
-    /// A module. Its word is the default of its tags. { maybe ExtensibilityImplied, Imports..,
-    /// definitions }
+    /// A module. Its word is the default of its tags. { maybe ExtensibilityImplied, maybe Exports,
+    /// Imports.., definitions }
     Module,
     /// EXTENSIBILITY IMPLIED.
     ExtensibilityImplied,
+    /// The names that other modules can import. A module that exports all has none. { Export.. }
+    Exports,
+    /// A name that is exported.
+    Export,
     /// Names that are imported from one module. { Import.., ImportModule }
     Imports,
     /// A name that is imported.
@@ -32,12 +36,14 @@ pub enum Item {
 
     /// CLASS (X.681 9.3), or TYPE-IDENTIFIER by its word. { Field.., maybe Syntax }
     Class,
-    /// A field, named without its `&`. { maybe type, maybe Optional or Default }
+    /// A field, named without its `&`. { maybe type, maybe Unique, maybe Optional or Default }
     Field,
+    /// UNIQUE.
+    Unique,
     /// WITH SYNTAX. { Literal, FieldName, Comma, OpenOptional, CloseOptional .. }
     Syntax,
     /// A word of capitals in WITH SYNTAX or in the definition of an object. There it may also name a
-    /// type.
+    /// type. In a set of objects also `^`.
     Literal,
     /// The name of a field, without its `&`.
     FieldName,
@@ -114,7 +120,7 @@ pub enum Item {
     Number,
     /// A number below 0. Its span is its digits.
     Negative,
-    /// A number with a fraction.
+    /// A number with a fraction or an exponent of ten, and its sign.
     Real,
     /// A string of characters.
     Text,
@@ -147,7 +153,7 @@ pub enum Item {
     At,
     /// A dot after `@`.
     Level,
-    /// { Intersection.. }
+    /// { Intersection.. }, or in a set of objects the parts in parentheses, as in braces.
     Union,
     /// { elements, each maybe followed by Except }
     Intersection,

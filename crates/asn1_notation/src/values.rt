@@ -24,9 +24,14 @@ fn is_value(word: Word) -> bool {
 impl<'m, 'a> Parser<'m, 'a> {
     /// Reads a number with its sign.
     fn signed_number(&mut self) -> Result<(), NotationError> {
+        let from = self.next().at;
         let is_negative = self.accept_symbol(Symbol::Minus);
         match self.kind() {
-            TokenKind::Real => self.add_next(Item::Real),
+            TokenKind::Real => {
+                let index = self.begin(Item::Real);
+                self.take();
+                self.close_spanning(index, from);
+            }
             TokenKind::Number if is_negative => self.add_next(Item::Negative),
             TokenKind::Number => self.add_next(Item::Number),
             _ => return Err(self.expected("a number")),

@@ -4,13 +4,13 @@
 //! are joined by full stops, `-` for none; after them are the numbers of an ENUMERATED, as `#0#5`, and
 //! `@2` or `@4` of a string with so many octets a character, and `+` of ANY. A member has the tags that
 //! it can begin with, joined by `|` and followed by `+` if it can begin with any, and the tags of its
-//! type.
+//! type. After an addition group its components are in parentheses.
 
 use crate::words::rows_of;
 use asn1_resolve::Schema;
-use asn1_schema::{Node, Rows};
+use asn1_schema::{Member, Node, Rows};
 use asn1_test_rows::RowError;
-use asn1_x690::{CharacterSize, Class, Tag};
+use asn1_x690::{CharacterSize, Class, FirstTags, Tag};
 use std::alloc::Global;
 
 /// Appends tags with something between them.
@@ -66,17 +66,41 @@ fn push_type_tags(text: &mut String, schema: &Schema, node: usize) -> Result<(),
     push_any(text, tags.is_any)
 }
 
-/// Appends the tags of members, in parentheses those of the members of an addition group.
-fn push_members(text: &mut String, schema: &Schema, rows: Rows) -> Result<(), RowError> {
-    let tables = schema.tag_tables();
-    let members = rows_of(schema.tables().members, rows);
-    let tags = rows_of(tables.members, rows);
+/// Appends the tags of a member.
+fn push_member(
+    text: &mut String,
+    schema: &Schema,
+    member: &Member,
+    first: &FirstTags,
+) -> Result<(), RowError> {
+    text.push(' ')?;
+    push_tags(text, rows_of(schema.tag_tables().tags, first.tags), '|')?;
+    push_any(text, first.is_any)?;
+    text.push(':')?;
+    push_type_tags(text, schema, member.node)
+}
+
+/// Appends the tags of the components of an addition group in parentheses.
+fn push_group(text: &mut String, schema: &Schema, group: Rows) -> Result<(), RowError> {
+    let members = rows_of(schema.tables().members, group);
+    let tags = rows_of(schema.tag_tables().members, group);
+    text.push_str(" (")?;
     for (member, first) in members.iter().zip(tags) {
-        text.push(' ')?;
-        push_tags(text, rows_of(tables.tags, first.tags), '|')?;
-        push_any(text, first.is_any)?;
-        text.push(':')?;
-        push_type_tags(text, schema, member.node)?;
+        push_member(text, schema, member, first)?;
+    }
+    text.push_str(" )")?;
+    Ok(())
+}
+
+/// Appends the tags of members, in parentheses those of the components of an addition group.
+fn push_members(text: &mut String, schema: &Schema, rows: Rows) -> Result<(), RowError> {
+    let members = rows_of(schema.tables().members, rows);
+    let tags = rows_of(schema.tag_tables().members, rows);
+    for (member, first) in members.iter().zip(tags) {
+        push_member(text, schema, member, first)?;
+        if let Some(group) = first.group {
+            push_group(text, schema, group)?;
+        }
     }
     Ok(())
 }

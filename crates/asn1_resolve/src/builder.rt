@@ -1,6 +1,7 @@
 //! The tables that are made, in the caller's room.
 
 use crate::objects::{ObjectRow, OpenRow};
+use crate::open_types::PathRow;
 use crate::tag_tables::{NO_FIRST_TAGS, NO_TYPE_TAGS};
 use asn1_definitions::Place;
 use asn1_notation::{NotationError, Problem, Sink, error_at};
@@ -132,8 +133,10 @@ pub struct Builder<'m> {
     pub first_rows: Sink<'m, Tag>,
     /// The node of which each node is a copy with other tags.
     pub sources: Sink<'m, usize>,
-    /// The open types whose contents another component tells.
+    /// The open types whose contents other components tell.
     pub opens: Sink<'m, OpenRow>,
+    /// The paths of these components.
+    pub paths: Sink<'m, PathRow>,
     /// Their objects.
     pub objects: Sink<'m, ObjectRow>,
     pub(crate) steps: usize,
@@ -175,19 +178,23 @@ impl<'m> Builder<'m> {
             first_rows: Sink::new(&mut []),
             sources: Sink::new(&mut []),
             opens: Sink::new(&mut []),
+            paths: Sink::new(&mut []),
             objects: Sink::new(&mut []),
             steps: 0,
         }
     }
 
-    /// Returns the tables with room for open types and their objects.
+    /// Returns the tables with room for open types, the paths of the components that tell their contents,
+    /// and their objects.
     pub fn with_objects(
         self,
         opens: &'m mut [OpenRow],
+        paths: &'m mut [PathRow],
         objects: &'m mut [ObjectRow],
     ) -> Builder<'m> {
         Builder {
             opens: Sink::new(opens),
+            paths: Sink::new(paths),
             objects: Sink::new(objects),
             ..self
         }

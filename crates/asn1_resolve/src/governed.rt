@@ -52,6 +52,10 @@ impl<'r> Types<'r> {
             let is_name = match self.scope.item(value) {
                 Item::ValueReference | Item::PieceName => !self.is_named(of, value),
                 Item::ExternalValue => true,
+                Item::FromObject => {
+                    value = self.scope.from_object(value).ok()?;
+                    continue;
+                }
                 _ => false,
             };
             if !is_name {

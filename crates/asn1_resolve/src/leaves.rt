@@ -29,6 +29,7 @@ impl Values {
                 let index = types.enumeral(governed.node, governed.value);
                 Ok(index.map(Part::Enumerated))
             }
+            Node::Real => self.real(types, governed),
             Node::BitString { .. } => self.bit_string(types, governed),
             Node::OctetString { .. } => self.octet_string(types, governed),
             Node::ObjectIdentifier if entry.item == Item::Braces => {
@@ -43,8 +44,19 @@ impl Values {
                     Some(contents) => Ok(Some(Part::Octets(self.add_octets(contents.as_slice())?))),
                 }
             }
+            Node::Text { .. } | Node::Utf8String if entry.item == Item::Braces => {
+                match types.listed_characters(self.alloc, governed.value)? {
+                    None => Ok(None),
+                    Some(characters) => self.text(characters.as_str(), node),
+                }
+            }
             Node::Text { .. } | Node::Utf8String | Node::Time { .. } if entry.item == Item::Text =>
-                { self.text(types.scope.text_of(entry), node) }
+                {
+                    match characters_of(self.alloc, types.scope.text_of(entry))? {
+                        None => Ok(None),
+                        Some(characters) => self.text(characters.as_str(), node),
+                    }
+                }
             _ => Ok(None),
         }
     }
@@ -99,12 +111,8 @@ impl Values {
         }
     }
 
-    /// Returns the part of a string of characters, by the text between its quotes.
-    fn text(&mut self, inside: &[u8], node: Node) -> Result<Option<Part>, AllocError> {
-        let Some(characters) = characters_of(self.alloc, inside)? else {
-            return Ok(None);
-        };
-        let characters = characters.as_str();
+    /// Returns the part of a string of characters.
+    fn text(&mut self, characters: &str, node: Node) -> Result<Option<Part>, AllocError> {
         if let Node::Utf8String = node {
             return Ok(Some(Part::Octets(self.add_octets(characters.as_bytes())?)));
         }

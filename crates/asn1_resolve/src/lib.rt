@@ -20,13 +20,12 @@ mod open;
 mod open_types;
 mod pieces;
 mod problems;
+mod real;
 mod room;
 mod schema;
 mod spans;
 mod strings;
 mod tag_tables;
-#[cfg(test)]
-mod tests;
 mod values;
 mod workroom;
 
@@ -34,6 +33,7 @@ pub use builder::{Builder, DefaultText, Draft, Enumeral, Key, NO_DRAFT, NO_KEY, 
 pub use error::SchemaError;
 pub use modules::resolve;
 pub use objects::{ObjectRow, OpenRow};
-pub use open::{Key as OpenKey, OpenObject, OpenType};
+pub use open::{Key as OpenKey, OpenObject, OpenPath, OpenType};
+pub use open_types::PathRow;
 pub use problems::{MAX_PROBLEMS, problems_of};
 pub use schema::Schema;

@@ -76,6 +76,12 @@ impl<'m> Builder<'m> {
         self.gather_additions(scope, place, &mut gathering)?;
         let additions = self.emit(from);
         self.check_tags()?;
+        if kind == Item::Sequence
+            && !gathering.tagging.is_automatic
+            && scope.find_in(place, Item::Ellipsis).is_some()
+        {
+            self.check_insertion(scope, place)?;
+        }
         self.check_names(scope.text)?;
         Ok(node_of(kind, root, scope.is_extensible(place), additions))
     }
@@ -216,7 +222,7 @@ impl<'m> Builder<'m> {
         } else {
             Presence::Optional
         };
-        let first = self.first_tags_from(first);
+        let first = self.first_tags_of_group(root, first);
         self.drafts.push(Draft {
             member: Member { node, presence },
             first,
@@ -272,6 +278,35 @@ impl<'m> Builder<'m> {
             self.check_tags()?;
         }
         Ok(())
+    }
+
+    /// Returns an error if the additions of a SEQUENCE, of which each may be absent, have a tag of the
+    /// components that may be absent before them, or of those after them up to one that must be present
+    /// (X.680 25.6).
+    fn check_insertion(&mut self, scope: Scope<'_>, place: Place) -> Result<(), NotationError> {
+        let mut is_addition = false;
+        let mut inside = scope.inside(place);
+        for _ in 0..scope.most() {
+            let Some(index) = inside.next_in_groups(scope.tape) else {
+                break;
+            };
+            let part = Place { index, ..place };
+            match scope.item(part) {
+                Item::Ellipsis => is_addition = !is_addition,
+                Item::Component => {
+                    let of = scope.type_in(part);
+                    self.add_first_tags(scope, of, span_of(scope, part), true, MAX_STEPS)?;
+                    let may_be_absent = is_addition
+                        || scope.find_in(part, Item::Optional).is_some()
+                        || scope.find_in(part, Item::Default).is_some();
+                    if !may_be_absent {
+                        self.check_tags()?;
+                    }
+                }
+                _ => {}
+            }
+        }
+        self.check_tags()
     }
 
     /// Returns whether a component may be absent.

@@ -108,7 +108,7 @@ impl<'m> Builder<'m> {
                 self.node_enumerals.set(row, enumerals);
                 if scope.is_open(place) {
                     self.add_open(scope, place, definition, row)?;
-                } else if let Node::OctetString { .. } = node {
+                } else if let Node::OctetString { .. } | Node::BitString { .. } = node {
                     self.add_containing(scope, place, row)?;
                 }
             }

@@ -58,8 +58,6 @@ fn unsupported(word: Option<Word>) -> &'static str {
         Some(Word::TimeOfDay) => "TIME-OF-DAY (X.680 38)",
         Some(Word::DateTime) => "DATE-TIME (X.680 38)",
         Some(Word::Duration) => "DURATION (X.680 38)",
-        Some(Word::OidIri) => "OID-IRI (X.680 34)",
-        Some(Word::RelativeOidIri) => "RELATIVE-OID-IRI (X.680 35)",
         _ => "this type",
     }
 }
@@ -162,7 +160,8 @@ impl<'m> Builder<'m> {
             Some(Word::Null) => Node::Null,
             Some(Word::Boolean) => Node::Boolean,
             Some(Word::RelativeOid) => Node::RelativeIdentifier,
-            Some(Word::Utf8String) => Node::Utf8String,
+            // Both are encoded as the UTF8String of their text (X.690 8.21, 8.22, X.691 26, 27).
+            Some(Word::Utf8String | Word::OidIri | Word::RelativeOidIri) => Node::Utf8String,
             Some(Word::Real) => Node::Real,
             Some(Word::UtcTime) => Node::Time {
                 kind: TimeKind::Utc,

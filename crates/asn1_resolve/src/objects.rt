@@ -1,66 +1,38 @@
 //! Objects and sets of objects (X.681), and the open types whose contents they tell (X.682 10).
 
 use crate::builder::Builder;
-use crate::open_types::Governing;
-use crate::room::{NO_OPEN, NO_PLACE};
-use asn1_definitions::{MAX_STEPS, PARAMETERIZED, Place, Scope};
-use asn1_notation::{Item, NotationError, Problem, Word, wide};
-use asn1_schema_values::NameSpan;
+use crate::open_types::{Governing, MAX_COMPONENTS};
+use crate::room::NO_PLACE;
+use asn1_definitions::{Objects, Place, Scope};
+use asn1_notation::{Item, NotationError, Problem, wide};
 
-/// An object of a set, as far as an open type depends on it.
+/// How many objects a set may have.
+const MAX_OBJECTS: usize = 1 << 18;
+
+/// An object of a set, as far as an open type depends on it. An open type that depends on several
+/// components has a row of each object for each of them.
 #[derive(Clone, Copy, Debug, PartialEq, Eq)]
 pub struct ObjectRow {
-    /// The entry of the value by which it is found.
+    /// The entry of the component's value by which the object is found.
     pub(crate) key: Place,
     /// The type that it has.
     pub(crate) node: usize,
 }
 
-/// An open type whose contents another component tells, or an OCTET STRING with CONTAINING, which has one
-/// object and no component.
+/// An open type whose contents other components tell, or an OCTET STRING or BIT STRING with CONTAINING, which
+/// has one object and no component.
 #[derive(Clone, Copy, Debug, PartialEq, Eq)]
 pub struct OpenRow {
     /// The open type.
     pub(crate) node: usize,
-    /// The name of the component.
-    pub(crate) sibling: NameSpan,
-    /// The entry of the component's type.
-    pub(crate) of: Place,
-    /// The node of the component's type.
-    pub(crate) key_node: usize,
-    /// The first of its objects.
+    /// The first of its paths.
+    pub(crate) first_path: usize,
+    /// How many they are.
+    pub(crate) paths: usize,
+    /// The first of the rows of its objects.
     pub(crate) from: usize,
     /// How many they are.
     pub(crate) count: usize,
-}
-
-/// Returns an error if a set is more than a union of objects and sets.
-fn check_word(scope: Scope<'_>, place: Place) -> Result<(), NotationError> {
-    if Word::of_text(scope.text_of(scope.entry(place.index))).is_some() {
-        let feature = "a set of objects with EXCEPT or an intersection (X.681 12.3)";
-        return Err(scope.error(Problem::Unsupported(feature), place));
-    }
-    Ok(())
-}
-
-/// Returns whether the entry after another one is in braces.
-fn is_followed_by_braces(scope: Scope<'_>, place: Place) -> bool {
-    let index = wide(scope.entry(place.index).end);
-    scope.item(Place { index, ..place }) == Item::Braces
-}
-
-/// Returns whether the last field of an object is a set: its name begins with a capital (X.681 9.2).
-fn is_set_of_object(scope: Scope<'_>, place: Place) -> bool {
-    let mut inside = scope.inside(place);
-    let mut is_set = false;
-    for _ in 0..scope.most() {
-        let Some(index) = inside.next(scope.tape) else {
-            break;
-        };
-        let name = scope.text_of(scope.entry(index));
-        is_set = name.first().is_some_and(|octet| octet.is_ascii_uppercase());
-    }
-    is_set
 }
 
 /// Returns an error if a set of objects is not of its class, or its type is no class.
@@ -75,27 +47,32 @@ fn check_set(scope: Scope<'_>, definition: Place) -> Result<(), NotationError> {
         return Err(scope.error(Problem::Unsupported(feature), definition));
     }
     let braces = scope.braces_of(definition)?;
-    let mut inside = scope.inside(braces);
-    for _ in 0..scope.most() {
-        let Some(index) = inside.next(scope.tape) else {
-            break;
-        };
-        let element = Place { index, ..braces };
-        match scope.item(element) {
-            Item::Comma | Item::Bar | Item::Ellipsis => {}
-            Item::Braces => scope.check_object(class, element)?,
-            Item::PieceName | Item::Literal if is_followed_by_braces(scope, element) => {
-                return Err(scope.error(Problem::Unsupported(PARAMETERIZED), element));
-            }
-            Item::Literal => {
-                check_word(scope, element)?;
-                scope.braces_of(element)?;
-            }
-            Item::PieceName | Item::FromObject | Item::Reference | Item::ExternalReference => {
-                scope.braces_of(element)?;
-            }
-            _ => return Err(scope.error(Problem::Expected("an object or a set"), element)),
+    let mut objects = Objects::new(scope, braces)?;
+    for _ in 0..MAX_OBJECTS {
+        if objects.next(scope)?.is_none() {
+            return check_inline(scope, class, braces);
         }
+    }
+    Err(scope.error(Problem::TooMuchWork, definition))
+}
+
+/// Returns an error if an object in the braces of a set is not as its class says.
+fn check_inline(scope: Scope<'_>, class: Place, braces: Place) -> Result<(), NotationError> {
+    let end = wide(scope.entry(braces.index).end);
+    let mut index = braces.index.saturating_add(1);
+    for _ in 0..scope.most() {
+        if end <= index {
+            break;
+        }
+        let place = Place { index, ..braces };
+        index = match scope.item(place) {
+            Item::Union => index.saturating_add(1),
+            Item::Braces => {
+                scope.check_object(class, place)?;
+                wide(scope.entry(index).end)
+            }
+            _ => wide(scope.entry(index).end),
+        };
     }
     Ok(())
 }
@@ -124,41 +101,16 @@ pub(crate) fn check_objects(scope: Scope<'_>) -> Result<(), NotationError> {
 
 impl<'m> Builder<'m> {
     /// Appends the objects of a set that have the fields of an open type.
-    pub(crate) fn add_objects(
-        &mut self,
-        scope: Scope<'_>,
-        set: Place,
-        governing: Governing,
-        steps: usize,
-    ) -> Result<(), NotationError> {
-        if steps == 0 {
-            return Err(scope.error(Problem::Circular, set));
-        }
-        let braces = scope.braces_of(set)?;
-        let mut inside = scope.inside(braces);
-        for _ in 0..scope.most() {
-            let Some(index) = inside.next(scope.tape) else {
-                break;
+    fn add_objects(&mut self, scope: Scope<'_>, governing: Governing) -> Result<(), NotationError> {
+        let mut objects = Objects::new(scope, governing.set)?;
+        for _ in 0..MAX_OBJECTS {
+            let Some(object) = objects.next(scope)? else {
+                return Ok(());
             };
-            let element = Place { index, ..braces };
-            self.step(scope.at(element))?;
-            match scope.item(element) {
-                Item::Comma | Item::Bar | Item::Ellipsis => {}
-                Item::FromObject if is_set_of_object(scope, element) => {
-                    self.add_objects(scope, element, governing, steps - 1)?;
-                }
-                Item::Braces | Item::PieceName | Item::FromObject => {
-                    let object = scope.braces_of(element)?;
-                    self.add_object(scope, object, governing)?;
-                }
-                Item::Literal | Item::Reference | Item::ExternalReference => {
-                    check_word(scope, element)?;
-                    self.add_objects(scope, element, governing, steps - 1)?;
-                }
-                _ => return Err(scope.error(Problem::Expected("an object or a set"), element)),
-            }
+            self.step(scope.at(object))?;
+            self.add_object(scope, object, governing)?;
         }
-        Ok(())
+        Err(scope.error(Problem::TooMuchWork, governing.set))
     }
 
     /// Appends an object, if it has the fields of an open type.
@@ -168,21 +120,25 @@ impl<'m> Builder<'m> {
         object: Place,
         governing: Governing,
     ) -> Result<(), NotationError> {
-        let key = scope.setting(governing.class, object, governing.key)?;
+        let keys = governing.keys(scope, object)?;
         let of = scope.setting(governing.class, object, governing.field)?;
-        let (Some(key), Some(of)) = (key, of) else {
+        let (Some(keys), Some(of)) = (keys, of) else {
             return Ok(());
         };
         if !scope.item(of).is_type() && scope.item(of) != Item::Literal {
             return Err(scope.error(Problem::Expected("a type"), of));
         }
         let node = self.used_node(scope, of, None, false)?;
-        self.objects.push(ObjectRow { key, node });
+        for (index, key) in keys.iter().enumerate() {
+            if governing.path(index).is_some() {
+                self.objects.push(ObjectRow { key: *key, node });
+            }
+        }
         Ok(())
     }
 
-    /// Appends an OCTET STRING whose contents are a value of a type (X.682 11), unless ENCODED BY names the
-    /// rules that encode it.
+    /// Appends an OCTET STRING or a BIT STRING whose contents are a value of a type (X.682 11), unless ENCODED
+    /// BY names the rules that encode it.
     pub(crate) fn add_containing(
         &mut self,
         scope: Scope<'_>,
@@ -203,14 +159,15 @@ impl<'m> Builder<'m> {
         });
         self.opens.push(OpenRow {
             node,
+            first_path: 0,
+            paths: 0,
             from,
             count: 1,
-            ..NO_OPEN
         });
         Ok(())
     }
 
-    /// Appends the open type of an entry, if another component tells what its contents are.
+    /// Appends the open type of an entry, if other components tell what its contents are.
     pub(crate) fn add_open(
         &mut self,
         scope: Scope<'_>,
@@ -222,18 +179,18 @@ impl<'m> Builder<'m> {
             return Ok(());
         };
         let from = self.objects.count();
-        self.add_objects(scope, governing.set, governing, MAX_STEPS)?;
+        self.add_objects(scope, governing)?;
         let count = self.objects.count().saturating_sub(from);
-        let name = scope.entry(governing.sibling.index);
-        let of = scope.type_in(governing.sibling);
+        let first_path = self.paths.count();
+        for index in 0..MAX_COMPONENTS {
+            if let Some(path) = governing.path(index) {
+                self.paths.push(path);
+            }
+        }
         self.opens.push(OpenRow {
             node,
-            sibling: NameSpan {
-                from: wide(name.from),
-                count: wide(name.count),
-            },
-            of,
-            key_node: scope.node_of(of)?,
+            first_path,
+            paths: self.paths.count().saturating_sub(first_path),
             from,
             count,
         });

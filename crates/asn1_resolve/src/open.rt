@@ -2,21 +2,33 @@
 
 use asn1_schema::{Characters, Part, Rows, Span};
 
-/// An open type whose contents another component of its SEQUENCE or SET tells.
+/// An open type whose contents other components tell.
 #[derive(Clone, Copy, Debug, PartialEq, Eq)]
 pub struct OpenType {
     /// The node of the open type.
     pub node: usize,
-    /// The index of the component's name among the names of open types.
-    pub(crate) row: usize,
-    /// Its objects.
+    /// The paths of the components.
+    pub(crate) paths: Rows,
+    /// Its objects: a row for each path of each object.
     pub(crate) objects: Rows,
+}
+
+/// The path of a component that tells what the contents of an open type are.
+#[derive(Clone, Copy, Debug, PartialEq, Eq)]
+pub struct OpenPath {
+    /// How many of the SEQUENCE, SET and CHOICE types around the open type are inside the one in which the
+    /// path begins: 0 if it is the innermost one.
+    pub levels: usize,
+    /// The names of the components that the path leads through, among those of all paths.
+    pub(crate) names: Rows,
+    /// The node of the component's type.
+    pub node: usize,
 }
 
 /// An object of an open type.
 #[derive(Clone, Copy, Debug, PartialEq, Eq)]
 pub struct OpenObject {
-    /// The parts of the component's value.
+    /// The parts of a component's value.
     pub(crate) key: Rows,
     /// The node of the contents' type.
     pub node: usize,
@@ -106,6 +118,32 @@ impl<'s> Key<'s> {
                 _ => part == other_part,
             },
         }
+    }
+
+    /// Returns a number that equal values share.
+    pub(crate) fn digest(self) -> u64 {
+        let mut found = 0u64;
+        for part in self.parts {
+            let (at, end) = match part {
+                Part::Octets(span) | Part::Bits(span) => (
+                    span.at,
+                    span.at.saturating_add(span.count),
+                ),
+                Part::Text(characters) => {
+                    let span = bits_of(*characters);
+                    (span.at, span.at.saturating_add(span.count))
+                }
+                _ => (0, 0),
+            };
+            for octet in self.octets.get(at / 8..end / 8).unwrap_or(&[]) {
+                found = found.wrapping_mul(31).wrapping_add(u64::from(*octet));
+            }
+            if let Some(number) = self.number_of(*part) {
+                let low = u64::try_from(number.unsigned_abs() % (1 << 64)).unwrap_or(0);
+                found = found.wrapping_mul(31).wrapping_add(low);
+            }
+        }
+        found
     }
 
     /// Returns whether a value begins with the parts of another.

@@ -4,6 +4,7 @@ use crate::alphabet::WHOLE_ALPHABETS;
 use crate::builder::{Builder, DefaultText, Enumeral, NO_NAME, NamedType};
 use crate::error::SchemaError;
 use crate::objects::{ObjectRow, OpenRow};
+use crate::open_types::PathRow;
 use asn1_definitions::{Instance, LISTS, NO_INSTANCE, Place, find_instances, index_definitions};
 use asn1_notation::{Entry, Item, NO_ENTRY, Sink, parse, wide};
 use asn1_schema::Range;
@@ -31,11 +32,18 @@ pub(crate) const NO_DEFAULT: DefaultText = DefaultText {
 
 pub(crate) const NO_OPEN: OpenRow = OpenRow {
     node: 0,
-    sibling: NO_NAME,
-    of: NO_PLACE,
-    key_node: 0,
+    first_path: 0,
+    paths: 0,
     from: 0,
     count: 0,
+};
+
+pub(crate) const NO_PATH: PathRow = PathRow {
+    at: NO_PLACE,
+    levels: 0,
+    of: NO_PLACE,
+    node: 0,
+    is_unique: false,
 };
 
 pub(crate) const NO_OBJECT: ObjectRow = ObjectRow {
@@ -67,6 +75,7 @@ pub(crate) struct Counts {
     pub(crate) tag_rows: usize,
     pub(crate) first_rows: usize,
     pub(crate) opens: usize,
+    pub(crate) paths: usize,
     pub(crate) objects: usize,
 }
 
@@ -90,6 +99,7 @@ impl Counts {
             tag_rows: 0,
             first_rows: 0,
             opens: 0,
+            paths: 0,
             objects: 0,
         };
         counts.add_all(tape);
@@ -107,7 +117,9 @@ impl Counts {
         counts.enumerals = again.saturating_mul(2);
         counts.tag_rows = counts.nodes.saturating_mul(2);
         counts.first_rows = counts.members.saturating_mul(2);
-        counts.objects = counts.opens.saturating_mul(4);
+        counts.objects = counts
+            .objects
+            .saturating_add(counts.opens.saturating_mul(4));
         counts
     }
 
@@ -121,6 +133,9 @@ impl Counts {
                 Item::Default => self.defaults = self.defaults.saturating_add(1),
                 Item::TypeDefinition => self.types = self.types.saturating_add(1),
                 Item::Table | Item::Containing => self.opens = self.opens.saturating_add(1),
+                Item::At => self.paths = self.paths.saturating_add(1),
+                // An object of a set, which several open types may have.
+                Item::Bar => self.objects = self.objects.saturating_add(4),
                 item if item.is_type() => self.nodes = self.nodes.saturating_add(1),
                 _ => {}
             }
@@ -142,6 +157,7 @@ impl Counts {
             tag_rows: tables.tag_rows.most(),
             first_rows: tables.first_rows.most(),
             opens: tables.opens.most(),
+            paths: tables.paths.most(),
             objects: tables.objects.most(),
         }
     }
@@ -160,6 +176,7 @@ impl Counts {
             && self.tag_rows <= room.tag_rows
             && self.first_rows <= room.first_rows
             && self.opens <= room.opens
+            && self.paths <= room.paths
             && self.objects <= room.objects
     }
 }

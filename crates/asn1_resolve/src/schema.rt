@@ -7,7 +7,7 @@ use crate::builder::{Builder, DefaultText, Enumeral, NO_MEMBER, NO_NAME, NO_ROWS
 use crate::built_in::{refer_to_associated_types, with_associated_types};
 use crate::error::SchemaError;
 use crate::modules::resolve_lists;
-use crate::open::{OpenObject, OpenType};
+use crate::open::{OpenObject, OpenPath, OpenType};
 use crate::room::{Counts, NO_DEFAULT, NO_ENUMERAL, NO_RANGE, NO_TYPE, instances_of, tape_of};
 use crate::tag_tables::{NO_FIRST_TAGS, NO_TAG, NO_TYPE_TAGS};
 use crate::values::Values;
@@ -40,7 +40,8 @@ pub struct Schema {
     pub(crate) value_parts: Vec<Part>,
     pub(crate) value_octets: Vec<u8>,
     pub(crate) opens: Vec<OpenType>,
-    pub(crate) open_siblings: Vec<NameSpan>,
+    pub(crate) open_paths: Vec<OpenPath>,
+    pub(crate) open_names: Vec<NameSpan>,
     pub(crate) open_objects: Vec<OpenObject>,
 }
 
@@ -66,7 +67,8 @@ impl Schema {
             value_parts: Vec::new(alloc),
             value_octets: Vec::new(alloc),
             opens: Vec::new(alloc),
-            open_siblings: Vec::new(alloc),
+            open_paths: Vec::new(alloc),
+            open_names: Vec::new(alloc),
             open_objects: Vec::new(alloc),
         };
         schema.nodes.resize(counts.nodes, Node::Null)?;
@@ -145,8 +147,7 @@ impl Schema {
         };
         let mut values = Values::new(alloc);
         schema.add_values(alloc, scope, &mut values)?;
-        let opens = room.opens.as_slice().get(..counts.opens).unwrap_or(&[]);
-        schema.add_opens(scope, &mut values, opens, room.objects.as_slice())?;
+        schema.add_opens(scope, &mut values, &room, counts.opens)?;
         let sources = room.sources.as_slice().get(..counts.nodes).unwrap_or(&[]);
         schema.add_copied_opens(sources)?;
         schema.value_parts = values.parts;
@@ -186,6 +187,7 @@ impl Schema {
         );
         let mut tables = tables.with_objects(
             room.opens.as_mut_slice(),
+            room.paths.as_mut_slice(),
             room.objects.as_mut_slice(),
         );
         room.lists = [0u32; LISTS];

@@ -90,6 +90,17 @@ fn push_unquoted(characters: &mut String, line: &str) -> Result<(), AllocError> 
     Ok(())
 }
 
+/// Appends the character with a number. Returns whether there is one.
+fn push_character(characters: &mut String, number: Option<u32>) -> Result<bool, AllocError> {
+    match number.and_then(char::from_u32) {
+        Some(character) => {
+            characters.push(character)?;
+            Ok(true)
+        }
+        None => Ok(false),
+    }
+}
+
 /// Returns the number of an arc by its name, at a level below the root and an arc (X.660 A.2 to A.5).
 fn arc_named(name: &[u8], level: usize, first: u64) -> Option<u64> {
     let names: &[&[u8]] = match (level, first) {
@@ -124,6 +135,56 @@ fn arc_named(name: &[u8], level: usize, first: u64) -> Option<u64> {
 }
 
 impl<'r> Types<'r> {
+    /// Returns the characters of a value in braces: a tuple or a quadruple, or a list of these and of strings
+    /// (X.680 41.8). `None` if the braces have anything else, or a number is that of no character.
+    pub(crate) fn listed_characters(
+        self,
+        alloc: Global,
+        braces: Place,
+    ) -> Result<Option<String>, AllocError> {
+        let mut characters = String::new(alloc);
+        let number = self.scope.character_of(braces);
+        if number.is_some() {
+            let is_one = push_character(&mut characters, number)?;
+            return Ok(if is_one { Some(characters) } else { None });
+        }
+        let Some(count) = self.count_of_values(braces) else {
+            return Ok(None);
+        };
+        let mut pieces = Pieces::new(self, braces);
+        for _ in 0..count {
+            let piece = pieces.next(self).unwrap_or(braces);
+            if !self.append_characters(&mut characters, alloc, piece)? {
+                return Ok(None);
+            }
+            pieces.next(self);
+        }
+        Ok(Some(characters))
+    }
+
+    /// Appends the characters of a string, or the one that a tuple or a quadruple is. Returns whether the value
+    /// is one of them.
+    fn append_characters(
+        self,
+        characters: &mut String,
+        alloc: Global,
+        piece: Place,
+    ) -> Result<bool, AllocError> {
+        let Ok(value) = self.scope.text_value(piece) else {
+            return Ok(false);
+        };
+        if self.scope.item(value) != Item::Text {
+            let number = self.scope.character_of(value);
+            return push_character(characters, number);
+        }
+        let inside = self.scope.text_of(self.scope.entry(value.index));
+        let Some(text) = characters_of(alloc, inside)? else {
+            return Ok(false);
+        };
+        characters.push_str(text.as_str())?;
+        Ok(true)
+    }
+
     /// Returns the octets of a BIT STRING that is written by the names of its bits, up to the last one,
     /// and how many bits they are. `None` if a name is none of a bit.
     pub(crate) fn named_bits(

@@ -28,6 +28,7 @@ pub(crate) const NO_TYPE_TAGS: TypeTags = TypeTags {
 pub(crate) const NO_FIRST_TAGS: FirstTags = FirstTags {
     tags: NO_TAGS,
     is_any: false,
+    group: None,
 };
 
 /// Returns the tag that a number orders (X.680 8.6).
@@ -251,6 +252,27 @@ impl<'m> Builder<'m> {
             },
             ..NO_FIRST_TAGS
         }
+    }
+
+    /// Returns the first tags of an addition group of these components, those from an index on.
+    pub(crate) fn first_tags_of_group(&self, root: Rows, start: usize) -> FirstTags {
+        FirstTags {
+            is_any: self.begins_with_any(root),
+            group: Some(root),
+            ..self.first_tags_from(start)
+        }
+    }
+
+    /// Returns whether one of the members of rows can begin with any tag.
+    fn begins_with_any(&self, rows: Rows) -> bool {
+        for index in 0..rows.count as usize {
+            if let Some(first) = self.member_tags.get(rows.from.saturating_add(index))
+                && first.is_any
+            {
+                return true;
+            }
+        }
+        false
     }
 
     /// Fills the nodes that are others with tags of their own, and sets where the numbers of each

@@ -2,7 +2,8 @@
 
 use crate::builder::{Draft, Key, NO_DRAFT, NO_KEY};
 use crate::objects::{ObjectRow, OpenRow};
-use crate::room::{Counts, NO_OBJECT, NO_OPEN};
+use crate::open_types::PathRow;
+use crate::room::{Counts, NO_OBJECT, NO_OPEN, NO_PATH};
 use crate::tag_tables::NO_TAG;
 use asn1_definitions::LISTS;
 use asn1_x690::Tag;
@@ -16,6 +17,7 @@ pub(crate) struct Workroom {
     pub(crate) tags: Vec<Key>,
     pub(crate) names: Vec<Key>,
     pub(crate) opens: Vec<OpenRow>,
+    pub(crate) paths: Vec<PathRow>,
     pub(crate) objects: Vec<ObjectRow>,
     pub(crate) first_rows: Vec<Tag>,
     pub(crate) sources: Vec<usize>,
@@ -34,6 +36,7 @@ impl Workroom {
             tags: Vec::new(alloc),
             names: Vec::new(alloc),
             opens: Vec::new(alloc),
+            paths: Vec::new(alloc),
             objects: Vec::new(alloc),
             first_rows: Vec::new(alloc),
             sources: Vec::new(alloc),
@@ -42,6 +45,7 @@ impl Workroom {
         room.tags.resize(counts.tags, NO_KEY)?;
         room.names.resize(counts.names, NO_KEY)?;
         room.opens.resize(counts.opens, NO_OPEN)?;
+        room.paths.resize(counts.paths, NO_PATH)?;
         room.objects.resize(counts.objects, NO_OBJECT)?;
         room.first_rows.resize(counts.first_rows, NO_TAG)?;
         room.sources.resize(counts.nodes, 0)?;

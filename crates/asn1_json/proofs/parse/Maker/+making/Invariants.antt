@@ -26,4 +26,7 @@ abbrev pub decreases-choice : goal.decreases-choice
 decreases-choice l = 8 * l.depth + 1
 
 abbrev pub decreases-open : goal.decreases-open
-decreases-open l = 8 * l.depth + 1
+decreases-open l = 8 * l.depth + 2
+
+abbrev pub decreases-contents_by : goal.decreases-contents_by
+decreases-contents_by l = 8 * l.depth + 1

@@ -32,7 +32,10 @@ abbrev pub decreases-argument : goal.decreases-argument
 decreases-argument l = 8 * l.depth + 2
 
 abbrev pub decreases-object_braces : goal.decreases-object_braces
-decreases-object_braces l = 8 * l.depth + 0
+decreases-object_braces l = 8 * l.depth + 1
+
+abbrev pub decreases-object_pieces : goal.decreases-object_pieces
+decreases-object_pieces l = 8 * l.depth + 0
 
 abbrev pub decreases-object_piece : goal.decreases-object_piece
-decreases-object_piece l = 8 * l.depth + 1
+decreases-object_piece l = 8 * l.depth + 2
